@@ -1,0 +1,53 @@
+-- Lists: what the definitions of the other crates say with them, beside what the logic's own library has. Assumes nothing.
+use Prim.Native.Nat.{ℕ, zero, suc, _+_, _-_}
+use mathlib.Core.Bool.{Bool, true, false, cond, _&&_, _||_}
+use mathlib.Core.List.{List, [], _∷_, _++_}
+use lib.Dec.{eqb}
+use lib.ListN.{length, replicate}
+
+module _ {A : Type 0} where
+  -- the elements that pass a test, in their order
+  abbrev pub keep : (A → Bool) → List A → List A
+  keep p [] = []
+  keep p (x ∷ l) = cond (p x) (x ∷ keep p l) (keep p l)
+
+  -- one element passes
+  abbrev pub any : (A → Bool) → List A → Bool
+  any p [] = false
+  any p (x ∷ l) = p x || any p l
+
+  -- every element passes
+  abbrev pub all : (A → Bool) → List A → Bool
+  all p [] = true
+  all p (x ∷ l) = p x && all p l
+
+  -- a test of each element and its index, which counts from i, passes everywhere
+  abbrev pub every : (ℕ → A → Bool) → ℕ → List A → Bool
+  every p i [] = true
+  every p i (x ∷ l) = p i x && every p (suc i) l
+
+  -- r holds between each element and every later one
+  abbrev pub pairwise : (A → A → Bool) → List A → Bool
+  pairwise r [] = true
+  pairwise r (x ∷ l) = all (r x) l && pairwise r l
+
+  -- how many elements pass
+  abbrev pub count : (A → Bool) → List A → ℕ
+  count p [] = 0
+  count p (x ∷ l) = cond (p x) (count p l + 1) (count p l)
+
+-- two lists of numbers are equal
+abbrev pub equal : List ℕ → List ℕ → Bool
+equal [] [] = true
+equal [] (y ∷ m) = false
+equal (x ∷ l) [] = false
+equal (x ∷ l) (y ∷ m) = eqb x y && equal l m
+
+-- xs, and zeros up to n numbers
+abbrev pub padded : ℕ → List ℕ → List ℕ
+padded n xs = xs ++ replicate (n - length xs) 0
+
+-- n numbers from a on
+unfoldable pub upFrom : ℕ → ℕ → List ℕ
+upFrom a zero = []
+upFrom a (suc n) = a ∷ upFrom (suc a) n

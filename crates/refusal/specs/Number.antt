@@ -1,0 +1,17 @@
+-- The number of each refusal: the table of document 01, "Numbers a caller sees". Assumes nothing.
+use Prim.Native.Nat.{ℕ}
+use Rattle.refusal.specs.declared.Refusal.{Refusal}
+use Rattle.refusal.specs.declared.Refusal.the-variants.{Length, Hash, Nested, NotAddressed, TooLong, ShortOutput, Late, Full, NoPlan, Argument, NotAccepted}
+
+abbrev pub numberOf : Refusal → ℕ
+numberOf Length = 1
+numberOf Hash = 2
+numberOf Nested = 3
+numberOf NotAddressed = 4
+numberOf TooLong = 5
+numberOf ShortOutput = 6
+numberOf Late = 7
+numberOf Full = 8
+numberOf NoPlan = 9
+numberOf Argument = 10
+numberOf NotAccepted = 11
