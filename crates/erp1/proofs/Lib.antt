@@ -1,0 +1,3 @@
+pub mod Statuses
+pub mod Checks
+pub mod Sames

@@ -1,0 +1,3 @@
+pub mod Status
+pub mod Subtelegram
+pub mod Same

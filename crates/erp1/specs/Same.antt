@@ -1,0 +1,16 @@
+-- When two subtelegrams are the same telegram (document 01, "Merging"). Assumes nothing.
+use Prim.Native.Nat.{ℕ}
+use mathlib.Core.Bool.{Bool, _&&_}
+use mathlib.Core.List.{List}
+use lib.Dec.{eqb}
+use lib.ListN.{length}
+use Rattle.lists.specs.Lists.{equal}
+use Rattle.erp1.specs.Status.{upperOf}
+use Rattle.erp1.specs.Subtelegram.{bodyOf, statusOf}
+
+-- equal length, and equal in every byte except HASH and the level: every byte before STATUS, and all of STATUS but the level
+unfoldable pub isSame : List ℕ → List ℕ → Bool
+isSame a b =
+    eqb (length a) (length b)
+    && (eqb (upperOf (statusOf a)) (upperOf (statusOf b))
+    && equal (bodyOf (bodyOf a)) (bodyOf (bodyOf b)))

@@ -1,0 +1,23 @@
+-- No refusal has the number 0. Assumes nothing.
+use mathlib.Core.Path.{_≡_}
+use Prim.Native.Nat.{ℕ, _<_}
+use native.Mathlib.Omega.{arith}
+use Rattle.refusal.specs.Number.{numberOf}
+use Rattle.refusal.specs.declared.Refusal.{Refusal}
+use Rattle.refusal.specs.declared.Refusal.the-variants.{Length, Hash, Nested, NotAddressed, TooLong, ShortOutput, Late, Full, NoPlan, Argument, NotAccepted}
+
+positive : (r : Refusal) → 0 < numberOf r
+positive Length = omega arith
+positive Hash = omega arith
+positive Nested = omega arith
+positive NotAddressed = omega arith
+positive TooLong = omega arith
+positive ShortOutput = omega arith
+positive Late = omega arith
+positive Full = omega arith
+positive NoPlan = omega arith
+positive Argument = omega arith
+positive NotAccepted = omega arith
+
+pub refused-number : (r : Refusal) → numberOf r ≡ 0 → ⊥
+refused-number r e = omega (arith, positive r)
