@@ -1,6 +1,6 @@
 -- The cases of `hashOf` and `checkOf`, each from the facts that its tests give, and what holds of a valid subtelegram. Assumes nothing.
-use mathlib.Core.Path.{_≡_, refl, sym, _∙_}
-use mathlib.Core.Bool.{Bool, true, false, _&&_, _||_, true≢false}
+use mathlib.Core.Path.{_≡_, refl, sym, ap, _∙_}
+use mathlib.Core.Bool.{false, _&&_}
 use mathlib.Core.List.{List, [], _∷_}
 use Prim.Native.Nat.{ℕ, _-_, _≤_, _<_, _/_, _%_}
 use native.Mathlib.Omega.{arith}
@@ -8,12 +8,15 @@ use lib.Dec.{ltb}
 use lib.ListN.{length, getD, take, length-take}
 use lib.Seq.{getD-take, take-take, length-take-le}
 use borrow.Author.Tests.{lt-ltb, le-ltb, eq-eqb, ne-eqb, ltb-false, eqb-true, eqb-false, not-false}
-use Rattle.lists.proofs.Choice.{cond-no}
+use Rattle.lists.proofs.Choice.{cond-no, neither}
 use Rattle.refusal.specs.Number.{numberOf}
+use Rattle.refusal.specs.declared.Refusal.{Refusal}
 use Rattle.refusal.specs.declared.Refusal.the-variants.{Length, Hash, Nested}
 use Rattle.refusal.proofs.Numbers.{refused-number}
 use Rattle.crc8.specs.Crc8.{crcOf}
-use Rattle.erp1.specs.Subtelegram.{minLength, maxLength, minAddressedLength, addressed, sumOf, lastOf, bodyOf, statusOf, hashOf, isLengthWrong, isHashed, isAddressed, isNested, checkOf}
+use Rattle.erp1.specs.declared.Checked.{Checked}
+use Rattle.erp1.specs.declared.Checked.the-variants.{Valid, Refused}
+use Rattle.erp1.specs.Subtelegram.{minLength, maxLength, minAddressedLength, addressed, sumOf, lastOf, bodyOf, statusOf, hashOf, isLengthWrong, isHashed, isAddressed, isNested, checkOf, isValid, checkedNumber}
 
 -- ---- the two hashes
 
@@ -88,10 +91,6 @@ module _ (s : List ℕ) where
         unfolding checkOf
         check-addressed l h = simp (le-ltb _ _ low, le-ltb _ _ high, eq-eqb _ _ hashed, eq-eqb _ _ first, le-ltb _ _ l, ne-eqb _ _ h)
 
-neither : (a b : Bool) → (a || b) ≡ false → (a ≡ false) × (b ≡ false)
-neither true b e = absurd (true≢false e)
-neither false b e = (refl, e)
-
 pub check-facts : (s : List ℕ) → checkOf s ≡ 0 → Sound s
 unfolding checkOf
 check-facts s e =
@@ -108,3 +107,16 @@ check-facts s e =
       hashed = eqb-true _ _ (not-false _ (q .0));
       inner = λ a. (ltb-false _ _ (rw (eq-eqb _ _ a) at long), eqb-false _ _ (rw (eq-eqb _ _ a) at once));
     }
+
+-- ---- what the answer of `check` tells of the bytes
+
+module _ (s : List ℕ) (r : Checked) (e : checkedNumber r ≡ checkOf s) where
+  pub told-valid : r ≡ Valid → checkOf s ≡ 0
+  told-valid t = sym e ∙ ap checkedNumber t
+
+  pub told-refused : (why : Refusal) → r ≡ Refused why → numberOf why ≡ checkOf s
+  told-refused why t = sym (ap checkedNumber t) ∙ e
+
+-- a refusal's number is not that of a valid one
+pub not-valid : (s : List ℕ) (why : Refusal) → numberOf why ≡ checkOf s → isValid s ≡ false
+not-valid s why e = ne-eqb (checkOf s) 0 (λ z. refused-number why (e ∙ z))

@@ -1,6 +1,6 @@
--- What a choice by a test says of its test, and the two sides of a conjunction. Assumes nothing.
+-- What a choice by a test says of its test, and what the tests joined by `&&` and `||` say of each. Assumes nothing.
 use mathlib.Core.Path.{_≡_, refl}
-use mathlib.Core.Bool.{Bool, true, false, cond, _&&_}
+use mathlib.Core.Bool.{Bool, true, false, cond, _&&_, _||_, true≢false}
 use lib.Dec.{T}
 
 module _ {A : Type 0} {x y v : A} where
@@ -21,3 +21,7 @@ and-left false b t = t
 pub and-right : (a b : Bool) → T (a && b) → T b
 and-right true b t = t
 and-right false b t = absurd t
+
+pub neither : (a b : Bool) → (a || b) ≡ false → (a ≡ false) × (b ≡ false)
+neither true b e = absurd (true≢false e)
+neither false b e = (refl, e)

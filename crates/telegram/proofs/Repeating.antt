@@ -1,0 +1,127 @@
+-- The cases of the repeater step, and what is sent: a valid telegram, the same but for its level and HASH. Assumes nothing.
+use mathlib.Core.Path.{_≡_, refl, sym, _∙_}
+use mathlib.Core.Bool.{Bool, true, false, and-false, true≢false}
+use mathlib.Core.List.{List, [], _∷_, _++_, append-assoc}
+use Prim.Native.Nat.{ℕ, _+_, _-_, _*_, _≤_, _<_, _/_, _%_}
+use native.Mathlib.Omega.{arith}
+use lib.Dec.{eqb, leb}
+use lib.ListN.{length, take, getD, length-append, List·getD-append}
+use lib.Seq.{length-take-le, getD-take}
+use borrow.Author.Tests.{eq-eqb, ne-eqb, eqb-true, eqb-false, leb-true, leb-false}
+use Rattle.lists.proofs.Equal.{equal-refl}
+use Rattle.refusal.specs.Number.{numberOf}
+use Rattle.refusal.specs.declared.Refusal.{Refusal}
+use Rattle.erp1.specs.Status.{splitOf, joinOf, upperOf}
+use Rattle.erp1.specs.Subtelegram.{bodyOf, statusOf, isAddressed, isValid, checkOf, sealedOf}
+use Rattle.erp1.specs.Same.{isSame}
+use Rattle.erp1.proofs.Checks.{Sound, not-valid, status-at, front-at, check-plain, check-addressed}
+use Rattle.telegram.specs.Repeater.{levelOf, repeats, raise, raisedOf, repeatOf, RaisedFrom}
+use Rattle.telegram.proofs.Parts.{last-more, body-more, sealed-hashed}
+
+-- what is sent, by the indices of the code
+pub raised-at : (s : List ℕ) → 2 ≤ length s
+    → sealedOf (take (length s - 2) s ++ (joinOf (raise (splitOf (getD s (length s - 2) 0))) ∷ [])) ≡ raisedOf s
+raised-at s h = rw (status-at s h, front-at s h)
+
+pub level-at : (s : List ℕ) → 2 ≤ length s → splitOf (getD s (length s - 2) 0) .level ≡ levelOf s
+level-at s h = rw (status-at s h)
+
+module _ (setting : ℕ) (s : List ℕ) where
+  pub repeat-invalid : isValid s ≡ false → repeatOf setting s ≡ []
+  unfolding repeatOf
+  repeat-invalid e = rw e
+
+  pub repeat-refused : (why : Refusal) → numberOf why ≡ checkOf s → [] ≡ repeatOf setting s
+  repeat-refused why e = sym (repeat-invalid (not-valid s why e))
+
+  module _ (valid : checkOf s ≡ 0) where
+    pub repeat-none : repeats setting (levelOf s) ≡ false → [] ≡ repeatOf setting s
+    unfolding repeatOf
+    repeat-none n = rw (valid, n)
+
+    pub repeat-sent : repeats setting (levelOf s) ≡ true → raisedOf s ≡ repeatOf setting s
+    unfolding repeatOf
+    repeat-sent y = rw (valid, y)
+
+-- ---- what is sent
+
+-- only levels 0 and 1 are repeated
+pub repeats-low : (setting level : ℕ) → repeats setting level ≡ true → level ≤ 1
+repeats-low setting level e = go (leb level 1) refl
+  where
+    go : (t : Bool) → leb level 1 ≡ t → level ≤ 1
+    go true h = leb-true level 1 h
+    go false h =
+        let high = ne-eqb level 0 (λ z. omega (arith, leb-false level 1 h, z)) in
+        let none : repeats setting level ≡ false = rw (high, h, and-false (eqb setting 1)) (and-false (eqb setting 2)) in
+        absurd (true≢false (sym e ∙ none))
+
+raised-byte : (b : ℕ) → b < 256 → b % 16 ≤ 1
+    → (upperOf (joinOf (raise (splitOf b))) ≡ upperOf b) × (joinOf (raise (splitOf b)) % 16 ≡ b % 16 + 1)
+raised-byte b h l = go (eqb (b / 128) 1) refl
+  where
+    next : (b % 16 + 1) % 16 ≡ b % 16 + 1
+    next = omega arith
+
+    go : (t : Bool) → eqb (b / 128) 1 ≡ t → (upperOf (joinOf (raise (splitOf b))) ≡ upperOf b) × (joinOf (raise (splitOf b)) % 16 ≡ b % 16 + 1)
+    go true e =
+        let f : 128 + b / 16 % 8 % 8 * 16 ≡ b / 16 * 16 = omega (arith, eqb-true (b / 128) 1 e) in
+        rw (e, next) (omega arith)
+    go false e =
+        let f : b / 16 % 8 % 8 ≡ b / 16 = omega (arith, eqb-false (b / 128) 1 e) in
+        rw (e, f, next) (omega arith)
+
+module _ (s : List ℕ) (v : Sound s) where
+  abbrev front : List ℕ
+  front = bodyOf (bodyOf s)
+
+  abbrev sent : ℕ
+  sent = joinOf (raise (splitOf (statusOf s)))
+
+  front-length : length front ≡ length s - 2
+  front-length = rw (front-at s (omega (arith, v .low))) (length-take-le (length s - 2) s (omega arith))
+
+  raised-length : length (raisedOf s) ≡ length s
+  raised-length = simp (length-append, front-length) (omega (arith, v .low))
+
+  raised-body : bodyOf (raisedOf s) ≡ front ++ (sent ∷ [])
+  raised-body = body-more (front ++ (sent ∷ [])) _
+
+  raised-status : statusOf (raisedOf s) ≡ sent
+  raised-status = rw raised-body (last-more front sent)
+
+  raised-front : bodyOf (bodyOf (raisedOf s)) ≡ front
+  raised-front = rw raised-body (body-more front sent)
+
+  -- every byte before STATUS is the same
+  raised-at-same : (k : ℕ) → k < length s - 2 → getD (raisedOf s) k 0 ≡ getD s k 0
+  raised-at-same k h =
+      rw (append-assoc front (sent ∷ []))
+      (List·getD-append front _ 0 k (omega (arith, front-length)) ∙ rw (front-at s (omega (arith, v .low))) (getD-take (length s - 2) s k 0 h))
+
+  raised-valid : checkOf (raisedOf s) ≡ 0
+  raised-valid = go (isAddressed s) refl
+    where
+      go : (b : Bool) → isAddressed s ≡ b → checkOf (raisedOf s) ≡ 0
+      go true e =
+          let n = raised-length in
+          let f = raised-at-same 0 (omega (arith, v .low)) in
+          let g = raised-at-same 1 (omega (arith, v .low)) in
+          let a = v .inner (eqb-true _ _ e) in
+          sym (check-addressed (raisedOf s) (omega (arith, v .low)) (omega (arith, v .high)) (sealed-hashed (front ++ (sent ∷ []))) (f ∙ eqb-true _ _ e)
+          (omega (arith, a .0)) (λ h. a .1 (sym g ∙ h)))
+      go false e =
+          let n = raised-length in
+          let f = raised-at-same 0 (omega (arith, v .low)) in
+          sym (check-plain (raisedOf s) (omega (arith, v .low)) (omega (arith, v .high)) (sealed-hashed (front ++ (sent ∷ []))) (λ h. eqb-false _ _ e (sym f ∙ h)))
+
+  pub raised-from : statusOf s < 256 → levelOf s ≤ 1 → RaisedFrom s (raisedOf s)
+  unfolding isSame
+  raised-from byte low =
+      let r = raised-byte (statusOf s) byte low in
+      record {
+        valid = raised-valid;
+        long = raised-length;
+        same = rw (raised-front, raised-status, raised-length, r .0, eq-eqb (length s) (length s) refl, eq-eqb (upperOf (statusOf s)) _ refl) (equal-refl front);
+        level = rw raised-status (r .1);
+      }

@@ -1,0 +1,55 @@
+-- Addressed encapsulation and its removal (document 01, "Subtelegram"; 001, 4.3.2): STATUS is kept and HASH renewed. Assumes nothing.
+use Prim.Native.Nat.{ℕ}
+use mathlib.Core.Bool.{true, false, cond, not}
+use mathlib.Core.List.{List}
+use lib.ListN.{replicate}
+use Rattle.refusal.specs.Number.{numberOf}
+use Rattle.refusal.specs.declared.Refusal.the-variants.{Nested, NotAddressed}
+use Rattle.erp1.specs.Subtelegram.{checkOf, isAddressed, isValid}
+use Rattle.telegram.specs.declared.fields.Telegram.{Telegram}
+use Rattle.telegram.specs.Output.{Result, refused, putOf}
+use Rattle.telegram.specs.Fields.{fieldsOf, bytesOf}
+
+abbrev pub addressedTo : Telegram → List ℕ → Telegram
+addressedTo t to = record {
+  rorg = t .rorg;
+  payload = t .payload;
+  len = t .len;
+  addressed = true;
+  destid = to;
+  txid = t .txid;
+  status = t .status;
+}
+
+abbrev pub unaddressed : Telegram → Telegram
+unaddressed t = record {
+  rorg = t .rorg;
+  payload = t .payload;
+  len = t .len;
+  addressed = false;
+  destid = replicate 4 0;
+  txid = t .txid;
+  status = t .status;
+}
+
+-- the bytes of s, encapsulated for a DESTID
+abbrev pub encapsulated : List ℕ → List ℕ → List ℕ
+encapsulated s to = bytesOf (addressedTo (fieldsOf s) to)
+
+-- the bytes that s carries, as a plain telegram
+abbrev pub decapsulated : List ℕ → List ℕ
+decapsulated s = bytesOf (unaddressed (fieldsOf s))
+
+-- encapsulating, in document 01's order: the check's own, 3, 5, 6
+unfoldable pub encapsulateOf : List ℕ → List ℕ → List ℕ → Result
+encapsulateOf s to output =
+    cond (not (isValid s)) (refused (checkOf s) output)
+    (cond (isAddressed s) (refused (numberOf Nested) output)
+    (putOf (encapsulated s to) output))
+
+-- removing, in document 01's order: the check's own, 4, 6
+unfoldable pub decapsulateOf : List ℕ → List ℕ → Result
+decapsulateOf s output =
+    cond (not (isValid s)) (refused (checkOf s) output)
+    (cond (not (isAddressed s)) (refused (numberOf NotAddressed) output)
+    (putOf (decapsulated s) output))

@@ -1,0 +1,5 @@
+pub mod Frame
+pub mod Output
+pub mod Fields
+pub mod Addressing
+pub mod Repeater
