@@ -2,11 +2,9 @@
 -- and addition and subtraction are XOR. Assumes nothing.
 use Prim.Native.Nat.{ℕ, zero, suc, _+_, _*_, _/_, _%_, _^_}
 use mathlib.Core.List.{List, [], _∷_}
-use mathlib.Core.Bool.{Bool, _&&_}
+use mathlib.Core.Bool.{Bool}
 use lib.Bits.{bitXor}
-use lib.Dec.{eqb}
-use lib.ListN.{length}
-use Rattle.lists.specs.Lists.{every}
+use Rattle.lists.specs.Lists.{isTableOf}
 
 -- x^8 + x^2 + x + 1
 abbrev pub generator : ℕ
@@ -29,9 +27,9 @@ divideOut (suc n) p = divideOut n (cancel n p)
 unfoldable pub remainderOf : ℕ → ℕ
 remainderOf b = divideOut 8 (b * 2 ^ 8)
 
--- the rule of the table of 256 remainders (document 01, "Subtelegram"), as a test: each entry is the remainder of its index times x^8
-unfoldable pub isTable : List ℕ → Bool
-isTable table = eqb (length table) 256 && every (λ index entry. eqb entry (remainderOf index)) 0 table
+-- the table of 256 remainders (document 01, "Subtelegram"): each entry is the remainder of its index times x^8
+abbrev pub isTable : List ℕ → Bool
+isTable table = isTableOf 256 remainderOf table
 
 -- one byte: XOR it in, multiply by x^8, take the remainder
 unfoldable pub stepOf : ℕ → ℕ → ℕ

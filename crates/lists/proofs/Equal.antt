@@ -1,5 +1,5 @@
 -- The test of two lists of numbers says that they are equal. Assumes nothing.
-use mathlib.Core.Path.{_≡_, refl, sym, ap, ap₂, _∙_}
+use mathlib.Core.Path.{_≡_, refl, sym, ap, ap₂, subst, _∙_}
 use mathlib.Core.Bool.{Bool, true, false, _&&_, and-true, and-false, and-assoc}
 use mathlib.Core.List.{List, [], _∷_}
 use Prim.Native.Nat.{ℕ, zero, suc, _-_, _≤_, _<_}
@@ -20,6 +20,15 @@ equal-eq (x ∷ xs) (y ∷ ys) t = ap₂ _∷_ (eqb→eq x y (and-left (eqb x y)
 pub equal-refl : (xs : List ℕ) → equal xs xs ≡ true
 equal-refl [] = refl
 equal-refl (x ∷ xs) = rw (eq-eqb x x refl) (equal-refl xs)
+
+-- a bool that says whether two lists are equal is the test
+pub equal-said : (r : Bool) (xs ys : List ℕ) → (r ≡ true → xs ≡ ys) × (xs ≡ ys → r ≡ true) → equal xs ys ≡ r
+equal-said true xs ys h = rw (h .0 refl) (equal-refl ys)
+equal-said false xs ys h = go (equal xs ys) refl
+  where
+    go : (t : Bool) → equal xs ys ≡ t → t ≡ false
+    go true e = sym (h .1 (equal-eq xs ys (subst T (sym e) tt)))
+    go false e = refl
 
 equal-next : (i : ℕ) (xs ys : List ℕ) → i < length xs → i < length ys
     → equal (take (suc i) xs) (take (suc i) ys) ≡ (equal (take i xs) (take i ys) && eqb (getD xs i 0) (getD ys i 0))

@@ -1,3 +1,9 @@
 pub mod Choice
 pub mod Table
 pub mod Equal
+pub mod Padded
+pub mod Members
+pub mod Keep
+pub mod Pairwise
+pub mod UpFrom
+pub mod Tests

@@ -51,3 +51,7 @@ padded n xs = xs ++ replicate (n - length xs) 0
 unfoldable pub upFrom : ℕ → ℕ → List ℕ
 upFrom a zero = []
 upFrom a (suc n) = a ∷ upFrom (suc a) n
+
+-- a table of n numbers, each what the rule says of its index: a test
+unfoldable pub isTableOf : ℕ → (ℕ → ℕ) → List ℕ → Bool
+isTableOf n rule table = eqb (length table) n && every (λ k entry. eqb entry (rule k)) 0 table

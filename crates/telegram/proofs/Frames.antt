@@ -3,7 +3,7 @@ use mathlib.Core.Path.{_≡_, refl, sym, ap, ap₂, _∙_}
 use mathlib.Core.Bool.{Bool, true, false, cond}
 use mathlib.Core.List.{List, [], _∷_, _++_, append-assoc, append-nil}
 use Prim.Native.Nat.{ℕ, zero, suc, _+_, _-_, _≤_, _<_}
-use native.Mathlib.Nat.{sub-zero, zero-sub, suc-sub-suc, add-sub-cancel, sub-self, sub-add-eq, le-of-eq}
+use native.Mathlib.Nat.{add-sub-cancel, sub-self, sub-add-eq, le-of-eq}
 use native.Mathlib.Numerals.{add-one}
 use native.Mathlib.Omega.{arith}
 use lib.Dec.{ltb}
@@ -16,16 +16,12 @@ use Rattle.refusal.specs.declared.Refusal.the-variants.{TooLong, ShortOutput}
 use Rattle.refusal.proofs.Numbers.{refused-number}
 use Rattle.telegram.specs.declared.frame.Built.the-variants.{Done, Refused}
 use Rattle.lists.specs.Lists.{padded}
+use Rattle.lists.proofs.Padded.{drop-replicate}
 use Rattle.erp1.specs.Subtelegram.{maxLength}
 use Rattle.telegram.specs.Frame.{frameOf, Extended}
 use Rattle.telegram.specs.Output.{Result, resultOf, refused, written, putOf}
 
-pub drop-replicate : (k n a : ℕ) → drop k (replicate n a) ≡ replicate (n - k) a
-drop-replicate zero n a = rw sub-zero
-drop-replicate (suc k) zero a = rw zero-sub
-drop-replicate (suc k) (suc n) a = rw suc-sub-suc (drop-replicate k n a)
-
-pub replicate-cons : (n a : ℕ) → 0 < n → replicate n a ≡ a ∷ replicate (n - 1) a
+replicate-cons : (n a : ℕ) → 0 < n → replicate n a ≡ a ∷ replicate (n - 1) a
 replicate-cons zero a h = absurd (omega arith)
 replicate-cons (suc n) a h = rw (← add-one n, add-sub-cancel)
 

@@ -8,6 +8,7 @@ use lib.ListN.{length, getD, take, drop, replicate}
 use lib.Seq.{take-length}
 use borrow.Author.Tests.{le-ltb, eq-eqb, ne-eqb, eqb-true, eqb-false}
 use Rattle.lists.specs.Lists.{padded}
+use Rattle.lists.proofs.Padded.{drop-replicate}
 use Rattle.refusal.specs.Number.{numberOf}
 use Rattle.refusal.specs.declared.Refusal.{Refusal}
 use Rattle.erp1.specs.declared.Checked.the-variants.{Valid, Refused}
@@ -16,7 +17,6 @@ use Rattle.erp1.proofs.Checks.{Sound, told-valid, told-refused, not-valid}
 use Rattle.telegram.specs.declared.fields.Telegram.{Telegram}
 use Rattle.telegram.specs.declared.fields.Reading.{Reading}
 use Rattle.telegram.specs.Fields.{maxData, isUnbuildable, plainFields, addressedFields, fieldsOf, noTelegram, Read, readingOf, readOf}
-use Rattle.telegram.proofs.Frames.{drop-replicate}
 
 -- a copy into zeros
 pub padded-copy : (m : ℕ) (xs last : List ℕ) → last ≡ take (length xs) xs ++ drop (length xs) (replicate m 0) → last ≡ padded m xs

@@ -9,7 +9,8 @@ use denote.Ref.{now}
 use lib.ListN.{length, drop, getD, drop-of-length-le}
 use lib.Seq.{drop-cons}
 use mathlib.Core.List.{List}
-use Rattle.crc8.specs.Crc8.{isTable, remainderOf, stepOf, crcFrom, crcOf}
+use Rattle.lists.specs.Lists.{isTableOf}
+use Rattle.crc8.specs.Crc8.{remainderOf, stepOf, crcFrom, crcOf}
 use Rattle.crc8.proofs.crc8.Statement.{statement}
 use Rattle.crc8.proofs.crc8.Tie as tie
 
@@ -32,7 +33,7 @@ shared-slice-read-step c = omega arith
 
 -- the test of the table's rule, which antt computes
 step-requires : tie.Need-step-requires Inv-loop μ-loop
-unfolding isTable remainderOf
+unfolding isTableOf remainderOf
 step-requires c κs = refl
 
 add-i : tie.Need-add-i Inv-loop μ-loop

@@ -1,0 +1,62 @@
+-- Buffers: what is resized, and what is overwritten.
+--     padded-length, resized-length                    how long they are
+--     resized-padded, resized-cut, resized-whole       what is resized: a list that is not longer, not shorter, or as long
+--     resized-more                                     one number more, which a loop puts
+--     resized-back                                     a list, zero filled, and its front again
+--     overwritten-fits, overwritten-not                a buffer of the right length, and one of another
+-- Assumes nothing.
+use mathlib.Core.Path.{_≡_, refl, sym, _∙_}
+use mathlib.Core.List.{List, [], _∷_, _++_, append-assoc}
+use Prim.Native.Nat.{ℕ, _+_, _-_, _≤_}
+use native.Mathlib.Numerals.{add-one}
+use native.Mathlib.Decide.{decLt}
+use native.Mathlib.Omega.{arith}
+use borrow.Author.Tests.{eq-eqb, ne-eqb}
+use lib.ListN.{length, getD, take, replicate, length-append, length-take, length-replicate, replicate-append-replicate, List·getD-eq-default}
+use lib.Seq.{take-all, take-at, take-append-le, take-suc}
+use Rattle.lists.specs.Lists.{padded}
+use Rattle.layout.specs.Buffer.{resized, overwritten}
+
+pub padded-length : (n : ℕ) (xs : List ℕ) → length xs ≤ n → length (padded n xs) ≡ n
+padded-length n xs h = simp (length-append, length-replicate) (omega arith)
+
+pub resized-length : (n : ℕ) (xs : List ℕ) → length (resized n xs) ≡ n
+unfolding resized
+resized-length n xs = simp (length-take, length-append, length-replicate) (omega arith)
+
+-- a list that is not longer is zero filled
+pub resized-padded : (n : ℕ) (xs : List ℕ) → length xs ≤ n → resized n xs ≡ padded n xs
+unfolding resized
+resized-padded n xs h = take-all n (padded n xs) (omega (arith, padded-length n xs h))
+
+-- one that is not shorter is cut
+pub resized-cut : (n : ℕ) (xs : List ℕ) → n ≤ length xs → resized n xs ≡ take n xs
+unfolding resized
+resized-cut n xs h = take-append-le n xs (replicate (n - length xs) 0) h
+
+pub resized-whole : (n : ℕ) (xs : List ℕ) → length xs ≡ n → resized n xs ≡ xs
+resized-whole n xs h = resized-cut n xs (omega arith) ∙ take-all n xs (omega arith)
+
+pub resized-more : (n : ℕ) (xs : List ℕ) → resized n xs ++ (getD xs n 0 ∷ []) ≡ resized (n + 1) xs
+resized-more n xs = elim (decLt n (length xs)) [
+  | yes h ↦ rw (resized-cut n xs (omega arith), resized-cut (n + 1) xs (omega arith), add-one) (sym (take-suc xs n 0 h))
+  | no h ↦ past (omega arith)
+]
+  where
+    past : length xs ≤ n → resized n xs ++ (getD xs n 0 ∷ []) ≡ resized (n + 1) xs
+    past h =
+        let e : n + 1 - length xs ≡ n - length xs + 1 = omega arith in
+        rw (resized-padded n xs h, resized-padded (n + 1) xs (omega arith), List·getD-eq-default xs 0 h, e, ← replicate-append-replicate)
+        (append-assoc xs (replicate (n - length xs) 0) (replicate 1 0))
+
+pub resized-back : (n : ℕ) (xs : List ℕ) → length xs ≤ n → resized (length xs) (padded n xs) ≡ xs
+resized-back n xs h = resized-cut (length xs) (padded n xs) (omega (arith, padded-length n xs h)) ∙ take-at xs (replicate (n - length xs) 0) (length xs) refl
+
+module _ (n : ℕ) (new old : List ℕ) where
+  pub overwritten-fits : length old ≡ n → overwritten n new old ≡ new
+  unfolding overwritten
+  overwritten-fits h = rw (eq-eqb (length old) n h)
+
+  pub overwritten-not : (length old ≡ n → ⊥) → overwritten n new old ≡ old
+  unfolding overwritten
+  overwritten-not h = rw (ne-eqb (length old) n h)

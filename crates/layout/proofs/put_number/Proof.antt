@@ -1,0 +1,53 @@
+-- `layout::put_number` meets its contract, from the last byte to the first. The invariant: what is left of the number, then the bytes from i
+-- on, are the number's bytes; the measure: i. Assumes nothing.
+use mathlib.Core.Path.{_≡_, sym, _∙_}
+use mathlib.Core.List.{_++_, append-nil}
+use Prim.Native.Nat.{_≤_}
+use native.Mathlib.Omega.{arith}
+use denote.Ref.{now}
+use lib.ListN.{length, drop, length-set, drop-of-length-le}
+use Rattle.layout.specs.BigEndian.{be}
+use Rattle.layout.proofs.BigEndian.{be-set}
+use Rattle.layout.proofs.put_number.Statement.{statement}
+use Rattle.layout.proofs.put_number.Tie as tie
+
+abbrev Inv-loop : tie.InvT-loop
+Inv-loop out₀ n rest₀ i₀ out rest i = (i ≤ length out) × (length out ≡ length out₀) × (be (length out₀) n ≡ be i rest ++ drop i out)
+
+abbrev μ-loop : tie.MeasureT-loop
+μ-loop out₀ n rest₀ i₀ out rest i = i
+
+loop-holds : tie.Need-loop-holds Inv-loop μ-loop
+loop-holds c =
+    let out = now (c .args .out) in
+    let h : length out ≤ length out = omega arith in
+    (omega arith, omega arith, rw (drop-of-length-le out h) (sym (append-nil (be (length out) (c .args .n)))))
+
+loop-again : tie.Need-loop-again Inv-loop μ-loop
+loop-again c =
+    let at = c .before .loop in (
+      simp length-set (omega arith),
+      simp length-set (omega arith),
+      at .inv .2 ∙ be-set (at .i) (at .rest) (at .out) (omega arith) (omega arith),
+    )
+
+returns : tie.Need-returns Inv-loop μ-loop
+unfolding be
+returns c =
+    let e : c .before .loop .i ≡ 0 = omega arith in
+    sym (rw e at (c .before .loop .inv .2))
+
+pub put-number-spec : {M : Type 1} → statement M
+put-number-spec =
+    tie.close
+    (tie.spec
+    Inv-loop
+    μ-loop
+    loop-holds
+    (λ c. omega arith)
+    (λ c. omega arith)
+    (λ c. omega arith)
+    (λ c. omega arith)
+    loop-again
+    (λ c. omega arith)
+    returns)

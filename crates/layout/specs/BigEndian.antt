@@ -1,0 +1,17 @@
+-- Numbers as bytes, the highest first (document 01, "Parked collector": numbers are big-endian), over any width. Assumes nothing.
+use mathlib.Core.List.{List, [], _∷_, _++_}
+use Prim.Native.Nat.{ℕ, zero, suc, _+_, _*_, _/_, _%_}
+
+-- the low w bytes of n
+unfoldable pub be : ℕ → ℕ → List ℕ
+be zero n = []
+be (suc w) n = be w (n / 256) ++ (n % 256 ∷ [])
+
+-- the number that bytes spell after those that spell `high`
+unfoldable pub unbeFrom : ℕ → List ℕ → ℕ
+unbeFrom high [] = high
+unbeFrom high (b ∷ bs) = unbeFrom (high * 256 + b) bs
+
+-- the number that bytes spell
+unfoldable pub unbe : List ℕ → ℕ
+unbe bs = unbeFrom 0 bs

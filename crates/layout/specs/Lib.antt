@@ -1,0 +1,5 @@
+pub mod Buffer
+pub mod BigEndian
+pub mod Cell
+pub mod Header
+pub mod Block

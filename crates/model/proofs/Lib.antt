@@ -1,0 +1,7 @@
+pub mod Check
+pub mod Invariant
+pub mod Image
+pub mod Simulation
+pub mod Theorem
+pub mod States
+pub mod Returns

@@ -1,0 +1,98 @@
+-- The whole history: what a collector shows is what the reference model says, and what the uncut run shows.
+-- Assumes nothing.
+use Prim.Native.Nat.{ℕ, _≤_}
+use mathlib.Core.Path.{_≡_, refl, sym, _∙_, ap, ap₂}
+use mathlib.Core.Bool.{false}
+use mathlib.Core.List.{List, [], _∷_, _++_}
+use lib.ListN.{length, take, drop}
+use lib.Seq.{take-at}
+use borrow.Author.Tests.{le-leb, le-ltb}
+use Rattle.refusal.specs.Number.{numberOf}
+use Rattle.refusal.specs.declared.Refusal.the-variants.{NotAccepted}
+use Rattle.model.specs.View.{Reception, View, maxSetting, fresh}
+use Rattle.model.specs.Image.{imageLength, imageOf, accepts, checkpointOf, restoreOf}
+use Rattle.model.specs.Reference.{Logged, totalsOf, modelView, savedBy, logOf}
+use Rattle.model.specs.History.{Call, Receive, Checkpoint, Restore, Cut, Look, IsHistory, run, expected, uncut, common, WholeHistory}
+use Rattle.model.proofs.Invariant.{Good, good-acceptable, good-fresh}
+use Rattle.model.proofs.Image.{image-length, parse-image, accepts-image}
+use Rattle.model.proofs.Simulation.{same-step, good-after}
+
+-- ---- one call at a good view
+
+-- the restore of a view's image goes on with the view
+restore-image : {v : View} → Good v → (setting : ℕ) → restoreOf (fresh setting) (imageOf v) ≡ record { number = 0; next = v }
+unfolding restoreOf
+restore-image {v} g setting = rw (good-acceptable (good-fresh setting), accepts-image v g, parse-image v g)
+
+restore-refused : {v : View} (image : List ℕ) → Good v → accepts image ≡ false → restoreOf v image ≡ record { number = numberOf NotAccepted; next = v }
+unfolding restoreOf
+restore-refused image g e = rw (good-acceptable g, e)
+
+module _ (setting : ℕ) (log : List Logged) (output : List ℕ) where
+  same-checkpoint : Good (modelView setting log) → checkpointOf (modelView setting log) output ≡ savedBy setting log output
+  unfolding checkpointOf savedBy
+  same-checkpoint g = rw (good-acceptable g)
+
+  -- into room
+  saved : imageLength ≤ length output → savedBy setting log output ≡ record { number = 0; output = imageOf (modelView setting log) ++ drop imageLength output }
+  unfolding savedBy
+  saved room = rw (le-ltb (length output) imageLength room)
+
+  -- the bytes it wrote
+  front : Good (modelView setting log) → take imageLength (imageOf (modelView setting log) ++ drop imageLength output) ≡ imageOf (modelView setting log)
+  front g = take-at (imageOf (modelView setting log)) (drop imageLength output) imageLength (image-length (modelView setting log) g)
+
+-- ---- all calls
+
+module _ (setting : ℕ) where
+  -- from the reference model's view the collector shows what the model says
+  same-run : (past : List Reception) (h : List Call) → Good (modelView setting (logOf past)) → IsHistory h
+      → run (modelView setting (logOf past)) h ≡ expected setting past h
+  unfolding modelView
+  same-run past [] g ok = refl
+  same-run past (Receive r ∷ h) g ok =
+      rw (same-step setting (logOf past) r g) (ap₂ _∷_ refl (same-run (r ∷ past) h (good-after setting (logOf past) r g (ok .0)) (ok .1)))
+  same-run past (Checkpoint output ∷ h) g ok = rw (same-checkpoint setting (logOf past) output g) (ap₂ _∷_ refl (same-run past h g ok))
+  same-run past (Restore image ∷ h) g ok = rw (restore-refused image g (ok .0)) (ap₂ _∷_ refl (same-run past h g (ok .1)))
+  same-run past (Cut output other ∷ h) g ok =
+      rw (
+        same-checkpoint setting (logOf past) output g,
+        saved setting (logOf past) output (ok .0),
+        front setting (logOf past) output g,
+        restore-image g other,
+      ) (ap₂ _∷_ refl (ap₂ _∷_ refl (same-run past h g (ok .1))))
+  same-run past (Look ∷ h) g ok = ap₂ _∷_ refl (same-run past h g ok)
+
+  -- and says the same of the uncut run
+  same-uncut : (past : List Reception) (h : List Call) → IsHistory h → common (expected setting past h) ≡ expected setting past (uncut h)
+  same-uncut past [] ok = refl
+  same-uncut past (Receive r ∷ h) ok = ap₂ _∷_ refl (same-uncut (r ∷ past) h (ok .1))
+  same-uncut past (Checkpoint output ∷ h) ok = ap₂ _∷_ refl (same-uncut past h ok)
+  same-uncut past (Restore image ∷ h) ok = ap₂ _∷_ refl (same-uncut past h (ok .1))
+  same-uncut past (Cut output other ∷ h) ok =
+      rw (saved setting (logOf past) output (ok .0)) (ap₂ _∷_ refl (ap₂ _∷_ refl (same-uncut past h (ok .1))))
+  same-uncut past (Look ∷ h) ok = ap₂ _∷_ refl (same-uncut past h ok)
+
+uncut-history : (h : List Call) → IsHistory h → IsHistory (uncut h)
+uncut-history [] ok = tt
+uncut-history (Receive r ∷ h) ok = (ok .0, uncut-history h (ok .1))
+uncut-history (Checkpoint output ∷ h) ok = uncut-history h ok
+uncut-history (Restore image ∷ h) ok = uncut-history h (ok .1)
+uncut-history (Cut output setting ∷ h) ok = uncut-history h (ok .1)
+uncut-history (Look ∷ h) ok = uncut-history h ok
+
+fresh-model : (setting : ℕ) → setting ≤ maxSetting → fresh setting ≡ modelView setting []
+unfolding fresh modelView totalsOf
+fresh-model setting low = rw (le-leb setting maxSetting low)
+
+-- so does a fresh collector, whose view is the model's before all receptions
+fresh-run : (setting : ℕ) → setting ≤ maxSetting → (h : List Call) → IsHistory h → run (fresh setting) h ≡ expected setting [] h
+fresh-run setting low h ok = rw (fresh-model setting low) (same-run setting [] h (rw (fresh-model setting low) at (good-fresh setting)) ok)
+
+pub whole-history : WholeHistory
+whole-history setting low h ok =
+    let shown : run (fresh setting) h ≡ expected setting [] h = fresh-run setting low h ok in
+    record {
+      reference = shown;
+      uncutRun = ap common shown ∙ same-uncut setting [] h ok ∙ sym (fresh-run setting low (uncut h) (uncut-history h ok));
+    }

@@ -1,0 +1,36 @@
+-- What a state or an image must fulfil (document 01, "Parked collector": "Reload accepts exactly .."). Assumes nothing.
+use Prim.Native.Nat.{ℕ, _+_}
+use mathlib.Core.Bool.{Bool, not, _&&_}
+use lib.Dec.{leb, eqb}
+use lib.ListN.{length}
+use Rattle.lists.specs.Lists.{all, pairwise}
+use Rattle.erp1.specs.Subtelegram.{isValid}
+use Rattle.erp1.specs.Same.{isSame}
+use Rattle.model.specs.declared.Totals.{Totals}
+use Rattle.model.specs.View.{Reception, View, capacity, maxSetting, isOpen}
+
+-- while the telegram that e opened is open, r is a copy of it: the same telegram
+unfoldable pub isCopyOf : Reception → Reception → Bool
+isCopyOf e r = isSame (e .bytes) (r .bytes)
+
+-- "entries are valid, .. open at the latest time, none later than it"
+abbrev pub isEntry : ℕ → Reception → Bool
+isEntry latest e = isValid (e .bytes) && (leb (e .time) latest && isOpen latest e)
+
+-- "in order of time (equal times allowed)", "no two the same telegram"
+abbrev pub mayFollow : Reception → Reception → Bool
+mayFollow e later = leb (e .time) (later .time) && not (isCopyOf e later)
+
+-- "received equals the other five summed without wrapping"
+abbrev pub isSummed : Totals → Bool
+isSummed n = eqb (n .received) (n .kept + n .copies + n .loose + n .damaged + n .late)
+
+-- "the setting is 0 to 2, entries are .., at most 64; received equals ..; kept is at least the entries"
+unfoldable pub acceptable : View → Bool
+acceptable v =
+    leb (v .setting) maxSetting
+    && (leb (length (v .entries)) capacity
+    && (all (isEntry (v .latest)) (v .entries)
+    && (pairwise mayFollow (v .entries)
+    && (isSummed (v .totals)
+    && leb (length (v .entries)) (v .totals .kept)))))

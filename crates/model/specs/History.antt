@@ -1,0 +1,106 @@
+-- Histories (document 01, "One history, and the clerk who writes it down"): what a collector shows through a whole list of calls is what
+-- the reference model says, and what the uncut run shows. Assumes nothing.
+use Prim.Native.Nat.{ℕ, _≤_, _<_, _^_}
+use mathlib.Core.Path.{_≡_}
+use mathlib.Core.Bool.{false}
+use mathlib.Core.List.{List, [], _∷_}
+use lib.ListN.{length, take}
+use Rattle.refusal.specs.Number.{numberOf}
+use Rattle.refusal.specs.declared.Refusal.the-variants.{NotAccepted}
+use Rattle.telegram.specs.declared.frame.Frame.{Frame}
+use Rattle.model.specs.declared.Totals.{Totals}
+use Rattle.model.specs.Answer.{Shown}
+use Rattle.model.specs.View.{Reception, View, fresh, maxSetting}
+use Rattle.model.specs.Step.{step}
+use Rattle.model.specs.Image.{imageLength, accepts, checkpointOf, restoreOf}
+use Rattle.model.specs.Reference.{totalsOf, answerTo, sentWith, logOf, savedBy}
+
+-- "A history is a list of calls: receptions taken, parkings into any room, and reloads."
+pub data Call : Type 0 where
+  Receive : Reception → Call
+  -- a checkpoint into an output that holds these bytes
+  Checkpoint : List ℕ → Call
+  -- the restore of an image
+  Restore : List ℕ → Call
+  -- "A cut": a checkpoint into such an output, and the restore of the 2,560 bytes it wrote into another collector started fresh at a setting
+  Cut : List ℕ → ℕ → Call
+  -- nothing is called, and the totals are read
+  Look : Call
+
+-- a reception's time is a 64-bit number (its bytes may be any), a cut has room, "every other reload in it is a refused one"
+abbrev pub IsHistory : List Call → Type 0
+IsHistory [] = Unit {0}
+IsHistory (Receive r ∷ h) = (r .time < 2 ^ 64) × IsHistory h
+IsHistory (Checkpoint output ∷ h) = IsHistory h
+IsHistory (Restore image ∷ h) = (accepts image ≡ false) × IsHistory h
+IsHistory (Cut output setting ∷ h) = (imageLength ≤ length output) × IsHistory h
+IsHistory (Look ∷ h) = IsHistory h
+
+-- what is seen of a call, and "the six totals after every call"
+pub data Seen : Type 0 where
+  -- the answer, and the telegram to send with its length
+  Answered : Shown → Frame → Totals → Seen
+  -- the number of a checkpoint, and every byte of its output
+  Wrote : ℕ → List ℕ → Totals → Seen
+  -- the number of a restore
+  Restored : ℕ → Totals → Seen
+  Looked : Totals → Seen
+
+-- what the collector shows: "each call gets the state that the one before returned, save the reload of a cut, which gets a fresh one"
+abbrev pub run : View → List Call → List Seen
+run v [] = []
+run v (Receive r ∷ h) =
+    let o = step v r in
+    Answered (o .answer) (o .sent) (o .next .totals) ∷ run (o .next) h
+run v (Checkpoint output ∷ h) =
+    let p = checkpointOf v output in
+    Wrote (p .number) (p .output) (v .totals) ∷ run v h
+run v (Restore image ∷ h) =
+    let q = restoreOf v image in
+    Restored (q .number) (q .next .totals) ∷ run (q .next) h
+run v (Cut output setting ∷ h) =
+    let p = checkpointOf v output in
+    let q = restoreOf (fresh setting) (take imageLength (p .output)) in
+    Wrote (p .number) (p .output) (v .totals) ∷ Restored (q .number) (q .next .totals) ∷ run (q .next) h
+run v (Look ∷ h) = Looked (v .totals) ∷ run v h
+
+-- what the reference model says, fed the setting and the receptions so far: checkpoints into room and the restores of cuts are answered 0
+abbrev pub expected : ℕ → List Reception → List Call → List Seen
+expected setting past [] = []
+expected setting past (Receive r ∷ h) =
+    let a = answerTo (logOf past) r in
+    Answered a (sentWith setting a r) (totalsOf (logOf (r ∷ past))) ∷ expected setting (r ∷ past) h
+expected setting past (Checkpoint output ∷ h) =
+    let p = savedBy setting (logOf past) output in
+    Wrote (p .number) (p .output) (totalsOf (logOf past)) ∷ expected setting past h
+expected setting past (Restore image ∷ h) = Restored (numberOf NotAccepted) (totalsOf (logOf past)) ∷ expected setting past h
+expected setting past (Cut output other ∷ h) =
+    let p = savedBy setting (logOf past) output in
+    Wrote 0 (p .output) (totalsOf (logOf past)) ∷ Restored 0 (totalsOf (logOf past)) ∷ expected setting past h
+expected setting past (Look ∷ h) = Looked (totalsOf (logOf past)) ∷ expected setting past h
+
+-- "The uncut run is the same list without the reloads"; where one stood, the totals are read
+abbrev pub uncut : List Call → List Call
+uncut [] = []
+uncut (Receive r ∷ h) = Receive r ∷ uncut h
+uncut (Checkpoint output ∷ h) = Checkpoint output ∷ uncut h
+uncut (Restore image ∷ h) = Look ∷ uncut h
+uncut (Cut output setting ∷ h) = Checkpoint output ∷ Look ∷ uncut h
+uncut (Look ∷ h) = Look ∷ uncut h
+
+-- what is seen, but for the restores' own numbers
+abbrev pub common : List Seen → List Seen
+common [] = []
+common (Answered a sent n ∷ l) = Answered a sent n ∷ common l
+common (Wrote number output n ∷ l) = Wrote number output n ∷ common l
+common (Restored number n ∷ l) = Looked n ∷ common l
+common (Looked n ∷ l) = Looked n ∷ common l
+
+-- all that is seen in a history "equals the clerk's after the receptions up to there, and the uncut run's"
+pub record Agrees (setting : ℕ) (h : List Call) : Type 0 where
+  pub reference : run (fresh setting) h ≡ expected setting [] h
+  pub uncutRun : common (run (fresh setting) h) ≡ run (fresh setting) (uncut h)
+
+-- THE CLAIM, one about the whole list: so does every history, "from a collector started fresh at 0, 1 or 2".
+abbrev pub WholeHistory : Type 0
+WholeHistory = (setting : ℕ) → setting ≤ maxSetting → (h : List Call) → IsHistory h → Agrees setting h

@@ -1,0 +1,121 @@
+-- The parked collector (document 01): its image, the checkpoint that writes it and the restore that reads it. Assumes nothing.
+use Prim.Native.Nat.{ℕ, _+_, _*_, _/_, _%_}
+use mathlib.Core.Bool.{Bool, cond, not, _&&_}
+use mathlib.Core.List.{List, [], _∷_, _++_, map, flatten}
+use lib.Dec.{ltb, eqb}
+use lib.ListN.{length, drop}
+use Rattle.lists.specs.Lists.{equal, upFrom}
+use Rattle.refusal.specs.Number.{numberOf}
+use Rattle.refusal.specs.declared.Refusal.the-variants.{ShortOutput, NotAccepted}
+use Rattle.layout.specs.Buffer.{part}
+use Rattle.layout.specs.Cell.{cellOf, cellTime, cellBytes}
+use Rattle.layout.specs.Header.{headerOf, headerUsed, headerFirst, headerSecond}
+use Rattle.layout.specs.Block.{cellsPerBlock, blockLength, blockOf, blockHeader, blockCell}
+use Rattle.model.specs.declared.Totals.{Totals}
+use Rattle.model.specs.View.{Reception, View}
+use Rattle.model.specs.Acceptable.{acceptable}
+
+-- ---- writing
+
+-- "Five blocks of 512 bytes, 2,560 in all"
+abbrev pub imageLength : ℕ
+imageLength = 2560
+
+-- the last two bytes of an entry are zero
+abbrev pub entryCell : Reception → List ℕ
+entryCell e = cellOf (e .time) (e .bytes) 0
+
+-- "in opening order, each block filled before the next": the entries of block k
+abbrev pub entriesOf : ℕ → View → List Reception
+entriesOf k v = part (cellsPerBlock * k) cellsPerBlock (v .entries)
+
+-- block k, with its two numbers
+unfoldable pub blockAt : ℕ → ℕ → ℕ → View → List ℕ
+blockAt k a b v = blockOf (headerOf k (length (entriesOf k v)) a b) (map entryCell (entriesOf k v))
+
+-- "block 0 latest accepted time, received; 1 kept, copies; 2 loose, damaged; 3 late, repeater setting; 4 zero, zero"
+abbrev pub blocksOf : View → List (List ℕ)
+blocksOf v =
+    blockAt 0 (v .latest) (v .totals .received) v
+    ∷ blockAt 1 (v .totals .kept) (v .totals .copies) v
+    ∷ blockAt 2 (v .totals .loose) (v .totals .damaged) v
+    ∷ blockAt 3 (v .totals .late) (v .setting) v
+    ∷ blockAt 4 0 0 v
+    ∷ []
+
+unfoldable pub imageOf : View → List ℕ
+imageOf v = flatten (blocksOf v)
+
+-- ---- reading
+
+-- "block k fills bytes 512k to 512k + 511"
+abbrev pub blockIn : ℕ → List ℕ → List ℕ
+blockIn k image = part (blockLength * k) blockLength image
+
+abbrev pub usedIn : ℕ → List ℕ → ℕ
+usedIn k image = headerUsed (blockHeader (blockIn k image))
+
+abbrev pub firstIn : ℕ → List ℕ → ℕ
+firstIn k image = headerFirst (blockHeader (blockIn k image))
+
+abbrev pub secondIn : ℕ → List ℕ → ℕ
+secondIn k image = headerSecond (blockHeader (blockIn k image))
+
+-- the entries that the five blocks say are used
+abbrev pub countIn : List ℕ → ℕ
+countIn image = usedIn 0 image + usedIn 1 image + usedIn 2 image + usedIn 3 image + usedIn 4 image
+
+abbrev pub cellEntry : List ℕ → Reception
+cellEntry cell = record { bytes = cellBytes cell; time = cellTime cell }
+
+-- entry i, counted over all blocks
+unfoldable pub entryIn : List ℕ → ℕ → Reception
+entryIn image i = cellEntry (blockCell (i % cellsPerBlock) (blockIn (i / cellsPerBlock) image))
+
+unfoldable pub totalsIn : List ℕ → Totals
+totalsIn image = record {
+  received = secondIn 0 image;
+  kept = firstIn 1 image;
+  copies = secondIn 1 image;
+  loose = firstIn 2 image;
+  damaged = secondIn 2 image;
+  late = firstIn 3 image;
+}
+
+-- what an image says; `accepts` tells whether it says it in this layout
+unfoldable pub parse : List ℕ → View
+parse image = record {
+  setting = secondIn 3 image;
+  latest = firstIn 0 image;
+  totals = totalsIn image;
+  entries = map (entryIn image) (upFrom 0 (countIn image));
+}
+
+-- "Reload accepts exactly a 2,560-byte image with this layout and right checks, where ..": byte for byte what a checkpoint writes
+unfoldable pub accepts : List ℕ → Bool
+accepts image = eqb (length image) imageLength && (acceptable (parse image) && equal (imageOf (parse image)) image)
+
+-- ---- the calls, for every state: "a collector state from which no image that reload accepts could be parked gets 11 before all else"
+
+-- the number, and every byte of the output at exit
+pub record CheckpointResult : Type 0 where
+  pub number : ℕ
+  pub output : List ℕ
+
+-- 11, 6; else the image is in front of what stood past it
+unfoldable pub checkpointOf : View → List ℕ → CheckpointResult
+checkpointOf v output =
+    cond (not (acceptable v)) (record { number = numberOf NotAccepted; output = output })
+    (cond (ltb (length output) imageLength) (record { number = numberOf ShortOutput; output = output })
+    (record { number = 0; output = imageOf v ++ drop imageLength output }))
+
+-- the number, and the collector that is handed back
+pub record RestoreResult : Type 0 where
+  pub number : ℕ
+  pub next : View
+
+-- "11: image or state not accepted; the collector stays as it was"
+unfoldable pub restoreOf : View → List ℕ → RestoreResult
+restoreOf v image =
+    cond (not (acceptable v && accepts image)) (record { number = numberOf NotAccepted; next = v })
+    (record { number = 0; next = parse image })

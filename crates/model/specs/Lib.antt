@@ -1,0 +1,9 @@
+pub mod Answer
+pub mod View
+pub mod Acceptable
+pub mod Step
+pub mod Image
+pub mod Exact
+pub mod Reference
+pub mod History
+pub mod States

@@ -1,0 +1,90 @@
+-- The reference model, document 01's clerk ("One history, and the clerk who writes it down"): it is fed the first collector's setting and
+-- the receptions in order, and nothing else, and keeps them all, each with the answer that it gave. Receptions and log are newest first.
+-- Assumes nothing.
+use Prim.Native.Nat.{ℕ, max}
+use mathlib.Core.Bool.{Bool, cond, not, _&&_}
+use mathlib.Core.List.{List, [], _∷_, _++_}
+use lib.Dec.{leb, ltb}
+use lib.ListN.{length, drop}
+use Rattle.lists.specs.Lists.{keep, any, count}
+use Rattle.refusal.specs.Number.{numberOf}
+use Rattle.refusal.specs.declared.Refusal.the-variants as refusal
+use Rattle.erp1.specs.Subtelegram.{checkOf, isValid}
+use Rattle.telegram.specs.declared.frame.Frame.{Frame}
+use Rattle.telegram.specs.Frame.{frameOf}
+use Rattle.telegram.specs.Repeater.{repeatOf}
+use Rattle.model.specs.declared.Totals.{Totals}
+use Rattle.model.specs.Answer.{Shown, Kept, Copy, Loose, Refused, isKept, isCopy, isLoose, isDamaged, isLate, isReceived, isAccepted}
+use Rattle.model.specs.View.{Reception, View, capacity, isOpen}
+use Rattle.model.specs.Acceptable.{isCopyOf}
+use Rattle.model.specs.Step.{addIf, maxCount}
+use Rattle.model.specs.Image.{CheckpointResult, imageLength, imageOf}
+
+pub record Logged : Type 0 where
+  pub reception : Reception
+  pub answer : Shown
+
+-- how many were given such an answer
+abbrev pub answers : (Shown → Bool) → List Logged → ℕ
+answers p log = count (λ e. p (e .answer)) log
+
+-- "His totals count his own answers, as under Merging."
+unfoldable pub totalsOf : List Logged → Totals
+totalsOf log = record {
+  received = answers isReceived log;
+  kept = answers isKept log;
+  copies = answers isCopy log;
+  loose = answers isLoose log;
+  damaged = answers isDamaged log;
+  late = answers isLate log;
+}
+
+-- the receptions answered Kept, in the order handed over
+abbrev pub keptOf : List Logged → List Reception
+keptOf [] = []
+keptOf (e ∷ log) = addIf (isKept (e .answer)) (e .reception) (keptOf log)
+
+-- of these, the ones with t - f <= 100
+abbrev pub openAt : ℕ → List Logged → List Reception
+openAt t log = keep (isOpen t) (keptOf log)
+
+-- "one before it that he answered KEPT, COPY or LOOSE has a time above t"
+abbrev pub isBehind : ℕ → List Logged → Bool
+isBehind t log = any (λ e. isAccepted (e .answer) && ltb t (e .reception .time)) log
+
+-- the answer to the next one, "the first that fits"; "another answer than 8" is one that counts as received
+unfoldable pub answerTo : List Logged → Reception → Shown
+answerTo log r =
+    cond (leb maxCount (answers isReceived log)) (Refused (numberOf refusal.Full))
+    (cond (not (isValid (r .bytes))) (Refused (checkOf (r .bytes)))
+    (cond (isBehind (r .time) log) (Refused (numberOf refusal.Late))
+    (cond (any (λ e. isCopyOf e r) (openAt (r .time) log)) Copy
+    (cond (leb capacity (length (openAt (r .time) log))) Loose
+    Kept))))
+
+-- "With KEPT goes what the repeater step sends at the setting; with all else, nothing."
+abbrev pub sentWith : ℕ → Shown → Reception → Frame
+sentWith setting Kept r = frameOf (repeatOf setting (r .bytes))
+sentWith setting Copy r = frameOf []
+sentWith setting Loose r = frameOf []
+sentWith setting (Refused n) r = frameOf []
+
+-- the receptions so far, each with the answer given to it
+abbrev pub logOf : List Reception → List Logged
+logOf [] = []
+logOf (r ∷ past) = record { reception = r; answer = answerTo (logOf past) r } ∷ logOf past
+
+-- "the greatest that he answered KEPT, COPY or LOOSE, 0 if none"
+abbrev pub latestOf : List Logged → ℕ
+latestOf [] = 0
+latestOf (e ∷ log) = cond (isAccepted (e .answer)) (max (e .reception .time) (latestOf log)) (latestOf log)
+
+-- what stands in his image: "those he answered KEPT with latest - f <= 100, in the order handed over"
+unfoldable pub modelView : ℕ → List Logged → View
+modelView setting log = record { setting = setting; latest = latestOf log; totals = totalsOf log; entries = openAt (latestOf log) log }
+
+-- what he says of a parking into an output: 6 if it is too short, else his image in front of what stood past it
+unfoldable pub savedBy : ℕ → List Logged → List ℕ → CheckpointResult
+savedBy setting log output =
+    cond (ltb (length output) imageLength) (record { number = numberOf refusal.ShortOutput; output = output })
+    (record { number = 0; output = imageOf (modelView setting log) ++ drop imageLength output })

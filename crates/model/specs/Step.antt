@@ -1,0 +1,80 @@
+-- One reception (document 01, "Merging"): the answer, the telegram to send, and the next state. Assumes nothing.
+use Prim.Native.Nat.{ℕ, _+_, _-_, _^_}
+use mathlib.Core.Bool.{Bool, cond, not}
+use mathlib.Core.List.{List, [], _∷_, _++_}
+use lib.Dec.{leb, ltb}
+use lib.ListN.{length}
+use Rattle.lists.specs.Lists.{any}
+use Rattle.refusal.specs.Number.{numberOf}
+use Rattle.refusal.specs.declared.Refusal.the-variants as refusal
+use Rattle.erp1.specs.Subtelegram.{checkOf, isValid}
+use Rattle.telegram.specs.declared.frame.Frame.{Frame}
+use Rattle.telegram.specs.Frame.{frameOf}
+use Rattle.telegram.specs.Repeater.{repeatOf}
+use Rattle.model.specs.declared.Totals.{Totals}
+use Rattle.model.specs.Answer.{Shown, Kept, Copy, Loose, Refused, isKept, isCopy, isLoose, isDamaged, isLate, isReceived, isAccepted}
+use Rattle.model.specs.View.{Reception, View, capacity, stillOpen}
+use Rattle.model.specs.Acceptable.{isCopyOf, acceptable}
+
+-- "received is 2^64 - 1": the most that a total holds
+abbrev pub maxCount : ℕ
+maxCount = 2 ^ 64 - 1
+
+-- "same telegram open"
+abbrev pub isKnown : View → Reception → Bool
+isKnown v r = any (λ e. isCopyOf e r) (stillOpen (r .time) v)
+
+-- "64 telegrams open"
+abbrev pub isCrowded : View → Reception → Bool
+isCrowded v r = leb capacity (length (stillOpen (r .time) v))
+
+-- the answer: the first that fits, and 11 before all else
+unfoldable pub classify : View → Reception → Shown
+classify v r =
+    cond (not (acceptable v)) (Refused (numberOf refusal.NotAccepted))
+    (cond (leb maxCount (v .totals .received)) (Refused (numberOf refusal.Full))
+    (cond (not (isValid (r .bytes))) (Refused (checkOf (r .bytes)))
+    (cond (ltb (r .time) (v .latest)) (Refused (numberOf refusal.Late))
+    (cond (isKnown v r) Copy
+    (cond (isCrowded v r) Loose
+    Kept)))))
+
+-- one more, where a test passes
+abbrev pub plusIf : Bool → ℕ → ℕ
+plusIf b n = cond b (n + 1) n
+
+-- the totals after one more answer
+abbrev pub tally : Shown → Totals → Totals
+tally a n = record {
+  received = plusIf (isReceived a) (n .received);
+  kept = plusIf (isKept a) (n .kept);
+  copies = plusIf (isCopy a) (n .copies);
+  loose = plusIf (isLoose a) (n .loose);
+  damaged = plusIf (isDamaged a) (n .damaged);
+  late = plusIf (isLate a) (n .late);
+}
+
+-- x at the end, where a test passes
+abbrev pub addIf : {A : Type 0} → Bool → A → List A → List A
+addIf b x l = cond b (l ++ (x ∷ [])) l
+
+-- the next state: an accepted reception sets the latest time, at which closed telegrams go, and one that is Kept opens a telegram
+unfoldable pub advance : View → Reception → Shown → View
+advance v r a = record {
+  setting = v .setting;
+  latest = cond (isAccepted a) (r .time) (v .latest);
+  totals = tally a (v .totals);
+  entries = cond (isAccepted a) (addIf (isKept a) r (stillOpen (r .time) v)) (v .entries);
+}
+
+-- "Only KEPT is ever repeated": what the repeater step sends at the setting; with all else, nothing
+unfoldable pub sentFor : ℕ → Shown → Reception → Frame
+sentFor setting a r = frameOf (cond (isKept a) (repeatOf setting (r .bytes)) [])
+
+pub record Outcome : Type 0 where
+  pub answer : Shown
+  pub sent : Frame
+  pub next : View
+
+unfoldable pub step : View → Reception → Outcome
+step v r = record { answer = classify v r; sent = sentFor (v .setting) (classify v r) r; next = advance v r (classify v r) }

@@ -1,0 +1,134 @@
+-- Slot plans (document 01, "Slot plan"): the rule of a level, when a plan is lawful, all lawful plans in order, and the plan that a draw
+-- picks. Assumes nothing.
+use mathlib.Core.Bool.{Bool, not, cond, _&&_}
+use mathlib.Core.List.{List, [], _∷_, map, flatMap}
+use Prim.Native.Nat.{ℕ, _+_, _-_, _*_, _%_}
+use lib.ListN.{length, getD}
+use lib.Dec.{leb, ltb, eqb}
+use Rattle.lists.specs.Lists.{keep, upFrom}
+use Rattle.refusal.specs.Number.{numberOf}
+use Rattle.refusal.specs.declared.Refusal.{Refusal}
+use Rattle.refusal.specs.declared.Refusal.the-variants.{NoPlan, Argument}
+use Rattle.slots.specs.declared.SlotRange.{SlotRange}
+use Rattle.slots.specs.declared.Rule.{Rule}
+use Rattle.slots.specs.declared.SlotPlan.{SlotPlan}
+use Rattle.slots.specs.declared.Planned.{Planned}
+use Rattle.slots.specs.declared.Planned.the-variants.{Slots, Refused}
+
+-- ── rules ──
+
+abbrev pub range : ℕ → ℕ → SlotRange
+range a b = record { first = a; last = b }
+
+-- the range of no transmission
+abbrev pub none : SlotRange
+none = range 1 0
+
+-- the table of ranges: by level sent, then transmission
+abbrev pub standardRanges : List (List SlotRange)
+standardRanges =
+    (range 0 0 ∷ range 1 9 ∷ range 20 39 ∷ [])
+    ∷ (range 10 19 ∷ range 20 29 ∷ none ∷ [])
+    ∷ (range 0 9 ∷ range 20 29 ∷ none ∷ [])
+    ∷ []
+
+-- the rule of a level sent: no pause before the second transmission, and the last end at 40,000 microseconds
+abbrev pub standardRule : ℕ → Rule
+standardRule level = record { ranges = getD standardRanges level []; pause = 0; end = 40_000 }
+
+-- the range of a transmission, counted from 0
+abbrev pub rangeAt : Rule → ℕ → SlotRange
+rangeAt r transmission = getD (r .ranges) transmission (range 0 0)
+
+-- a range is empty where its first slot is above its last
+abbrev pub empty : SlotRange → Bool
+empty s = ltb (s .last) (s .first)
+
+abbrev pub within : SlotRange → ℕ → Bool
+within s n = leb (s .first) n && leb n (s .last)
+
+-- ── lawful plans ──
+
+abbrev pub plan : ℕ → ℕ → ℕ → SlotPlan
+plan a b c = record { first = a; second = b; third = c }
+
+-- what the third slot reads where there is no third transmission
+abbrev pub noSlot : ℕ
+noSlot = 255
+
+-- the microseconds at which a transmission of duration d in slot n starts and ends
+abbrev pub startOf : ℕ → ℕ
+startOf n = 1000 * n
+
+abbrev pub endOf : ℕ → ℕ → ℕ
+endOf d n = startOf n + d
+
+-- slot b starts when slot a has ended and the pause is over
+abbrev pub secondFollows : Rule → ℕ → ℕ → ℕ → Bool
+secondFollows r d a b = leb (endOf d a + r .pause) (startOf b)
+
+-- slot c is in the third range, starts when slot b has ended, and ends in time; where that range is empty, slot b ends in time
+unfoldable pub thirdFollows : Rule → ℕ → ℕ → ℕ → Bool
+thirdFollows r d b c =
+    cond (empty (rangeAt r 2))
+    (eqb c noSlot && leb (endOf d b) (r .end))
+    (within (rangeAt r 2) c && (leb (endOf d b) (startOf c) && leb (endOf d c) (r .end)))
+
+-- each slot in its range, no start before the previous end, the last end in time
+unfoldable pub lawful : Rule → ℕ → SlotPlan → Bool
+lawful r d p =
+    within (rangeAt r 0) (p .first)
+    && (within (rangeAt r 1) (p .second)
+    && (secondFollows r d (p .first) (p .second)
+    && thirdFollows r d (p .second) (p .third)))
+
+-- ── all of them, in order ──
+
+abbrev pub slotsIn : SlotRange → List ℕ
+slotsIn s = upFrom (s .first) (s .last + 1 - s .first)
+
+-- what a third slot can read
+abbrev pub thirdSlots : Rule → List ℕ
+thirdSlots r = cond (empty (rangeAt r 2)) (noSlot ∷ []) (slotsIn (rangeAt r 2))
+
+-- every choice of one slot from each range, by first, then second, then third slot
+unfoldable pub candidates : Rule → List SlotPlan
+unfolding flatMap
+candidates r = flatMap (λ a. flatMap (λ b. map (plan a b) (thirdSlots r)) (slotsIn (rangeAt r 1))) (slotsIn (rangeAt r 0))
+
+-- the lawful plans under a rule at a duration, in order
+unfoldable pub plans : Rule → ℕ → List SlotPlan
+plans r d = keep (lawful r d) (candidates r)
+
+-- ── the answer ──
+
+-- what a caller sees: the number of document 01, "Numbers a caller sees", and the three slots
+pub record Answer : Type 0 where
+  pub number : ℕ
+  pub slots : SlotPlan
+
+-- beside a refusal the slots are zero
+abbrev pub refused : Refusal → Answer
+refused e = record { number = numberOf e; slots = plan 0 0 0 }
+
+abbrev pub planned : SlotPlan → Answer
+planned p = record { number = 0; slots = p }
+
+abbrev pub answerOf : Planned → Answer
+answerOf (Slots p) = planned p
+answerOf (Refused e) = refused e
+
+-- of N plans the one with index draw mod N, counted from 0; 9 where N = 0
+unfoldable pub drawn : List SlotPlan → ℕ → Answer
+drawn ps draw =
+    cond (eqb (length ps) 0) (refused NoPlan)
+    (planned (getD ps (draw % length ps) (plan 0 0 0)))
+
+-- level 0 to 2 and duration 1 to 65,535
+abbrev pub allowed : ℕ → ℕ → Bool
+allowed level d = leb level 2 && (leb 1 d && leb d 65_535)
+
+unfoldable pub planOf : ℕ → ℕ → ℕ → Answer
+planOf level d draw =
+    cond (not (allowed level d)) (refused Argument)
+    (drawn (plans (standardRule level) d) draw)
