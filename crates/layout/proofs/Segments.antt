@@ -1,6 +1,7 @@
 -- Lists made of segments, one after the other: how they are written in place from the front, and read back.
 --     part-length, part-at, part-ends         a part of a list: its length, its elements, and the form that `&xs[a..a + n]` has in a proof
 --     take-clamped, part-clamped              the same where the ends are cut to the list's length
+--     part-replicate                          a part of one value repeated
 --     left, right, last, whole                a part of xs ++ ys that lies in xs, or in ys; the part that is ys; all of a list
 --     Each, flatten-length, flatten-part      segments of one length: how long they are together, and segment k of them
 --     Begun                                   a list that is written from the front: the first a elements are `front`, the rest is as it was
@@ -111,14 +112,14 @@ module _ {A : Type 0} where
   pub record Begun (orig front : List A) (a : ℕ) (xs : List A) : Type 0 where
     pub is : xs ≡ front ++ drop a orig
     pub long : length front ≡ a
-    pub room : a ≤ length orig
+    pub bound : a ≤ length orig
 
   pub begin : (orig : List A) → Begun orig [] 0 orig
-  begin orig = record { is = refl; long = refl; room = omega arith }
+  begin orig = record { is = refl; long = refl; bound = omega arith }
 
   module _ {orig front : List A} {a : ℕ} {xs : List A} (b : Begun orig front a xs) where
     pub begun-length : length xs ≡ length orig
-    begun-length = rw (b .is) (simp (length-append, length-drop) (omega (arith, b .long, b .room)))
+    begun-length = rw (b .is) (simp (length-append, length-drop) (omega (arith, b .long, b .bound)))
 
     pub within : (e : ℕ) → e ≤ length orig → e ≤ length xs
     within e h = rw begun-length h
@@ -132,7 +133,7 @@ module _ {A : Type 0} where
     store v h = record {
       is = rw (b .is, drop-cons orig a v, set-at front (getD orig a v) (drop (suc a) orig) v a (b .long), add-one) (sym (append-snoc front v (drop (suc a) orig)));
       long = simp length-append (omega (arith, b .long));
-      room = omega arith;
+      bound = omega arith;
     }
 
     -- the front by another name
@@ -149,7 +150,7 @@ module _ {A : Type 0} where
           is = rw (b .is, p, take-at front (drop a orig) a (b .long), drop-at front (drop a orig) a (b .long), drop-drop (e - a) a orig, k)
               (sym (append-assoc front s (drop e orig)));
           long = simp length-append (omega (arith, b .long));
-          room = h;
+          bound = h;
         }
 
     -- the same, where what comes back depends on the part's length alone

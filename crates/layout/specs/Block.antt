@@ -12,7 +12,7 @@ use Rattle.layout.specs.Header.{headerLength}
 abbrev pub cellsPerBlock : ℕ
 cellsPerBlock = 15
 
--- the bytes that the CRC covers, and with it
+-- the bytes before the CRC
 abbrev pub bodyLength : ℕ
 bodyLength = 511
 
