@@ -1,6 +1,6 @@
 -- Addressed encapsulation and its removal (document 01, "Subtelegram"; 001, 4.3.2): STATUS is kept and HASH renewed. Assumes nothing.
 use Prim.Native.Nat.{ℕ}
-use mathlib.Core.Bool.{true, false, cond, not}
+use mathlib.Core.Bool.{Bool, true, false, cond, not}
 use mathlib.Core.List.{List}
 use lib.ListN.{replicate}
 use Rattle.refusal.specs.Number.{numberOf}
@@ -10,27 +10,23 @@ use Rattle.telegram.specs.declared.fields.Telegram.{Telegram}
 use Rattle.telegram.specs.Output.{Result, refused, putOf}
 use Rattle.telegram.specs.Fields.{fieldsOf, bytesOf}
 
-abbrev pub addressedTo : Telegram → List ℕ → Telegram
-addressedTo t to = record {
+-- a telegram with another address, or none; all else is kept, STATUS too
+abbrev pub withAddress : Telegram → Bool → List ℕ → Telegram
+withAddress t flag to = record {
   rorg = t .rorg;
   payload = t .payload;
   len = t .len;
-  addressed = true;
+  addressed = flag;
   destid = to;
   txid = t .txid;
   status = t .status;
 }
 
+abbrev pub addressedTo : Telegram → List ℕ → Telegram
+addressedTo t to = withAddress t true to
+
 abbrev pub unaddressed : Telegram → Telegram
-unaddressed t = record {
-  rorg = t .rorg;
-  payload = t .payload;
-  len = t .len;
-  addressed = false;
-  destid = replicate 4 0;
-  txid = t .txid;
-  status = t .status;
-}
+unaddressed t = withAddress t false (replicate 4 0)
 
 -- the bytes of s, encapsulated for a DESTID
 abbrev pub encapsulated : List ℕ → List ℕ → List ℕ

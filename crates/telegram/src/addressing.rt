@@ -1,7 +1,7 @@
 // Addressed encapsulation and its removal (document 01, "Subtelegram"): STATUS is kept and HASH renewed.
 ghost use mathlib.Core.Path.{_≡_};
 ghost use Rattle.telegram.specs.Output.{resultOf};
-ghost use Rattle.telegram.specs.Addressing.{addressedTo, unaddressed, encapsulateOf, decapsulateOf};
+ghost use Rattle.telegram.specs.Addressing.{withAddress, encapsulateOf, decapsulateOf};
 use crate::fields;
 use crate::fields::Telegram;
 use crate::frame::Built;
@@ -22,7 +22,7 @@ pub fn encapsulate(bytes: &[u8], destid: [u8; 4], out: &mut [u8]) -> Built
             if t.addressed {
                 return Built::Refused(Refusal::Nested);
             }
-            fields::build(addressed_to(t, destid), out)
+            fields::build(readdressed(t, true, destid), out)
         }
     }
 }
@@ -39,16 +39,16 @@ pub fn decapsulate(bytes: &[u8], out: &mut [u8]) -> Built
         Checked::Refused(why) => Built::Refused(why),
         Checked::Valid => {
             if t.addressed {
-                return fields::build(without_address(t), out);
+                return fields::build(readdressed(t, false, [0u8; 4]), out);
             }
             Built::Refused(Refusal::NotAddressed)
         }
     }
 }
 
-// The telegram addressed to `destid`.
-fn addressed_to(t: Telegram, destid: [u8; 4]) -> Telegram
-    ensures { λ r. ⌜ r ≡ addressedTo t destid ⌝ }
+// The telegram with another address, or none.
+fn readdressed(t: Telegram, addressed: bool, destid: [u8; 4]) -> Telegram
+    ensures { λ r. ⌜ r ≡ withAddress t addressed destid ⌝ }
 {
     let payload = t.payload;
     let txid = t.txid;
@@ -56,25 +56,8 @@ fn addressed_to(t: Telegram, destid: [u8; 4]) -> Telegram
         rorg: t.rorg,
         payload: payload,
         len: t.len,
-        addressed: true,
+        addressed: addressed,
         destid: destid,
-        txid: txid,
-        status: t.status,
-    }
-}
-
-// The telegram with no address.
-fn without_address(t: Telegram) -> Telegram
-    ensures { λ r. ⌜ r ≡ unaddressed t ⌝ }
-{
-    let payload = t.payload;
-    let txid = t.txid;
-    Telegram {
-        rorg: t.rorg,
-        payload: payload,
-        len: t.len,
-        addressed: false,
-        destid: [0u8; 4],
         txid: txid,
         status: t.status,
     }

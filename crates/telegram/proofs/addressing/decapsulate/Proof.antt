@@ -14,7 +14,7 @@ returns c =
     let told = addressed .before .enum-told .given .1 in
     let r = addressed .before .before .before .before .read in
     b .build .ensures
-    ∙ decapsulate-built _ _ (reads-valid _ (r .result) (r .ensures) told) _ _ (reads-fields _ (r .result) (r .ensures) told) (made .without-address .ensures)
+    ∙ decapsulate-built _ _ (reads-valid _ (r .result) (r .ensures) told) _ _ (reads-fields _ (r .result) (r .ensures) told) (made .readdressed .ensures)
     (reads-flag _ (r .result) (r .ensures) told ∙ addressed .if1 .taken)
 
 returns-2 : tie.Need-returns-2

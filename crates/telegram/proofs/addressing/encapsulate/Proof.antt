@@ -25,7 +25,7 @@ returns-3 c =
     let told = plain .before .enum-told .given .1 in
     let r = plain .before .before .before .before .read in
     b .build .ensures
-    ∙ encapsulate-built _ _ (reads-valid _ (r .result) (r .ensures) told) _ _ (reads-fields _ (r .result) (r .ensures) told) _ (made .addressed-to .ensures)
+    ∙ encapsulate-built _ _ (reads-valid _ (r .result) (r .ensures) told) _ _ (reads-fields _ (r .result) (r .ensures) told) _ (made .readdressed .ensures)
     (reads-flag _ (r .result) (r .ensures) told ∙ plain .if1 .left)
 
 pub encapsulate-spec : {M : Type 1} → statement M

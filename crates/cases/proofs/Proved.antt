@@ -1,0 +1,23 @@
+-- Every row of the table holds: one test that antt computes over the whole table, and a law that turns it into each row's equation.
+-- Assumes nothing.
+use mathlib.Core.Path.{_≡_}
+use Prim.Native.Nat.{ℕ, _<_}
+use lib.ListN.{length, getD}
+use Rattle.lists.specs.Lists.{equal, upFrom}
+use Rattle.lists.proofs.Equal.{equal-eq}
+use Rattle.lists.proofs.Table.{at}
+use Rattle.crc8.specs.Crc8.{remainderOf, stepOf}
+use Rattle.erp1.specs.Subtelegram.{hashOf, checkOf}
+use Rattle.erp1.specs.Same.{isSame}
+use Rattle.telegram.specs.Fields.{fieldsOf, bytesOf}
+use Rattle.telegram.specs.Repeater.{repeatOf}
+use Rattle.slots.specs.Plan.{plans, candidates, lawful, thirdFollows}
+use Rattle.model.specs.View.{fresh}
+use Rattle.model.specs.Acceptable.{isCopyOf, acceptable}
+use Rattle.model.specs.Step.{classify, advance, step}
+use Rattle.cases.specs.Cases.{Case, cases}
+
+-- each row's two sides are equal
+pub every-case : (k : ℕ) → k < length cases → (d : Case) → getD cases k d .got ≡ getD cases k d .want
+unfolding upFrom remainderOf stepOf hashOf checkOf isSame fieldsOf bytesOf repeatOf plans candidates lawful thirdFollows fresh isCopyOf acceptable classify advance step
+every-case k h d = equal-eq _ _ (at (λ i c. equal (c .got) (c .want)) d cases tt k h)

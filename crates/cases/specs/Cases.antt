@@ -1,0 +1,89 @@
+-- Document 01, "Cases, P marks those proved": each row is what a definition gives, and what the document says. Assumes nothing.
+use Prim.Native.Nat.{ℕ, _+_}
+use mathlib.Core.List.{List, [], _∷_, _++_}
+use lib.ListN.{length}
+use Rattle.crc8.specs.Crc8.{crcOf}
+use Rattle.erp1.specs.Subtelegram.{hashOf, checkOf}
+use Rattle.telegram.specs.Addressing.{encapsulated}
+use Rattle.telegram.specs.Repeater.{repeatOf}
+use Rattle.slots.specs.Plan.{plans, standardRule}
+use Rattle.model.specs.Answer.{Shown, Kept, Copy, Loose, Refused}
+use Rattle.model.specs.View.{fresh}
+use Rattle.model.specs.History.{Call, Receive, Seen, Answered, Wrote, Restored, Looked, run}
+
+pub record Case : Type 0 where
+  pub got : List ℕ
+  pub want : List ℕ
+
+-- A5 00 00 00 08 01 02 03 04 00, and with its HASH
+abbrev pub fourByte : List ℕ
+fourByte = 0xA5 ∷ 0x00 ∷ 0x00 ∷ 0x00 ∷ 0x08 ∷ 0x01 ∷ 0x02 ∷ 0x03 ∷ 0x04 ∷ 0x00 ∷ []
+
+abbrev pub fourByteSent : List ℕ
+fourByteSent = fourByte ++ (0xB7 ∷ [])
+
+-- D5 09 01 02 03 04 80 FE
+abbrev pub oneByte : List ℕ
+oneByte = 0xD5 ∷ 0x09 ∷ 0x01 ∷ 0x02 ∷ 0x03 ∷ 0x04 ∷ 0x80 ∷ 0xFE ∷ []
+
+-- how many plans are lawful at a level and a duration
+abbrev pub planCount : ℕ → ℕ → ℕ
+planCount level duration = length (plans (standardRule level) duration)
+
+-- ---- a telegram received at two times
+
+-- a form of the answer 0 as a number of the table, apart from those of refusals
+abbrev pub kept : ℕ
+kept = 100
+
+abbrev pub copy : ℕ
+copy = 101
+
+abbrev pub shownAs : Shown → ℕ
+shownAs Kept = kept
+shownAs Copy = copy
+shownAs Loose = 102
+shownAs (Refused n) = n
+
+abbrev pub answersOf : List Seen → List ℕ
+answersOf [] = []
+answersOf (Answered a sent n ∷ l) = shownAs a ∷ answersOf l
+answersOf (Wrote number output n ∷ l) = answersOf l
+answersOf (Restored number n ∷ l) = answersOf l
+answersOf (Looked n ∷ l) = answersOf l
+
+abbrev pub received : ℕ → Call
+received t = Receive (record { bytes = oneByte; time = t })
+
+-- the answers to the same telegram at 0 and at another time
+abbrev pub twice : ℕ → List ℕ
+twice t = answersOf (run (fresh 1) (received 0 ∷ received t ∷ []))
+
+abbrev pub cases : List Case
+cases =
+    record { got = crcOf (0x01 ∷ []) ∷ []; want = 0x07 ∷ [] }
+    ∷ record { got = crcOf (0x80 ∷ []) ∷ []; want = 0x89 ∷ [] }
+    ∷ record { got = crcOf (0x01 ∷ 0x02 ∷ []) ∷ []; want = 0x1B ∷ [] }
+    ∷ record { got = crcOf [] ∷ []; want = 0x00 ∷ [] }
+    ∷ record { got = hashOf fourByte ∷ []; want = 0xB7 ∷ [] }
+    ∷ record {
+      got = repeatOf 1 fourByteSent;
+      want = 0xA5 ∷ 0x00 ∷ 0x00 ∷ 0x00 ∷ 0x08 ∷ 0x01 ∷ 0x02 ∷ 0x03 ∷ 0x04 ∷ 0x01 ∷ 0xB8 ∷ [];
+    }
+    ∷ record {
+      got = encapsulated fourByteSent (0xF1 ∷ 0xF2 ∷ 0xF3 ∷ 0xF4 ∷ []);
+      want = 0xA6 ∷ 0xA5 ∷ 0x00 ∷ 0x00 ∷ 0x00 ∷ 0x08 ∷ 0xF1 ∷ 0xF2 ∷ 0xF3 ∷ 0xF4 ∷ 0x01 ∷ 0x02 ∷ 0x03 ∷ 0x04 ∷ 0x00 ∷ 0x27 ∷ [];
+    }
+    ∷ record { got = checkOf oneByte ∷ []; want = 0 ∷ [] }
+    ∷ record { got = repeatOf 1 oneByte; want = 0xD5 ∷ 0x09 ∷ 0x01 ∷ 0x02 ∷ 0x03 ∷ 0x04 ∷ 0x81 ∷ 0xF9 ∷ [] }
+    ∷ record { got = planCount 0 1_000 ∷ []; want = 180 ∷ [] }
+    ∷ record { got = planCount 0 1_001 ∷ []; want = 152 ∷ [] }
+    ∷ record { got = planCount 0 9_000 ∷ []; want = 12 ∷ [] }
+    ∷ record { got = planCount 0 9_001 ∷ []; want = 0 ∷ [] }
+    ∷ record { got = planCount 1 15_000 ∷ []; want = 1 ∷ [] }
+    ∷ record { got = planCount 1 15_001 ∷ []; want = 0 ∷ [] }
+    ∷ record { got = planCount 2 20_000 ∷ []; want = 1 ∷ [] }
+    ∷ record { got = planCount 2 20_001 ∷ []; want = 0 ∷ [] }
+    ∷ record { got = twice 100; want = kept ∷ copy ∷ [] }
+    ∷ record { got = twice 101; want = kept ∷ kept ∷ [] }
+    ∷ []

@@ -1,0 +1,33 @@
+-- `codec_run::decode` is safe and ends. The loop's invariant: the index is at most 64; the measure is what is left of it.
+-- Assumes nothing.
+use Prim.Native.Nat.{_≤_, _-_}
+use mathlib.Core.Path.{_≡_}
+use lib.ListN.{length}
+use borrow.Author.Needs.{needs}
+use Rattle.codec_run.proofs.decode.Statement.{statement}
+use Rattle.codec_run.proofs.decode.Tie as tie
+
+abbrev Inv-loop : tie.InvT-loop
+Inv-loop line r₀ i₀ r i = (i ≤ 64) × (length r ≡ 64)
+
+abbrev μ-loop : tie.MeasureT-loop
+μ-loop line r₀ i₀ r i = 64 - i
+
+pub decode-spec : {M : Type 1} → statement M
+decode-spec =
+    tie.close
+    (tie.spec
+    Inv-loop
+    μ-loop
+    (λ c. search needs)
+    (λ c. search needs)
+    (λ c. search needs)
+    (λ c. search needs)
+    (λ c. search needs)
+    (λ c. search needs)
+    (λ c κs. search needs)
+    (λ c. search needs)
+    (λ c. search needs)
+    (λ c. search needs)
+    (λ c. search needs)
+    (λ c. search needs))

@@ -1,0 +1,30 @@
+-- `test_io::hex` is safe and ends. The loop's invariant: the index is at most the length; the measure is what is left of it.
+-- Assumes nothing.
+use Prim.Native.Nat.{_≤_, _-_}
+use mathlib.Core.Path.{_≡_}
+use lib.ListN.{length}
+use borrow.Author.Needs.{needs}
+use Rattle.test_io.proofs.hex.Statement.{statement}
+use Rattle.test_io.proofs.hex.Tie as tie
+
+abbrev Inv-loop : tie.InvT-loop
+Inv-loop s i₀ i-end i = (i ≤ length s) × (i-end ≡ length s)
+
+abbrev μ-loop : tie.MeasureT-loop
+μ-loop s i₀ i-end i = length s - i
+
+pub hex-spec : {M : Type 1} → statement M
+hex-spec =
+    tie.close
+    (tie.spec
+    Inv-loop
+    μ-loop
+    (λ c. search needs)
+    (λ c κs. search needs)
+    (λ c. search needs)
+    (λ c. search needs)
+    (λ c κs. search needs)
+    (λ c. search needs)
+    (λ c. search needs)
+    (λ c. search needs)
+    (λ c. search needs))

@@ -1,0 +1,448 @@
+//! What the histories must show: everything that can occur, and the faults a collector could
+//! have. Each fault is put into a model of its own, and its lines must differ from the clerk's.
+
+use crate::clerk::{totals_of, Answer, Clerk, Noted, Totals};
+use crate::history::{show, spoil, stdin, stdout, word, Call, Model, SHOWN};
+use crate::image::{self, reload, IMAGE};
+use crate::repeater::repeat;
+use crate::scenarios::{calls, ROOMS};
+use crate::subtelegram::{check, same};
+use crate::telegrams::at_level;
+use std::collections::BTreeMap;
+
+/// The clerk word for word: every look goes over all receptions. One fault can be set.
+#[derive(Default)]
+struct PlainClerk {
+    setting: u8,
+    noted: Vec<Noted>,
+    fault: &'static str,
+}
+
+impl PlainClerk {
+    fn is_open(&self, noted: &Noted, time: u64) -> bool {
+        match self.fault {
+            "99 ms" => time - noted.time < 100,
+            "101 ms" => time - noted.time <= 101,
+            _ => time - noted.time <= 100,
+        }
+    }
+
+    fn is_same(&self, a: &[u8], b: &[u8]) -> bool {
+        let n = a.len();
+        match self.fault {
+            "TXID alone" => a[n - 6..n - 2] == b[b.len() - 6..b.len() - 2],
+            "level and HASH compared" => a == b,
+            "STATUS left out" => n == b.len() && a[..n - 2] == b[..n - 2],
+            "HASH compared" => same(a, b) && a[n - 1] == b[n - 1],
+            _ => same(a, b),
+        }
+    }
+
+    fn answer(&self, time: u64, bytes: &[u8]) -> Answer {
+        let answered = |answer: Answer| match (self.fault, answer) {
+            ("copies move no clock", Answer::Copy) => false,
+            ("loose moves no clock", Answer::Loose) => false,
+            ("damage moves the clock", Answer::Refused(1..=3)) => true,
+            _ => answer.accepted(),
+        };
+        let late = self
+            .noted
+            .iter()
+            .any(|n| answered(n.answer) && n.time > time);
+        if self.fault == "late before damage" && late {
+            return Answer::Refused(7);
+        }
+        if let Err(number) = check(bytes) {
+            return Answer::Refused(number);
+        }
+        if late {
+            return Answer::Refused(7);
+        }
+        if self.fault == "equal times late"
+            && self
+                .noted
+                .iter()
+                .any(|n| answered(n.answer) && n.time >= time)
+        {
+            return Answer::Refused(7);
+        }
+        let opens = |n: &&Noted| match self.fault {
+            "copies lengthen" => matches!(n.answer, Answer::Kept | Answer::Copy),
+            "loose opens" => matches!(n.answer, Answer::Kept | Answer::Loose),
+            _ => n.answer == Answer::Kept,
+        };
+        let earlier = |n: &&Noted| n.time <= time;
+        let open: Vec<&Noted> = self
+            .noted
+            .iter()
+            .filter(opens)
+            .filter(earlier)
+            .filter(|n| self.is_open(n, time))
+            .collect();
+        let full = open.iter().filter(|n| n.answer == Answer::Kept).count()
+            >= match self.fault {
+                "63 places" => 63,
+                "65 places" => 65,
+                _ => 64,
+            };
+        if self.fault == "loose before copy" && full {
+            return Answer::Loose;
+        }
+        if open.iter().any(|n| self.is_same(&n.bytes, bytes)) {
+            return Answer::Copy;
+        }
+        if full {
+            return Answer::Loose;
+        }
+        Answer::Kept
+    }
+}
+
+impl Model for PlainClerk {
+    fn start(&mut self, setting: u8) {
+        self.setting = setting;
+        self.noted.clear();
+    }
+
+    fn take(&mut self, time: u64, bytes: &[u8]) -> (Answer, Option<Vec<u8>>) {
+        let answer = self.answer(time, bytes);
+        self.noted.push(Noted {
+            time,
+            bytes: bytes.to_vec(),
+            answer,
+        });
+        let sent = match answer {
+            Answer::Kept => repeat(self.setting, bytes),
+            Answer::Copy if self.fault == "copies repeated" => repeat(self.setting, bytes),
+            _ => None,
+        };
+        (answer, sent)
+    }
+
+    fn totals(&self) -> Totals {
+        totals_of(&self.noted)
+    }
+
+    fn image(&self) -> Vec<u8> {
+        let accepted = self.noted.iter().filter(|n| n.answer.accepted());
+        let latest = accepted.map(|n| n.time).max().unwrap_or(0);
+        let entries: Vec<image::Entry> = self
+            .noted
+            .iter()
+            .filter(|n| n.answer == Answer::Kept && latest - n.time <= 100)
+            .take(75)
+            .map(|n| image::Entry {
+                time: n.time,
+                bytes: n.bytes.clone(),
+            })
+            .collect();
+        image::write(latest, &self.totals(), self.setting, &entries)
+    }
+
+    fn restore(&mut self, _image: &[u8], _setting: u8) -> u8 {
+        0
+    }
+}
+
+/// Whether the plain clerk with this fault shows what the clerk shows.
+fn agrees(fault: &'static str) -> bool {
+    show(
+        &calls(),
+        &mut PlainClerk {
+            fault,
+            ..PlainClerk::default()
+        },
+    ) == stdout()
+}
+
+#[test]
+fn the_short_look_back_is_the_long_one() {
+    assert!(agrees(""));
+}
+
+#[test]
+fn faults_are_seen() {
+    for fault in [
+        "99 ms",
+        "101 ms",
+        "TXID alone",
+        "level and HASH compared",
+        "HASH compared",
+        "STATUS left out",
+        "copies move no clock",
+        "loose moves no clock",
+        "damage moves the clock",
+        "late before damage",
+        "equal times late",
+        "copies lengthen",
+        "loose opens",
+        "63 places",
+        "65 places",
+        "loose before copy",
+        "copies repeated",
+    ] {
+        assert!(!agrees(fault), "{fault}");
+    }
+}
+
+/// A collector with a window of open telegrams, as an image holds it: one that a cut
+/// really goes through. One fault can be set.
+struct Window {
+    state: image::Reloaded,
+    fault: &'static str,
+}
+
+impl Window {
+    fn new(fault: &'static str) -> Window {
+        Window {
+            state: reload(&Clerk::new(0).image()).unwrap(),
+            fault,
+        }
+    }
+}
+
+impl Model for Window {
+    fn start(&mut self, setting: u8) {
+        self.state = reload(&Clerk::new(setting).image()).unwrap();
+    }
+
+    fn take(&mut self, time: u64, bytes: &[u8]) -> (Answer, Option<Vec<u8>>) {
+        let fault = self.fault;
+        let image::Reloaded {
+            latest,
+            totals,
+            setting,
+            entries,
+        } = &mut self.state;
+        totals.received += 1;
+        if let Err(number) = check(bytes) {
+            totals.damaged += 1;
+            return (Answer::Refused(number), None);
+        }
+        if time < *latest {
+            totals.late += 1;
+            return (Answer::Refused(7), None);
+        }
+        *latest = time;
+        let places_stay = fault == "parked by place";
+        if !places_stay {
+            entries.retain(|e| time - e.time <= 100);
+        }
+        let open = entries.iter().filter(|e| time - e.time <= 100).count();
+        let copied = entries
+            .iter_mut()
+            .find(|e| time - e.time <= 100 && same(&e.bytes, bytes));
+        if let Some(entry) = copied {
+            totals.copies += 1;
+            if fault == "last copy parked" {
+                entry.bytes = bytes.to_vec();
+            }
+            return (Answer::Copy, None);
+        }
+        if open == 64 {
+            totals.loose += 1;
+            return (Answer::Loose, None);
+        }
+        totals.kept += 1;
+        let opened = image::Entry {
+            time,
+            bytes: bytes.to_vec(),
+        };
+        match entries.iter().position(|e| time - e.time > 100) {
+            Some(at) => entries[at] = opened,
+            None => entries.push(opened),
+        }
+        (Answer::Kept, repeat(*setting, bytes))
+    }
+
+    fn totals(&self) -> Totals {
+        self.state.totals
+    }
+
+    fn image(&self) -> Vec<u8> {
+        let image::Reloaded {
+            latest,
+            totals,
+            setting,
+            entries,
+        } = &self.state;
+        let open: Vec<image::Entry> = entries
+            .iter()
+            .filter(|e| latest - e.time <= 100)
+            .cloned()
+            .collect();
+        image::write(*latest, totals, *setting, &open)
+    }
+
+    fn restore(&mut self, image: &[u8], fresh: u8) -> u8 {
+        if self.fault == "parked by place" || self.fault == "last copy parked" {
+            return 0;
+        }
+        let Ok(mut state) = reload(image) else {
+            return 11;
+        };
+        match self.fault {
+            "fresh setting" => state.setting = fresh,
+            "latest lost" => state.latest = 0,
+            "latest from entries" => state.latest = state.entries.last().map_or(0, |e| e.time),
+            "last of 64 lost" if state.entries.len() == 64 => {
+                state.entries.pop();
+            }
+            "fifth block lost" => state.entries.truncate(60),
+            "fourth block lost" => {
+                let end = state.entries.len().min(60);
+                state.entries.drain(end.min(45)..end);
+            }
+            "opened anew" => {
+                let latest = state.latest;
+                state.entries.iter_mut().for_each(|e| e.time = latest);
+            }
+            "equal times reversed" => {
+                state.entries.reverse();
+                state.entries.sort_by_key(|e| e.time);
+            }
+            "level dropped" => {
+                state
+                    .entries
+                    .iter_mut()
+                    .for_each(|e| e.bytes = at_level(&e.bytes, 0));
+            }
+            "restore refused" => return 11,
+            _ => {}
+        }
+        self.state = state;
+        0
+    }
+}
+
+#[test]
+fn a_cut_run_is_the_clerks() {
+    let expected = stdout();
+    let calls = calls();
+    assert!(show(&calls, &mut Window::new("")) == expected);
+    for fault in [
+        "fresh setting",
+        "latest lost",
+        "latest from entries",
+        "last of 64 lost",
+        "fifth block lost",
+        "fourth block lost",
+        "opened anew",
+        "equal times reversed",
+        "level dropped",
+        "restore refused",
+        "parked by place",
+        "last copy parked",
+    ] {
+        assert!(show(&calls, &mut Window::new(fault)) != expected, "{fault}");
+    }
+}
+
+#[test]
+fn everything_occurs() {
+    let calls = calls();
+    let mut seen: BTreeMap<String, usize> = BTreeMap::new();
+    let mut count = |key: String| *seen.entry(key).or_default() += 1;
+    let mut clerk = Clerk::new(0);
+    let (mut parked, mut rooms_first) = (0, Vec::new());
+    for (i, call) in calls.iter().enumerate() {
+        match call {
+            Call::Start(setting) => {
+                clerk = Clerk::new(*setting);
+                parked = 0;
+                count(format!("start {setting}"));
+            }
+            Call::Reception(time, bytes) => {
+                let (answer, sent) = clerk.take(*time, bytes);
+                count(word(answer));
+                if sent.is_some() {
+                    count(format!("sent at {}", clerk.setting));
+                }
+                assert!(bytes.len() <= 28);
+            }
+            Call::Park(n) => {
+                parked += 1;
+                if parked <= SHOWN {
+                    rooms_first.push(*n);
+                }
+                count(format!("park {n}"));
+                count(format!("entries parked {}", clerk.entries().len()));
+            }
+            Call::Cut(setting) => {
+                let image = clerk.image();
+                let reloaded = reload(&image).unwrap();
+                assert_eq!(reloaded.setting, clerk.setting);
+                assert_eq!(reloaded.totals, clerk.totals());
+                assert_eq!(reloaded.latest, clerk.latest());
+                count("cut".to_string());
+                if *setting != clerk.setting {
+                    count("cut into another setting".to_string());
+                }
+                count(format!("entries cut {}", clerk.entries().len()));
+                // Most cuts are followed by a reception, which meets what was restored.
+                if matches!(calls.get(i + 1), Some(Call::Reception(..))) {
+                    count("cut, then reception".to_string());
+                }
+            }
+            Call::Spoiled(k) => {
+                assert_eq!(reload(&spoil(clerk.image(), *k)), Err(11));
+                count("spoiled".to_string());
+            }
+        }
+    }
+    assert!(rooms_first.iter().all(|&n| n >= IMAGE));
+    println!("{seen:?}");
+    let least = |key: &str, n: usize| {
+        assert!(seen.get(key).copied().unwrap_or(0) >= n, "{key}: {seen:?}");
+    };
+    for key in ["KEPT", "COPY"] {
+        least(key, 1000);
+    }
+    for key in ["LOOSE", "7"] {
+        least(key, 250);
+    }
+    for key in ["1", "2", "3"] {
+        least(key, 80);
+    }
+    for key in [
+        "sent at 1",
+        "sent at 2",
+        "cut",
+        "spoiled",
+        "cut, then reception",
+    ] {
+        least(key, 150);
+    }
+    for room in ROOMS {
+        least(&format!("park {room}"), 20);
+    }
+    least("entries cut 0", 1);
+    least("entries cut 64", 10);
+    least("entries parked 64", 10);
+}
+
+#[test]
+fn shown_numbers() {
+    let text = stdout();
+    for line in text.lines() {
+        if line.starts_with("C ") {
+            assert!(line.starts_with("C 0 0 "));
+        }
+        if line.starts_with("X ") {
+            assert!(line.starts_with("X 11 "));
+        }
+    }
+    assert!(
+        text.len() + stdin().len() < 1_500_000,
+        "{} {}",
+        text.len(),
+        stdin().len()
+    );
+    let calls = calls();
+    let histories = calls
+        .iter()
+        .filter(|call| matches!(call, Call::Start(_)))
+        .count();
+    let images = text.lines().filter(|line| line.starts_with("I ")).count();
+    assert_eq!(images, 3 * histories);
+}

@@ -1,0 +1,295 @@
+//! The image of a parked collector (document 01, "Parked collector").
+
+use crate::clerk::{Totals, OPEN_FOR, PLACES};
+use crate::hash::crc;
+use crate::subtelegram::{check, same, Refusal, LONGEST, NOT_ACCEPTED};
+
+pub const BLOCK: usize = 512;
+pub const BLOCKS: usize = 5;
+pub const IMAGE: usize = BLOCK * BLOCKS;
+const IN_A_BLOCK: usize = 15;
+const ENTRY: usize = 32;
+const ENTRIES_AT: usize = 24;
+const CHECK_AT: usize = 511;
+
+#[derive(Debug, Clone, PartialEq)]
+pub struct Entry {
+    pub time: u64,
+    pub bytes: Vec<u8>,
+}
+
+/// Time opened (8), length (1), bytes as first received (21, zero filled), two zeros.
+fn write_entry(entry: &Entry) -> Vec<u8> {
+    let mut out = entry.time.to_be_bytes().to_vec();
+    out.push(entry.bytes.len() as u8);
+    out.extend(&entry.bytes);
+    out.resize(ENTRY, 0);
+    out
+}
+
+fn write_block(k: usize, numbers: [u64; 2], entries: &[Entry]) -> Vec<u8> {
+    let mut out = vec![k as u8, entries.len() as u8, 0, 0, 0, 0, 0, 0];
+    out.extend(numbers[0].to_be_bytes());
+    out.extend(numbers[1].to_be_bytes());
+    for entry in entries {
+        out.extend(write_entry(entry));
+    }
+    out.resize(CHECK_AT, 0);
+    out.push(crc(&out));
+    out
+}
+
+pub fn write(latest: u64, totals: &Totals, setting: u8, entries: &[Entry]) -> Vec<u8> {
+    let numbers = [
+        [latest, totals.received],
+        [totals.kept, totals.copies],
+        [totals.loose, totals.damaged],
+        [totals.late, u64::from(setting)],
+        [0, 0],
+    ];
+    let mut out = Vec::new();
+    for (k, pair) in numbers.into_iter().enumerate() {
+        // Each block is filled before the next.
+        let from = (k * IN_A_BLOCK).min(entries.len());
+        let to = ((k + 1) * IN_A_BLOCK).min(entries.len());
+        out.extend(write_block(k, pair, &entries[from..to]));
+    }
+    out
+}
+
+fn number(bytes: &[u8]) -> u64 {
+    bytes[..8]
+        .iter()
+        .fold(0, |value, &b| value << 8 | u64::from(b))
+}
+
+/// What an accepted image holds.
+#[derive(Debug, PartialEq)]
+pub struct Reloaded {
+    pub latest: u64,
+    pub totals: Totals,
+    pub setting: u8,
+    pub entries: Vec<Entry>,
+}
+
+/// Reload: the numbers and entries are taken from where the layout has them; what they would
+/// be written as has to be the image itself, byte for byte, which covers the layout and the
+/// checks; then come the conditions of the paper.
+pub fn reload(image: &[u8]) -> Result<Reloaded, Refusal> {
+    accept(image).ok_or(NOT_ACCEPTED)
+}
+
+fn accept(image: &[u8]) -> Option<Reloaded> {
+    if image.len() != IMAGE {
+        return None;
+    }
+    let first = |k: usize| number(&image[BLOCK * k + 8..]);
+    let second = |k: usize| number(&image[BLOCK * k + 16..]);
+    let mut entries = Vec::new();
+    for k in 0..BLOCKS {
+        let block = &image[BLOCK * k..BLOCK * (k + 1)];
+        let used = usize::from(block[1]);
+        if used > IN_A_BLOCK {
+            return None;
+        }
+        for i in 0..used {
+            let entry = &block[ENTRIES_AT + ENTRY * i..][..ENTRY];
+            let length = usize::from(entry[8]);
+            if length > LONGEST {
+                return None;
+            }
+            entries.push(Entry {
+                time: number(entry),
+                bytes: entry[9..9 + length].to_vec(),
+            });
+        }
+    }
+    let totals = Totals {
+        received: second(0),
+        kept: first(1),
+        copies: second(1),
+        loose: first(2),
+        damaged: second(2),
+        late: first(3),
+    };
+    let latest = first(0);
+    if second(3) > 2 {
+        return None;
+    }
+    let setting = second(3) as u8;
+    if write(latest, &totals, setting, &entries) != image {
+        return None;
+    }
+    let in_order = entries.windows(2).all(|pair| pair[0].time <= pair[1].time);
+    let open = entries
+        .iter()
+        .all(|e| e.time <= latest && latest - e.time <= OPEN_FOR);
+    let valid = entries.iter().all(|e| check(&e.bytes).is_ok());
+    if !(valid && in_order && open && entries.len() <= PLACES) {
+        return None;
+    }
+    for (i, a) in entries.iter().enumerate() {
+        if entries[..i].iter().any(|b| same(&a.bytes, &b.bytes)) {
+            return None;
+        }
+    }
+    let sum = [
+        totals.kept,
+        totals.copies,
+        totals.loose,
+        totals.damaged,
+        totals.late,
+    ]
+    .into_iter()
+    .try_fold(0u64, |sum, part| sum.checked_add(part))?;
+    if totals.received != sum || totals.kept < entries.len() as u64 {
+        return None;
+    }
+    Some(Reloaded {
+        latest,
+        totals,
+        setting,
+        entries,
+    })
+}
+
+#[cfg(test)]
+mod tests {
+    use super::*;
+    use crate::clerk::Clerk;
+    use crate::random::Random;
+    use crate::telegrams::valid;
+
+    fn full_clerk() -> Clerk {
+        let mut random = Random::new(5);
+        let mut clerk = Clerk::new(2);
+        clerk.take(3, &[]);
+        for i in 0..70u64 {
+            clerk.take(500 + i, &valid(&mut random));
+        }
+        clerk
+    }
+
+    #[test]
+    fn layout_of_a_full_image() {
+        let clerk = full_clerk();
+        let image = clerk.image();
+        assert_eq!(image.len(), 2560);
+        assert_eq!(clerk.totals().text(), "71 64 0 6 1 0");
+        let counts: Vec<u8> = (0..5).map(|k| image[512 * k + 1]).collect();
+        assert_eq!(counts, [15, 15, 15, 15, 4]);
+        for k in 0..5 {
+            assert_eq!(image[512 * k], k as u8);
+            assert_eq!(image[512 * k + 2..512 * k + 8], [0; 6]);
+            assert_eq!(image[512 * k + 504..512 * k + 511], [0; 7]);
+            assert_eq!(image[512 * k + 511], crc(&image[512 * k..512 * k + 511]));
+        }
+        assert_eq!(image[8..16], 569u64.to_be_bytes());
+        assert_eq!(image[16..24], 71u64.to_be_bytes());
+        assert_eq!(image[512 * 3 + 16..512 * 3 + 24], 2u64.to_be_bytes());
+        assert_eq!(image[24..32], 500u64.to_be_bytes());
+        let first = &clerk.noted[1].bytes;
+        assert_eq!(usize::from(image[32]), first.len());
+        assert_eq!(image[33..33 + first.len()], first[..]);
+        assert_eq!(image[512 + 24..512 + 32], 515u64.to_be_bytes());
+    }
+
+    #[test]
+    fn a_fresh_image() {
+        let image = Clerk::new(1).image();
+        let mut expected = vec![0u8; 2560];
+        for k in 0..5 {
+            expected[512 * k] = k as u8;
+        }
+        expected[512 * 3 + 23] = 1;
+        for k in 0..5 {
+            expected[512 * k + 511] = crc(&expected[512 * k..512 * k + 511]);
+        }
+        assert_eq!(image, expected);
+        assert!(reload(&image).is_ok());
+    }
+
+    #[test]
+    fn every_flipped_bit_is_refused() {
+        let image = full_clerk().image();
+        assert!(reload(&image).is_ok());
+        for k in 0..image.len() {
+            for bit in 0..8 {
+                let mut spoiled = image.clone();
+                spoiled[k] ^= 1 << bit;
+                // By the block's CRC alone, and by the whole of reload.
+                let block = &spoiled[k / 512 * 512..][..512];
+                assert_ne!(block[511], crc(&block[..511]));
+                assert_eq!(reload(&spoiled), Err(11));
+            }
+        }
+        assert_eq!(reload(&image[..2559]), Err(11));
+        assert_eq!(reload(&[&image[..], &[0]].concat()), Err(11));
+        assert_eq!(reload(&[]), Err(11));
+    }
+
+    /// Images with right checks that break one condition each.
+    #[test]
+    fn conditions_of_reload() {
+        let mut random = Random::new(6);
+        let a = Entry {
+            time: 50,
+            bytes: valid(&mut random),
+        };
+        let b = Entry {
+            time: 60,
+            bytes: valid(&mut random),
+        };
+        let totals = Totals {
+            received: 3,
+            kept: 2,
+            damaged: 1,
+            ..Totals::default()
+        };
+        let good = |latest, totals: &Totals, setting, entries: &[Entry]| {
+            reload(&write(latest, totals, setting, entries)).is_ok()
+        };
+        assert!(good(60, &totals, 0, &[a.clone(), b.clone()]));
+        assert!(good(150, &totals, 2, &[a.clone(), b.clone()]));
+        assert!(!good(151, &totals, 0, &[a.clone(), b.clone()]));
+        assert!(!good(59, &totals, 0, &[a.clone(), b.clone()]));
+        assert!(!good(60, &totals, 3, &[a.clone(), b.clone()]));
+        assert!(!good(60, &totals, 0, &[b.clone(), a.clone()]));
+        assert!(!good(60, &totals, 0, &[a.clone(), a.clone()]));
+        let mut level = a.clone();
+        let n = level.bytes.len();
+        level.bytes[n - 2] ^= 1;
+        crate::subtelegram::renew_hash(&mut level.bytes);
+        assert!(!good(60, &totals, 0, &[a.clone(), level]));
+        let mut broken = a.clone();
+        broken.bytes[0] ^= 1;
+        assert!(!good(60, &totals, 0, &[broken, b.clone()]));
+        assert!(!good(
+            60,
+            &Totals {
+                received: 4,
+                ..totals
+            },
+            0,
+            std::slice::from_ref(&a)
+        ));
+        assert!(!good(
+            60,
+            &Totals {
+                received: 1,
+                kept: 0,
+                ..totals
+            },
+            0,
+            std::slice::from_ref(&a)
+        ));
+        let wrapping = Totals {
+            received: 2,
+            kept: 2,
+            copies: u64::MAX,
+            damaged: 1,
+            ..totals
+        };
+        assert!(!good(60, &wrapping, 0, &[a, b]));
+    }
+}

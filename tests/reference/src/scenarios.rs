@@ -1,0 +1,506 @@
+//! The calls of the histories: sparse traffic, repeaters, bursts, edges, both ends of time, a
+//! clock that goes back, damage, and checkpoints, cuts and refused restores among them.
+
+use crate::clerk::{Answer, Clerk, OPEN_FOR, PLACES};
+use crate::history::{Call, SHOWN};
+use crate::image::IMAGE;
+use crate::random::Random;
+use crate::subtelegram::{check, renew_hash, ADDRESSED};
+use crate::telegrams::{addressed, at_level, hashed, plain, random_kind, valid, with_bit};
+
+/// The levels copies are heard at.
+const LEVELS: [u8; 8] = [0, 0, 0, 1, 1, 2, 3, 15];
+/// Rooms of a checkpoint.
+pub const ROOMS: [usize; 6] = [0, 100, 2559, 2560, 2561, 3000];
+const ROOMS_ENOUGH: [usize; 3] = [2560, 2561, 3000];
+
+/// Writes calls, with a clerk at hand to aim at what is open.
+struct Maker {
+    random: Random,
+    clerk: Clerk,
+    now: u64,
+    parked: usize,
+    calls: Vec<Call>,
+}
+
+impl Maker {
+    fn new(seed: u64) -> Maker {
+        Maker {
+            random: Random::new(seed),
+            clerk: Clerk::new(0),
+            now: 0,
+            parked: 0,
+            calls: Vec::new(),
+        }
+    }
+
+    fn start(&mut self, setting: u8, now: u64) {
+        self.clerk = Clerk::new(setting);
+        self.now = now;
+        self.parked = 0;
+        self.calls.push(Call::Start(setting));
+    }
+
+    /// Hands over one reception and no other call.
+    fn reception_alone(&mut self, time: u64, bytes: &[u8]) -> Answer {
+        self.calls.push(Call::Reception(time, bytes.to_vec()));
+        self.clerk.take(time, bytes).0
+    }
+
+    /// Hands over one reception, and now and then another call after it.
+    fn reception(&mut self, time: u64, bytes: &[u8]) -> Answer {
+        let answer = self.reception_alone(time, bytes);
+        match self.random.below(100) {
+            0..=2 => self.park(),
+            3..=6 => self.cut(),
+            7..=8 => self.spoiled(),
+            9 => self.several(),
+            _ => {}
+        }
+        answer
+    }
+
+    /// The first three of a history have room enough.
+    fn park(&mut self) {
+        let rooms = if self.parked < SHOWN {
+            &ROOMS_ENOUGH[..]
+        } else {
+            &ROOMS[..]
+        };
+        let room = self.random.pick(rooms);
+        self.parked += 1;
+        self.calls.push(Call::Park(room));
+    }
+
+    fn cut(&mut self) {
+        let setting = self.random.below(3) as u8;
+        self.calls.push(Call::Cut(setting));
+    }
+
+    fn spoiled(&mut self) {
+        let block = 512 * self.random.below(5);
+        let k = match self.random.below(4) {
+            0 => self.random.below(IMAGE),
+            1 => IMAGE,
+            2 => {
+                block
+                    + self
+                        .random
+                        .pick(&[0, 1, 2, 7, 8, 15, 16, 23, 24, 32, 33, 55, 56])
+            }
+            _ => block + self.random.pick(&[503, 504, 510, 511]),
+        };
+        self.calls.push(Call::Spoiled(k));
+    }
+
+    /// Several calls at this very state.
+    fn several(&mut self) {
+        self.cut();
+        self.cut();
+        self.spoiled();
+        self.park();
+    }
+
+    /// The end of a history: as many checkpoints as are shown, and a cut and its sequel.
+    fn end(&mut self) {
+        while self.parked < SHOWN {
+            self.park();
+        }
+        self.cut();
+        self.park();
+    }
+
+    fn pass(&mut self, gap: u64) {
+        self.now = self.now.saturating_add(gap);
+    }
+
+    fn pool(&mut self, n: usize) -> Vec<Vec<u8>> {
+        (0..n).map(|_| valid(&mut self.random)).collect()
+    }
+
+    /// One of the pool at some level.
+    fn heard(&mut self, pool: &[Vec<u8>]) -> Vec<u8> {
+        let at = self.random.below(pool.len());
+        let level = self.random.pick(&LEVELS);
+        at_level(&pool[at], level)
+    }
+
+    /// Next to the given one, and another telegram: one bit apart, two bytes exchanged (an
+    /// equal sum), the generator XORed in (an equal CRC), one byte longer.
+    fn near(&mut self, bytes: &[u8]) -> Vec<u8> {
+        let n = bytes.len();
+        loop {
+            let mut other = bytes.to_vec();
+            match self.random.below(5) {
+                0 => {
+                    let at = self.random.below(n - 2);
+                    let bit = self.random.below(8);
+                    other = with_bit(bytes, at, bit);
+                }
+                1 => other = with_bit(bytes, n - 2, self.random.range(4, 7)),
+                2 => other.swap(n - 7, n - 6),
+                3 => {
+                    other[n - 4] ^= 0x01;
+                    other[n - 3] ^= 0x07;
+                }
+                _ => other.insert(n - 6, self.random.byte()),
+            }
+            renew_hash(&mut other);
+            if check(&other).is_ok() {
+                return other;
+            }
+        }
+    }
+
+    /// One that the check refuses: by 1, 2 or 3, the outer lengths and short addressed ones too.
+    fn damaged(&mut self, pool: &[Vec<u8>]) -> Vec<u8> {
+        let random = &mut self.random;
+        let kind = random_kind(random);
+        let bytes = match random.below(8) {
+            0 => {
+                let n = random.range(0, 7);
+                plain(random, n, kind)
+            }
+            1 => {
+                let n = random.range(22, 28);
+                plain(random, n, kind)
+            }
+            2 => {
+                let n = random.range(8, 12);
+                addressed(random, n, kind)
+            }
+            3 | 4 => {
+                let n = random.range(13, 21);
+                hashed(random, n, &[ADDRESSED, ADDRESSED], kind)
+            }
+            _ => {
+                let at = random.below(pool.len());
+                let mut bytes = pool[at].clone();
+                let at = random.below(bytes.len());
+                bytes[at] ^= 1 << random.below(8);
+                bytes
+            }
+        };
+        if check(&bytes).is_ok() {
+            // A changed bit can ask for the other hash and find it right.
+            return Vec::new();
+        }
+        bytes
+    }
+
+    /// Some reception of a pool at the present time or near it.
+    fn ordinary(&mut self, pool: &[Vec<u8>]) {
+        let heard = self.heard(pool);
+        let now = self.now;
+        match self.random.below(100) {
+            0..=7 => {
+                // Damaged, at any time: it moves no clock.
+                let bytes = self.damaged(pool);
+                let time = match self.random.below(4) {
+                    0 => self.random.next(),
+                    1 => now.saturating_sub(1),
+                    2 => u64::MAX,
+                    _ => now,
+                };
+                self.reception(time, &bytes);
+            }
+            8..=12 => {
+                // The clock goes back.
+                let back = self.random.pick(&[1, 1, 2, 50, 100, 101, 5000]);
+                self.reception(now.saturating_sub(back), &heard);
+            }
+            13..=19 => {
+                let other = self.near(&heard);
+                self.reception(now, &other);
+            }
+            _ => {
+                self.reception(now, &heard);
+            }
+        }
+    }
+
+    /// Few devices, gaps of all sizes.
+    fn sparse(&mut self, setting: u8, count: usize) {
+        let now = self.random.next() >> 24;
+        self.start(setting, now);
+        let pool = self.pool(12);
+        for _ in 0..count {
+            let gap = self
+                .random
+                .pick(&[0, 1, 3, 10, 20, 40, 60, 99, 100, 101, 102, 250, 1000]);
+            self.pass(gap);
+            self.ordinary(&pool);
+        }
+    }
+
+    /// A sender and its repeaters: three subtelegrams, two more from each repeater.
+    fn repeated(&mut self, setting: u8, count: usize) {
+        let now = self.random.next() >> 24;
+        self.start(setting, now);
+        let pool = self.pool(20);
+        while self.clerk.noted.len() < count {
+            let at = self.random.below(pool.len());
+            let mut offsets = vec![
+                (0, 0),
+                (self.random.range(1, 9), 0),
+                (self.random.range(20, 39), 0),
+            ];
+            for (level, first) in [(1, 10), (2, 25), (3, 45), (15, 60)] {
+                if self.random.chance(60) {
+                    offsets.push((self.random.range(first, first + 9), level));
+                    offsets.push((self.random.range(first + 10, first + 19), level));
+                }
+            }
+            // Some are lost on the way, so any level can be the first one heard.
+            offsets.sort();
+            let start = self.now;
+            for (offset, level) in offsets {
+                if self.random.chance(70) {
+                    let time = start + offset as u64;
+                    self.reception(time, &at_level(&pool[at], level));
+                }
+            }
+            self.now = start + self.random.pick(&[80, 100, 101, 150, 400]);
+        }
+    }
+
+    /// More than 64 telegrams within 100 ms.
+    fn burst(&mut self, setting: u8, count: usize) {
+        let now = self.random.next() >> 20;
+        self.start(setting, now);
+        let pool = self.pool(130);
+        for i in 0..count {
+            let gap = if i % 150 == 149 {
+                60
+            } else {
+                self.random.pick(&[0, 0, 0, 1, 1, 1])
+            };
+            self.pass(gap);
+            self.ordinary(&pool);
+        }
+    }
+
+    /// Aims at the edges of what is open: 99, 100 and 101 ms after it was kept.
+    fn edges(&mut self, setting: u8, count: usize) {
+        self.start(setting, 7);
+        let pool = self.pool(16);
+        while self.clerk.noted.len() < count {
+            let latest = self.clerk.latest();
+            let kept: Vec<(u64, Vec<u8>)> = self
+                .clerk
+                .entries()
+                .iter()
+                .map(|e| (e.time, e.bytes.clone()))
+                .collect();
+            if kept.is_empty() || self.random.chance(35) {
+                self.now = latest + self.random.pick(&[0, 1, 5, 30]);
+                let heard = self.heard(&pool);
+                self.reception(self.now, &heard);
+                continue;
+            }
+            let at = self.random.below(kept.len());
+            let (opened, bytes) = &kept[at];
+            let time = opened
+                + self
+                    .random
+                    .pick(&[OPEN_FOR - 1, OPEN_FOR, OPEN_FOR, OPEN_FOR + 1, OPEN_FOR + 1]);
+            let level = self.random.pick(&LEVELS);
+            // Times before the latest are refused by 7, which is an edge too.
+            self.reception(time, &at_level(bytes, level));
+        }
+    }
+
+    /// Chatter: a few telegrams again and again for far longer than 100 ms.
+    fn chatter(&mut self, setting: u8, count: usize) {
+        self.start(setting, 123_456_789);
+        let pool = self.pool(3);
+        for i in 0..count {
+            self.pass([10, 20, 7, 33, 50, 1][(i / 40 + usize::from(setting) * 3) % 6]);
+            let at = i % (1 + i / 40 % 3);
+            let level = self.random.pick(&LEVELS);
+            self.reception(self.now, &at_level(&pool[at], level));
+        }
+    }
+
+    /// Everything at time 0, then on from there.
+    fn zero(&mut self, setting: u8, count: usize) {
+        self.start(setting, 0);
+        self.several();
+        let pool = self.pool(80);
+        for bytes in &pool {
+            self.reception(0, bytes);
+        }
+        for time in [0, 1, 99, 100] {
+            for _ in 0..10 {
+                let heard = self.heard(&pool);
+                self.reception(time, &heard);
+            }
+        }
+        self.now = 101;
+        while self.clerk.noted.len() < count {
+            self.ordinary(&pool);
+            let gap = self.random.pick(&[0, 0, 1, 4]);
+            self.pass(gap);
+        }
+    }
+
+    /// Up to the greatest time and at it.
+    fn top(&mut self, setting: u8, count: usize) {
+        self.start(setting, u64::MAX - 260);
+        let pool = self.pool(75);
+        for i in 0..count {
+            let gap = if i < count / 2 {
+                self.random.pick(&[0, 1, 2, 4])
+            } else {
+                0
+            };
+            if i == count / 2 {
+                // 100 and 101 before the end have their own telegrams open.
+                self.now = self.now.max(u64::MAX - 1);
+            }
+            if i > count * 2 / 3 {
+                self.now = u64::MAX;
+            }
+            self.pass(gap);
+            self.ordinary(&pool);
+        }
+    }
+
+    /// One jump over nearly all times, either end.
+    fn leap(&mut self, setting: u8) {
+        self.start(setting, 0);
+        let pool = self.pool(6);
+        for time in [
+            0,
+            0,
+            1,
+            1 << 32,
+            (1 << 32) + 100,
+            (1 << 32) + 201,
+            1 << 63,
+            u64::MAX - 100,
+            u64::MAX,
+            u64::MAX,
+            0,
+            1,
+        ] {
+            for bytes in &pool {
+                self.reception(time, bytes);
+            }
+        }
+    }
+
+    /// A clock that goes back again and again, and damage around it.
+    fn back(&mut self, setting: u8, count: usize) {
+        let now = self.random.next() >> 30;
+        self.start(setting, now);
+        let pool = self.pool(10);
+        for _ in 0..count {
+            let gap = self.random.pick(&[0, 1, 15, 101]);
+            self.pass(gap);
+            let heard = self.heard(&pool);
+            match self.random.below(4) {
+                0 => {
+                    let back = self.random.range(1, 300) as u64;
+                    let time = self.now.saturating_sub(back);
+                    self.reception(time, &heard);
+                }
+                1 => {
+                    // Damaged and early at once: damaged. Damaged and far ahead: no later clock.
+                    let bytes = self.damaged(&pool);
+                    let time = if self.random.chance(50) {
+                        0
+                    } else {
+                        self.now + 100_000
+                    };
+                    self.reception(time, &bytes);
+                }
+                _ => {
+                    self.reception(self.now, &heard);
+                }
+            }
+        }
+    }
+
+    /// 64 open and the edges around that: what opens a place and what moves the latest time.
+    /// At twelve states come further calls, checkpoints only from the one of number `from`.
+    fn full(&mut self, setting: u8, from: usize) {
+        self.start(setting, 5_000);
+        let pool = self.pool(PLACES + 6);
+        let (first, rest) = pool.split_at(PLACES);
+        let mut states = 0;
+        let mut state = |maker: &mut Maker| {
+            maker.cut();
+            maker.spoiled();
+            if states >= from {
+                maker.park();
+            }
+            states += 1;
+        };
+        for (i, bytes) in first.iter().enumerate() {
+            self.reception_alone(5_000 + i as u64 / 2, bytes);
+        }
+        state(self);
+        // Full: other telegrams are LOOSE, twice the same LOOSE again, copies stay COPY.
+        for bytes in rest.iter().chain(rest) {
+            self.reception_alone(5_031, bytes);
+        }
+        for bytes in first.iter().step_by(7) {
+            self.reception_alone(5_031, &at_level(bytes, 15));
+        }
+        // 5,100: all open still. 5,101: the first two are gone, two places are free.
+        self.reception_alone(5_100, &rest[0]);
+        state(self);
+        self.reception_alone(5_101, &rest[0]);
+        state(self);
+        self.reception_alone(5_101, &first[0]);
+        self.reception_alone(5_101, &first[1]);
+        self.reception_alone(5_101, &rest[1]);
+        state(self);
+        // Copies alone move the latest time and so shorten the image.
+        for time in [5_110, 5_120, 5_131] {
+            self.reception_alone(time, &at_level(&rest[0], 3));
+            state(self);
+        }
+        self.reception_alone(5_201, &rest[0]);
+        self.reception_alone(5_202, &rest[0]);
+        state(self);
+        // 64 at one moment, and LOOSE alone moves the latest time.
+        for bytes in first {
+            self.reception_alone(6_000, bytes);
+        }
+        for time in [6_000, 6_050, 6_100] {
+            self.reception_alone(time, &rest[2]);
+            self.reception_alone(time, &first[9]);
+            state(self);
+        }
+        self.reception_alone(6_099, &rest[3]);
+        self.reception_alone(6_101, &rest[3]);
+        state(self);
+        self.end();
+    }
+}
+
+/// All histories, one after the other.
+pub fn calls() -> Vec<Call> {
+    let mut maker = Maker::new(0x0002_4D6F_6F72_696E);
+    for (setting, from) in [(0, 0), (1, 3), (2, 6), (1, 9)] {
+        maker.full(setting, from);
+    }
+    let mut several = |settings: &[u8], count: usize, make: fn(&mut Maker, u8, usize)| {
+        for &setting in settings {
+            make(&mut maker, setting, count);
+            maker.end();
+        }
+    };
+    several(&[0, 1, 2, 1, 2, 2], 100, Maker::sparse);
+    several(&[1, 2, 1, 2, 2], 110, Maker::repeated);
+    several(&[0, 1, 2, 1, 2, 1, 2], 200, Maker::burst);
+    several(&[0, 1, 2, 2, 1, 2], 110, Maker::edges);
+    several(&[0, 1, 2], 120, Maker::chatter);
+    several(&[2, 1], 220, Maker::zero);
+    several(&[1, 2, 2], 180, Maker::top);
+    several(&[1, 2], 72, |maker, setting, _| maker.leap(setting));
+    several(&[2, 1, 0, 2, 1], 120, Maker::back);
+    maker.calls
+}
