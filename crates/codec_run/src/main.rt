@@ -1,7 +1,6 @@
 // Runs the codec on the records of standard input, a line of 128 hexadecimal digits each, and prints a line for each: stdout is what the
 // second program says (tests/reference/README.md has the format).
 use erp1::Checked;
-use libc::STDIN_FILENO;
 use telegram::fields::Telegram;
 use telegram::frame::Built;
 ghost use mathlib.Core.Path.{_≡_};
@@ -33,22 +32,13 @@ fn records(most: u64) {
 
 // One record, if there is one more.
 fn record() -> bool {
-    let mut line = [0u8; LINE];
-    let n = io::read_full(STDIN_FILENO, &mut line);
-    if n < LINE {
+    let next = test_io::next_record();
+    if !next.more {
         return false;
     }
-    let r = decode(line);
+    let r = next.bytes;
     answer(&r);
     true
-}
-
-fn decode(line: [u8; LINE]) -> [u8; RECORD] {
-    let mut r = [0u8; RECORD];
-    for i in 0..RECORD {
-        r[i] = test_io::pair(line[2 * i], line[2 * i + 1]);
-    }
-    r
 }
 
 fn answer(r: &[u8])

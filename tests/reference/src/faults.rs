@@ -433,7 +433,7 @@ fn shown_numbers() {
         }
     }
     assert!(
-        text.len() + stdin().len() < 1_500_000,
+        text.len() + stdin().len() < 2_000_000,
         "{} {}",
         text.len(),
         stdin().len()

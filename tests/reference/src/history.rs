@@ -26,8 +26,7 @@ pub enum Call {
 
 // What must be shown.
 
-/// Of each history the images of so many checkpoints are shown in full. The CRC of an image is
-/// 0 whatever it holds, since each block ends with its own check, so these show what is in it.
+/// Of each history the images of so many checkpoints are shown in full.
 pub const SHOWN: usize = 3;
 /// An output is filled with this before the call.
 const FILL: u8 = 0xEE;
@@ -143,18 +142,25 @@ pub fn show(calls: &[Call], model: &mut impl Model) -> String {
     out
 }
 
-pub fn line(call: &Call) -> String {
-    match call {
-        Call::Start(setting) => format!("L {setting}"),
-        Call::Reception(time, bytes) => format!("R {time} {}", hex_or_dash(bytes)),
-        Call::Park(n) => format!("P {n}"),
-        Call::Cut(setting) => format!("C {setting}"),
-        Call::Spoiled(k) => format!("X {k}"),
-    }
+/// A call as a record of 64 bytes: the operation, a number of eight bytes, and a length and bytes.
+pub fn record(call: &Call) -> [u8; 64] {
+    let (operation, number, bytes): (u8, u64, &[u8]) = match call {
+        Call::Start(setting) => (1, u64::from(*setting), &[]),
+        Call::Reception(time, bytes) => (2, *time, bytes),
+        Call::Park(n) => (3, *n as u64, &[]),
+        Call::Cut(setting) => (4, u64::from(*setting), &[]),
+        Call::Spoiled(k) => (5, *k as u64, &[]),
+    };
+    let mut record = [0; 64];
+    record[0] = operation;
+    record[1..9].copy_from_slice(&number.to_be_bytes());
+    record[9] = bytes.len() as u8;
+    record[10..10 + bytes.len()].copy_from_slice(bytes);
+    record
 }
 
 pub fn stdin() -> String {
-    calls().iter().map(|call| line(call) + "\n").collect()
+    calls().iter().map(|call| hex(&record(call)) + "\n").collect()
 }
 
 pub fn stdout() -> String {

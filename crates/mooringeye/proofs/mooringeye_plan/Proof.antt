@@ -1,11 +1,11 @@
--- `slots_c::slots_plan` meets its contract: each arm packs what `answerOf` says of the plan's answer. Assumes nothing.
+-- `mooringeye::mooringeye_plan` meets its contract: each arm packs what `answerOf` says of the plan's answer. Assumes nothing.
 use mathlib.Core.Path.{_∙_, ap, sym}
 use Prim.Native.Nat.{ℕ}
 use borrow.Author.Needs.{needs}
 use Rattle.slots.specs.Plan.{plan, answerOf}
-use Rattle.slots_c.specs.Packed.{answer, packed}
-use Rattle.slots_c.proofs.slots_plan.Statement.{statement}
-use Rattle.slots_c.proofs.slots_plan.Tie as tie
+use Rattle.mooringeye.specs.Packed.{answer, packed}
+use Rattle.mooringeye.proofs.mooringeye_plan.Statement.{statement}
+use Rattle.mooringeye.proofs.mooringeye_plan.Tie as tie
 
 returns : tie.Need-returns
 returns c =
@@ -19,8 +19,8 @@ returns-2 c =
     ∙ ap (λ (n : ℕ). packed (answer n (plan 0 0 0))) (c .before .number .ensures)
     ∙ ap packed (ap answerOf (sym (arm .e .given .1)) ∙ arm .before .before .plan .ensures)
 
-pub slots-plan-spec : {M : Type 1} → statement M
-slots-plan-spec =
+pub mooringeye-plan-spec : {M : Type 1} → statement M
+mooringeye-plan-spec =
     tie.close
     (tie.spec
     (λ c κs. search needs)

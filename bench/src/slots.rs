@@ -1,15 +1,13 @@
-//! The proved slot plan against a hand-written one of the same job, on the same draws in one run.
-//! Run at the repository's root: `rt staticlib slots_c`, then `cargo run --release --offline --manifest-path bench/slots/Cargo.toml`.
+//! A slot plan: the proved search against a hand-written one, on the same draws.
+use crate::{report, time, Random};
 use std::hint::black_box;
-use std::time::Instant;
 
 // Number, first, second and third slot, a byte each from the highest. Nothing checks this line against the Rattle source.
 extern "C" {
-    fn slots_plan(level: u8, duration: u32, draw: u64) -> u32;
+    fn mooringeye_plan(level: u8, duration: u32, draw: u64) -> u32;
 }
 
 const DRAWS: usize = 4_096;
-const ROUNDS: usize = 200;
 
 /// The ranges by level sent, then transmission; none where the first is above the last.
 const RANGES: [[(u32, u32); 3]; 3] = [
@@ -73,37 +71,12 @@ fn by_hand(level: u8, duration: u32, draw: u64) -> u32 {
 }
 
 fn proved(level: u8, duration: u32, draw: u64) -> u32 {
-    unsafe { slots_plan(level, duration, draw) }
+    unsafe { mooringeye_plan(level, duration, draw) }
 }
 
-/// Draws from a small generator (xorshift), the same in every run.
-fn draws() -> Vec<u64> {
-    let mut x = 0x9E37_79B9_7F4A_7C15_u64;
-    (0..DRAWS)
-        .map(|_| {
-            x ^= x << 13;
-            x ^= x >> 7;
-            x ^= x << 17;
-            x
-        })
-        .collect()
-}
-
-/// Nanoseconds a plan: the best of many rounds over all draws.
-fn time(plan: fn(u8, u32, u64) -> u32, level: u8, duration: u32, draws: &[u64]) -> f64 {
-    (0..ROUNDS)
-        .map(|_| {
-            let start = Instant::now();
-            for &draw in draws {
-                black_box(plan(black_box(level), black_box(duration), black_box(draw)));
-            }
-            start.elapsed().as_secs_f64() * 1e9 / draws.len() as f64
-        })
-        .fold(f64::MAX, f64::min)
-}
-
-fn main() {
-    let draws = draws();
+pub fn bench() {
+    let mut random = Random::new();
+    let draws: Vec<u64> = (0..DRAWS).map(|_| random.next()).collect();
     for level in 0..=3 {
         for duration in [0, 1, 999, 1_000, 1_001, 9_000, 9_001, 15_000, 15_001, 20_000, 20_001, 65_535, 65_536] {
             for &draw in &draws {
@@ -113,7 +86,13 @@ fn main() {
         }
     }
     for level in 0..3 {
-        let (p, h) = (time(proved, level, 1_000, &draws), time(by_hand, level, 1_000, &draws));
-        println!("slot plan, level {level}, d = 1,000: proved {p:.0} ns, by hand {h:.0} ns, ratio {:.2}", p / h);
+        let run = |plan: fn(u8, u32, u64) -> u32| {
+            time(DRAWS, || {
+                for &draw in &draws {
+                    black_box(plan(black_box(level), black_box(1_000), black_box(draw)));
+                }
+            })
+        };
+        report(&format!("slot plan, level {level}, d = 1,000"), run(proved), run(by_hand));
     }
 }

@@ -1,13 +1,22 @@
-// The slot plan for Rust and C, on plain numbers.
+// The interface for Rust and C, on plain numbers and bytes: `rt staticlib mooringeye` makes the archive to link.
 use slots::Planned;
 use slots::SlotPlan;
 ghost use mathlib.Core.Path.{_≡_};
+ghost use Rattle.crc8.specs.Crc8.{crcOf};
 ghost use Rattle.slots.specs.Plan.{planOf};
-ghost use Rattle.slots_c.specs.Packed.{answer, packed};
+ghost use Rattle.mooringeye.specs.Packed.{answer, packed};
 
-// The number of the answer and the first, second and third slot, a byte each from the highest.
+// The CRC-8 of ERP1 over bytes.
 #[no_mangle]
-pub extern "C" fn slots_plan(level: u8, duration: u32, draw: u64) -> u32
+pub extern "C" fn mooringeye_crc8(bytes: &[u8]) -> u8
+    ensures { λ r. ⌜ r ≡ crcOf (now (bytes .entry)) ⌝ }
+{
+    crc8::crc8(bytes)
+}
+
+// A slot plan: the number of the answer and the first, second and third slot, a byte each from the highest.
+#[no_mangle]
+pub extern "C" fn mooringeye_plan(level: u8, duration: u32, draw: u64) -> u32
     ensures { λ r. ⌜ r ≡ packed (planOf level duration draw) ⌝ }
 {
     match slots::plan(level, duration, draw) {
