@@ -1,0 +1,40 @@
+-- Bytes in hexadecimal (document 01, "Cases": 0 to 64 bytes of two hex digits each in either case). Assumes nothing.
+use mathlib.Core.Path.{_≡_}
+use Prim.Native.Nat.{ℕ, _+_, _-_, _*_, _%_}
+use mathlib.Core.Bool.{Bool, true, cond, _&&_}
+use mathlib.Core.List.{List, [], _∷_}
+use lib.Dec.{eqb, leb, ltb}
+use lib.ListN.{length}
+use Rattle.lists.specs.Lists.{all, padded}
+use Rattle.line_input.specs.Ascii.{digit0, upperA, lowerA, isAmong}
+use Rattle.line_input.specs.declared.Count.{Count}
+
+-- the value of a hexadecimal digit in either case; 16 of any other character
+unfoldable pub nibbleOf : ℕ → ℕ
+nibbleOf c =
+    cond (isAmong 10 digit0 c) (c - digit0)
+    (cond (isAmong 6 upperA c) (10 + (c - upperA))
+    (cond (isAmong 6 lowerA c) (10 + (c - lowerA))
+    16))
+
+abbrev pub isHexDigit : ℕ → Bool
+isHexDigit c = ltb (nibbleOf c) 16
+
+-- 0 to 64 bytes of two digits each
+unfoldable pub isHex : List ℕ → Bool
+isHex s = leb (length s) (2 * 64) && eqb (length s % 2) 0 && all isHexDigit s
+
+-- the bytes that pairs of digits say, the high digit first
+unfoldable pub bytesOf : List ℕ → List ℕ
+bytesOf [] = []
+bytesOf (a ∷ []) = []
+bytesOf (a ∷ b ∷ s) = (nibbleOf a * 16 + nibbleOf b) ∷ bytesOf s
+
+-- the answer where the digits are wrong, and where they are right, with the bytes in front of zeros
+abbrev pub countOf : List ℕ → Count
+countOf s = cond (isHex s) (Count.Of (length (bytesOf s))) Count.Bad
+
+-- the digits of s were read into 64 zeros
+pub record Decoded (s bytes : List ℕ) (r : Count) : Type 0 where
+  pub answer : r ≡ countOf s
+  pub written : isHex s ≡ true → bytes ≡ padded 64 (bytesOf s)

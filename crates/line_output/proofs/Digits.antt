@@ -1,0 +1,60 @@
+-- Laws of the digits of a number: writing them from the last one on gives all. Assumes nothing.
+use mathlib.Core.Path.{_≡_}
+use mathlib.Core.List.{List, [], _∷_, _++_, append-assoc, append-nil}
+use Prim.Native.Nat.{ℕ, zero, suc, _+_, _-_, _/_, _%_, _^_, _<_, _≤_}
+use native.Mathlib.Omega.{arith}
+use native.Mathlib.Nat.{pow-succ'}
+use lib.ListN.{length, drop, set, length-set, drop-of-length-le}
+use lib.Seq.{drop-cons, drop-set-lt, getD-set-same}
+use borrow.Author.Tests.{lt-ltb, le-ltb}
+use Rattle.line_output.specs.Text.{digitsOf}
+
+-- the last digit of a number of several: fewer are left for its tenth
+pub record Shorter (i n : ℕ) : Type 0 where
+  pub several : 1 < i
+  pub small : n / 10 < 10 ^ (i - 1)
+  pub digits : digitsOf i n ≡ digitsOf (i - 1) (n / 10) ++ ((48 + n % 10) ∷ [])
+
+pub shorter : (i n : ℕ) → 10 ≤ n → n < 10 ^ i → Shorter i n
+unfolding digitsOf
+shorter zero n h k = absurd (omega arith)
+shorter (suc zero) n h k = absurd (omega arith)
+shorter (suc (suc j)) n h k =
+    let e : suc (suc j) - 1 ≡ suc j = omega arith in
+    record {
+      several = omega arith;
+      small = rw e (omega (arith, pow-succ' 10 (suc j)));
+      digits = rw (e, le-ltb n 10 h);
+    }
+
+pub one-digit : (i n : ℕ) → 0 < i → n < 10 → digitsOf i n ≡ (48 + n) ∷ []
+unfolding digitsOf
+one-digit zero n h k = absurd (omega arith)
+one-digit (suc j) n h k = rw (lt-ltb n 10 k)
+
+-- what is stored in front of a part
+drop-set : (l : List ℕ) (j v : ℕ) → j < length l → drop j (set l j v) ≡ v ∷ drop (suc j) l
+drop-set l j v h =
+    rw (drop-cons (set l j v) j 0 (simp length-set h), getD-set-same l j v 0 h, drop-set-lt (suc j) l j v (omega arith))
+
+-- the digits of n in front of those that are stored from i on
+module _ (i n : ℕ) (stored : List ℕ) (within : i ≤ length stored) where
+  pub spell-next : 10 ≤ n → n < 10 ^ i
+      → digitsOf i n ++ drop i stored ≡ digitsOf (i - 1) (n / 10) ++ drop (i - 1) (set stored (i - 1) (48 + n % 10))
+  spell-next h k =
+      let m = shorter i n h k in
+      let e : suc (i - 1) ≡ i = omega (arith, m .several) in
+      rw (
+        m .digits,
+        append-assoc (digitsOf (i - 1) (n / 10)) ((48 + n % 10) ∷ []) (drop i stored),
+        drop-set stored (i - 1) (48 + n % 10) (omega (arith, m .several)),
+        e,
+      )
+
+  pub spell-last : 0 < i → n < 10 → digitsOf i n ++ drop i stored ≡ drop (i - 1) (set stored (i - 1) (48 + n))
+  spell-last h k =
+      let e : suc (i - 1) ≡ i = omega arith in
+      rw (one-digit i n h k, drop-set stored (i - 1) (48 + n) (omega arith), e)
+
+pub spell-start : (text stored : List ℕ) → length stored ≡ 20 → text ≡ text ++ drop 20 stored
+spell-start text stored h = rw (drop-of-length-le stored {i = 20} (omega arith), append-nil text)

@@ -1,0 +1,152 @@
+-- What is printed reads back: a number as a time, bytes as bytes, and both as the line of a reception. Assumes nothing.
+use mathlib.Core.Path.{_≡_, refl, sym, ap₂, _∙_}
+use mathlib.Core.Bool.{Bool, true, false, cond, _&&_, and-false}
+use mathlib.Core.List.{List, [], _∷_, _++_}
+use Prim.Native.Nat.{ℕ, zero, suc, _+_, _-_, _*_, _/_, _%_, _^_, _<_, _≤_}
+use native.Mathlib.Omega.{arith}
+use native.Mathlib.Nat.{add-mul, mul-assoc, pow-suc, pow-succ', mul-one}
+use lib.Dec.{T, eqb, ltb, eqb→eq, ltb→lt}
+use lib.ListN.{length, getD, replicate, length-append}
+use borrow.Author.Tests.{lt-ltb, le-leb, eq-eqb, ne-eqb, ltb-true, ltb-false}
+use Rattle.lists.specs.Lists.{all}
+use Rattle.lists.proofs.Choice.{and-left, and-right}
+use Rattle.lists.proofs.Table.{at}
+use Rattle.line_input.specs.Ascii.{space}
+use Rattle.line_input.specs.Decimal.{isDigit, decimalOf, hasLeadingZero, isNumber, isTime}
+use Rattle.line_input.specs.Hex.{nibbleOf, isHexDigit, isHex, bytesOf}
+use Rattle.line_input.specs.Reading.{reception, readingOf}
+use Rattle.line_input.proofs.Digits.{leading-zero}
+use Rattle.line_input.proofs.Whole.{joined}
+use Rattle.line_output.specs.Text.{digitsOf, decimalText, hexDigitOf, hexText}
+use Rattle.line_output.proofs.Stores.{hex-length}
+
+-- ---- numbers
+
+is-digit : (d : ℕ) → d < 10 → isDigit (48 + d) ≡ true
+is-digit d h = rw (le-leb 48 (48 + d) (omega arith), lt-ltb (48 + d) 58 (omega arith))
+
+all-snoc : (s : List ℕ) (c : ℕ) → all isDigit s ≡ true → isDigit c ≡ true → all isDigit (s ++ (c ∷ [])) ≡ true
+all-snoc [] c e f = rw f
+all-snoc (x ∷ s) c e f = go (isDigit x) e (λ h. all-snoc s c h f)
+  where
+    go : (t : Bool) → t && all isDigit s ≡ true → (all isDigit s ≡ true → all isDigit (s ++ (c ∷ [])) ≡ true) → t && all isDigit (s ++ (c ∷ [])) ≡ true
+    go true e ih = ih e
+    go false e ih = e
+
+decimal-snoc : (s : List ℕ) (c : ℕ) → decimalOf (s ++ (c ∷ [])) ≡ decimalOf s * 10 + (c - 48)
+unfolding decimalOf
+decimal-snoc [] c = omega (arith, mul-one (c - 48))
+decimal-snoc (x ∷ s) c =
+    let p = 10 ^ length s in
+    let l : length (s ++ (c ∷ [])) ≡ suc (length s) = simp length-append (omega arith) in
+    let e : (x - 48) * 10 ^ suc (length s) ≡ (x - 48) * p * 10 = rw (pow-suc 10 (length s), mul-assoc (x - 48) p 10) in
+    rw l (omega (arith, e, decimal-snoc s c, add-mul ((x - 48) * p) (decimalOf s) 10))
+
+first-snoc : (s : List ℕ) (c : ℕ) → 0 < length s → getD (s ++ (c ∷ [])) 0 0 ≡ getD s 0 0
+first-snoc [] c h = absurd (omega arith)
+first-snoc (x ∷ s) c h = refl
+
+-- the digits of n
+record Spelled (n : ℕ) (s : List ℕ) : Type 0 where
+  digits : all isDigit s ≡ true
+  value : decimalOf s ≡ n
+  some : 0 < length s
+  first : 0 < n → getD s 0 0 ≡ 48 → ⊥
+  alone : n < 10 → length s ≡ 1
+
+spelled-one : (n : ℕ) → n < 10 → Spelled n ((48 + n) ∷ [])
+unfolding decimalOf
+spelled-one n h =
+    record {
+      digits = rw (is-digit n h);
+      value = omega (arith, mul-one (48 + n - 48));
+      some = omega arith;
+      first = λ p e. omega arith;
+      alone = λ p. refl;
+    }
+
+spelled-more : (n : ℕ) (s : List ℕ) → 10 ≤ n → Spelled (n / 10) s → Spelled n (s ++ ((48 + n % 10) ∷ []))
+spelled-more n s h w =
+    record {
+      digits = all-snoc s (48 + n % 10) (w .digits) (is-digit (n % 10) (omega arith));
+      value = decimal-snoc s (48 + n % 10) ∙ rw (w .value) (omega arith);
+      some = simp length-append (omega arith);
+      first = λ p e. w .first (omega arith) (sym (first-snoc s (48 + n % 10) (w .some)) ∙ e);
+      alone = λ p. absurd (omega arith);
+    }
+
+spelled : (k n : ℕ) → n < 10 ^ suc k → Spelled n (digitsOf (suc k) n)
+unfolding digitsOf
+spelled zero n h = rw (lt-ltb n 10 (omega arith)) (spelled-one n (omega arith))
+spelled (suc k) n h = go (ltb n 10) refl (λ p. spelled k (n / 10) p)
+  where
+    go : (t : Bool) → ltb n 10 ≡ t → (n / 10 < 10 ^ suc k → Spelled (n / 10) (digitsOf (suc k) (n / 10)))
+        → Spelled n (cond t ((48 + n) ∷ []) (digitsOf (suc k) (n / 10) ++ ((48 + n % 10) ∷ [])))
+    go true p ih = spelled-one n (ltb-true n 10 p)
+    go false p ih = spelled-more n (digitsOf (suc k) (n / 10)) (ltb-false n 10 p) (ih (omega (arith, pow-succ' 10 (suc k))))
+
+no-leading-zero : (n : ℕ) (s : List ℕ) → Spelled n s → hasLeadingZero s ≡ false
+no-leading-zero n s w = go (ltb n 10) refl
+  where
+    go : (t : Bool) → ltb n 10 ≡ t → hasLeadingZero s ≡ false
+    go true p = rw (leading-zero s, w .alone (ltb-true n 10 p))
+    go false p =
+        rw (leading-zero s, ne-eqb (getD s 0 0) 48 (w .first (omega (arith, ltb-false n 10 p))), and-false (ltb 1 (length s)))
+
+-- a printed number of 64 bits is a time, and says the number
+pub number-back : (n : ℕ) → n < 2 ^ 64 → (isTime (decimalText n) ≡ true) × (decimalOf (decimalText n) ≡ n)
+unfolding isTime isNumber
+number-back n h =
+    let s = decimalText n in
+    let w = spelled 19 n (omega arith) in (
+      rw (lt-ltb 0 (length s) (w .some), no-leading-zero n s w, w .digits, w .value, lt-ltb n (2 ^ 64) h),
+      w .value,
+    )
+
+-- ---- bytes
+
+-- one test that antt computes over the 16 digits
+digit-back : (d : ℕ) → d < 16 → nibbleOf (hexDigitOf d) ≡ d
+unfolding nibbleOf hexDigitOf
+digit-back d h = eqb→eq _ _ (at {A = ℕ} (λ d x. eqb (nibbleOf (hexDigitOf d)) d) 0 (replicate 16 0) tt d h)
+
+abbrev areBytes : List ℕ → Bool
+areBytes bs = all (λ b. ltb b 256) bs
+
+bytes-back : (bs : List ℕ) → T (areBytes bs) → bytesOf (hexText bs) ≡ bs
+unfolding bytesOf hexText
+bytes-back [] t = refl
+bytes-back (b ∷ bs) t =
+    let h = ltb→lt b 256 (and-left (ltb b 256) (areBytes bs) t) in
+    let e : b / 16 * 16 + b % 16 ≡ b = omega arith in
+    rw (digit-back (b / 16) (omega arith), digit-back (b % 16) (omega arith)) (ap₂ _∷_ e (bytes-back bs (and-right (ltb b 256) (areBytes bs) t)))
+
+digits-hex : (bs : List ℕ) → T (areBytes bs) → all isHexDigit (hexText bs) ≡ true
+unfolding hexText
+digits-hex [] t = refl
+digits-hex (b ∷ bs) t =
+    let h = ltb→lt b 256 (and-left (ltb b 256) (areBytes bs) t) in
+    rw (
+      digit-back (b / 16) (omega arith),
+      digit-back (b % 16) (omega arith),
+      lt-ltb (b / 16) 16 (omega arith),
+      lt-ltb (b % 16) 16 (omega arith),
+    )
+    (digits-hex bs (and-right (ltb b 256) (areBytes bs) t))
+
+-- printed bytes, at most 64, are bytes in hexadecimal, and say the bytes
+pub hex-back : (bs : List ℕ) → T (areBytes bs) → length bs ≤ 64 → (isHex (hexText bs) ≡ true) × (bytesOf (hexText bs) ≡ bs)
+unfolding isHex
+hex-back bs t h =
+    let n = length (hexText bs) in (
+      rw (le-leb n 128 (omega (arith, hex-length bs)), eq-eqb (n % 2) 0 (omega (arith, hex-length bs)), digits-hex bs t),
+      bytes-back bs t,
+    )
+
+-- the line of a time and bytes says the two
+pub line-back : (n : ℕ) (bs : List ℕ) → n < 2 ^ 64 → T (areBytes bs) → length bs ≤ 64
+    → readingOf (decimalText n ++ (space ∷ hexText bs)) ≡ reception n bs
+line-back n bs h t k =
+    let a = number-back n h in
+    let b = hex-back bs t k in
+    joined (decimalText n) (hexText bs) (a .0) (b .0) ∙ ap₂ reception (a .1) (b .1)

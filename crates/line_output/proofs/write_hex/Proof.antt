@@ -1,0 +1,78 @@
+-- `line_output::write_hex` meets its contract. The loop's invariant: the stores that are left, after those made, are all of them.
+-- The measure is what is left of the length. Assumes nothing.
+use mathlib.Core.Path.{_≡_, refl, sym, _∙_}
+use Prim.Native.Nat.{_+_, _-_, _*_, _≤_}
+use native.Mathlib.Omega.{arith}
+use borrow.Author.Needs.{needs}
+use denote.Ref.{now}
+use lib.ListN.{length, drop, length-set, drop-of-length-le}
+use lib.Seq.{sets}
+use Rattle.lists.specs.Lists.{isTableOf}
+use Rattle.line_output.specs.Text.{hexText, hexDigitOf}
+use Rattle.line_output.proofs.Stores.{hex-next, hex-length}
+use Rattle.line_output.proofs.write_hex.Statement.{statement}
+use Rattle.line_output.proofs.write_hex.Tie as tie
+
+abbrev Inv-loop : tie.InvT-loop
+Inv-loop out₀ at s table i₀ to₀ out i to =
+    (i ≤ length s) × (to ≡ at + 2 * i) × (length out ≡ length out₀) × (sets out to (hexText (drop i s)) ≡ sets out₀ at (hexText s))
+
+abbrev μ-loop : tie.MeasureT-loop
+μ-loop out₀ at s table i₀ to₀ out i to = length s - i
+
+loop-holds : tie.Need-loop-holds Inv-loop μ-loop
+loop-holds c = (search needs, search needs, refl, refl)
+
+-- the test of the table's rule, which antt computes
+high-requires : tie.Need-hex-digit-requires Inv-loop μ-loop
+unfolding isTableOf hexDigitOf
+high-requires c κs = (refl, omega (arith, c .before .shared-slice-known2 .given (c .before .before .before .loop .i)))
+
+low-requires : tie.Need-hex-digit-requires-2 Inv-loop μ-loop
+unfolding isTableOf hexDigitOf
+low-requires c κs = (refl, search needs)
+
+low-fits : tie.Need-slice-write-out-2 Inv-loop μ-loop
+low-fits c = simp length-set (omega arith)
+
+loop-again : tie.Need-loop-again Inv-loop μ-loop
+loop-again c =
+    let a = c .before .before .before .before .before .before .before .before .before .args in
+    let l = c .before .before .before .before .before .before .loop in (
+      omega arith,
+      omega arith,
+      simp length-set (l .inv .2),
+      rw (c .before .before .hex-digit .ensures, c .hex-digit2 .ensures) (sym (hex-next (l .out) (now (a .s)) (l .to) (l .i) (omega arith))) ∙ l .inv .3,
+    )
+
+returns : tie.Need-returns Inv-loop μ-loop
+unfolding hexText
+returns c =
+    let a = c .before .before .before .before .args in
+    let l = c .before .loop in
+    let h : length (now (a .s)) ≤ l .i = omega arith in
+    record {
+      bytes = rw (drop-of-length-le (now (a .s)) h) at (l .inv .3);
+      next = omega (arith, hex-length (now (a .s)));
+      short = omega arith;
+    }
+
+pub write-hex-spec : {M : Type 1} → statement M
+write-hex-spec =
+    tie.close
+    (tie.spec
+    Inv-loop
+    μ-loop
+    loop-holds
+    (λ c. search needs)
+    high-requires
+    (λ c. search needs)
+    low-requires
+    (λ c. search needs)
+    low-fits
+    (λ c. search needs)
+    (λ c. search needs)
+    (λ c. search needs)
+    loop-again
+    (λ c. search needs)
+    returns)

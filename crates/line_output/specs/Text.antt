@@ -1,0 +1,76 @@
+-- The lines that `collect` writes (document 01, "Cases"). Assumes nothing.
+use Prim.Native.Nat.{ℕ, zero, suc, _+_, _-_, _/_, _%_}
+use mathlib.Core.Bool.{cond}
+use mathlib.Core.List.{List, [], _∷_, _++_}
+use lib.Dec.{ltb}
+use Rattle.line_input.specs.Ascii.{newline, space, digit0, upperA}
+use Rattle.line_output.specs.Letters.{A, B, C, D, E, F, G, I, K, L, M, N, O, P, R, S, T, U, «V», Y}
+use Rattle.line_output.specs.declared.Row.{Row}
+
+-- n in decimal, in at most k digits: a number below ten is a digit, any other has the digits of its tenth and then its last one
+unfoldable pub digitsOf : ℕ → ℕ → List ℕ
+digitsOf zero n = []
+digitsOf (suc k) n = cond (ltb n 10) ((digit0 + n) ∷ []) (digitsOf k (n / 10) ++ ((digit0 + n % 10) ∷ []))
+
+-- a number of 64 bits: it has at most 20 digits
+abbrev pub decimalText : ℕ → List ℕ
+decimalText n = digitsOf 20 n
+
+-- the hexadecimal digit of a number below 16, in upper case
+unfoldable pub hexDigitOf : ℕ → ℕ
+hexDigitOf d = cond (ltb d 10) (digit0 + d) (upperA + (d - 10))
+
+-- bytes in hexadecimal, two digits each
+unfoldable pub hexText : List ℕ → List ℕ
+hexText [] = []
+hexText (b ∷ bs) = hexDigitOf (b / 16) ∷ hexDigitOf (b % 16) ∷ hexText bs
+
+abbrev pub keptWord : List ℕ
+keptWord = K ∷ E ∷ P ∷ T ∷ []
+
+abbrev pub sendWord : List ℕ
+sendWord = S ∷ E ∷ N ∷ D ∷ []
+
+abbrev pub copyWord : List ℕ
+copyWord = C ∷ O ∷ P ∷ Y ∷ []
+
+abbrev pub looseWord : List ℕ
+looseWord = L ∷ O ∷ O ∷ S ∷ E ∷ []
+
+abbrev pub refusedWord : List ℕ
+refusedWord = R ∷ E ∷ F ∷ U ∷ S ∷ E ∷ D ∷ []
+
+-- ` SEND ` and the bytes to send, where there are any
+abbrev pub sendText : List ℕ → List ℕ
+sendText [] = []
+sendText (b ∷ bs) = space ∷ sendWord ++ (space ∷ hexText (b ∷ bs))
+
+-- what a row says after its time; bytes are sent with KEPT alone
+unfoldable pub answerText : Row → List ℕ → List ℕ
+answerText Row.Kept sent = keptWord ++ sendText sent
+answerText Row.Copy sent = copyWord
+answerText Row.Loose sent = looseWord
+answerText (Row.Refused n) sent = refusedWord ++ (space ∷ decimalText n)
+
+-- the row of a reception: its time, a space, the answer, and the line's end
+unfoldable pub rowText : ℕ → Row → List ℕ → List ℕ
+rowText time row sent = decimalText time ++ (space ∷ []) ++ answerText row sent ++ (newline ∷ [])
+
+-- the row of a line that is BAD
+abbrev pub badText : List ℕ
+badText = B ∷ A ∷ D ∷ newline ∷ []
+
+-- a total after its name
+abbrev pub counted : List ℕ → ℕ → List ℕ
+counted name n = name ++ decimalText n
+
+-- the totals, in this order
+unfoldable pub totalsText : (received kept copies loose damaged late : ℕ) → List ℕ
+totalsText received kept copies loose damaged late =
+    counted (R ∷ E ∷ C ∷ E ∷ I ∷ «V» ∷ E ∷ D ∷ space ∷ []) received
+    ++ counted (space ∷ K ∷ E ∷ P ∷ T ∷ space ∷ []) kept
+    ++ counted (space ∷ C ∷ O ∷ P ∷ I ∷ E ∷ S ∷ space ∷ []) copies
+    ++ counted (space ∷ L ∷ O ∷ O ∷ S ∷ E ∷ space ∷ []) loose
+    ++ counted (space ∷ D ∷ A ∷ M ∷ A ∷ G ∷ E ∷ D ∷ space ∷ []) damaged
+    ++ counted (space ∷ L ∷ A ∷ T ∷ E ∷ space ∷ []) late
+    ++ (newline ∷ [])

@@ -1,0 +1,226 @@
+// The lines that the program `collect` writes (document 01, "Cases"). Each function writes to a lent buffer from `at` on and answers the
+// position behind its text; where the longest such text would not fit it writes nothing and answers `at`.
+ghost use mathlib.Core.Path.{_≡_};
+ghost use mathlib.Core.Bool.{true};
+ghost use Prim.Native.Nat.{_+_, _*_, _≤_, _<_};
+ghost use lib.Dec.{leb};
+ghost use lib.ListN.{length, drop};
+ghost use Rattle.lists.specs.Lists.{isTableOf};
+ghost use Rattle.line_output.specs.Text.{decimalText, hexDigitOf, hexText, answerText, rowText, badText, counted, totalsText};
+ghost use Rattle.line_output.specs.Printed.{Printed, PrintedIfFits, longestRow, longestTotals};
+
+// What the row of a reception says; a refusal by its number.
+pub enum Row {
+    Kept,
+    Copy,
+    Loose,
+    Refused(u8),
+}
+
+// The longest row that sends nothing, or more; each byte to send takes two characters more.
+pub const LONGEST_ROW: usize = 50;
+
+// The row of a line that is BAD.
+pub const BAD_LENGTH: usize = 4;
+
+// The longest line of totals.
+pub const LONGEST_TOTALS: usize = 166;
+
+// The hexadecimal digits.
+const DIGITS: [u8; 16] = [
+    48,
+    49,
+    50,
+    51,
+    52,
+    53,
+    54,
+    55,
+    56,
+    57,
+    65,
+    66,
+    67,
+    68,
+    69,
+    70,
+];
+
+// The row of a reception; `sent` is what KEPT sends.
+pub fn put_row(out: &mut [u8], at: usize, time: u64, row: Row, sent: &[u8]) -> usize
+    ensures { λ r. ⌜ PrintedIfFits (now (out .entry)) at (longestRow (length (now (sent .entry)))) (rowText time row (now (sent .entry))) (now (out .exit)) r ⌝ }
+{
+    if !has_capacity(out.len(), at, LONGEST_ROW, sent.len()) {
+        return at;
+    }
+    write_row(out, at, time, row, sent)
+}
+
+// The row of a line that is BAD.
+pub fn put_bad(out: &mut [u8], at: usize) -> usize
+    ensures { λ r. ⌜ PrintedIfFits (now (out .entry)) at 4 badText (now (out .exit)) r ⌝ }
+{
+    if !has_capacity(out.len(), at, BAD_LENGTH, 0) {
+        return at;
+    }
+    write(out, at, b"BAD\n")
+}
+
+// The totals.
+pub fn put_totals(
+    out: &mut [u8],
+    at: usize,
+    received: u64,
+    kept: u64,
+    copies: u64,
+    loose: u64,
+    damaged: u64,
+    late: u64,
+) -> usize
+    ensures { λ r. ⌜ PrintedIfFits (now (out .entry)) at longestTotals (totalsText received kept copies loose damaged late) (now (out .exit)) r ⌝ }
+{
+    if !has_capacity(out.len(), at, LONGEST_TOTALS, 0) {
+        return at;
+    }
+    write_totals(out, at, received, kept, copies, loose, damaged, late)
+}
+
+// Whether `fixed` characters and two for each of so many bytes fit from `at` on.
+fn has_capacity(capacity: usize, at: usize, fixed: usize, bytes: usize) -> bool
+    ensures { λ r. ⌜ r ≡ leb (at + (fixed + 2 * bytes)) capacity ⌝ }
+{
+    if capacity < at {
+        return false;
+    }
+    let left = capacity - at;
+    if left < fixed {
+        return false;
+    }
+    if (left - fixed) / 2 < bytes {
+        return false;
+    }
+    true
+}
+
+fn write_row(out: &mut [u8], at: usize, time: u64, row: Row, sent: &[u8]) -> usize
+    requires { ⌜ at + longestRow (length (now sent)) ≤ length (now out) ⌝ }
+    ensures { λ r. ⌜ Printed (now (out .entry)) at (rowText time row (now (sent .entry))) (longestRow (length (now (sent .entry)))) (now (out .exit)) r ⌝ }
+{
+    let a = write_decimal(out, at, time);
+    let b = write(out, a, b" ");
+    let c = write_answer(out, b, row, sent);
+    write(out, c, b"\n")
+}
+
+fn write_answer(out: &mut [u8], at: usize, row: Row, sent: &[u8]) -> usize
+    requires { ⌜ at + (28 + 2 * length (now sent)) ≤ length (now out) ⌝ }
+    ensures { λ r. ⌜ Printed (now (out .entry)) at (answerText row (now (sent .entry))) (28 + 2 * length (now (sent .entry))) (now (out .exit)) r ⌝ }
+{
+    match row {
+        Row::Kept => {
+            if sent.len() == 0 {
+                return write(out, at, b"KEPT");
+            }
+            let from = write(out, at, b"KEPT SEND ");
+            write_hex(out, from, sent)
+        }
+        Row::Copy => write(out, at, b"COPY"),
+        Row::Loose => write(out, at, b"LOOSE"),
+        Row::Refused(n) => {
+            let from = write(out, at, b"REFUSED ");
+            write_decimal(out, from, n as u64)
+        }
+    }
+}
+
+fn write_totals(
+    out: &mut [u8],
+    at: usize,
+    received: u64,
+    kept: u64,
+    copies: u64,
+    loose: u64,
+    damaged: u64,
+    late: u64,
+) -> usize
+    requires { ⌜ at + longestTotals ≤ length (now out) ⌝ }
+    ensures { λ r. ⌜ Printed (now (out .entry)) at (totalsText received kept copies loose damaged late) longestTotals (now (out .exit)) r ⌝ }
+{
+    let a = write_count(out, at, b"RECEIVED ", received);
+    let b = write_count(out, a, b" KEPT ", kept);
+    let c = write_count(out, b, b" COPIES ", copies);
+    let d = write_count(out, c, b" LOOSE ", loose);
+    let e = write_count(out, d, b" DAMAGED ", damaged);
+    let f = write_count(out, e, b" LATE ", late);
+    write(out, f, b"\n")
+}
+
+fn write_count(out: &mut [u8], at: usize, name: &[u8], n: u64) -> usize
+    requires { ⌜ at + (length (now name) + 20) ≤ length (now out) ⌝ }
+    ensures { λ r. ⌜ Printed (now (out .entry)) at (counted (now (name .entry)) n) (length (now (name .entry)) + 20) (now (out .exit)) r ⌝ }
+{
+    let from = write(out, at, name);
+    write_decimal(out, from, n)
+}
+
+fn write(out: &mut [u8], at: usize, s: &[u8]) -> usize
+    requires { ⌜ at + length (now s) ≤ length (now out) ⌝ }
+    ensures { λ r. ⌜ Printed (now (out .entry)) at (now (s .entry)) (length (now (s .entry))) (now (out .exit)) r ⌝ }
+{
+    for i in 0..s.len() {
+        out[at + i] = s[i];
+    }
+    at + s.len()
+}
+
+fn write_decimal(out: &mut [u8], at: usize, n: u64) -> usize
+    requires { ⌜ at + 20 ≤ length (now out) ⌝ }
+    ensures { λ r. ⌜ Printed (now (out .entry)) at (decimalText n) 20 (now (out .exit)) r ⌝ }
+{
+    let mut digits = [0u8; 20];
+    let from = spell(n, &mut digits);
+    write(out, at, &digits[from..20])
+}
+
+// Writes n in decimal to the end of `digits`, and answers where it starts.
+fn spell(n: u64, digits: &mut [u8]) -> usize
+    requires { ⌜ length (now digits) ≡ 20 ⌝ }
+    ensures { λ r. ⌜ (r ≤ 20) × (drop r (now (digits .exit)) ≡ decimalText n) ⌝ }
+{
+    let mut i = 20;
+    let mut rest = n;
+    while 10 <= rest {
+        i -= 1;
+        digits[i] = 48 + (rest % 10) as u8;
+        rest = rest / 10;
+    }
+    i -= 1;
+    digits[i] = 48 + rest as u8;
+    i
+}
+
+// The table is named once: a constant array is built anew wherever it is named.
+fn write_hex(out: &mut [u8], at: usize, s: &[u8]) -> usize
+    requires { ⌜ at + 2 * length (now s) ≤ length (now out) ⌝ }
+    ensures { λ r. ⌜ Printed (now (out .entry)) at (hexText (now (s .entry))) (2 * length (now (s .entry))) (now (out .exit)) r ⌝ }
+{
+    let table = DIGITS;
+    let mut i = 0;
+    let mut to = at;
+    while i < s.len() {
+        let b = s[i];
+        out[to] = hex_digit(&table, b / 16);
+        out[to + 1] = hex_digit(&table, b % 16);
+        to += 2;
+        i += 1;
+    }
+    to
+}
+
+fn hex_digit(table: &[u8; 16], d: u8) -> u8
+    requires { ⌜ isTableOf 16 hexDigitOf (now table) ≡ true ⌝ }
+    requires { ⌜ d < 16 ⌝ }
+    ensures { λ r. ⌜ r ≡ hexDigitOf d ⌝ }
+{
+    table[d as usize]
+}

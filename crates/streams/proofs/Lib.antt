@@ -1,0 +1,5 @@
+pub mod Pieces
+pub mod Segments
+pub mod Limit
+pub mod Moves
+pub mod Takes

@@ -1,0 +1,36 @@
+-- A program that reads lines, and what it writes for a whole text. Assumes nothing.
+use Prim.Native.Nat.{ℕ}
+use mathlib.Core.Bool.{cond}
+use mathlib.Core.List.{List, [], _∷_, _++_}
+use lib.Dec.{eqb}
+use Rattle.line_input.specs.Ascii.{newline}
+
+-- a character in front of the first line
+abbrev pub prepend : ℕ → List (List ℕ) → List (List ℕ)
+prepend c [] = (c ∷ []) ∷ []
+prepend c (l ∷ ls) = (c ∷ l) ∷ ls
+
+-- the lines of a text: a newline ends a line, and a last line without one counts; any other character, a carriage return too, is its line's
+unfoldable pub linesOf : List ℕ → List (List ℕ)
+linesOf [] = []
+linesOf (c ∷ s) = cond (eqb c newline) ([] ∷ linesOf s) (prepend c (linesOf s))
+
+-- What a program does, in any state: the state after a line, what it writes for the line, and what it writes at the end.
+pub record Program (S : Type 0) : Type 0 where
+  pub next : S → List ℕ → S
+  pub text : S → List ℕ → List ℕ
+  pub end : S → List ℕ
+
+module _ {S : Type 0} (p : Program S) where
+  -- the state after lines, and what was written for them
+  unfoldable pub after : S → List (List ℕ) → S
+  after s [] = s
+  after s (l ∷ ls) = after (p .next s l) ls
+
+  unfoldable pub written : S → List (List ℕ) → List ℕ
+  written s [] = []
+  written s (l ∷ ls) = p .text s l ++ written (p .next s l) ls
+
+  -- all that it writes for a text
+  unfoldable pub outputOf : S → List ℕ → List ℕ
+  outputOf s input = written s (linesOf input) ++ p .end (after s (linesOf input))
