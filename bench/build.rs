@@ -1,10 +1,12 @@
-// Links the archive that `rt staticlib mooringeye` wrote.
+// Links the archives that `rt staticlib` wrote.
 use std::path::PathBuf;
 
 fn main() {
     let root = PathBuf::from(std::env::var("CARGO_MANIFEST_DIR").unwrap()).join("..");
-    let dir = root.join("target/staticlib").canonicalize().expect("run `rt staticlib mooringeye` first");
+    let dir = root.join("target/staticlib").canonicalize().expect("bench/run makes the archives first");
     println!("cargo:rustc-link-search=native={}", dir.display());
-    println!("cargo:rustc-link-lib=static=mooringeye");
-    println!("cargo:rerun-if-changed={}", dir.join("libmooringeye.a").display());
+    for name in ["mooringeye", "take_bench"] {
+        println!("cargo:rustc-link-lib=static={name}");
+        println!("cargo:rerun-if-changed={}", dir.join(format!("lib{name}.a")).display());
+    }
 }

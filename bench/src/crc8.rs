@@ -32,7 +32,7 @@ const fn table() -> [u8; 256] {
     table
 }
 
-fn by_hand(bytes: &[u8]) -> u8 {
+pub fn by_hand(bytes: &[u8]) -> u8 {
     let mut crc = 0;
     for b in bytes {
         crc = TABLE[usize::from(crc ^ b)];

@@ -1,12 +1,14 @@
 //! The proved code against hand-written Rust of the same job: same input, one run, answers compared before they are timed.
 use std::time::Instant;
 
+mod collector;
 mod crc8;
 mod slots;
 
 fn main() {
     crc8::bench();
     slots::bench();
+    collector::bench();
 }
 
 /// Nanoseconds a call: the best of many rounds of `calls` calls.

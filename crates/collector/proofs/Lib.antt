@@ -1,0 +1,9 @@
+pub mod Inside
+pub mod Arrays
+pub mod Accepting
+pub mod Moving
+pub mod Classifying
+pub mod Admitting
+pub mod Writing
+pub mod Reading
+pub mod Histories

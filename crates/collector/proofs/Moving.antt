@@ -1,0 +1,173 @@
+-- Entries that are no longer open, those that are moved to the front, and one that is put after them: what the entries then are.
+-- Assumes nothing.
+use Prim.Native.Nat.{ℕ, zero, suc, _+_, _-_, _*_, _≤_, _<_}
+use native.Mathlib.Nat.{zero-add, add-zero, add-comm, add-suc, suc-add, le-refl, not-suc-le-zero, le-of-suc-le-suc}
+use native.Mathlib.Numerals.{add-one}
+use native.Mathlib.Decide.{decLt}
+use native.Mathlib.Omega.{arith}
+use mathlib.Core.Path.{_≡_, refl, sym, _∙_, ap, ap₂}
+use mathlib.Core.Bool.{Bool, true, false, cond, false≢true}
+use mathlib.Core.List.{List, [], _∷_, _++_, map, append-assoc}
+use lib.ListN.{length, getD, take, drop, set, length-set, length-take, length-drop}
+use lib.Seq.{take-suc, take-suc-set, take-set-le, drop-set-lt, getD-take, getD-drop, getD-set-same, drop-drop, drop-cons, take-take, take-at, drop-at, take-append-seam, take-length, length-take-le}
+use borrow.Author.Tests.{le-leb, lt-leb, leb-true, leb-false}
+use Rattle.lists.specs.Lists.{keep, upFrom}
+use Rattle.lists.proofs.Keep.{keep-append, keep-map}
+use Rattle.lists.proofs.UpFrom.{upFrom-add, keep-none, keep-all}
+use Rattle.lists.proofs.Tests.{by-test}
+use Rattle.erp1.specs.Subtelegram.{maxLength}
+use Rattle.layout.specs.Buffer.{part, resized}
+use Rattle.layout.proofs.Buffer.{resized-cut}
+use Rattle.layout.proofs.Segments.{part-at}
+use Rattle.model.specs.View.{Reception, maturity, isOpen}
+use Rattle.model.specs.Step.{plusIf, addIf}
+use Rattle.collector.specs.Collector.{entryAt, entriesAt}
+use Rattle.collector.specs.Merging.{Expired, Moved, PutIf}
+use Rattle.collector.proofs.Arrays.{entries-more}
+
+-- ---- the loop that moves, over an array of any numbers: the first i stand there, and the others are as they were
+
+pub record Moving (from i : ℕ) (old xs : List ℕ) : Type 0 where
+  pub long : length xs ≡ length old
+  pub passed : take i xs ≡ take i (drop from old)
+  pub rest : drop i xs ≡ drop i old
+
+pub moving-none : (from : ℕ) (old : List ℕ) → Moving from 0 old old
+moving-none from old = record { long = refl; passed = refl; rest = refl }
+
+module _ (from i : ℕ) (old xs : List ℕ) (m : Moving from i old xs) (fits : from + i < length old) where
+  unmoved : getD xs (from + i) 0 ≡ getD (drop from old) i 0
+  unmoved =
+      rw (getD-drop from old i 0, add-comm from i)
+      (sym (getD-drop i xs from 0) ∙ ap (λ (l : List ℕ). getD l from 0) (m .rest) ∙ getD-drop i old from 0)
+
+  pub moving-more : Moving from (i + 1) old (set xs i (getD xs (from + i) 0))
+  moving-more =
+      let long = m .long in
+      record {
+        long = length-set xs i (getD xs (from + i) 0) ∙ m .long;
+        passed =
+            rw (add-one, take-suc-set xs i (getD xs (from + i) 0) (omega arith), m .passed, unmoved)
+            (sym (take-suc (drop from old) i 0 (simp length-drop (omega arith))));
+        rest =
+            drop-set-lt (i + 1) xs i (getD xs (from + i) 0) (omega arith)
+            ∙ sym (drop-drop 1 i xs) ∙ ap (drop 1) (m .rest) ∙ drop-drop 1 i old;
+      }
+
+pub moved-none : (n : ℕ) (old : List ℕ) {from : ℕ} → from ≡ 0 → Moved from n old old
+moved-none n old e = rw e (record { front = refl })
+
+pub moved-all : (from n : ℕ) (old xs : List ℕ) {i : ℕ} → i ≡ n → Moving from i old xs → Moved from n old xs
+moved-all from n old xs e m = record { front = rw e at (m .passed) }
+
+-- ---- what stands after a move
+
+part-take : (a k n : ℕ) (xs : List ℕ) → a + k ≤ n → part a k (take n xs) ≡ part a k xs
+part-take zero k n xs h = take-take k n xs (omega arith)
+part-take (suc a) k zero xs h = absurd (omega arith)
+part-take (suc a) k (suc n) [] h = refl
+part-take (suc a) k (suc n) (x ∷ xs) h = part-take a k n xs (omega arith)
+
+module _ {gone n : ℕ} {old new : List ℕ} (m : Moved gone n old new) where
+  moved-at : (i : ℕ) → i < n → getD new i 0 ≡ getD old (gone + i) 0
+  moved-at i h =
+      sym (getD-take n new i 0 h) ∙ ap (λ (l : List ℕ). getD l i 0) (m .front) ∙ getD-take n (drop gone old) i 0 h ∙ getD-drop gone old i 0
+
+  moved-part : (a k : ℕ) → a + k ≤ n → part a k new ≡ part (gone + a) k old
+  moved-part a k h =
+      sym (part-take a k n new h) ∙ ap (part a k) (m .front) ∙ part-take a k n (drop gone old) h ∙ ap (take k) (drop-drop a gone old)
+
+map-same : {A : Type 0} (f g : ℕ → A) (a b n : ℕ) → ((i : ℕ) → i < n → f (a + i) ≡ g (b + i)) → map f (upFrom a n) ≡ map g (upFrom b n)
+unfolding upFrom
+map-same f g a b zero h = refl
+map-same f g a b (suc n) h =
+    ap₂ _∷_ (rw (add-zero, add-zero) at (h 0 (omega arith)))
+    (map-same f g (suc a) (suc b) n (λ i k. rw (suc-add, suc-add, ← add-suc, ← add-suc) (h (suc i) (omega arith))))
+
+pub moved-entries : (gone n : ℕ) (times lens bytes times' lens' bytes' : List ℕ) → Moved gone n times times' → Moved gone n lens lens'
+    → Moved (maxLength * gone) (maxLength * n) bytes bytes' → entriesAt times' lens' bytes' n ≡ map (entryAt times lens bytes) (upFrom gone n)
+unfolding entriesAt
+moved-entries gone n times lens bytes times' lens' bytes' t l b =
+    map-same (entryAt times' lens' bytes') (entryAt times lens bytes) 0 gone n
+    (λ i h. rw (zero-add) (same i h))
+  where
+    same : (i : ℕ) → i < n → entryAt times' lens' bytes' i ≡ entryAt times lens bytes (gone + i)
+    same i h =
+        let e : maxLength * gone + maxLength * i ≡ maxLength * (gone + i) = omega arith in
+        rw (moved-at t i h, moved-at l i h, moved-part b (maxLength * i) maxLength (omega arith), e)
+
+-- ---- what is put
+
+pub put-none : (at : ℕ) (xs old : List ℕ) {test : Bool} → test ≡ false → PutIf test at xs old old
+put-none at xs old e = record { before = refl; stored = λ t. absurd (false≢true (sym e ∙ t)) }
+
+pub put-when : {test : Bool} {at : ℕ} {xs old new : List ℕ} → test ≡ true → PutIf true at xs old new → PutIf test at xs old new
+put-when e p = rw e p
+
+pub put-one : (i x : ℕ) (old : List ℕ) → i < length old → PutIf true i (x ∷ []) old (set old i x)
+put-one i x old h = record {
+  before = take-set-le i old i x (le-refl i);
+  stored = λ _. rw (drop-cons (set old i x) i 0 (omega (arith, length-set old i x)), getD-set-same old i x 0 h);
+}
+
+-- a copy into the part from `at` on
+pub put-copied : (at : ℕ) (xs old ys rest post : List ℕ) → at ≤ length old → ys ≡ take (length xs) xs ++ rest → PutIf true at xs old (take at old ++ (ys ++ post))
+put-copied at xs old ys rest post h e =
+    let long : length (take at old) ≡ at = length-take-le at old h in
+    record {
+      before = take-at (take at old) (ys ++ post) at long;
+      stored = λ _. rw (drop-at (take at old) (ys ++ post) at long, e, take-length xs, append-assoc xs rest post) (take-append-seam xs (rest ++ post));
+    }
+
+-- a length that says how many bytes stand there
+resized-part : (n : ℕ) (xs ys : List ℕ) → n ≤ maxLength → length ys ≡ n → take n xs ≡ ys → resized n (take maxLength xs) ≡ ys
+resized-part n xs ys h long e =
+    let k : n ≤ length xs = omega (arith, length-take n xs, ap length e) in
+    resized-cut n (take maxLength xs) (simp length-take (omega arith)) ∙ take-take n maxLength xs h ∙ e
+
+module _ (kept : Bool) (n : ℕ) (times lens bytes times' lens' bytes' : List ℕ) (r : Reception) (short : kept ≡ true → length (r .bytes) ≤ maxLength)
+    (t : PutIf kept n (r .time ∷ []) times times') (l : PutIf kept n (length (r .bytes) ∷ []) lens lens')
+    (b : PutIf kept (maxLength * n) (r .bytes) bytes bytes') where
+  same-before : entriesAt times' lens' bytes' n ≡ entriesAt times lens bytes n
+  unfolding entriesAt
+  same-before =
+      moved-entries 0 n times lens bytes times' lens' bytes' (record { front = t .before }) (record { front = l .before }) (record { front = b .before })
+
+  one-at : (x : ℕ) (xs : List ℕ) → part n 1 xs ≡ x ∷ [] → getD xs n 0 ≡ x
+  one-at x xs e = sym (part-at n 1 xs 0 0 (omega arith) ∙ ap (λ (i : ℕ). getD xs i 0) (add-zero n)) ∙ ap (λ (y : List ℕ). getD y 0 0) e
+
+  put-entry : kept ≡ true → entryAt times' lens' bytes' n ≡ r
+  put-entry k =
+      rw (
+        one-at (r .time) times' (t .stored k),
+        one-at (length (r .bytes)) lens' (l .stored k),
+        resized-part (length (r .bytes)) (drop (maxLength * n) bytes') (r .bytes) (short k) refl (b .stored k),
+      )
+
+  pub put-entries : entriesAt times' lens' bytes' (plusIf kept n) ≡ addIf kept r (entriesAt times lens bytes n)
+  put-entries = by-test kept (λ k. rw (k, entries-more times' lens' bytes' n, same-before, put-entry k)) (λ k. rw (k, same-before))
+
+-- ---- which are no longer open
+
+module _ (times lens bytes : List ℕ) (count time gone : ℕ) (e : Expired times count time gone) (order : (i j : ℕ) → i < j → j < count → getD times i 0 ≤ getD times j 0) where
+  abbrev openAt : ℕ → Bool
+  openAt i = isOpen time (entryAt times lens bytes i)
+
+  later : (i : ℕ) → gone ≤ i → i < count → openAt i ≡ true
+  later i h k = elim (decLt gone i) [
+    | yes l ↦ le-leb (time - getD times i 0) maturity (omega (arith, order gone i l k, leb-true (time - getD times gone 0) maturity (e .first (omega arith))))
+    | no l ↦ let s : i ≡ gone = omega arith in rw s (e .first (omega arith))
+  ]
+
+  kept-numbers : keep openAt (upFrom 0 (gone + (count - gone))) ≡ upFrom gone (count - gone)
+  kept-numbers =
+      let few = e .few in
+      rw (upFrom-add 0 gone (count - gone), zero-add, keep-append openAt (upFrom 0 gone), keep-none openAt 0 gone (λ i _ h. e .closed i (omega arith)))
+      (keep-all openAt gone (count - gone) (λ i h k. later i h (omega arith)))
+
+  pub expired-open : keep (isOpen time) (entriesAt times lens bytes count) ≡ map (entryAt times lens bytes) (upFrom gone (count - gone))
+  unfolding entriesAt
+  expired-open =
+      let few = e .few in
+      let size : gone + (count - gone) ≡ count = omega arith in
+      keep-map (isOpen time) (entryAt times lens bytes) (upFrom 0 count) ∙ ap (map (entryAt times lens bytes)) (rw size at kept-numbers)

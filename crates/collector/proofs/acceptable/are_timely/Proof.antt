@@ -1,0 +1,66 @@
+-- `collector::acceptable::are_timely` meets its contract. The loop's invariant: the times rise from the maturity before the latest up to
+-- it, if those from i on rise from the one before them. The measure is the number of times left. Assumes nothing.
+use Prim.Native.Nat.{_-_, _≤_}
+use mathlib.Core.Path.{_≡_, sym, _∙_, ap}
+use native.Mathlib.Omega.{arith}
+use borrow.Author.Needs.{needs}
+use borrow.Author.Tests.{le-leb}
+use denote.Ref.{now}
+use lib.ListN.{length, take}
+use lib.Seq.{slice}
+use Rattle.model.specs.View.{maturity}
+use Rattle.collector.proofs.Accepting.{rising, timely-by, rising-not, rising-more, rising-end}
+use Rattle.collector.proofs.acceptable.are_timely.Statement.{statement}
+use Rattle.collector.proofs.acceptable.are_timely.Tie as tie
+
+abbrev Inv-loop : tie.InvT-loop
+Inv-loop times count latest earliest₀ i₀ earliest i =
+    (i ≤ count) × (rising earliest latest (slice i count times) ≡ rising (latest - maturity) latest (take count times))
+
+abbrev μ-loop : tie.MeasureT-loop
+μ-loop times count latest earliest₀ i₀ earliest i = count - i
+
+loop-holds : tie.Need-loop-holds Inv-loop μ-loop
+loop-holds c = (omega arith, rw (c .since .ensures))
+
+returns : tie.Need-returns Inv-loop μ-loop
+returns c lens bytes =
+    let l = c .before .before .before in
+    let a = l .before .before .before .args in
+    sym (
+    sym (timely-by (now (a .times)) lens bytes (a .count) (a .latest) (omega arith))
+    ∙ sym (l .loop .inv .1)
+    ∙ rising-not (now (a .times)) (l .loop .i) (a .count) (l .loop .earliest) (a .latest) (omega arith) (omega arith) (c .if1 .taken)
+    )
+
+loop-again : tie.Need-loop-again Inv-loop μ-loop
+loop-again c =
+    let l = c .before .before .before in
+    let a = l .before .before .before .args in (
+      omega arith,
+      sym (rising-more (now (a .times)) (l .loop .i) (a .count) (l .loop .earliest) (a .latest) (omega arith) (omega arith) (c .if1 .left)) ∙ l .loop .inv .1,
+    )
+
+returns-2 : tie.Need-returns-2 Inv-loop μ-loop
+returns-2 c lens bytes =
+    let l = c .before in
+    let a = l .before .before .before .args in
+    let e : l .loop .i ≡ a .count = omega arith in
+    sym (rising-end (now (a .times)) (a .count) (l .loop .earliest) (a .latest)) ∙ (rw e at (l .loop .inv .1))
+    ∙ timely-by (now (a .times)) lens bytes (a .count) (a .latest) (omega arith)
+
+pub are-timely-spec : {M : Type 1} → statement M
+are-timely-spec =
+    tie.close
+    (tie.spec
+    Inv-loop
+    μ-loop
+    (λ c κs. search needs)
+    loop-holds
+    (λ c. omega arith)
+    (λ c. omega arith)
+    returns
+    (λ c. omega arith)
+    (λ c. omega arith)
+    loop-again
+    returns-2)

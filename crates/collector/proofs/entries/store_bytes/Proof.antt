@@ -1,0 +1,14 @@
+-- `collector::entries::store_bytes` meets its contract. Assumes nothing.
+use native.Mathlib.Omega.{arith}
+use borrow.Author.Needs.{needs}
+use Rattle.collector.proofs.Moving.{put-copied}
+use Rattle.collector.proofs.entries.store_bytes.Statement.{statement}
+use Rattle.collector.proofs.entries.store_bytes.Tie as tie
+
+returns : tie.Need-returns
+returns c = put-copied _ _ _ _ _ _ (omega arith) (c .before .before .copy .ensures .1)
+
+pub store-bytes-spec : {M : Type 1} → statement M
+store-bytes-spec =
+    tie.close
+    (tie.spec (λ c. search needs) (λ c. search needs) (λ c. search needs) (λ c κs. search needs) (λ c. search needs) returns)

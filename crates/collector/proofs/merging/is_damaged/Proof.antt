@@ -1,0 +1,10 @@
+-- `collector::merging::is_damaged` meets its contract. Assumes nothing.
+use borrow.Author.Needs.{needs}
+use Rattle.collector.proofs.merging.is_damaged.Statement.{statement}
+use Rattle.collector.proofs.merging.is_damaged.Tie as tie
+
+returns : tie.Need-returns
+returns c = cc
+
+pub is-damaged-spec : {M : Type 1} → statement M
+is-damaged-spec = tie.close (tie.spec (λ c κs. search needs) (λ c κs. search needs) (λ c κs. search needs) (λ c κs. search needs) returns)

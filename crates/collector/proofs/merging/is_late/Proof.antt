@@ -1,0 +1,10 @@
+-- `collector::merging::is_late` meets its contract. Assumes nothing.
+use borrow.Author.Needs.{needs}
+use Rattle.collector.proofs.merging.is_late.Statement.{statement}
+use Rattle.collector.proofs.merging.is_late.Tie as tie
+
+returns : tie.Need-returns
+returns c = cc
+
+pub is-late-spec : {M : Type 1} → statement M
+is-late-spec = tie.close (tie.spec (λ c κs. search needs) (λ c κs. search needs) returns)

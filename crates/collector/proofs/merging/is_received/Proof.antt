@@ -1,0 +1,10 @@
+-- `collector::merging::is_received` meets its contract. Assumes nothing.
+use borrow.Author.Needs.{needs}
+use Rattle.collector.proofs.merging.is_received.Statement.{statement}
+use Rattle.collector.proofs.merging.is_received.Tie as tie
+
+returns : tie.Need-returns
+returns c = cc
+
+pub is-received-spec : {M : Type 1} → statement M
+is-received-spec = tie.close (tie.spec (λ c κs. search needs) (λ c κs. search needs) (λ c κs. search needs) returns)

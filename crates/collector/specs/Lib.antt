@@ -1,0 +1,5 @@
+pub mod Collector
+pub mod Acceptable
+pub mod Merging
+pub mod Checkpoint
+pub mod Histories

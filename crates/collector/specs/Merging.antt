@@ -1,0 +1,56 @@
+-- One reception in the parts that the code takes it in (document 01, "Merging"). Assumes nothing.
+use Prim.Native.Nat.{ℕ, _-_, _≤_, _<_}
+use mathlib.Core.Path.{_≡_}
+use mathlib.Core.Bool.{Bool, true, false, cond, not}
+use mathlib.Core.List.{List}
+use lib.Dec.{leb, ltb, eqb}
+use lib.ListN.{length, getD, take, drop}
+use Rattle.refusal.specs.Number.{numberOf}
+use Rattle.refusal.specs.declared.Refusal.the-variants as refusal
+use Rattle.erp1.specs.Subtelegram.{checkOf, isValid}
+use Rattle.layout.specs.Buffer.{part}
+use Rattle.model.specs.declared.Totals.{Totals}
+use Rattle.model.specs.Answer.{Shown, Kept, Copy, Loose, Refused, shownOf}
+use Rattle.model.specs.View.{Reception, maturity}
+use Rattle.model.specs.Acceptable.{isSummed}
+use Rattle.model.specs.Step.{Outcome, maxCount}
+use Rattle.collector.specs.declared.Taken.{Taken}
+use Rattle.collector.specs.Collector.{viewOf}
+
+-- the answer of each call, the telegram to send, and what the next state says
+abbrev pub outcomeOf : Taken → Outcome
+outcomeOf r = record { answer = shownOf (r .answer); sent = r .sent; next = viewOf (r .next) }
+
+-- ---- what private functions say
+
+-- the tests before the open telegrams are looked at, in their order: 8, the check's number, 7; 0 if all pass
+unfoldable pub receptionCheck : ℕ → ℕ → Reception → ℕ
+receptionCheck received latest r =
+    cond (leb maxCount received) (numberOf refusal.Full)
+    (cond (not (isValid (r .bytes))) (checkOf (r .bytes))
+    (cond (ltb (r .time) latest) (numberOf refusal.Late)
+    0))
+
+-- the answer by that number, whether the same telegram is open, and whether 64 are
+unfoldable pub answerFor : ℕ → Bool → Bool → Shown
+answerFor number known crowded = cond (eqb number 0) (cond known Copy (cond crowded Loose Kept)) (Refused number)
+
+-- no total is at its end where an answer is counted
+pub record Countable (n : Totals) (a : Shown) : Type 0 where
+  pub summed : isSummed n ≡ true
+  pub full : maxCount ≤ n .received → a ≡ Refused (numberOf refusal.Full)
+
+-- of the first `count` times, those before r are no longer open at `time`, and the one at r is
+pub record Expired (times : List ℕ) (count time r : ℕ) : Type 0 where
+  pub few : r ≤ count
+  pub closed : (i : ℕ) → i < r → leb (time - getD times i 0) maturity ≡ false
+  pub first : r < count → leb (time - getD times r 0) maturity ≡ true
+
+-- the n elements after the first `gone` stand at the front
+pub record Moved (gone n : ℕ) (old new : List ℕ) : Type 0 where
+  pub front : take n new ≡ take n (drop gone old)
+
+-- what stands before `at` stays, and xs stand there if the test passes
+pub record PutIf (test : Bool) (at : ℕ) (xs old new : List ℕ) : Type 0 where
+  pub before : take at new ≡ take at old
+  pub stored : test ≡ true → part at (length xs) new ≡ xs

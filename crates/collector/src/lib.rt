@@ -1,0 +1,151 @@
+// The collector: merges receptions of one telegram, counts them, and hands out what a repeater sends (document 01, "Merging").
+pub(crate) mod acceptable;
+pub(crate) mod entries;
+pub mod image;
+pub(crate) mod merging;
+
+use model::Answer;
+use model::Totals;
+use refusal::Refusal;
+use telegram::frame::Frame;
+ghost use mathlib.Core.Path.{_≡_};
+ghost use mathlib.Core.Bool.{true};
+ghost use Rattle.model.specs.Acceptable.{acceptable};
+ghost use Rattle.model.specs.Step.{step};
+ghost use Rattle.collector.specs.Collector.{freshAnswer, freshOf, emptyView, viewOf};
+ghost use Rattle.collector.specs.Merging.{outcomeOf};
+
+// The state, in flat arrays. Entry i of the first `count`, in opening order, has times[i], lens[i] and the 21 bytes from 21 i, of
+// which lens[i] are those first received; what stands past these is left to the program.
+pub struct Collector {
+    pub times: [u64; Collector::CAPACITY],
+    pub lens: [u8; Collector::CAPACITY],
+    pub bytes: [u8; Collector::CAPACITY * Collector::MAX_LEN],
+    pub count: usize,
+    pub latest: u64,
+    pub setting: u8,
+    pub totals: Totals,
+}
+
+// Whether a collector was started as asked.
+pub enum Started {
+    Done,
+    Refused(Refusal),
+}
+
+// A collector started fresh, set to 0 beside a refusal.
+pub struct Fresh {
+    pub collector: Collector,
+    pub answer: Started,
+}
+
+// The next state, the answer, and the telegram to send: zero filled, length 0 if none.
+pub struct Taken {
+    pub next: Collector,
+    pub answer: Answer,
+    pub sent: Frame,
+}
+
+impl Collector {
+    // RX maturity: how long a telegram is open (source document 001, Table 1).
+    pub const MATURITY_MS: u64 = 100;
+    // How many telegrams can be open.
+    pub const CAPACITY: usize = 64;
+    // The longest subtelegram.
+    pub const MAX_LEN: usize = erp1::MAX_LEN;
+    // The highest repeater setting.
+    pub const MAX_SETTING: u8 = 2;
+
+    // A collector with no telegram open and nothing counted, set to 0 (off), 1 or 2; another setting is refused with 10.
+    pub fn fresh(setting: u8) -> Fresh
+        ensures { λ r. ⌜ freshAnswer r ≡ freshOf setting ⌝ }
+    {
+        if Collector::MAX_SETTING < setting {
+            let c = Collector::empty(0);
+            return Fresh {
+                collector: c,
+                answer: Started::Refused(Refusal::Argument),
+            };
+        }
+        let c = Collector::empty(setting);
+        Fresh {
+            collector: c,
+            answer: Started::Done,
+        }
+    }
+
+    // Takes one reception: its bytes and the moment they were complete, in ms. A state that is not acceptable gets 11 and stays.
+    pub fn take(mut self, bytes: &[u8], time: u64) -> Taken
+        ensures { λ r. ⌜ outcomeOf r ≡ step (viewOf self) (record { bytes = now (bytes .entry); time = time }) ⌝ }
+    {
+        if !acceptable::is_acceptable(
+            &self.times,
+            &self.lens,
+            &self.bytes,
+            self.count,
+            self.latest,
+            self.setting,
+            self.totals,
+        ) {
+            let sent = Frame::empty();
+            return Taken {
+                next: self,
+                answer: Answer::Refused(Refusal::NotAccepted),
+                sent: sent,
+            };
+        }
+        self.admit(bytes, time)
+    }
+
+    // `take` of a state that is known to be acceptable, as the one is that it returns: for a run of receptions.
+    pub(crate) fn admit(mut self, bytes: &[u8], time: u64) -> Taken
+        requires { ⌜ acceptable (viewOf self) ≡ true ⌝ }
+        ensures { λ r. ⌜ outcomeOf r ≡ step (viewOf self) (record { bytes = now (bytes .entry); time = time }) ⌝ }
+    {
+        let count = self.count;
+        let totals = self.totals;
+        let checked = merging::check_reception(totals.received, self.latest, bytes, time);
+        let latest = merging::latest_after(checked, self.latest, time);
+        let gone = entries::expired(&self.times, count, latest);
+        let left = count - gone;
+        entries::close_times(&mut self.times, gone, left);
+        entries::close_lens(&mut self.lens, gone, left);
+        entries::close_bytes(&mut self.bytes, gone, left);
+        let answer = merging::classify(&self.lens, &self.bytes, left, checked, bytes);
+        let kept = merging::is_kept(answer);
+        entries::put_time(&mut self.times, left, kept, time);
+        entries::put_len(&mut self.lens, left, kept, bytes);
+        entries::put_bytes(&mut self.bytes, left, kept, bytes);
+        let totals_after = merging::counted(totals, answer);
+        self.count = merging::count_after(kept, left);
+        self.latest = latest;
+        self.totals = totals_after;
+        let sent = merging::sent_for(self.setting, kept, bytes);
+        Taken {
+            next: self,
+            answer: answer,
+            sent: sent,
+        }
+    }
+
+    fn empty(setting: u8) -> Collector
+        ensures { λ r. ⌜ viewOf r ≡ emptyView setting ⌝ }
+    {
+        Collector {
+            times: [0u64; Collector::CAPACITY],
+            lens: [0u8; Collector::CAPACITY],
+            bytes: [0u8; Collector::CAPACITY * Collector::MAX_LEN],
+            count: 0,
+            latest: 0,
+            setting: setting,
+            totals: Totals {
+                received: 0,
+                kept: 0,
+                copies: 0,
+                loose: 0,
+                damaged: 0,
+                late: 0,
+            },
+        }
+    }
+}

@@ -1,0 +1,192 @@
+// One reception (document 01, "Merging"): its classification, what is counted, and what is sent.
+use crate::Collector;
+use crate::entries;
+use erp1::Checked;
+use model::Answer;
+use model::Totals;
+use refusal::Refusal;
+use telegram::frame::Frame;
+ghost use mathlib.Core.Path.{_≡_};
+ghost use mathlib.Core.Bool.{true, cond};
+ghost use mathlib.Core.List.{List, []};
+ghost use Prim.Native.Nat.{ℕ, _≤_, _<_};
+ghost use lib.Dec.{leb, eqb};
+ghost use lib.ListN.{length};
+ghost use Rattle.erp1.specs.Subtelegram.{maxLength, checkedNumber};
+ghost use Rattle.telegram.specs.Frame.{frameOf};
+ghost use Rattle.telegram.specs.Repeater.{repeatOf};
+ghost use Rattle.model.specs.Answer.{shownOf, shownNumber, isKept, isCopy, isLoose, isDamaged, isLate, isReceived};
+ghost use Rattle.model.specs.View.{capacity};
+ghost use Rattle.model.specs.Step.{maxCount, plusIf, tally};
+ghost use Rattle.collector.specs.Collector.{entriesAt};
+ghost use Rattle.collector.specs.Acceptable.{hasCopy};
+ghost use Rattle.collector.specs.Merging.{receptionCheck, answerFor, Countable};
+
+// What a reception is refused for before the open telegrams are looked at.
+pub(crate) fn check_reception(received: u64, latest: u64, bytes: &[u8], time: u64) -> Checked
+    ensures { λ r. ⌜ checkedNumber r ≡ receptionCheck received latest (record { bytes = now (bytes .entry); time = time }) ⌝ }
+{
+    if received == u64::MAX {
+        return Checked::Refused(Refusal::Full);
+    }
+    let checked = erp1::check(bytes);
+    if let Checked::Refused(why) = checked {
+        return Checked::Refused(why);
+    }
+    if time < latest {
+        return Checked::Refused(Refusal::Late);
+    }
+    Checked::Valid
+}
+
+// The latest time after a reception.
+pub(crate) fn latest_after(checked: Checked, latest: u64, time: u64) -> u64
+    ensures { λ r. ⌜ r ≡ cond (eqb (checkedNumber checked) 0) time latest ⌝ }
+{
+    match checked {
+        Checked::Valid => time,
+        Checked::Refused(_) => latest,
+    }
+}
+
+// The answer, where `count` telegrams are open.
+pub(crate) fn classify<'a>(
+    lens: &'a [u8; Collector::CAPACITY],
+    bytes: &'a [u8; Collector::CAPACITY * Collector::MAX_LEN],
+    count: usize,
+    checked: Checked,
+    received: &'a [u8],
+) -> Answer
+    requires { ⌜ (count ≤ capacity) × (checkedNumber checked ≡ 0 → length (now received) ≤ maxLength) ⌝ }
+    ensures { λ r. ⌜ ((times : List ℕ) (time : ℕ) → shownOf r ≡ answerFor (checkedNumber checked) (hasCopy (entriesAt times (now (lens .entry)) (now (bytes .entry)) count) (record { bytes = now (received .entry); time = time })) (leb capacity count)) ⌝ }
+{
+    match checked {
+        Checked::Refused(why) => Answer::Refused(why),
+        Checked::Valid => {
+            if entries::find(lens, bytes, count, received) {
+                return Answer::Copy;
+            }
+            if Collector::CAPACITY <= count {
+                return Answer::Loose;
+            }
+            Answer::Kept
+        }
+    }
+}
+
+// What is sent for a reception: nothing, if it is not kept.
+pub(crate) fn sent_for(setting: u8, kept: bool, bytes: &[u8]) -> Frame
+    ensures { λ r. ⌜ r ≡ frameOf (cond kept (repeatOf setting (now (bytes .entry))) []) ⌝ }
+{
+    if !kept {
+        return Frame::empty();
+    }
+    telegram::repeater::repeat(setting, bytes)
+}
+
+// The totals after one more answer.
+pub(crate) fn counted(n: Totals, answer: Answer) -> Totals
+    requires { ⌜ Countable n (shownOf answer) ⌝ }
+    ensures { λ r. ⌜ r ≡ tally (shownOf answer) n ⌝ }
+{
+    Totals {
+        received: one_more(is_received(answer), n.received),
+        kept: one_more(is_kept(answer), n.kept),
+        copies: one_more(is_copy(answer), n.copies),
+        loose: one_more(is_loose(answer), n.loose),
+        damaged: one_more(is_damaged(answer), n.damaged),
+        late: one_more(is_late(answer), n.late),
+    }
+}
+
+// One more, where `counts` says so.
+fn one_more(counts: bool, n: u64) -> u64
+    requires { ⌜ (counts ≡ true → n < maxCount) ⌝ }
+    ensures { λ r. ⌜ r ≡ plusIf counts n ⌝ }
+{
+    if !counts {
+        return n;
+    }
+    n + 1
+}
+
+// How many telegrams are open after a reception.
+pub(crate) fn count_after(kept: bool, left: usize) -> usize
+    requires { ⌜ (kept ≡ true → left < capacity) ⌝ }
+    ensures { λ r. ⌜ r ≡ plusIf kept left ⌝ }
+{
+    if !kept {
+        return left;
+    }
+    left + 1
+}
+
+// ---- what an answer says
+
+pub(crate) fn is_kept(answer: Answer) -> bool
+    ensures { λ r. ⌜ r ≡ isKept (shownOf answer) ⌝ }
+{
+    match answer {
+        Answer::Kept => true,
+        Answer::Copy => false,
+        Answer::Loose => false,
+        Answer::Refused(_) => false,
+    }
+}
+
+fn is_copy(answer: Answer) -> bool
+    ensures { λ r. ⌜ r ≡ isCopy (shownOf answer) ⌝ }
+{
+    match answer {
+        Answer::Kept => false,
+        Answer::Copy => true,
+        Answer::Loose => false,
+        Answer::Refused(_) => false,
+    }
+}
+
+fn is_loose(answer: Answer) -> bool
+    ensures { λ r. ⌜ r ≡ isLoose (shownOf answer) ⌝ }
+{
+    match answer {
+        Answer::Kept => false,
+        Answer::Copy => false,
+        Answer::Loose => true,
+        Answer::Refused(_) => false,
+    }
+}
+
+// The number that a caller sees.
+fn number_of(answer: Answer) -> u8
+    ensures { λ r. ⌜ r ≡ shownNumber (shownOf answer) ⌝ }
+{
+    match answer {
+        Answer::Kept => 0,
+        Answer::Copy => 0,
+        Answer::Loose => 0,
+        Answer::Refused(why) => refusal::number(why),
+    }
+}
+
+fn is_damaged(answer: Answer) -> bool
+    ensures { λ r. ⌜ r ≡ isDamaged (shownOf answer) ⌝ }
+{
+    let number = number_of(answer);
+    (number == refusal::number(Refusal::Length))
+        | ((number == refusal::number(Refusal::Hash))
+            | (number == refusal::number(Refusal::Nested)))
+}
+
+fn is_late(answer: Answer) -> bool
+    ensures { λ r. ⌜ r ≡ isLate (shownOf answer) ⌝ }
+{
+    number_of(answer) == refusal::number(Refusal::Late)
+}
+
+fn is_received(answer: Answer) -> bool
+    ensures { λ r. ⌜ r ≡ isReceived (shownOf answer) ⌝ }
+{
+    let number = number_of(answer);
+    !((number == refusal::number(Refusal::Full))
+        | (number == refusal::number(Refusal::NotAccepted)))
+}

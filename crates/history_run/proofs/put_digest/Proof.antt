@@ -1,0 +1,31 @@
+-- `history_run::put_digest` is safe and ends. The loop's invariant: the index is at most the length; the measure is what is left of it.
+-- Assumes nothing.
+use Prim.Native.Nat.{_≤_, _-_}
+use mathlib.Core.Path.{_≡_}
+use lib.ListN.{length}
+use borrow.Author.Needs.{needs}
+use Rattle.history_run.proofs.put_digest.Statement.{statement}
+use Rattle.history_run.proofs.put_digest.Tie as tie
+
+abbrev Inv-loop : tie.InvT-loop
+Inv-loop out figure₀ i₀ t4 i-end figure i = (i ≤ length out) × (i-end ≡ length out)
+
+abbrev μ-loop : tie.MeasureT-loop
+μ-loop out figure₀ i₀ t4 i-end figure i = length out - i
+
+pub put-digest-spec : {M : Type 1} → statement M
+put-digest-spec =
+    tie.close
+    (tie.spec
+    Inv-loop
+    μ-loop
+    (λ c. search needs)
+    (λ c. search needs)
+    (λ c κs. search needs)
+    (λ c. search needs)
+    (λ c. search needs)
+    (λ c. search needs)
+    (λ c. search needs)
+    (λ c κs. search needs)
+    (λ c κs. search needs)
+    (λ c. search needs))

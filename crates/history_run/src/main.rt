@@ -1,0 +1,262 @@
+// Puts a collector through the histories of standard input, a record each call, and prints what is seen of each: stdout is what the
+// second program says (tests/reference/README.md has the format).
+use collector::Collector;
+use collector::image::Loaded;
+use collector::image::Saved;
+use model::Answer;
+use model::Totals;
+use telegram::frame::Frame;
+ghost use mathlib.Core.Path.{_≡_};
+ghost use Prim.Native.Nat.{_≤_};
+ghost use lib.ListN.{length};
+
+const IMAGE: usize = 2560;
+// The longest output of a record.
+const LONGEST: usize = 3000;
+// Of each history the images of so many checkpoints are printed.
+const SHOWN: u8 = 3;
+
+// A history under way: its collector, how many images it has printed, and whether there may be more calls.
+struct Session {
+    collector: Collector,
+    shown: u8,
+    more: bool,
+}
+
+fn main() {
+    calls(1_000_000);
+}
+
+// At most so many calls, until the input ends.
+fn calls(most: u64) {
+    let fresh = Collector::fresh(0);
+    let mut session = after(fresh.collector, 0, true);
+    let mut left = most;
+    while 0 < left {
+        left -= 1;
+        session = call(session);
+        if !session.more {
+            left = 0;
+        }
+    }
+}
+
+// The next call, if there is one.
+fn call(session: Session) -> Session {
+    let next = test_io::next_record();
+    if !next.more {
+        return after(session.collector, 0, false);
+    }
+    let r = next.bytes;
+    made(session, &r)
+}
+
+fn made(session: Session, r: &[u8]) -> Session
+    requires { ⌜ length (now r) ≡ 64 ⌝ }
+{
+    let number = layout::read_number(&r[1..9]);
+    let operation = r[0];
+    match operation {
+        1 => started((number % 256) as u8),
+        2 => received(session, number, r),
+        3 => saved(session, least(number, 3000)),
+        4 => cut(session, (number % 256) as u8),
+        _ => spoiled(session, least(number, 2560)),
+    }
+}
+
+// ---- the calls
+
+fn started(setting: u8) -> Session {
+    let fresh = Collector::fresh(setting);
+    test_io::text(b"L 0\n");
+    after(fresh.collector, 0, true)
+}
+
+fn received(session: Session, time: u64, r: &[u8]) -> Session
+    requires { ⌜ length (now r) ≡ 64 ⌝ }
+{
+    let n = least(wide(r[9]), 28);
+    let collector = session.collector;
+    let taken = collector.take(&r[10..10 + n], time);
+    let next = taken.next;
+    let answer = taken.answer;
+    let sent = taken.sent;
+    test_io::text(b"R ");
+    put_answer(answer);
+    put_sent(sent);
+    put_totals(next.totals);
+    after(next, session.shown, true)
+}
+
+// A checkpoint into an output of n bytes.
+fn saved(session: Session, n: usize) -> Session
+    requires { ⌜ n ≤ 3000 ⌝ }
+{
+    let mut out = [0xEEu8; LONGEST];
+    saved_into(session, &mut out[0..n])
+}
+
+fn saved_into(session: Session, out: &mut [u8]) -> Session {
+    let collector = session.collector;
+    let answer = collector.checkpoint(out);
+    test_io::text(b"P ");
+    put_saved(answer);
+    put_digest(out);
+    put_totals(collector.totals);
+    let shown = put_image(session.shown, answer, out);
+    after(collector, shown, true)
+}
+
+// A cut: a checkpoint, and its restore into another collector.
+fn cut(session: Session, setting: u8) -> Session {
+    let collector = session.collector;
+    let mut image = [0xEEu8; IMAGE];
+    let answer = collector.checkpoint(&mut image);
+    test_io::text(b"C ");
+    put_saved(answer);
+    test_io::text(b" ");
+    let fresh = Collector::fresh(setting);
+    let other = fresh.collector;
+    let restored = other.restore(&image);
+    let next = restored.next;
+    let loaded = restored.answer;
+    put_loaded(loaded);
+    put_totals(next.totals);
+    after(next, session.shown, true)
+}
+
+// The restore of the present image with byte k changed, or for 2,560 without its last byte.
+fn spoiled(session: Session, k: usize) -> Session
+    requires { ⌜ k ≤ 2560 ⌝ }
+{
+    let collector = session.collector;
+    let mut image = [0xEEu8; IMAGE];
+    let _ = collector.checkpoint(&mut image);
+    if k < IMAGE {
+        image[k] = image[k] ^ 1;
+        return refused(collector, session.shown, &image);
+    }
+    refused(collector, session.shown, &image[0..IMAGE - 1])
+}
+
+fn refused(collector: Collector, shown: u8, image: &[u8]) -> Session {
+    let restored = collector.restore(image);
+    let next = restored.next;
+    let loaded = restored.answer;
+    test_io::text(b"X ");
+    put_loaded(loaded);
+    put_totals(next.totals);
+    after(next, shown, true)
+}
+
+fn after(collector: Collector, shown: u8, more: bool) -> Session {
+    Session {
+        collector: collector,
+        shown: shown,
+        more: more,
+    }
+}
+
+// ---- what is printed of them
+
+fn put_answer(answer: Answer) {
+    match answer {
+        Answer::Kept => test_io::text(b"KEPT"),
+        Answer::Copy => test_io::text(b"COPY"),
+        Answer::Loose => test_io::text(b"LOOSE"),
+        Answer::Refused(why) => test_io::decimal(refusal::number(why) as u64),
+    }
+}
+
+fn put_sent(sent: Frame) {
+    let bytes = sent.bytes;
+    let n = least(sent.len as u64, 21);
+    test_io::text(b" ");
+    test_io::hex(&bytes[0..n]);
+}
+
+fn put_saved(answer: Saved) {
+    match answer {
+        Saved::Done => test_io::text(b"0"),
+        Saved::Refused(why) => test_io::decimal(refusal::number(why) as u64),
+    }
+}
+
+fn put_loaded(answer: Loaded) {
+    match answer {
+        Loaded::Done => test_io::text(b"0"),
+        Loaded::Refused(why) => test_io::decimal(refusal::number(why) as u64),
+    }
+}
+
+// A figure of all the bytes: 31 times the one before it, plus the byte, kept to 32 bits.
+fn put_digest(out: &[u8]) {
+    let mut figure: u64 = 0;
+    for i in 0..out.len() {
+        figure = mixed(figure, out[i]);
+    }
+    test_io::text(b" ");
+    put_word(figure);
+}
+
+fn mixed(figure: u64, byte: u8) -> u64 {
+    (figure % 4_294_967_296 * 31 + byte as u64) % 4_294_967_296
+}
+
+// The low 32 bits, in eight digits.
+fn put_word(n: u64) {
+    test_io::byte((n / 16_777_216 % 256) as u8);
+    test_io::byte((n / 65_536 % 256) as u8);
+    test_io::byte((n / 256 % 256) as u8);
+    test_io::byte((n % 256) as u8);
+}
+
+// The image of one of the first checkpoints; how many are printed then.
+fn put_image(shown: u8, answer: Saved, out: &[u8]) -> u8 {
+    if let Saved::Refused(_) = answer {
+        return shown;
+    }
+    if SHOWN <= shown {
+        return shown;
+    }
+    if out.len() < IMAGE {
+        return shown;
+    }
+    test_io::text(b"I ");
+    test_io::hex(&out[0..IMAGE]);
+    test_io::text(b"\n");
+    shown + 1
+}
+
+fn put_totals(t: Totals) {
+    put_total(t.received);
+    put_total(t.kept);
+    put_total(t.copies);
+    put_total(t.loose);
+    put_total(t.damaged);
+    put_total(t.late);
+    test_io::text(b"\n");
+}
+
+fn put_total(n: u64) {
+    test_io::text(b" ");
+    test_io::decimal(n);
+}
+
+fn least(x: u64, y: usize) -> usize
+    ensures { λ r. ⌜ r ≤ y ⌝ }
+{
+    let n = x % 65_536;
+    if x < 65_536 {
+        let m = n as usize;
+        if m < y {
+            return m;
+        }
+    }
+    y
+}
+
+fn wide(x: u8) -> u64 {
+    x as u64
+}
