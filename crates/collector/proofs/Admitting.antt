@@ -1,6 +1,6 @@
 -- One reception at an acceptable state, from what the code's steps tell: the answer, that there is room where it is kept, and the next state.
 -- Assumes nothing.
-use Prim.Native.Nat.{ℕ, _+_, _-_, _*_, _≤_, _<_}
+use Prim.Native.Nat.{ℕ, _-_, _*_, _≤_, _<_}
 use native.Mathlib.Omega.{arith}
 use mathlib.Core.Path.{_≡_, refl, sym, _∙_, ap}
 use mathlib.Core.Bool.{Bool, true, false, cond, not, _&&_, false≢true}
@@ -28,7 +28,8 @@ use Rattle.collector.specs.Collector.{entriesAt, viewOf}
 use Rattle.collector.specs.Acceptable.{hasCopy}
 use Rattle.collector.specs.Merging.{receptionCheck, answerFor, Countable, Expired, Moved, PutIf}
 use Rattle.collector.proofs.Arrays.{entries-length}
-use Rattle.collector.proofs.Accepting.{accepted-few, accepted-each, accepted-order, accepted-summed, times-order}
+use Rattle.collector.proofs.Accepting.{accepted-few, accepted-each, accepted-order, accepted-summed}
+use Rattle.collector.proofs.Times.{times-order}
 use Rattle.collector.proofs.Moving.{moved-entries, put-entries, expired-open}
 
 -- ---- the answer and the next state of any acceptable view

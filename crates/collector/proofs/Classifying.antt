@@ -2,26 +2,18 @@
 use Prim.Native.Nat.{ℕ, _+_, _≤_, _<_}
 use native.Mathlib.Decide.{decLt}
 use native.Mathlib.Omega.{arith}
-use mathlib.Core.Path.{_≡_, refl, sym, _∙_, ap}
-use mathlib.Core.Bool.{Bool, true, false, cond, not, _&&_, false≢true}
-use mathlib.Core.List.{List, [], _∷_, _++_}
-use lib.Dec.{leb, ltb, eqb}
-use lib.ListN.{length, getD}
-use borrow.Author.Tests.{le-leb, lt-leb, lt-ltb, le-ltb, eq-eqb, ne-eqb, leb-true, leb-false, eqb-true}
-use Rattle.lists.specs.Lists.{keep, any, all, pairwise}
-use Rattle.lists.proofs.Choice.{both}
-use Rattle.lists.proofs.Tests.{by-test}
+use mathlib.Core.Path.{_≡_, sym, _∙_, ap}
+use mathlib.Core.Bool.{Bool, true, false, false≢true}
+use borrow.Author.Tests.{le-leb, lt-leb, lt-ltb, le-ltb, ne-eqb, eqb-true}
 use Rattle.refusal.specs.Number.{numberOf}
 use Rattle.refusal.specs.declared.Refusal.{Refusal}
 use Rattle.refusal.specs.declared.Refusal.the-variants as refusal
 use Rattle.refusal.proofs.Numbers.{refused-number}
-use Rattle.erp1.specs.Subtelegram.{maxLength, checkOf, isValid}
+use Rattle.erp1.specs.Subtelegram.{checkOf, isValid}
 use Rattle.model.specs.declared.Totals.{Totals}
-use Rattle.model.specs.Answer.{Shown, Kept, Copy, Loose, Refused, isKept, isAccepted}
-use Rattle.model.specs.View.{Reception, View, capacity, isOpen}
-use Rattle.model.specs.Acceptable.{isSummed, acceptable}
+use Rattle.model.specs.Answer.{Shown, Kept, Copy, Loose, Refused}
+use Rattle.model.specs.View.{Reception}
 use Rattle.model.specs.Step.{maxCount}
-use Rattle.collector.specs.Acceptable.{hasCopy}
 use Rattle.collector.specs.Merging.{receptionCheck, answerFor, Countable}
 
 -- ---- the tests before the open telegrams are looked at

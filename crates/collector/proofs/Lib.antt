@@ -1,9 +1,7 @@
 pub mod Inside
 pub mod Arrays
+pub mod Times
 pub mod Accepting
 pub mod Moving
 pub mod Classifying
 pub mod Admitting
-pub mod Writing
-pub mod Reading
-pub mod Histories

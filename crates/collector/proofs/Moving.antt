@@ -1,16 +1,16 @@
 -- Entries that are no longer open, those that are moved to the front, and one that is put after them: what the entries then are.
 -- Assumes nothing.
 use Prim.Native.Nat.{ℕ, zero, suc, _+_, _-_, _*_, _≤_, _<_}
-use native.Mathlib.Nat.{zero-add, add-zero, add-comm, add-suc, suc-add, le-refl, not-suc-le-zero, le-of-suc-le-suc}
+use native.Mathlib.Nat.{zero-add, add-zero, add-comm, add-suc, suc-add, le-refl}
 use native.Mathlib.Numerals.{add-one}
 use native.Mathlib.Decide.{decLt}
 use native.Mathlib.Omega.{arith}
 use mathlib.Core.Path.{_≡_, refl, sym, _∙_, ap, ap₂}
-use mathlib.Core.Bool.{Bool, true, false, cond, false≢true}
+use mathlib.Core.Bool.{Bool, true, false, false≢true}
 use mathlib.Core.List.{List, [], _∷_, _++_, map, append-assoc}
 use lib.ListN.{length, getD, take, drop, set, length-set, length-take, length-drop}
 use lib.Seq.{take-suc, take-suc-set, take-set-le, drop-set-lt, getD-take, getD-drop, getD-set-same, drop-drop, drop-cons, take-take, take-at, drop-at, take-append-seam, take-length, length-take-le}
-use borrow.Author.Tests.{le-leb, lt-leb, leb-true, leb-false}
+use borrow.Author.Tests.{le-leb, leb-true}
 use Rattle.lists.specs.Lists.{keep, upFrom}
 use Rattle.lists.proofs.Keep.{keep-append, keep-map}
 use Rattle.lists.proofs.UpFrom.{upFrom-add, keep-none, keep-all}

@@ -1,5 +1,3 @@
 pub mod Collector
 pub mod Acceptable
 pub mod Merging
-pub mod Checkpoint
-pub mod Histories

@@ -4,7 +4,6 @@ use crate::entries;
 use erp1::Checked;
 use model::Totals;
 ghost use mathlib.Core.Path.{_≡_};
-ghost use mathlib.Core.Bool.{_&&_};
 ghost use mathlib.Core.List.{List};
 ghost use Prim.Native.Nat.{ℕ, _≤_, _<_};
 ghost use lib.ListN.{length};
@@ -14,7 +13,7 @@ ghost use Rattle.collector.specs.Collector.{entriesAt};
 ghost use Rattle.collector.specs.Acceptable.{areTimely, areTelegrams, isNewAt};
 
 // Whether the state with these parts is acceptable, whatever they are.
-pub(crate) fn is_acceptable<'a>(
+pub fn is_acceptable<'a>(
     times: &'a [u64; Collector::CAPACITY],
     lens: &'a [u8; Collector::CAPACITY],
     bytes: &'a [u8; Collector::CAPACITY * Collector::MAX_LEN],

@@ -1,7 +1,6 @@
 // The collector: merges receptions of one telegram, counts them, and hands out what a repeater sends (document 01, "Merging").
-pub(crate) mod acceptable;
+pub mod acceptable;
 pub(crate) mod entries;
-pub mod image;
 pub(crate) mod merging;
 
 use model::Answer;
@@ -97,7 +96,8 @@ impl Collector {
         self.admit(bytes, time)
     }
 
-    // `take` of a state that is known to be acceptable, as the one is that it returns: for a run of receptions.
+    // `take` of a state that is known to be acceptable, as the one is that it returns: for a run of receptions. Each step decides by the
+    // answer, so that there is one exit; a refused reception leaves the latest time, at which every entry is open.
     pub(crate) fn admit(mut self, bytes: &[u8], time: u64) -> Taken
         requires { ⌜ acceptable (viewOf self) ≡ true ⌝ }
         ensures { λ r. ⌜ outcomeOf r ≡ step (viewOf self) (record { bytes = now (bytes .entry); time = time }) ⌝ }

@@ -1,8 +1,8 @@
 // Puts a collector through the histories of standard input, a record each call, and prints what is seen of each: stdout is what the
 // second program says (tests/reference/README.md has the format).
 use collector::Collector;
-use collector::image::Loaded;
-use collector::image::Saved;
+use image::Loaded;
+use image::Saved;
 use model::Answer;
 use model::Totals;
 use telegram::frame::Frame;
@@ -10,7 +10,7 @@ ghost use mathlib.Core.Path.{_≡_};
 ghost use Prim.Native.Nat.{_≤_};
 ghost use lib.ListN.{length};
 
-const IMAGE: usize = 2560;
+const IMAGE: usize = image::IMAGE_LENGTH;
 // The longest output of a record.
 const LONGEST: usize = 3000;
 // Of each history the images of so many checkpoints are printed.
@@ -99,7 +99,7 @@ fn saved(session: Session, n: usize) -> Session
 
 fn saved_into(session: Session, out: &mut [u8]) -> Session {
     let collector = session.collector;
-    let answer = collector.checkpoint(out);
+    let answer = image::checkpoint(collector, out);
     test_io::text(b"P ");
     put_saved(answer);
     put_digest(out);
@@ -111,14 +111,14 @@ fn saved_into(session: Session, out: &mut [u8]) -> Session {
 // A cut: a checkpoint, and its restore into another collector.
 fn cut(session: Session, setting: u8) -> Session {
     let collector = session.collector;
-    let mut image = [0xEEu8; IMAGE];
-    let answer = collector.checkpoint(&mut image);
+    let mut bytes = [0xEEu8; IMAGE];
+    let answer = image::checkpoint(collector, &mut bytes);
     test_io::text(b"C ");
     put_saved(answer);
     test_io::text(b" ");
     let fresh = Collector::fresh(setting);
     let other = fresh.collector;
-    let restored = other.restore(&image);
+    let restored = image::restore(other, &bytes);
     let next = restored.next;
     let loaded = restored.answer;
     put_loaded(loaded);
@@ -131,17 +131,17 @@ fn spoiled(session: Session, k: usize) -> Session
     requires { ⌜ k ≤ 2560 ⌝ }
 {
     let collector = session.collector;
-    let mut image = [0xEEu8; IMAGE];
-    let _ = collector.checkpoint(&mut image);
+    let mut bytes = [0xEEu8; IMAGE];
+    let _ = image::checkpoint(collector, &mut bytes);
     if k < IMAGE {
-        image[k] = image[k] ^ 1;
-        return refused(collector, session.shown, &image);
+        bytes[k] = bytes[k] ^ 1;
+        return refused(collector, session.shown, &bytes);
     }
-    refused(collector, session.shown, &image[0..IMAGE - 1])
+    refused(collector, session.shown, &bytes[0..IMAGE - 1])
 }
 
-fn refused(collector: Collector, shown: u8, image: &[u8]) -> Session {
-    let restored = collector.restore(image);
+fn refused(collector: Collector, shown: u8, bytes: &[u8]) -> Session {
+    let restored = image::restore(collector, bytes);
     let next = restored.next;
     let loaded = restored.answer;
     test_io::text(b"X ");

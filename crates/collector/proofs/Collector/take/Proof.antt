@@ -1,5 +1,5 @@
 -- `collector::Collector::take` meets its contract: 11 and the state as it was, or what `admit` answers. Assumes nothing.
-use mathlib.Core.Path.{_≡_, sym, _∙_}
+use mathlib.Core.Path.{sym, _∙_}
 use borrow.Author.Needs.{needs}
 use borrow.Author.Tests.{not-true, not-false}
 use Rattle.model.proofs.Returns.{step-unacceptable}

@@ -1,15 +1,14 @@
 -- `collector::acceptable::are_timely` meets its contract. The loop's invariant: the times rise from the maturity before the latest up to
 -- it, if those from i on rise from the one before them. The measure is the number of times left. Assumes nothing.
 use Prim.Native.Nat.{_-_, _≤_}
-use mathlib.Core.Path.{_≡_, sym, _∙_, ap}
+use mathlib.Core.Path.{_≡_, sym, _∙_}
 use native.Mathlib.Omega.{arith}
 use borrow.Author.Needs.{needs}
-use borrow.Author.Tests.{le-leb}
 use denote.Ref.{now}
-use lib.ListN.{length, take}
+use lib.ListN.{take}
 use lib.Seq.{slice}
 use Rattle.model.specs.View.{maturity}
-use Rattle.collector.proofs.Accepting.{rising, timely-by, rising-not, rising-more, rising-end}
+use Rattle.collector.proofs.Times.{rising, timely-by, rising-not, rising-more, rising-end}
 use Rattle.collector.proofs.acceptable.are_timely.Statement.{statement}
 use Rattle.collector.proofs.acceptable.are_timely.Tie as tie
 

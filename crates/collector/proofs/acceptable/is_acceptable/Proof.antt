@@ -1,12 +1,9 @@
 -- `collector::acceptable::is_acceptable` meets its contract: each return is one case of the test. Assumes nothing.
 use mathlib.Core.Path.{_≡_, sym, _∙_}
 use mathlib.Core.Bool.{true}
-use Prim.Native.Nat.{_≤_}
-use native.Mathlib.Omega.{arith}
 use borrow.Author.Needs.{needs}
 use borrow.Author.Tests.{not-true, not-false}
 use denote.Ref.{now}
-use Rattle.model.specs.View.{capacity, maxSetting}
 use Rattle.collector.specs.Collector.{entriesAt}
 use Rattle.collector.specs.Acceptable.{areTimely, areTelegrams}
 use Rattle.collector.proofs.Arrays.{entries-length}

@@ -1,6 +1,5 @@
 -- `collector::entries::holds` meets its contract: an entry of another length is no copy, and else `same` says it. Assumes nothing.
 use mathlib.Core.Path.{sym, _∙_}
-use native.Mathlib.Omega.{arith}
 use borrow.Author.Needs.{needs}
 use denote.Ref.{now}
 use Rattle.collector.proofs.Arrays.{no-copy, copy-said}

@@ -1,10 +1,6 @@
 -- `collector::entries::put_bytes` meets its contract. Assumes nothing.
-use mathlib.Core.Path.{_≡_, sym, ap}
-use mathlib.Core.Bool.{Bool, true}
 use native.Mathlib.Omega.{arith}
-use borrow.Author.Needs.{needs}
 use borrow.Author.Tests.{not-true, not-false}
-use Rattle.collector.specs.Merging.{PutIf}
 use Rattle.collector.proofs.Moving.{put-none, put-when}
 use Rattle.collector.proofs.entries.put_bytes.Statement.{statement}
 use Rattle.collector.proofs.entries.put_bytes.Tie as tie

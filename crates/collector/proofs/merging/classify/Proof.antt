@@ -1,6 +1,5 @@
 -- `collector::merging::classify` meets its contract: each return is one case of `answerFor`. Assumes nothing.
-use mathlib.Core.Path.{_≡_, sym, _∙_, ap}
-use native.Mathlib.Omega.{arith}
+use mathlib.Core.Path.{sym, _∙_, ap}
 use borrow.Author.Needs.{needs}
 use borrow.Author.Tests.{le-leb, lt-leb}
 use Rattle.erp1.specs.Subtelegram.{checkedNumber}

@@ -1,0 +1,153 @@
+-- What is read of an image into the flat arrays of a state.
+--     block-long                        a block has 512 bytes
+--     Reading                           the first i entries are read
+--     reading-none, reading-more        at the start, and after a turn of the loop
+--     reading-all                       what the arrays then say
+-- Assumes nothing.
+use Prim.Native.Nat.{ℕ, _+_, _-_, _*_, _/_, _%_, _≤_, _<_}
+use native.Mathlib.Nat.{zero-add}
+use native.Mathlib.Numerals.{add-one}
+use native.Mathlib.Omega.{arith}
+use mathlib.Core.Path.{_≡_, refl, sym, ap, ap₂, _∙_}
+use mathlib.Core.List.{List, [], _++_, map, flatten}
+use lib.ListN.{length, getD, take, drop, set, length-map, List·getD-append}
+use lib.Seq.{take-suc, take-all, ext-getD}
+use Rattle.lists.specs.Lists.{upFrom}
+use Rattle.lists.proofs.UpFrom.{length-upFrom, getD-upFrom}
+use Rattle.erp1.specs.Subtelegram.{maxLength}
+use Rattle.layout.specs.Buffer.{part, resized}
+use Rattle.layout.specs.Cell.{cellLength, cellTime, cellUsed, cellField, cellBytes}
+use Rattle.layout.specs.Header.{headerLength}
+use Rattle.layout.specs.Block.{blockLength}
+use Rattle.layout.proofs.Segments.{part-length, left, Each, flatten-length, flatten-part, Begun, begin, named, store, lent, turn, turned}
+use Rattle.layout.proofs.Buffer.{resized-whole}
+use Rattle.model.specs.View.{Reception, capacity}
+use Rattle.model.specs.Image.{imageLength, blockIn, entryIn}
+use Rattle.collector.specs.Collector.{entryAt, entriesAt}
+use Rattle.image.specs.Checkpoint.{blockCount, cellIn, entriesIn}
+
+pub block-long : (image : List ℕ) (k : ℕ) → length image ≡ imageLength → k < blockCount → length (blockIn k image) ≡ blockLength
+block-long image k l h = part-length (blockLength * k) blockLength image (omega arith)
+
+-- ---- something of each of the first n entries
+
+module _ {A : Type 0} (f : ℕ → A) where
+  row : ℕ → List A
+  row n = map f (upFrom 0 n)
+
+  row-length : (n : ℕ) → length (row n) ≡ n
+  unfolding row
+  row-length n = length-map (upFrom 0 n) f ∙ length-upFrom 0 n
+
+  row-at : (n i : ℕ) (d : A) → i < n → getD (row n) i d ≡ f i
+  unfolding row
+  row-at n i d h = getD-upFrom f 0 n i d h ∙ ap f (zero-add i)
+
+-- a turn of a loop that stores one element after the other
+stored : {A : Type 0} (orig all : List A) (i : ℕ) (xs : List A) (v d : A) → Begun orig (take i all) i xs → i < length all → i < length orig → v ≡ getD all i d
+    → Begun orig (take (i + 1) all) (i + 1) (set xs i v)
+stored orig all i xs v d b l h e = named (store b v h) (take (i + 1) all) (rw (e, add-one) (sym (take-suc all i d l)))
+
+-- an element of what is stored
+stored-at : {A : Type 0} (orig all : List A) (n : ℕ) (xs : List A) (i : ℕ) (d : A) → Begun orig (take n all) n xs → length all ≡ n → i < n → getD xs i d ≡ getD all i d
+stored-at orig all n xs i d b l h =
+    let k : length all ≤ n = omega arith in
+    ap (λ (ys : List _). getD ys i d) (b .is ∙ ap (λ (ys : List _). ys ++ drop n orig) (take-all n all k)) ∙ List·getD-append all (drop n orig) d i (omega arith)
+
+-- ---- the three arrays
+
+module _ (image : List ℕ) where
+  -- of entry i
+  abbrev time-of : ℕ → ℕ
+  time-of i = cellTime (cellIn image i)
+
+  abbrev len-of : ℕ → ℕ
+  len-of i = cellUsed (cellIn image i)
+
+  abbrev field-of : ℕ → List ℕ
+  field-of i = cellField (cellIn image i)
+
+  -- of the first n
+  pub times-of : ℕ → List ℕ
+  times-of n = row time-of n
+
+  pub lens-of : ℕ → List ℕ
+  lens-of n = row len-of n
+
+  pub fields-of : ℕ → List (List ℕ)
+  fields-of n = row field-of n
+
+-- of the first `count` entries i are read, into arrays that held times₀, lens₀ and bytes₀
+pub record Reading (image : List ℕ) (count : ℕ) (times₀ lens₀ bytes₀ : List ℕ) (i : ℕ) (times lens bytes : List ℕ) : Type 0 where
+  pub timesRead : Begun times₀ (take i (times-of image count)) i times
+  pub lensRead : Begun lens₀ (take i (lens-of image count)) i lens
+  pub bytesRead : Begun bytes₀ (flatten (take i (fields-of image count))) (maxLength * i) bytes
+
+module _ (image : List ℕ) (count : ℕ) (long : length image ≡ imageLength) (few : count ≤ capacity) where
+  field-long : (i : ℕ) → i < capacity → length (field-of image i) ≡ maxLength
+  field-long i h =
+      let l : length (cellIn image i) ≡ cellLength = part-length (headerLength + cellLength * (i % 15)) cellLength (blockIn (i / 15) image) (omega (arith, block-long image (i / 15) long (omega arith))) in
+      part-length 9 maxLength (cellIn image i) (omega arith)
+
+  module _ (times₀ lens₀ bytes₀ : List ℕ) where
+    pub reading-none : Reading image count times₀ lens₀ bytes₀ 0 times₀ lens₀ bytes₀
+    unfolding flatten
+    reading-none = record { timesRead = begin times₀; lensRead = begin lens₀; bytesRead = begin bytes₀ }
+
+    module _ (i : ℕ) (times lens bytes : List ℕ) (r : Reading image count times₀ lens₀ bytes₀ i times lens bytes) where
+      -- what is read of the cell, and what is kept, the part's length
+      pub reading-more : (t n : ℕ) (ys : List ℕ) → t ≡ cellTime (cellIn image i) → n ≡ cellUsed (cellIn image i)
+          → ys ≡ resized (length (part (maxLength * i) (maxLength * i + maxLength - maxLength * i) bytes)) (cellField (cellIn image i))
+          → length ys ≡ length (part (maxLength * i) (maxLength * i + maxLength - maxLength * i) bytes)
+          → i < count → length times₀ ≡ capacity → length lens₀ ≡ capacity → length bytes₀ ≡ capacity * maxLength
+          → Reading image count times₀ lens₀ bytes₀ (i + 1) (set times i t) (set lens i n)
+          (take (maxLength * i) bytes ++ (ys ++ drop (maxLength * i + maxLength - maxLength * i) (drop (maxLength * i) bytes)))
+      unfolding times-of lens-of fields-of
+      reading-more t n ys p q s k h lt ll lb =
+          let field = field-of image i in
+          let size = lent (r .bytesRead) maxLength (maxLength * i + maxLength) refl (omega arith) in
+          let whole : ys ≡ field = s ∙ ap (λ (m : ℕ). resized m field) size ∙ resized-whole maxLength field (field-long i (omega arith)) in
+          record {
+            timesRead = stored times₀ (times-of image count) i times t 0 (r .timesRead) (rw row-length h) (omega arith) (p ∙ sym (row-at (time-of image) count i 0 h));
+            lensRead = stored lens₀ (lens-of image count) i lens n 0 (r .lensRead) (rw row-length h) (omega arith) (q ∙ sym (row-at (len-of image) count i 0 h));
+            bytesRead = turn bytes₀ (fields-of image count) maxLength i bytes ys (r .bytesRead) (rw row-length h) (whole ∙ sym (row-at (field-of image) count i [] h)) k (omega arith);
+          }
+
+    -- all are read
+    module _ (times lens bytes : List ℕ) (r : Reading image count times₀ lens₀ bytes₀ count times lens bytes) where
+      fields-each : Each maxLength (fields-of image count)
+      unfolding fields-of
+      fields-each i h =
+          let l : i < count = rw (row-length (field-of image) count) at h in
+          ap length (row-at (field-of image) count i [] l) ∙ field-long i (omega arith)
+
+      field-at : (i : ℕ) → i < count → part (maxLength * i) maxLength bytes ≡ field-of image i
+      unfolding fields-of
+      field-at i h =
+          let n = row-length (field-of image) count in
+          let size : length (flatten (fields-of image count)) ≡ maxLength * count = flatten-length maxLength (fields-of image count) fields-each ∙ ap (λ (m : ℕ). maxLength * m) n in
+          ap (λ (ys : List ℕ). part (maxLength * i) maxLength ys) (turned bytes₀ (fields-of image count) maxLength count count bytes (r .bytesRead) refl n .is)
+          ∙ left (flatten (fields-of image count)) (drop (maxLength * count) bytes₀) (maxLength * count) (maxLength * i) maxLength size (omega arith)
+          ∙ flatten-part maxLength (fields-of image count) fields-each i (rw row-length h)
+          ∙ row-at (field-of image) count i [] h
+
+      entry-at : (i : ℕ) → i < count → entryAt times lens bytes i ≡ entryIn image i
+      unfolding entryIn cellBytes times-of lens-of
+      entry-at i h =
+          let time = stored-at times₀ (times-of image count) count times i 0 (r .timesRead) (row-length _ count) h ∙ row-at (time-of image) count i 0 h in
+          let len = stored-at lens₀ (lens-of image count) count lens i 0 (r .lensRead) (row-length _ count) h ∙ row-at (len-of image) count i 0 h in
+          λ j. record { bytes = ap₂ resized len (field-at i h) j; time = time j }
+
+      entries-read : entriesAt times lens bytes count ≡ entriesIn image count
+      unfolding entriesAt row
+      entries-read =
+          let none : Reception = record { bytes = []; time = 0 } in
+          let f = entryAt times lens bytes in
+          ext-getD none (row f count) (row (entryIn image) count) (row-length f count ∙ sym (row-length (entryIn image) count))
+          (λ i h.
+          let l : i < count = rw (row-length f count) at h in
+          row-at f count i none l ∙ entry-at i l ∙ sym (row-at (entryIn image) count i none l))
+
+    pub reading-all : (i : ℕ) (times lens bytes : List ℕ) → Reading image count times₀ lens₀ bytes₀ i times lens bytes → i ≡ count
+        → entriesAt times lens bytes count ≡ entriesIn image count
+    reading-all i times lens bytes r e = entries-read times lens bytes (rw e at r)

@@ -1,0 +1,112 @@
+-- `image::put_cells` meets its contract. The invariant: the first i cells are written, and the rest is as it was; the measure: the
+-- cells left. Assumes nothing.
+use mathlib.Core.Path.{_≡_, refl, sym, ap, _∙_}
+use mathlib.Core.List.{List, map, flatten}
+use Prim.Native.Nat.{ℕ, _+_, _-_, _*_, _≤_}
+use native.Mathlib.Omega.{arith}
+use borrow.Author.Needs.{needs}
+use denote.Ref.{now}
+use lib.ListN.{length, getD, take, length-map}
+use Rattle.erp1.specs.Subtelegram.{maxLength}
+use Rattle.layout.specs.Buffer.{part}
+use Rattle.layout.specs.Cell.{cellLength, cellOf}
+use Rattle.layout.proofs.Segments.{Writing, packed, Begun, begin, begun-length, within, lent, turn, turned, wipe, done}
+use Rattle.layout.proofs.Buffer.{resized-length}
+use Rattle.layout.proofs.Cell.{put-fits}
+use Rattle.model.specs.Image.{entryCell}
+use Rattle.image.specs.Checkpoint.{cellsLength, entriesFrom}
+use Rattle.image.proofs.Writing.{entries-length, cell-read, bytes-shown}
+use Rattle.image.proofs.put_cells.Statement.{statement}
+use Rattle.image.proofs.put_cells.Tie as tie
+
+cells : List ℕ → List ℕ → List ℕ → ℕ → ℕ → List (List ℕ)
+cells times lens bytes first used = map entryCell (entriesFrom times lens bytes first used)
+
+cells-length : (times lens bytes : List ℕ) (first used : ℕ) → length (cells times lens bytes first used) ≡ used
+unfolding cells
+cells-length times lens bytes first used = length-map (entriesFrom times lens bytes first used) entryCell ∙ entries-length times lens bytes first used
+
+abbrev Inv-loop : tie.InvT-loop
+Inv-loop out₀ times lens bytes first used i₀ out i =
+    (i ≤ used) × Begun out₀ (flatten (take i (cells times lens bytes first used))) (cellLength * i) out
+
+abbrev μ-loop : tie.MeasureT-loop
+μ-loop out₀ times lens bytes first used i₀ out i = used - i
+
+loop-holds : tie.Need-loop-holds Inv-loop μ-loop
+unfolding flatten
+loop-holds c = (omega arith, begin _)
+
+-- the turn that an entry is shown in
+abbrev turn-of : tie.After-len Inv-loop μ-loop → tie.At-loop Inv-loop μ-loop
+turn-of c = c .before .before
+
+abbrev start : tie.After-len Inv-loop μ-loop → tie.Start Inv-loop μ-loop
+start c = turn-of c .before .before .before
+
+short : (c : tie.After-len Inv-loop μ-loop) → getD (now (start c .args .lens)) (start c .args .first + turn-of c .loop .i) 0 ≤ maxLength
+short c = start c .pre .3 .short (turn-of c .loop .i) (omega arith)
+
+loop-again : tie.Need-loop-again Inv-loop μ-loop
+unfolding cells
+loop-again c =
+    let put = c .before .before in
+    let seen = put .before .before .before .before in
+    let at = turn-of seen in
+    let a = start seen .args in
+    let e = a .first + at .loop .i in
+    let time = getD (now (a .times)) e 0 in
+    let len = getD (now (a .lens)) e 0 in
+    let shown = part (maxLength * e) (maxLength * e + len - maxLength * e) (now (a .bytes)) in
+    let is = bytes-shown (now (a .bytes)) e len (short seen) (omega arith) in
+    let l : length shown ≤ maxLength = rw (is, resized-length) (short seen) in
+    let w =
+    put .put-cell .ensures ∙ put-fits time shown 0 _ l (lent (at .loop .inv .1) cellLength _ refl (omega arith))
+    ∙ ap (λ (b : List ℕ). cellOf time b 0) is
+    ∙ sym (cell-read (now (a .times)) (now (a .lens)) (now (a .bytes)) (a .first) (a .used) (at .loop .i) (omega arith)) in
+    (omega arith, turn _ _ cellLength (at .loop .i) _ _ (at .loop .inv .1) (rw cells-length (omega arith)) w (put .put-cell .kept .0) (omega arith))
+
+-- what is written, after the clearing
+abbrev all : tie.After-clear Inv-loop μ-loop → Writing cellsLength
+all c =
+    let at = c .before .before .before in
+    packed (wipe (turned _ _ cellLength _ (at .loop .i) _ (at .loop .inv .1) (omega arith) (cells-length _ _ _ _ _)) _ cellsLength (c .clear .ensures) (c .clear .kept .0) (omega arith) (omega arith))
+
+returns : tie.Need-returns Inv-loop μ-loop
+unfolding cells
+returns c = done (all (c .before .before) .begun) (omega arith)
+
+pub put-cells-spec : {M : Type 1} → statement M
+put-cells-spec =
+    tie.close
+    (tie.spec
+    Inv-loop
+    μ-loop
+    loop-holds
+    (λ c. omega arith)
+    (λ c. omega arith)
+    (λ c. omega arith)
+    (λ c. omega (arith, short c))
+    (λ c. omega arith)
+    (λ c. omega arith)
+    (λ c. omega arith)
+    (λ c. omega arith)
+    (λ c. omega arith)
+    (λ c. within (turn-of c .loop .inv .1) _ (omega arith))
+    (λ c. omega arith)
+    (λ c. omega arith)
+    (λ c. omega (arith, short (c .before .before)))
+    (λ c. omega (arith, short (c .before .before)))
+    (λ c. omega (arith, short (c .before .before)))
+    (λ c. omega (arith, short (c .before .before)))
+    (λ c κs. search needs)
+    (λ c. omega arith)
+    (λ c. omega arith)
+    loop-again
+    (λ c. omega arith)
+    (λ c. omega arith)
+    (λ c. omega arith)
+    (λ c. within (c .before .loop .inv .1) cellsLength (omega arith))
+    (λ c κs. search needs)
+    (λ c. begun-length (all (c .before .before) .begun))
+    returns)

@@ -1,0 +1,86 @@
+-- What a checkpoint and a restore show (document 01, "Parked collector"). Assumes nothing.
+use Prim.Native.Nat.{ℕ, _+_, _-_, _/_, _%_, _≤_, _<_}
+use mathlib.Core.Bool.{Bool, _&&_}
+use mathlib.Core.List.{List, map}
+use lib.Dec.{leb, eqb}
+use lib.ListN.{length, getD}
+use Rattle.lists.specs.Lists.{equal, upFrom}
+use Rattle.refusal.specs.Number.{numberOf}
+use Rattle.refusal.specs.declared.Refusal.the-variants.{NotAccepted}
+use Rattle.erp1.specs.Subtelegram.{maxLength}
+use Rattle.layout.specs.Header.{headerLength}
+use Rattle.layout.specs.Block.{cellsPerBlock, bodyLength, blockCell}
+use Rattle.model.specs.declared.Totals.{Totals}
+use Rattle.model.specs.View.{Reception, View, capacity, maxSetting, noTotals}
+use Rattle.model.specs.Acceptable.{acceptable}
+use Rattle.model.specs.Image.{CheckpointResult, RestoreResult, imageLength, imageOf, blockAt, blockIn, secondIn, countIn, entryIn}
+use Rattle.collector.specs.Collector.{entryAt, entriesAt, viewOf}
+use Rattle.image.specs.declared.Saved.{Saved}
+use Rattle.image.specs.declared.Saved.the-variants as saved
+use Rattle.image.specs.declared.Loaded.{Loaded}
+use Rattle.image.specs.declared.Loaded.the-variants as loaded
+use Rattle.image.specs.declared.Restored.{Restored}
+
+-- ---- what the calls show
+
+abbrev pub savedNumber : Saved → ℕ
+savedNumber saved.Done = 0
+savedNumber (saved.Refused why) = numberOf why
+
+-- the number, and the output at exit
+abbrev pub checkpointResult : Saved → List ℕ → CheckpointResult
+checkpointResult r output = record { number = savedNumber r; output = output }
+
+abbrev pub loadedNumber : Loaded → ℕ
+loadedNumber loaded.Done = 0
+loadedNumber (loaded.Refused why) = numberOf why
+
+-- the number, and what the collector says that is handed back
+abbrev pub restoreResult : Restored → RestoreResult
+restoreResult r = record { number = loadedNumber (r .answer); next = viewOf (r .next) }
+
+-- ---- what private functions say
+
+-- "11: .. the collector stays as it was"
+abbrev pub refusedWith : View → RestoreResult
+refusedWith v = record { number = numberOf NotAccepted; next = v }
+
+abbrev pub blockCount : ℕ
+blockCount = 5
+
+-- the bytes of a block between its header and its CRC
+abbrev pub cellsLength : ℕ
+cellsLength = bodyLength - headerLength
+
+-- what the fields of a state say, one by one
+abbrev pub viewAt : List ℕ → List ℕ → List ℕ → ℕ → ℕ → ℕ → Totals → View
+viewAt times lens bytes count latest setting totals = record { setting = setting; latest = latest; totals = totals; entries = entriesAt times lens bytes count }
+
+-- n entries from `first` on
+unfoldable pub entriesFrom : List ℕ → List ℕ → List ℕ → ℕ → ℕ → List Reception
+entriesFrom times lens bytes first n = map (entryAt times lens bytes) (upFrom first n)
+
+-- block k of an image, which looks at the entries alone
+abbrev pub blockWith : ℕ → ℕ → ℕ → List Reception → List ℕ
+blockWith k a b entries = blockAt k a b (record { setting = 0; latest = 0; totals = noTotals; entries = entries })
+
+-- the arrays have n entries from `first` on, each short enough for a cell
+pub record Writable (lens : List ℕ) (first n : ℕ) : Type 0 where
+  pub bound : first + n ≤ capacity
+  pub short : (i : ℕ) → i < n → getD lens (first + i) 0 ≤ maxLength
+
+-- an image is byte for byte what a checkpoint of an acceptable state writes
+abbrev pub isImageOf : View → List ℕ → Bool
+isImageOf v image = acceptable v && equal (imageOf v) image
+
+-- the right length, and a count and a setting that a state can have
+abbrev pub isReadable : List ℕ → Bool
+isReadable image = eqb (length image) imageLength && (leb (countIn image) capacity && leb (secondIn 3 image) maxSetting)
+
+-- the cell of entry i, counted over all blocks
+abbrev pub cellIn : List ℕ → ℕ → List ℕ
+cellIn image i = blockCell (i % cellsPerBlock) (blockIn (i / cellsPerBlock) image)
+
+-- the first n entries
+abbrev pub entriesIn : List ℕ → ℕ → List Reception
+entriesIn image n = map (entryIn image) (upFrom 0 n)

@@ -1,0 +1,391 @@
+// The checkpoint of a collector and its restore (document 01, "Parked collector").
+use collector::Collector;
+use collector::acceptable;
+use layout::BLOCK_LENGTH;
+use layout::CELL_LENGTH;
+use layout::CELLS_PER_BLOCK;
+use layout::HEADER_LENGTH;
+use model::Totals;
+use refusal::Refusal;
+ghost use mathlib.Core.Path.{_≡_};
+ghost use mathlib.Core.List.{_++_, map, flatten};
+ghost use Prim.Native.Nat.{_-_, _*_, _≤_, _<_, min};
+ghost use lib.ListN.{length, drop};
+ghost use Rattle.lists.specs.Lists.{padded};
+ghost use Rattle.layout.specs.Block.{cellsPerBlock, blockLength, blockHeader};
+ghost use Rattle.erp1.specs.Subtelegram.{maxLength};
+ghost use Rattle.model.specs.View.{capacity, maxSetting};
+ghost use Rattle.model.specs.Image as model;
+ghost use Rattle.model.specs.Image.{imageLength, entryCell, imageOf, blockIn, usedIn, firstIn, secondIn, countIn, totalsIn, checkpointOf, restoreOf};
+ghost use Rattle.collector.specs.Collector.{entriesAt, viewOf};
+ghost use Rattle.image.specs.Checkpoint.{checkpointResult, restoreResult, refusedWith, blockCount, cellsLength, viewAt, entriesFrom, blockWith, Writable, isImageOf, isReadable, cellIn, entriesIn};
+
+// How many blocks an image has.
+const BLOCKS: usize = 5;
+
+pub const IMAGE_LENGTH: usize = BLOCKS * BLOCK_LENGTH;
+
+// The bytes of a block between its header and its CRC.
+const CELLS_LENGTH: usize = BLOCK_LENGTH - 1 - HEADER_LENGTH;
+
+// Whether a checkpoint was written.
+pub enum Saved {
+    Done,
+    Refused(Refusal),
+}
+
+// Whether an image was restored.
+pub enum Loaded {
+    Done,
+    Refused(Refusal),
+}
+
+// The state that an image holds, or beside a refusal the one that was handed in.
+pub struct Restored {
+    pub next: Collector,
+    pub answer: Loaded,
+}
+
+// Writes the image of the state into the first 2,560 bytes; refused with 11, then 6, nothing is written.
+pub fn checkpoint(c: Collector, out: &mut [u8]) -> Saved
+    ensures { λ r. ⌜ checkpointResult r (now (out .exit)) ≡ checkpointOf (viewOf c) (now (out .entry)) ⌝ }
+{
+    if !acceptable::is_acceptable(
+        &c.times,
+        &c.lens,
+        &c.bytes,
+        c.count,
+        c.latest,
+        c.setting,
+        c.totals,
+    ) {
+        return Saved::Refused(Refusal::NotAccepted);
+    }
+    if out.len() < IMAGE_LENGTH {
+        return Saved::Refused(Refusal::ShortOutput);
+    }
+    put_image(
+        out,
+        &c.times,
+        &c.lens,
+        &c.bytes,
+        c.count,
+        c.latest,
+        c.setting,
+        c.totals,
+    );
+    Saved::Done
+}
+
+// The state that an image holds. Any other image than what a checkpoint writes is refused with 11, as is a state that has none.
+pub fn restore(c: Collector, image: &[u8]) -> Restored
+    ensures { λ r. ⌜ restoreResult r ≡ restoreOf (viewOf c) (now (image .entry)) ⌝ }
+{
+    if !acceptable::is_acceptable(
+        &c.times,
+        &c.lens,
+        &c.bytes,
+        c.count,
+        c.latest,
+        c.setting,
+        c.totals,
+    ) {
+        return refused(c);
+    }
+    if !is_readable(image) {
+        return refused(c);
+    }
+    let next = parse(image);
+    if !is_image_of(
+        image,
+        &next.times,
+        &next.lens,
+        &next.bytes,
+        next.count,
+        next.latest,
+        next.setting,
+        next.totals,
+    ) {
+        return refused(c);
+    }
+    Restored {
+        next,
+        answer: Loaded::Done,
+    }
+}
+
+fn refused(c: Collector) -> Restored
+    ensures { λ r. ⌜ restoreResult r ≡ refusedWith (viewOf c) ⌝ }
+{
+    Restored {
+        next: c,
+        answer: Loaded::Refused(Refusal::NotAccepted),
+    }
+}
+
+// ---- writing
+
+// The image of a state, in the first 2,560 bytes: block k, with its two numbers, in the 512 bytes from 512 k.
+fn put_image<'a>(
+    out: &mut [u8],
+    times: &'a [u64; Collector::CAPACITY],
+    lens: &'a [u8; Collector::CAPACITY],
+    bytes: &'a [u8; Collector::CAPACITY * Collector::MAX_LEN],
+    count: usize,
+    latest: u64,
+    setting: u8,
+    totals: Totals,
+)
+    requires { ⌜ (imageLength ≤ length (now out)) × Writable (now lens) 0 count ⌝ }
+    ensures { λ _. ⌜ now (out .exit) ≡ imageOf (viewAt (now (times .entry)) (now (lens .entry)) (now (bytes .entry)) count latest setting totals) ++ drop imageLength (now (out .entry)) ⌝ }
+{
+    let firsts = [latest, totals.kept, totals.loose, totals.late, 0];
+    let seconds = [
+        totals.received,
+        totals.copies,
+        totals.damaged,
+        setting as u64,
+        0,
+    ];
+    for k in 0..BLOCKS {
+        put_block(
+            &mut out[BLOCK_LENGTH * k..BLOCK_LENGTH * k + BLOCK_LENGTH],
+            k,
+            firsts[k],
+            seconds[k],
+            times,
+            lens,
+            bytes,
+            count,
+        );
+    }
+}
+
+// The block writer: block `k` of 512 bytes, with two numbers and its share of the entries.
+fn put_block<'a>(
+    out: &mut [u8],
+    k: usize,
+    a: u64,
+    b: u64,
+    times: &'a [u64; Collector::CAPACITY],
+    lens: &'a [u8; Collector::CAPACITY],
+    bytes: &'a [u8; Collector::CAPACITY * Collector::MAX_LEN],
+    count: usize,
+)
+    requires { ⌜ (length (now out) ≡ blockLength) × (k < blockCount) × Writable (now lens) 0 count ⌝ }
+    ensures { λ _. ⌜ now (out .exit) ≡ blockWith k a b (entriesAt (now (times .entry)) (now (lens .entry)) (now (bytes .entry)) count) ⌝ }
+{
+    let first = CELLS_PER_BLOCK * k;
+    let used = used_from(count, first);
+    layout::put_header(&mut out[0..HEADER_LENGTH], k as u8, used, a, b);
+    put_cells(
+        &mut out[HEADER_LENGTH..HEADER_LENGTH + CELLS_LENGTH],
+        times,
+        lens,
+        bytes,
+        first,
+        used as usize,
+    );
+    layout::seal(out);
+}
+
+// What stands between the header of a block and its CRC: the cells of `used` entries from `first` on, and zeros.
+fn put_cells<'a>(
+    out: &mut [u8],
+    times: &'a [u64; Collector::CAPACITY],
+    lens: &'a [u8; Collector::CAPACITY],
+    bytes: &'a [u8],
+    first: usize,
+    used: usize,
+)
+    requires { ⌜ (length (now out) ≡ cellsLength) × (length (now bytes) ≡ capacity * maxLength) × (used ≤ cellsPerBlock) × Writable (now lens) first used ⌝ }
+    ensures { λ _. ⌜ now (out .exit) ≡ padded cellsLength (flatten (map entryCell (entriesFrom (now (times .entry)) (now (lens .entry)) (now (bytes .entry)) first used))) ⌝ }
+{
+    for i in 0..used {
+        let e = first + i;
+        let at = Collector::MAX_LEN * e;
+        let len = lens[e] as usize;
+        layout::put_cell(
+            &mut out[CELL_LENGTH * i..CELL_LENGTH * i + CELL_LENGTH],
+            times[e],
+            &bytes[at..at + len],
+            0,
+        );
+    }
+    layout::clear(&mut out[CELL_LENGTH * used..CELLS_LENGTH]);
+}
+
+// Whether a state is acceptable, and an image byte for byte what is written of it.
+fn is_image_of<'a>(
+    image: &'a [u8],
+    times: &'a [u64; Collector::CAPACITY],
+    lens: &'a [u8; Collector::CAPACITY],
+    bytes: &'a [u8; Collector::CAPACITY * Collector::MAX_LEN],
+    count: usize,
+    latest: u64,
+    setting: u8,
+    totals: Totals,
+) -> bool
+    ensures { λ r. ⌜ r ≡ isImageOf (viewAt (now (times .entry)) (now (lens .entry)) (now (bytes .entry)) count latest setting totals) (now (image .entry)) ⌝ }
+{
+    if !acceptable::is_acceptable(times, lens, bytes, count, latest, setting, totals) {
+        return false;
+    }
+    let mut again = [0u8; IMAGE_LENGTH];
+    put_image(
+        &mut again,
+        times,
+        lens,
+        bytes,
+        count,
+        latest,
+        setting,
+        totals,
+    );
+    layout::equal(&again, image)
+}
+
+// How many entries the block has that starts at entry `first`.
+fn used_from(count: usize, first: usize) -> u8
+    ensures { λ r. ⌜ r ≡ min cellsPerBlock (count - first) ⌝ }
+{
+    if count <= first {
+        return 0;
+    }
+    let rest = count - first;
+    if rest < CELLS_PER_BLOCK {
+        return rest as u8;
+    }
+    CELLS_PER_BLOCK as u8
+}
+
+// ---- reading
+
+// Whether an image has the right length, and says a count and a setting that a state can have.
+fn is_readable(image: &[u8]) -> bool
+    ensures { λ r. ⌜ r ≡ isReadable (now (image .entry)) ⌝ }
+{
+    if image.len() != IMAGE_LENGTH {
+        return false;
+    }
+    let setting = second_in(image, 3);
+    (count_in(image) <= Collector::CAPACITY) & (setting <= Collector::MAX_SETTING as u64)
+}
+
+// The state that an image spells, right or not.
+fn parse(image: &[u8]) -> Collector
+    requires { ⌜ (length (now image) ≡ imageLength) × (countIn (now image) ≤ capacity) × (secondIn 3 (now image) ≤ maxSetting) ⌝ }
+    ensures { λ r. ⌜ viewOf r ≡ model.parse (now (image .entry)) ⌝ }
+{
+    let mut times = [0u64; Collector::CAPACITY];
+    let mut lens = [0u8; Collector::CAPACITY];
+    let mut bytes = [0u8; Collector::CAPACITY * Collector::MAX_LEN];
+    let count = count_in(image);
+    read_entries(&mut times, &mut lens, &mut bytes, image, count);
+    let latest = first_in(image, 0);
+    let setting = second_in(image, 3);
+    let totals = totals_in(image);
+    Collector {
+        times,
+        lens,
+        bytes,
+        count,
+        latest,
+        setting: setting as u8,
+        totals,
+    }
+}
+
+// The first `count` entries of an image, into the flat arrays of a state.
+fn read_entries(times: &mut [u64], lens: &mut [u8], bytes: &mut [u8], image: &[u8], count: usize)
+    requires { ⌜ (length (now times) ≡ capacity) × (length (now lens) ≡ capacity) × (length (now bytes) ≡ capacity * maxLength) × (length (now image) ≡ imageLength) × (count ≤ capacity) ⌝ }
+    ensures { λ _. ⌜ entriesAt (now (times .exit)) (now (lens .exit)) (now (bytes .exit)) count ≡ entriesIn (now (image .entry)) count ⌝ }
+{
+    for i in 0..count {
+        let cell = cell_in(image, i);
+        times[i] = layout::cell_time(cell);
+        lens[i] = layout::cell_used(cell);
+        layout::copy_field(
+            &mut bytes[Collector::MAX_LEN * i..Collector::MAX_LEN * i + Collector::MAX_LEN],
+            cell,
+        );
+    }
+}
+
+fn totals_in(image: &[u8]) -> Totals
+    requires { ⌜ length (now image) ≡ imageLength ⌝ }
+    ensures { λ r. ⌜ r ≡ totalsIn (now (image .entry)) ⌝ }
+{
+    let received = second_in(image, 0);
+    let kept = first_in(image, 1);
+    let copies = second_in(image, 1);
+    let loose = first_in(image, 2);
+    let damaged = second_in(image, 2);
+    let late = first_in(image, 3);
+    Totals {
+        received,
+        kept,
+        copies,
+        loose,
+        damaged,
+        late,
+    }
+}
+
+// The entries that the five blocks say are used.
+fn count_in(image: &[u8]) -> usize
+    requires { ⌜ length (now image) ≡ imageLength ⌝ }
+    ensures { λ r. ⌜ r ≡ countIn (now (image .entry)) ⌝ }
+{
+    used_in(image, 0)
+        + used_in(image, 1)
+        + used_in(image, 2)
+        + used_in(image, 3)
+        + used_in(image, 4)
+}
+
+fn used_in(image: &[u8], k: usize) -> usize
+    requires { ⌜ (length (now image) ≡ imageLength) × (k < blockCount) ⌝ }
+    ensures { λ r. ⌜ (r ≡ usedIn k (now (image .entry))) × (r < 256) ⌝ }
+{
+    layout::header_used(header_in(image, k)) as usize
+}
+
+fn first_in(image: &[u8], k: usize) -> u64
+    requires { ⌜ (length (now image) ≡ imageLength) × (k < blockCount) ⌝ }
+    ensures { λ r. ⌜ r ≡ firstIn k (now (image .entry)) ⌝ }
+{
+    layout::header_first(header_in(image, k))
+}
+
+fn second_in(image: &[u8], k: usize) -> u64
+    requires { ⌜ (length (now image) ≡ imageLength) × (k < blockCount) ⌝ }
+    ensures { λ r. ⌜ r ≡ secondIn k (now (image .entry)) ⌝ }
+{
+    layout::header_second(header_in(image, k))
+}
+
+fn header_in(image: &[u8], k: usize) -> &[u8]
+    requires { ⌜ (length (now image) ≡ imageLength) × (k < blockCount) ⌝ }
+    ensures { λ r. ⌜ now r ≡ blockHeader (blockIn k (now (image .entry))) ⌝ }
+{
+    let block = block_in(image, k);
+    &block[0..HEADER_LENGTH]
+}
+
+// The cell of entry `i`, counted over all blocks.
+fn cell_in(image: &[u8], i: usize) -> &[u8]
+    requires { ⌜ (length (now image) ≡ imageLength) × (i < capacity) ⌝ }
+    ensures { λ r. ⌜ now r ≡ cellIn (now (image .entry)) i ⌝ }
+{
+    let block = block_in(image, i / CELLS_PER_BLOCK);
+    let at = HEADER_LENGTH + CELL_LENGTH * (i % CELLS_PER_BLOCK);
+    &block[at..at + CELL_LENGTH]
+}
+
+fn block_in(image: &[u8], k: usize) -> &[u8]
+    requires { ⌜ (length (now image) ≡ imageLength) × (k < blockCount) ⌝ }
+    ensures { λ r. ⌜ now r ≡ blockIn k (now (image .entry)) ⌝ }
+{
+    &image[BLOCK_LENGTH * k..BLOCK_LENGTH * k + BLOCK_LENGTH]
+}
