@@ -8,8 +8,10 @@ mod hash;
 mod hex;
 mod history;
 mod image;
+mod inputs;
 mod random;
 mod repeater;
+mod sample;
 mod scenarios;
 mod slots;
 mod subtelegram;
@@ -26,24 +28,34 @@ fn main() {
     let words: Vec<String> = std::env::args().skip(1).collect();
     let words: Vec<&str> = words.iter().map(String::as_str).collect();
     let text = match words[..] {
-        ["codec", "stdin"] => codec::stdin(),
-        ["codec", "stdout"] => codec::stdout(),
-        ["slots", "stdout"] => slots::stdout(),
+        ["codec", "stdin"] => codec::stdin().into_bytes(),
+        ["codec", "stdout"] => codec::stdout().into_bytes(),
+        ["slots", "stdout"] => slots::stdout().into_bytes(),
         ["collect", "stdout"] => {
             let mut input = Vec::new();
             std::io::stdin()
                 .read_to_end(&mut input)
                 .expect("standard input");
-            collect::run(&input)
+            collect::run(&input).into_bytes()
         }
-        ["history", "stdin"] => history::stdin(),
-        ["history", "stdout"] => history::stdout(),
-        _ => {
-            eprintln!("reference codec|history stdin|stdout, reference slots|collect stdout");
-            std::process::exit(2);
+        ["sample", "stdout"] => sample::plant().into_bytes(),
+        ["inputs", name, "stdin"] => inputs::stdin(name).unwrap_or_else(usage),
+        ["inputs", name, "stdout"] => {
+            let input = inputs::stdin(name).unwrap_or_else(usage);
+            collect::run(&input).into_bytes()
         }
+        ["history", "stdin"] => history::stdin().into_bytes(),
+        ["history", "stdout"] => history::stdout().into_bytes(),
+        _ => usage(),
     };
-    std::io::stdout()
-        .write_all(text.as_bytes())
-        .expect("standard output");
+    std::io::stdout().write_all(&text).expect("standard output");
+}
+
+fn usage<T>() -> T {
+    eprintln!("reference codec|history stdin|stdout, reference slots|collect|sample stdout,");
+    eprintln!(
+        "reference inputs NAME stdin|stdout, NAME one of {}",
+        inputs::NAMES.join(", ")
+    );
+    std::process::exit(2);
 }

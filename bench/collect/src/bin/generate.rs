@@ -1,0 +1,131 @@
+//! Writes an input of `collect`: `generate sparse|crowded LINES`. The same on every run.
+
+use collect_rust::hash::renew;
+use std::fmt::Write as _;
+use std::io::Write as _;
+
+/// A fixed-seed generator (splitmix64).
+struct Random(u64);
+
+impl Random {
+    fn next(&mut self) -> u64 {
+        self.0 = self.0.wrapping_add(0x9E37_79B9_7F4A_7C15);
+        let mut z = self.0;
+        z = (z ^ (z >> 30)).wrapping_mul(0xBF58_476D_1CE4_E5B9);
+        z = (z ^ (z >> 27)).wrapping_mul(0x94D0_49BB_1331_11EB);
+        z ^ (z >> 31)
+    }
+
+    fn below(&mut self, n: usize) -> usize {
+        (self.next() % n as u64) as usize
+    }
+
+    fn pick<T: Copy>(&mut self, from: &[T]) -> T {
+        from[self.below(from.len())]
+    }
+}
+
+/// How crowded the air is.
+struct Traffic {
+    /// The ms between two lines, one of these.
+    gaps: &'static [u64],
+    /// New telegrams among a hundred; the others are copies.
+    fresh: usize,
+    /// A copy is of one of so many new telegrams.
+    recent: usize,
+}
+
+/// Three telegrams open at most times.
+const SPARSE: Traffic = Traffic {
+    gaps: &[2, 5, 10, 15, 28],
+    fresh: 33,
+    recent: 2,
+};
+/// 100 new telegrams in 100 ms, so 64 open at all times.
+const CROWDED: Traffic = Traffic {
+    gaps: &[0, 0, 1, 1],
+    fresh: 50,
+    recent: 60,
+};
+
+/// A valid subtelegram of common lengths, plain or addressed, by sum or by CRC.
+fn telegram(random: &mut Random) -> Vec<u8> {
+    let rorg = random.pick(&[0xD5, 0xF6, 0xA5, 0xA5, 0xD2, 0xD1]);
+    let data = match rorg {
+        0xD5 | 0xF6 => 1,
+        0xA5 => 4,
+        _ => 1 + random.below(9),
+    };
+    let addressed = random.below(10) == 0;
+    let mut bytes = if addressed {
+        vec![0xA6, rorg]
+    } else {
+        vec![rorg]
+    };
+    let rest = data + if addressed { 8 } else { 4 };
+    bytes.extend((0..rest).map(|_| random.next() as u8));
+    bytes.extend([random.pick(&[0x00, 0x80]), 0]);
+    renew(&mut bytes);
+    bytes
+}
+
+fn at_level(mut bytes: Vec<u8>, level: u8) -> Vec<u8> {
+    let status = bytes.len() - 2;
+    bytes[status] |= level;
+    renew(&mut bytes);
+    bytes
+}
+
+/// A line at the present time, or damaged, late or BAD now and then.
+fn line(random: &mut Random, now: u64, mut bytes: Vec<u8>) -> String {
+    let (mut time, mut bad) = (now, "");
+    match random.below(100) {
+        0 => time -= 150,
+        1 => bad = "?",
+        2 | 3 => bytes[3] ^= 0x10,
+        _ => {}
+    }
+    let mut text = format!("{time} {bad}");
+    for byte in bytes {
+        write!(text, "{byte:02X}").unwrap();
+    }
+    text
+}
+
+fn generate(traffic: &Traffic, lines: usize) -> String {
+    let mut random = Random(0x636F_6C6C_6563_7401);
+    let mut text = "level 2\n".to_string();
+    let mut now = 1_767_225_600_000;
+    let mut recent: Vec<Vec<u8>> = (0..traffic.recent).map(|_| telegram(&mut random)).collect();
+    for i in 1..lines {
+        now += random.pick(traffic.gaps);
+        let at = if random.below(100) < traffic.fresh {
+            let at = i % traffic.recent;
+            recent[at] = telegram(&mut random);
+            at
+        } else {
+            random.below(traffic.recent)
+        };
+        let heard = at_level(recent[at].clone(), random.pick(&[0, 0, 1, 2]));
+        text.push_str(&line(&mut random, now, heard));
+        text.push('\n');
+    }
+    text
+}
+
+fn main() {
+    let words: Vec<String> = std::env::args().skip(1).collect();
+    let words: Vec<&str> = words.iter().map(String::as_str).collect();
+    let (traffic, lines) = match words[..] {
+        ["sparse", lines] => (SPARSE, lines),
+        ["crowded", lines] => (CROWDED, lines),
+        _ => {
+            eprintln!("generate sparse|crowded LINES");
+            std::process::exit(2);
+        }
+    };
+    let text = generate(&traffic, lines.parse().expect("a number of lines"));
+    std::io::stdout()
+        .write_all(text.as_bytes())
+        .expect("standard output");
+}

@@ -1,0 +1,4 @@
+// Runs `collect` on the input beside it.
+fn main() {
+    collecting::run();
+}
