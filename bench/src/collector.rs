@@ -6,6 +6,7 @@ use std::hint::black_box;
 // A slice passes as a pointer and a length. Nothing checks this line against the Rattle source.
 extern "C" {
     fn bench_take(setting: u8, cells: *const u8, len: usize) -> u64;
+    fn bench_test(setting: u8, cells: *const u8, len: usize, rounds: u64) -> u64;
 }
 
 const CELL: usize = 32;
@@ -13,6 +14,11 @@ const RECEPTIONS: usize = 4_000;
 
 fn proved(cells: &[u8]) -> u64 {
     unsafe { bench_take(1, cells.as_ptr(), cells.len()) }
+}
+
+/// The test of the state that these receptions leave behind, so many times.
+fn tests(cells: &[u8], rounds: u64) -> u64 {
+    unsafe { bench_test(1, cells.as_ptr(), cells.len(), rounds) }
 }
 
 /// The same job by hand: the state in place, entries in opening order.
@@ -171,6 +177,13 @@ pub fn bench() {
                 black_box(take(black_box(&cells)));
             })
         };
-        report(&format!("a reception, {open} open, half of them copies"), run(proved), run(by_hand));
+        let (take, hand) = (run(proved), run(by_hand));
+        report(&format!("a reception, {open} open, half of them copies"), take, hand);
+        let first = &cells[..2 * open * CELL];
+        assert_eq!(tests(first, 2), 2, "{open} open");
+        let test = time(RECEPTIONS, || {
+            black_box(tests(black_box(first), black_box(RECEPTIONS as u64)));
+        });
+        println!("  of which the test of the state {test:.0} ns; without it {:.0} ns, ratio {:.2}", take - test, (take - test) / hand);
     }
 }

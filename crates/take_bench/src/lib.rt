@@ -1,5 +1,6 @@
 // Receptions taken one after the other, for the benchmark.
 use collector::Collector;
+use collector::acceptable;
 use model::Answer;
 ghost use mathlib.Core.Path.{_≡_};
 ghost use Prim.Native.Nat.{_*_, _≤_};
@@ -7,22 +8,68 @@ ghost use lib.ListN.{length};
 
 const CELL: usize = 32;
 
-// Takes the receptions of `cells`, 32 bytes each (time, length, bytes), into a collector started fresh at `setting`. The answer says how many
-// were kept and, times 2^32, how many were copies; the low byte of what was sent is added in its own place, times 2^56.
+// What the receptions of a run left behind, and a figure of their answers.
+struct Run {
+    collector: Collector,
+    figure: u64,
+}
+
+// Takes the receptions of `cells`, 32 bytes each (time, length, bytes), into a collector started fresh at `setting`, and answers a figure of the
+// answers.
 #[no_mangle]
 pub extern "C" fn bench_take(setting: u8, cells: &[u8]) -> u64 {
+    taken_all(setting, cells).figure
+}
+
+// The same, and then the test of the state `rounds` times, each second time with the last entry left out; answers how often it passed.
+#[no_mangle]
+pub extern "C" fn bench_test(setting: u8, cells: &[u8], rounds: u64) -> u64 {
+    let done = taken_all(setting, cells);
+    let c = done.collector;
+    let mut passed: u64 = 0;
+    for i in 0..rounds {
+        let left = fewer(c.count, i % 2);
+        if acceptable::is_acceptable(
+            &c.times,
+            &c.lens,
+            &c.bytes,
+            left,
+            c.latest,
+            c.setting,
+            c.totals,
+        ) {
+            passed = std::num::wrapping_add_u64(passed, 1);
+        }
+    }
+    passed
+}
+
+fn taken_all(setting: u8, cells: &[u8]) -> Run {
     let fresh = Collector::fresh(setting);
     let mut c = fresh.collector;
-    let mut sum: u64 = 0;
+    let mut figure: u64 = 0;
     for i in 0..cells.len() / CELL {
         let taken = take_cell(c, &cells[CELL * i..CELL * i + CELL]);
         let answer = taken.answer;
         let sent = taken.sent;
-        sum = std::num::wrapping_add_u64(sum, weight(answer, sent.len));
+        figure = std::num::wrapping_add_u64(figure, weight(answer, sent.len));
         let next = taken.next;
         c = next;
     }
-    sum
+    Run {
+        collector: c,
+        figure: figure,
+    }
+}
+
+fn fewer(count: usize, less: u64) -> usize {
+    if less == 0 {
+        return count;
+    }
+    if count == 0 {
+        return 0;
+    }
+    count - 1
 }
 
 fn take_cell(c: Collector, cell: &[u8]) -> collector::Taken

@@ -1,20 +1,20 @@
--- `take_bench::bench_take` is safe and ends. The loop's invariant: i cells are at most those there are; the measure is what is left of them.
+-- `take_bench::taken_all` is safe and ends. The loop's invariant: i cells are at most those there are; the measure is what is left of them.
 -- Assumes nothing.
 use Prim.Native.Nat.{_≤_, _-_, _/_}
 use mathlib.Core.Path.{_≡_}
 use lib.ListN.{length}
 use borrow.Author.Needs.{needs}
-use Rattle.take_bench.proofs.bench_take.Statement.{statement}
-use Rattle.take_bench.proofs.bench_take.Tie as tie
+use Rattle.take_bench.proofs.taken_all.Statement.{statement}
+use Rattle.take_bench.proofs.taken_all.Tie as tie
 
 abbrev Inv-loop : tie.InvT-loop
-Inv-loop setting cells c₀ sum₀ i₀ i-end c sum i = (i ≤ length cells / 32) × (i-end ≡ length cells / 32)
+Inv-loop setting cells c₀ figure₀ i₀ i-end c figure i = (i ≤ length cells / 32) × (i-end ≡ length cells / 32)
 
 abbrev μ-loop : tie.MeasureT-loop
-μ-loop setting cells c₀ sum₀ i₀ i-end c sum i = length cells / 32 - i
+μ-loop setting cells c₀ figure₀ i₀ i-end c figure i = length cells / 32 - i
 
-pub bench-take-spec : {M : Type 1} → statement M
-bench-take-spec =
+pub taken-all-spec : {M : Type 1} → statement M
+taken-all-spec =
     tie.close
     (tie.spec
     Inv-loop
