@@ -1,23 +1,32 @@
 -- The entries that arrays show: one more, one inside, and which are copies of a reception. Assumes nothing.
-use Prim.Native.Nat.{ℕ, suc, _+_, _-_, _*_, _<_}
+use Prim.Native.Nat.{ℕ, suc, _+_, _-_, _*_, _≤_, _<_}
 use native.Mathlib.Nat.{zero-add}
 use native.Mathlib.Omega.{arith}
 use mathlib.Core.Path.{_≡_, refl, sym, _∙_}
 use mathlib.Core.Bool.{true, false}
 use mathlib.Core.List.{List, [], _∷_, _++_, map, map-append}
-use lib.ListN.{length, getD, length-map}
+use lib.ListN.{length, getD, drop, length-map}
+use lib.Seq.{take-take}
 use Rattle.lists.specs.Lists.{upFrom}
 use Rattle.lists.proofs.UpFrom.{upFrom-add, length-upFrom}
 use Rattle.erp1.specs.Subtelegram.{maxLength}
 use Rattle.erp1.specs.Same.{isSame}
 use Rattle.erp1.proofs.Sames.{other-length}
 use Rattle.layout.specs.Buffer.{part, resized}
-use Rattle.layout.proofs.Buffer.{resized-length}
+use Rattle.layout.proofs.Segments.{part-length, part-ends}
+use Rattle.layout.proofs.Buffer.{resized-length, resized-cut}
 use Rattle.model.specs.View.{Reception}
 use Rattle.model.specs.Acceptable.{isCopyOf}
 use Rattle.collector.specs.Collector.{entryAt, entriesAt}
 use Rattle.collector.specs.Acceptable.{hasCopy}
 use Rattle.collector.proofs.Inside.{any-inside, any-last}
+
+-- the bytes of an entry, as the code lends them
+pub bytes-shown : (bytes : List ℕ) (e len : ℕ) → len ≤ maxLength → maxLength * e + maxLength ≤ length bytes
+    → part (maxLength * e) (maxLength * e + len - maxLength * e) bytes ≡ resized len (part (maxLength * e) maxLength bytes)
+bytes-shown bytes e len short h =
+    let whole : length (part (maxLength * e) maxLength bytes) ≡ maxLength = part-length (maxLength * e) maxLength bytes h in
+    part-ends (maxLength * e) len bytes ∙ sym (resized-cut len (part (maxLength * e) maxLength bytes) (omega arith) ∙ take-take len maxLength (drop (maxLength * e) bytes) short)
 
 module _ (times lens bytes : List ℕ) where
   pub entries-none : entriesAt times lens bytes 0 ≡ []

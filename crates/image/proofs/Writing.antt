@@ -1,7 +1,6 @@
 -- The entries in the flat arrays of a state, and their cells.
 --     entries-length, entry-read     how many entries a stretch has, and each of them
 --     cell-read                      the cell of an entry
---     bytes-shown                    the bytes of an entry, as the code lends them
 --     entries-part                   the share of the entries that a block has
 --     block-written                  a block of these cells is block k
 --     writable-part                  what the writer of a block passes on
@@ -14,19 +13,19 @@ use mathlib.Core.Path.{_≡_, sym, ap, _∙_}
 use mathlib.Core.Bool.{true}
 use mathlib.Core.List.{List, [], map}
 use lib.Dec.{leb}
-use lib.ListN.{length, getD, drop, length-map, length-take, length-drop}
-use lib.Seq.{take-take, ext-getD}
+use lib.ListN.{length, getD, length-map, length-take, length-drop}
+use lib.Seq.{ext-getD}
 use borrow.Author.Tests.{leb-true}
 use Rattle.lists.specs.Lists.{all, upFrom}
 use Rattle.lists.proofs.Choice.{both}
 use Rattle.lists.proofs.Tests.{all-getD, getD-map}
 use Rattle.lists.proofs.UpFrom.{length-upFrom, getD-upFrom}
 use Rattle.erp1.specs.Subtelegram.{maxLength}
-use Rattle.layout.specs.Buffer.{part, resized}
+use Rattle.layout.specs.Buffer.{part}
 use Rattle.layout.specs.Header.{headerOf}
 use Rattle.layout.specs.Block.{cellsPerBlock, blockOf}
-use Rattle.layout.proofs.Segments.{part-length, part-at, part-ends}
-use Rattle.layout.proofs.Buffer.{resized-cut, resized-length}
+use Rattle.layout.proofs.Segments.{part-at}
+use Rattle.layout.proofs.Buffer.{resized-length}
 use Rattle.model.specs.declared.Totals.{Totals}
 use Rattle.model.specs.View.{Reception, capacity, maxSetting}
 use Rattle.model.specs.Acceptable.{isEntry, acceptable}
@@ -36,12 +35,6 @@ use Rattle.model.proofs.Invariant.{entry-valid}
 use Rattle.collector.specs.Collector.{entryAt, entriesAt}
 use Rattle.image.specs.Checkpoint.{blockCount, viewAt, entriesFrom, blockWith, Writable}
 use Rattle.collector.proofs.Arrays as arrays
-
-pub bytes-shown : (bytes : List ℕ) (e len : ℕ) → len ≤ maxLength → maxLength * e + maxLength ≤ length bytes
-    → part (maxLength * e) (maxLength * e + len - maxLength * e) bytes ≡ resized len (part (maxLength * e) maxLength bytes)
-bytes-shown bytes e len short h =
-    let whole : length (part (maxLength * e) maxLength bytes) ≡ maxLength = part-length (maxLength * e) maxLength bytes h in
-    part-ends (maxLength * e) len bytes ∙ sym (resized-cut len (part (maxLength * e) maxLength bytes) (omega arith) ∙ take-take len maxLength (drop (maxLength * e) bytes) short)
 
 -- stands for an entry past the end
 abbrev none : Reception

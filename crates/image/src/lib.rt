@@ -114,6 +114,7 @@ pub fn restore(c: Collector, image: &[u8]) -> Restored
     }
 }
 
+// The collector stays as it was.
 fn refused(c: Collector) -> Restored
     ensures { λ r. ⌜ restoreResult r ≡ refusedWith (viewOf c) ⌝ }
 {
@@ -312,6 +313,7 @@ fn read_entries(times: &mut [u64], lens: &mut [u8], bytes: &mut [u8], image: &[u
     }
 }
 
+// The six totals, from the numbers of blocks 0 to 3.
 fn totals_in(image: &[u8]) -> Totals
     requires { ⌜ length (now image) ≡ imageLength ⌝ }
     ensures { λ r. ⌜ r ≡ totalsIn (now (image .entry)) ⌝ }
@@ -344,6 +346,7 @@ fn count_in(image: &[u8]) -> usize
         + used_in(image, 4)
 }
 
+// The entries used in block `k`, and its two numbers.
 fn used_in(image: &[u8], k: usize) -> usize
     requires { ⌜ (length (now image) ≡ imageLength) × (k < blockCount) ⌝ }
     ensures { λ r. ⌜ (r ≡ usedIn k (now (image .entry))) × (r < 256) ⌝ }

@@ -24,10 +24,10 @@ passed : (c : tie.Else1) → acceptable (viewOf (start (c .before) .args .t1)) �
 passed c = sym (tested (c .before)) ∙ not-false _ (c .if1 .left)
 
 returns : tie.Need-returns
-returns c = checkpoint-unacceptable _ _ (sym (tested (c .before)) ∙ not-true _ (c .if1 .taken))
+returns c = checkpoint-unacceptable _ (sym (tested (c .before)) ∙ not-true _ (c .if1 .taken)) _
 
 returns-2 : tie.Need-returns-2
-returns-2 c = checkpoint-short _ _ (passed (c .before)) (c .if2 .taken)
+returns-2 c = checkpoint-short _ (passed (c .before)) _ (c .if2 .taken)
 
 abbrev room : tie.After-put-image-arg5 → tie.Else2
 room c = c .before .before .before .before .before .before
@@ -41,7 +41,7 @@ unfolding viewOf
 returns-3 c =
     let put = c .before .before in
     let r = room (put .before) in
-    ap (checkpointResult saved.Done) (put .put-image .ensures) ∙ checkpoint-written _ _ (passed (r .before)) (r .if2 .left)
+    ap (checkpointResult saved.Done) (put .put-image .ensures) ∙ checkpoint-written _ (passed (r .before)) _ (r .if2 .left)
 
 pub checkpoint-spec : {M : Type 1} → statement M
 checkpoint-spec =

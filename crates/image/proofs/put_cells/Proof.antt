@@ -15,7 +15,8 @@ use Rattle.layout.proofs.Buffer.{resized-length}
 use Rattle.layout.proofs.Cell.{put-fits}
 use Rattle.model.specs.Image.{entryCell}
 use Rattle.image.specs.Checkpoint.{cellsLength, entriesFrom}
-use Rattle.image.proofs.Writing.{entries-length, cell-read, bytes-shown}
+use Rattle.collector.proofs.Arrays.{bytes-shown}
+use Rattle.image.proofs.Writing.{entries-length, cell-read}
 use Rattle.image.proofs.put_cells.Statement.{statement}
 use Rattle.image.proofs.put_cells.Tie as tie
 

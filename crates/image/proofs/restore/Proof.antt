@@ -32,7 +32,7 @@ passed : (c : tie.Else1) → acceptable (viewOf (start (c .before) .args .t1)) �
 passed c = sym (tested (c .before)) ∙ not-false _ (c .if1 .left)
 
 returns : tie.Need-returns
-returns c = c .refused .ensures ∙ restore-unacceptable _ _ (sym (tested (c .before .before)) ∙ not-true _ (c .before .if1 .taken))
+returns c = c .refused .ensures ∙ restore-unacceptable _ (sym (tested (c .before .before)) ∙ not-true _ (c .before .if1 .taken)) _
 
 returns-2 : tie.Need-returns-2
 returns-2 c =

@@ -11,7 +11,7 @@ returns : tie.Need-returns
 unfolding viewOf
 returns c =
     let t = c .before .before in
-    rw (c .empty .ensures) (step-unacceptable _ _ (sym (t .is-acceptable .ensures) ∙ not-true _ (c .before .if1 .taken)))
+    rw (c .empty .ensures) (step-unacceptable _ (sym (t .is-acceptable .ensures) ∙ not-true _ (c .before .if1 .taken)) _)
 
 admit-requires : tie.Need-admit-requires
 unfolding viewOf
