@@ -5,7 +5,7 @@ use mathlib.Core.List.{List, [], _∷_}
 use Prim.Native.Nat.{ℕ, _-_, _≤_, _<_, _/_, _%_}
 use native.Mathlib.Omega.{arith}
 use lib.Dec.{ltb}
-use lib.ListN.{length, getD, take, length-take}
+use lib.ListN.{length, getD, take}
 use lib.Seq.{getD-take, take-take, length-take-le}
 use borrow.Author.Tests.{lt-ltb, le-ltb, eq-eqb, ne-eqb, ltb-false, eqb-true, eqb-false, not-false}
 use Rattle.lists.proofs.Choice.{cond-no, neither}
@@ -16,7 +16,7 @@ use Rattle.refusal.proofs.Numbers.{refused-number}
 use Rattle.crc8.specs.Crc8.{crcOf}
 use Rattle.erp1.specs.declared.Checked.{Checked}
 use Rattle.erp1.specs.declared.Checked.the-variants.{Valid, Refused}
-use Rattle.erp1.specs.Subtelegram.{minLength, maxLength, minAddressedLength, addressed, sumOf, lastOf, bodyOf, statusOf, hashOf, isLengthWrong, isHashed, isAddressed, isNested, checkOf, isValid, checkedNumber}
+use Rattle.erp1.specs.Subtelegram.{minLength, maxLength, minAddressedLength, addressed, sumOf, lastOf, bodyOf, statusOf, hashOf, isAddressed, isNested, checkOf, isValid, checkedNumber}
 
 -- ---- the two hashes
 

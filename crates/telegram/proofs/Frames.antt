@@ -1,5 +1,5 @@
 -- Lists that are zero filled to a length: one element more, and a list more. Assumes nothing.
-use mathlib.Core.Path.{_≡_, refl, sym, ap, ap₂, _∙_}
+use mathlib.Core.Path.{_≡_, refl, sym, ap}
 use mathlib.Core.Bool.{Bool, true, false, cond}
 use mathlib.Core.List.{List, [], _∷_, _++_, append-assoc, append-nil}
 use Prim.Native.Nat.{ℕ, zero, suc, _+_, _-_, _≤_, _<_}
@@ -7,9 +7,9 @@ use native.Mathlib.Nat.{add-sub-cancel, sub-self, sub-add-eq, le-of-eq}
 use native.Mathlib.Numerals.{add-one}
 use native.Mathlib.Omega.{arith}
 use lib.Dec.{ltb}
-use lib.ListN.{length, take, drop, set, replicate, length-append, length-replicate, drop-of-length-le}
+use lib.ListN.{length, take, drop, set, replicate, length-append, length-replicate}
 use lib.Seq.{set-append-seam, take-append-seam, drop-append-seam, take-all, take-length}
-use borrow.Rule.Slice.PartMut.{midOf, postOf, putMid}
+use borrow.Rule.Slice.PartMut.{midOf, putMid}
 use Rattle.telegram.specs.declared.frame.Frame.{Frame}
 use borrow.Author.Tests.{lt-ltb, le-ltb, ltb-false}
 use Rattle.refusal.specs.declared.Refusal.the-variants.{TooLong, ShortOutput}

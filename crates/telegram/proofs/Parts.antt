@@ -5,8 +5,8 @@ use Prim.Native.Nat.{ℕ, _+_, _-_, _≤_, _<_}
 use native.Mathlib.Omega.{arith}
 use native.Mathlib.Nat.{add-sub-of-le}
 use native.Mathlib.Numerals.{add-one}
-use lib.ListN.{length, getD, take, drop, length-append}
-use lib.Seq.{take-at, drop-at, getD-at, take-add, take-suc, take-all}
+use lib.ListN.{length, getD, take, length-append}
+use lib.Seq.{take-at, drop-at, getD-at, take-add, take-suc}
 use Rattle.erp1.specs.Subtelegram.{hashOf, bodyOf, lastOf, sealedOf}
 use Rattle.telegram.specs.Fields.{part}
 

@@ -12,7 +12,7 @@ use Rattle.lists.proofs.Padded.{drop-replicate}
 use Rattle.refusal.specs.Number.{numberOf}
 use Rattle.refusal.specs.declared.Refusal.{Refusal}
 use Rattle.erp1.specs.declared.Checked.the-variants.{Valid, Refused}
-use Rattle.erp1.specs.Subtelegram.{addressed, checkOf, checkedNumber, isAddressed, isValid}
+use Rattle.erp1.specs.Subtelegram.{addressed, checkOf, checkedNumber, isAddressed}
 use Rattle.erp1.proofs.Checks.{Sound, told-valid, told-refused, not-valid}
 use Rattle.telegram.specs.declared.fields.Telegram.{Telegram}
 use Rattle.telegram.specs.declared.fields.Reading.{Reading}

@@ -1,5 +1,5 @@
 -- `erp1::hash` meets its contract: of no bytes STATUS reads 0, so the sum is asked, which is 0. Assumes nothing.
-use mathlib.Core.Path.{_≡_, _∙_}
+use mathlib.Core.Path.{_∙_}
 use borrow.Author.Needs.{needs}
 use borrow.Author.Tests.{eqb-true, eqb-false}
 use Rattle.erp1.proofs.Checks.{hash-crc, hash-sum, hash-none}

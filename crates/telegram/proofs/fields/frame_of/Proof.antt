@@ -2,7 +2,6 @@
 use native.Mathlib.Omega.{arith}
 use borrow.Author.Needs.{needs}
 use Prim.Native.Nat.{_+_, _≤_}
-use mathlib.Core.Path.{_≡_}
 use lib.ListN.{length, length-take}
 use Rattle.telegram.specs.Fields.{headOf, idsOf, bytesOf, Shaped}
 use Rattle.telegram.proofs.Frames.{frame-len}

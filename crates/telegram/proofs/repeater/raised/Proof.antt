@@ -1,12 +1,10 @@
 -- `telegram::repeater::raised` meets its contract: all before STATUS, the raised STATUS and HASH fit a frame. Assumes nothing.
-use mathlib.Core.Path.{ap, _∙_}
 use mathlib.Core.List.{[]}
 use Prim.Native.Nat.{_-_}
 use native.Mathlib.Omega.{arith}
 use borrow.Author.Needs.{needs}
 use denote.Ref.{now}
 use lib.ListN.{length, length-take}
-use Rattle.telegram.specs.Frame.{frameOf}
 use Rattle.telegram.proofs.Frames.{frame-len}
 use Rattle.telegram.proofs.Repeating.{raised-at}
 use Rattle.telegram.proofs.repeater.raised.Statement.{statement}
