@@ -1,0 +1,121 @@
+-- The end of a run: what is kept of a line, with a newline behind it, is one more line. Assumes nothing.
+use mathlib.Core.Path.{_≡_, refl, sym, ap, _∙_}
+use mathlib.Core.Bool.{Bool, true, false, cond}
+use mathlib.Core.List.{List, [], _∷_, _++_}
+use Prim.Native.Nat.{ℕ, suc, _+_, _-_, _*_, _≤_, _<_}
+use native.Mathlib.Omega.{arith}
+use lib.Dec.{eqb, leb}
+use borrow.Author.Tests.{leb-true, leb-false}
+use lib.ListN.{length, take, set, length-take, length-append}
+use lib.Seq.{take-nil, take-all, take-append-le, take-suc-set, length-take-le, length-sets}
+use Rattle.model.specs.View.{View}
+use Rattle.line_input.specs.Ascii.{newline}
+use Rattle.line_input.specs.Reading.{lineLimit}
+use Rattle.line_output.specs.Printed.{Printed, PrintedIfFits, longestTotals}
+use Rattle.line_output.proofs.Stores.{then, if-fits}
+use Rattle.streams.specs.Chunks.{Position, within, fresh, feed, feedText, lastText, endText}
+use Rattle.streams.specs.Collect.{Phase, starting, running, over, collect, endOf, nextPhase, phaseText}
+use Rattle.streams.specs.Buffer.{isOpen}
+use Rattle.streams.proofs.Limit.{bounded}
+use Rattle.streams.proofs.Segments.{Drained, none, more, feed-open, open-front}
+use Rattle.collecting.specs.declared.Progress.{Progress}
+use Rattle.collecting.specs.Session.{merging, phaseOf, longestLine, longestEnd, Ran}
+use Rattle.collecting.specs.Program.{longestFinish, Kept}
+
+end-short : (s : Phase View) → longestEnd s ≤ longestTotals
+end-short starting = omega arith
+end-short (running v) = omega arith
+end-short over = omega arith
+
+-- ---- nothing is kept
+
+pub no-line-kept : (s : Phase View) (buffer : List ℕ) {out out' : List ℕ} {kept r : ℕ} → kept ≡ 0 → longestFinish ≤ length out
+    → PrintedIfFits out 0 (longestEnd s) (endOf merging s) out' r → Printed out 0 (endText (collect merging) (within s (take kept buffer))) longestFinish out' r
+unfolding lastText
+no-line-kept s buffer e h p =
+    let b = end-short s in
+    let q = if-fits (omega arith) p in
+    rw e (record { bytes = q .bytes; next = q .next; short = omega (arith, q .short) })
+
+-- ---- a line is kept
+
+-- a text that ends with a newline is not open
+not-open : (l : List ℕ) → isOpen (l ++ (newline ∷ [])) ≡ false
+unfolding isOpen
+not-open [] = refl
+not-open (c ∷ l) = go (eqb c newline) (not-open l)
+  where
+    go : (t : Bool) → isOpen (l ++ (newline ∷ [])) ≡ false → cond t false (isOpen (l ++ (newline ∷ []))) ≡ false
+    go true e = refl
+    go false e = e
+
+-- a part of a line is no whole line
+part-is-none : (s s' : Phase View) (l : List ℕ) → isOpen l ≡ true → feed (collect merging) lineLimit (fresh s) l ≡ fresh s' → length l ≡ 0
+part-is-none s s' l o e =
+    let f = rw (take-nil {A = ℕ} lineLimit) at (feed-open (collect merging) lineLimit l [] s o) in
+    let k : take lineLimit l ≡ [] = ap (λ (a : Position (Phase View)). a .line) (sym f ∙ e) in
+    let n = ap length k in
+    omega (arith, length-take lineLimit l)
+
+module _ (s : Phase View) (l : List ℕ) (o : isOpen l ≡ true) (full : 0 < length l) {out out₁ : List ℕ} {p : Progress}
+    (capacity : longestLine ≤ length out) (r : Ran s (l ++ (newline ∷ [])) out out₁ p) where
+  -- the line is taken
+  all-used : p .used ≡ suc (length l)
+  all-used = go (leb (p .used) (length l)) refl
+    where
+      go : (t : Bool) → leb (p .used) (length l) ≡ t → p .used ≡ suc (length l)
+      go true e =
+          let h = leb-true (p .used) (length l) e in
+          let part : feed (collect merging) lineLimit (fresh s) (take (p .used) l) ≡ fresh (phaseOf (p .session)) =
+          rw (take-append-le (p .used) l (newline ∷ []) h) at (r .fed .state)
+          in
+          let n = part-is-none s (phaseOf (p .session)) (take (p .used) l) (open-front (p .used) l o) part in
+          let u : p .used ≡ 0 = omega (arith, length-take-le (p .used) l h) in
+          let z : _≡_ {A = Bool} true false = sym (r .rest u capacity) ∙ not-open l in
+          let y : _≡_ {A = ℕ} 0 1 = cc in
+          absurd (omega arith)
+      go false e = let h = leb-false (p .used) (length l) e in omega (arith, r .within, length-append l (newline ∷ []))
+
+  whole : take (p .used) (l ++ (newline ∷ [])) ≡ l ++ (newline ∷ [])
+  whole = rw all-used (take-all (suc (length l)) (l ++ (newline ∷ [])) (omega (arith, length-append l (newline ∷ []))))
+
+  taken : Drained (collect merging) lineLimit s (l ++ (newline ∷ [])) (nextPhase merging s l) (phaseText merging s l)
+  taken = more (collect merging) lineLimit (bounded merging) (none (collect merging) lineLimit s) l o
+
+  next-taken : phaseOf (p .session) ≡ nextPhase merging s l
+  next-taken = ap (λ (a : Position (Phase View)). a .state) (sym (rw whole at (r .fed .state)) ∙ taken .state)
+
+  text-taken : Printed out 0 (phaseText merging s l) (length out) out₁ (p .written)
+  text-taken = rw (taken .text) at (rw whole at (r .fed .output))
+
+  then-end : {out₂ : List ℕ} {n : ℕ} → length l ≤ lineLimit → longestFinish ≤ length out
+      → PrintedIfFits out₁ (p .written) (longestEnd (phaseOf (p .session))) (endOf merging (phaseOf (p .session))) out₂ n
+      → Printed out 0 (phaseText merging s l ++ endOf merging (nextPhase merging s l)) longestFinish out₂ n
+  then-end few room q =
+      let same : length out₁ ≡ length out = ap length (text-taken .bytes) ∙ simp length-sets in
+      let short = end-short (phaseOf (p .session)) in
+      let used = all-used in
+      let w = r .short in
+      let f : p .written + longestEnd (phaseOf (p .session)) ≤ length out₁ = omega arith in
+      let e = if-fits f q in
+      let t = then text-taken e in
+      rw (sym next-taken) (record { bytes = t .bytes; next = t .next; short = omega (arith, e .short) })
+
+last-full : (s : Phase View) (l : List ℕ) → 0 < length l
+    → lastText (collect merging) s l ≡ phaseText merging s l ++ endOf merging (nextPhase merging s l)
+unfolding lastText
+last-full s [] h = absurd (omega arith)
+last-full s (c ∷ l) h = refl
+
+pub line-kept : (s : Phase View) (buffer : List ℕ) {kept n : ℕ} {out out₁ out₂ : List ℕ} {p : Progress} → Kept kept buffer → (kept ≡ 0 → ⊥)
+    → longestFinish ≤ length out → Ran s (take (kept + 1 - 0) (set buffer kept newline)) out out₁ p
+    → PrintedIfFits out₁ (p .written) (longestEnd (phaseOf (p .session))) (endOf merging (phaseOf (p .session))) out₂ n
+    → Printed out 0 (endText (collect merging) (within s (take kept buffer))) longestFinish out₂ n
+line-kept s buffer {kept} k nonzero room r q =
+    let l = take kept buffer in
+    let fits : kept < length buffer = omega (arith, k .few, k .fits) in
+    let some : 0 < kept = omega arith in
+    let size : length l ≡ kept = length-take-le kept buffer (omega arith) in
+    let e : kept + 1 - 0 ≡ suc kept = omega arith in
+    let x = rw (e, take-suc-set buffer kept newline fits) at r in
+    rw (last-full s l (omega arith)) (then-end s l (k .line) (omega arith) (omega arith) x (omega (arith, k .few)) room q)

@@ -1,0 +1,4 @@
+pub mod Taking
+pub mod Draining
+pub mod Chunk
+pub mod Finishing

@@ -1,0 +1,43 @@
+use native.Mathlib.Omega.{arith}
+use mathlib.Core.Path.{refl}
+use mathlib.Core.List.{[]}
+use borrow.Author.Needs.{needs}
+use denote.Ref.{now}
+use Rattle.line_output.specs.Printed.{Printed}
+use Rattle.streams.specs.Collect.{over}
+use Rattle.collecting.proofs.Taking.{none-taken, no-line, one-line}
+use Rattle.collecting.proofs.skip_line.Statement.{statement}
+use Rattle.collecting.proofs.skip_line.Tie as tie
+use Rattle.collecting.proofs.skip_line.Reads as reads
+use Rattle.collecting.proofs.skip_line.Lts as lts
+use Rattle.bytes.proofs.scan.find.Reads as find-reads
+use Rattle.collecting.proofs.nothing.Reads as nothing-reads
+
+-- src/lib.rt:239:9
+find-requires : tie.Need-find-requires
+find-requires c κs = search needs
+
+-- src/lib.rt:241:9
+nothing-requires : tie.Need-nothing-requires
+nothing-requires c κs = search needs
+
+-- src/lib.rt:241:9
+returns : tie.Need-returns
+returns c out =
+    let input = now (c .before .before .before .before .args .input) in
+    none-taken input out (c .before .before .before .before .pre) (c .nothing .ensures) (λ _. no-line input (c .before .before .find .ensures .0) (c .before .if1 .taken))
+
+-- src/lib.rt:245:15
+add-t6 : tie.Need-add-t6
+add-t6 c = search needs
+
+-- src/lib.rt:234:1
+returns-2 : tie.Need-returns-2
+returns-2 c out =
+    let s = c .before .before .before in
+    let input = now (s .args .input) in
+    let w : Printed out 0 [] 0 out 0 = record { bytes = refl; next = refl; short = omega arith } in
+    record { within = omega arith; fed = rw (s .pre) (one-line over input (c .before .find .ensures .0) (c .if1 .left) w (omega arith)); short = omega arith; rest = λ e. absurd (omega arith) }
+
+pub skip-line-spec : {M : Type 1} → statement M
+skip-line-spec = tie.close (tie.spec find-requires nothing-requires returns add-t6 returns-2)

@@ -1,0 +1,248 @@
+// A run of the program `collect` (document 01, "Cases"): the lines of its input through the collector. `program` reads and writes.
+pub(crate) mod program;
+
+use collector::Collector;
+use line_input::Setting;
+use line_output::Row;
+use model::Answer;
+pub use program::run;
+use telegram::frame::Frame;
+ghost use mathlib.Core.Path.{_≡_};
+ghost use mathlib.Core.List.{List};
+ghost use Prim.Native.Nat.{ℕ, _+_, _≤_, min};
+ghost use lib.ListN.{length};
+ghost use Rattle.model.specs.Answer.{shownOf};
+ghost use Rattle.collector.specs.Collector.{viewOf};
+ghost use Rattle.line_output.specs.Text.{rowText};
+ghost use Rattle.line_output.specs.Printed.{Printed, PrintedIfFits};
+ghost use Rattle.streams.specs.Collect.{starting, running, over, afterFirst, firstText, endOf};
+ghost use Rattle.collecting.specs.Session.{merging, phaseOf, rowOf, sentBytes, longestLine, longestEnd, Ran};
+
+// Where a run stands: before its first line, past a right one, or ended by a wrong one.
+pub enum Stage {
+    Starting,
+    Running,
+    Over,
+}
+
+// A run between two lines; its collector counts while it is running.
+pub struct Session {
+    pub stage: Stage,
+    pub collector: Collector,
+}
+
+// The session after some lines, how many bytes of the input they are, and how many were written.
+pub struct Progress {
+    pub session: Session,
+    pub used: usize,
+    pub written: usize,
+}
+
+// The longest text of one line: a row that sends 21 bytes.
+pub const LONGEST: usize = line_output::LONGEST_ROW + 2 * Collector::MAX_LEN;
+
+impl Session {
+    // A run before its first line.
+    pub fn start() -> Session
+        ensures { λ r. ⌜ phaseOf r ≡ starting ⌝ }
+    {
+        let f = Collector::fresh(0);
+        let c = f.collector;
+        Session {
+            stage: Stage::Starting,
+            collector: c,
+        }
+    }
+
+    // Takes lines from the start of `input`, each with its newline, and writes what they give to the front of `out`: the first line of a
+    // run by itself, later lines while the longest row fits. Where the longest row fits and none is taken, there is no whole line.
+    pub fn lines(self, input: &[u8], out: &mut [u8]) -> Progress
+        ensures { λ r. ⌜ Ran (phaseOf self) (now (input .entry)) (now (out .entry)) (now (out .exit)) r ⌝ }
+    {
+        let stage = self.stage;
+        match stage {
+            Stage::Starting => first_line(input, out),
+            Stage::Running => {
+                let c = self.collector;
+                later_lines(c, input, out)
+            }
+            Stage::Over => skip_line(self, input),
+        }
+    }
+
+    // The end of the output: BAD where there was no line, the totals after a run, nothing after one that was ended.
+    pub fn put_end(self, out: &mut [u8], at: usize) -> usize
+        ensures { λ r. ⌜ PrintedIfFits (now (out .entry)) at (longestEnd (phaseOf self)) (endOf merging (phaseOf self)) (now (out .exit)) r ⌝ }
+    {
+        let stage = self.stage;
+        let c = self.collector;
+        let t = c.totals;
+        match stage {
+            Stage::Starting => line_output::put_bad(out, at),
+            Stage::Running => line_output::put_totals(
+                out,
+                at,
+                t.received,
+                t.kept,
+                t.copies,
+                t.loose,
+                t.damaged,
+                t.late,
+            ),
+            Stage::Over => at,
+        }
+    }
+}
+
+// ---- the first line
+
+fn first_line(input: &[u8], out: &mut [u8]) -> Progress
+    ensures { λ r. ⌜ Ran starting (now (input .entry)) (now (out .entry)) (now (out .exit)) r ⌝ }
+{
+    let end = input.len();
+    let n = bytes::scan::find(input, 0, end, 10);
+    if end <= n {
+        return nothing(Session::start());
+    }
+    if out.len() < LONGEST {
+        return nothing(Session::start());
+    }
+    let setting = line_input::parse_setting(&input[0..n]);
+    let written = put_first(out, setting);
+    Progress {
+        session: begin(setting),
+        used: n + 1,
+        written: written,
+    }
+}
+
+// No line was taken.
+fn nothing(s: Session) -> Progress
+    ensures { λ r. ⌜ r ≡ record { session = s; used = 0; written = 0 } ⌝ }
+{
+    Progress {
+        session: s,
+        used: 0,
+        written: 0,
+    }
+}
+
+// A level sets the collector, any other line ends the run.
+fn begin(setting: Setting) -> Session
+    ensures { λ r. ⌜ phaseOf r ≡ afterFirst merging setting ⌝ }
+{
+    match setting {
+        Setting::Level(n) => {
+            let f = Collector::fresh(n);
+            let c = f.collector;
+            Session {
+                stage: Stage::Running,
+                collector: c,
+            }
+        }
+        Setting::Bad => {
+            let f = Collector::fresh(0);
+            let c = f.collector;
+            Session {
+                stage: Stage::Over,
+                collector: c,
+            }
+        }
+    }
+}
+
+fn put_first(out: &mut [u8], setting: Setting) -> usize
+    requires { ⌜ longestLine ≤ length (now out) ⌝ }
+    ensures { λ r. ⌜ Printed (now (out .entry)) 0 (firstText merging setting) longestLine (now (out .exit)) r ⌝ }
+{
+    match setting {
+        Setting::Level(_) => 0,
+        Setting::Bad => line_output::put_bad(out, 0),
+    }
+}
+
+// ---- later lines
+
+// The collector stays in one local: each copy of it costs as much as a line.
+fn later_lines(c: Collector, input: &[u8], out: &mut [u8]) -> Progress
+    ensures { λ r. ⌜ Ran (running (viewOf c)) (now (input .entry)) (now (out .entry)) (now (out .exit)) r ⌝ }
+{
+    let mut c = c;
+    let end = input.len();
+    let mut at = 0;
+    let mut to = 0;
+    while LONGEST <= out.len() - to {
+        let n = bytes::scan::find(input, at, end, 10);
+        if end <= n {
+            break;
+        }
+        let l = line_input::parse(&input[at..n]);
+        at = n + 1;
+        if !l.ok {
+            to = line_output::put_bad(out, to);
+            continue;
+        }
+        let bytes = l.bytes;
+        let len = l.len;
+        let t = c.take(&bytes[0..len], l.time);
+        let next = t.next;
+        let answer = t.answer;
+        let sent = t.sent;
+        c = next;
+        to = put_answer(out, to, l.time, answer, sent);
+    }
+    Progress {
+        session: Session {
+            stage: Stage::Running,
+            collector: c,
+        },
+        used: at,
+        written: to,
+    }
+}
+
+// The row of a reception.
+fn put_answer(out: &mut [u8], at: usize, time: u64, answer: Answer, sent: Frame) -> usize
+    requires { ⌜ at + longestLine ≤ length (now out) ⌝ }
+    ensures { λ r. ⌜ Printed (now (out .entry)) at (rowText time (rowOf (shownOf answer)) (sentBytes sent)) longestLine (now (out .exit)) r ⌝ }
+{
+    let bytes = sent.bytes;
+    let n = least(sent.len, Collector::MAX_LEN);
+    line_output::put_row(out, at, time, row_of(answer), &bytes[0..n])
+}
+
+fn row_of(answer: Answer) -> Row
+    ensures { λ r. ⌜ r ≡ rowOf (shownOf answer) ⌝ }
+{
+    match answer {
+        Answer::Kept => Row::Kept,
+        Answer::Copy => Row::Copy,
+        Answer::Loose => Row::Loose,
+        Answer::Refused(why) => Row::Refused(refusal::number(why)),
+    }
+}
+
+fn least(a: usize, b: usize) -> usize
+    ensures { λ r. ⌜ r ≡ min a b ⌝ }
+{
+    if a < b { a } else { b }
+}
+
+// ---- after a wrong first line
+
+// A line that says nothing any more.
+fn skip_line(s: Session, input: &[u8]) -> Progress
+    requires { ⌜ phaseOf s ≡ over ⌝ }
+    ensures { λ r. ⌜ ((out : List ℕ) → Ran over (now (input .entry)) out out r) ⌝ }
+{
+    let end = input.len();
+    let n = bytes::scan::find(input, 0, end, 10);
+    if end <= n {
+        return nothing(s);
+    }
+    Progress {
+        session: s,
+        used: n + 1,
+        written: 0,
+    }
+}
