@@ -1,30 +1,31 @@
 -- The test of a state by its parts: the times, telegrams each new after those before it, and totals that are summed.
 -- Assumes nothing.
-use Prim.Native.Nat.{ℕ, _+_, _-_, _*_, _≤_, _<_}
+use Prim.Native.Nat.{ℕ, _+_, _-_, _≤_, _<_}
 use native.Mathlib.Omega.{arith}
 use mathlib.Core.Path.{_≡_, refl, sym, _∙_, ap}
-use mathlib.Core.Bool.{Bool, true, false, not, _&&_, false≢true}
+use mathlib.Core.Bool.{and-false, Bool, true, false, not, _&&_, false≢true}
 use mathlib.Core.List.{List, [], _∷_, _++_}
 use lib.Dec.{leb, eqb}
-use lib.ListN.{length, getD}
+use lib.ListN.{length}
 use borrow.Author.Tests.{le-leb, lt-leb, leb-true, eqb-true, eq-eqb, ne-eqb, not-true}
 use Rattle.lists.specs.Lists.{any, all, pairwise}
 use Rattle.lists.proofs.Choice.{both}
 use Rattle.lists.proofs.Tests.{and-true, all-last, none, pairwise-last}
-use Rattle.erp1.specs.Subtelegram.{maxLength, checkOf, isValid}
-use Rattle.layout.specs.Buffer.{part, resized}
-use Rattle.layout.proofs.Buffer.{resized-length}
+use Rattle.erp1.specs.Subtelegram.{isValid}
 use Rattle.model.specs.declared.Totals.{Totals}
 use Rattle.model.specs.View.{Reception, View, capacity, maxSetting, isOpen}
 use Rattle.model.specs.Acceptable.{isCopyOf, isEntry, mayFollow, isSummed, acceptable}
-use Rattle.model.proofs.Check.{valid-length}
 use Rattle.collector.specs.Collector.{entryAt, entriesAt}
-use Rattle.collector.specs.Acceptable.{areTimely, areTelegrams, hasCopy, isNewAt}
+use Rattle.collector.specs.Acceptable.{areTimely, areTelegrams, hasCopy, shownAt}
 use Rattle.collector.proofs.Inside.{same-test, fails, all-inside, pairwise-inside, none-any}
 use Rattle.collector.proofs.Times.{isOrdered}
 use Rattle.collector.proofs.Arrays.{entries-none, entries-more, entries-inside}
 
 -- ---- the telegrams
+
+-- entry i is valid, and no entry before it is the same telegram
+unfoldable pub isNewAt : List ℕ → List ℕ → List ℕ → ℕ → Bool
+isNewAt times lens bytes i = isValid (shownAt lens bytes i) && not (hasCopy (entriesAt times lens bytes i) (entryAt times lens bytes i))
 
 pub telegrams-none : (times lens bytes : List ℕ) → areTelegrams (entriesAt times lens bytes 0) ≡ true
 unfolding areTelegrams
@@ -58,21 +59,18 @@ module _ (times lens bytes : List ℕ) (i : ℕ) where
           and-true (all-inside (λ e. isValid (e .bytes)) before entry (s .0) (w .0))
           (ap not (none-any (λ e. isCopyOf e entry) before (pairwise-inside (λ e later. not (isCopyOf e later)) before entry (s .0) (w .1))))
 
-  -- what is told of entry i by its length, and of its bytes by the check and the search
-  pub new-long : maxLength < getD lens i 0 → false ≡ isNewAt times lens bytes i
+  -- by its parts
+  pub new-not-valid : isValid (shownAt lens bytes i) ≡ false → isNewAt times lens bytes i ≡ false
   unfolding isNewAt
-  new-long h =
-      let shown = entry .bytes in
-      rw (fails (isValid shown) (λ e. omega (arith, valid-length shown e, resized-length (getD lens i 0) (part (maxLength * i) maxLength bytes))))
+  new-not-valid e = rw e
 
-  module _ (telegram : List ℕ) (shown : telegram ≡ resized (getD lens i 0) (part (maxLength * i) maxLength bytes)) where
-    pub new-refused : isValid telegram ≡ false → false ≡ isNewAt times lens bytes i
-    unfolding isNewAt
-    new-refused e = rw (← shown, e)
+  pub new-repeated : hasCopy (entriesAt times lens bytes i) entry ≡ true → isNewAt times lens bytes i ≡ false
+  unfolding isNewAt
+  new-repeated e = rw e (and-false (isValid (shownAt lens bytes i)))
 
-    pub new-searched : checkOf telegram ≡ 0 → (b : Bool) → b ≡ hasCopy (entriesAt times lens bytes i) (record { bytes = telegram; time = getD times i 0 }) → not b ≡ isNewAt times lens bytes i
-    unfolding isNewAt
-    new-searched e b f = rw (← shown, e, f)
+  pub new-both : isValid (shownAt lens bytes i) ≡ true → hasCopy (entriesAt times lens bytes i) entry ≡ false → isNewAt times lens bytes i ≡ true
+  unfolding isNewAt
+  new-both e f = rw (e, f)
 
 -- ---- all of it
 

@@ -4,13 +4,38 @@ use crate::entries;
 use erp1::Checked;
 use model::Totals;
 ghost use mathlib.Core.Path.{_≡_};
+ghost use mathlib.Core.Bool.{true};
 ghost use mathlib.Core.List.{List};
 ghost use Prim.Native.Nat.{ℕ, _≤_, _<_};
-ghost use lib.ListN.{length};
+ghost use lib.ListN.{length, getD};
+ghost use Rattle.erp1.specs.Subtelegram.{minLength, maxLength};
 ghost use Rattle.model.specs.View.{capacity};
 ghost use Rattle.model.specs.Acceptable.{isSummed, acceptable};
-ghost use Rattle.collector.specs.Collector.{entriesAt};
-ghost use Rattle.collector.specs.Acceptable.{areTimely, areTelegrams, isNewAt};
+ghost use Rattle.collector.specs.Collector.{entryAt, entriesAt};
+ghost use Rattle.collector.specs.Acceptable.{areTimely, areTelegrams, hasCopy, shownAt, marks, markOf, MarkedAs, Repeated};
+
+// The size of the table of marks.
+const MARKS: usize = 1024;
+
+// The same of a state that may be trusted to be acceptable, and is then not tested.
+pub(crate) fn is_fit<'a>(
+    trusted: bool,
+    times: &'a [u64; Collector::CAPACITY],
+    lens: &'a [u8; Collector::CAPACITY],
+    bytes: &'a [u8; Collector::CAPACITY * Collector::MAX_LEN],
+    count: usize,
+    latest: u64,
+    setting: u8,
+    totals: Totals,
+) -> bool
+    requires { ⌜ (trusted ≡ true → acceptable (record { setting = setting; latest = latest; totals = totals; entries = entriesAt (now times) (now lens) (now bytes) count }) ≡ true) ⌝ }
+    ensures { λ r. ⌜ r ≡ acceptable (record { setting = setting; latest = latest; totals = totals; entries = entriesAt (now (times .entry)) (now (lens .entry)) (now (bytes .entry)) count }) ⌝ }
+{
+    if trusted {
+        return true;
+    }
+    is_acceptable(times, lens, bytes, count, latest, setting, totals)
+}
 
 // Whether the state with these parts is acceptable, whatever they are.
 pub fn is_acceptable<'a>(
@@ -58,7 +83,8 @@ fn are_timely(times: &[u64], count: usize, latest: u64) -> bool
     earliest <= latest
 }
 
-// Whether the first `count` entries are valid, and no two the same telegram.
+// Whether the first `count` entries are valid, and no two the same telegram. `seen` has the marks of those passed: where the mark of an
+// entry is new, so is its telegram, and only else those before it are searched.
 fn are_telegrams<'a>(
     lens: &'a [u8; Collector::CAPACITY],
     bytes: &'a [u8; Collector::CAPACITY * Collector::MAX_LEN],
@@ -67,33 +93,76 @@ fn are_telegrams<'a>(
     requires { ⌜ count ≤ capacity ⌝ }
     ensures { λ r. ⌜ ((times : List ℕ) → r ≡ areTelegrams (entriesAt times (now (lens .entry)) (now (bytes .entry)) count)) ⌝ }
 {
+    let mut seen = no_marks();
     for i in 0..count {
-        if !is_new(lens, bytes, i) {
+        let mark = mark_at(lens, bytes, i);
+        if MARKS <= mark {
             return false;
         }
+        if is_repeated(lens, bytes, i, seen[mark]) {
+            return false;
+        }
+        seen[mark] = 1;
     }
     true
 }
 
-// Whether entry `i` is valid, and none before it the same telegram.
-fn is_new<'a>(
+// No mark seen.
+fn no_marks() -> [u8; MARKS]
+    ensures { λ r. ⌜ length r ≡ marks ⌝ }
+{
+    [0u8; MARKS]
+}
+
+// The mark of entry `i`, or MARKS if it is not valid.
+fn mark_at<'a>(
     lens: &'a [u8; Collector::CAPACITY],
     bytes: &'a [u8; Collector::CAPACITY * Collector::MAX_LEN],
     i: usize,
-) -> bool
+) -> usize
     requires { ⌜ i < capacity ⌝ }
-    ensures { λ r. ⌜ ((times : List ℕ) → r ≡ isNewAt times (now (lens .entry)) (now (bytes .entry)) i) ⌝ }
+    ensures { λ r. ⌜ MarkedAs (shownAt (now (lens .entry)) (now (bytes .entry)) i) r ⌝ }
 {
     let len = entries::wide(lens[i]);
     if Collector::MAX_LEN < len {
-        return false;
+        return MARKS;
     }
     let telegram = entries::telegram(bytes, i, len);
     let checked = erp1::check(telegram);
     if let Checked::Refused(_) = checked {
+        return MARKS;
+    }
+    mark(telegram)
+}
+
+// A number below MARKS that a telegram shares with those that are the same: of the two last bytes of TXID and the first after RORG.
+fn mark(telegram: &[u8]) -> usize
+    requires { ⌜ minLength ≤ length (now telegram) ⌝ }
+    ensures { λ r. ⌜ (r ≡ markOf (now (telegram .entry))) × (r < marks) ⌝ }
+{
+    let n = telegram.len();
+    let last = entries::wide(telegram[n - 3]);
+    let other = entries::wide(telegram[n - 4]);
+    let first = entries::wide(telegram[1]);
+    (4 * last + 67 * other + 29 * first) % MARKS
+}
+
+// Whether an entry before entry `i`, which is valid, is the same telegram; none is where its mark was not seen.
+fn is_repeated<'a>(
+    lens: &'a [u8; Collector::CAPACITY],
+    bytes: &'a [u8; Collector::CAPACITY * Collector::MAX_LEN],
+    i: usize,
+    seen: u8,
+) -> bool
+    requires { ⌜ (i < capacity) × (getD (now lens) i 0 ≤ maxLength) ⌝ }
+    ensures { λ r. ⌜ ((times : List ℕ) → Repeated seen (hasCopy (entriesAt times (now (lens .entry)) (now (bytes .entry)) i) (entryAt times (now (lens .entry)) (now (bytes .entry)) i)) r) ⌝ }
+{
+    if seen == 0 {
         return false;
     }
-    !entries::find(lens, bytes, i, telegram)
+    let len = entries::wide(lens[i]);
+    let telegram = entries::telegram(bytes, i, len);
+    entries::find(lens, bytes, i, telegram)
 }
 
 // Whether received is the sum of the others, which no sum here can wrap.

@@ -77,7 +77,27 @@ impl Collector {
     pub fn take(mut self, bytes: &[u8], time: u64) -> Taken
         ensures { λ r. ⌜ outcomeOf r ≡ step (viewOf self) (record { bytes = now (bytes .entry); time = time }) ⌝ }
     {
-        if !acceptable::is_acceptable(
+        self.merge(false, bytes, time)
+    }
+
+    // `take` of a state that is known to be acceptable, as the one is that it returns: for a run of receptions.
+    pub(crate) fn admit(mut self, bytes: &[u8], time: u64) -> Taken
+        requires { ⌜ acceptable (viewOf self) ≡ true ⌝ }
+        ensures { λ r. ⌜ outcomeOf r ≡ step (viewOf self) (record { bytes = now (bytes .entry); time = time }) ⌝ }
+    {
+        self.merge(true, bytes, time)
+    }
+
+    // Both of them: a trusted state is not tested. Each step after the test decides by the answer, and the state is changed where it lies and
+    // left at one exit, so that it is copied in and out alone. A refused reception leaves the latest time, at which every entry is open.
+    fn merge(mut self, trusted: bool, bytes: &[u8], time: u64) -> Taken
+        requires { ⌜ (trusted ≡ true → acceptable (viewOf self) ≡ true) ⌝ }
+        ensures { λ r. ⌜ outcomeOf r ≡ step (viewOf self) (record { bytes = now (bytes .entry); time = time }) ⌝ }
+    {
+        let mut answer = Answer::Refused(Refusal::NotAccepted);
+        let mut sent = Frame::empty();
+        if acceptable::is_fit(
+            trusted,
             &self.times,
             &self.lens,
             &self.bytes,
@@ -86,41 +106,26 @@ impl Collector {
             self.setting,
             self.totals,
         ) {
-            let sent = Frame::empty();
-            return Taken {
-                next: self,
-                answer: Answer::Refused(Refusal::NotAccepted),
-                sent: sent,
-            };
+            let count = self.count;
+            let totals = self.totals;
+            let checked = merging::check_reception(totals.received, self.latest, bytes, time);
+            let latest = merging::latest_after(checked, self.latest, time);
+            let gone = entries::expired(&self.times, count, latest);
+            let left = count - gone;
+            entries::close_times(&mut self.times, gone, left);
+            entries::close_lens(&mut self.lens, gone, left);
+            entries::close_bytes(&mut self.bytes, gone, left);
+            answer = merging::classify(&self.lens, &self.bytes, left, checked, bytes);
+            let kept = merging::is_kept(answer);
+            entries::put_time(&mut self.times, left, kept, time);
+            entries::put_len(&mut self.lens, left, kept, bytes);
+            entries::put_bytes(&mut self.bytes, left, kept, bytes);
+            let totals_after = merging::counted(totals, answer);
+            self.count = merging::count_after(kept, left);
+            self.latest = latest;
+            self.totals = totals_after;
+            sent = merging::sent_for(self.setting, kept, bytes);
         }
-        self.admit(bytes, time)
-    }
-
-    // `take` of a state that is known to be acceptable, as the one is that it returns: for a run of receptions. Each step decides by the
-    // answer, so that there is one exit; a refused reception leaves the latest time, at which every entry is open.
-    pub(crate) fn admit(mut self, bytes: &[u8], time: u64) -> Taken
-        requires { ⌜ acceptable (viewOf self) ≡ true ⌝ }
-        ensures { λ r. ⌜ outcomeOf r ≡ step (viewOf self) (record { bytes = now (bytes .entry); time = time }) ⌝ }
-    {
-        let count = self.count;
-        let totals = self.totals;
-        let checked = merging::check_reception(totals.received, self.latest, bytes, time);
-        let latest = merging::latest_after(checked, self.latest, time);
-        let gone = entries::expired(&self.times, count, latest);
-        let left = count - gone;
-        entries::close_times(&mut self.times, gone, left);
-        entries::close_lens(&mut self.lens, gone, left);
-        entries::close_bytes(&mut self.bytes, gone, left);
-        let answer = merging::classify(&self.lens, &self.bytes, left, checked, bytes);
-        let kept = merging::is_kept(answer);
-        entries::put_time(&mut self.times, left, kept, time);
-        entries::put_len(&mut self.lens, left, kept, bytes);
-        entries::put_bytes(&mut self.bytes, left, kept, bytes);
-        let totals_after = merging::counted(totals, answer);
-        self.count = merging::count_after(kept, left);
-        self.latest = latest;
-        self.totals = totals_after;
-        let sent = merging::sent_for(self.setting, kept, bytes);
         Taken {
             next: self,
             answer: answer,

@@ -1,42 +1,81 @@
--- `collector::acceptable::are_telegrams` meets its contract. The loop's invariant: the first i entries are valid, no two the same telegram.
--- The measure is the number of entries left. Assumes nothing.
+-- `collector::acceptable::are_telegrams` meets its contract. The loop's invariant: the first i entries are valid, no two the same telegram,
+-- and their marks are seen. The measure is the number of entries left. Assumes nothing.
 use Prim.Native.Nat.{ℕ, _-_, _≤_}
-use mathlib.Core.Path.{_≡_, sym, _∙_}
+use mathlib.Core.Path.{_≡_, sym, ap, _∙_}
 use mathlib.Core.Bool.{true}
 use mathlib.Core.List.{List}
 use native.Mathlib.Omega.{arith}
-use borrow.Author.Tests.{not-true, not-false}
+use borrow.Author.Needs.{needs}
 use denote.Ref.{now}
+use lib.ListN.{getD}
+use Rattle.erp1.specs.Subtelegram.{isValid}
 use Rattle.collector.specs.Collector.{entriesAt}
-use Rattle.collector.specs.Acceptable.{areTelegrams}
-use Rattle.collector.proofs.Accepting.{telegrams-none, telegrams-more, telegrams-not}
+use Rattle.collector.specs.Acceptable.{areTelegrams, shownAt}
+use Rattle.collector.proofs.Accepting.{telegrams-none, telegrams-more, telegrams-not, new-not-valid, new-repeated, new-both}
+use Rattle.collector.proofs.Marks.{Marked, marked-none, marked-more, valid-len, is-known, not-known, new-mark}
 use Rattle.collector.proofs.acceptable.are_telegrams.Statement.{statement}
 use Rattle.collector.proofs.acceptable.are_telegrams.Tie as tie
 
 abbrev Inv-loop : tie.InvT-loop
-Inv-loop lens bytes count i₀ i = (i ≤ count) × ((times : List ℕ) → areTelegrams (entriesAt times lens bytes i) ≡ true)
+Inv-loop lens bytes count seen₀ i₀ seen i =
+    (i ≤ count) × ((times : List ℕ) → areTelegrams (entriesAt times lens bytes i) ≡ true) × Marked lens bytes i seen
 
 abbrev μ-loop : tie.MeasureT-loop
-μ-loop lens bytes count i₀ i = count - i
+μ-loop lens bytes count seen₀ i₀ seen i = count - i
+
+-- the loop's place and the arguments
+abbrev at : tie.After-mark-at Inv-loop μ-loop → tie.At-loop Inv-loop μ-loop
+at c = c .before .before
+
+abbrev start : tie.At-loop Inv-loop μ-loop → tie.Start Inv-loop μ-loop
+start c = c .before .before
 
 returns : tie.Need-returns Inv-loop μ-loop
 returns c times =
-    let l = c .before .before .before in
-    let a = l .before .args in
-    sym (telegrams-not times (now (a .lens)) (now (a .bytes)) (l .loop .i) (a .count) (omega arith) (sym (c .before .is-new .ensures times) ∙ not-true _ (c .if1 .taken)))
+    let l = at (c .before) in
+    let a = start l .args in
+    let i = l .loop .i in
+    sym (telegrams-not times (now (a .lens)) (now (a .bytes)) i (a .count) (omega arith)
+    (new-not-valid times (now (a .lens)) (now (a .bytes)) i (c .before .mark-at .ensures .not (c .if1 .taken))))
 
-loop-again : tie.Need-loop-again Inv-loop μ-loop
-loop-again c =
-    let l = c .before .before .before in
-    let a = l .before .args in (
-      omega arith,
-      λ times. telegrams-more times (now (a .lens)) (now (a .bytes)) (l .loop .i) (l .loop .inv .1 times) (sym (c .before .is-new .ensures times) ∙ not-false _ (c .if1 .left)),
-    )
+valid : (c : tie.Else1 Inv-loop μ-loop) → isValid (shownAt (now (start (at (c .before)) .args .lens)) (now (start (at (c .before)) .args .bytes)) (at (c .before) .loop .i)) ≡ true
+valid c = c .before .mark-at .ensures .valid (c .if1 .left)
+
+is-repeated-requires : tie.Need-is-repeated-requires Inv-loop μ-loop
+is-repeated-requires c κs =
+    let l = at (c .before) in
+    let a = start l .args in
+    (omega arith, valid-len (now (a .lens)) (now (a .bytes)) (l .loop .i) (valid c))
 
 returns-2 : tie.Need-returns-2 Inv-loop μ-loop
 returns-2 c times =
+    let l = at (c .before .before .before) in
+    let a = start l .args in
+    let i = l .loop .i in
+    sym (telegrams-not times (now (a .lens)) (now (a .bytes)) i (a .count) (omega arith)
+    (new-repeated times (now (a .lens)) (now (a .bytes)) i (is-known (c .before .is-repeated .ensures times) (c .if2 .taken))))
+
+loop-again : tie.Need-loop-again Inv-loop μ-loop
+loop-again c =
+    let e = c .before .before in
+    let l = at (e .before) in
+    let a = start l .args in
+    let i = l .loop .i in
+    let lens = now (a .lens) in
+    let bytes = now (a .bytes) in
+    let mark = e .before .mark-at .ensures .mark (e .if1 .left) in (
+      omega arith,
+      λ times. telegrams-more times lens bytes i (l .loop .inv .1 times)
+          (new-both times lens bytes i (valid e)
+          (not-known (c .before .is-repeated .ensures times) (c .if2 .left)
+          (λ z. new-mark lens bytes i (l .loop .seen) (l .loop .inv .2) times (valid e) (ap (λ (n : ℕ). getD (l .loop .seen) n 0) (sym mark) ∙ z)))),
+      marked-more lens bytes i (l .loop .seen) (l .loop .inv .2) _ mark (e .if1 .left),
+    )
+
+returns-3 : tie.Need-returns-3 Inv-loop μ-loop
+returns-3 c times =
     let l = c .before in
-    let e : l .loop .i ≡ l .before .args .count = omega arith in
+    let e : l .loop .i ≡ start l .args .count = omega arith in
     sym (rw e at (l .loop .inv .1 times))
 
 pub are-telegrams-spec : {M : Type 1} → statement M
@@ -45,10 +84,15 @@ are-telegrams-spec =
     (tie.spec
     Inv-loop
     μ-loop
-    (λ c. (omega arith, λ times. telegrams-none times _ _))
+    (λ c κs. search needs)
+    (λ c. (omega arith, λ times. telegrams-none times _ _, marked-none _ _ _ (c .no-marks .ensures)))
     (λ c κs. omega arith)
     returns
     (λ c. omega arith)
+    is-repeated-requires
+    returns-2
+    (λ c. omega arith)
+    (λ c. omega arith)
     (λ c. omega arith)
     loop-again
-    returns-2)
+    returns-3)

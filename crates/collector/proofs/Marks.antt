@@ -1,0 +1,132 @@
+-- Marks: the same telegrams have the same, so that an entry whose mark no entry before it has is no copy of one. Assumes nothing.
+use Prim.Native.Nat.{ℕ, zero, suc, _+_, _-_, _*_, _≤_, _<_}
+use native.Mathlib.Decide.{decLt}
+use native.Mathlib.Numerals.{add-one}
+use native.Mathlib.Omega.{arith}
+use mathlib.Core.Path.{_≡_, sym, _∙_, ap, subst}
+use mathlib.Core.Bool.{Bool, true, false, false≢true}
+use mathlib.Core.List.{List}
+use lib.Dec.{T, eqb}
+use lib.ListN.{length, getD, take, set, length-set}
+use lib.Seq.{getD-take, getD-set-same, getD-set-other}
+use borrow.Author.Tests.{eq-eqb, eqb-true, eqb-false}
+use Rattle.lists.specs.Lists.{equal}
+use Rattle.lists.proofs.Choice.{both}
+use Rattle.lists.proofs.Equal.{equal-eq}
+use Rattle.lists.proofs.Tests.{by-test}
+use Rattle.erp1.specs.Status.{upperOf}
+use Rattle.erp1.specs.Subtelegram.{minLength, maxLength, statusOf, bodyOf, checkOf, isValid}
+use Rattle.erp1.specs.Same.{isSame}
+use Rattle.erp1.proofs.Checks.{front-at, check-facts}
+use Rattle.layout.specs.Buffer.{part}
+use Rattle.layout.proofs.Buffer.{resized-length}
+use Rattle.model.specs.Acceptable.{isCopyOf}
+use Rattle.model.proofs.Check.{valid-length}
+use Rattle.collector.specs.Collector.{entryAt, entriesAt}
+use Rattle.collector.specs.Acceptable.{hasCopy, shownAt, marks, markOf, MarkedAs, Repeated}
+use Rattle.collector.proofs.Inside.{fails}
+use Rattle.collector.proofs.Arrays.{has-none, has-more}
+
+-- ---- the same telegrams
+
+module _ (a b : List ℕ) (same : isSame a b ≡ true) where
+  same-length : length a ≡ length b
+  unfolding isSame
+  same-length = eqb-true _ _ (both (eqb (length a) (length b)) _ same .0)
+
+  module _ (low : minLength ≤ length a) where
+    same-front : take (length a - 2) a ≡ take (length a - 2) b
+    unfolding isSame
+    same-front =
+        let e = both (eqb (upperOf (statusOf a)) (upperOf (statusOf b))) (equal (bodyOf (bodyOf a)) (bodyOf (bodyOf b))) (both (eqb (length a) (length b)) _ same .1) .1 in
+        let long = same-length in
+        let f = equal-eq (bodyOf (bodyOf a)) (bodyOf (bodyOf b)) (subst T (sym e) tt) in
+        sym (front-at a (omega arith)) ∙ f ∙ front-at b (omega arith) ∙ ap (λ (n : ℕ). take (n - 2) b) (sym long)
+
+    same-at : (k : ℕ) → k < length a - 2 → getD a k 0 ≡ getD b k 0
+    same-at k h = sym (getD-take (length a - 2) a k 0 h) ∙ ap (λ (l : List ℕ). getD l k 0) same-front ∙ getD-take (length a - 2) b k 0 h
+
+    same-mark : markOf a ≡ markOf b
+    unfolding markOf
+    same-mark =
+        rw (same-at (length a - 3) (omega arith), same-at (length a - 4) (omega arith), same-at 1 (omega arith), same-length)
+
+-- ---- the table of those seen
+
+-- it has the mark of each of the first i entries
+pub record Marked (lens bytes : List ℕ) (i : ℕ) (seen : List ℕ) : Type 0 where
+  pub long : length seen ≡ marks
+  pub each : (j : ℕ) → j < i → getD seen (markOf (shownAt lens bytes j)) 0 ≡ 1
+
+pub marked-none : (lens bytes seen : List ℕ) → length seen ≡ marks → Marked lens bytes 0 seen
+marked-none lens bytes seen long = record { long = long; each = λ j h. absurd (omega arith) }
+
+module _ (lens bytes : List ℕ) (i : ℕ) (seen : List ℕ) (m : Marked lens bytes i seen) where
+  abbrev markAt : ℕ → ℕ
+  markAt j = markOf (shownAt lens bytes j)
+
+  pub marked-more : (mark : ℕ) → mark ≡ markAt i → mark < marks → Marked lens bytes (i + 1) (set seen mark 1)
+  marked-more mark e h =
+      let long = m .long in
+      record { long = length-set seen mark 1 ∙ m .long; each = λ j k. by-test (eqb (markAt j) mark) (λ q. hit j (eqb-true _ _ q)) (λ q. other j k (eqb-false _ _ q)) }
+    where
+      hit : (j : ℕ) → markAt j ≡ mark → getD (set seen mark 1) (markAt j) 0 ≡ 1
+      hit j q = let long = m .long in rw q (getD-set-same seen mark 1 0 (omega arith))
+
+      other : (j : ℕ) → j < i + 1 → (markAt j ≡ mark → ⊥) → getD (set seen mark 1) (markAt j) 0 ≡ 1
+      other j k n = elim (decLt j i) [
+        | yes l ↦ getD-set-other seen mark (markAt j) 1 0 n ∙ m .each j l
+        | no l ↦ let s : j ≡ i = omega arith in absurd (n (ap markAt s ∙ sym e))
+      ]
+
+  -- a mark that was not seen is that of no copy
+  module _ (times : List ℕ) (valid : isValid (shownAt lens bytes i) ≡ true) (unseen : getD seen (markAt i) 0 ≡ 0) where
+    low : minLength ≤ length (shownAt lens bytes i)
+    low = check-facts (shownAt lens bytes i) (eqb-true _ 0 valid) .low
+
+    no-copy-before : (j : ℕ) → j < i → isCopyOf (entryAt times lens bytes j) (entryAt times lens bytes i) ≡ false
+    unfolding isCopyOf
+    no-copy-before j h =
+        fails (isSame (shownAt lens bytes j) (shownAt lens bytes i)) seen-twice
+      where
+        seen-twice : isSame (shownAt lens bytes j) (shownAt lens bytes i) ≡ true → ⊥
+        seen-twice e =
+            let long = same-length (shownAt lens bytes j) (shownAt lens bytes i) e in
+            let enough = low in
+            let one : _≡_ {A = ℕ} 1 0 = sym (m .each j h) ∙ ap (λ (n : ℕ). getD seen n 0) (same-mark (shownAt lens bytes j) (shownAt lens bytes i) e (omega arith)) ∙ unseen in
+            omega arith
+
+    up-to : (k : ℕ) → k ≤ i → hasCopy (entriesAt times lens bytes k) (entryAt times lens bytes i) ≡ false
+    up-to zero h = has-none times lens bytes (entryAt times lens bytes i)
+    up-to (suc k) h = rw (← add-one) (has-more times lens bytes k (entryAt times lens bytes i) (up-to k (omega arith)) (no-copy-before k (omega arith)))
+
+    pub new-mark : hasCopy (entriesAt times lens bytes i) (entryAt times lens bytes i) ≡ false
+    new-mark = up-to i (omega arith)
+
+-- ---- an entry's mark
+
+pub no-mark : {s : List ℕ} → isValid s ≡ false → MarkedAs s marks
+no-mark e = record { valid = λ h. absurd (omega arith); mark = λ h. absurd (omega arith); not = λ _. e }
+
+pub has-mark : {s : List ℕ} {r : ℕ} → checkOf s ≡ 0 → (r ≡ markOf s) → r < marks → MarkedAs s r
+has-mark e f h = record { valid = λ _. eq-eqb _ 0 e; mark = λ _. f; not = λ k. absurd (omega arith) }
+
+-- a length over 21 is not that of a valid entry
+module _ (lens bytes : List ℕ) (i : ℕ) where
+  shown-length : length (shownAt lens bytes i) ≡ getD lens i 0
+  shown-length = resized-length (getD lens i 0) (part (maxLength * i) maxLength bytes)
+
+  pub long-not-valid : maxLength < getD lens i 0 → isValid (shownAt lens bytes i) ≡ false
+  long-not-valid h = fails (isValid (shownAt lens bytes i)) (λ e. omega (arith, valid-length (shownAt lens bytes i) e, shown-length))
+
+  pub valid-len : isValid (shownAt lens bytes i) ≡ true → getD lens i 0 ≤ maxLength
+  valid-len e = omega (arith, valid-length (shownAt lens bytes i) e, shown-length)
+
+-- ---- what the search tells, where a mark was seen
+
+module _ {seen : ℕ} {known r : Bool} (q : Repeated seen known r) where
+  pub is-known : r ≡ true → known ≡ true
+  is-known e = by-test (eqb seen 0) (λ z. absurd (false≢true (sym (q .new (eqb-true seen 0 z)) ∙ e))) (λ z. sym (q .old (eqb-false seen 0 z)) ∙ e)
+
+  pub not-known : r ≡ false → (seen ≡ 0 → known ≡ false) → known ≡ false
+  not-known e unseen = by-test (eqb seen 0) (λ z. unseen (eqb-true seen 0 z)) (λ z. sym (q .old (eqb-false seen 0 z)) ∙ e)

@@ -1,0 +1,43 @@
+-- `collector::acceptable::is_repeated` meets its contract: nothing is searched where the mark was not seen. Assumes nothing.
+use mathlib.Core.Path.{_≡_, refl, ap, _∙_}
+use Prim.Native.Nat.{ℕ, _*_}
+use native.Mathlib.Omega.{arith}
+use borrow.Author.Needs.{needs}
+use denote.Ref.{now}
+use lib.ListN.{length, getD}
+use Rattle.erp1.specs.Subtelegram.{maxLength}
+use Rattle.layout.specs.Buffer.{part, resized}
+use Rattle.layout.proofs.Buffer.{resized-length}
+use Rattle.collector.specs.Acceptable.{shownAt}
+use Rattle.collector.proofs.acceptable.is_repeated.Statement.{statement}
+use Rattle.collector.proofs.acceptable.is_repeated.Tie as tie
+
+-- the bytes that the entry shows
+abbrev start : tie.After-telegram → tie.Start
+start c = c .before .before .before .before .before
+
+shown : (c : tie.After-telegram) → now (c .telegram .result) ≡ shownAt (now (start c .args .lens)) (now (start c .args .bytes)) (start c .args .i)
+shown c =
+    let a = start c .args in
+    c .telegram .ensures ∙ ap (λ (n : ℕ). resized n (part (maxLength * a .i) maxLength (now (a .bytes)))) (c .before .before .wide .ensures)
+
+returns : tie.Need-returns
+returns c times = record { new = λ _. refl; old = λ n. absurd (n (c .if1 .taken)) }
+
+find-requires : tie.Need-find-requires
+find-requires c κs =
+    let a = start c .args in
+    (omega arith, omega (arith, start c .pre .1, ap length (shown c), resized-length (getD (now (a .lens)) (a .i) 0) (part (maxLength * a .i) maxLength (now (a .bytes)))))
+
+returns-2 : tie.Need-returns-2
+returns-2 c times =
+    let a = start (c .before) .args in
+    record {
+      new = λ e. absurd (c .before .before .before .before .before .if1 .left e);
+      old = λ _. rw (← shown (c .before)) (c .find .ensures times (getD times (a .i) 0));
+    }
+
+pub is-repeated-spec : {M : Type 1} → statement M
+is-repeated-spec =
+    tie.close
+    (tie.spec returns (λ c. search needs) (λ c κs. search needs) (λ c κs. search needs) find-requires returns-2)
