@@ -2,7 +2,7 @@
 use mathlib.Core.Path.{_≡_, refl, sym, ap, _∙_}
 use mathlib.Core.Bool.{Bool, true, false, cond}
 use mathlib.Core.List.{List, [], _∷_, _++_}
-use Prim.Native.Nat.{ℕ, suc, _+_, _-_, _*_, _≤_, _<_}
+use Prim.Native.Nat.{ℕ, suc, _+_, _-_, _≤_, _<_}
 use native.Mathlib.Omega.{arith}
 use lib.Dec.{eqb, leb}
 use borrow.Author.Tests.{leb-true, leb-false}
@@ -13,7 +13,7 @@ use Rattle.line_input.specs.Ascii.{newline}
 use Rattle.line_input.specs.Reading.{lineLimit}
 use Rattle.line_output.specs.Printed.{Printed, PrintedIfFits, longestTotals}
 use Rattle.line_output.proofs.Stores.{then, if-fits}
-use Rattle.streams.specs.Chunks.{Position, within, fresh, feed, feedText, lastText, endText}
+use Rattle.streams.specs.Chunks.{Position, within, fresh, feed, lastText, endText}
 use Rattle.streams.specs.Collect.{Phase, starting, running, over, collect, endOf, nextPhase, phaseText}
 use Rattle.streams.specs.Buffer.{isOpen}
 use Rattle.streams.proofs.Limit.{bounded}

@@ -12,10 +12,10 @@ use Rattle.bytes.specs.Bytes.{indexOf, slice}
 use Rattle.model.specs.View.{View}
 use Rattle.model.specs.Step.{Outcome}
 use Rattle.line_input.specs.Ascii.{newline}
-use Rattle.line_input.specs.Reading.{lineLimit, readingOf, reception, bad}
+use Rattle.line_input.specs.Reading.{readingOf, reception, bad}
 use Rattle.line_output.specs.Text.{rowText, badText}
 use Rattle.line_output.specs.Printed.{Printed}
-use Rattle.streams.specs.Chunks.{fresh, feed, feedText}
+use Rattle.streams.specs.Chunks.{feedText}
 use Rattle.streams.specs.Collect.{Phase, running, collect, phaseText, nextPhase}
 use Rattle.streams.specs.Buffer.{isOpen, Fed}
 use Rattle.streams.proofs.Segments.{open-whole}

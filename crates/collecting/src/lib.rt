@@ -185,10 +185,9 @@ fn later_lines(c: Collector, input: &[u8], out: &mut [u8]) -> Progress
         let bytes = l.bytes;
         let len = l.len;
         let t = c.take(&bytes[0..len], l.time);
-        let next = t.next;
         let answer = t.answer;
         let sent = t.sent;
-        c = next;
+        c = t.next;
         to = put_answer(out, to, l.time, answer, sent);
     }
     Progress {

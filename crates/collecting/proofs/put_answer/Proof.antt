@@ -1,33 +1,13 @@
-use native.Mathlib.Omega.{arith}
+-- `collecting::put_answer` meets its contract: what is sent has no more bytes than its array. Assumes nothing.
 use mathlib.Core.Path.{_≡_}
 use Prim.Native.Nat.{_-_, _≤_, min}
+use native.Mathlib.Omega.{arith}
 use lib.ListN.{length, length-take}
 use borrow.Author.Needs.{needs}
 use Rattle.line_output.proofs.Stores.{within, if-fits}
 use Rattle.collecting.proofs.Taking.{front-bytes}
 use Rattle.collecting.proofs.put_answer.Statement.{statement}
 use Rattle.collecting.proofs.put_answer.Tie as tie
-use Rattle.collecting.proofs.put_answer.Reads as reads
-use Rattle.collecting.proofs.put_answer.Lts as lts
-use Rattle.collecting.proofs.least.Reads as least-reads
-use Rattle.collecting.proofs.row_of.Reads as row-of-reads
-use Rattle.line_output.proofs.put_row.Reads as put-row-reads
-
--- src/lib.rt:210:9
-least-requires : tie.Need-least-requires
-least-requires c κs = search needs
-
--- src/lib.rt:211:41
-row-of-requires : tie.Need-row-of-requires
-row-of-requires c κs = search needs
-
--- src/lib.rt:211:57
-sub-put-row : tie.Need-sub-put-row
-sub-put-row c = search needs
-
--- src/lib.rt:211:57
-part-put-row-start : tie.Need-part-put-row-start
-part-put-row-start c = search needs
 
 full : (c : tie.After-bytes2) → length (c .before .before .before .before .before .before .args .sent .bytes) ≡ 21
 full c = search needs
@@ -40,15 +20,6 @@ part-put-row-end c =
     let h = full c in
     omega arith
 
--- src/lib.rt:211:5
-put-row-requires : tie.Need-put-row-requires
-put-row-requires c κs = search needs
-
--- src/lib.rt:205:1
-same-length : tie.Need-same-length
-same-length c = search needs
-
--- src/lib.rt:205:1
 returns : tie.Need-returns
 returns c =
     let q = c .before .before in
@@ -66,11 +37,11 @@ pub put-answer-spec : {M : Type 1} → statement M
 put-answer-spec =
     tie.close
     (tie.spec
-    least-requires
-    row-of-requires
-    sub-put-row
-    part-put-row-start
+    (λ c κs. search needs)
+    (λ c κs. search needs)
+    (λ c. search needs)
+    (λ c. search needs)
     part-put-row-end
-    put-row-requires
-    same-length
+    (λ c κs. search needs)
+    (λ c. search needs)
     returns)

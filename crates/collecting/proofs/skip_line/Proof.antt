@@ -1,6 +1,7 @@
-use native.Mathlib.Omega.{arith}
+-- `collecting::skip_line` meets its contract: in a run that is over a line changes nothing and says nothing. Assumes nothing.
 use mathlib.Core.Path.{refl}
 use mathlib.Core.List.{[]}
+use native.Mathlib.Omega.{arith}
 use borrow.Author.Needs.{needs}
 use denote.Ref.{now}
 use Rattle.line_output.specs.Printed.{Printed}
@@ -8,30 +9,12 @@ use Rattle.streams.specs.Collect.{over}
 use Rattle.collecting.proofs.Taking.{none-taken, no-line, one-line}
 use Rattle.collecting.proofs.skip_line.Statement.{statement}
 use Rattle.collecting.proofs.skip_line.Tie as tie
-use Rattle.collecting.proofs.skip_line.Reads as reads
-use Rattle.collecting.proofs.skip_line.Lts as lts
-use Rattle.bytes.proofs.scan.find.Reads as find-reads
-use Rattle.collecting.proofs.nothing.Reads as nothing-reads
 
--- src/lib.rt:239:9
-find-requires : tie.Need-find-requires
-find-requires c κs = search needs
-
--- src/lib.rt:241:9
-nothing-requires : tie.Need-nothing-requires
-nothing-requires c κs = search needs
-
--- src/lib.rt:241:9
 returns : tie.Need-returns
 returns c out =
     let input = now (c .before .before .before .before .args .input) in
     none-taken input out (c .before .before .before .before .pre) (c .nothing .ensures) (λ _. no-line input (c .before .before .find .ensures .0) (c .before .if1 .taken))
 
--- src/lib.rt:245:15
-add-t6 : tie.Need-add-t6
-add-t6 c = search needs
-
--- src/lib.rt:234:1
 returns-2 : tie.Need-returns-2
 returns-2 c out =
     let s = c .before .before .before in
@@ -40,4 +23,4 @@ returns-2 c out =
     record { within = omega arith; fed = rw (s .pre) (one-line over input (c .before .find .ensures .0) (c .if1 .left) w (omega arith)); short = omega arith; rest = λ e. absurd (omega arith) }
 
 pub skip-line-spec : {M : Type 1} → statement M
-skip-line-spec = tie.close (tie.spec find-requires nothing-requires returns add-t6 returns-2)
+skip-line-spec = tie.close (tie.spec (λ c κs. search needs) (λ c κs. search needs) returns (λ c. search needs) returns-2)

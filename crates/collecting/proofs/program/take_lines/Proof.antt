@@ -3,22 +3,18 @@
 use mathlib.Core.Path.{_≡_, refl}
 use mathlib.Core.Bool.{true, false}
 use Prim.Native.Nat.{ℕ, _-_, _≤_}
-use lib.ListN.{length, take, drop, length-take, length-drop}
+use native.Mathlib.Omega.{arith}
+use lib.ListN.{length, take, drop, length-drop}
+use borrow.Author.Needs.{needs}
 use denote.Ref.{now}
 use Rattle.line_input.specs.Reading.{lineLimit}
-use Rattle.line_output.proofs.Stores.{take-rest}
 use Rattle.streams.specs.Chunks.{fresh, feed}
 use Rattle.streams.specs.Collect.{collect}
+use Rattle.line_output.proofs.Stores.{take-rest}
 use Rattle.collecting.specs.Session.{merging, phaseOf, Ran}
 use Rattle.collecting.proofs.Draining.{more-taken, none-more, none-left}
-use borrow.Author.Needs.{needs}
-use native.Mathlib.Omega.{arith}
 use Rattle.collecting.proofs.program.take_lines.Statement.{statement}
 use Rattle.collecting.proofs.program.take_lines.Tie as tie
-use Rattle.collecting.proofs.program.take_lines.Reads as reads
-use Rattle.collecting.proofs.program.take_lines.Lts as lts
-use Rattle.collecting.proofs.Session.lines.Reads as lines-reads
-use Rattle.io.proofs.write_all.Reads as write-all-reads
 
 failed : {A : Type 0} → false ≡ true → A
 failed e = let z : _≡_ {A = ℕ} 0 1 = cc in absurd (omega arith)
@@ -30,46 +26,9 @@ Inv-loop input out₀ s₀ at₀ out s at =
 abbrev μ-loop : tie.MeasureT-loop
 μ-loop input out₀ s₀ at₀ out s at = length input - at
 
--- src/program.rt:144:5
 loop-holds : tie.Need-loop-holds Inv-loop μ-loop
 unfolding feed
 loop-holds c = (omega arith, refl, refl)
-
--- src/program.rt:145:25
-sub-lines : tie.Need-sub-lines Inv-loop μ-loop
-sub-lines c = search needs
-
--- src/program.rt:145:25
-part-lines-start : tie.Need-part-lines-start Inv-loop μ-loop
-part-lines-start c = search needs
-
--- src/program.rt:145:25
-part-lines-end : tie.Need-part-lines-end Inv-loop μ-loop
-part-lines-end c = search needs
-
--- src/program.rt:145:13
-lines-requires : tie.Need-lines-requires Inv-loop μ-loop
-lines-requires c κs = search needs
-
--- src/program.rt:149:42
-sub-write-all : tie.Need-sub-write-all Inv-loop μ-loop
-sub-write-all c = search needs
-
--- src/program.rt:149:42
-part-write-all-start : tie.Need-part-write-all-start Inv-loop μ-loop
-part-write-all-start c = search needs
-
--- src/program.rt:149:42
-part-write-all-end : tie.Need-part-write-all-end Inv-loop μ-loop
-part-write-all-end c = search needs
-
--- src/program.rt:149:13
-write-all-requires : tie.Need-write-all-requires Inv-loop μ-loop
-write-all-requires c κs = search needs
-
--- src/program.rt:150:13
-same-length : tie.Need-same-length Inv-loop μ-loop
-same-length c = search needs
 
 -- what the call of `lines` gave, on the rest of the input
 ran : (c : tie.After-lines Inv-loop μ-loop)
@@ -78,13 +37,11 @@ ran c =
     let input = now (c .before .before .before .before .before .before .before .args .input) in
     rw (take-rest input (length input) (c .before .before .before .before .loop .at) refl) at (c .lines .ensures)
 
--- src/program.rt:150:13
 returns : tie.Need-returns Inv-loop μ-loop
 returns c =
     let l = c .before .before .before .before .before .before .before in
     record { within = l .before .before .before .before .loop .inv .0; state = λ e. failed e; rest = λ e. failed e }
 
--- src/program.rt:159:9
 add-at : tie.Need-add-at Inv-loop μ-loop
 add-at c =
     let l = c .before .before .before .before .before .before .before .before .before .before in
@@ -94,11 +51,6 @@ add-at c =
     let h : l .lines .result .used ≤ length input - a .loop .at = omega (arith, r .within, length-drop (a .loop .at) input) in
     omega arith
 
--- src/program.rt:144:5
-loop-less : tie.Need-loop-less Inv-loop μ-loop
-loop-less c = search needs
-
--- src/program.rt:144:5
 loop-again : tie.Need-loop-again Inv-loop μ-loop
 loop-again c =
     let l = c .before .before .before .before .before .before .before .before .before .before in
@@ -108,21 +60,11 @@ loop-again c =
     let h : l .lines .result .used ≤ length input - a .loop .at = omega (arith, r .within, length-drop (a .loop .at) input) in
     (omega arith, omega arith, more-taken _ _ _ input (a .loop .at) (l .lines .result .used) (a .loop .inv .2) (r .fed .state))
 
--- src/program.rt:138:1
-same-length-2 : tie.Need-same-length-2 Inv-loop μ-loop
-same-length-2 c = search needs
-
--- src/program.rt:138:1
 returns-2 : tie.Need-returns-2 Inv-loop μ-loop
 returns-2 c =
     let a = c .before in
     record { within = a .loop .inv .0; state = λ e. a .loop .inv .2; rest = λ e. none-left _ _ (c .loop-test .left) }
 
--- src/program.rt:138:1
-same-length-3 : tie.Need-same-length-3 Inv-loop μ-loop
-same-length-3 c = search needs
-
--- src/program.rt:138:1
 returns-3 : tie.Need-returns-3 Inv-loop μ-loop
 returns-3 c =
     let l = c .before .before .before .before .before .before .before .before .before in
@@ -142,20 +84,20 @@ take-lines-spec =
     Inv-loop
     μ-loop
     loop-holds
-    sub-lines
-    part-lines-start
-    part-lines-end
-    lines-requires
-    sub-write-all
-    part-write-all-start
-    part-write-all-end
-    write-all-requires
-    same-length
+    (λ c. search needs)
+    (λ c. search needs)
+    (λ c. search needs)
+    (λ c κs. search needs)
+    (λ c. search needs)
+    (λ c. search needs)
+    (λ c. search needs)
+    (λ c κs. search needs)
+    (λ c. search needs)
     returns
     add-at
-    loop-less
+    (λ c. search needs)
     loop-again
-    same-length-2
+    (λ c. search needs)
     returns-2
-    same-length-3
+    (λ c. search needs)
     returns-3)
