@@ -479,6 +479,17 @@ impl Maker {
         state(self);
         self.end();
     }
+
+    /// Document 01's cases that are run and not proved: first heard at level 2 and the original 5 ms
+    /// later, which is a copy with nothing to send; and lengths 7 and 22.
+    fn cases(&mut self) {
+        let telegram = [0xD5, 0x09, 0x01, 0x02, 0x03, 0x04, 0x00, 0xE8];
+        self.start(2, 10);
+        self.reception_alone(10, &at_level(&telegram, 2));
+        self.reception_alone(15, &telegram);
+        self.reception_alone(16, &[0; 7]);
+        self.reception_alone(16, &[0; 22]);
+    }
 }
 
 /// All histories, one after the other.
@@ -487,6 +498,8 @@ pub fn calls() -> Vec<Call> {
     for (setting, from) in [(0, 0), (1, 3), (2, 6), (1, 9)] {
         maker.full(setting, from);
     }
+    maker.cases();
+    maker.end();
     let mut several = |settings: &[u8], count: usize, make: fn(&mut Maker, u8, usize)| {
         for &setting in settings {
             make(&mut maker, setting, count);
