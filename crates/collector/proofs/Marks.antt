@@ -106,10 +106,10 @@ module _ (lens bytes : List ℕ) (i : ℕ) (seen : List ℕ) (m : Marked lens by
 -- ---- an entry's mark
 
 pub no-mark : {s : List ℕ} → isValid s ≡ false → MarkedAs s marks
-no-mark e = record { valid = λ h. absurd (omega arith); mark = λ h. absurd (omega arith); not = λ _. e }
+no-mark e = record { valid = λ h. absurd (omega arith); mark = λ h. absurd (omega arith); invalid = λ _. e }
 
 pub has-mark : {s : List ℕ} {r : ℕ} → checkOf s ≡ 0 → (r ≡ markOf s) → r < marks → MarkedAs s r
-has-mark e f h = record { valid = λ _. eq-eqb _ 0 e; mark = λ _. f; not = λ k. absurd (omega arith) }
+has-mark e f h = record { valid = λ _. eq-eqb _ 0 e; mark = λ _. f; invalid = λ k. absurd (omega arith) }
 
 -- a length over 21 is not that of a valid entry
 module _ (lens bytes : List ℕ) (i : ℕ) where

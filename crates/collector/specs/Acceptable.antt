@@ -41,7 +41,7 @@ markOf s = (4 * getD s (length s - 3) 0 + 67 * getD s (length s - 4) 0 + 29 * ge
 pub record MarkedAs (s : List ℕ) (r : ℕ) : Type 0 where
   pub valid : r < marks → isValid s ≡ true
   pub mark : r < marks → r ≡ markOf s
-  pub not : marks ≤ r → isValid s ≡ false
+  pub invalid : marks ≤ r → isValid s ≡ false
 
 -- r is what is known, where a mark was seen
 pub record Repeated (seen : ℕ) (known r : Bool) : Type 0 where

@@ -36,7 +36,7 @@ returns c times =
     let a = start l .args in
     let i = l .loop .i in
     sym (telegrams-not times (now (a .lens)) (now (a .bytes)) i (a .count) (omega arith)
-    (new-not-valid times (now (a .lens)) (now (a .bytes)) i (c .before .mark-at .ensures .not (c .if1 .taken))))
+    (new-not-valid times (now (a .lens)) (now (a .bytes)) i (c .before .mark-at .ensures .invalid (c .if1 .taken))))
 
 valid : (c : tie.Else1 Inv-loop μ-loop) → isValid (shownAt (now (start (at (c .before)) .args .lens)) (now (start (at (c .before)) .args .bytes)) (at (c .before) .loop .i)) ≡ true
 valid c = c .before .mark-at .ensures .valid (c .if1 .left)
