@@ -1,7 +1,7 @@
 -- Laws of the digits of a number: writing them from the last one on gives all. Assumes nothing.
-use mathlib.Core.Path.{_≡_}
+use mathlib.Core.Path.{_≡_, _∙_}
 use mathlib.Core.List.{List, [], _∷_, _++_, append-assoc, append-nil}
-use Prim.Native.Nat.{ℕ, zero, suc, _+_, _-_, _/_, _%_, _^_, _<_, _≤_}
+use Prim.Native.Nat.{ℕ, zero, suc, _+_, _-_, _*_, _/_, _%_, _^_, _<_, _≤_}
 use native.Mathlib.Omega.{arith}
 use native.Mathlib.Nat.{pow-succ'}
 use lib.ListN.{length, drop, set, length-set, drop-of-length-le}
@@ -55,6 +55,28 @@ module _ (i n : ℕ) (stored : List ℕ) (within : i ≤ length stored) where
   spell-last h k =
       let e : suc (i - 1) ≡ i = omega arith in
       rw (one-digit i n h k, drop-set stored (i - 1) (48 + n) (omega arith), e)
+
+-- two digits at once: the last, and that of the tenth
+module _ (i n : ℕ) (stored : List ℕ) (within : i ≤ length stored) (h : 10 ≤ n) (k : n < 10 ^ i) where
+  at : i - 2 ≡ i - 1 - 1
+  at = omega arith
+
+  pub spell-pair : 100 ≤ n
+      → digitsOf i n ++ drop i stored ≡ digitsOf (i - 2) (n / 100) ++ drop (i - 2) (set (set stored (i - 1) (48 + n % 100 % 10)) (i - 2) (48 + n % 100 / 10))
+  spell-pair more =
+      let last : n % 100 % 10 ≡ n % 10 = omega arith in
+      let tens : n / 10 ≡ 10 * (n / 100) + n % 100 / 10 = omega arith in
+      let rest : n / 100 ≡ n / 10 / 10 = omega (arith, tens) in
+      let other : n % 100 / 10 ≡ n / 10 % 10 = omega (arith, tens, rest) in
+      spell-next i n stored within h k
+      ∙ spell-next (i - 1) (n / 10) (set stored (i - 1) (48 + n % 10)) (simp length-set (omega arith)) (omega arith) (shorter i n h k .small)
+      ∙ rw (last, other, rest, at)
+
+  pub spell-two : n < 100 → digitsOf i n ++ drop i stored ≡ drop (i - 2) (set (set stored (i - 1) (48 + n % 10)) (i - 2) (48 + n / 10))
+  spell-two small =
+      spell-next i n stored within h k
+      ∙ spell-last (i - 1) (n / 10) (set stored (i - 1) (48 + n % 10)) (simp length-set (omega arith)) (omega (arith, shorter i n h k .several)) (omega arith)
+      ∙ rw at
 
 pub spell-start : (text stored : List ℕ) → length stored ≡ 20 → text ≡ text ++ drop 20 stored
 spell-start text stored h = rw (drop-of-length-le stored {i = 20} (omega arith), append-nil text)

@@ -182,21 +182,27 @@ fn write_decimal(out: &mut [u8], at: usize, n: u64) -> usize
     write(out, at, &digits[from..20])
 }
 
-// Writes n in decimal to the end of `digits`, and answers where it starts.
+// Writes n in decimal to the end of `digits`, and answers where it starts. Two digits at a time: a division by 100 costs as much as one by 10.
 fn spell(n: u64, digits: &mut [u8]) -> usize
     requires { ⌜ length (now digits) ≡ 20 ⌝ }
     ensures { λ r. ⌜ (r ≤ 20) × (drop r (now (digits .exit)) ≡ decimalText n) ⌝ }
 {
     let mut i = 20;
     let mut rest = n;
-    while 10 <= rest {
-        i -= 1;
-        digits[i] = 48 + (rest % 10) as u8;
-        rest = rest / 10;
+    while 100 <= rest {
+        let pair = (rest % 100) as u8;
+        digits[i - 1] = 48 + pair % 10;
+        digits[i - 2] = 48 + pair / 10;
+        i -= 2;
+        rest = rest / 100;
     }
-    i -= 1;
-    digits[i] = 48 + rest as u8;
-    i
+    let pair = rest as u8;
+    digits[i - 1] = 48 + pair % 10;
+    if pair < 10 {
+        return i - 1;
+    }
+    digits[i - 2] = 48 + pair / 10;
+    i - 2
 }
 
 // The table is named once: a constant array is built anew wherever it is named.

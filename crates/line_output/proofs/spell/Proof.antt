@@ -2,13 +2,13 @@
 -- The measure is the rest. Assumes nothing.
 use mathlib.Core.Path.{_≡_, sym, _∙_}
 use mathlib.Core.List.{_++_}
-use Prim.Native.Nat.{_^_, _<_, _≤_}
+use Prim.Native.Nat.{ℕ, _-_, _/_, _%_, _^_, _<_, _≤_}
 use native.Mathlib.Omega.{arith}
 use borrow.Author.Needs.{needs}
 use denote.Ref.{now}
 use lib.ListN.{length, drop, length-set}
 use Rattle.line_output.specs.Text.{digitsOf, decimalText}
-use Rattle.line_output.proofs.Digits.{shorter, spell-next, spell-last, spell-start}
+use Rattle.line_output.proofs.Digits.{shorter, spell-pair, spell-two, spell-last, spell-start}
 use Rattle.line_output.proofs.spell.Statement.{statement}
 use Rattle.line_output.proofs.spell.Tie as tie
 
@@ -22,24 +22,58 @@ abbrev μ-loop : tie.MeasureT-loop
 loop-holds : tie.Need-loop-holds Inv-loop μ-loop
 loop-holds c = (search needs, search needs, search needs, search needs, spell-start (decimalText (c .args .n)) (now (c .args .digits)) (search needs))
 
+-- a number of two digits or more
+several : (i rest : ℕ) → rest < 10 ^ i → 10 ≤ rest → 2 ≤ i
+several i rest small more = omega (arith, shorter i rest more small .several)
+
+sub-digits-2 : tie.Need-sub-digits-2 Inv-loop μ-loop
+sub-digits-2 c = several (c .before .loop .i) (c .before .loop .rest) (c .before .loop .inv .3) (omega arith)
+
+sub-i : tie.Need-sub-i Inv-loop μ-loop
+sub-i c = several (c .before .loop .i) (c .before .loop .rest) (c .before .loop .inv .3) (omega arith)
+
+slice-write-digits-2 : tie.Need-slice-write-digits-2 Inv-loop μ-loop
+slice-write-digits-2 c = simp length-set (omega arith)
+
 loop-again : tie.Need-loop-again Inv-loop μ-loop
 loop-again c =
     let l = c .before .loop in
-    let m = shorter (l .i) (l .rest) (c .loop-test .taken) (l .inv .3) in (
-      omega (arith, m .several),
+    let m = shorter (l .i) (l .rest) (omega arith) (l .inv .3) in
+    let k = shorter (l .i - 1) (l .rest / 10) (omega arith) (m .small) in
+    let tenth : l .rest / 10 / 10 ≡ l .rest / 100 = omega arith in
+    let at : l .i - 1 - 1 ≡ l .i - 2 = omega arith in (
+      omega (arith, k .several),
       omega arith,
       simp length-set (l .inv .2),
-      m .small,
-      l .inv .4 ∙ spell-next (l .i) (l .rest) (l .digits) (omega arith) (c .loop-test .taken) (l .inv .3),
+      rw (tenth, at) at (k .small),
+      l .inv .4 ∙ spell-pair (l .i) (l .rest) (l .digits) (omega arith) (omega arith) (l .inv .3) (c .loop-test .taken),
     )
-
-same-length : tie.Need-same-length Inv-loop μ-loop
-same-length c = simp length-set (omega (arith, c .before .before .pre))
 
 returns : tie.Need-returns Inv-loop μ-loop
 returns c =
-    let l = c .before .loop in
-    (omega arith, sym (l .inv .4 ∙ spell-last (l .i) (l .rest) (l .digits) (omega arith) (l .inv .0) (c .loop-test .left)))
+    let l = c .before .before .loop in
+    let one : l .rest % 10 ≡ l .rest = omega arith in
+    (omega arith, sym (l .inv .4 ∙ spell-last (l .i) (l .rest) (l .digits) (omega arith) (l .inv .0) (c .if1 .taken) ∙ rw one))
+
+returns-2 : tie.Need-returns-2 Inv-loop μ-loop
+returns-2 c =
+    let l = c .before .before .loop in
+    (omega arith, sym (l .inv .4 ∙ spell-two (l .i) (l .rest) (l .digits) (omega arith) (c .if1 .left) (l .inv .3) (c .before .loop-test .left)))
+
+same-length : tie.Need-same-length Inv-loop μ-loop
+same-length c = simp length-set (omega (arith, c .before .before .before .pre))
+
+same-length-2 : tie.Need-same-length-2 Inv-loop μ-loop
+same-length-2 c = simp length-set (omega (arith, c .before .before .before .pre))
+
+sub-digits-4 : tie.Need-sub-digits-4 Inv-loop μ-loop
+sub-digits-4 c = several (c .before .before .loop .i) (c .before .before .loop .rest) (c .before .before .loop .inv .3) (c .if1 .left)
+
+sub-result-2 : tie.Need-sub-result-2 Inv-loop μ-loop
+sub-result-2 c = several (c .before .before .loop .i) (c .before .before .loop .rest) (c .before .before .loop .inv .3) (c .if1 .left)
+
+slice-write-digits-4 : tie.Need-slice-write-digits-4 Inv-loop μ-loop
+slice-write-digits-4 c = simp length-set (omega arith)
 
 pub spell-spec : {M : Type 1} → statement M
 spell-spec =
@@ -53,10 +87,21 @@ spell-spec =
     (λ c. search needs)
     (λ c. search needs)
     (λ c. search needs)
+    sub-digits-2
+    slice-write-digits-2
+    sub-i
+    (λ c. search needs)
     loop-again
     (λ c. search needs)
     (λ c. search needs)
     (λ c. search needs)
     (λ c. search needs)
+    (λ c. search needs)
     same-length
-    returns)
+    returns
+    (λ c. search needs)
+    sub-digits-4
+    slice-write-digits-4
+    sub-result-2
+    same-length-2
+    returns-2)
