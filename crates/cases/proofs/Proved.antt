@@ -10,7 +10,7 @@ use Rattle.crc8.specs.Crc8.{remainderOf, stepOf}
 use Rattle.erp1.specs.Subtelegram.{hashOf, checkOf}
 use Rattle.erp1.specs.Same.{isSame}
 use Rattle.telegram.specs.Fields.{fieldsOf, bytesOf}
-use Rattle.telegram.specs.Repeater.{repeatOf}
+use Rattle.telegram.specs.Repeater.{relayOf, repeatOf}
 use Rattle.slots.specs.Plan.{plans, candidates, lawful, thirdFollows}
 use Rattle.model.specs.View.{fresh}
 use Rattle.model.specs.Acceptable.{isCopyOf, acceptable}
@@ -19,5 +19,5 @@ use Rattle.cases.specs.Cases.{Case, cases}
 
 -- each row's two sides are equal
 pub every-case : (k : ℕ) → k < length cases → (d : Case) → getD cases k d .got ≡ getD cases k d .want
-unfolding upFrom remainderOf stepOf hashOf checkOf isSame fieldsOf bytesOf repeatOf plans candidates lawful thirdFollows fresh isCopyOf acceptable classify advance step
+unfolding upFrom remainderOf stepOf hashOf checkOf isSame fieldsOf bytesOf relayOf repeatOf plans candidates lawful thirdFollows fresh isCopyOf acceptable classify advance step
 every-case k h d = equal-eq _ _ (at (λ i c. equal (c .got) (c .want)) d cases tt k h)

@@ -17,7 +17,7 @@ use Rattle.telegram.proofs.Frames.{put-facts, put-written}
 use Rattle.telegram.proofs.Reading.{fields-fit}
 use Rattle.telegram.proofs.Building.{build-facts, build-fields, buildable-fields}
 use Rattle.telegram.proofs.Addressed.{encapsulate-facts, decapsulate-facts, encapsulate-put, decapsulate-put}
-use Rattle.telegram.proofs.Repeating.{repeat-none, repeat-sent, repeat-invalid, repeats-low, raised-from}
+use Rattle.telegram.proofs.Repeating.{relay-none, relay-sent, repeat-valid, repeat-invalid, repeats-low, raised-from}
 use Rattle.telegram.proofs.RoundTrip.{built-valid, built-reads, read-builds, read-shaped, built-flag, built-decapsulated, built-encapsulated, plain-itself, addressed-itself}
 
 -- ---- reading, and writing what is read
@@ -105,6 +105,9 @@ repeated setting s byte some = go (isValid s) (repeats setting (levelOf s)) refl
   where
     go : (a b : Bool) → isValid s ≡ a → repeats setting (levelOf s) ≡ b → RaisedFrom s (repeatOf setting s)
     go true true v r =
-        rw (← repeat-sent setting s (eqb-true _ _ v) r) (raised-from s (check-facts s (eqb-true _ _ v)) byte (repeats-low setting (levelOf s) r))
-    go true false v r = absurd (some (sym (repeat-none setting s (eqb-true _ _ v) r)))
+        let f = check-facts s (eqb-true _ _ v) in
+        rw (← repeat-valid setting s (eqb-true _ _ v), ← relay-sent setting s (f .low) (f .high) r) (raised-from s f byte (repeats-low setting (levelOf s) r))
+    go true false v r =
+        let f = check-facts s (eqb-true _ _ v) in
+        absurd (some (sym (relay-none setting s (f .low) (f .high) r ∙ repeat-valid setting s (eqb-true _ _ v))))
     go false b v r = absurd (some (repeat-invalid setting s v))

@@ -7,15 +7,15 @@ use native.Mathlib.Omega.{arith}
 use lib.Dec.{eqb, leb}
 use lib.ListN.{length, take, getD, length-append, List·getD-append}
 use lib.Seq.{length-take-le, getD-take}
-use borrow.Author.Tests.{eq-eqb, ne-eqb, eqb-true, eqb-false, leb-true, leb-false}
+use borrow.Author.Tests.{lt-ltb, le-ltb, eq-eqb, ne-eqb, eqb-true, eqb-false, leb-true, leb-false}
 use Rattle.lists.proofs.Equal.{equal-refl}
 use Rattle.refusal.specs.Number.{numberOf}
 use Rattle.refusal.specs.declared.Refusal.{Refusal}
 use Rattle.erp1.specs.Status.{splitOf, joinOf, upperOf}
-use Rattle.erp1.specs.Subtelegram.{bodyOf, statusOf, isAddressed, isValid, checkOf, sealedOf}
+use Rattle.erp1.specs.Subtelegram.{minLength, maxLength, bodyOf, statusOf, isAddressed, isValid, checkOf, sealedOf}
 use Rattle.erp1.specs.Same.{isSame}
 use Rattle.erp1.proofs.Checks.{Sound, not-valid, status-at, front-at, check-plain, check-addressed}
-use Rattle.telegram.specs.Repeater.{levelOf, repeats, raise, raisedOf, repeatOf, RaisedFrom}
+use Rattle.telegram.specs.Repeater.{levelOf, repeats, raise, raisedOf, relayOf, repeatOf, RaisedFrom}
 use Rattle.telegram.proofs.Parts.{last-more, body-more, sealed-hashed}
 
 -- what is sent, by the indices of the code
@@ -27,6 +27,25 @@ pub level-at : (s : List ℕ) → 2 ≤ length s → splitOf (getD s (length s -
 level-at s h = rw (status-at s h)
 
 module _ (setting : ℕ) (s : List ℕ) where
+  -- bytes that need no check
+  pub relay-short : length s < minLength → [] ≡ relayOf setting s
+  unfolding relayOf
+  relay-short h = rw (lt-ltb _ _ h)
+
+  pub relay-long : maxLength < length s → [] ≡ relayOf setting s
+  unfolding relayOf
+  relay-long h = rw (le-ltb (length s) minLength (omega arith), lt-ltb _ _ h)
+
+  module _ (low : minLength ≤ length s) (high : length s ≤ maxLength) where
+    pub relay-none : repeats setting (levelOf s) ≡ false → [] ≡ relayOf setting s
+    unfolding relayOf
+    relay-none n = rw (le-ltb _ _ low, le-ltb _ _ high, n)
+
+    pub relay-sent : repeats setting (levelOf s) ≡ true → raisedOf s ≡ relayOf setting s
+    unfolding relayOf
+    relay-sent y = rw (le-ltb _ _ low, le-ltb _ _ high, y)
+
+  -- a reception
   pub repeat-invalid : isValid s ≡ false → repeatOf setting s ≡ []
   unfolding repeatOf
   repeat-invalid e = rw e
@@ -34,14 +53,9 @@ module _ (setting : ℕ) (s : List ℕ) where
   pub repeat-refused : (why : Refusal) → numberOf why ≡ checkOf s → [] ≡ repeatOf setting s
   repeat-refused why e = sym (repeat-invalid (not-valid s why e))
 
-  module _ (valid : checkOf s ≡ 0) where
-    pub repeat-none : repeats setting (levelOf s) ≡ false → [] ≡ repeatOf setting s
-    unfolding repeatOf
-    repeat-none n = rw (valid, n)
-
-    pub repeat-sent : repeats setting (levelOf s) ≡ true → raisedOf s ≡ repeatOf setting s
-    unfolding repeatOf
-    repeat-sent y = rw (valid, y)
+  pub repeat-valid : checkOf s ≡ 0 → relayOf setting s ≡ repeatOf setting s
+  unfolding repeatOf
+  repeat-valid e = rw e
 
 -- ---- what is sent
 

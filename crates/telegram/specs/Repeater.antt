@@ -1,13 +1,13 @@
 -- The repeater step (document 01, "Repeater step"; 001, Table 5). Assumes nothing.
 use Prim.Native.Nat.{ℕ, _+_}
 use mathlib.Core.Path.{_≡_}
-use mathlib.Core.Bool.{Bool, true, cond, _&&_, _||_}
+use mathlib.Core.Bool.{Bool, true, cond, not, _&&_, _||_}
 use mathlib.Core.List.{List, [], _∷_, _++_}
 use lib.Dec.{leb, eqb}
 use lib.ListN.{length}
 use Rattle.erp1.specs.declared.status.Status.{Status}
 use Rattle.erp1.specs.Status.{splitOf, joinOf}
-use Rattle.erp1.specs.Subtelegram.{bodyOf, checkOf, isValid, sealedOf, statusOf}
+use Rattle.erp1.specs.Subtelegram.{bodyOf, checkOf, isLengthWrong, isValid, sealedOf, statusOf}
 use Rattle.erp1.specs.Same.{isSame}
 
 -- the level of a subtelegram: the low four bits of STATUS
@@ -26,9 +26,13 @@ raise s = record { level = s .level + 1; flags = s .flags; crc = s .crc }
 abbrev pub raisedOf : List ℕ → List ℕ
 raisedOf s = sealedOf (bodyOf (bodyOf s) ++ (joinOf (raise (splitOf (statusOf s))) ∷ []))
 
--- what a repeater with this setting sends for a reception: no bytes for nothing
+-- what a repeater with this setting sends for bytes that need no check: no bytes for nothing
+unfoldable pub relayOf : ℕ → List ℕ → List ℕ
+relayOf setting s = cond (not (isLengthWrong s) && repeats setting (levelOf s)) (raisedOf s) []
+
+-- and for a reception, which must be valid
 unfoldable pub repeatOf : ℕ → List ℕ → List ℕ
-repeatOf setting s = cond (isValid s && repeats setting (levelOf s)) (raisedOf s) []
+repeatOf setting s = cond (isValid s) (relayOf setting s) []
 
 -- r differs from s in level, raised by one, and HASH only
 pub record RaisedFrom (s r : List ℕ) : Type 0 where

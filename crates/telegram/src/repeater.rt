@@ -4,7 +4,7 @@ ghost use Prim.Native.Nat.{_≤_, _<_};
 ghost use lib.ListN.{length};
 ghost use Rattle.erp1.specs.Status.{splitOf, joinOf};
 ghost use Rattle.telegram.specs.Frame.{frameOf};
-ghost use Rattle.telegram.specs.Repeater.{repeats as repeating, raise, raisedOf, repeatOf};
+ghost use Rattle.telegram.specs.Repeater.{repeats as repeating, raise, raisedOf, relayOf, repeatOf};
 use crate::frame::Frame;
 use erp1::Checked;
 use erp1::status;
@@ -17,14 +17,26 @@ pub fn repeat(setting: u8, bytes: &[u8]) -> Frame
     let checked = erp1::check(bytes);
     match checked {
         Checked::Refused(_) => Frame::empty(),
-        Checked::Valid => {
-            let received = status::split(bytes[bytes.len() - 2]);
-            if !repeats(setting, received.level) {
-                return Frame::empty();
-            }
-            raised(bytes)
-        }
+        Checked::Valid => relay(setting, bytes),
     }
+}
+
+// The same of bytes that need no check: an empty frame if they are not as long as a subtelegram, or are not repeated.
+pub fn relay(setting: u8, bytes: &[u8]) -> Frame
+    ensures { λ r. ⌜ r ≡ frameOf (relayOf setting (now (bytes .entry))) ⌝ }
+{
+    let n = bytes.len();
+    if n < erp1::MIN_LEN {
+        return Frame::empty();
+    }
+    if erp1::MAX_LEN < n {
+        return Frame::empty();
+    }
+    let received = status::split(bytes[n - 2]);
+    if !repeats(setting, received.level) {
+        return Frame::empty();
+    }
+    raised(bytes)
 }
 
 // Whether a repeater with this setting repeats this level; a setting other than 1 and 2 repeats none.
