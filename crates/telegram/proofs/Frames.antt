@@ -1,5 +1,5 @@
 -- Lists that are zero filled to a length: one element more, and a list more. Assumes nothing.
-use mathlib.Core.Path.{_≡_, refl, sym, ap}
+use mathlib.Core.Path.{_≡_, refl, sym, ap, _∙_}
 use mathlib.Core.Bool.{Bool, true, false, cond}
 use mathlib.Core.List.{List, [], _∷_, _++_, append-assoc, append-nil}
 use Prim.Native.Nat.{ℕ, zero, suc, _+_, _-_, _≤_, _<_}
@@ -7,8 +7,8 @@ use native.Mathlib.Nat.{add-sub-cancel, sub-self, sub-add-eq, le-of-eq}
 use native.Mathlib.Numerals.{add-one}
 use native.Mathlib.Omega.{arith}
 use lib.Dec.{ltb}
-use lib.ListN.{length, take, drop, set, replicate, length-append, length-replicate}
-use lib.Seq.{set-append-seam, take-append-seam, drop-append-seam, take-all, take-length}
+use lib.ListN.{length, take, drop, set, replicate, length-append, length-drop, length-replicate}
+use lib.Seq.{drop-cons, set-append-seam, take-append-seam, drop-append-seam, take-all, take-length}
 use borrow.Rule.Slice.PartMut.{midOf, putMid}
 use Rattle.telegram.specs.declared.frame.Frame.{Frame}
 use borrow.Author.Tests.{lt-ltb, le-ltb, ltb-false}
@@ -72,6 +72,29 @@ frame-len f xs e = ap (λ (g : Frame). g .len) e
 pub frame-take : (f : Frame) (xs : List ℕ) → f ≡ frameOf xs → take (f .len) (f .bytes) ≡ xs
 unfolding frameOf
 frame-take f xs e = rw e (take-append-seam xs _)
+
+-- ---- what was written to the front of an output
+
+module _ (xs out : List ℕ) where
+  pub written-length : length xs ≤ length out → length (written xs out .output) ≡ length out
+  written-length h = simp (length-append, length-drop) (omega arith)
+
+  module _ {n : ℕ} (e : length xs ≡ n) where
+    -- one byte more
+    pub written-push : (b : ℕ) → n < length out → set (written xs out .output) n b ≡ written (xs ++ (b ∷ [])) out .output
+    written-push b h =
+        rw (← e, drop-cons out (length xs) 0 (rw e h), set-append-seam)
+        (simp (append-assoc, length-append, add-one))
+
+    pub written-front : take n (written xs out .output) ≡ xs
+    written-front = rw (← e) (take-append-seam xs (drop (length xs) out))
+
+-- what was written to an empty frame
+pub frame-written : (xs : List ℕ) {n : ℕ} {out : List ℕ} → record { number = 0; len = n; output = out } ≡ written xs (replicate maxLength 0)
+    → record { len = n; bytes = out } ≡ frameOf xs
+unfolding frameOf
+frame-written xs e =
+    ap (λ (r : Result). record { len = r .len; bytes = r .output }) e ∙ rw (drop-replicate (length xs) maxLength 0)
 
 -- ---- the answers of a write
 

@@ -4,18 +4,21 @@ use mathlib.Core.Bool.{Bool, true, false, and-false, true≢false}
 use mathlib.Core.List.{List, [], _∷_, _++_, append-assoc}
 use Prim.Native.Nat.{ℕ, _+_, _-_, _*_, _≤_, _<_, _/_, _%_}
 use native.Mathlib.Omega.{arith}
+use native.Mathlib.Nat.{sub-zero}
 use lib.Dec.{eqb, leb}
-use lib.ListN.{length, take, getD, length-append, List·getD-append}
-use lib.Seq.{length-take-le, getD-take}
+use lib.ListN.{length, take, drop, getD, set, length-append, List·getD-append}
+use lib.Seq.{length-take-le, take-length, getD-take}
 use borrow.Author.Tests.{lt-ltb, le-ltb, eq-eqb, ne-eqb, eqb-true, eqb-false, leb-true, leb-false}
 use Rattle.lists.proofs.Equal.{equal-refl}
 use Rattle.refusal.specs.Number.{numberOf}
 use Rattle.refusal.specs.declared.Refusal.{Refusal}
 use Rattle.erp1.specs.Status.{splitOf, joinOf, upperOf}
-use Rattle.erp1.specs.Subtelegram.{minLength, maxLength, bodyOf, statusOf, isAddressed, isValid, checkOf, sealedOf}
+use Rattle.erp1.specs.Subtelegram.{minLength, maxLength, bodyOf, statusOf, isAddressed, isValid, checkOf, hashOf, sealedOf}
 use Rattle.erp1.specs.Same.{isSame}
 use Rattle.erp1.proofs.Checks.{Sound, not-valid, status-at, front-at, check-plain, check-addressed}
+use Rattle.telegram.specs.Output.{written}
 use Rattle.telegram.specs.Repeater.{levelOf, repeats, raise, raisedOf, relayOf, repeatOf, RaisedFrom}
+use Rattle.telegram.proofs.Frames.{written-length, written-push, written-front}
 use Rattle.telegram.proofs.Parts.{last-more, body-more, sealed-hashed}
 
 -- what is sent, by the indices of the code
@@ -59,6 +62,40 @@ module _ (setting : ℕ) (s : List ℕ) where
 
 -- ---- what is sent
 
+front-length : (s : List ℕ) → 2 ≤ length s → length (bodyOf (bodyOf s)) ≡ length s - 2
+front-length s h = rw (front-at s h) (length-take-le (length s - 2) s (omega arith))
+
+pub raised-length : (s : List ℕ) → 2 ≤ length s → length (raisedOf s) ≡ length s
+raised-length s h = simp (length-append, front-length s h) (omega arith)
+
+-- the code's three steps: all before STATUS is copied, STATUS and HASH are put behind it
+module _ (s out : List ℕ) (at : ℕ) (low : at + 2 ≡ length s) (fits : length s ≤ length out) {copied : List ℕ} {status : ℕ}
+    (copy : copied ≡ take (length (take (at - 0) s)) (take (at - 0) s) ++ drop (length (take (at - 0) s)) out)
+    (raises : status ≡ joinOf (raise (splitOf (getD s at 0)))) where
+  abbrev body : List ℕ
+  body = take at s ++ (status ∷ [])
+
+  copied-long : length (take at s) ≡ at
+  copied-long = length-take-le at s (omega arith)
+
+  body-long : length body ≡ at + 1
+  body-long = simp (length-append, copied-long)
+
+  status-put : set copied at status ≡ written body out .output
+  status-put =
+      let first : copied ≡ written (take at s) out .output = copy ∙ rw (sub-zero, take-length) in
+      rw first (written-push (take at s) out copied-long status (omega arith))
+
+  pub put-long : length (set copied at status) ≡ length out
+  put-long = rw status-put (written-length body out (omega (arith, body-long)))
+
+  pub raised-put : {hash : ℕ} → hash ≡ hashOf (take (at + 1 - 0) (set copied at status)) → set (set copied at status) (at + 1) hash ≡ written (raisedOf s) out .output
+  raised-put {hash} e =
+      let two : length s - 2 ≡ at = omega arith in
+      let sealed : sealedOf body ≡ raisedOf s = rw raises (rw two at (raised-at s (omega arith))) in
+      let h : hash ≡ hashOf body = e ∙ rw (sub-zero, status-put, written-front body out body-long) in
+      rw (h, status-put, ← sealed) (written-push body out body-long (hashOf body) (omega arith))
+
 -- only levels 0 and 1 are repeated
 pub repeats-low : (setting level : ℕ) → repeats setting level ≡ true → level ≤ 1
 repeats-low setting level e = go (leb level 1) refl
@@ -92,11 +129,11 @@ module _ (s : List ℕ) (v : Sound s) where
   abbrev sent : ℕ
   sent = joinOf (raise (splitOf (statusOf s)))
 
-  front-length : length front ≡ length s - 2
-  front-length = rw (front-at s (omega (arith, v .low))) (length-take-le (length s - 2) s (omega arith))
+  front-long : length front ≡ length s - 2
+  front-long = front-length s (omega (arith, v .low))
 
-  raised-length : length (raisedOf s) ≡ length s
-  raised-length = simp (length-append, front-length) (omega (arith, v .low))
+  long : length (raisedOf s) ≡ length s
+  long = raised-length s (omega (arith, v .low))
 
   raised-body : bodyOf (raisedOf s) ≡ front ++ (sent ∷ [])
   raised-body = body-more (front ++ (sent ∷ [])) _
@@ -111,21 +148,21 @@ module _ (s : List ℕ) (v : Sound s) where
   raised-at-same : (k : ℕ) → k < length s - 2 → getD (raisedOf s) k 0 ≡ getD s k 0
   raised-at-same k h =
       rw (append-assoc front (sent ∷ []))
-      (List·getD-append front _ 0 k (omega (arith, front-length)) ∙ rw (front-at s (omega (arith, v .low))) (getD-take (length s - 2) s k 0 h))
+      (List·getD-append front _ 0 k (omega (arith, front-long)) ∙ rw (front-at s (omega (arith, v .low))) (getD-take (length s - 2) s k 0 h))
 
   raised-valid : checkOf (raisedOf s) ≡ 0
   raised-valid = go (isAddressed s) refl
     where
       go : (b : Bool) → isAddressed s ≡ b → checkOf (raisedOf s) ≡ 0
       go true e =
-          let n = raised-length in
+          let n = long in
           let f = raised-at-same 0 (omega (arith, v .low)) in
           let g = raised-at-same 1 (omega (arith, v .low)) in
           let a = v .inner (eqb-true _ _ e) in
           sym (check-addressed (raisedOf s) (omega (arith, v .low)) (omega (arith, v .high)) (sealed-hashed (front ++ (sent ∷ []))) (f ∙ eqb-true _ _ e)
           (omega (arith, a .0)) (λ h. a .1 (sym g ∙ h)))
       go false e =
-          let n = raised-length in
+          let n = long in
           let f = raised-at-same 0 (omega (arith, v .low)) in
           sym (check-plain (raisedOf s) (omega (arith, v .low)) (omega (arith, v .high)) (sealed-hashed (front ++ (sent ∷ []))) (λ h. eqb-false _ _ e (sym f ∙ h)))
 
@@ -135,7 +172,7 @@ module _ (s : List ℕ) (v : Sound s) where
       let r = raised-byte (statusOf s) byte low in
       record {
         valid = raised-valid;
-        long = raised-length;
-        same = rw (raised-front, raised-status, raised-length, r .0, eq-eqb (length s) (length s) refl, eq-eqb (upperOf (statusOf s)) _ refl) (equal-refl front);
+        long = long;
+        same = rw (raised-front, raised-status, long, r .0, eq-eqb (length s) (length s) refl, eq-eqb (upperOf (statusOf s)) _ refl) (equal-refl front);
         level = rw raised-status (r .1);
       }

@@ -4,6 +4,7 @@ ghost use Prim.Native.Nat.{_≤_, _<_};
 ghost use lib.ListN.{length};
 ghost use Rattle.erp1.specs.Status.{splitOf, joinOf};
 ghost use Rattle.telegram.specs.Frame.{frameOf};
+ghost use Rattle.telegram.specs.Output.{written};
 ghost use Rattle.telegram.specs.Repeater.{repeats as repeating, raise, raisedOf, relayOf, repeatOf};
 use crate::frame::Frame;
 use erp1::Checked;
@@ -14,29 +15,33 @@ use erp1::status::Status;
 pub fn repeat(setting: u8, bytes: &[u8]) -> Frame
     ensures { λ r. ⌜ r ≡ frameOf (repeatOf setting (now (bytes .entry))) ⌝ }
 {
+    let mut out = [0u8; erp1::MAX_LEN];
+    let mut n = 0;
     let checked = erp1::check(bytes);
-    match checked {
-        Checked::Refused(_) => Frame::empty(),
-        Checked::Valid => relay(setting, bytes),
+    if let Checked::Valid = checked {
+        n = relay(setting, bytes, &mut out);
     }
+    Frame { len: n, bytes: out }
 }
 
-// The same of bytes that need no check: an empty frame if they are not as long as a subtelegram, or are not repeated.
-pub fn relay(setting: u8, bytes: &[u8]) -> Frame
-    ensures { λ r. ⌜ r ≡ frameOf (relayOf setting (now (bytes .entry))) ⌝ }
+// The same of bytes that need no check: written to the front of `out`, with how many bytes it is; none if they are not as long as a
+// subtelegram, or are not repeated.
+pub fn relay(setting: u8, bytes: &[u8], out: &mut [u8; erp1::MAX_LEN]) -> usize
+    ensures { λ r. ⌜ record { number = 0; len = r; output = now (out .exit) } ≡ written (relayOf setting (now (bytes .entry))) (now (out .entry)) ⌝ }
 {
     let n = bytes.len();
     if n < erp1::MIN_LEN {
-        return Frame::empty();
+        return 0;
     }
     if erp1::MAX_LEN < n {
-        return Frame::empty();
+        return 0;
     }
     let received = status::split(bytes[n - 2]);
     if !repeats(setting, received.level) {
-        return Frame::empty();
+        return 0;
     }
-    raised(bytes)
+    put_raised(bytes, out);
+    n
 }
 
 // Whether a repeater with this setting repeats this level; a setting other than 1 and 2 repeats none.
@@ -46,14 +51,16 @@ fn repeats(setting: u8, level: u8) -> bool
     ((setting == 1) & (level == 0)) | ((setting == 2) & (level <= 1))
 }
 
-// The frame to send for a subtelegram of this length: another STATUS and HASH.
-fn raised(bytes: &[u8]) -> Frame
-    requires { ⌜ (8 ≤ length (now bytes)) × (length (now bytes) ≤ 21) ⌝ }
-    ensures { λ r. ⌜ r ≡ frameOf (raisedOf (now (bytes .entry))) ⌝ }
+// Writes what is sent for a subtelegram of this length to the front of `out`: another STATUS and HASH.
+fn put_raised(bytes: &[u8], out: &mut [u8])
+    requires { ⌜ (8 ≤ length (now bytes)) × (length (now bytes) ≤ length (now out)) ⌝ }
+    ensures { λ _. ⌜ now (out .exit) ≡ written (raisedOf (now (bytes .entry))) (now (out .entry)) .output ⌝ }
 {
     let at = bytes.len() - 2;
-    let status = raised_status(bytes[at]);
-    Frame::empty().append(&bytes[..at]).push(status).sealed()
+    let last = at + 1;
+    bytes::copy(&bytes[0..at], out);
+    out[at] = raised_status(bytes[at]);
+    out[last] = erp1::hash(&out[0..last]);
 }
 
 // STATUS with its level raised by one, and all else kept.

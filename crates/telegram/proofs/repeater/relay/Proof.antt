@@ -1,14 +1,15 @@
 -- `telegram::repeater::relay` meets its contract: each return is one case of `relayOf`. Assumes nothing.
 use mathlib.Core.Path.{_≡_, sym, ap, _∙_}
+use mathlib.Core.List.{List}
 use Prim.Native.Nat.{ℕ}
 use native.Mathlib.Omega.{arith}
 use borrow.Author.Needs.{needs}
 use borrow.Author.Tests.{not-true, not-false}
 use denote.Ref.{now}
 use Rattle.erp1.specs.declared.status.Status.{Status}
-use Rattle.telegram.specs.Frame.{frameOf}
+use Rattle.telegram.specs.Output.{written}
 use Rattle.telegram.specs.Repeater.{levelOf, repeats}
-use Rattle.telegram.proofs.Repeating.{level-at, relay-short, relay-long, relay-none, relay-sent}
+use Rattle.telegram.proofs.Repeating.{level-at, relay-short, relay-long, relay-none, relay-sent, raised-length}
 use Rattle.telegram.proofs.repeater.relay.Statement.{statement}
 use Rattle.telegram.proofs.repeater.relay.Tie as tie
 
@@ -22,28 +23,30 @@ repeated c =
     sym (c .repeats .ensures ∙ ap (λ (n : ℕ). repeats (start c .args .setting) n) level)
 
 returns : tie.Need-returns
-returns c = c .empty .ensures ∙ ap frameOf (relay-short _ _ (c .before .if1 .taken))
+returns c = ap (λ (xs : List ℕ). written xs (now (c .before .before .args .out))) (relay-short _ _ (c .if1 .taken))
 
 returns-2 : tie.Need-returns-2
-returns-2 c = c .empty2 .ensures ∙ ap frameOf (relay-long _ _ (c .before .if2 .taken))
+returns-2 c = ap (λ (xs : List ℕ). written xs (now (c .before .before .before .args .out))) (relay-long _ _ (c .if2 .taken))
 
 returns-3 : tie.Need-returns-3
-returns-3 c = c .empty3 .ensures ∙ ap frameOf (relay-none _ _ (omega arith) (omega arith) (repeated (c .before .before) ∙ not-true _ (c .before .if3 .taken)))
+returns-3 c = ap (λ (xs : List ℕ). written xs (now (start (c .before) .args .out))) (relay-none _ _ (omega arith) (omega arith) (repeated (c .before) ∙ not-true _ (c .if3 .taken)))
 
 returns-4 : tie.Need-returns-4
-returns-4 c = c .raised .ensures ∙ ap frameOf (relay-sent _ _ (omega arith) (omega arith) (repeated (c .before .before) ∙ not-false _ (c .before .if3 .left)))
+returns-4 c =
+    let q = c .before .before in
+    let r = q .before in
+    let s = now (start r .args .bytes) in
+    let sent = relay-sent (start r .args .setting) s (omega arith) (omega arith) (repeated r ∙ not-false _ (q .if3 .left)) in
+    rw (← sent, c .put-raised .ensures, raised-length s (omega arith))
 
 pub relay-spec : {M : Type 1} → statement M
 relay-spec =
     tie.close
     (tie.spec
-    (λ c κs. search needs)
     returns
-    (λ c κs. search needs)
     returns-2
     (λ c. search needs)
     (λ c. search needs)
-    (λ c κs. search needs)
     (λ c κs. search needs)
     (λ c κs. search needs)
     returns-3
