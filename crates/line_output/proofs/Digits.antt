@@ -9,6 +9,10 @@ use lib.Seq.{drop-cons, drop-set-lt, getD-set-same}
 use borrow.Author.Tests.{lt-ltb, le-ltb}
 use Rattle.line_output.specs.Text.{digitsOf}
 
+pub several-digits : (k n : ℕ) → 10 ≤ n → digitsOf (suc k) n ≡ digitsOf k (n / 10) ++ ((48 + n % 10) ∷ [])
+unfolding digitsOf
+several-digits k n h = rw (le-ltb n 10 h)
+
 -- the last digit of a number of several: fewer are left for its tenth
 pub record Shorter (i n : ℕ) : Type 0 where
   pub several : 1 < i
@@ -16,7 +20,6 @@ pub record Shorter (i n : ℕ) : Type 0 where
   pub digits : digitsOf i n ≡ digitsOf (i - 1) (n / 10) ++ ((48 + n % 10) ∷ [])
 
 pub shorter : (i n : ℕ) → 10 ≤ n → n < 10 ^ i → Shorter i n
-unfolding digitsOf
 shorter zero n h k = absurd (omega arith)
 shorter (suc zero) n h k = absurd (omega arith)
 shorter (suc (suc j)) n h k =
@@ -24,7 +27,7 @@ shorter (suc (suc j)) n h k =
     record {
       several = omega arith;
       small = rw e (omega (arith, pow-succ' 10 (suc j)));
-      digits = rw (e, le-ltb n 10 h);
+      digits = rw e (several-digits (suc j) n h);
     }
 
 pub one-digit : (i n : ℕ) → 0 < i → n < 10 → digitsOf i n ≡ (48 + n) ∷ []

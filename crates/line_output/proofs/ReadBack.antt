@@ -1,23 +1,27 @@
 -- What is printed reads back: a number as a time, bytes as bytes, and both as the line of a reception. Assumes nothing.
-use mathlib.Core.Path.{_≡_, refl, sym, ap₂, _∙_}
-use mathlib.Core.Bool.{Bool, true, false, cond, _&&_, and-false}
+use mathlib.Core.Path.{_≡_, refl, sym, ap, ap₂, _∙_}
+use mathlib.Core.Bool.{Bool, true, false, cond, not, _&&_, and-false, false≢true}
 use mathlib.Core.List.{List, [], _∷_, _++_}
 use Prim.Native.Nat.{ℕ, zero, suc, _+_, _-_, _*_, _/_, _%_, _^_, _<_, _≤_}
 use native.Mathlib.Omega.{arith}
-use native.Mathlib.Nat.{add-mul, mul-assoc, pow-suc, pow-succ', mul-one}
-use lib.Dec.{T, eqb, ltb, eqb→eq, ltb→lt}
-use lib.ListN.{length, getD, replicate, length-append}
-use borrow.Author.Tests.{lt-ltb, le-leb, eq-eqb, ne-eqb, ltb-true, ltb-false}
+use native.Mathlib.Nat.{add-mul, mul-assoc, pow-suc, pow-succ', pow-le-pow-right, mul-le-mul-right, one-mul, mul-one}
+use lib.Dec.{T, eqb, leb, ltb, eqb→eq, ltb→lt, lit<}
+use lib.ListN.{length, take, getD, replicate, length-append}
+use lib.Seq.{take-suc, take-length}
+use borrow.Author.Tests.{lt-ltb, le-ltb, le-leb, leb-true, eq-eqb, ne-eqb, ltb-true, ltb-false, not-true}
 use Rattle.lists.specs.Lists.{all}
-use Rattle.lists.proofs.Choice.{and-left, and-right}
+use Rattle.lists.proofs.Choice.{both, and-left, and-right}
+use Rattle.lists.proofs.Tests.{and-true, by-test, all-getD}
 use Rattle.lists.proofs.Table.{at}
 use Rattle.line_input.specs.Ascii.{space}
 use Rattle.line_input.specs.Decimal.{isDigit, decimalOf, hasLeadingZero, isNumber, isTime}
 use Rattle.line_input.specs.Hex.{nibbleOf, isHexDigit, isHex, bytesOf}
 use Rattle.line_input.specs.Reading.{reception, readingOf}
 use Rattle.line_input.proofs.Digits.{leading-zero}
+use Rattle.line_input.proofs.Long.{long-time}
 use Rattle.line_input.proofs.Whole.{joined}
 use Rattle.line_output.specs.Text.{digitsOf, decimalText, hexDigitOf, hexText}
+use Rattle.line_output.proofs.Digits.{one-digit, several-digits}
 use Rattle.line_output.proofs.Stores.{hex-length}
 
 -- ---- numbers
@@ -102,6 +106,62 @@ number-back n h =
       rw (lt-ltb 0 (length s) (w .some), no-leading-zero n s w, w .digits, w .value, lt-ltb n (2 ^ 64) h),
       w .value,
     )
+
+-- ---- and a time that was read is printed as it was written
+
+one-value : (d : ℕ) → decimalOf (d ∷ []) ≡ d - 48
+unfolding decimalOf
+one-value d = omega (arith, mul-one (d - 48))
+
+-- the value of digits of which the first is not 0
+some-value : (d : ℕ) (s : List ℕ) → 49 ≤ d → 1 ≤ decimalOf (d ∷ s)
+unfolding decimalOf
+some-value d s h =
+    let p : 10 ^ 0 ≤ 10 ^ length s = pow-le-pow-right (lit< tt) {i = 0} {j = length s} (omega arith) in
+    omega (arith, p, mul-le-mul-right {m = 1} {n = d - 48} (10 ^ length s) (omega arith), one-mul (10 ^ length s))
+
+-- digits, the first of several not 0
+module _ (f : ℕ) (r : List ℕ) (digits : all isDigit (f ∷ r) ≡ true) (first : 0 < length r → f ≡ 48 → ⊥) where
+  abbrev whole : List ℕ
+  whole = f ∷ r
+
+  digit-at : (j : ℕ) → j < length whole → (48 ≤ getD whole j 0) × (getD whole j 0 < 58)
+  digit-at j h =
+      let w = both (leb 48 (getD whole j 0)) (ltb (getD whole j 0) 58) (all-getD isDigit whole j 0 digits h) in
+      (leb-true _ _ (w .0), ltb-true _ _ (w .1))
+
+  -- the front of them, up to each
+  spelled-front : (j k : ℕ) → j < length whole → j ≤ k → digitsOf (suc k) (decimalOf (take (suc j) whole)) ≡ take (suc j) whole
+  spelled-front zero k h l =
+      let d = digit-at 0 h in
+      let same : 48 + (f - 48) ≡ f = omega (arith, d .0) in
+      ap (digitsOf (suc k)) (one-value f) ∙ one-digit (suc k) (f - 48) (omega arith) (omega (arith, d .1)) ∙ rw same
+  spelled-front (suc j) zero h l = absurd (omega arith)
+  spelled-front (suc j) (suc k) h l =
+      let m = decimalOf (take (suc j) whole) in
+      let c = getD whole (suc j) 0 in
+      let n = m * 10 + (c - 48) in
+      let d = digit-at (suc j) h in
+      let more : take (suc (suc j)) whole ≡ take (suc j) whole ++ (c ∷ []) = take-suc whole (suc j) 0 h in
+      let some : 1 ≤ m = some-value f (take j r) (omega (arith, digit-at 0 (omega arith) .0, first (omega arith))) in
+      let tenth : n / 10 ≡ m = omega (arith, d .0, d .1) in
+      let last : 48 + n % 10 ≡ c = omega (arith, d .0, d .1) in
+      ap (digitsOf (suc (suc k))) (ap decimalOf more ∙ decimal-snoc (take (suc j) whole) c)
+      ∙ several-digits (suc k) n (omega (arith, some))
+      ∙ rw (tenth, last, spelled-front j k (omega arith) (omega arith), ← more)
+
+pub time-back : (s : List ℕ) → isTime s ≡ true → decimalText (decimalOf s) ≡ s
+unfolding isTime isNumber
+time-back [] e = absurd (false≢true e)
+time-back (f ∷ r) e =
+    let s = f ∷ r in
+    let t = both (ltb 0 (length s) && not (hasLeadingZero s)) (isNumber s) e in
+    let n = both (all isDigit s) (ltb (decimalOf s) (2 ^ 64)) (t .1) in
+    let zero-first : hasLeadingZero s ≡ false = not-true _ (both (ltb 0 (length s)) (not (hasLeadingZero s)) (t .0) .1) in
+    let few : length s ≤ 20 = by-test (ltb 20 (length s)) (λ h. absurd (false≢true (sym (long-time s (ltb-true _ _ h)) ∙ e))) (λ h. ltb-false _ _ h) in
+    let leads : 0 < length r → f ≡ 48 → hasLeadingZero s ≡ true = λ h z. leading-zero s ∙ and-true (lt-ltb 1 (length s) (omega arith)) (eq-eqb f 48 z) in
+    let first : 0 < length r → f ≡ 48 → ⊥ = λ h z. false≢true (sym zero-first ∙ leads h z) in
+    rw take-length at (spelled-front f r (n .0) first (length r) 19 (omega arith) (omega arith))
 
 -- ---- bytes
 

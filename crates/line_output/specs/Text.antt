@@ -52,9 +52,13 @@ answerText Row.Copy sent = copyWord
 answerText Row.Loose sent = looseWord
 answerText (Row.Refused n) sent = refusedWord ++ (space ∷ decimalText n)
 
--- the row of a reception: its time, a space, the answer, and the line's end
-unfoldable pub rowText : ℕ → Row → List ℕ → List ℕ
-rowText time row sent = decimalText time ++ (space ∷ []) ++ answerText row sent ++ (newline ∷ [])
+-- a row behind the text of its time: a space, the answer, and the line's end
+unfoldable pub rowBehind : List ℕ → Row → List ℕ → List ℕ
+rowBehind time row sent = time ++ (space ∷ []) ++ answerText row sent ++ (newline ∷ [])
+
+-- the row of a reception
+abbrev pub rowText : ℕ → Row → List ℕ → List ℕ
+rowText time row sent = rowBehind (decimalText time) row sent
 
 -- the row of a line that is BAD
 abbrev pub badText : List ℕ

@@ -6,7 +6,7 @@ ghost use Prim.Native.Nat.{_+_, _*_, _≤_, _<_};
 ghost use lib.Dec.{leb};
 ghost use lib.ListN.{length, drop};
 ghost use Rattle.lists.specs.Lists.{isTableOf};
-ghost use Rattle.line_output.specs.Text.{decimalText, hexDigitOf, hexText, answerText, rowText, badText, counted, totalsText};
+ghost use Rattle.line_output.specs.Text.{decimalText, hexDigitOf, hexText, answerText, rowBehind, badText, counted, totalsText};
 ghost use Rattle.line_output.specs.Printed.{Printed, PrintedIfFits, longestRow, longestTotals};
 
 // What the row of a reception says; a refusal by its number.
@@ -17,8 +17,10 @@ pub enum Row {
     Refused(u8),
 }
 
-// The longest row that sends nothing, or more; each byte to send takes two characters more.
-pub const LONGEST_ROW: usize = 50;
+// The longest time, and the longest row behind its time that sends nothing, or more; each byte to send takes two characters more.
+pub const LONGEST_TIME: usize = 20;
+
+pub const LONGEST_ROW: usize = 30;
 
 // The row of a line that is BAD.
 pub const BAD_LENGTH: usize = 4;
@@ -46,11 +48,12 @@ const DIGITS: [u8; 16] = [
     70,
 ];
 
-// The row of a reception; `sent` is what KEPT sends.
-pub fn put_row(out: &mut [u8], at: usize, time: u64, row: Row, sent: &[u8]) -> usize
-    ensures { λ r. ⌜ PrintedIfFits (now (out .entry)) at (longestRow (length (now (sent .entry)))) (rowText time row (now (sent .entry))) (now (out .exit)) r ⌝ }
+// The row of a reception behind the text of its time, as it was read; `sent` is what KEPT sends.
+pub fn put_row(out: &mut [u8], at: usize, time: &[u8], row: Row, sent: &[u8]) -> usize
+    ensures { λ r. ⌜ PrintedIfFits (now (out .entry)) at (longestRow (length (now (time .entry))) (length (now (sent .entry)))) (rowBehind (now (time .entry)) row (now (sent .entry))) (now (out .exit)) r ⌝ }
 {
-    if !has_capacity(out.len(), at, LONGEST_ROW, sent.len()) {
+    let fixed = time.len() + LONGEST_ROW;
+    if !has_capacity(out.len(), at, fixed, sent.len()) {
         return at;
     }
     write_row(out, at, time, row, sent)
@@ -102,11 +105,11 @@ fn has_capacity(capacity: usize, at: usize, fixed: usize, bytes: usize) -> bool
     true
 }
 
-fn write_row(out: &mut [u8], at: usize, time: u64, row: Row, sent: &[u8]) -> usize
-    requires { ⌜ at + longestRow (length (now sent)) ≤ length (now out) ⌝ }
-    ensures { λ r. ⌜ Printed (now (out .entry)) at (rowText time row (now (sent .entry))) (longestRow (length (now (sent .entry)))) (now (out .exit)) r ⌝ }
+fn write_row(out: &mut [u8], at: usize, time: &[u8], row: Row, sent: &[u8]) -> usize
+    requires { ⌜ at + longestRow (length (now time)) (length (now sent)) ≤ length (now out) ⌝ }
+    ensures { λ r. ⌜ Printed (now (out .entry)) at (rowBehind (now (time .entry)) row (now (sent .entry))) (longestRow (length (now (time .entry))) (length (now (sent .entry)))) (now (out .exit)) r ⌝ }
 {
-    let a = write_decimal(out, at, time);
+    let a = write(out, at, time);
     let b = write(out, a, b" ");
     let c = write_answer(out, b, row, sent);
     write(out, c, b"\n")

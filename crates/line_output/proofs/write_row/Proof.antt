@@ -1,19 +1,19 @@
 -- `line_output::write_row` meets its contract: the four parts, one after the other. Assumes nothing.
 use native.Mathlib.Omega.{arith}
 use borrow.Author.Needs.{needs}
-use Rattle.line_output.specs.Text.{rowText}
+use Rattle.line_output.specs.Text.{rowBehind}
 use Rattle.line_output.proofs.Stores.{within, then}
 use Rattle.line_output.proofs.write_row.Statement.{statement}
 use Rattle.line_output.proofs.write_row.Tie as tie
 
 returns : tie.Need-returns
-unfolding rowText
+unfolding rowBehind
 returns c =
     let e = c .before .before in
     let w = e .before .before .before .before .before in
     let s = w .before .before .before .before in
     let t = s .before .before .before .before .before in
-    within (then (then (then (t .write-decimal .ensures) (s .write .ensures)) (w .write-answer .ensures)) (e .write2 .ensures)) (omega arith)
+    within (then (then (then (t .write .ensures) (s .write2 .ensures)) (w .write-answer .ensures)) (e .write3 .ensures)) (omega arith)
 
 pub write-row-spec : {M : Type 1} → statement M
 write-row-spec =
