@@ -1,63 +1,96 @@
--- Laws of the parts of a line: what stands before its first space and after it. Assumes nothing.
-use mathlib.Core.Path.{_≡_, sym, _∙_}
-use mathlib.Core.Bool.{true, and-false}
-use mathlib.Core.List.{List}
-use Prim.Native.Nat.{ℕ, suc, _+_, _-_, _<_, _≤_}
+-- The parts of a line as they are read from the start of a text: k digits that say the time t, and m bytes behind the space. The line says a
+-- reception exactly where a newline stands behind these. Assumes nothing.
+use mathlib.Core.Path.{_≡_, sym, ap, _∙_}
+use mathlib.Core.Bool.{true}
+use mathlib.Core.List.{List, [], _∷_, _++_, append-assoc}
+use Prim.Native.Nat.{ℕ, _+_, _-_, _*_, _<_, _≤_}
 use native.Mathlib.Omega.{arith}
-use native.Mathlib.Nat.{zero-add}
 use native.Mathlib.Numerals.{add-one}
-use lib.ListN.{length, take, drop, length-drop}
-use lib.Seq.{take-all, take-length}
-use borrow.Author.Tests.{lt-ltb, le-ltb}
-use Rattle.bytes.specs.Bytes.{indexOf, slice}
-use Rattle.lists.proofs.Choice.{cond-no, cond-yes}
-use Rattle.line_input.specs.Ascii.{space}
-use Rattle.line_input.specs.Decimal.{decimalOf, isTime, numberIf}
-use Rattle.line_input.specs.Hex.{bytesOf, isHex, Decoded}
-use Rattle.line_input.specs.Reading.{bad, readingOf, lineOf}
-use Rattle.line_input.specs.declared.Number.{Number}
-use Rattle.line_input.specs.declared.Count.{Count}
+use lib.ListN.{length, getD, take, drop, length-append, length-drop}
+use lib.Seq.{split-at, take-all, length-take-le, drop-append-add, getD-at}
+use Rattle.line_input.specs.Ascii.{newline, space}
+use Rattle.line_input.specs.Decimal.{timedOf}
+use Rattle.line_input.specs.Hex.{bytesOf, leadingBytes, Decoded}
+use Rattle.line_input.specs.Reading.{frontOf, lineOf, bytesIn}
+use Rattle.line_input.specs.declared.Timed.{Timed}
+use Rattle.line_input.proofs.Pairs.{Leading, leading-hex, leading, leading-right}
+use Rattle.line_input.proofs.Times.{Timely, timely}
+use Rattle.line_input.proofs.Starts.{Starts, line, length-line, line-first, time-first, front-reception}
 
--- a search through the whole of a list
-pub found-whole : (b : ℕ) (l : List ℕ) {k : ℕ} → k ≡ 0 + indexOf b (slice 0 (length l) l) → k ≡ indexOf b l
-unfolding slice
-found-whole b l e = e ∙ rw (take-length l, zero-add (indexOf b l))
+-- what stands behind p starts with c
+next-is : (p q : List ℕ) {n c : ℕ} → length p ≡ n → n < length (p ++ q) → getD (p ++ q) n 0 ≡ c → q ≡ c ∷ drop 1 q
+next-is p [] e h g = absurd (omega (arith, length-append p []))
+next-is p (x ∷ q) {n} e h g = ap (λ (y : ℕ). y ∷ q) (sym (getD-at p x q 0 n e) ∙ g)
 
-value≢bad : {n : ℕ} → Number.Value n ≡ Number.Bad → ⊥
-value≢bad e = let z : _≡_ {A = ℕ} 0 1 = cc in omega arith
+pub no-time : (text : List ℕ) → Timed.Bad ≡ timedOf text → Starts text → ⊥
+no-time text e w =
+    let f = time-first w in
+    let z : _≡_ {A = ℕ} 0 1 = cc in
+    omega arith
 
-of≢bad : {n : ℕ} → Count.Of n ≡ Count.Bad → ⊥
-of≢bad e = let z : _≡_ {A = ℕ} 0 1 = cc in omega arith
+module _ (text : List ℕ) {t k : ℕ} (timed : Timed.At t k ≡ timedOf text) where
+  time : Timely text t k
+  time = timely text (sym timed)
 
-module _ (l : List ℕ) {k : ℕ} (found : k ≡ indexOf space l) where
-  pub no-space : length l ≤ k → readingOf l ≡ bad
-  unfolding readingOf
-  no-space h = rw (sym found, le-ltb k (length l) h)
+  pub time-within : k < length text
+  time-within = time .within
 
-  -- n is the time as it was read
-  module _ (within : k < length l) {n : Number} (time : n ≡ numberIf (isTime (take k l)) (decimalOf (take k l))) where
-    pub no-time : n ≡ Number.Bad → readingOf l ≡ bad
-    unfolding readingOf
-    no-time e = rw (sym found, lt-ltb k (length l) within, cond-no (isTime (take k l)) value≢bad (sym time ∙ e) .0)
+  module _ {m : ℕ} {bytes : List ℕ} (read : Decoded (take (length text - (k + 1)) (drop (k + 1) text)) bytes m) where
+    abbrev behind : List ℕ
+    behind = drop (k + 1) text
 
-    -- r and bytes are the bytes as they were read
-    module _ {r : Count} {bytes : List ℕ} (hex : Decoded (take (length l - (k + 1)) (drop (k + 1) l)) bytes r) {t : ℕ} (timed : n ≡ Number.Value t) where
-      rest : take (length l - (k + 1)) (drop (k + 1) l) ≡ drop (suc k) l
-      rest = rw (take-all (length l - (k + 1)) (drop (k + 1) l) (simp length-drop (omega arith)), add-one k)
+    decoded : Decoded behind bytes m
+    decoded = rw (take-all (length text - (k + 1)) behind (simp length-drop (omega arith))) at read
 
-      hex-rest : Decoded (drop (suc k) l) bytes r
-      hex-rest = rw rest at hex
+    pairs : Leading 64 behind
+    pairs = leading 64 behind
 
-      pub no-bytes : r ≡ Count.Bad → readingOf l ≡ bad
-      unfolding readingOf
-      no-bytes e =
-          rw (sym found, lt-ltb k (length l) within, cond-no (isHex (drop (suc k) l)) of≢bad (sym (hex-rest .answer) ∙ e) .0, and-false (isTime (take k l)))
+    count : length (pairs .hex) ≡ 2 * m
+    count = pairs .count ∙ ap (λ (n : ℕ). 2 * n) (sym (decoded .answer))
 
-      pub all-read : {m : ℕ} → r ≡ Count.Of m → record { ok = true; time = t; len = m; bytes = bytes } ≡ lineOf (readingOf l)
-      unfolding readingOf
-      all-read {m} e =
-          let a = cond-yes (isTime (take k l)) (λ x. value≢bad (sym x)) (sym time ∙ timed) in
-          let b = cond-yes (isHex (drop (suc k) l)) (λ x. of≢bad (sym x)) (sym (hex-rest .answer) ∙ e) in
-          let time-is : decimalOf (take k l) ≡ t = let y = a .1 in cc in
-          let count-is : length (bytesOf (drop (suc k) l)) ≡ m = let y = b .1 in cc in
-          rw (sym found, lt-ltb k (length l) within, a .0, b .0) (rw (time-is, hex-rest .written (b .0), count-is))
+    pub read-within : k + 1 + 2 * m ≤ length text
+    read-within = omega (arith, time .within, count, simp (length-drop, length-append) at (ap length (pairs .parts)))
+
+    -- where the text starts with a reception, the newline stands there
+    newline-next : Starts text → (k + 1 + 2 * m < length text) × (getD text (k + 1 + 2 * m) 0 ≡ newline)
+    newline-next w =
+        let f = time-first w in
+        let here : k ≡ length (w .digits) = cc in
+        let after : behind ≡ w .hex ++ (newline ∷ w .rest) = rw (w .parts, here) (drop-append-add (w .digits) (space ∷ (w .hex ++ (newline ∷ w .rest))) 1) in
+        let x = leading-hex (w .hex) (w .rest) (w .isRight) in
+        let same : m ≡ length (bytesOf (w .hex)) = decoded .answer ∙ ap (λ (s : List ℕ). length (leadingBytes 64 s)) after ∙ ap length (x .0) in
+        let at : length (line w) ≡ k + 1 + 2 * m = omega (arith, length-line w) in
+        (rw (line-first w) (simp length-append (omega arith)), rw (line-first w) (getD-at (line w) newline (w .rest) 0 (k + 1 + 2 * m) at))
+
+    pub no-end : length text ≤ k + 1 + 2 * m → Starts text → ⊥
+    no-end h w = omega (arith, newline-next w .0)
+
+    pub no-newline : (getD text (k + 1 + 2 * m) 0 ≡ newline → ⊥) → Starts text → ⊥
+    no-newline n w = n (newline-next w .1)
+
+    -- where the newline stands there, the text starts with a reception
+    module _ (within : k + 1 + 2 * m < length text) (next : getD text (k + 1 + 2 * m) 0 ≡ newline) where
+      starts : Starts text
+      starts =
+          let split : text ≡ take k text ++ (space ∷ behind) = split-at text k 0 (time .within) ∙ rw (time .behind, add-one k) in
+          let p = take k text ++ (space ∷ pairs .hex) in
+          let whole : text ≡ p ++ pairs .rest =
+          split ∙ ap (λ (l : List ℕ). take k text ++ (space ∷ l)) (pairs .parts) ∙ sym (append-assoc (take k text) (space ∷ pairs .hex) (pairs .rest)) in
+          let size : length p ≡ k + 1 + 2 * m =
+          simp length-append (omega (arith, length-take-le k text (omega (arith, time .within)), count)) in
+          let first : pairs .rest ≡ newline ∷ drop 1 (pairs .rest) = next-is p (pairs .rest) size (rw (sym whole) within) (rw (sym whole) next) in
+          record {
+            digits = take k text;
+            hex = pairs .hex;
+            rest = drop 1 (pairs .rest);
+            parts = whole ∙ ap (λ (l : List ℕ). p ++ l) first ∙ append-assoc (take k text) (space ∷ pairs .hex) (newline ∷ drop 1 (pairs .rest));
+            isTimely = time .right;
+            isRight = leading-right pairs;
+          }
+
+      pub answer : (record { ok = true; time = t; len = m; used = k + 1 + 2 * m + 1 } ≡ lineOf (frontOf text)) × (bytes ≡ bytesIn (frontOf text))
+      unfolding starts
+      answer =
+          let size : length (line starts) ≡ k + 1 + 2 * m =
+          omega (arith, length-line starts, length-take-le k text (omega (arith, time .within)), count) in
+          (rw (front-reception starts, size, time .says, pairs .says, decoded .answer), rw (front-reception starts, pairs .says) (decoded .written))

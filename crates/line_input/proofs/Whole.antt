@@ -1,19 +1,20 @@
 -- A line says a reception exactly where it is a time, one space and bytes. Assumes nothing.
-use mathlib.Core.Path.{_≡_, refl, sym, subst, ap, _∙_}
-use mathlib.Core.Bool.{Bool, true, false, _&&_}
+use mathlib.Core.Path.{_≡_, refl, sym, ap, _∙_}
+use mathlib.Core.Bool.{Bool, true, false, not, _&&_, false≢true}
 use mathlib.Core.List.{List, [], _∷_, _++_}
-use Prim.Native.Nat.{ℕ, suc, _<_}
+use Prim.Native.Nat.{ℕ, suc, _+_, _^_, _<_}
 use native.Mathlib.Omega.{arith}
+use native.Mathlib.Nat.{zero-add}
 use native.Mathlib.Numerals.{add-one}
-use lib.Dec.{T, eqb, leb, ltb, leb→le, ltb→lt}
+use lib.Dec.{eqb, ltb}
 use lib.ListN.{length, getD, take, drop, length-append}
 use lib.Seq.{split-at, take-append-seam, drop-append-add}
-use borrow.Author.Tests.{eqb-true, lt-ltb, ne-eqb}
+use borrow.Author.Tests.{eqb-true, ltb-true, lt-ltb, ne-eqb}
 use Rattle.bytes.specs.Bytes.{indexOf, indexAfter}
 use Rattle.lists.specs.Lists.{all}
-use Rattle.lists.proofs.Choice.{and-left, and-right, cond-yes}
-use Rattle.line_input.specs.Ascii.{space, digit0}
-use Rattle.line_input.specs.Decimal.{isDigit, decimalOf, isNumber, isTime}
+use Rattle.lists.proofs.Choice.{both, cond-yes}
+use Rattle.line_input.specs.Ascii.{space}
+use Rattle.line_input.specs.Decimal.{isDigit, decimalOf, hasLeadingZero, isNumber, isTime}
 use Rattle.line_input.specs.Hex.{bytesOf, isHex}
 use Rattle.line_input.specs.Reading.{reception, bad, readingOf}
 
@@ -29,19 +30,27 @@ found-at b (x ∷ l) h = go (eqb x b) refl (found-at b l) h
     go true p ih h = eqb-true x b p
     go false p ih h = ih (omega arith)
 
--- behind digits
-space-behind : (s h : List ℕ) → T (all isDigit s) → indexOf space (s ++ (space ∷ h)) ≡ length s
+-- behind characters that pass a test which b does not pass
+pub index-past : (b : ℕ) (p : ℕ → Bool) → p b ≡ false → (s t : List ℕ) → all p s ≡ true → indexOf b (s ++ t) ≡ length s + indexOf b t
 unfolding indexOf indexAfter
-space-behind [] h t = refl
-space-behind (c ∷ s) h t =
-    let low = and-left (leb digit0 c) (ltb c 58) (and-left (isDigit c) (all isDigit s) t) in
-    rw (ne-eqb c space (λ e. omega (arith, leb→le digit0 c low))) (ap suc (space-behind s h (and-right (isDigit c) (all isDigit s) t)))
+index-past b p fails [] t a = sym (zero-add (indexOf b t))
+index-past b p fails (c ∷ s) t a =
+    let w = both (p c) (all p s) a in
+    let other : c ≡ b → ⊥ = λ e. false≢true (sym fails ∙ ap p (sym e) ∙ w .0) in
+    rw (ne-eqb c b other, index-past b p fails s t (w .1)) (omega arith)
 
-time-digits : (s : List ℕ) → isTime s ≡ true → T (all isDigit s)
+pub time-digits : (s : List ℕ) → isTime s ≡ true → all isDigit s ≡ true
 unfolding isTime isNumber
 time-digits s e =
-    let t : T (isTime s) = subst T (sym e) tt in
-    and-left (all isDigit s) _ (and-right (ltb 0 (length s) && _) _ t)
+    let some = ltb 0 (length s) && not (hasLeadingZero s) in
+    let digits = all isDigit s in
+    let small = ltb (decimalOf s) (2 ^ 64) in
+    both digits small (both some (digits && small) e .1) .0
+
+-- behind a time
+pub space-behind : (s h : List ℕ) → isTime s ≡ true → indexOf space (s ++ (space ∷ h)) ≡ length s
+unfolding indexOf indexAfter
+space-behind s h e = index-past space isDigit refl s (space ∷ h) (time-digits s e) ∙ omega arith
 
 -- ---- both ways
 
@@ -51,7 +60,7 @@ joined s h t x =
     let l = s ++ (space ∷ h) in
     let behind : drop (suc (length s)) l ≡ h = rw (sym (add-one (length s))) (drop-append-add s (space ∷ h) 1) in
     rw (
-      space-behind s h (time-digits s t),
+      space-behind s h t,
       lt-ltb (length s) (length l) (simp length-append (omega arith)),
       take-append-seam s (space ∷ h),
       behind,
@@ -61,10 +70,6 @@ joined s h t x =
 
 bad≢reception : {t : ℕ} {bs : List ℕ} → bad ≡ reception t bs → ⊥
 bad≢reception e = let z : _≡_ {A = ℕ} 0 1 = cc in omega arith
-
-T-true : (b : Bool) → T b → b ≡ true
-T-true true t = refl
-T-true false t = absurd t
 
 -- what a line is made of that says a reception
 pub record Said (l : List ℕ) (time : ℕ) (bytes : List ℕ) : Type 0 where
@@ -84,16 +89,16 @@ said l {time} {bytes} e =
     let b = isTime (take k l) in
     let c = isHex (drop (suc k) l) in
     let y = cond-yes (a && b && c) (λ z. bad≢reception z) e in
-    let t : T (a && b && c) = subst T (sym (y .0)) tt in
-    let u = and-left (a && b) c t in
-    let within : k < length l = ltb→lt k (length l) (and-left a b u) in
+    let u = both (a && b) c (y .0) in
+    let v = both a b (u .0) in
+    let within : k < length l = ltb-true k (length l) (v .0) in
     let same = y .1 in
     record {
       digits = take k l;
       hex = drop (suc k) l;
       parts = split-at l k 0 within ∙ rw (found-at space l within);
-      isTimely = T-true b (and-right a b u);
-      isRight = T-true c (and-right (a && b) c t);
+      isTimely = v .1;
+      isRight = u .1;
       saysTime = cc;
       saysBytes = cc;
     }

@@ -3,10 +3,12 @@ use Prim.Native.Nat.{ℕ, _+_, _-_, _*_, _^_}
 use mathlib.Core.Bool.{Bool, false, cond, not, _&&_}
 use mathlib.Core.List.{List, [], _∷_}
 use lib.Dec.{eqb, ltb}
-use lib.ListN.{length}
+use lib.ListN.{length, take}
+use Rattle.bytes.specs.Bytes.{indexOf}
 use Rattle.lists.specs.Lists.{all}
-use Rattle.line_input.specs.Ascii.{digit0, isAmong}
+use Rattle.line_input.specs.Ascii.{space, digit0, isAmong}
 use Rattle.line_input.specs.declared.Number.{Number}
+use Rattle.line_input.specs.declared.Timed.{Timed}
 
 -- 0 to 9
 abbrev pub isDigit : ℕ → Bool
@@ -38,3 +40,9 @@ numberIf t n = cond t (Number.Value n) Number.Bad
 -- n with one digit more, where c is a digit and the number has 64 bits
 unfoldable pub appended : ℕ → ℕ → Number
 appended n c = numberIf (isDigit c && ltb (n * 10 + (c - digit0)) (2 ^ 64)) (n * 10 + (c - digit0))
+
+-- the time at the start of a text, up to the first space, and how many digits say it
+unfoldable pub timedOf : List ℕ → Timed
+timedOf text =
+    let k = indexOf space text in
+    cond (ltb k (length text) && isTime (take k text)) (Timed.At (decimalOf (take k text)) k) Timed.Bad

@@ -1,13 +1,12 @@
 -- Bytes in hexadecimal (document 01, "Cases": 0 to 64 bytes of two hex digits each in either case). Assumes nothing.
 use mathlib.Core.Path.{_≡_}
-use Prim.Native.Nat.{ℕ, _+_, _-_, _*_, _%_}
-use mathlib.Core.Bool.{Bool, true, cond, _&&_}
+use Prim.Native.Nat.{ℕ, zero, suc, _+_, _-_, _*_, _%_}
+use mathlib.Core.Bool.{Bool, cond, _&&_}
 use mathlib.Core.List.{List, [], _∷_}
 use lib.Dec.{eqb, leb, ltb}
 use lib.ListN.{length}
 use Rattle.lists.specs.Lists.{all, padded}
 use Rattle.line_input.specs.Ascii.{digit0, upperA, lowerA, isAmong}
-use Rattle.line_input.specs.declared.Count.{Count}
 
 -- the value of a hexadecimal digit in either case; 16 of any other character
 unfoldable pub nibbleOf : ℕ → ℕ
@@ -30,11 +29,14 @@ bytesOf [] = []
 bytesOf (a ∷ []) = []
 bytesOf (a ∷ b ∷ s) = (nibbleOf a * 16 + nibbleOf b) ∷ bytesOf s
 
--- the answer where the digits are wrong, and where they are right, with the bytes in front of zeros
-abbrev pub countOf : List ℕ → Count
-countOf s = cond (isHex s) (Count.Of (length (bytesOf s))) Count.Bad
+-- the bytes of the pairs of digits at the front of a text, n at most
+unfoldable pub leadingBytes : ℕ → List ℕ → List ℕ
+leadingBytes zero s = []
+leadingBytes (suc n) [] = []
+leadingBytes (suc n) (a ∷ []) = []
+leadingBytes (suc n) (a ∷ b ∷ s) = cond (isHexDigit a && isHexDigit b) ((nibbleOf a * 16 + nibbleOf b) ∷ leadingBytes n s) []
 
--- the digits of s were read into 64 zeros
-pub record Decoded (s bytes : List ℕ) (r : Count) : Type 0 where
-  pub answer : r ≡ countOf s
-  pub written : isHex s ≡ true → bytes ≡ padded 64 (bytesOf s)
+-- the pairs at the front of s were read into 64 bytes, zero filled
+pub record Decoded (s bytes : List ℕ) (r : ℕ) : Type 0 where
+  pub answer : r ≡ length (leadingBytes 64 s)
+  pub written : bytes ≡ padded 64 (leadingBytes 64 s)

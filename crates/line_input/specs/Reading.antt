@@ -6,7 +6,7 @@ use lib.Dec.{ltb}
 use lib.ListN.{length, take, drop, replicate}
 use Rattle.bytes.specs.Bytes.{indexOf}
 use Rattle.lists.specs.Lists.{equal, padded}
-use Rattle.line_input.specs.Ascii.{space, digit0}
+use Rattle.line_input.specs.Ascii.{newline, space, digit0}
 use Rattle.line_input.specs.Decimal.{decimalOf, isTime}
 use Rattle.line_input.specs.Hex.{bytesOf, isHex}
 use Rattle.line_input.specs.declared.Setting.{Setting}
@@ -45,7 +45,31 @@ readingOf l =
 abbrev pub lineLimit : ℕ
 lineLimit = 150
 
--- a reading as an answer: the bytes in 64, zero filled, with their count; zeros beside BAD
-abbrev pub lineOf : Reading → Line
-lineOf (reception t bs) = record { ok = true; time = t; len = length bs; bytes = padded 64 bs }
-lineOf bad = record { ok = false; time = 0; len = 0; bytes = replicate 64 0 }
+-- the line at the start of a text: its length without the newline, and what it says; or no newline ends it
+pub data Front : Type 0 where
+  ended : (n : ℕ) → Reading → Front
+  unended : Front
+
+-- the line up to the first newline
+unfoldable pub frontOf : List ℕ → Front
+frontOf text =
+    let n = indexOf newline text in
+    cond (ltb n (length text)) (ended n (readingOf (take n text))) unended
+
+-- the same for a line that is known to be BAD
+unfoldable pub badFront : List ℕ → Front
+badFront text =
+    let n = indexOf newline text in
+    cond (ltb n (length text)) (ended n bad) unended
+
+-- a line as an answer: its time, the count of its bytes, and its characters with the newline; zeros beside BAD and where no newline ends it
+abbrev pub lineOf : Front → Line
+lineOf (ended n (reception t bs)) = record { ok = true; time = t; len = length bs; used = n + 1 }
+lineOf (ended n bad) = record { ok = false; time = 0; len = 0; used = n + 1 }
+lineOf unended = record { ok = false; time = 0; len = 0; used = 0 }
+
+-- the bytes that are written beside it: those of the reception in 64, zero filled
+abbrev pub bytesIn : Front → List ℕ
+bytesIn (ended n (reception t bs)) = padded 64 bs
+bytesIn (ended n bad) = replicate 64 0
+bytesIn unended = replicate 64 0

@@ -1,11 +1,12 @@
 // What the lines say that the program `collect` reads (document 01, "Cases").
 ghost use mathlib.Core.Path.{_≡_};
 ghost use mathlib.Core.Bool.{true};
+ghost use Prim.Native.Nat.{_/_, min};
 ghost use lib.ListN.{replicate};
 ghost use Rattle.lists.specs.Lists.{isTableOf};
-ghost use Rattle.line_input.specs.Decimal.{decimalOf, isNumber, isTime, numberIf, appended};
+ghost use Rattle.line_input.specs.Decimal.{appended, timedOf};
 ghost use Rattle.line_input.specs.Hex.{nibbleOf, Decoded};
-ghost use Rattle.line_input.specs.Reading.{settingOf, readingOf, lineOf, bad};
+ghost use Rattle.line_input.specs.Reading.{settingOf, frontOf, badFront, lineOf, bytesIn};
 
 // What the first line says.
 pub enum Setting {
@@ -13,12 +14,13 @@ pub enum Setting {
     Bad,
 }
 
-// What a later line says: a time and the first `len` of `bytes`, zero filled; all zero where it is BAD.
+// What the line at the start of a text says: a time and the first `len` of the lent bytes; `used` characters with its newline.
+// All but `used` is zero where it is BAD, and `used` too where no newline ends it.
 pub struct Line {
     pub ok: bool,
     pub time: u64,
     pub len: usize,
-    pub bytes: [u8; 64],
+    pub used: usize,
 }
 
 // A line this long is BAD, whatever else it has.
@@ -30,9 +32,9 @@ enum Number {
     Bad,
 }
 
-// How many bytes hexadecimal digits say.
-enum Count {
-    Of(usize),
+// The time at the start of a text, and how many digits say it.
+enum Timed {
+    At(u64, usize),
     Bad,
 }
 
@@ -318,67 +320,77 @@ pub fn parse_setting(line: &[u8]) -> Setting
     Setting::Bad
 }
 
-// The reception that a later line says.
-pub fn parse(line: &[u8]) -> Line
-    ensures { λ r. ⌜ r ≡ lineOf (readingOf (now (line .entry))) ⌝ }
+// The reception that the line at the start of a text says, its bytes at the front of `bytes`, zero filled.
+pub fn parse(text: &[u8], bytes: &mut [u8; 64]) -> Line
+    ensures { λ r. ⌜ (r ≡ lineOf (frontOf (now (text .entry)))) × (now (bytes .exit) ≡ bytesIn (frontOf (now (text .entry)))) ⌝ }
 {
-    let end = line.len();
-    let at = bytes::scan::find(line, 0, end, 32);
+    let Timed::At(time, digits) = parse_time(text) else {
+        return bad_line(text, bytes);
+    };
+    let from = digits + 1;
+    let end = text.len();
+    let len = decode(&text[from..end], bytes);
+    let at = from + 2 * len;
     if end <= at {
-        return bad();
+        return bad_line(text, bytes);
     }
-    let Number::Value(time) = parse_time(&line[0..at]) else {
-        return bad();
-    };
-    let from = at + 1;
-    let mut bytes = [0u8; 64];
-    let Count::Of(len) = decode(&line[from..end], &mut bytes) else {
-        return bad();
-    };
+    if text[at] != 10 {
+        return bad_line(text, bytes);
+    }
     Line {
         ok: true,
         time: time,
         len: len,
-        bytes: bytes,
+        used: at + 1,
     }
 }
 
-fn bad() -> Line
-    ensures { λ r. ⌜ r ≡ lineOf bad ⌝ }
+// The answer for a line that says no reception.
+fn bad_line(text: &[u8], bytes: &mut [u8; 64]) -> Line
+    ensures { λ r. ⌜ (r ≡ lineOf (badFront (now (text .entry)))) × (now (bytes .exit) ≡ replicate 64 0) ⌝ }
 {
+    *bytes = [0u8; 64];
+    let end = text.len();
+    let n = bytes::scan::find(text, 0, end, 10);
+    if end <= n {
+        return Line {
+            ok: false,
+            time: 0,
+            len: 0,
+            used: 0,
+        };
+    }
     Line {
         ok: false,
         time: 0,
         len: 0,
-        bytes: [0u8; 64],
+        used: n + 1,
     }
 }
 
-// The time that s says.
-fn parse_time(s: &[u8]) -> Number
-    ensures { λ r. ⌜ r ≡ numberIf (isTime (now (s .entry))) (decimalOf (now (s .entry))) ⌝ }
+// The time at the start of a text: digits up to the first character that goes on no number, which has to be a space.
+fn parse_time(text: &[u8]) -> Timed
+    ensures { λ r. ⌜ r ≡ timedOf (now (text .entry)) ⌝ }
 {
-    if s.len() == 0 {
-        return Number::Bad;
-    }
-    if (1 < s.len()) & (s[0] == 48) {
-        return Number::Bad;
-    }
-    parse_digits(s)
-}
-
-// The number that the digits s say, in 64 bits.
-fn parse_digits(s: &[u8]) -> Number
-    ensures { λ r. ⌜ r ≡ numberIf (isNumber (now (s .entry))) (decimalOf (now (s .entry))) ⌝ }
-{
-    let mut n: u64 = 0;
-    for i in 0..s.len() {
-        let Number::Value(m) = append(n, s[i]) else {
-            return Number::Bad;
+    let mut time: u64 = 0;
+    let mut i = 0;
+    while i < text.len() {
+        let Number::Value(more) = append(time, text[i]) else {
+            if text[i] != 32 {
+                return Timed::Bad;
+            }
+            if i == 0 {
+                return Timed::Bad;
+            }
+            if (1 < i) & (text[0] == 48) {
+                return Timed::Bad;
+            }
+            return Timed::At(time, i);
         };
-        n = m;
+        time = more;
+        i += 1;
     }
-    Number::Value(n)
+    Timed::Bad
 }
 
 // n with the digit c behind it.
@@ -402,35 +414,36 @@ fn append(n: u64, c: u8) -> Number
     Number::Value(m + d)
 }
 
-// Writes the bytes that s says to the front of `bytes`, and answers how many they are.
+// Writes the bytes of the pairs of digits at the front of s to the front of `bytes`, up to 64, and answers how many they are.
 // The table is named once: a constant array is built anew wherever it is named.
-fn decode(s: &[u8], bytes: &mut [u8; 64]) -> Count
-    requires { ⌜ now bytes ≡ replicate 64 0 ⌝ }
+fn decode(s: &[u8], bytes: &mut [u8; 64]) -> usize
     ensures { λ r. ⌜ Decoded (now (s .entry)) (now (bytes .exit)) r ⌝ }
 {
-    if 128 < s.len() {
-        return Count::Bad;
-    }
-    if s.len() % 2 != 0 {
-        return Count::Bad;
-    }
+    *bytes = [0u8; 64];
     let table = NIBBLES;
-    let mut at = 0;
+    let limit = pairs_of(s.len());
     let mut i = 0;
-    while at < s.len() {
+    while i < limit {
+        let at = 2 * i;
         let high = nibble(&table, s[at]);
         let low = nibble(&table, s[at + 1]);
-        if 15 < high {
-            return Count::Bad;
-        }
-        if 15 < low {
-            return Count::Bad;
+        if (15 < high) | (15 < low) {
+            break;
         }
         bytes[i] = high * 16 + low;
-        at += 2;
         i += 1;
     }
-    Count::Of(i)
+    i
+}
+
+// How many pairs n characters are, 64 at most.
+fn pairs_of(n: usize) -> usize
+    ensures { λ r. ⌜ r ≡ min (n / 2) 64 ⌝ }
+{
+    if n < 128 {
+        return n / 2;
+    }
+    64
 }
 
 // The value of c as a hexadecimal digit, or 16.

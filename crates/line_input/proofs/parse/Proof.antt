@@ -1,76 +1,96 @@
--- `line_input::parse` meets its contract: the space is the first one, and the parts are read by their own rules. Assumes nothing.
-use mathlib.Core.Path.{_≡_, sym, ap, _∙_}
+-- `line_input::parse` meets its contract: the time and the bytes are read by their own rules, and what has no newline behind them is no
+-- reception. Assumes nothing.
+use mathlib.Core.Path.{_≡_, sym, _∙_}
 use mathlib.Core.List.{List}
-use Prim.Native.Nat.{ℕ, _-_}
+use Prim.Native.Nat.{ℕ, _+_, _*_, _<_, _≤_}
 use native.Mathlib.Omega.{arith}
 use borrow.Author.Needs.{needs}
 use denote.Ref.{now}
-use lib.ListN.{take}
-use Rattle.bytes.specs.Bytes.{indexOf}
-use Rattle.line_input.specs.Ascii.{space}
-use Rattle.line_input.specs.Decimal.{decimalOf, isTime, numberIf}
-use Rattle.line_input.specs.Reading.{lineOf}
-use Rattle.line_input.proofs.Parts.{found-whole, no-space, no-time, no-bytes, all-read}
+use lib.ListN.{length}
+use Rattle.line_input.specs.Decimal.{timedOf}
+use Rattle.line_input.specs.declared.Timed.{Timed}
+use Rattle.line_input.proofs.Starts.{answer-bad}
+use Rattle.line_input.proofs.Parts.{no-time, time-within, read-within, no-end, no-newline, answer}
 use Rattle.line_input.proofs.parse.Statement.{statement}
 use Rattle.line_input.proofs.parse.Tie as tie
 
--- the first space, and the time as it was read
-module _ (c : tie.After-parse-time) where
-  abbrev line : List ℕ
-  line = now (c .before .before .before .before .before .args .line)
+-- a time was read
+module _ (c : tie.After-known-told) where
+  abbrev text : List ℕ
+  text = now (c .before .before .before .before .before .args .text)
 
-  abbrev at : ℕ
-  at = c .before .before .before .find .result
+  abbrev digits : ℕ
+  digits = c .before .time .given .0 .1 .0
 
-  found : at ≡ indexOf space line
-  found = found-whole space line (c .before .before .before .find .ensures .0)
+  timed : Timed.At (c .before .time .given .0 .0) digits ≡ timedOf text
+  timed = sym (c .before .time .given .1) ∙ c .before .before .before .parse-time .ensures
 
-  time : c .parse-time .result ≡ numberIf (isTime (take at line)) (decimalOf (take at line))
-  time = let e : at - 0 ≡ at = omega arith in rw e at (c .parse-time .ensures)
+  few : digits < length text
+  few = time-within text timed
 
-one-word : tie.Need-returns
-one-word c = c .bad .ensures ∙ ap lineOf (sym (no-space _ (found-whole space _ (c .before .before .find .ensures .0)) (c .before .if1 .taken)))
+-- and bytes behind it
+module _ (c : tie.After-decode) where
+  abbrev start : tie.After-known-told
+  start = c .before .before .before
 
-untimed : tie.Need-returns-2
+  read : digits start + 1 + 2 * c .decode .result ≤ length (text start)
+  read = read-within (text start) (timed start) (c .decode .ensures)
+
+add-from : tie.Need-add-from
+add-from c = let h = few c in search needs
+
+sub-decode : tie.Need-sub-decode
+sub-decode c = let h = few c in search needs
+
+part-decode-start : tie.Need-part-decode-start
+part-decode-start c = let h = few c in search needs
+
+mul-at : tie.Need-mul-at
+mul-at c = let h = read c in search needs
+
+add-at : tie.Need-add-at
+add-at c = let h = read c in search needs
+
+untimed : tie.Need-returns
 untimed c =
-    let a = c .before .before .before in
-    c .bad2 .ensures ∙ ap lineOf (sym (no-time (line a) (found a) (a .before .before .if1 .left) (time a) (c .before .enum-told .given .1)))
+    let e = c .before .before in
+    answer-bad (no-time _ (sym (e .enum-told .given .1) ∙ e .before .before .parse-time .ensures)) (c .bad-line .ensures)
 
-unread : tie.Need-returns-3
-unread c =
+cut : tie.Need-returns-2
+cut c =
     let d = c .before .before .before in
-    let a = d .before .before .before .before .before .before in
-    c .bad3 .ensures
-    ∙ ap lineOf (sym (no-bytes (line a) (found a) (a .before .before .if1 .left) (time a) (d .decode .ensures) (d .before .before .before .before .time .given .1) (c .before .enum-told2 .given .1)))
+    answer-bad (no-end (text (start d)) (timed (start d)) (d .decode .ensures) (c .before .before .if1 .taken)) (c .bad-line2 .ensures)
+
+other : tie.Need-returns-3
+other c =
+    let d = c .before .before .before .before .before in
+    answer-bad (no-newline (text (start d)) (timed (start d)) (d .decode .ensures) (c .before .before .if2 .taken)) (c .bad-line3 .ensures)
 
 returns : tie.Need-returns-4
 returns c =
     let d = c .before .before .before in
-    let a = d .before .before .before .before .before .before in
-    all-read (line a) (found a) (a .before .before .if1 .left) (time a) (d .decode .ensures) (d .before .before .before .before .time .given .1) (c .before .len .given .1)
+    answer (text (start d)) (timed (start d)) (d .decode .ensures) (c .before .before .if1 .left) (c .if2 .left)
 
 pub parse-spec : {M : Type 1} → statement M
 parse-spec =
     tie.close
     (tie.spec
     (λ c κs. search needs)
-    (λ c κs. search needs)
-    one-word
-    (λ c. search needs)
-    (λ c. search needs)
-    (λ c. search needs)
-    (λ c κs. search needs)
     (λ c. search needs)
     (λ c. search needs)
     (λ c κs. search needs)
     untimed
-    (λ c. search needs)
-    (λ c. search needs)
-    (λ c. search needs)
-    (λ c. search needs)
-    (λ c κs. search needs)
-    (λ c. search needs)
+    add-from
+    sub-decode
+    part-decode-start
     (λ c. search needs)
     (λ c κs. search needs)
-    unread
+    mul-at
+    add-at
+    (λ c κs. search needs)
+    cut
+    (λ c. search needs)
+    (λ c κs. search needs)
+    other
+    (λ c. search needs)
     returns)

@@ -1,0 +1,15 @@
+-- `line_input::bad_line` meets its contract: the newline is the first one. Assumes nothing.
+use mathlib.Core.Path.{_≡_, refl}
+use borrow.Author.Needs.{needs}
+use Rattle.line_input.proofs.Starts.{found-whole, not-ended, ended-bad}
+use Rattle.line_input.proofs.bad_line.Statement.{statement}
+use Rattle.line_input.proofs.bad_line.Tie as tie
+
+open-line : tie.Need-returns
+open-line c = (not-ended _ (found-whole _ _ (c .before .find .ensures .0)) (c .if1 .taken), refl)
+
+ended-line : tie.Need-returns-2
+ended-line c = (ended-bad _ (found-whole _ _ (c .before .find .ensures .0)) (c .if1 .left), refl)
+
+pub bad-line-spec : {M : Type 1} → statement M
+bad-line-spec = tie.close (tie.spec (λ c κs. search needs) open-line (λ c. search needs) ended-line)
