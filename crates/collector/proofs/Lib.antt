@@ -1,8 +1,10 @@
 pub mod Inside
 pub mod Arrays
+pub mod Copies
 pub mod Times
 pub mod Accepting
 pub mod Marks
 pub mod Moving
 pub mod Classifying
 pub mod Admitting
+pub mod Stepping

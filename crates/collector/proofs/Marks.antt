@@ -3,21 +3,17 @@ use Prim.Native.Nat.{ℕ, zero, suc, _+_, _-_, _*_, _≤_, _<_}
 use native.Mathlib.Decide.{decLt}
 use native.Mathlib.Numerals.{add-one}
 use native.Mathlib.Omega.{arith}
-use mathlib.Core.Path.{_≡_, sym, _∙_, ap, subst}
+use mathlib.Core.Path.{_≡_, sym, _∙_, ap}
 use mathlib.Core.Bool.{Bool, true, false, false≢true}
 use mathlib.Core.List.{List}
-use lib.Dec.{T, eqb}
-use lib.ListN.{length, getD, take, set, length-set}
-use lib.Seq.{getD-take, getD-set-same, getD-set-other}
+use lib.Dec.{eqb}
+use lib.ListN.{length, getD, set, length-set}
+use lib.Seq.{getD-set-same, getD-set-other}
 use borrow.Author.Tests.{eq-eqb, eqb-true, eqb-false}
-use Rattle.lists.specs.Lists.{equal}
-use Rattle.lists.proofs.Choice.{both}
-use Rattle.lists.proofs.Equal.{equal-eq}
 use Rattle.lists.proofs.Tests.{by-test}
-use Rattle.erp1.specs.Status.{upperOf}
-use Rattle.erp1.specs.Subtelegram.{minLength, maxLength, statusOf, bodyOf, checkOf, isValid}
+use Rattle.erp1.specs.Subtelegram.{minLength, maxLength, checkOf, isValid}
 use Rattle.erp1.specs.Same.{isSame}
-use Rattle.erp1.proofs.Checks.{front-at, check-facts}
+use Rattle.erp1.proofs.Checks.{check-facts}
 use Rattle.layout.specs.Buffer.{part}
 use Rattle.layout.proofs.Buffer.{resized-length}
 use Rattle.model.specs.Acceptable.{isCopyOf}
@@ -26,30 +22,13 @@ use Rattle.collector.specs.Collector.{entryAt, entriesAt}
 use Rattle.collector.specs.Acceptable.{hasCopy, shownAt, marks, markOf, MarkedAs, Repeated}
 use Rattle.collector.proofs.Inside.{fails}
 use Rattle.collector.proofs.Arrays.{has-none, has-more}
+use Rattle.collector.proofs.Copies.{same-length, same-at}
 
--- ---- the same telegrams
-
-module _ (a b : List ℕ) (same : isSame a b ≡ true) where
-  same-length : length a ≡ length b
-  unfolding isSame
-  same-length = eqb-true _ _ (both (eqb (length a) (length b)) _ same .0)
-
-  module _ (low : minLength ≤ length a) where
-    same-front : take (length a - 2) a ≡ take (length a - 2) b
-    unfolding isSame
-    same-front =
-        let e = both (eqb (upperOf (statusOf a)) (upperOf (statusOf b))) (equal (bodyOf (bodyOf a)) (bodyOf (bodyOf b))) (both (eqb (length a) (length b)) _ same .1) .1 in
-        let long = same-length in
-        let f = equal-eq (bodyOf (bodyOf a)) (bodyOf (bodyOf b)) (subst T (sym e) tt) in
-        sym (front-at a (omega arith)) ∙ f ∙ front-at b (omega arith) ∙ ap (λ (n : ℕ). take (n - 2) b) (sym long)
-
-    same-at : (k : ℕ) → k < length a - 2 → getD a k 0 ≡ getD b k 0
-    same-at k h = sym (getD-take (length a - 2) a k 0 h) ∙ ap (λ (l : List ℕ). getD l k 0) same-front ∙ getD-take (length a - 2) b k 0 h
-
-    same-mark : markOf a ≡ markOf b
-    unfolding markOf
-    same-mark =
-        rw (same-at (length a - 3) (omega arith), same-at (length a - 4) (omega arith), same-at 1 (omega arith), same-length)
+same-mark : (a b : List ℕ) → isSame a b ≡ true → minLength ≤ length a → markOf a ≡ markOf b
+unfolding markOf
+same-mark a b same low =
+    let at = same-at a b same low in
+    rw (at (length a - 3) (omega arith), at (length a - 4) (omega arith), at 1 (omega arith), same-length a b same)
 
 -- ---- the table of those seen
 
@@ -119,8 +98,10 @@ module _ (lens bytes : List ℕ) (i : ℕ) where
   pub long-not-valid : maxLength < getD lens i 0 → isValid (shownAt lens bytes i) ≡ false
   long-not-valid h = fails (isValid (shownAt lens bytes i)) (λ e. omega (arith, valid-length (shownAt lens bytes i) e, shown-length))
 
-  pub valid-len : isValid (shownAt lens bytes i) ≡ true → getD lens i 0 ≤ maxLength
-  valid-len e = omega (arith, valid-length (shownAt lens bytes i) e, shown-length)
+  pub valid-len : isValid (shownAt lens bytes i) ≡ true → (minLength ≤ getD lens i 0) × (getD lens i 0 ≤ maxLength)
+  valid-len e =
+      let f = check-facts (shownAt lens bytes i) (eqb-true _ 0 e) in
+      (omega (arith, f .low, shown-length), omega (arith, f .high, shown-length))
 
 -- ---- what the search tells, where a mark was seen
 

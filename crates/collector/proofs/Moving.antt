@@ -3,26 +3,23 @@
 use Prim.Native.Nat.{ℕ, zero, suc, _+_, _-_, _*_, _≤_, _<_}
 use native.Mathlib.Nat.{zero-add, add-zero, add-comm, add-suc, suc-add, le-refl}
 use native.Mathlib.Numerals.{add-one}
-use native.Mathlib.Decide.{decLt}
 use native.Mathlib.Omega.{arith}
 use mathlib.Core.Path.{_≡_, refl, sym, _∙_, ap, ap₂}
 use mathlib.Core.Bool.{Bool, true, false, false≢true}
 use mathlib.Core.List.{List, [], _∷_, _++_, map, append-assoc}
 use lib.ListN.{length, getD, take, drop, set, length-set, length-take, length-drop}
 use lib.Seq.{take-suc, take-suc-set, take-set-le, drop-set-lt, getD-take, getD-drop, getD-set-same, drop-drop, drop-cons, take-take, take-at, drop-at, take-append-seam, take-length, length-take-le}
-use borrow.Author.Tests.{le-leb, leb-true}
-use Rattle.lists.specs.Lists.{keep, upFrom}
-use Rattle.lists.proofs.Keep.{keep-append, keep-map}
-use Rattle.lists.proofs.UpFrom.{upFrom-add, keep-none, keep-all}
+use Rattle.lists.specs.Lists.{upFrom}
 use Rattle.lists.proofs.Tests.{by-test}
 use Rattle.erp1.specs.Subtelegram.{maxLength}
 use Rattle.layout.specs.Buffer.{part, resized}
 use Rattle.layout.proofs.Buffer.{resized-cut}
 use Rattle.layout.proofs.Segments.{part-at}
-use Rattle.model.specs.View.{Reception, maturity, isOpen}
+use Rattle.model.specs.View.{Reception, isOpen}
 use Rattle.model.specs.Step.{plusIf, addIf}
 use Rattle.collector.specs.Collector.{entryAt, entriesAt}
 use Rattle.collector.specs.Merging.{Expired, Moved, PutIf}
+use Rattle.collector.specs.Admission.{openFrom}
 use Rattle.collector.proofs.Arrays.{entries-more}
 
 -- ---- the loop that moves, over an array of any numbers: the first i stand there, and the others are as they were
@@ -149,25 +146,22 @@ module _ (kept : Bool) (n : ℕ) (times lens bytes times' lens' bytes' : List �
 
 -- ---- which are no longer open
 
-module _ (times lens bytes : List ℕ) (count time gone : ℕ) (e : Expired times count time gone) (order : (i j : ℕ) → i < j → j < count → getD times i 0 ≤ getD times j 0) where
-  abbrev openAt : ℕ → Bool
-  openAt i = isOpen time (entryAt times lens bytes i)
+-- n entries that are not open at t are left out, up to one that is
+open-after : (f : ℕ → Reception) (t a n m : ℕ) → ((i : ℕ) → a ≤ i → i < a + n → isOpen t (f i) ≡ false) → (0 < m → isOpen t (f (a + n)) ≡ true)
+    → openFrom t (map f (upFrom a (n + m))) ≡ map f (upFrom (a + n) m)
+unfolding upFrom
+open-after f t a zero zero closed first = refl
+open-after f t a zero (suc m) closed first = rw (zero-add, add-zero, rw (add-zero) at (first (omega arith)))
+open-after f t a (suc n) m closed first =
+    rw (suc-add n, add-suc, ← (suc-add a), closed a (omega arith) (omega arith))
+    (open-after f t (suc a) n m (λ i h k. closed i (omega arith) (omega arith)) (λ h. rw (suc-add a, ← add-suc) (first h)))
 
-  later : (i : ℕ) → gone ≤ i → i < count → openAt i ≡ true
-  later i h k = elim (decLt gone i) [
-    | yes l ↦ le-leb (time - getD times i 0) maturity (omega (arith, order gone i l k, leb-true (time - getD times gone 0) maturity (e .first (omega arith))))
-    | no l ↦ let s : i ≡ gone = omega arith in rw s (e .first (omega arith))
-  ]
-
-  kept-numbers : keep openAt (upFrom 0 (gone + (count - gone))) ≡ upFrom gone (count - gone)
-  kept-numbers =
-      let few = e .few in
-      rw (upFrom-add 0 gone (count - gone), zero-add, keep-append openAt (upFrom 0 gone), keep-none openAt 0 gone (λ i _ h. e .closed i (omega arith)))
-      (keep-all openAt gone (count - gone) (λ i h k. later i h (omega arith)))
-
-  pub expired-open : keep (isOpen time) (entriesAt times lens bytes count) ≡ map (entryAt times lens bytes) (upFrom gone (count - gone))
-  unfolding entriesAt
-  expired-open =
-      let few = e .few in
-      let size : gone + (count - gone) ≡ count = omega arith in
-      keep-map (isOpen time) (entryAt times lens bytes) (upFrom 0 count) ∙ ap (map (entryAt times lens bytes)) (rw size at kept-numbers)
+pub expired-open : (times lens bytes : List ℕ) (count time gone : ℕ) → Expired times count time gone
+    → openFrom time (entriesAt times lens bytes count) ≡ map (entryAt times lens bytes) (upFrom gone (count - gone))
+unfolding entriesAt
+expired-open times lens bytes count time gone e =
+    let few = e .few in
+    let size : gone + (count - gone) ≡ count = omega arith in
+    rw (size, zero-add) at
+    (open-after (entryAt times lens bytes) time 0 gone (count - gone) (λ i _ h. e .closed i (omega arith))
+    (λ h. rw zero-add (e .first (omega arith))))

@@ -4,7 +4,7 @@ use Prim.Native.Nat.{ℕ, zero, suc, _+_, _-_, _≤_, _<_}
 use native.Mathlib.Numerals.{add-one}
 use native.Mathlib.Omega.{arith}
 use mathlib.Core.Path.{_≡_, refl, _∙_, ap}
-use mathlib.Core.Bool.{Bool, true, false, not, _&&_}
+use mathlib.Core.Bool.{Bool, true, false, _&&_}
 use mathlib.Core.List.{List, [], _∷_, map, map-map}
 use lib.Dec.{leb}
 use lib.ListN.{length, getD, take, drop}
@@ -14,11 +14,9 @@ use Rattle.lists.specs.Lists.{all, pairwise, upFrom}
 use Rattle.lists.proofs.Choice.{both}
 use Rattle.lists.proofs.Tests.{and-true, all-both}
 use Rattle.model.specs.View.{Reception, maturity, isOpen}
-use Rattle.model.specs.Acceptable.{isCopyOf, mayFollow}
 use Rattle.collector.specs.Collector.{entryAt, entriesAt}
 use Rattle.collector.specs.Acceptable.{areTimely}
-use Rattle.collector.proofs.Inside.{same-test, all-inside, pairwise-inside}
-use Rattle.collector.proofs.Arrays.{entries-inside}
+use Rattle.collector.proofs.Inside.{same-test}
 
 -- lo, the times and hi never fall
 unfoldable pub rising : ℕ → ℕ → List ℕ → Bool
@@ -124,15 +122,3 @@ module _ (times : List ℕ) (i count lo hi : ℕ) (h : i < count) (k : count ≤
 pub rising-end : (times : List ℕ) (count lo hi : ℕ) → rising lo hi (slice count count times) ≡ leb lo hi
 unfolding rising
 rising-end times count lo hi = rw (slice-empty count times)
-
--- the times of entries are in order
-pub times-order : (times lens bytes : List ℕ) (count : ℕ) → pairwise mayFollow (entriesAt times lens bytes count) ≡ true
-    → (i j : ℕ) → i < j → j < count → getD times i 0 ≤ getD times j 0
-times-order times lens bytes count order i j h k =
-    let later = entries-inside times lens bytes j count k in
-    let earlier = entries-inside times lens bytes i j h in
-    let e = entryAt times lens bytes i in
-    let f = entryAt times lens bytes j in
-    let follows = pairwise-inside mayFollow (entriesAt times lens bytes j) f (later .0) (rw (later .1) at order) in
-    let one = all-inside (λ x. mayFollow x f) (entriesAt times lens bytes i) e (earlier .0) (rw (earlier .1) at follows) in
-    leb-true _ _ (both (leb (e .time) (f .time)) (not (isCopyOf e f)) one .0)

@@ -6,6 +6,7 @@ use Rattle.lists.specs.Lists.{upFrom}
 use Rattle.refusal.specs.Number.{numberOf}
 use Rattle.erp1.specs.Subtelegram.{maxLength}
 use Rattle.layout.specs.Buffer.{part, resized}
+use Rattle.model.specs.declared.Totals.{Totals}
 use Rattle.model.specs.View.{Reception, View, noTotals, fresh, freshNumber}
 use Rattle.collector.specs.declared.Collector.{Collector}
 use Rattle.collector.specs.declared.Started.{Started}
@@ -20,13 +21,12 @@ entryAt times lens bytes i = record { bytes = resized (getD lens i 0) (part (max
 unfoldable pub entriesAt : List ℕ → List ℕ → List ℕ → ℕ → List Reception
 entriesAt times lens bytes count = map (entryAt times lens bytes) (upFrom 0 count)
 
+-- what the fields of a state say, one by one
+abbrev pub viewAt : List ℕ → List ℕ → List ℕ → ℕ → ℕ → ℕ → Totals → View
+viewAt times lens bytes count latest setting totals = record { setting = setting; latest = latest; totals = totals; entries = entriesAt times lens bytes count }
+
 unfoldable pub viewOf : Collector → View
-viewOf c = record {
-  setting = c .setting;
-  latest = c .latest;
-  totals = c .totals;
-  entries = entriesAt (c .times) (c .lens) (c .bytes) (c .count);
-}
+viewOf c = viewAt (c .times) (c .lens) (c .bytes) (c .count) (c .latest) (c .setting) (c .totals)
 
 -- ---- a fresh collector
 

@@ -1,3 +1,4 @@
 pub mod Collector
 pub mod Acceptable
 pub mod Merging
+pub mod Admission

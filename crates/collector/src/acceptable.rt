@@ -4,38 +4,17 @@ use crate::entries;
 use erp1::Checked;
 use model::Totals;
 ghost use mathlib.Core.Path.{_≡_};
-ghost use mathlib.Core.Bool.{true};
 ghost use mathlib.Core.List.{List};
 ghost use Prim.Native.Nat.{ℕ, _≤_, _<_};
 ghost use lib.ListN.{length, getD};
 ghost use Rattle.erp1.specs.Subtelegram.{minLength, maxLength};
 ghost use Rattle.model.specs.View.{capacity};
 ghost use Rattle.model.specs.Acceptable.{isSummed, acceptable};
-ghost use Rattle.collector.specs.Collector.{entryAt, entriesAt};
+ghost use Rattle.collector.specs.Collector.{entryAt, entriesAt, viewAt};
 ghost use Rattle.collector.specs.Acceptable.{areTimely, areTelegrams, hasCopy, shownAt, marks, markOf, MarkedAs, Repeated};
 
 // The size of the table of marks.
 const MARKS: usize = 1024;
-
-// The same of a state that may be trusted to be acceptable, and is then not tested.
-pub(crate) fn is_fit<'a>(
-    trusted: bool,
-    times: &'a [u64; Collector::CAPACITY],
-    lens: &'a [u8; Collector::CAPACITY],
-    bytes: &'a [u8; Collector::CAPACITY * Collector::MAX_LEN],
-    count: usize,
-    latest: u64,
-    setting: u8,
-    totals: Totals,
-) -> bool
-    requires { ⌜ (trusted ≡ true → acceptable (record { setting = setting; latest = latest; totals = totals; entries = entriesAt (now times) (now lens) (now bytes) count }) ≡ true) ⌝ }
-    ensures { λ r. ⌜ r ≡ acceptable (record { setting = setting; latest = latest; totals = totals; entries = entriesAt (now (times .entry)) (now (lens .entry)) (now (bytes .entry)) count }) ⌝ }
-{
-    if trusted {
-        return true;
-    }
-    is_acceptable(times, lens, bytes, count, latest, setting, totals)
-}
 
 // Whether the state with these parts is acceptable, whatever they are.
 pub fn is_acceptable<'a>(
@@ -47,7 +26,7 @@ pub fn is_acceptable<'a>(
     setting: u8,
     totals: Totals,
 ) -> bool
-    ensures { λ r. ⌜ r ≡ acceptable (record { setting = setting; latest = latest; totals = totals; entries = entriesAt (now (times .entry)) (now (lens .entry)) (now (bytes .entry)) count }) ⌝ }
+    ensures { λ r. ⌜ r ≡ acceptable (viewAt (now (times .entry)) (now (lens .entry)) (now (bytes .entry)) count latest setting totals) ⌝ }
 {
     if Collector::MAX_SETTING < setting {
         return false;
@@ -154,7 +133,7 @@ fn is_repeated<'a>(
     i: usize,
     seen: u8,
 ) -> bool
-    requires { ⌜ (i < capacity) × (getD (now lens) i 0 ≤ maxLength) ⌝ }
+    requires { ⌜ (i < capacity) × (minLength ≤ getD (now lens) i 0) × (getD (now lens) i 0 ≤ maxLength) ⌝ }
     ensures { λ r. ⌜ ((times : List ℕ) → Repeated seen (hasCopy (entriesAt times (now (lens .entry)) (now (bytes .entry)) i) (entryAt times (now (lens .entry)) (now (bytes .entry)) i)) r) ⌝ }
 {
     if seen == 0 {
@@ -166,7 +145,7 @@ fn is_repeated<'a>(
 }
 
 // Whether received is the sum of the others, which no sum here can wrap.
-fn is_summed(n: Totals) -> bool
+pub(crate) fn is_summed(n: Totals) -> bool
     ensures { λ r. ⌜ r ≡ isSummed n ⌝ }
 {
     if n.received < n.kept {

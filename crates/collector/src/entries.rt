@@ -6,7 +6,7 @@ ghost use mathlib.Core.Bool.{true};
 ghost use mathlib.Core.List.{List, [], _∷_};
 ghost use Prim.Native.Nat.{ℕ, _+_, _-_, _*_, _≤_, _<_};
 ghost use lib.ListN.{length};
-ghost use Rattle.erp1.specs.Subtelegram.{maxLength};
+ghost use Rattle.erp1.specs.Subtelegram.{minLength, maxLength};
 ghost use Rattle.layout.specs.Buffer.{part, resized};
 ghost use Rattle.model.specs.View.{capacity};
 ghost use Rattle.model.specs.Acceptable.{isCopyOf};
@@ -21,7 +21,7 @@ pub(crate) fn find<'a>(
     count: usize,
     received: &'a [u8],
 ) -> bool
-    requires { ⌜ (count ≤ capacity) × (length (now received) ≤ maxLength) ⌝ }
+    requires { ⌜ (count ≤ capacity) × (minLength ≤ length (now received)) × (length (now received) ≤ maxLength) ⌝ }
     ensures { λ r. ⌜ ((times : List ℕ) (time : ℕ) → r ≡ hasCopy (entriesAt times (now (lens .entry)) (now (bytes .entry)) count) (record { bytes = now (received .entry); time = time })) ⌝ }
 {
     for i in 0..count {
@@ -32,17 +32,21 @@ pub(crate) fn find<'a>(
     false
 }
 
-// Whether entry `i` is the same telegram.
+// Whether entry `i` is the same telegram. The last byte of TXID is compared first: by it most telegrams differ, whatever length the entry has.
 fn holds<'a>(
     lens: &'a [u8; Collector::CAPACITY],
     bytes: &'a [u8; Collector::CAPACITY * Collector::MAX_LEN],
     i: usize,
     received: &'a [u8],
 ) -> bool
-    requires { ⌜ (i < capacity) × (length (now received) ≤ maxLength) ⌝ }
+    requires { ⌜ (i < capacity) × (minLength ≤ length (now received)) × (length (now received) ≤ maxLength) ⌝ }
     ensures { λ r. ⌜ ((times : List ℕ) (time : ℕ) → r ≡ isCopyOf (entryAt times (now (lens .entry)) (now (bytes .entry)) i) (record { bytes = now (received .entry); time = time })) ⌝ }
 {
     let len = received.len();
+    let at = Collector::MAX_LEN * i + (len - 3);
+    if bytes[at] != received[len - 3] {
+        return false;
+    }
     if wide(lens[i]) != len {
         return false;
     }

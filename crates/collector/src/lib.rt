@@ -1,15 +1,13 @@
 // The collector: merges receptions of one telegram, counts them, and hands out what a repeater sends (document 01, "Merging").
 pub mod acceptable;
 pub(crate) mod entries;
-pub(crate) mod merging;
+pub mod merging;
 
 use model::Answer;
 use model::Totals;
 use refusal::Refusal;
 use telegram::frame::Frame;
 ghost use mathlib.Core.Path.{_≡_};
-ghost use mathlib.Core.Bool.{true};
-ghost use Rattle.model.specs.Acceptable.{acceptable};
 ghost use Rattle.model.specs.Step.{step};
 ghost use Rattle.collector.specs.Collector.{freshAnswer, freshOf, emptyView, viewOf};
 ghost use Rattle.collector.specs.Merging.{outcomeOf};
@@ -74,60 +72,47 @@ impl Collector {
     }
 
     // Takes one reception: its bytes and the moment they were complete, in ms. A state that is not acceptable gets 11 and stays.
-    pub fn take(mut self, bytes: &[u8], time: u64) -> Taken
+    // The state is changed where it lies and left at one exit, so that it is copied in and out alone.
+    pub fn take(self, bytes: &[u8], time: u64) -> Taken
         ensures { λ r. ⌜ outcomeOf r ≡ step (viewOf self) (record { bytes = now (bytes .entry); time = time }) ⌝ }
     {
-        self.merge(false, bytes, time)
-    }
-
-    // `take` of a state that is known to be acceptable, as the one is that it returns: for a run of receptions.
-    pub(crate) fn admit(mut self, bytes: &[u8], time: u64) -> Taken
-        requires { ⌜ acceptable (viewOf self) ≡ true ⌝ }
-        ensures { λ r. ⌜ outcomeOf r ≡ step (viewOf self) (record { bytes = now (bytes .entry); time = time }) ⌝ }
-    {
-        self.merge(true, bytes, time)
-    }
-
-    // Both of them: a trusted state is not tested. Each step after the test decides by the answer, and the state is changed where it lies and
-    // left at one exit, so that it is copied in and out alone. A refused reception leaves the latest time, at which every entry is open.
-    fn merge(mut self, trusted: bool, bytes: &[u8], time: u64) -> Taken
-        requires { ⌜ (trusted ≡ true → acceptable (viewOf self) ≡ true) ⌝ }
-        ensures { λ r. ⌜ outcomeOf r ≡ step (viewOf self) (record { bytes = now (bytes .entry); time = time }) ⌝ }
-    {
-        let mut answer = Answer::Refused(Refusal::NotAccepted);
-        let mut sent = Frame::empty();
-        if acceptable::is_fit(
-            trusted,
-            &self.times,
-            &self.lens,
-            &self.bytes,
+        let mut times = self.times;
+        let mut lens = self.lens;
+        let mut entries = self.bytes;
+        let fit = acceptable::is_acceptable(
+            &times,
+            &lens,
+            &entries,
             self.count,
             self.latest,
             self.setting,
             self.totals,
-        ) {
-            let count = self.count;
-            let totals = self.totals;
-            let checked = merging::check_reception(totals.received, self.latest, bytes, time);
-            let latest = merging::latest_after(checked, self.latest, time);
-            let gone = entries::expired(&self.times, count, latest);
-            let left = count - gone;
-            entries::close_times(&mut self.times, gone, left);
-            entries::close_lens(&mut self.lens, gone, left);
-            entries::close_bytes(&mut self.bytes, gone, left);
-            answer = merging::classify(&self.lens, &self.bytes, left, checked, bytes);
-            let kept = merging::is_kept(answer);
-            entries::put_time(&mut self.times, left, kept, time);
-            entries::put_len(&mut self.lens, left, kept, bytes);
-            entries::put_bytes(&mut self.bytes, left, kept, bytes);
-            let totals_after = merging::counted(totals, answer);
-            self.count = merging::count_after(kept, left);
-            self.latest = latest;
-            self.totals = totals_after;
-            sent = merging::sent_for(self.setting, kept, bytes);
-        }
+        );
+        let done = merging::admit(
+            fit,
+            &mut times,
+            &mut lens,
+            &mut entries,
+            self.count,
+            self.latest,
+            self.setting,
+            self.totals,
+            bytes,
+            time,
+        );
+        let totals = done.totals;
+        let answer = done.answer;
+        let sent = done.sent;
         Taken {
-            next: self,
+            next: Collector {
+                times: times,
+                lens: lens,
+                bytes: entries,
+                count: done.count,
+                latest: done.latest,
+                setting: self.setting,
+                totals: totals,
+            },
             answer: answer,
             sent: sent,
         }

@@ -1,5 +1,6 @@
 // One reception (document 01, "Merging"): its classification, what is counted, and what is sent.
 use crate::Collector;
+use crate::acceptable;
 use crate::entries;
 use erp1::Checked;
 use model::Answer;
@@ -7,23 +8,95 @@ use model::Totals;
 use refusal::Refusal;
 use telegram::frame::Frame;
 ghost use mathlib.Core.Path.{_≡_};
-ghost use mathlib.Core.Bool.{true, cond};
+ghost use mathlib.Core.Bool.{true, cond, _&&_};
 ghost use mathlib.Core.List.{List, []};
 ghost use Prim.Native.Nat.{ℕ, _≤_, _<_};
 ghost use lib.Dec.{leb, eqb};
 ghost use lib.ListN.{length};
-ghost use Rattle.erp1.specs.Subtelegram.{maxLength, checkedNumber};
+ghost use Rattle.erp1.specs.Subtelegram.{minLength, maxLength, isValid, checkedNumber};
 ghost use Rattle.telegram.specs.Frame.{frameOf};
 ghost use Rattle.telegram.specs.Repeater.{repeatOf};
 ghost use Rattle.model.specs.Answer.{shownOf, shownNumber, isKept, isCopy, isLoose, isDamaged, isLate, isReceived};
 ghost use Rattle.model.specs.View.{capacity};
+ghost use Rattle.model.specs.Acceptable.{isSummed};
 ghost use Rattle.model.specs.Step.{maxCount, plusIf, tally};
-ghost use Rattle.collector.specs.Collector.{entriesAt};
+ghost use Rattle.collector.specs.Collector.{entriesAt, viewAt};
 ghost use Rattle.collector.specs.Acceptable.{hasCopy};
 ghost use Rattle.collector.specs.Merging.{receptionCheck, answerFor, Countable};
+ghost use Rattle.collector.specs.Admission.{admittedOf, notAdmitted, admission};
+
+// What a reception changes beside the entries' arrays, the answer, and the telegram to send.
+pub struct Admitted {
+    pub count: usize,
+    pub latest: u64,
+    pub totals: Totals,
+    pub answer: Answer,
+    pub sent: Frame,
+}
+
+// Takes one reception at a state that is changed where it lies: its three arrays are lent. `fit` is what the test of the state said, so that a run
+// of receptions pays for it once; where it is false, or the entries or totals could not be counted on, the answer is 11 and nothing is changed.
+// Each step decides by the answer. A refused reception leaves the latest time, at which every entry of an acceptable state is open.
+pub fn admit<'a>(
+    fit: bool,
+    times: &'a mut [u64; Collector::CAPACITY],
+    lens: &'a mut [u8; Collector::CAPACITY],
+    bytes: &'a mut [u8; Collector::CAPACITY * Collector::MAX_LEN],
+    count: usize,
+    latest: u64,
+    setting: u8,
+    totals: Totals,
+    received: &'a [u8],
+    time: u64,
+) -> Admitted
+    ensures { λ r. ⌜ admittedOf (now (times .exit)) (now (lens .exit)) (now (bytes .exit)) setting r ≡ admission fit (viewAt (now (times .entry)) (now (lens .entry)) (now (bytes .entry)) count latest setting totals) (record { bytes = now (received .entry); time = time }) ⌝ }
+{
+    if !is_safe(fit, count, totals) {
+        return refused(count, latest, totals);
+    }
+    let checked = check_reception(totals.received, latest, received, time);
+    let last = latest_after(checked, latest, time);
+    let gone = entries::expired(times, count, last);
+    let left = count - gone;
+    entries::close_times(times, gone, left);
+    entries::close_lens(lens, gone, left);
+    entries::close_bytes(bytes, gone, left);
+    let answer = classify(lens, bytes, left, checked, received);
+    let kept = is_kept(answer);
+    entries::put_time(times, left, kept, time);
+    entries::put_len(lens, left, kept, received);
+    entries::put_bytes(bytes, left, kept, received);
+    Admitted {
+        count: count_after(kept, left),
+        latest: last,
+        totals: counted(totals, answer),
+        answer: answer,
+        sent: sent_for(setting, kept, received),
+    }
+}
+
+// Whether the state was found acceptable, its arrays hold its entries, and no total can wrap.
+fn is_safe(fit: bool, count: usize, totals: Totals) -> bool
+    ensures { λ r. ⌜ r ≡ (fit && (leb count capacity && isSummed totals)) ⌝ }
+{
+    fit & ((count <= Collector::CAPACITY) & acceptable::is_summed(totals))
+}
+
+// 11, and nothing is changed.
+fn refused(count: usize, latest: u64, totals: Totals) -> Admitted
+    ensures { λ r. ⌜ ((times lens bytes : List ℕ) (setting : ℕ) → admittedOf times lens bytes setting r ≡ notAdmitted (viewAt times lens bytes count latest setting totals)) ⌝ }
+{
+    Admitted {
+        count: count,
+        latest: latest,
+        totals: totals,
+        answer: Answer::Refused(Refusal::NotAccepted),
+        sent: Frame::empty(),
+    }
+}
 
 // What a reception is refused for before the open telegrams are looked at.
-pub(crate) fn check_reception(received: u64, latest: u64, bytes: &[u8], time: u64) -> Checked
+fn check_reception(received: u64, latest: u64, bytes: &[u8], time: u64) -> Checked
     ensures { λ r. ⌜ checkedNumber r ≡ receptionCheck received latest (record { bytes = now (bytes .entry); time = time }) ⌝ }
 {
     if received == u64::MAX {
@@ -40,7 +113,7 @@ pub(crate) fn check_reception(received: u64, latest: u64, bytes: &[u8], time: u6
 }
 
 // The latest time after a reception.
-pub(crate) fn latest_after(checked: Checked, latest: u64, time: u64) -> u64
+fn latest_after(checked: Checked, latest: u64, time: u64) -> u64
     ensures { λ r. ⌜ r ≡ cond (eqb (checkedNumber checked) 0) time latest ⌝ }
 {
     match checked {
@@ -50,14 +123,14 @@ pub(crate) fn latest_after(checked: Checked, latest: u64, time: u64) -> u64
 }
 
 // The answer, where `count` telegrams are open.
-pub(crate) fn classify<'a>(
+fn classify<'a>(
     lens: &'a [u8; Collector::CAPACITY],
     bytes: &'a [u8; Collector::CAPACITY * Collector::MAX_LEN],
     count: usize,
     checked: Checked,
     received: &'a [u8],
 ) -> Answer
-    requires { ⌜ (count ≤ capacity) × (checkedNumber checked ≡ 0 → length (now received) ≤ maxLength) ⌝ }
+    requires { ⌜ (count ≤ capacity) × (checkedNumber checked ≡ 0 → (minLength ≤ length (now received)) × (length (now received) ≤ maxLength)) ⌝ }
     ensures { λ r. ⌜ ((times : List ℕ) (time : ℕ) → shownOf r ≡ answerFor (checkedNumber checked) (hasCopy (entriesAt times (now (lens .entry)) (now (bytes .entry)) count) (record { bytes = now (received .entry); time = time })) (leb capacity count)) ⌝ }
 {
     match checked {
@@ -74,18 +147,19 @@ pub(crate) fn classify<'a>(
     }
 }
 
-// What is sent for a reception: nothing, if it is not kept.
-pub(crate) fn sent_for(setting: u8, kept: bool, bytes: &[u8]) -> Frame
+// What is sent for a reception: nothing, if it is not kept. Only valid ones are, so that it needs no further check.
+fn sent_for(setting: u8, kept: bool, bytes: &[u8]) -> Frame
+    requires { ⌜ (kept ≡ true → isValid (now bytes) ≡ true) ⌝ }
     ensures { λ r. ⌜ r ≡ frameOf (cond kept (repeatOf setting (now (bytes .entry))) []) ⌝ }
 {
     if !kept {
         return Frame::empty();
     }
-    telegram::repeater::repeat(setting, bytes)
+    telegram::repeater::relay(setting, bytes)
 }
 
 // The totals after one more answer.
-pub(crate) fn counted(n: Totals, answer: Answer) -> Totals
+fn counted(n: Totals, answer: Answer) -> Totals
     requires { ⌜ Countable n (shownOf answer) ⌝ }
     ensures { λ r. ⌜ r ≡ tally (shownOf answer) n ⌝ }
 {
@@ -111,7 +185,7 @@ fn one_more(counts: bool, n: u64) -> u64
 }
 
 // How many telegrams are open after a reception.
-pub(crate) fn count_after(kept: bool, left: usize) -> usize
+fn count_after(kept: bool, left: usize) -> usize
     requires { ⌜ (kept ≡ true → left < capacity) ⌝ }
     ensures { λ r. ⌜ r ≡ plusIf kept left ⌝ }
 {
@@ -123,7 +197,7 @@ pub(crate) fn count_after(kept: bool, left: usize) -> usize
 
 // ---- what an answer says
 
-pub(crate) fn is_kept(answer: Answer) -> bool
+fn is_kept(answer: Answer) -> bool
     ensures { λ r. ⌜ r ≡ isKept (shownOf answer) ⌝ }
 {
     match answer {

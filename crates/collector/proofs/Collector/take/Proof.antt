@@ -1,7 +1,16 @@
--- `collector::Collector::take` meets its contract. Assumes nothing.
-use mathlib.Core.Bool.{false≢true}
+-- `collector::Collector::take` meets its contract: what is admitted as the test of the state says is a step. Assumes nothing.
+use mathlib.Core.Path.{_∙_}
+use borrow.Author.Needs.{needs}
+use Rattle.collector.specs.Collector.{viewOf}
+use Rattle.collector.proofs.Stepping.{admission-fit}
 use Rattle.collector.proofs.Collector.take.Statement.{statement}
 use Rattle.collector.proofs.Collector.take.Tie as tie
 
+returns : tie.Need-returns
+unfolding viewOf
+returns c =
+    let a = c .before .before in
+    a .admit .ensures ∙ admission-fit _ _ _ (a .before .before .before .before .is-acceptable .ensures)
+
 pub take-spec : {M : Type 1} → statement M
-take-spec = tie.close (tie.spec (λ c κs e. absurd (false≢true e)) (λ c. c .merge .ensures))
+take-spec = tie.close (tie.spec (λ c κs. search needs) (λ c κs. search needs) returns)

@@ -45,7 +45,8 @@ is-repeated-requires : tie.Need-is-repeated-requires Inv-loop μ-loop
 is-repeated-requires c κs =
     let l = at (c .before) in
     let a = start l .args in
-    (omega arith, valid-len (now (a .lens)) (now (a .bytes)) (l .loop .i) (valid c))
+    let len = valid-len (now (a .lens)) (now (a .bytes)) (l .loop .i) (valid c) in
+    (omega arith, len .0, len .1)
 
 returns-2 : tie.Need-returns-2 Inv-loop μ-loop
 returns-2 c times =

@@ -27,7 +27,8 @@ returns c times = record { new = λ _. refl; old = λ n. absurd (n (c .if1 .take
 find-requires : tie.Need-find-requires
 find-requires c κs =
     let a = start c .args in
-    (omega arith, omega (arith, start c .pre .1, ap length (shown c), resized-length (getD (now (a .lens)) (a .i) 0) (part (maxLength * a .i) maxLength (now (a .bytes)))))
+    let long = ap length (shown c) ∙ resized-length (getD (now (a .lens)) (a .i) 0) (part (maxLength * a .i) maxLength (now (a .bytes))) in
+    (omega arith, omega (arith, start c .pre .1, long), omega (arith, start c .pre .2, long))
 
 returns-2 : tie.Need-returns-2
 returns-2 c times =

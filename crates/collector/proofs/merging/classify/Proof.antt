@@ -8,7 +8,10 @@ use Rattle.collector.proofs.merging.classify.Statement.{statement}
 use Rattle.collector.proofs.merging.classify.Tie as tie
 
 find-requires : tie.Need-find-requires
-find-requires c κs = (c .before .before .before .pre .0, c .before .before .before .pre .1 (ap checkedNumber (c .enum-told .given .1)))
+find-requires c κs =
+    let p = c .before .before .before .pre in
+    let len = p .1 (ap checkedNumber (c .enum-told .given .1)) in
+    (p .0, len .0, len .1)
 
 returns : tie.Need-returns
 returns c times time =

@@ -1,0 +1,72 @@
+-- What two of one telegram share: their length, and every byte before STATUS. Assumes nothing.
+use Prim.Native.Nat.{ℕ, zero, suc, _+_, _-_, _*_, _≤_, _<_}
+use native.Mathlib.Omega.{arith}
+use mathlib.Core.Path.{_≡_, refl, sym, _∙_, ap, subst}
+use mathlib.Core.Bool.{true, false}
+use mathlib.Core.List.{List, [], _∷_, _++_}
+use lib.Dec.{T, eqb}
+use lib.ListN.{length, getD, take, replicate}
+use lib.Seq.{getD-take}
+use borrow.Author.Tests.{eqb-true}
+use Rattle.lists.specs.Lists.{equal, padded}
+use Rattle.lists.proofs.Choice.{both}
+use Rattle.lists.proofs.Equal.{equal-eq}
+use Rattle.erp1.specs.Status.{upperOf}
+use Rattle.erp1.specs.Subtelegram.{minLength, maxLength, statusOf, bodyOf}
+use Rattle.erp1.specs.Same.{isSame}
+use Rattle.erp1.proofs.Checks.{front-at}
+use Rattle.layout.specs.Buffer.{part, resized}
+use Rattle.layout.proofs.Segments.{part-at}
+use Rattle.layout.proofs.Buffer.{resized-length}
+use Rattle.model.specs.View.{Reception}
+use Rattle.model.specs.Acceptable.{isCopyOf}
+use Rattle.collector.specs.Collector.{entryAt}
+use Rattle.collector.specs.Acceptable.{shownAt}
+use Rattle.collector.proofs.Inside.{fails}
+
+module _ (a b : List ℕ) (same : isSame a b ≡ true) where
+  pub same-length : length a ≡ length b
+  unfolding isSame
+  same-length = eqb-true _ _ (both (eqb (length a) (length b)) _ same .0)
+
+  module _ (low : minLength ≤ length a) where
+    same-front : take (length a - 2) a ≡ take (length a - 2) b
+    unfolding isSame
+    same-front =
+        let e = both (eqb (upperOf (statusOf a)) (upperOf (statusOf b))) (equal (bodyOf (bodyOf a)) (bodyOf (bodyOf b))) (both (eqb (length a) (length b)) _ same .1) .1 in
+        let long = same-length in
+        let f = equal-eq (bodyOf (bodyOf a)) (bodyOf (bodyOf b)) (subst T (sym e) tt) in
+        sym (front-at a (omega arith)) ∙ f ∙ front-at b (omega arith) ∙ ap (λ (n : ℕ). take (n - 2) b) (sym long)
+
+    pub same-at : (k : ℕ) → k < length a - 2 → getD a k 0 ≡ getD b k 0
+    same-at k h = sym (getD-take (length a - 2) a k 0 h) ∙ ap (λ (l : List ℕ). getD l k 0) same-front ∙ getD-take (length a - 2) b k 0 h
+
+-- ---- a byte that an entry shows is the one that stands there, also past the array's end
+
+zeros-at : (n k : ℕ) → getD (replicate {A = ℕ} n 0) k 0 ≡ 0
+zeros-at zero k = refl
+zeros-at (suc n) zero = refl
+zeros-at (suc n) (suc k) = zeros-at n k
+
+filled-at : (xs : List ℕ) (n k : ℕ) → getD (xs ++ replicate n 0) k 0 ≡ getD xs k 0
+filled-at [] n k = zeros-at n k
+filled-at (x ∷ xs) n zero = refl
+filled-at (x ∷ xs) n (suc k) = filled-at xs n k
+
+resized-at : (n : ℕ) (xs : List ℕ) (k : ℕ) → k < n → getD (resized n xs) k 0 ≡ getD xs k 0
+unfolding resized
+resized-at n xs k h = getD-take n (padded n xs) k 0 h ∙ filled-at xs (n - length xs) k
+
+-- an entry with another byte before STATUS is another telegram, whatever its length is
+module _ (times lens bytes : List ℕ) (i : ℕ) (r : Reception) (low : minLength ≤ length (r .bytes)) (high : length (r .bytes) ≤ maxLength)
+    (k : ℕ) (before : k < length (r .bytes) - 2) where
+  pub other-byte : (getD bytes (maxLength * i + k) 0 ≡ getD (r .bytes) k 0 → ⊥) → isCopyOf (entryAt times lens bytes i) r ≡ false
+  unfolding isCopyOf
+  other-byte n = fails (isSame (shownAt lens bytes i) (r .bytes)) differs
+    where
+      differs : isSame (shownAt lens bytes i) (r .bytes) ≡ true → ⊥
+      differs e =
+          let long = same-length (shownAt lens bytes i) (r .bytes) e in
+          let len : length (shownAt lens bytes i) ≡ getD lens i 0 = resized-length (getD lens i 0) _ in
+          let shown = resized-at (getD lens i 0) (part (maxLength * i) maxLength bytes) k (omega arith) ∙ part-at (maxLength * i) maxLength bytes k 0 (omega arith) in
+          n (sym shown ∙ same-at (shownAt lens bytes i) (r .bytes) e (omega arith) k (omega arith))

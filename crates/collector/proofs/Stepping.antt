@@ -1,0 +1,116 @@
+-- A reception that is admitted as the test of the state says is a step of the model: the times of an acceptable state never fall, so that its open
+-- telegrams are those from the first open one on, and at its latest time all are open. Assumes nothing.
+use Prim.Native.Nat.{ℕ, _-_}
+use native.Mathlib.Omega.{arith}
+use mathlib.Core.Path.{_≡_, refl, sym, _∙_, ap}
+use mathlib.Core.Bool.{Bool, true, false, cond, not, _&&_}
+use mathlib.Core.List.{List, [], _∷_}
+use lib.Dec.{leb, ltb, eqb}
+use lib.ListN.{length}
+use borrow.Author.Tests.{le-leb, leb-true}
+use Rattle.lists.specs.Lists.{keep, all, pairwise}
+use Rattle.lists.proofs.Choice.{both}
+use Rattle.lists.proofs.Tests.{by-test, all-both}
+use Rattle.erp1.specs.Subtelegram.{isValid}
+use Rattle.model.specs.Answer.{Kept, Copy, Loose, Refused, isKept, isAccepted}
+use Rattle.model.specs.View.{Reception, View, capacity, maturity, isOpen}
+use Rattle.model.specs.Acceptable.{isCopyOf, isEntry, mayFollow, isSummed, acceptable}
+use Rattle.model.specs.Step.{maxCount, isKnown, isCrowded, classify, tally, addIf, advance, step}
+use Rattle.model.proofs.Returns.{step-unacceptable}
+use Rattle.collector.specs.Acceptable.{hasCopy}
+use Rattle.collector.specs.Merging.{receptionCheck, answerFor}
+use Rattle.collector.specs.Admission.{isSafe, numberOn, latestAfter, openFrom, leftAfter, answerOn, admitted, admission}
+use Rattle.collector.proofs.Accepting.{accepted-few, accepted-each, accepted-order, accepted-summed}
+
+-- ---- the open telegrams
+
+keep-every : {A : Type 0} (p : A → Bool) (l : List A) → all p l ≡ true → keep p l ≡ l
+keep-every p [] e = refl
+keep-every p (x ∷ l) e =
+    let w = both (p x) (all p l) e in
+    rw (w .0) (ap (λ (m : List _). x ∷ m) (keep-every p l (w .1)))
+
+later-open : (t : ℕ) (e later : Reception) → isOpen t e ≡ true → mayFollow e later ≡ true → isOpen t later ≡ true
+later-open t e later o f =
+    le-leb (t - later .time) maturity
+    (omega (arith, leb-true (t - e .time) maturity o, leb-true (e .time) (later .time) (both (leb (e .time) (later .time)) (not (isCopyOf e later)) f .0)))
+
+open-kept : (t : ℕ) (l : List Reception) → pairwise mayFollow l ≡ true → openFrom t l ≡ keep (isOpen t) l
+open-kept t [] order = refl
+open-kept t (e ∷ l) order =
+    let w = both (all (mayFollow e) l) (pairwise mayFollow l) order in
+    by-test (isOpen t e)
+    (λ o. rw o (ap (λ (m : List Reception). e ∷ m)
+    (sym (keep-every (isOpen t) l (all-both (mayFollow e) (mayFollow e) (isOpen t) (λ x p _. later-open t e x o p) l (w .0) (w .0))))))
+    (λ o. rw o (open-kept t l (w .1)))
+
+-- ---- the answer
+
+accepted-answer : (n : ℕ) (known crowded : Bool) → isAccepted (answerFor n known crowded) ≡ eqb n 0
+unfolding answerFor
+accepted-answer n known crowded = go (eqb n 0) known crowded
+  where
+    go : (b k c : Bool) → isAccepted (cond b (cond k Copy (cond c Loose Kept)) (Refused n)) ≡ b
+    go true true c = refl
+    go true false true = refl
+    go true false false = refl
+    go false k c = refl
+
+refused-answer : (n : ℕ) (known crowded : Bool) → eqb n 0 ≡ false → isKept (answerFor n known crowded) ≡ false
+unfolding answerFor
+refused-answer n known crowded e = rw e
+
+-- ---- an acceptable view
+
+module _ (v : View) (r : Reception) (ok : acceptable v ≡ true) where
+  abbrev number : ℕ
+  number = numberOn v r
+
+  classify-by : classify v r ≡ answerFor number (isKnown v r) (isCrowded v r)
+  unfolding classify receptionCheck answerFor
+  classify-by =
+      by-test (leb maxCount (v .totals .received)) (λ a. rw (ok, a))
+      λ a. by-test (isValid (r .bytes))
+      (λ b. by-test (ltb (r .time) (v .latest)) (λ c. rw (ok, a, b, c)) (λ c. rw (ok, a, b, c)))
+      (λ b. rw (ok, a, b) (rw b))
+
+  left-kept : (t : ℕ) → openFrom t (v .entries) ≡ keep (isOpen t) (v .entries)
+  left-kept t = open-kept t (v .entries) (accepted-order v ok)
+
+  -- at the latest time itself every entry is open
+  unchanged : openFrom (v .latest) (v .entries) ≡ v .entries
+  unchanged =
+      left-kept (v .latest)
+      ∙ keep-every (isOpen (v .latest)) (v .entries)
+      (all-both (isEntry (v .latest)) (isEntry (v .latest)) (isOpen (v .latest))
+      (λ e p _. both (leb (e .time) (v .latest)) (isOpen (v .latest) e) (both (isValid (e .bytes)) (leb (e .time) (v .latest) && isOpen (v .latest) e) p .1) .1)
+      (v .entries) (accepted-each v ok) (accepted-each v ok))
+
+  answered : answerOn v r ≡ classify v r
+  unfolding answerFor hasCopy
+  answered = by-test (eqb number 0) (λ e. rw (classify-by, e, left-kept (r .time))) (λ e. rw (classify-by, e))
+
+  advanced : (known crowded : Bool)
+      → (let a = answerFor number known crowded in
+      record { setting = v .setting; latest = latestAfter v r; totals = tally a (v .totals); entries = addIf (isKept a) r (leftAfter v r) } ≡ advance v r a)
+  unfolding advance
+  advanced known crowded =
+      by-test (eqb number 0) (λ e. rw (accepted-answer number known crowded, e, left-kept (r .time)))
+      (λ e. rw (accepted-answer number known crowded, e, refused-answer number known crowded e, unchanged))
+
+  stepped : admitted v r ≡ step v r
+  unfolding admitted step
+  stepped = rw (advanced (hasCopy (leftAfter v r) r) (leb capacity (length (leftAfter v r))), answered)
+
+  safe : isSafe v ≡ true
+  safe = rw (le-leb _ _ (accepted-few v ok), accepted-summed v ok)
+
+-- ---- the laws
+
+module _ (v : View) (r : Reception) where
+  pub admission-step : admission (acceptable v) v r ≡ step v r
+  unfolding admission
+  admission-step = by-test (acceptable v) (λ ok. rw (ok, safe v r ok) (stepped v r ok)) (λ bad. rw bad (step-unacceptable v bad r))
+
+  pub admission-fit : (fit : Bool) → fit ≡ acceptable v → admission fit v r ≡ step v r
+  admission-fit fit e = rw e admission-step

@@ -1,0 +1,67 @@
+-- One reception at a state that was found acceptable or not, whatever it is: for a run of receptions, of which the first state alone is tested
+-- (document 01, "Merging"). Assumes nothing.
+use Prim.Native.Nat.{ℕ}
+use mathlib.Core.Bool.{Bool, cond, _&&_}
+use mathlib.Core.List.{List, [], _∷_}
+use lib.Dec.{leb, eqb}
+use lib.ListN.{length}
+use Rattle.refusal.specs.Number.{numberOf}
+use Rattle.refusal.specs.declared.Refusal.the-variants.{NotAccepted}
+use Rattle.telegram.specs.Frame.{frameOf}
+use Rattle.model.specs.Answer.{Shown, Refused, isKept, shownOf}
+use Rattle.model.specs.View.{Reception, View, capacity, isOpen}
+use Rattle.model.specs.Acceptable.{isSummed}
+use Rattle.model.specs.Step.{Outcome, tally, addIf, sentFor}
+use Rattle.collector.specs.declared.merging.Admitted.{Admitted}
+use Rattle.collector.specs.Collector.{viewAt}
+use Rattle.collector.specs.Acceptable.{hasCopy}
+use Rattle.collector.specs.Merging.{receptionCheck, answerFor}
+
+-- the answer, the telegram to send, and what the arrays and the numbers beside them say
+abbrev pub admittedOf : List ℕ → List ℕ → List ℕ → ℕ → Admitted → Outcome
+admittedOf times lens bytes setting r =
+    record { answer = shownOf (r .answer); sent = r .sent; next = viewAt times lens bytes (r .count) (r .latest) setting (r .totals) }
+
+-- what a step itself needs of any state: entries that the arrays hold, and totals that add up
+abbrev pub isSafe : View → Bool
+isSafe v = leb (length (v .entries)) capacity && isSummed (v .totals)
+
+-- the number of the tests before the open telegrams are looked at
+abbrev pub numberOn : View → Reception → ℕ
+numberOn v r = receptionCheck (v .totals .received) (v .latest) r
+
+-- "an accepted reception sets the latest time"
+abbrev pub latestAfter : View → Reception → ℕ
+latestAfter v r = cond (eqb (numberOn v r) 0) (r .time) (v .latest)
+
+-- the entries from the first on that is open at t
+abbrev pub openFrom : ℕ → List Reception → List Reception
+openFrom t [] = []
+openFrom t (e ∷ l) = cond (isOpen t e) (e ∷ l) (openFrom t l)
+
+abbrev pub leftAfter : View → Reception → List Reception
+leftAfter v r = openFrom (latestAfter v r) (v .entries)
+
+abbrev pub answerOn : View → Reception → Shown
+answerOn v r = answerFor (numberOn v r) (hasCopy (leftAfter v r) r) (leb capacity (length (leftAfter v r)))
+
+-- the reception is taken
+unfoldable pub admitted : View → Reception → Outcome
+admitted v r = record {
+  answer = answerOn v r;
+  sent = sentFor (v .setting) (answerOn v r) r;
+  next = record {
+    setting = v .setting;
+    latest = latestAfter v r;
+    totals = tally (answerOn v r) (v .totals);
+    entries = addIf (isKept (answerOn v r)) r (leftAfter v r);
+  };
+}
+
+-- "11: .. state not accepted; the collector stays as it was"
+abbrev pub notAdmitted : View → Outcome
+notAdmitted v = record { answer = Refused (numberOf NotAccepted); sent = frameOf []; next = v }
+
+-- a state that was found acceptable takes it, where it is safe
+unfoldable pub admission : Bool → View → Reception → Outcome
+admission fit v r = cond (fit && isSafe v) (admitted v r) (notAdmitted v)
