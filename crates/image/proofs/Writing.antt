@@ -32,8 +32,8 @@ use Rattle.model.specs.Acceptable.{isEntry, acceptable}
 use Rattle.model.specs.Image.{entryCell, blockAt}
 use Rattle.model.proofs.Check.{valid-length}
 use Rattle.model.proofs.Invariant.{entry-valid}
-use Rattle.collector.specs.Collector.{entryAt, entriesAt}
-use Rattle.image.specs.Checkpoint.{blockCount, viewAt, entriesFrom, blockWith, Writable}
+use Rattle.collector.specs.Collector.{entryAt, entriesAt, viewAt}
+use Rattle.image.specs.Checkpoint.{blockCount, entriesFrom, blockWith, Writable}
 use Rattle.collector.proofs.Arrays as arrays
 
 -- stands for an entry past the end

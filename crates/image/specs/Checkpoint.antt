@@ -10,11 +10,10 @@ use Rattle.refusal.specs.declared.Refusal.the-variants.{NotAccepted}
 use Rattle.erp1.specs.Subtelegram.{maxLength}
 use Rattle.layout.specs.Header.{headerLength}
 use Rattle.layout.specs.Block.{cellsPerBlock, bodyLength, blockCell}
-use Rattle.model.specs.declared.Totals.{Totals}
 use Rattle.model.specs.View.{Reception, View, capacity, maxSetting, noTotals}
 use Rattle.model.specs.Acceptable.{acceptable}
 use Rattle.model.specs.Image.{CheckpointResult, RestoreResult, imageLength, imageOf, blockAt, blockIn, secondIn, countIn, entryIn}
-use Rattle.collector.specs.Collector.{entryAt, entriesAt, viewOf}
+use Rattle.collector.specs.Collector.{entryAt, viewOf}
 use Rattle.image.specs.declared.Saved.{Saved}
 use Rattle.image.specs.declared.Saved.the-variants as saved
 use Rattle.image.specs.declared.Loaded.{Loaded}
@@ -51,10 +50,6 @@ blockCount = 5
 -- the bytes of a block between its header and its CRC
 abbrev pub cellsLength : ℕ
 cellsLength = bodyLength - headerLength
-
--- what the fields of a state say, one by one
-abbrev pub viewAt : List ℕ → List ℕ → List ℕ → ℕ → ℕ → ℕ → Totals → View
-viewAt times lens bytes count latest setting totals = record { setting = setting; latest = latest; totals = totals; entries = entriesAt times lens bytes count }
 
 -- n entries from `first` on
 unfoldable pub entriesFrom : List ℕ → List ℕ → List ℕ → ℕ → ℕ → List Reception

@@ -17,8 +17,8 @@ ghost use Rattle.erp1.specs.Subtelegram.{maxLength};
 ghost use Rattle.model.specs.View.{capacity, maxSetting};
 ghost use Rattle.model.specs.Image as model;
 ghost use Rattle.model.specs.Image.{imageLength, entryCell, imageOf, blockIn, usedIn, firstIn, secondIn, countIn, totalsIn, checkpointOf, restoreOf};
-ghost use Rattle.collector.specs.Collector.{entriesAt, viewOf};
-ghost use Rattle.image.specs.Checkpoint.{checkpointResult, restoreResult, refusedWith, blockCount, cellsLength, viewAt, entriesFrom, blockWith, Writable, isImageOf, isReadable, cellIn, entriesIn};
+ghost use Rattle.collector.specs.Collector.{entriesAt, viewAt, viewOf};
+ghost use Rattle.image.specs.Checkpoint.{checkpointResult, restoreResult, refusedWith, blockCount, cellsLength, entriesFrom, blockWith, Writable, isImageOf, isReadable, cellIn, entriesIn};
 
 // How many blocks an image has.
 const BLOCKS: usize = 5;

@@ -11,7 +11,7 @@ use Rattle.lists.specs.Lists.{equal}
 use Rattle.model.specs.View.{View}
 use Rattle.model.specs.Acceptable.{acceptable}
 use Rattle.model.specs.Image.{imageOf}
-use Rattle.image.specs.Checkpoint.{viewAt}
+use Rattle.collector.specs.Collector.{viewAt}
 use Rattle.image.proofs.Writing.{writable-state}
 use Rattle.image.proofs.is_image_of.Statement.{statement}
 use Rattle.image.proofs.is_image_of.Tie as tie
