@@ -11,6 +11,7 @@ ghost use mathlib.Core.Path.{_≡_};
 ghost use Rattle.model.specs.Step.{step};
 ghost use Rattle.collector.specs.Collector.{freshAnswer, freshOf, emptyView, viewOf};
 ghost use Rattle.collector.specs.Merging.{outcomeOf};
+ghost use Rattle.collector.specs.Admission.{admission};
 
 // The state, in flat arrays. Entry i of the first `count`, in opening order, has times[i], lens[i] and the 21 bytes from 21 i, of
 // which lens[i] are those first received; what stands past these is left to the program.
@@ -73,21 +74,29 @@ impl Collector {
 
     // Takes one reception: its bytes and the moment they were complete, in ms. A state that is not acceptable gets 11 and stays.
     // The state is changed where it lies and left at one exit, so that it is copied in and out alone.
-    pub fn take(self, bytes: &[u8], time: u64) -> Taken
+    pub fn take(mut self, bytes: &[u8], time: u64) -> Taken
         ensures { λ r. ⌜ outcomeOf r ≡ step (viewOf self) (record { bytes = now (bytes .entry); time = time }) ⌝ }
     {
-        let mut times = self.times;
-        let mut lens = self.lens;
-        let mut entries = self.bytes;
         let fit = acceptable::is_acceptable(
-            &times,
-            &lens,
-            &entries,
+            &self.times,
+            &self.lens,
+            &self.bytes,
             self.count,
             self.latest,
             self.setting,
             self.totals,
         );
+        self.admitted(fit, bytes, time)
+    }
+
+    // The same of a state whose test said `fit`. Two arrays of one struct cannot be lent to be changed at once, so they are locals here.
+    fn admitted(mut self, fit: bool, bytes: &[u8], time: u64) -> Taken
+        ensures { λ r. ⌜ outcomeOf r ≡ admission fit (viewOf self) (record { bytes = now (bytes .entry); time = time }) ⌝ }
+    {
+        let mut times = self.times;
+        let mut lens = self.lens;
+        let mut entries = self.bytes;
+        let setting = self.setting;
         let done = merging::admit(
             fit,
             &mut times,
@@ -95,24 +104,25 @@ impl Collector {
             &mut entries,
             self.count,
             self.latest,
-            self.setting,
+            setting,
             self.totals,
             bytes,
             time,
         );
         let totals = done.totals;
+        self = Collector {
+            times: times,
+            lens: lens,
+            bytes: entries,
+            count: done.count,
+            latest: done.latest,
+            setting: setting,
+            totals: totals,
+        };
         let answer = done.answer;
         let sent = done.sent;
         Taken {
-            next: Collector {
-                times: times,
-                lens: lens,
-                bytes: entries,
-                count: done.count,
-                latest: done.latest,
-                setting: self.setting,
-                totals: totals,
-            },
+            next: self,
             answer: answer,
             sent: sent,
         }

@@ -152,10 +152,12 @@ fn sent_for(setting: u8, kept: bool, bytes: &[u8]) -> Frame
     requires { ⌜ (kept ≡ true → isValid (now bytes) ≡ true) ⌝ }
     ensures { λ r. ⌜ r ≡ frameOf (cond kept (repeatOf setting (now (bytes .entry))) []) ⌝ }
 {
-    if !kept {
-        return Frame::empty();
+    let mut out = [0u8; Collector::MAX_LEN];
+    let mut n = 0;
+    if kept {
+        n = telegram::repeater::relay(setting, bytes, &mut out);
     }
-    telegram::repeater::relay(setting, bytes)
+    Frame { len: n, bytes: out }
 }
 
 // The totals after one more answer.
