@@ -1,18 +1,17 @@
 -- What the answer of `parse` and the bytes that it writes tell its caller. Assumes nothing.
-use mathlib.Core.Path.{_≡_, refl, sym, ap, _∙_}
-use mathlib.Core.Bool.{Bool, true, false, cond, true≢false, false≢true}
+use mathlib.Core.Path.{_≡_, refl, ap, _∙_}
+use mathlib.Core.Bool.{true, false, true≢false, false≢true}
 use mathlib.Core.List.{List, []}
 use Prim.Native.Nat.{ℕ, _+_, _≤_, _<_}
 use native.Mathlib.Omega.{arith}
-use lib.Dec.{ltb}
 use lib.ListN.{length, take, length-append, length-replicate}
-use borrow.Author.Tests.{ltb-true, ltb-false}
 use Rattle.bytes.specs.Bytes.{indexOf}
 use Rattle.lists.proofs.Padded.{take-padded}
 use Rattle.line_input.specs.Ascii.{newline}
-use Rattle.line_input.specs.Reading.{Reading, reception, bad, readingOf, Front, ended, unended, frontOf, lineOf, bytesIn}
+use Rattle.line_input.specs.Reading.{reception, bad, readingOf, frontOf, lineOf, bytesIn}
 use Rattle.line_input.specs.declared.Line.{Line}
 use Rattle.line_input.proofs.Pairs.{hexed, leading-hex}
+use Rattle.line_input.proofs.Starts.{by-cases}
 use Rattle.line_input.proofs.Whole.{said}
 
 -- a reception has 64 bytes at most
@@ -28,23 +27,11 @@ module _ (text : List ℕ) where
   abbrev line : List ℕ
   line = take n text
 
-  -- what holds in each of the three cases holds
-  by-cases : (P : Front → Type 0) → (length text ≤ n → P unended) → (n < length text → readingOf line ≡ bad → P (ended n bad))
-      → ((time : ℕ) (bytes : List ℕ) → n < length text → readingOf line ≡ reception time bytes → P (ended n (reception time bytes)))
-      → P (frontOf text)
-  unfolding frontOf
-  by-cases P a b c = go (ltb n (length text)) refl (readingOf line) refl
-    where
-      go : (t : Bool) → ltb n (length text) ≡ t → (x : Reading) → readingOf line ≡ x → P (cond t (ended n x) unended)
-      go false p x q = a (ltb-false n (length text) p)
-      go true p bad q = b (ltb-true n (length text) p) q
-      go true p (reception time bytes) q = c time bytes (ltb-true n (length text) p) q
-
   module _ {bytes : List ℕ} {r : Line} (e : (r ≡ lineOf (frontOf text)) × (bytes ≡ bytesIn (frontOf text))) where
     -- no newline ends the line
     pub said-open : r .used ≡ 0 → length text ≤ indexOf newline text
     said-open u =
-        by-cases (λ x. lineOf x .used ≡ 0 → length text ≤ n)
+        by-cases text (λ x. lineOf x .used ≡ 0 → length text ≤ n)
         (λ h v. h)
         (λ h q v. absurd (omega arith))
         (λ t bs h q v. absurd (omega arith))
@@ -54,7 +41,7 @@ module _ (text : List ℕ) where
     pub said-ended : (r .used ≡ 0 → ⊥) → (indexOf newline text < length text) × (r .used ≡ indexOf newline text + 1)
     said-ended u =
         rw (e .0)
-        (by-cases (λ x. (lineOf x .used ≡ 0 → ⊥) → (n < length text) × (lineOf x .used ≡ n + 1))
+        (by-cases text (λ x. (lineOf x .used ≡ 0 → ⊥) → (n < length text) × (lineOf x .used ≡ n + 1))
         (λ h v. absurd (v refl))
         (λ h q v. (h, refl))
         (λ t bs h q v. (h, refl))
@@ -62,7 +49,7 @@ module _ (text : List ℕ) where
 
     pub said-bad : (r .used ≡ 0 → ⊥) → r .ok ≡ false → readingOf (take (indexOf newline text) text) ≡ bad
     said-bad u f =
-        by-cases (λ x. (lineOf x .used ≡ 0 → ⊥) → lineOf x .ok ≡ false → readingOf line ≡ bad)
+        by-cases text (λ x. (lineOf x .used ≡ 0 → ⊥) → lineOf x .ok ≡ false → readingOf line ≡ bad)
         (λ h v g. absurd (v refl))
         (λ h q v g. q)
         (λ t bs h q v g. absurd (true≢false g))
@@ -72,7 +59,7 @@ module _ (text : List ℕ) where
     -- a reception is a line that has ended
     pub ok-ended : r .ok ≡ true → r .used ≡ 0 → ⊥
     ok-ended f u =
-        by-cases (λ x. lineOf x .ok ≡ true → lineOf x .used ≡ 0 → ⊥)
+        by-cases text (λ x. lineOf x .ok ≡ true → lineOf x .used ≡ 0 → ⊥)
         (λ h g v. false≢true g)
         (λ h q g v. false≢true g)
         (λ t bs h q g v. omega arith)
@@ -82,7 +69,7 @@ module _ (text : List ℕ) where
     pub said-reception : r .ok ≡ true → readingOf (take (indexOf newline text) text) ≡ reception (r .time) (take (r .len) bytes)
     said-reception f =
         rw (e .0, e .1)
-        (by-cases (λ x. lineOf x .ok ≡ true → readingOf line ≡ reception (lineOf x .time) (take (lineOf x .len) (bytesIn x)))
+        (by-cases text (λ x. lineOf x .ok ≡ true → readingOf line ≡ reception (lineOf x .time) (take (lineOf x .len) (bytesIn x)))
         (λ h g. absurd (false≢true g))
         (λ h q g. absurd (false≢true g))
         (λ t bs h q g. q ∙ rw (take-padded 64 bs))
@@ -92,7 +79,7 @@ module _ (text : List ℕ) where
     pub bytes-fill : length bytes ≡ 64
     bytes-fill =
         rw (e .1)
-        (by-cases (λ x. length (bytesIn x) ≡ 64)
+        (by-cases text (λ x. length (bytesIn x) ≡ 64)
         (λ h. refl)
         (λ h q. refl)
         (λ t bs h q. simp (length-append, length-replicate) (omega (arith, few-bytes line q))))
@@ -100,7 +87,7 @@ module _ (text : List ℕ) where
     pub len-fits : r .len ≤ length bytes
     len-fits =
         rw (e .0, e .1)
-        (by-cases (λ x. lineOf x .len ≤ length (bytesIn x))
+        (by-cases text (λ x. lineOf x .len ≤ length (bytesIn x))
         (λ h. omega arith)
         (λ h q. omega arith)
         (λ t bs h q. simp length-append (omega arith)))

@@ -35,7 +35,7 @@ hexed s e =
     let v = both (leb (length s) 128) (eqb (length s % 2) 0) (u .0) in
     record { short = leb-true (length s) 128 (v .0); even = eqb-true (length s % 2) 0 (v .1); digits = u .1 }
 
-pub is-hex : {s : List ℕ} → Hexed s → isHex s ≡ true
+is-hex : {s : List ℕ} → Hexed s → isHex s ≡ true
 unfolding isHex
 is-hex {s} h = rw (le-leb (length s) 128 (h .short), eq-eqb (length s % 2) 0 (h .even), h .digits)
 
@@ -158,7 +158,10 @@ module _ {s bytes : List ℕ} {i h l : ℕ} (left : Left s i bytes) (few : i < 6
       let e : 2 * (i + 1) ≡ suc (suc (2 * i)) = omega arith in
       rw (drop-cons s (2 * i) 0 (omega arith), drop-cons s (suc (2 * i)) 0 (omega arith), add-one (2 * i), e)
 
-  next : leadingBytes (64 - i) (drop (2 * i) s) ≡ cond (ltb h 16 && ltb l 16) ((h * 16 + l) ∷ leadingBytes (64 - (i + 1)) (drop (2 * (i + 1)) s)) []
+  abbrev rest : List ℕ
+  rest = leadingBytes (64 - (i + 1)) (drop (2 * (i + 1)) s)
+
+  next : leadingBytes (64 - i) (drop (2 * i) s) ≡ cond (ltb h 16 && ltb l 16) ((h * 16 + l) ∷ rest) []
   unfolding leadingBytes
   next =
       let e : 64 - i ≡ suc (64 - (i + 1)) = omega arith in
@@ -167,15 +170,14 @@ module _ {s bytes : List ℕ} {i h l : ℕ} (left : Left s i bytes) (few : i < 6
   pub left-next : (ltb 15 h || ltb 15 l) ≡ false → Left s (i + 1) (set bytes i (h * 16 + l))
   left-next e =
       let w = both-digits h l e in
-      let f : leadingBytes (64 - i) (drop (2 * i) s) ≡ (h * 16 + l) ∷ leadingBytes (64 - (i + 1)) (drop (2 * (i + 1)) s) =
-      next ∙ rw (lt-ltb h 16 (omega arith), lt-ltb l 16 (omega arith)) in
-      record { count = left .count ∙ rw f (omega arith); stores = left .stores ∙ rw (f, add-one i) }
+      let two : ltb h 16 && ltb l 16 ≡ true = rw (lt-ltb h 16 (omega arith), lt-ltb l 16 (omega arith)) in
+      record { count = left .count ∙ rw (next, two) (omega arith); stores = left .stores ∙ rw (next, two, add-one i) }
 
   pub decoded-front : (ltb 15 h || ltb 15 l) ≡ true → Decoded s bytes i
   decoded-front e = decoded left (next ∙ go (ltb 15 h) refl (ltb 15 l) refl e)
     where
       go : (t : Bool) → ltb 15 h ≡ t → (u : Bool) → ltb 15 l ≡ u → (t || u) ≡ true
-          → cond (ltb h 16 && ltb l 16) ((h * 16 + l) ∷ leadingBytes (64 - (i + 1)) (drop (2 * (i + 1)) s)) [] ≡ []
+          → cond (ltb h 16 && ltb l 16) ((h * 16 + l) ∷ rest) [] ≡ []
       go true p u q e = rw (le-ltb h 16 (omega (arith, ltb-true 15 h p)))
       go false p true q e = rw (le-ltb l 16 (omega (arith, ltb-true 15 l q)), and-false (ltb h 16))
       go false p false q e = cc

@@ -45,18 +45,27 @@ module _ (text : List ℕ) {t k : ℕ} (timed : Timed.At t k ≡ timedOf text) w
     pairs : Leading 64 behind
     pairs = leading 64 behind
 
-    count : length (pairs .hex) ≡ 2 * m
-    count = pairs .count ∙ ap (λ (n : ℕ). 2 * n) (sym (decoded .answer))
+    abbrev front : List ℕ
+    front = take k text ++ (space ∷ pairs .hex)
+
+    size : length front ≡ k + 1 + 2 * m
+    size = simp length-append (omega (arith, length-take-le k text (omega (arith, time .within)), pairs .count, decoded .answer))
+
+    whole : text ≡ front ++ pairs .rest
+    whole =
+        let split : text ≡ take k text ++ (space ∷ behind) = split-at text k 0 (time .within) ∙ rw (time .behind, add-one k) in
+        split ∙ ap (λ (l : List ℕ). take k text ++ (space ∷ l)) (pairs .parts) ∙ sym (append-assoc (take k text) (space ∷ pairs .hex) (pairs .rest))
 
     pub read-within : k + 1 + 2 * m ≤ length text
-    read-within = omega (arith, time .within, count, simp (length-drop, length-append) at (ap length (pairs .parts)))
+    read-within = omega (arith, size, ap length whole ∙ length-append front (pairs .rest))
 
     -- where the text starts with a reception, the newline stands there
     newline-next : Starts text → (k + 1 + 2 * m < length text) × (getD text (k + 1 + 2 * m) 0 ≡ newline)
     newline-next w =
         let f = time-first w in
         let here : k ≡ length (w .digits) = cc in
-        let after : behind ≡ w .hex ++ (newline ∷ w .rest) = rw (w .parts, here) (drop-append-add (w .digits) (space ∷ (w .hex ++ (newline ∷ w .rest))) 1) in
+        let left = w .hex ++ (newline ∷ w .rest) in
+        let after : behind ≡ left = rw (w .parts, here) (drop-append-add (w .digits) (space ∷ left) 1) in
         let x = leading-hex (w .hex) (w .rest) (w .isRight) in
         let same : m ≡ length (bytesOf (w .hex)) = decoded .answer ∙ ap (λ (s : List ℕ). length (leadingBytes 64 s)) after ∙ ap length (x .0) in
         let at : length (line w) ≡ k + 1 + 2 * m = omega (arith, length-line w) in
@@ -72,25 +81,17 @@ module _ (text : List ℕ) {t k : ℕ} (timed : Timed.At t k ≡ timedOf text) w
     module _ (within : k + 1 + 2 * m < length text) (next : getD text (k + 1 + 2 * m) 0 ≡ newline) where
       starts : Starts text
       starts =
-          let split : text ≡ take k text ++ (space ∷ behind) = split-at text k 0 (time .within) ∙ rw (time .behind, add-one k) in
-          let p = take k text ++ (space ∷ pairs .hex) in
-          let whole : text ≡ p ++ pairs .rest =
-          split ∙ ap (λ (l : List ℕ). take k text ++ (space ∷ l)) (pairs .parts) ∙ sym (append-assoc (take k text) (space ∷ pairs .hex) (pairs .rest)) in
-          let size : length p ≡ k + 1 + 2 * m =
-          simp length-append (omega (arith, length-take-le k text (omega (arith, time .within)), count)) in
-          let first : pairs .rest ≡ newline ∷ drop 1 (pairs .rest) = next-is p (pairs .rest) size (rw (sym whole) within) (rw (sym whole) next) in
+          let r = pairs .rest in
+          let first : r ≡ newline ∷ drop 1 r = next-is front r size (rw (sym whole) within) (rw (sym whole) next) in
           record {
             digits = take k text;
             hex = pairs .hex;
-            rest = drop 1 (pairs .rest);
-            parts = whole ∙ ap (λ (l : List ℕ). p ++ l) first ∙ append-assoc (take k text) (space ∷ pairs .hex) (newline ∷ drop 1 (pairs .rest));
+            rest = drop 1 r;
+            parts = whole ∙ ap (λ (l : List ℕ). front ++ l) first ∙ append-assoc (take k text) (space ∷ pairs .hex) (newline ∷ drop 1 r);
             isTimely = time .right;
             isRight = leading-right pairs;
           }
 
       pub answer : (record { ok = true; time = t; len = m; used = k + 1 + 2 * m + 1 } ≡ lineOf (frontOf text)) × (bytes ≡ bytesIn (frontOf text))
       unfolding starts
-      answer =
-          let size : length (line starts) ≡ k + 1 + 2 * m =
-          omega (arith, length-line starts, length-take-le k text (omega (arith, time .within)), count) in
-          (rw (front-reception starts, size, time .says, pairs .says, decoded .answer), rw (front-reception starts, pairs .says) (decoded .written))
+      answer = (rw (front-reception starts, size, time .says, pairs .says, decoded .answer), rw (front-reception starts, pairs .says) (decoded .written))

@@ -8,12 +8,12 @@ use native.Mathlib.Nat.{zero-add}
 use lib.Dec.{ltb}
 use lib.ListN.{length, take, drop, replicate, length-append}
 use lib.Seq.{split-at, take-length, take-at}
-use borrow.Author.Tests.{lt-ltb, le-ltb, ltb-true}
+use borrow.Author.Tests.{lt-ltb, le-ltb, ltb-true, ltb-false}
 use Rattle.bytes.specs.Bytes.{indexOf, indexAfter, slice}
 use Rattle.line_input.specs.Ascii.{newline, space}
 use Rattle.line_input.specs.Decimal.{isDigit, decimalOf, isTime, timedOf}
 use Rattle.line_input.specs.Hex.{nibbleOf, isHexDigit, isHex, bytesOf}
-use Rattle.line_input.specs.Reading.{Reading, reception, bad, readingOf, ended, unended, frontOf, badFront, lineOf, bytesIn}
+use Rattle.line_input.specs.Reading.{Reading, reception, bad, readingOf, Front, ended, unended, frontOf, badFront, lineOf, bytesIn}
 use Rattle.line_input.specs.declared.Line.{Line}
 use Rattle.line_input.specs.declared.Timed.{Timed}
 use Rattle.line_input.proofs.Pairs.{hexed}
@@ -43,9 +43,9 @@ module _ {text : List ℕ} (w : Starts text) where
   unfolding indexOf indexAfter nibbleOf
   newline-behind =
       let behind = newline ∷ w .rest in
-      let a : indexOf newline (w .hex ++ behind) ≡ length (w .hex) + 0 = index-past newline isHexDigit refl (w .hex) behind (hexed (w .hex) (w .isRight) .digits) in
-      rw (w .parts, index-past newline isDigit refl (w .digits) (space ∷ (w .hex ++ behind)) (time-digits (w .digits) (w .isTimely)), a)
-      (omega (arith, length-line))
+      let past-hex = index-past newline isHexDigit refl (w .hex) behind (hexed (w .hex) (w .isRight) .digits) in
+      let past-digits = index-past newline isDigit refl (w .digits) (space ∷ (w .hex ++ behind)) (time-digits (w .digits) (w .isTimely)) in
+      rw (w .parts, past-digits, past-hex) (omega (arith, length-line))
 
   pub front-reception : frontOf text ≡ ended (length line) (reception (decimalOf (w .digits)) (bytesOf (w .hex)))
   unfolding frontOf
@@ -57,34 +57,37 @@ module _ {text : List ℕ} (w : Starts text) where
   pub time-first : timedOf text ≡ Timed.At (decimalOf (w .digits)) (length (w .digits))
   time-first = rw (w .parts) (timed-joined (w .digits) (w .hex ++ (newline ∷ w .rest)) (w .isTimely))
 
--- every line that says a reception is one
-starts : (text : List ℕ) {time : ℕ} {bytes : List ℕ} → indexOf newline text < length text
-    → readingOf (take (indexOf newline text) text) ≡ reception time bytes → Starts text
-starts text h e =
-    let n = indexOf newline text in
-    let w = said (take n text) e in
-    let behind = newline ∷ drop (suc n) text in
-    let split : text ≡ take n text ++ behind = split-at text n 0 h ∙ rw (found-at newline text h) in
-    record {
-      digits = w .digits;
-      hex = w .hex;
-      rest = drop (suc n) text;
-      parts = split ∙ ap (λ (l : List ℕ). l ++ behind) (w .parts) ∙ append-assoc (w .digits) (space ∷ w .hex) behind;
-      isTimely = w .isTimely;
-      isRight = w .isRight;
-    }
+-- ---- the three cases
 
-front-bad : (text : List ℕ) → (Starts text → ⊥) → frontOf text ≡ badFront text
-unfolding frontOf badFront
-front-bad text not-so = go (ltb n (length text)) refl (readingOf (take n text)) refl
-  where
-    n : ℕ
-    n = indexOf newline text
+module _ (text : List ℕ) where
+  abbrev n : ℕ
+  n = indexOf newline text
 
-    go : (t : Bool) → ltb n (length text) ≡ t → (x : Reading) → readingOf (take n text) ≡ x → cond t (ended n x) unended ≡ cond t (ended n bad) unended
-    go false p x e = refl
-    go true p bad e = refl
-    go true p (reception time bytes) e = absurd (not-so (starts text (ltb-true n (length text) p) e))
+  -- what holds in each of them holds
+  pub by-cases : (P : Front → Type 0) → (length text ≤ n → P unended) → (n < length text → readingOf (take n text) ≡ bad → P (ended n bad))
+      → ((t : ℕ) (bs : List ℕ) → n < length text → readingOf (take n text) ≡ reception t bs → P (ended n (reception t bs))) → P (frontOf text)
+  unfolding frontOf
+  by-cases P a b c = go (ltb n (length text)) refl (readingOf (take n text)) refl
+    where
+      go : (t : Bool) → ltb n (length text) ≡ t → (x : Reading) → readingOf (take n text) ≡ x → P (cond t (ended n x) unended)
+      go false p x q = a (ltb-false n (length text) p)
+      go true p bad q = b (ltb-true n (length text) p) q
+      go true p (reception t bs) q = c t bs (ltb-true n (length text) p) q
+
+  -- every line that says a reception is made so
+  starts-so : {t : ℕ} {bs : List ℕ} → n < length text → readingOf (take n text) ≡ reception t bs → Starts text
+  starts-so h e =
+      let w = said (take n text) e in
+      let behind = newline ∷ drop (suc n) text in
+      let split : text ≡ take n text ++ behind = split-at text n 0 h ∙ rw (found-at newline text h) in
+      record {
+        digits = w .digits;
+        hex = w .hex;
+        rest = drop (suc n) text;
+        parts = split ∙ ap (λ (l : List ℕ). l ++ behind) (w .parts) ∙ append-assoc (w .digits) (space ∷ w .hex) behind;
+        isTimely = w .isTimely;
+        isRight = w .isRight;
+      }
 
 -- ---- a line that is known to be BAD
 
@@ -102,14 +105,10 @@ module _ (text : List ℕ) {n : ℕ} (found : n ≡ indexOf newline text) where
   unfolding badFront
   ended-bad h = rw (sym found, lt-ltb n (length text) h)
 
-bytes-bad : (text : List ℕ) → bytesIn (badFront text) ≡ replicate 64 0
-unfolding badFront
-bytes-bad text = go (ltb (indexOf newline text) (length text))
-  where
-    go : (t : Bool) → bytesIn (cond t (ended (indexOf newline text) bad) unended) ≡ replicate 64 0
-    go true = refl
-    go false = refl
-
 pub answer-bad : {text bytes : List ℕ} {r : Line} → (Starts text → ⊥) → (r ≡ lineOf (badFront text)) × (bytes ≡ replicate 64 0)
     → (r ≡ lineOf (frontOf text)) × (bytes ≡ bytesIn (frontOf text))
-answer-bad {text} not-so e = (e .0 ∙ rw (front-bad text not-so), e .1 ∙ rw (front-bad text not-so) (sym (bytes-bad text)))
+answer-bad {text} {bytes} {r} other e =
+    by-cases text (λ x. (r ≡ lineOf x) × (bytes ≡ bytesIn x))
+    (λ h. (e .0 ∙ sym (not-ended text refl h), e .1))
+    (λ h q. (e .0 ∙ sym (ended-bad text refl h), e .1))
+    (λ t bs h q. absurd (other (starts-so text h q)))

@@ -368,7 +368,7 @@ fn bad_line(text: &[u8], bytes: &mut [u8; 64]) -> Line
     }
 }
 
-// The time at the start of a text: digits up to the first character that goes on no number, which has to be a space.
+// The time at the start of a text: digits up to the first character that no number goes on with, which has to be a space.
 fn parse_time(text: &[u8]) -> Timed
     ensures { λ r. ⌜ r ≡ timedOf (now (text .entry)) ⌝ }
 {

@@ -1,5 +1,5 @@
 -- `line_input::bad_line` meets its contract: the newline is the first one. Assumes nothing.
-use mathlib.Core.Path.{_≡_, refl}
+use mathlib.Core.Path.{refl}
 use borrow.Author.Needs.{needs}
 use Rattle.line_input.proofs.Starts.{found-whole, not-ended, ended-bad}
 use Rattle.line_input.proofs.bad_line.Statement.{statement}
