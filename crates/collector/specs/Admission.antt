@@ -12,15 +12,19 @@ use Rattle.model.specs.Answer.{Shown, Refused, isKept, shownOf}
 use Rattle.model.specs.View.{Reception, View, capacity, isOpen}
 use Rattle.model.specs.Acceptable.{isSummed}
 use Rattle.model.specs.Step.{Outcome, tally, addIf, sentFor}
+use Rattle.collector.specs.declared.merging.Summary.{Summary}
 use Rattle.collector.specs.declared.merging.Admitted.{Admitted}
 use Rattle.collector.specs.Collector.{viewAt}
 use Rattle.collector.specs.Acceptable.{hasCopy}
 use Rattle.collector.specs.Merging.{receptionCheck, answerFor}
 
--- the answer, the telegram to send, and what the arrays and the numbers beside them say
-abbrev pub admittedOf : List ℕ → List ℕ → List ℕ → ℕ → Admitted → Outcome
-admittedOf times lens bytes setting r =
-    record { answer = shownOf (r .answer); sent = r .sent; next = viewAt times lens bytes (r .count) (r .latest) setting (r .totals) }
+-- what the entries' arrays and the fields beside them say
+abbrev pub viewIn : List ℕ → List ℕ → List ℕ → Summary → View
+viewIn times lens bytes s = viewAt times lens bytes (s .count) (s .latest) (s .setting) (s .totals)
+
+-- the answer, the telegram to send, and the next state
+abbrev pub admittedOf : List ℕ → List ℕ → List ℕ → Admitted → Outcome
+admittedOf times lens bytes r = record { answer = shownOf (r .answer); sent = r .sent; next = viewIn times lens bytes (r .summary) }
 
 -- what a step itself needs of any state: entries that the arrays hold, and totals that add up
 abbrev pub isSafe : View → Bool

@@ -3,6 +3,7 @@ pub mod acceptable;
 pub(crate) mod entries;
 pub mod merging;
 
+use merging::Summary;
 use model::Answer;
 use model::Totals;
 use refusal::Refusal;
@@ -96,28 +97,32 @@ impl Collector {
         let mut times = self.times;
         let mut lens = self.lens;
         let mut entries = self.bytes;
-        let setting = self.setting;
+        let totals = self.totals;
+        let summary = Summary {
+            count: self.count,
+            latest: self.latest,
+            setting: self.setting,
+            totals: totals,
+        };
         let done = merging::admit(
             fit,
             &mut times,
             &mut lens,
             &mut entries,
-            self.count,
-            self.latest,
-            setting,
-            self.totals,
+            summary,
             bytes,
             time,
         );
-        let totals = done.totals;
+        let next = done.summary;
+        let counted = next.totals;
         self = Collector {
             times: times,
             lens: lens,
             bytes: entries,
-            count: done.count,
-            latest: done.latest,
-            setting: setting,
-            totals: totals,
+            count: next.count,
+            latest: next.latest,
+            setting: next.setting,
+            totals: counted,
         };
         let answer = done.answer;
         let sent = done.sent;

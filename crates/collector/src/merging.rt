@@ -20,16 +20,22 @@ ghost use Rattle.model.specs.Answer.{shownOf, shownNumber, isKept, isCopy, isLo
 ghost use Rattle.model.specs.View.{capacity};
 ghost use Rattle.model.specs.Acceptable.{isSummed};
 ghost use Rattle.model.specs.Step.{maxCount, plusIf, tally};
-ghost use Rattle.collector.specs.Collector.{entriesAt, viewAt};
+ghost use Rattle.collector.specs.Collector.{entriesAt};
 ghost use Rattle.collector.specs.Acceptable.{hasCopy};
 ghost use Rattle.collector.specs.Merging.{receptionCheck, answerFor, Countable};
-ghost use Rattle.collector.specs.Admission.{admittedOf, notAdmitted, admission};
+ghost use Rattle.collector.specs.Admission.{viewIn, admittedOf, notAdmitted, admission};
 
-// What a reception changes beside the entries' arrays, the answer, and the telegram to send.
-pub struct Admitted {
+// What a state holds beside its entries' arrays.
+pub struct Summary {
     pub count: usize,
     pub latest: u64,
+    pub setting: u8,
     pub totals: Totals,
+}
+
+// The same after a reception, the answer, and the telegram to send.
+pub struct Admitted {
+    pub summary: Summary,
     pub answer: Answer,
     pub sent: Frame,
 }
@@ -42,21 +48,20 @@ pub fn admit<'a>(
     times: &'a mut [u64; Collector::CAPACITY],
     lens: &'a mut [u8; Collector::CAPACITY],
     bytes: &'a mut [u8; Collector::CAPACITY * Collector::MAX_LEN],
-    count: usize,
-    latest: u64,
-    setting: u8,
-    totals: Totals,
+    summary: Summary,
     received: &'a [u8],
     time: u64,
 ) -> Admitted
-    ensures { λ r. ⌜ admittedOf (now (times .exit)) (now (lens .exit)) (now (bytes .exit)) setting r ≡ admission fit (viewAt (now (times .entry)) (now (lens .entry)) (now (bytes .entry)) count latest setting totals) (record { bytes = now (received .entry); time = time }) ⌝ }
+    ensures { λ r. ⌜ admittedOf (now (times .exit)) (now (lens .exit)) (now (bytes .exit)) r ≡ admission fit (viewIn (now (times .entry)) (now (lens .entry)) (now (bytes .entry)) summary) (record { bytes = now (received .entry); time = time }) ⌝ }
 {
+    let count = summary.count;
+    let totals = summary.totals;
     if !is_safe(fit, count, totals) {
-        return refused(count, latest, totals);
+        return refused(summary);
     }
-    let checked = check_reception(totals.received, latest, received, time);
-    let last = latest_after(checked, latest, time);
-    let gone = entries::expired(times, count, last);
+    let checked = check_reception(totals.received, summary.latest, received, time);
+    let latest = latest_after(checked, summary.latest, time);
+    let gone = entries::expired(times, count, latest);
     let left = count - gone;
     entries::close_times(times, gone, left);
     entries::close_lens(lens, gone, left);
@@ -66,12 +71,16 @@ pub fn admit<'a>(
     entries::put_time(times, left, kept, time);
     entries::put_len(lens, left, kept, received);
     entries::put_bytes(bytes, left, kept, received);
-    Admitted {
+    let after = Summary {
         count: count_after(kept, left),
-        latest: last,
+        latest: latest,
+        setting: summary.setting,
         totals: counted(totals, answer),
+    };
+    Admitted {
+        summary: after,
         answer: answer,
-        sent: sent_for(setting, kept, received),
+        sent: sent_for(summary.setting, kept, received),
     }
 }
 
@@ -83,13 +92,11 @@ fn is_safe(fit: bool, count: usize, totals: Totals) -> bool
 }
 
 // 11, and nothing is changed.
-fn refused(count: usize, latest: u64, totals: Totals) -> Admitted
-    ensures { λ r. ⌜ ((times lens bytes : List ℕ) (setting : ℕ) → admittedOf times lens bytes setting r ≡ notAdmitted (viewAt times lens bytes count latest setting totals)) ⌝ }
+fn refused(summary: Summary) -> Admitted
+    ensures { λ r. ⌜ ((times lens bytes : List ℕ) → admittedOf times lens bytes r ≡ notAdmitted (viewIn times lens bytes summary)) ⌝ }
 {
     Admitted {
-        count: count,
-        latest: latest,
-        totals: totals,
+        summary: summary,
         answer: Answer::Refused(Refusal::NotAccepted),
         sent: Frame::empty(),
     }

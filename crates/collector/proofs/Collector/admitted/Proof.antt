@@ -6,7 +6,7 @@ use Rattle.collector.proofs.Collector.admitted.Tie as tie
 
 returns : tie.Need-returns
 unfolding viewOf
-returns c = c .before .before .admit .ensures
+returns c = c .before .before .before .admit .ensures
 
 pub admitted-spec : {M : Type 1} → statement M
 admitted-spec = tie.close (tie.spec (λ c κs. search needs) returns)

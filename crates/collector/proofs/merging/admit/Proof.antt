@@ -22,10 +22,10 @@ self c = record {
   times = now (c .args .times);
   lens = now (c .args .lens);
   bytes = now (c .args .bytes);
-  count = c .args .count;
-  latest = c .args .latest;
-  setting = c .args .setting;
-  totals = c .args .totals;
+  count = c .args .summary .count;
+  latest = c .args .summary .latest;
+  setting = c .args .summary .setting;
+  totals = c .args .summary .totals;
 }
 
 abbrev view : tie.Start → View
@@ -36,7 +36,7 @@ reception c = record { bytes = now (c .args .received); time = c .args .time }
 
 -- a state that may be taken
 abbrev whole : tie.Else1 → tie.Start
-whole c = c .before .before .before
+whole c = c .before .before .before .before
 
 fit : (c : tie.Else1) → Fit (whole c .args .fit) (self (whole c))
 fit c = fit-says (whole c .args .fit) (self (whole c)) (sym (c .before .is-safe .ensures) ∙ not-false _ (c .if1 .left))
@@ -72,15 +72,15 @@ said c = answer-said (closed (gone c)) _ (c .classify .ensures _ (start (gone c)
 
 -- what is kept is valid, and there is room for it
 fits : (c : tie.After-is-kept) → c .is-kept .result ≡ true
-    → (start (gone (c .before)) .args .count - expiring (gone (c .before)) .expired .result < capacity)
+    → (start (gone (c .before)) .args .summary .count - expiring (gone (c .before)) .expired .result < capacity)
     × (isValid (now (start (gone (c .before)) .args .received)) ≡ true)
 fits c = room (closed (gone (c .before))) (said (c .before)) (c .is-kept .ensures)
 
 returns : tie.Need-returns
 unfolding viewOf
 returns c =
-    let s = c .before .before .before .before in
-    c .refused .ensures _ _ _ _
+    let s = c .before .before .before .before .before in
+    c .refused .ensures _ _ _
     ∙ not-taken (s .args .fit) (self s) (reception s) (sym (c .before .before .is-safe .ensures) ∙ not-true _ (c .before .if1 .taken))
 
 classify-requires : tie.Need-classify-requires
