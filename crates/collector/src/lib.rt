@@ -90,20 +90,48 @@ impl Collector {
         self.admitted(fit, bytes, time)
     }
 
-    // The same of a state whose test said `fit`. Two arrays of one struct cannot be lent to be changed at once, so they are locals here.
+    // The state with these parts: the entries' arrays, and what it holds beside them.
+    pub fn from_parts(
+        times: [u64; Collector::CAPACITY],
+        lens: [u8; Collector::CAPACITY],
+        bytes: [u8; Collector::CAPACITY * Collector::MAX_LEN],
+        summary: Summary,
+    ) -> Collector
+        ensures { λ r. ⌜ r ≡ record { times = times; lens = lens; bytes = bytes; count = summary .count; latest = summary .latest; setting = summary .setting; totals = summary .totals } ⌝ }
+    {
+        let totals = summary.totals;
+        Collector {
+            times: times,
+            lens: lens,
+            bytes: bytes,
+            count: summary.count,
+            latest: summary.latest,
+            setting: summary.setting,
+            totals: totals,
+        }
+    }
+
+    // What the state holds beside its entries' arrays.
+    pub fn summary(self) -> Summary
+        ensures { λ r. ⌜ r ≡ record { count = self .count; latest = self .latest; setting = self .setting; totals = self .totals } ⌝ }
+    {
+        let totals = self.totals;
+        Summary {
+            count: self.count,
+            latest: self.latest,
+            setting: self.setting,
+            totals: totals,
+        }
+    }
+
+    // `take` of a state whose test said `fit`. Two arrays of one struct cannot be lent to be changed at once, so they are locals here.
     fn admitted(mut self, fit: bool, bytes: &[u8], time: u64) -> Taken
         ensures { λ r. ⌜ outcomeOf r ≡ admission fit (viewOf self) (record { bytes = now (bytes .entry); time = time }) ⌝ }
     {
         let mut times = self.times;
         let mut lens = self.lens;
         let mut entries = self.bytes;
-        let totals = self.totals;
-        let summary = Summary {
-            count: self.count,
-            latest: self.latest,
-            setting: self.setting,
-            totals: totals,
-        };
+        let summary = self.summary();
         let done = merging::admit(
             fit,
             &mut times,
@@ -114,18 +142,9 @@ impl Collector {
             time,
         );
         let next = done.summary;
-        let counted = next.totals;
-        self = Collector {
-            times: times,
-            lens: lens,
-            bytes: entries,
-            count: next.count,
-            latest: next.latest,
-            setting: next.setting,
-            totals: counted,
-        };
         let answer = done.answer;
         let sent = done.sent;
+        self = Collector::from_parts(times, lens, entries, next);
         Taken {
             next: self,
             answer: answer,
