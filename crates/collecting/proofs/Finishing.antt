@@ -57,7 +57,7 @@ part-is-none s s' l o e =
     let n = ap length k in
     omega (arith, length-take lineLimit l)
 
-module _ (s : Phase View) (l : List ℕ) (o : isOpen l ≡ true) (full : 0 < length l) {out out₁ : List ℕ} {p : Progress}
+module _ (s : Phase View) (l : List ℕ) (o : isOpen l ≡ true) (full : 0 < length l) {out out₁ : List ℕ} (p : Progress)
     (capacity : longestLine ≤ length out) (r : Ran s (l ++ (newline ∷ [])) out out₁ p) where
   -- the line is taken
   all-used : p .used ≡ suc (length l)
@@ -107,15 +107,15 @@ unfolding lastText
 last-full s [] h = absurd (omega arith)
 last-full s (c ∷ l) h = refl
 
-pub line-kept : (s : Phase View) (buffer : List ℕ) {kept n : ℕ} {out out₁ out₂ : List ℕ} {p : Progress} → Kept kept buffer → (kept ≡ 0 → ⊥)
+pub line-kept : (s : Phase View) (buffer : List ℕ) {kept n : ℕ} {out out₁ out₂ : List ℕ} (p : Progress) → Kept kept buffer → (kept ≡ 0 → ⊥)
     → longestFinish ≤ length out → Ran s (take (kept + 1 - 0) (set buffer kept newline)) out out₁ p
     → PrintedIfFits out₁ (p .written) (longestEnd (phaseOf (p .session))) (endOf merging (phaseOf (p .session))) out₂ n
     → Printed out 0 (endText (collect merging) (within s (take kept buffer))) longestFinish out₂ n
-line-kept s buffer {kept} k nonzero room r q =
+line-kept s buffer {kept} p k nonzero room r q =
     let l = take kept buffer in
     let fits : kept < length buffer = omega (arith, k .few, k .fits) in
     let some : 0 < kept = omega arith in
     let size : length l ≡ kept = length-take-le kept buffer (omega arith) in
     let e : kept + 1 - 0 ≡ suc kept = omega arith in
     let x = rw (e, take-suc-set buffer kept newline fits) at r in
-    rw (last-full s l (omega arith)) (then-end s l (k .line) (omega arith) (omega arith) x (omega (arith, k .few)) room q)
+    rw (last-full s l (omega arith)) (then-end s l (k .line) (omega arith) p (omega arith) x (omega (arith, k .few)) room q)

@@ -1,19 +1,26 @@
 -- Lines taken by a session: none, one from the start of the input, one more, and what is sent for one. Assumes nothing.
-use mathlib.Core.Path.{_≡_, refl, sym, _∙_}
-use mathlib.Core.Bool.{Bool, true, false, cond}
-use mathlib.Core.List.{List, []}
-use Prim.Native.Nat.{ℕ, _+_, _-_, _<_, _≤_, min}
+use mathlib.Core.Path.{_≡_, refl, sym, ap, _∙_}
+use mathlib.Core.Bool.{Bool, true, false, cond, false≢true}
+use mathlib.Core.List.{List, [], _∷_}
+use Prim.Native.Nat.{ℕ, _+_, _-_, _*_, _^_, _<_, _≤_, min}
 use native.Mathlib.Omega.{arith}
-use lib.Dec.{leb}
-use lib.ListN.{length, take, drop}
-use lib.Seq.{take-all}
-use borrow.Author.Tests.{leb-true, leb-false}
+use lib.Dec.{leb, ltb}
+use lib.ListN.{length, take, drop, take-append-drop, length-append, length-drop}
+use lib.Seq.{length-sets, length-take-le, take-all, take-append-seam, take-append-le}
+use borrow.Author.Tests.{leb-true, leb-false, ltb-true, ltb-false}
 use Rattle.bytes.specs.Bytes.{indexOf, slice}
-use Rattle.model.specs.View.{View}
-use Rattle.model.specs.Step.{Outcome}
-use Rattle.line_input.specs.Ascii.{newline}
+use Rattle.lists.proofs.Tests.{by-test}
+use Rattle.model.specs.View.{Reception, View}
+use Rattle.model.specs.Step.{Outcome, advance, step}
+use Rattle.model.proofs.Returns.{step-unacceptable}
+use Rattle.model.proofs.Invariant.{Good, good-acceptable, good-of, good-advance, classified}
+use Rattle.line_input.specs.Ascii.{newline, space}
 use Rattle.line_input.specs.Reading.{readingOf, reception, bad}
-use Rattle.line_output.specs.Text.{rowText, badText}
+use Rattle.line_input.proofs.Pairs.{leading-hex}
+use Rattle.line_input.proofs.Long.{long-time}
+use Rattle.line_input.proofs.Whole.{Said, said}
+use Rattle.line_output.proofs.ReadBack.{time-back}
+use Rattle.line_output.specs.Text.{decimalText, rowBehind, badText}
 use Rattle.line_output.specs.Printed.{Printed}
 use Rattle.streams.specs.Chunks.{feedText}
 use Rattle.streams.specs.Collect.{Phase, running, collect, phaseText, nextPhase}
@@ -23,7 +30,7 @@ use Rattle.streams.proofs.Limit.{bounded}
 use Rattle.streams.proofs.Takes.{found, fed-none, fed-next}
 use Rattle.collecting.specs.declared.Session.{Session}
 use Rattle.collecting.specs.declared.Progress.{Progress}
-use Rattle.collecting.specs.Session.{merging, taken, rowOf, sentBytes, phaseOf, longestLine, Ran}
+use Rattle.collecting.specs.Session.{merging, taken, rowOf, sentBytes, phaseOf, longestLine, Tested, Ran}
 
 -- ---- none
 
@@ -41,6 +48,10 @@ none-written input f e = (rw e at f) .output .next
 pub no-line : (input : List ℕ) {n : ℕ} → n ≡ 0 + indexOf newline (slice 0 (length input) input) → length input ≤ n → isOpen input ≡ true
 no-line input e h = let k = found input 0 e in open-whole input (omega arith)
 
+-- what is left from the start on is all
+pub open-from-start : (input : List ℕ) (at : ℕ) → at ≡ 0 → isOpen (drop at input) ≡ true → isOpen input ≡ true
+open-from-start input at e o = rw e at o
+
 -- ---- one
 
 -- the first line of the input
@@ -50,24 +61,79 @@ pub one-line : (s : Phase View) {out out' : List ℕ} {most r : ℕ} (input : Li
 one-line s {out} input {n} e h q fits =
     fed-next (collect merging) (bounded merging) input 0 n (fed-none (collect merging) (bounded merging) s out) (found input 0 e) h (omega arith) q fits
 
--- the line from `at` to the newline at n
-module _ {v₀ v : View} {out₀ out out' : List ℕ} {to most r : ℕ} (input : List ℕ) (at n : ℕ)
-    (f : Fed (collect merging) (running v₀) (take at input) out₀ (running v) out to)
-    (e : n ≡ at + indexOf newline (drop at input)) (h : n < length input) (l : at ≤ length input) (fits : r ≤ length out₀) where
-  pub bad-line : readingOf (take (n - at) (drop at input)) ≡ bad → Printed out to badText most out' r
-      → Fed (collect merging) (running v₀) (take (n + 1) input) out₀ (running v) out' r
-  bad-line b q =
-      let w : Printed out to (phaseText merging (running v) (take (n - at) (drop at input))) most out' r = rw b q in
-      rw b at (fed-next (collect merging) (bounded merging) input at n f e h l w fits)
+-- the line from `at` on
+abbrev pub lineAt : List ℕ → ℕ → List ℕ
+lineAt input at = take (indexOf newline (drop at input)) (drop at input)
 
-  pub reception-line : {t : ℕ} {bs : List ℕ} (o : Outcome) → readingOf (take (n - at) (drop at input)) ≡ reception t bs → o ≡ taken v t bs
-      → Printed out to (rowText t (rowOf (o .answer)) (sentBytes (o .sent))) most out' r
-      → Fed (collect merging) (running v₀) (take (n + 1) input) out₀ (running (o .next)) out' r
-  reception-line o b k q =
-      let w : Printed out to (phaseText merging (running v) (take (n - at) (drop at input))) most out' r = rw b (rw k at q) in
-      rw k (rw b at (fed-next (collect merging) (bounded merging) input at n f e h l w fits))
+-- it has `used` characters with its newline
+module _ {v₀ v : View} {out₀ out out' : List ℕ} {to most r : ℕ} (input : List ℕ) (at used : ℕ)
+    (f : Fed (collect merging) (running v₀) (take at input) out₀ (running v) out to)
+    (h : (indexOf newline (drop at input) < length (drop at input)) × (used ≡ indexOf newline (drop at input) + 1)) (l : at ≤ length input)
+    (fits : r ≤ length out₀) where
+  taken-line : Printed out to (phaseText merging (running v) (lineAt input at)) most out' r
+      → Fed (collect merging) (running v₀) (take (at + used) input) out₀ (nextPhase merging (running v) (lineAt input at)) out' r
+  taken-line q =
+      let k = indexOf newline (drop at input) in
+      let within : at + k < length input = omega (arith, h .0, length-drop at input) in
+      let same : at + k - at ≡ k = omega arith in
+      let end : at + used ≡ at + k + 1 = omega (arith, h .1) in
+      let printed : Printed out to (phaseText merging (running v) (take (at + k - at) (drop at input))) most out' r = rw same q in
+      rw end (rw same at (fed-next (collect merging) (bounded merging) input at (at + k) f refl within l printed fits))
+
+  pub bad-line : readingOf (lineAt input at) ≡ bad → Printed out to badText most out' r
+      → Fed (collect merging) (running v₀) (take (at + used) input) out₀ (running v) out' r
+  bad-line b q =
+      let w : Printed out to (phaseText merging (running v) (lineAt input at)) most out' r = rw b q in
+      rw b at (taken-line w)
+
+  pub reception-line : {t : ℕ} {bs time : List ℕ} (o : Outcome) → readingOf (lineAt input at) ≡ reception t bs → o ≡ taken v t bs → time ≡ decimalText t
+      → Printed out to (rowBehind time (rowOf (o .answer)) (sentBytes (o .sent))) most out' r
+      → Fed (collect merging) (running v₀) (take (at + used) input) out₀ (running (o .next)) out' r
+  reception-line o b k e q =
+      let w : Printed out to (phaseText merging (running v) (lineAt input at)) most out' r = rw b (rw (e, k) at q) in
+      rw k (rw b at (taken-line w))
+
+-- ---- the time of a line is printed as it stands there
+
+module _ (text : List ℕ) (k : ℕ) {t : ℕ} {bs : List ℕ} (within : k ≤ length text) (w : Said (take k text) t bs) where
+  parts-long : k ≡ length (w .digits) + (1 + 2 * length bs)
+  parts-long =
+      let hex : 2 * length bs ≡ length (w .hex) = ap (λ (l : List ℕ). 2 * length l) (sym (w .saysBytes)) ∙ leading-hex (w .hex) [] (w .isRight) .1 in
+      omega (arith, hex, length-take-le k text within, ap length (w .parts), length-append (w .digits) (space ∷ w .hex))
+
+  pub time-room : 2 * length bs + 1 ≤ k
+  time-room = omega (arith, parts-long)
+
+  pub time-short : k - (2 * length bs + 1) ≤ 20
+  time-short = by-test (ltb 20 (length (w .digits)))
+      (λ h. absurd (false≢true (sym (long-time (w .digits) (ltb-true 20 (length (w .digits)) h)) ∙ w .isTimely)))
+      (λ h. omega (arith, parts-long, ltb-false 20 (length (w .digits)) h))
+
+  pub time-text : take (k - (2 * length bs + 1)) text ≡ decimalText t
+  time-text =
+      let n : k - (2 * length bs + 1) ≡ length (w .digits) = omega (arith, parts-long) in
+      let d = length (w .digits) in
+      let front : take d text ≡ take d (take k text) =
+      ap (take d) (sym (take-append-drop k text)) ∙ take-append-le d (take k text) (drop k text) (omega (arith, parts-long, length-take-le k text within))
+      in
+      rw n (front ∙ ap (take d) (w .parts) ∙ take-append-seam (w .digits) (space ∷ w .hex) ∙ sym (time-back (w .digits) (w .isTimely)) ∙ ap decimalText (w .saysTime))
+
+-- ---- the test of the state
+
+pub tested-next : (fit : Bool) {v : View} {t : ℕ} (bs : List ℕ) → Tested fit v → t < 2 ^ 64 → Tested fit (taken v t bs .next)
+unfolding step advance
+tested-next true {v} {t} bs k small =
+    let r : Reception = record { bytes = bs; time = t } in
+    let g = good-advance v r (good-of v (sym (k .said)) (k .fits)) small (classified v r) in
+    record { said = sym (good-acceptable g); fits = record { latest = g .entries .fits; received = g .totals .fits } }
+tested-next false {v} {t} bs k small =
+    let stays : taken v t bs .next ≡ v = sym (ap (λ (o : Outcome). o .next) (step-unacceptable v (sym (k .said)) (record { bytes = bs; time = t }))) in
+    rw stays k
 
 -- ---- what is written
+
+pub same-length : {out text out' : List ℕ} {at most r : ℕ} → Printed out at text most out' r → length out' ≡ length out
+same-length {out} {text} {at = at} w = ap length (w .bytes) ∙ length-sets out at text
 
 -- nothing, at the end of a run that is over
 pub silent : (t : Bool) (out : List ℕ) (at : ℕ) → Printed out at (cond t [] []) 0 out at

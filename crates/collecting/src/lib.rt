@@ -2,21 +2,25 @@
 pub(crate) mod program;
 
 use collector::Collector;
+use collector::acceptable;
+use collector::merging;
+use collector::merging::Admitted;
+use collector::merging::Summary;
 use line_input::Setting;
 use line_output::Row;
 use model::Answer;
 pub use program::run;
-use telegram::frame::Frame;
 ghost use mathlib.Core.Path.{_≡_};
 ghost use mathlib.Core.List.{List};
 ghost use Prim.Native.Nat.{ℕ, _+_, _≤_, min};
 ghost use lib.ListN.{length};
 ghost use Rattle.model.specs.Answer.{shownOf};
 ghost use Rattle.collector.specs.Collector.{viewOf};
-ghost use Rattle.line_output.specs.Text.{rowText};
+ghost use Rattle.collector.specs.Admission.{viewIn};
+ghost use Rattle.line_output.specs.Text.{rowBehind};
 ghost use Rattle.line_output.specs.Printed.{Printed, PrintedIfFits};
 ghost use Rattle.streams.specs.Collect.{starting, running, over, afterFirst, firstText, endOf};
-ghost use Rattle.collecting.specs.Session.{merging, phaseOf, rowOf, sentBytes, longestLine, longestEnd, Ran};
+ghost use Rattle.collecting.specs.Session.{merging, phaseOf, rowOf, sentBytes, longestLine, longestEnd, Tested, RanTo, Ran};
 
 // Where a run stands: before its first line, past a right one, or ended by a wrong one.
 pub enum Stage {
@@ -38,8 +42,17 @@ pub struct Progress {
     pub written: usize,
 }
 
+// What a run of later lines leaves: what the state holds beside its arrays, how many bytes of the input they are, and how many were written.
+struct Taken {
+    pub summary: Summary,
+    pub used: usize,
+    pub written: usize,
+}
+
 // The longest text of one line: a row that sends 21 bytes.
-pub const LONGEST: usize = line_output::LONGEST_ROW + 2 * Collector::MAX_LEN;
+pub const LONGEST: usize = line_output::LONGEST_TIME
+    + line_output::LONGEST_ROW
+    + 2 * Collector::MAX_LEN;
 
 impl Session {
     // A run before its first line.
@@ -163,48 +176,92 @@ fn put_first(out: &mut [u8], setting: Setting) -> usize
 
 // ---- later lines
 
-// The collector stays in one local: each copy of it costs as much as a line.
+// The test of the state is made once for all of them.
 fn later_lines(c: Collector, input: &[u8], out: &mut [u8]) -> Progress
     ensures { λ r. ⌜ Ran (running (viewOf c)) (now (input .entry)) (now (out .entry)) (now (out .exit)) r ⌝ }
 {
-    let mut c = c;
-    let end = input.len();
+    let mut times = c.times;
+    let mut lens = c.lens;
+    let mut entries = c.bytes;
+    let fit = acceptable::is_acceptable(
+        &times,
+        &lens,
+        &entries,
+        c.count,
+        c.latest,
+        c.setting,
+        c.totals,
+    );
+    let summary = c.summary();
+    let done = take_lines(
+        fit,
+        &mut times,
+        &mut lens,
+        &mut entries,
+        summary,
+        input,
+        out,
+    );
+    let next = done.summary;
+    let last = Collector::from_parts(times, lens, entries, next);
+    Progress {
+        session: Session {
+            stage: Stage::Running,
+            collector: last,
+        },
+        used: done.used,
+        written: done.written,
+    }
+}
+
+// The state is changed where it lies, in its lent arrays and the summary: each copy of it would cost as much as a line.
+fn take_lines<'a>(
+    fit: bool,
+    times: &'a mut [u64; Collector::CAPACITY],
+    lens: &'a mut [u8; Collector::CAPACITY],
+    entries: &'a mut [u8; Collector::CAPACITY * Collector::MAX_LEN],
+    summary: Summary,
+    input: &'a [u8],
+    out: &'a mut [u8],
+) -> Taken
+    requires { ⌜ Tested fit (viewIn (now times) (now lens) (now entries) summary) ⌝ }
+    ensures { λ r. ⌜ RanTo (running (viewIn (now (times .entry)) (now (lens .entry)) (now (entries .entry)) summary)) (now (input .entry)) (now (out .entry)) (now (out .exit)) (running (viewIn (now (times .exit)) (now (lens .exit)) (now (entries .exit)) (r .summary))) (r .used) (r .written) ⌝ }
+{
+    let mut summary = summary;
+    let mut bytes = [0u8; 64];
     let mut at = 0;
     let mut to = 0;
     while LONGEST <= out.len() - to {
-        let n = bytes::scan::find(input, at, end, 10);
-        if end <= n {
+        let l = line_input::parse(&input[at..], &mut bytes);
+        if l.used == 0 {
             break;
         }
-        let l = line_input::parse(&input[at..n]);
-        at = n + 1;
+        let from = at;
+        at += l.used;
         if !l.ok {
             to = line_output::put_bad(out, to);
             continue;
         }
-        let bytes = l.bytes;
         let len = l.len;
-        let t = c.take(&bytes[0..len], l.time);
-        let answer = t.answer;
-        let sent = t.sent;
-        c = t.next;
-        to = put_answer(out, to, l.time, answer, sent);
+        let end = at - (2 * len + 2);
+        let done = merging::admit(fit, times, lens, entries, summary, &bytes[0..len], l.time);
+        summary = done.summary;
+        to = put_answer(out, to, &input[from..end], done);
     }
-    Progress {
-        session: Session {
-            stage: Stage::Running,
-            collector: c,
-        },
+    Taken {
+        summary: summary,
         used: at,
         written: to,
     }
 }
 
-// The row of a reception.
-fn put_answer(out: &mut [u8], at: usize, time: u64, answer: Answer, sent: Frame) -> usize
-    requires { ⌜ at + longestLine ≤ length (now out) ⌝ }
-    ensures { λ r. ⌜ Printed (now (out .entry)) at (rowText time (rowOf (shownOf answer)) (sentBytes sent)) longestLine (now (out .exit)) r ⌝ }
+// The row of a reception behind the text of its time.
+fn put_answer(out: &mut [u8], at: usize, time: &[u8], done: Admitted) -> usize
+    requires { ⌜ (length (now time) ≤ 20) × (at + longestLine ≤ length (now out)) ⌝ }
+    ensures { λ r. ⌜ Printed (now (out .entry)) at (rowBehind (now (time .entry)) (rowOf (shownOf (done .answer))) (sentBytes (done .sent))) longestLine (now (out .exit)) r ⌝ }
 {
+    let answer = done.answer;
+    let sent = done.sent;
     let bytes = sent.bytes;
     let n = least(sent.len, Collector::MAX_LEN);
     line_output::put_row(out, at, time, row_of(answer), &bytes[0..n])

@@ -4,19 +4,22 @@ use Prim.Native.Nat.{_-_, _≤_, min}
 use native.Mathlib.Omega.{arith}
 use lib.ListN.{length, length-take}
 use borrow.Author.Needs.{needs}
+use Rattle.telegram.specs.declared.frame.Frame.{Frame}
 use Rattle.line_output.proofs.Stores.{within, if-fits}
 use Rattle.collecting.proofs.Taking.{front-bytes}
 use Rattle.collecting.proofs.put_answer.Statement.{statement}
 use Rattle.collecting.proofs.put_answer.Tie as tie
 
-full : (c : tie.After-bytes2) → length (c .before .before .before .before .before .before .args .sent .bytes) ≡ 21
+abbrev sent : tie.After-bytes2 → Frame
+sent c = c .before .before .before .before .before .before .before .before .args .done .sent
+
+full : (c : tie.After-bytes2) → length (sent c .bytes) ≡ 21
 full c = search needs
 
 part-put-row-end : tie.Need-part-put-row-end
 part-put-row-end c =
     let l = c .before .before .before in
-    let s = l .before .before .before .args .sent in
-    let e : l .least .result ≡ min (s .len) 21 = l .least .ensures in
+    let e : l .least .result ≡ min (sent c .len) 21 = l .least .ensures in
     let h = full c in
     omega arith
 
@@ -25,11 +28,12 @@ returns c =
     let q = c .before .before in
     let r = q .before .before .before in
     let l = r .before .before in
-    let s = l .before .before .before .args .sent in
+    let s = sent (q .before .before) in
     let h = full (q .before .before) in
     let e : l .least .result ≡ min (s .len) 21 = l .least .ensures in
     let z : l .least .result - 0 ≡ min (s .len) 21 = omega arith in
     let n : min (s .len) 21 ≤ 21 = omega arith in
+    let k = length-take (min (s .len) 21) (s .bytes) in
     let w = rw (r .row-of .ensures, z, front-bytes (s .len) 21 (s .bytes) (omega arith)) at (if-fits (omega arith) (q .put-row .ensures)) in
     within w (omega (arith, length-take (s .len) (s .bytes)))
 

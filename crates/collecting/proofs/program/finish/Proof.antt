@@ -25,7 +25,7 @@ returns-2 c =
     let l = q .before .before .before .before .before in
     let e = l .before .before .before .before in
     let s = e .before .before .before in
-    line-kept (phaseOf (s .args .s)) (now (s .args .buffer)) (s .pre .0) (e .if1 .left) (s .pre .1) (l .lines .ensures) (q .put-end2 .ensures)
+    line-kept (phaseOf (s .args .s)) (now (s .args .buffer)) (l .lines .result) (s .pre .0) (e .if1 .left) (s .pre .1) (l .lines .ensures) (q .put-end2 .ensures)
 
 pub finish-spec : {M : Type 1} → statement M
 finish-spec =
