@@ -14,7 +14,7 @@ use Rattle.lists.proofs.Tests.{by-test, all-both}
 use Rattle.erp1.specs.Subtelegram.{isValid}
 use Rattle.model.specs.Answer.{Kept, Copy, Loose, Refused, isKept, isAccepted}
 use Rattle.model.specs.View.{Reception, View, capacity, maturity, isOpen}
-use Rattle.model.specs.Acceptable.{isCopyOf, isEntry, mayFollow, isSummed, acceptable}
+use Rattle.model.specs.Acceptable.{isCopyOf, isEntry, mayFollow, acceptable}
 use Rattle.model.specs.Step.{maxCount, isKnown, isCrowded, classify, tally, addIf, advance, step}
 use Rattle.model.proofs.Returns.{step-unacceptable}
 use Rattle.collector.specs.Acceptable.{hasCopy}

@@ -30,26 +30,28 @@ admittedOf times lens bytes r = record { answer = shownOf (r .answer); sent = r 
 abbrev pub isSafe : View → Bool
 isSafe v = leb (length (v .entries)) capacity && isSummed (v .totals)
 
--- the number of the tests before the open telegrams are looked at
+-- the number of the tests before the open telegrams are looked at ("Order: 8; then the check (1, 2, 3) ..; then .. (7)")
 abbrev pub numberOn : View → Reception → ℕ
 numberOn v r = receptionCheck (v .totals .received) (v .latest) r
 
--- "an accepted reception sets the latest time"
+-- the latest time after it: that of the latest reception that passed them
 abbrev pub latestAfter : View → Reception → ℕ
 latestAfter v r = cond (eqb (numberOn v r) 0) (r .time) (v .latest)
 
--- the entries from the first on that is open at t
+-- the entries from the first on that is open at t: in order of time, as they are in an acceptable state, these are the open ones
 abbrev pub openFrom : ℕ → List Reception → List Reception
 openFrom t [] = []
 openFrom t (e ∷ l) = cond (isOpen t e) (e ∷ l) (openFrom t l)
 
+-- the telegrams open after it, before it opens one
 abbrev pub leftAfter : View → Reception → List Reception
 leftAfter v r = openFrom (latestAfter v r) (v .entries)
 
+-- "Then: same telegram open, COPY; else 64 telegrams open, LOOSE; else KEPT"
 abbrev pub answerOn : View → Reception → Shown
 answerOn v r = answerFor (numberOn v r) (hasCopy (leftAfter v r) r) (leb capacity (length (leftAfter v r)))
 
--- the reception is taken
+-- the reception is taken: it is answered, sent for, and counted, and one that is Kept opens a telegram
 unfoldable pub admitted : View → Reception → Outcome
 admitted v r = record {
   answer = answerOn v r;

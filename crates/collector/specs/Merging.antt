@@ -21,8 +21,6 @@ use Rattle.collector.specs.Collector.{viewOf}
 abbrev pub outcomeOf : Taken → Outcome
 outcomeOf r = record { answer = shownOf (r .answer); sent = r .sent; next = viewOf (r .next) }
 
--- ---- what private functions say
-
 -- the tests before the open telegrams are looked at, in their order: 8, the check's number, 7; 0 if all pass
 unfoldable pub receptionCheck : ℕ → ℕ → Reception → ℕ
 receptionCheck received latest r =
@@ -34,6 +32,8 @@ receptionCheck received latest r =
 -- the answer by that number, whether the same telegram is open, and whether 64 are
 unfoldable pub answerFor : ℕ → Bool → Bool → Shown
 answerFor number known crowded = cond (eqb number 0) (cond known Copy (cond crowded Loose Kept)) (Refused number)
+
+-- ---- what private functions say
 
 -- no total is at its end where an answer is counted
 pub record Countable (n : Totals) (a : Shown) : Type 0 where

@@ -3,6 +3,7 @@ pub mod acceptable;
 pub(crate) mod entries;
 pub mod merging;
 
+use acceptable::is_acceptable;
 use merging::Summary;
 use model::Answer;
 use model::Totals;
@@ -12,7 +13,6 @@ ghost use mathlib.Core.Path.{_≡_};
 ghost use Rattle.model.specs.Step.{step};
 ghost use Rattle.collector.specs.Collector.{freshAnswer, freshOf, emptyView, viewOf};
 ghost use Rattle.collector.specs.Merging.{outcomeOf};
-ghost use Rattle.collector.specs.Admission.{admission};
 
 // The state, in flat arrays. Entry i of the first `count`, in opening order, has times[i], lens[i] and the 21 bytes from 21 i, of
 // which lens[i] are those first received; what stands past these is left to the program.
@@ -74,20 +74,51 @@ impl Collector {
     }
 
     // Takes one reception: its bytes and the moment they were complete, in ms. A state that is not acceptable gets 11 and stays.
-    // The state is changed where it lies and left at one exit, so that it is copied in and out alone.
+    // The entries' bytes are changed where they lie; of the fields of a struct one at a time can be lent to be changed, so the two small arrays are
+    // copied. There is one exit, so that the state is copied in and out alone.
     pub fn take(mut self, bytes: &[u8], time: u64) -> Taken
         ensures { λ r. ⌜ outcomeOf r ≡ step (viewOf self) (record { bytes = now (bytes .entry); time = time }) ⌝ }
     {
-        let fit = acceptable::is_acceptable(
-            &self.times,
-            &self.lens,
+        let mut times = self.times;
+        let mut lens = self.lens;
+        let old = Summary {
+            count: self.count,
+            latest: self.latest,
+            setting: self.setting,
+            totals: self.totals,
+        };
+        let fit = is_acceptable(
+            &times,
+            &lens,
             &self.bytes,
             self.count,
             self.latest,
             self.setting,
             self.totals,
         );
-        self.admitted(fit, bytes, time)
+        let done = merging::admit(
+            fit,
+            &mut times,
+            &mut lens,
+            &mut self.bytes,
+            old,
+            bytes,
+            time,
+        );
+        let next = done.summary;
+        let totals = next.totals;
+        let answer = done.answer;
+        let sent = done.sent;
+        self.times = times;
+        self.lens = lens;
+        self.count = next.count;
+        self.latest = next.latest;
+        self.totals = totals;
+        Taken {
+            next: self,
+            answer: answer,
+            sent: sent,
+        }
     }
 
     // The state with these parts: the entries' arrays, and what it holds beside them.
@@ -121,34 +152,6 @@ impl Collector {
             latest: self.latest,
             setting: self.setting,
             totals: totals,
-        }
-    }
-
-    // `take` of a state whose test said `fit`. Two arrays of one struct cannot be lent to be changed at once, so they are locals here.
-    fn admitted(mut self, fit: bool, bytes: &[u8], time: u64) -> Taken
-        ensures { λ r. ⌜ outcomeOf r ≡ admission fit (viewOf self) (record { bytes = now (bytes .entry); time = time }) ⌝ }
-    {
-        let mut times = self.times;
-        let mut lens = self.lens;
-        let mut entries = self.bytes;
-        let summary = self.summary();
-        let done = merging::admit(
-            fit,
-            &mut times,
-            &mut lens,
-            &mut entries,
-            summary,
-            bytes,
-            time,
-        );
-        let next = done.summary;
-        let answer = done.answer;
-        let sent = done.sent;
-        self = Collector::from_parts(times, lens, entries, next);
-        Taken {
-            next: self,
-            answer: answer,
-            sent: sent,
         }
     }
 

@@ -8,7 +8,9 @@ use Rattle.collector.proofs.Collector.take.Tie as tie
 
 returns : tie.Need-returns
 unfolding viewOf
-returns c = c .admitted .ensures ∙ admission-fit _ _ _ (c .before .is-acceptable .ensures)
+returns c =
+    let a = c .before .before .before in
+    a .admit .ensures ∙ admission-fit _ _ _ (a .before .before .before .before .is-acceptable .ensures)
 
 pub take-spec : {M : Type 1} → statement M
 take-spec = tie.close (tie.spec (λ c κs. search needs) (λ c κs. search needs) returns)

@@ -1,9 +1,5 @@
 -- `collector::merging::is_safe` meets its contract. Assumes nothing.
-use mathlib.Core.Path.{ap}
-use mathlib.Core.Bool.{Bool, _&&_}
 use borrow.Author.Needs.{needs}
-use lib.Dec.{leb}
-use Rattle.model.specs.View.{capacity}
 use Rattle.collector.proofs.merging.is_safe.Statement.{statement}
 use Rattle.collector.proofs.merging.is_safe.Tie as tie
 
