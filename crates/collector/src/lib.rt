@@ -113,6 +113,7 @@ impl Collector {
         self.lens = lens;
         self.count = next.count;
         self.latest = next.latest;
+        self.setting = next.setting;
         self.totals = totals;
         Taken {
             next: self,
