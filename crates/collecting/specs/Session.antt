@@ -15,7 +15,7 @@ use Rattle.model.specs.Exact.{Fits}
 use Rattle.collector.specs.Collector.{viewOf}
 use Rattle.line_output.specs.declared.Row.{Row}
 use Rattle.line_output.specs.Text.{totalsText}
-use Rattle.line_output.specs.Printed.{longestRow, longestTotals}
+use Rattle.line_output.specs.Printed.{longestTime, longestRow, longestTotals}
 use Rattle.streams.specs.Collect.{Collector, Phase, starting, running, over, collect}
 use Rattle.streams.specs.Buffer.{isOpen, Fed}
 use Rattle.collecting.specs.declared.Stage.{Stage}
@@ -64,7 +64,7 @@ phaseOf s = atStage (s .stage) (viewOf (s .collector))
 
 -- the longest text of a line, and of each end
 abbrev pub longestLine : ℕ
-longestLine = longestRow 20 maxLength
+longestLine = longestRow longestTime maxLength
 
 abbrev pub longestEnd : Phase View → ℕ
 longestEnd starting = 4

@@ -18,7 +18,7 @@ ghost use Rattle.model.specs.Answer.{shownOf};
 ghost use Rattle.collector.specs.Collector.{viewOf};
 ghost use Rattle.collector.specs.Admission.{viewIn};
 ghost use Rattle.line_output.specs.Text.{rowBehind};
-ghost use Rattle.line_output.specs.Printed.{Printed, PrintedIfFits};
+ghost use Rattle.line_output.specs.Printed.{longestTime, Printed, PrintedIfFits};
 ghost use Rattle.streams.specs.Collect.{starting, running, over, afterFirst, firstText, endOf};
 ghost use Rattle.collecting.specs.Session.{merging, phaseOf, rowOf, sentBytes, longestLine, longestEnd, Tested, RanTo, Ran};
 
@@ -43,7 +43,7 @@ pub struct Progress {
 }
 
 // What a run of later lines leaves: what the state holds beside its arrays, how many bytes of the input they are, and how many were written.
-struct Taken {
+struct Merged {
     pub summary: Summary,
     pub used: usize,
     pub written: usize,
@@ -193,7 +193,7 @@ fn later_lines(c: Collector, input: &[u8], out: &mut [u8]) -> Progress
         c.totals,
     );
     let summary = c.summary();
-    let done = take_lines(
+    let done = merge_lines(
         fit,
         &mut times,
         &mut lens,
@@ -215,7 +215,7 @@ fn later_lines(c: Collector, input: &[u8], out: &mut [u8]) -> Progress
 }
 
 // The state is changed where it lies, in its lent arrays and the summary: each copy of it would cost as much as a line.
-fn take_lines<'a>(
+fn merge_lines<'a>(
     fit: bool,
     times: &'a mut [u64; Collector::CAPACITY],
     lens: &'a mut [u8; Collector::CAPACITY],
@@ -223,7 +223,7 @@ fn take_lines<'a>(
     summary: Summary,
     input: &'a [u8],
     out: &'a mut [u8],
-) -> Taken
+) -> Merged
     requires { ⌜ Tested fit (viewIn (now times) (now lens) (now entries) summary) ⌝ }
     ensures { λ r. ⌜ RanTo (running (viewIn (now (times .entry)) (now (lens .entry)) (now (entries .entry)) summary)) (now (input .entry)) (now (out .entry)) (now (out .exit)) (running (viewIn (now (times .exit)) (now (lens .exit)) (now (entries .exit)) (r .summary))) (r .used) (r .written) ⌝ }
 {
@@ -248,7 +248,7 @@ fn take_lines<'a>(
         summary = done.summary;
         to = put_answer(out, to, &input[from..end], done);
     }
-    Taken {
+    Merged {
         summary: summary,
         used: at,
         written: to,
@@ -257,7 +257,7 @@ fn take_lines<'a>(
 
 // The row of a reception behind the text of its time.
 fn put_answer(out: &mut [u8], at: usize, time: &[u8], done: Admitted) -> usize
-    requires { ⌜ (length (now time) ≤ 20) × (at + longestLine ≤ length (now out)) ⌝ }
+    requires { ⌜ (length (now time) ≤ longestTime) × (at + longestLine ≤ length (now out)) ⌝ }
     ensures { λ r. ⌜ Printed (now (out .entry)) at (rowBehind (now (time .entry)) (rowOf (shownOf (done .answer))) (sentBytes (done .sent))) longestLine (now (out .exit)) r ⌝ }
 {
     let answer = done.answer;

@@ -81,21 +81,17 @@ impl Collector {
     {
         let mut times = self.times;
         let mut lens = self.lens;
+        let count = self.count;
+        let latest = self.latest;
+        let setting = self.setting;
+        let totals = self.totals;
+        let fit = is_acceptable(&times, &lens, &self.bytes, count, latest, setting, totals);
         let old = Summary {
-            count: self.count,
-            latest: self.latest,
-            setting: self.setting,
-            totals: self.totals,
+            count: count,
+            latest: latest,
+            setting: setting,
+            totals: totals,
         };
-        let fit = is_acceptable(
-            &times,
-            &lens,
-            &self.bytes,
-            self.count,
-            self.latest,
-            self.setting,
-            self.totals,
-        );
         let done = merging::admit(
             fit,
             &mut times,
@@ -106,7 +102,7 @@ impl Collector {
             time,
         );
         let next = done.summary;
-        let totals = next.totals;
+        let counted = next.totals;
         let answer = done.answer;
         let sent = done.sent;
         self.times = times;
@@ -114,7 +110,7 @@ impl Collector {
         self.count = next.count;
         self.latest = next.latest;
         self.setting = next.setting;
-        self.totals = totals;
+        self.totals = counted;
         Taken {
             next: self,
             answer: answer,

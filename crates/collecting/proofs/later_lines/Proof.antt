@@ -10,9 +10,9 @@ numbers : (c : tie.Start) → Fits (viewOf (c .args .c))
 unfolding viewOf
 numbers c = record { latest = search needs; received = search needs }
 
-take-lines-requires : tie.Need-take-lines-requires
+merge-lines-requires : tie.Need-merge-lines-requires
 unfolding viewOf
-take-lines-requires c κs =
+merge-lines-requires c κs =
     let s = c .before .before .before .before in
     let a = s .before in
     rw (s .summary .ensures) (record { said = a .is-acceptable .ensures; fits = numbers (a .before .before .before .before .before .before .before .before .before) })
@@ -21,9 +21,9 @@ returns : tie.Need-returns
 unfolding viewOf
 returns c =
     let t = c .before .before .before .before in
-    rw (c .from-parts .ensures) (rw (t .before .before .before .before .before .summary .ensures) at (t .take-lines .ensures))
+    rw (c .from-parts .ensures) (rw (t .before .before .before .before .before .summary .ensures) at (t .merge-lines .ensures))
 
 pub later-lines-spec : {M : Type 1} → statement M
 later-lines-spec =
     tie.close
-    (tie.spec (λ c κs. search needs) (λ c κs. search needs) take-lines-requires (λ c κs. search needs) (λ c. search needs) returns)
+    (tie.spec (λ c κs. search needs) (λ c κs. search needs) merge-lines-requires (λ c κs. search needs) (λ c. search needs) returns)

@@ -1,4 +1,4 @@
--- `collecting::take_lines` meets its contract. The invariant: the lines up to `at` were taken, what they give stands before `to`, and the test of
+-- `collecting::merge_lines` meets its contract. The invariant: the lines up to `at` were taken, what they give stands before `to`, and the test of
 -- the state says what it said. The measure is what is left of the input. Assumes nothing.
 use mathlib.Core.Path.{_≡_, refl, _∙_}
 use mathlib.Core.List.{List}
@@ -28,8 +28,8 @@ use Rattle.streams.proofs.Limit.{bounded}
 use Rattle.streams.proofs.Takes.{fed-none}
 use Rattle.collecting.specs.Session.{merging, taken, longestLine, Tested}
 use Rattle.collecting.proofs.Taking.{lineAt, none-written, open-from-start, bad-line, reception-line, time-room, time-short, time-text, tested-next, same-length}
-use Rattle.collecting.proofs.take_lines.Statement.{statement}
-use Rattle.collecting.proofs.take_lines.Tie as tie
+use Rattle.collecting.proofs.merge_lines.Statement.{statement}
+use Rattle.collecting.proofs.merge_lines.Tie as tie
 
 abbrev Inv-loop : tie.InvT-loop
 Inv-loop fit times₀ lens₀ entries₀ input out₀ summary₀ bytes₀ at₀ to₀ times lens entries out summary bytes at to =
@@ -220,8 +220,8 @@ returns-2 c =
       rest = λ e h. open-from-start (input l) (l .loop .at) e (open-whole (drop (l .loop .at) (input l)) (said-open _ (answer p) (c .if1 .taken)));
     }
 
-pub take-lines-spec : {M : Type 1} → statement M
-take-lines-spec =
+pub merge-lines-spec : {M : Type 1} → statement M
+merge-lines-spec =
     tie.close
     (tie.spec
     Inv-loop
