@@ -1,11 +1,12 @@
-//! Receptions taken one after the other: the proved collector, by value and with the test of its state at each call, against a
-//! hand-written one that is changed in place and trusts its state.
+//! Receptions taken one after the other: the proved collector, by value and with the test of its state at each call (`take`), and in
+//! place with none (`admit`), against a hand-written one that is changed in place and trusts its state.
 use crate::{report, time, Random};
 use std::hint::black_box;
 
 // A slice passes as a pointer and a length. Nothing checks this line against the Rattle source.
 extern "C" {
     fn bench_take(setting: u8, cells: *const u8, len: usize) -> u64;
+    fn bench_admit(setting: u8, cells: *const u8, len: usize) -> u64;
     fn bench_test(setting: u8, cells: *const u8, len: usize, rounds: u64) -> u64;
 }
 
@@ -14,6 +15,10 @@ const RECEPTIONS: usize = 4_000;
 
 fn proved(cells: &[u8]) -> u64 {
     unsafe { bench_take(1, cells.as_ptr(), cells.len()) }
+}
+
+fn proved_in_place(cells: &[u8]) -> u64 {
+    unsafe { bench_admit(1, cells.as_ptr(), cells.len()) }
 }
 
 /// The test of the state that these receptions leave behind, so many times.
@@ -170,20 +175,22 @@ fn telegram(r: u64) -> Vec<u8> {
 pub fn bench() {
     for open in [4, 16, 64] {
         let cells = cells(open);
-        let (p, h) = (proved(&cells), by_hand(&cells));
-        assert_eq!(p, h, "{open} open");
+        let wanted = by_hand(&cells);
+        assert_eq!(proved(&cells), wanted, "{open} open");
+        assert_eq!(proved_in_place(&cells), wanted, "{open} open");
         let run = |take: fn(&[u8]) -> u64| {
             time(RECEPTIONS, || {
                 black_box(take(black_box(&cells)));
             })
         };
-        let (take, hand) = (run(proved), run(by_hand));
-        report(&format!("a reception, {open} open, half of them copies"), take, hand);
+        let (take, admit, hand) = (run(proved), run(proved_in_place), run(by_hand));
+        report(&format!("a reception, {open} open, half of them copies, in place"), admit, hand);
+        report("  by value, its state tested", take, hand);
         let first = &cells[..2 * open * CELL];
         assert_eq!(tests(first, 2), 2, "{open} open");
         let test = time(RECEPTIONS, || {
             black_box(tests(black_box(first), black_box(RECEPTIONS as u64)));
         });
-        println!("  of which the test of the state {test:.0} ns; without it {:.0} ns, ratio {:.2}", take - test, (take - test) / hand);
+        println!("  of which the test of the state {test:.0} ns");
     }
 }

@@ -1,6 +1,7 @@
 // Receptions taken one after the other, for the benchmark.
 use collector::Collector;
 use collector::acceptable;
+use collector::merging;
 use model::Answer;
 ghost use mathlib.Core.Path.{_≡_};
 ghost use Prim.Native.Nat.{_*_, _≤_};
@@ -44,6 +45,38 @@ pub extern "C" fn bench_test(setting: u8, cells: &[u8], rounds: u64) -> u64 {
     passed
 }
 
+// The same receptions at arrays that are changed where they lie. A fresh state is acceptable, and so is every next one: none is tested.
+#[no_mangle]
+pub extern "C" fn bench_admit(setting: u8, cells: &[u8]) -> u64 {
+    let fresh = Collector::fresh(setting);
+    let c = fresh.collector;
+    let mut times = c.times;
+    let mut lens = c.lens;
+    let mut entries = c.bytes;
+    let mut summary = c.summary();
+    let mut figure: u64 = 0;
+    for i in 0..cells.len() / CELL {
+        let cell = &cells[CELL * i..CELL * i + CELL];
+        let bytes = received(cell);
+        let time = layout::cell_time(cell);
+        let done = merging::admit(
+            true,
+            &mut times,
+            &mut lens,
+            &mut entries,
+            summary,
+            bytes,
+            time,
+        );
+        let next = done.summary;
+        let answer = done.answer;
+        let sent = done.sent;
+        summary = next;
+        figure = std::num::wrapping_add_u64(figure, weight(answer, sent.len));
+    }
+    figure
+}
+
 fn taken_all(setting: u8, cells: &[u8]) -> Run {
     let fresh = Collector::fresh(setting);
     let mut c = fresh.collector;
@@ -76,8 +109,15 @@ fn take_cell(c: Collector, cell: &[u8]) -> collector::Taken
     requires { ⌜ length (now cell) ≡ 32 ⌝ }
 {
     let time = layout::cell_time(cell);
+    c.take(received(cell), time)
+}
+
+// The bytes of a cell's reception.
+fn received(cell: &[u8]) -> &[u8]
+    requires { ⌜ length (now cell) ≡ 32 ⌝ }
+{
     let n = least(wide(cell[8]));
-    c.take(&cell[9..9 + n], time)
+    &cell[9..9 + n]
 }
 
 fn weight(answer: Answer, sent: usize) -> u64 {

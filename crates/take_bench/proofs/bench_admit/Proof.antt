@@ -1,0 +1,56 @@
+-- `take_bench::bench_admit` is safe and ends. The loop's invariant: i cells are at most those there are; the measure is what is left of them.
+-- Assumes nothing.
+use Prim.Native.Nat.{_<_, _≤_, _-_, _/_, _^_}
+use mathlib.Core.Path.{_≡_}
+use native.Mathlib.Omega.{arith}
+use lib.ListN.{length}
+use borrow.Author.Needs.{needs}
+use Rattle.take_bench.proofs.bench_admit.Statement.{statement}
+use Rattle.take_bench.proofs.bench_admit.Tie as tie
+
+abbrev Inv-loop : tie.InvT-loop
+Inv-loop setting cells times₀ lens₀ entries₀ summary₀ figure₀ i₀ i-end times lens entries summary figure i = (i ≤ length cells / 32) × (i-end ≡ length cells / 32) × (length cells / 32 < 2 ^ 64)
+
+abbrev μ-loop : tie.MeasureT-loop
+μ-loop setting cells times₀ lens₀ entries₀ summary₀ figure₀ i₀ i-end times lens entries summary figure i = length cells / 32 - i
+
+-- in the turn that ends
+abbrev turn : tie.After-wrapping-add-u64 Inv-loop μ-loop → tie.In-loop Inv-loop μ-loop
+turn c = c .before .before .before .before .before .before .before .before .before .before .before
+
+add-i : tie.Need-add-i Inv-loop μ-loop
+add-i c =
+    let t = turn c .loop-test .taken in
+    let l = turn c .before .loop .inv in
+    omega arith
+
+loop-less : tie.Need-loop-less Inv-loop μ-loop
+loop-less c = omega (arith, turn c .loop-test .taken, turn c .before .loop .inv .1)
+
+loop-again : tie.Need-loop-again Inv-loop μ-loop
+loop-again c = (omega (arith, turn c .loop-test .taken, turn c .before .loop .inv .1), turn c .before .loop .inv .1, turn c .before .loop .inv .2)
+
+pub bench-admit-spec : {M : Type 1} → statement M
+bench-admit-spec =
+    tie.close
+    (tie.spec
+    Inv-loop
+    μ-loop
+    (λ c κs. search needs)
+    (λ c κs. search needs)
+    (λ c. search needs)
+    (λ c. search needs)
+    (λ c. search needs)
+    (λ c. search needs)
+    (λ c. search needs)
+    (λ c. search needs)
+    (λ c. search needs)
+    (λ c κs. search needs)
+    (λ c κs. search needs)
+    (λ c κs. search needs)
+    (λ c κs. search needs)
+    (λ c κs. search needs)
+    add-i
+    loop-less
+    loop-again
+    (λ c. search needs))
