@@ -238,10 +238,12 @@ fn merge_lines<'a>(
         }
         let from = at;
         at += l.used;
-        if !l.ok {
+        let ok = l.ok;
+        if !ok {
             to = line_output::put_bad(out, to);
             continue;
         }
+        // Behind the time stand a space, two digits for each byte, and the newline.
         let len = l.len;
         let end = at - (2 * len + 2);
         let done = merging::admit(fit, times, lens, entries, summary, &bytes[0..len], l.time);

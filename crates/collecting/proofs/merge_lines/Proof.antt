@@ -79,13 +79,13 @@ add-at c = let h = within (c .before) in omega arith
 -- ---- a BAD one
 
 loop-less : tie.Need-loop-less Inv-loop μ-loop
-loop-less c = let e = c .before .before .before .before .before .before .before in omega (arith, within e, ended e .1)
+loop-less c = let e = c .before .before .before .before .before .before in omega (arith, within e, ended e .1)
 
 loop-again : tie.Need-loop-again Inv-loop μ-loop
 loop-again c =
     let q = c .before .before in
     let i = q .before .before in
-    let e = i .before .before .before in
+    let e = i .before .before in
     let l = turn (read e) in
     let b = said-bad _ (answer (read e)) (e .if1 .left) (not-true _ (i .if2 .taken)) in
     let w = if-fits (omega arith) (q .put-bad .ensures) in
@@ -102,7 +102,7 @@ loop-again c =
 -- ---- a reception
 
 abbrev passed : tie.Else2 Inv-loop μ-loop → tie.Else1 Inv-loop μ-loop
-passed c = c .before .before .before
+passed c = c .before .before
 
 abbrev parsed : tie.Else2 Inv-loop μ-loop → tie.After-parse Inv-loop μ-loop
 parsed c = read (passed c)
