@@ -13,7 +13,7 @@ use Rattle.lists.proofs.Tests.{by-test}
 use Rattle.model.specs.View.{Reception, View}
 use Rattle.model.specs.Step.{Outcome, advance, step}
 use Rattle.model.proofs.Returns.{step-unacceptable}
-use Rattle.model.proofs.Invariant.{Good, good-acceptable, good-of, good-advance, classified}
+use Rattle.model.proofs.Invariant.{good-acceptable, good-of, good-advance, classified}
 use Rattle.line_input.specs.Ascii.{newline, space}
 use Rattle.line_input.specs.Reading.{readingOf, reception, bad}
 use Rattle.line_input.proofs.Pairs.{leading-hex}

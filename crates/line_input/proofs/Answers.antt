@@ -56,16 +56,6 @@ module _ (text : List ℕ) where
         (rw (e .0) at u)
         (rw (e .0) at f)
 
-    -- a reception is a line that has ended
-    pub ok-ended : r .ok ≡ true → r .used ≡ 0 → ⊥
-    ok-ended f u =
-        by-cases text (λ x. lineOf x .ok ≡ true → lineOf x .used ≡ 0 → ⊥)
-        (λ h g v. false≢true g)
-        (λ h q g v. false≢true g)
-        (λ t bs h q g v. omega arith)
-        (rw (e .0) at f)
-        (rw (e .0) at u)
-
     pub said-reception : r .ok ≡ true → readingOf (take (indexOf newline text) text) ≡ reception (r .time) (take (r .len) bytes)
     said-reception f =
         rw (e .0, e .1)

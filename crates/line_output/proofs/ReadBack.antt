@@ -8,7 +8,7 @@ use native.Mathlib.Nat.{add-mul, mul-assoc, pow-suc, pow-succ', pow-le-pow-right
 use lib.Dec.{T, eqb, leb, ltb, eqb→eq, ltb→lt, lit<}
 use lib.ListN.{length, take, getD, replicate, length-append}
 use lib.Seq.{take-suc, take-length}
-use borrow.Author.Tests.{lt-ltb, le-ltb, le-leb, leb-true, eq-eqb, ne-eqb, ltb-true, ltb-false, not-true}
+use borrow.Author.Tests.{lt-ltb, le-leb, leb-true, eq-eqb, ne-eqb, ltb-true, ltb-false, not-true}
 use Rattle.lists.specs.Lists.{all}
 use Rattle.lists.proofs.Choice.{both, and-left, and-right}
 use Rattle.lists.proofs.Tests.{and-true, by-test, all-getD}

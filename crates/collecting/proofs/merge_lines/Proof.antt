@@ -4,15 +4,12 @@ use mathlib.Core.Path.{_≡_, refl, _∙_}
 use mathlib.Core.List.{List}
 use Prim.Native.Nat.{ℕ, _+_, _-_, _*_, _^_, _<_, _≤_}
 use native.Mathlib.Omega.{arith}
-use native.Mathlib.Nat.{sub-zero}
 use borrow.Author.Needs.{needs}
 use borrow.Author.Tests.{not-true, not-false}
 use denote.Ref.{now}
 use lib.ListN.{length, take, drop, length-take, length-drop}
 use lib.Seq.{length-take-le}
 use Rattle.bytes.specs.Bytes.{indexOf}
-use Rattle.model.specs.View.{View}
-use Rattle.model.specs.Step.{Outcome}
 use Rattle.collector.specs.Admission.{viewIn, admittedOf}
 use Rattle.collector.proofs.Stepping.{admission-fit}
 use Rattle.line_input.specs.Ascii.{newline}

@@ -33,7 +33,6 @@ returns c =
     let e : l .least .result ≡ min (s .len) 21 = l .least .ensures in
     let z : l .least .result - 0 ≡ min (s .len) 21 = omega arith in
     let n : min (s .len) 21 ≤ 21 = omega arith in
-    let k = length-take (min (s .len) 21) (s .bytes) in
     let w = rw (r .row-of .ensures, z, front-bytes (s .len) 21 (s .bytes) (omega arith)) at (if-fits (omega arith) (q .put-row .ensures)) in
     within w (omega (arith, length-take (s .len) (s .bytes)))
 
