@@ -1,6 +1,7 @@
 //! Receptions taken one after the other: the proved collector, by value and with the test of its state at each call (`take`), and in
 //! place with none (`admit`), against a hand-written one that is changed in place and trusts its state.
 use crate::{report, time, Random};
+use collect_rust::hash::{hash, sum};
 use std::hint::black_box;
 
 // A slice passes as a pointer and a length. Nothing checks this line against the Rattle source.
@@ -42,18 +43,6 @@ enum Answer {
     Copy,
     Loose,
     Refused,
-}
-
-fn sum(bytes: &[u8]) -> u8 {
-    bytes.iter().fold(0, |sum: u8, b| sum.wrapping_add(*b))
-}
-
-fn hash(body: &[u8]) -> u8 {
-    if body[body.len() - 1] & 0x80 != 0 {
-        crate::crc8::by_hand(body)
-    } else {
-        sum(body)
-    }
 }
 
 fn is_valid(s: &[u8]) -> bool {

@@ -19,17 +19,20 @@ const fn remainders() -> [u8; 256] {
     table
 }
 
-fn sum(bytes: &[u8]) -> u8 {
+#[inline]
+pub fn sum(bytes: &[u8]) -> u8 {
     bytes.iter().fold(0, |sum, &byte| sum.wrapping_add(byte))
 }
 
-fn crc(bytes: &[u8]) -> u8 {
+#[inline]
+pub fn crc(bytes: &[u8]) -> u8 {
     bytes
         .iter()
         .fold(0, |crc, &byte| REMAINDERS[usize::from(crc ^ byte)])
 }
 
 /// The HASH that goes with these bytes, the last of which is STATUS.
+#[inline]
 pub fn hash(bytes: &[u8]) -> u8 {
     match bytes.last() {
         Some(status) if status & 0x80 != 0 => crc(bytes),

@@ -7,7 +7,7 @@ use native.Mathlib.Omega.{arith}
 use lib.Dec.{eqb, leb}
 use borrow.Author.Tests.{leb-true, leb-false}
 use lib.ListN.{length, take, set, length-take, length-append}
-use lib.Seq.{take-nil, take-all, take-append-le, take-suc-set, length-take-le, length-sets}
+use lib.Seq.{take-nil, take-all, take-append-le, take-suc-set, length-take-le}
 use Rattle.model.specs.View.{View}
 use Rattle.line_input.specs.Ascii.{newline}
 use Rattle.line_input.specs.Reading.{lineLimit}
@@ -21,6 +21,7 @@ use Rattle.streams.proofs.Segments.{Drained, none, more, feed-open, open-front}
 use Rattle.collecting.specs.declared.Progress.{Progress}
 use Rattle.collecting.specs.Session.{merging, phaseOf, longestLine, longestEnd, Ran}
 use Rattle.collecting.specs.Program.{longestFinish, Kept}
+use Rattle.collecting.proofs.Taking.{same-length}
 
 end-short : (s : Phase View) → longestEnd s ≤ longestTotals
 end-short starting = omega arith
@@ -92,7 +93,7 @@ module _ (s : Phase View) (l : List ℕ) (o : isOpen l ≡ true) (full : 0 < len
       → PrintedIfFits out₁ (p .written) (longestEnd (phaseOf (p .session))) (endOf merging (phaseOf (p .session))) out₂ n
       → Printed out 0 (phaseText merging s l ++ endOf merging (nextPhase merging s l)) longestFinish out₂ n
   then-end few room q =
-      let same : length out₁ ≡ length out = ap length (text-taken .bytes) ∙ simp length-sets in
+      let same = same-length text-taken in
       let short = end-short (phaseOf (p .session)) in
       let used = all-used in
       let w = r .short in

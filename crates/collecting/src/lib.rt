@@ -214,7 +214,7 @@ fn later_lines(c: Collector, input: &[u8], out: &mut [u8]) -> Progress
     }
 }
 
-// The state is changed where it lies, in its lent arrays and the summary: each copy of it would cost as much as a line.
+// The state is changed where it lies, in its lent arrays and the summary.
 fn merge_lines<'a>(
     fit: bool,
     times: &'a mut [u64; Collector::CAPACITY],
@@ -228,7 +228,7 @@ fn merge_lines<'a>(
     ensures { λ r. ⌜ RanTo (running (viewIn (now (times .entry)) (now (lens .entry)) (now (entries .entry)) summary)) (now (input .entry)) (now (out .entry)) (now (out .exit)) (running (viewIn (now (times .exit)) (now (lens .exit)) (now (entries .exit)) (r .summary))) (r .used) (r .written) ⌝ }
 {
     let mut summary = summary;
-    let mut bytes = [0u8; 64];
+    let mut bytes = [0u8; line_input::MAX_BYTES];
     let mut at = 0;
     let mut to = 0;
     while LONGEST <= out.len() - to {

@@ -41,7 +41,7 @@ pub struct Admitted {
 }
 
 // Takes one reception at a state that is changed where it lies: its three arrays are lent. `fit` is what the test of the state said, so that a run
-// of receptions pays for it once; where it is false, or the entries or totals could not be counted on, the answer is 11 and nothing is changed.
+// of receptions pays for it once; where it is false, over 64 entries are counted or the totals do not add up, the answer is 11 and nothing is changed.
 // Each step decides by the answer. A refused reception leaves the latest time, at which every entry of an acceptable state is open.
 pub fn admit<'a>(
     fit: bool,

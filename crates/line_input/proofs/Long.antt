@@ -18,11 +18,11 @@ use Rattle.line_input.specs.Reading.{reception, bad, readingOf, levelLin
 use Rattle.line_input.specs.declared.Setting.{Setting}
 use Rattle.line_input.proofs.Pairs.{too-long}
 
--- a first digit other than 0 is worth the power of ten of its place
-long-value : (c : ℕ) (s : List ℕ) → 49 ≤ c → 19 < length s → 2 ^ 64 ≤ decimalOf (c ∷ s)
+-- a first digit other than 0 is worth the power of ten of its place, and so of every place behind it
+pub first-value : (c : ℕ) (s : List ℕ) (i : ℕ) → 49 ≤ c → i ≤ length s → 10 ^ i ≤ decimalOf (c ∷ s)
 unfolding decimalOf
-long-value c s h k =
-    let p : 10 ^ 20 ≤ 10 ^ length s = pow-le-pow-right (lit< tt) {i = 20} {j = length s} k in
+first-value c s i h k =
+    let p : 10 ^ i ≤ 10 ^ length s = pow-le-pow-right (lit< tt) {i = i} {j = length s} k in
     omega (arith, p, mul-le-mul-right {m = 1} {n = c - 48} (10 ^ length s) (omega arith), one-mul (10 ^ length s))
 
 pub long-time : (s : List ℕ) → 20 < length s → isTime s ≡ false
@@ -39,8 +39,8 @@ long-time (c ∷ d ∷ s) h = go (eqb c digit0) refl (leb digit0 c) refl
     go true p u q = rw (and-false some)
     go false p false q = and-false (some && true)
     go false p true q =
-        let big = long-value c (d ∷ s) (omega (arith, eqb-false c 48 p, leb-true 48 c q)) (omega arith) in
-        rw (le-ltb (decimalOf (c ∷ d ∷ s)) (2 ^ 64) big, and-false (ltb c 58 && all isDigit (d ∷ s)), and-false (some && true))
+        let big = first-value c (d ∷ s) 20 (omega (arith, eqb-false c 48 p, leb-true 48 c q)) (omega arith) in
+        rw (le-ltb (decimalOf (c ∷ d ∷ s)) (2 ^ 64) (omega (arith, big)), and-false (ltb c 58 && all isDigit (d ∷ s)), and-false (some && true))
 
 pub long-line : (l : List ℕ) → lineLimit ≤ length l → readingOf l ≡ bad
 unfolding readingOf

@@ -8,6 +8,10 @@ use lib.ListN.{length}
 use Rattle.lists.specs.Lists.{all, padded}
 use Rattle.line_input.specs.Ascii.{digit0, upperA, lowerA, isAmong}
 
+-- the most bytes that a line says
+abbrev pub maxBytes : ℕ
+maxBytes = 64
+
 -- the value of a hexadecimal digit in either case; 16 of any other character
 unfoldable pub nibbleOf : ℕ → ℕ
 nibbleOf c =
@@ -21,7 +25,7 @@ isHexDigit c = ltb (nibbleOf c) 16
 
 -- 0 to 64 bytes of two digits each
 unfoldable pub isHex : List ℕ → Bool
-isHex s = leb (length s) (2 * 64) && eqb (length s % 2) 0 && all isHexDigit s
+isHex s = leb (length s) (2 * maxBytes) && eqb (length s % 2) 0 && all isHexDigit s
 
 -- the bytes that pairs of digits say, the high digit first
 unfoldable pub bytesOf : List ℕ → List ℕ
@@ -36,7 +40,7 @@ leadingBytes (suc n) [] = []
 leadingBytes (suc n) (a ∷ []) = []
 leadingBytes (suc n) (a ∷ b ∷ s) = cond (isHexDigit a && isHexDigit b) ((nibbleOf a * 16 + nibbleOf b) ∷ leadingBytes n s) []
 
--- the pairs at the front of s were read into 64 bytes, zero filled
+-- the pairs at the front of s were read into an array, zero filled
 pub record Decoded (s bytes : List ℕ) (r : ℕ) : Type 0 where
-  pub answer : r ≡ length (leadingBytes 64 s)
-  pub written : bytes ≡ padded 64 (leadingBytes 64 s)
+  pub answer : r ≡ length (leadingBytes maxBytes s)
+  pub written : bytes ≡ padded maxBytes (leadingBytes maxBytes s)

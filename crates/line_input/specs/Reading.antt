@@ -8,7 +8,7 @@ use Rattle.bytes.specs.Bytes.{indexOf}
 use Rattle.lists.specs.Lists.{equal, padded}
 use Rattle.line_input.specs.Ascii.{newline, space, digit0}
 use Rattle.line_input.specs.Decimal.{decimalOf, isTime}
-use Rattle.line_input.specs.Hex.{bytesOf, isHex}
+use Rattle.line_input.specs.Hex.{maxBytes, bytesOf, isHex}
 use Rattle.line_input.specs.declared.Setting.{Setting}
 use Rattle.line_input.specs.declared.Line.{Line}
 
@@ -68,8 +68,8 @@ lineOf (ended n (reception t bs)) = record { ok = true; time = t; len = length b
 lineOf (ended n bad) = record { ok = false; time = 0; len = 0; used = n + 1 }
 lineOf unended = record { ok = false; time = 0; len = 0; used = 0 }
 
--- the bytes that are written beside it: those of the reception in 64, zero filled
+-- the bytes that are written beside it: those of the reception, zero filled to the most there are
 abbrev pub bytesIn : Front → List ℕ
-bytesIn (ended n (reception t bs)) = padded 64 bs
-bytesIn (ended n bad) = replicate 64 0
-bytesIn unended = replicate 64 0
+bytesIn (ended n (reception t bs)) = padded maxBytes bs
+bytesIn (ended n bad) = replicate maxBytes 0
+bytesIn unended = replicate maxBytes 0

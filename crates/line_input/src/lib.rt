@@ -5,7 +5,7 @@ ghost use Prim.Native.Nat.{_/_, min};
 ghost use lib.ListN.{replicate};
 ghost use Rattle.lists.specs.Lists.{isTableOf};
 ghost use Rattle.line_input.specs.Decimal.{appended, timedOf};
-ghost use Rattle.line_input.specs.Hex.{nibbleOf, Decoded};
+ghost use Rattle.line_input.specs.Hex.{maxBytes, nibbleOf, Decoded};
 ghost use Rattle.line_input.specs.Reading.{settingOf, frontOf, badFront, lineOf, bytesIn};
 
 // What the first line says.
@@ -22,6 +22,11 @@ pub struct Line {
     pub len: usize,
     pub used: usize,
 }
+
+// The most bytes that a line says, and the digits that say them.
+pub const MAX_BYTES: usize = 64;
+
+const MAX_DIGITS: usize = 2 * MAX_BYTES;
 
 // A line this long is BAD, whatever else it has.
 pub const LINE_LIMIT: usize = 150;
@@ -321,7 +326,7 @@ pub fn parse_setting(line: &[u8]) -> Setting
 }
 
 // The reception that the line at the start of a text says, its bytes at the front of `bytes`, zero filled.
-pub fn parse(text: &[u8], bytes: &mut [u8; 64]) -> Line
+pub fn parse(text: &[u8], bytes: &mut [u8; MAX_BYTES]) -> Line
     ensures { λ r. ⌜ (r ≡ lineOf (frontOf (now (text .entry)))) × (now (bytes .exit) ≡ bytesIn (frontOf (now (text .entry)))) ⌝ }
 {
     let Timed::At(time, digits) = parse_time(text) else {
@@ -346,10 +351,10 @@ pub fn parse(text: &[u8], bytes: &mut [u8; 64]) -> Line
 }
 
 // The answer for a line that says no reception.
-fn bad_line(text: &[u8], bytes: &mut [u8; 64]) -> Line
-    ensures { λ r. ⌜ (r ≡ lineOf (badFront (now (text .entry)))) × (now (bytes .exit) ≡ replicate 64 0) ⌝ }
+fn bad_line(text: &[u8], bytes: &mut [u8; MAX_BYTES]) -> Line
+    ensures { λ r. ⌜ (r ≡ lineOf (badFront (now (text .entry)))) × (now (bytes .exit) ≡ replicate maxBytes 0) ⌝ }
 {
-    *bytes = [0u8; 64];
+    *bytes = [0u8; MAX_BYTES];
     let end = text.len();
     let n = bytes::scan::find(text, 0, end, 10);
     if end <= n {
@@ -414,12 +419,12 @@ fn append(n: u64, c: u8) -> Number
     Number::Value(m + d)
 }
 
-// Writes the bytes of the pairs of digits at the front of s to the front of `bytes`, up to 64, and answers how many they are.
+// Writes the bytes of the pairs of digits at the front of s to the front of `bytes`, MAX_BYTES at most, and answers how many they are.
 // The table is named once: a constant array is built anew wherever it is named.
-fn decode(s: &[u8], bytes: &mut [u8; 64]) -> usize
+fn decode(s: &[u8], bytes: &mut [u8; MAX_BYTES]) -> usize
     ensures { λ r. ⌜ Decoded (now (s .entry)) (now (bytes .exit)) r ⌝ }
 {
-    *bytes = [0u8; 64];
+    *bytes = [0u8; MAX_BYTES];
     let table = NIBBLES;
     let limit = pairs_of(s.len());
     let mut i = 0;
@@ -436,14 +441,14 @@ fn decode(s: &[u8], bytes: &mut [u8; 64]) -> usize
     i
 }
 
-// How many pairs n characters are, 64 at most.
+// How many pairs n characters are, MAX_BYTES at most.
 fn pairs_of(n: usize) -> usize
-    ensures { λ r. ⌜ r ≡ min (n / 2) 64 ⌝ }
+    ensures { λ r. ⌜ r ≡ min (n / 2) maxBytes ⌝ }
 {
-    if n < 128 {
+    if n < MAX_DIGITS {
         return n / 2;
     }
-    64
+    MAX_BYTES
 }
 
 // The value of c as a hexadecimal digit, or 16.

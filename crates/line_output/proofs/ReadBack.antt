@@ -4,21 +4,21 @@ use mathlib.Core.Bool.{Bool, true, false, cond, not, _&&_, and-false, false≢tr
 use mathlib.Core.List.{List, [], _∷_, _++_}
 use Prim.Native.Nat.{ℕ, zero, suc, _+_, _-_, _*_, _/_, _%_, _^_, _<_, _≤_}
 use native.Mathlib.Omega.{arith}
-use native.Mathlib.Nat.{add-mul, mul-assoc, pow-suc, pow-succ', pow-le-pow-right, mul-le-mul-right, one-mul, mul-one}
-use lib.Dec.{T, eqb, leb, ltb, eqb→eq, ltb→lt, lit<}
+use native.Mathlib.Nat.{add-mul, mul-assoc, pow-suc, pow-succ', mul-one}
+use lib.Dec.{T, eqb, leb, ltb, eqb→eq, ltb→lt}
 use lib.ListN.{length, take, getD, replicate, length-append}
 use lib.Seq.{take-suc, take-length}
 use borrow.Author.Tests.{lt-ltb, le-leb, leb-true, eq-eqb, ne-eqb, ltb-true, ltb-false, not-true}
 use Rattle.lists.specs.Lists.{all}
 use Rattle.lists.proofs.Choice.{both, and-left, and-right}
-use Rattle.lists.proofs.Tests.{and-true, by-test, all-getD}
+use Rattle.lists.proofs.Tests.{and-true, by-test, all-last, all-getD}
 use Rattle.lists.proofs.Table.{at}
 use Rattle.line_input.specs.Ascii.{space}
 use Rattle.line_input.specs.Decimal.{isDigit, decimalOf, hasLeadingZero, isNumber, isTime}
 use Rattle.line_input.specs.Hex.{nibbleOf, isHexDigit, isHex, bytesOf}
 use Rattle.line_input.specs.Reading.{reception, readingOf}
 use Rattle.line_input.proofs.Digits.{leading-zero}
-use Rattle.line_input.proofs.Long.{long-time}
+use Rattle.line_input.proofs.Long.{first-value, long-time}
 use Rattle.line_input.proofs.Whole.{joined}
 use Rattle.line_output.specs.Text.{digitsOf, decimalText, hexDigitOf, hexText}
 use Rattle.line_output.proofs.Digits.{one-digit, several-digits}
@@ -28,14 +28,6 @@ use Rattle.line_output.proofs.Stores.{hex-length}
 
 is-digit : (d : ℕ) → d < 10 → isDigit (48 + d) ≡ true
 is-digit d h = rw (le-leb 48 (48 + d) (omega arith), lt-ltb (48 + d) 58 (omega arith))
-
-all-snoc : (s : List ℕ) (c : ℕ) → all isDigit s ≡ true → isDigit c ≡ true → all isDigit (s ++ (c ∷ [])) ≡ true
-all-snoc [] c e f = rw f
-all-snoc (x ∷ s) c e f = go (isDigit x) e (λ h. all-snoc s c h f)
-  where
-    go : (t : Bool) → t && all isDigit s ≡ true → (all isDigit s ≡ true → all isDigit (s ++ (c ∷ [])) ≡ true) → t && all isDigit (s ++ (c ∷ [])) ≡ true
-    go true e ih = ih e
-    go false e ih = e
 
 decimal-snoc : (s : List ℕ) (c : ℕ) → decimalOf (s ++ (c ∷ [])) ≡ decimalOf s * 10 + (c - 48)
 unfolding decimalOf
@@ -72,7 +64,7 @@ spelled-one n h =
 spelled-more : (n : ℕ) (s : List ℕ) → 10 ≤ n → Spelled (n / 10) s → Spelled n (s ++ ((48 + n % 10) ∷ []))
 spelled-more n s h w =
     record {
-      digits = all-snoc s (48 + n % 10) (w .digits) (is-digit (n % 10) (omega arith));
+      digits = all-last isDigit s (48 + n % 10) (w .digits) (is-digit (n % 10) (omega arith));
       value = decimal-snoc s (48 + n % 10) ∙ rw (w .value) (omega arith);
       some = simp length-append (omega arith);
       first = λ p e. w .first (omega arith) (sym (first-snoc s (48 + n % 10) (w .some)) ∙ e);
@@ -113,13 +105,6 @@ one-value : (d : ℕ) → decimalOf (d ∷ []) ≡ d - 48
 unfolding decimalOf
 one-value d = omega (arith, mul-one (d - 48))
 
--- the value of digits of which the first is not 0
-some-value : (d : ℕ) (s : List ℕ) → 49 ≤ d → 1 ≤ decimalOf (d ∷ s)
-unfolding decimalOf
-some-value d s h =
-    let p : 10 ^ 0 ≤ 10 ^ length s = pow-le-pow-right (lit< tt) {i = 0} {j = length s} (omega arith) in
-    omega (arith, p, mul-le-mul-right {m = 1} {n = d - 48} (10 ^ length s) (omega arith), one-mul (10 ^ length s))
-
 -- digits, the first of several not 0
 module _ (f : ℕ) (r : List ℕ) (digits : all isDigit (f ∷ r) ≡ true) (first : 0 < length r → f ≡ 48 → ⊥) where
   abbrev whole : List ℕ
@@ -143,7 +128,7 @@ module _ (f : ℕ) (r : List ℕ) (digits : all isDigit (f ∷ r) ≡ true) (fir
       let n = m * 10 + (c - 48) in
       let d = digit-at (suc j) h in
       let more : take (suc (suc j)) whole ≡ take (suc j) whole ++ (c ∷ []) = take-suc whole (suc j) 0 h in
-      let some : 1 ≤ m = some-value f (take j r) (omega (arith, digit-at 0 (omega arith) .0, first (omega arith))) in
+      let some : 1 ≤ m = first-value f (take j r) 0 (omega (arith, digit-at 0 (omega arith) .0, first (omega arith))) (omega arith) in
       let tenth : n / 10 ≡ m = omega (arith, d .0, d .1) in
       let last : 48 + n % 10 ≡ c = omega (arith, d .0, d .1) in
       ap (digitsOf (suc (suc k))) (ap decimalOf more ∙ decimal-snoc (take (suc j) whole) c)
