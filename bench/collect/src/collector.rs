@@ -12,10 +12,11 @@ const MIN_ADDRESSED_LEN: usize = 13;
 const ADDRESSED: u8 = 0xA6;
 
 const LENGTH: u8 = 1;
-const HASH: u8 = 2;
+const SUM: u8 = 2;
 const NESTED: u8 = 3;
 const CLOCK: u8 = 7;
 const FULL: u8 = 8;
+const CRC: u8 = 13;
 
 pub enum Answer {
     /// Kept, and the reception's bytes are now those to send.
@@ -129,7 +130,7 @@ fn refusal(bytes: &[u8]) -> Option<u8> {
         return Some(LENGTH);
     }
     if bytes[n - 1] != hash(&bytes[..n - 1]) {
-        return Some(HASH);
+        return Some(if bytes[n - 2] & 0x80 == 0 { SUM } else { CRC });
     }
     if bytes[0] != ADDRESSED {
         return None;

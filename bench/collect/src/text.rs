@@ -104,7 +104,8 @@ pub fn row(out: &mut Vec<u8>, time: u64, answer: &Answer, bytes: &[u8]) {
         Answer::Loose => out.extend_from_slice(b" LOOSE\n"),
         Answer::Refused(refusal) => {
             out.extend_from_slice(b" REFUSED ");
-            out.extend_from_slice(&[b'0' + refusal, b'\n']);
+            number(out, u64::from(*refusal));
+            out.push(b'\n');
         }
     }
 }

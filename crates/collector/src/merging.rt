@@ -256,8 +256,9 @@ fn is_damaged(answer: Answer) -> bool
 {
     let number = number_of(answer);
     (number == refusal::number(Refusal::Length))
-        | ((number == refusal::number(Refusal::Hash))
-            | (number == refusal::number(Refusal::Nested)))
+        | ((number == refusal::number(Refusal::Sum))
+            | ((number == refusal::number(Refusal::Crc))
+                | (number == refusal::number(Refusal::Nested))))
 }
 
 fn is_late(answer: Answer) -> bool

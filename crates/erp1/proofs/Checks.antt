@@ -11,12 +11,12 @@ use borrow.Author.Tests.{lt-ltb, le-ltb, eq-eqb, ne-eqb, ltb-false, eqb-true, eq
 use Rattle.lists.proofs.Choice.{cond-no, neither}
 use Rattle.refusal.specs.Number.{numberOf}
 use Rattle.refusal.specs.declared.Refusal.{Refusal}
-use Rattle.refusal.specs.declared.Refusal.the-variants.{Length, Hash, Nested}
+use Rattle.refusal.specs.declared.Refusal.the-variants.{Length, Nested}
 use Rattle.refusal.proofs.Numbers.{refused-number}
 use Rattle.crc8.specs.Crc8.{crcOf}
 use Rattle.erp1.specs.declared.Checked.{Checked}
 use Rattle.erp1.specs.declared.Checked.the-variants.{Valid, Refused}
-use Rattle.erp1.specs.Subtelegram.{minLength, maxLength, minAddressedLength, addressed, sumOf, lastOf, bodyOf, statusOf, hashOf, isAddressed, isNested, checkOf, isValid, checkedNumber}
+use Rattle.erp1.specs.Subtelegram.{minLength, maxLength, minAddressedLength, addressed, sumOf, lastOf, bodyOf, statusOf, hashOf, wrongHash, isAddressed, isNested, checkOf, isValid, checkedNumber}
 
 -- ---- the two hashes
 
@@ -69,9 +69,9 @@ module _ (s : List ℕ) where
   check-long h = simp (le-ltb (length s) minLength (omega arith), lt-ltb _ _ h)
 
   module _ (low : minLength ≤ length s) (high : length s ≤ maxLength) where
-    pub check-hash : (lastOf s ≡ hashOf (bodyOf s) → ⊥) → numberOf Hash ≡ checkOf s
+    pub check-hash : (lastOf s ≡ hashOf (bodyOf s) → ⊥) → numberOf (wrongHash (getD s (length s - 2) 0)) ≡ checkOf s
     unfolding checkOf
-    check-hash h = simp (le-ltb _ _ low, le-ltb _ _ high, ne-eqb _ _ h)
+    check-hash h = rw (← status-at s (omega arith)) (simp (le-ltb _ _ low, le-ltb _ _ high, ne-eqb _ _ h))
 
     module _ (hashed : lastOf s ≡ hashOf (bodyOf s)) where
       pub check-plain : (getD s 0 0 ≡ addressed → ⊥) → 0 ≡ checkOf s
@@ -95,7 +95,7 @@ pub check-facts : (s : List ℕ) → checkOf s ≡ 0 → Sound s
 unfolding checkOf
 check-facts s e =
     let p = cond-no _ (refused-number Length) e in
-    let q = cond-no _ (refused-number Hash) (p .1) in
+    let q = cond-no _ (refused-number (wrongHash (statusOf s))) (p .1) in
     let r = cond-no _ (refused-number Length) (q .1) in
     let u = cond-no _ (refused-number Nested) (r .1) in
     let l = neither (ltb (length s) minLength) (ltb maxLength (length s)) (p .0) in

@@ -5,7 +5,8 @@ use mathlib.Core.List.{List, [], _∷_, _++_}
 use lib.Dec.{ltb, eqb}
 use lib.ListN.{length, getD, take}
 use Rattle.refusal.specs.Number.{numberOf}
-use Rattle.refusal.specs.declared.Refusal.the-variants.{Length, Hash, Nested}
+use Rattle.refusal.specs.declared.Refusal.{Refusal}
+use Rattle.refusal.specs.declared.Refusal.the-variants.{Length, Sum, Crc, Nested}
 use Rattle.crc8.specs.Crc8.{crcOf}
 use Rattle.erp1.specs.declared.Checked.{Checked}
 use Rattle.erp1.specs.declared.Checked.the-variants.{Valid, Refused}
@@ -64,11 +65,15 @@ isAddressed s = eqb (getD s 0 0) addressed
 abbrev pub isNested : List ℕ → Bool
 isNested s = eqb (getD s 1 0) addressed
 
+-- which hash is wrong (document 02, A3): the one that STATUS selects
+abbrev pub wrongHash : ℕ → Refusal
+wrongHash status = cond (splitOf status .crc) Crc Sum
+
 -- document 01's number, in its order of tests; 0 is valid
 unfoldable pub checkOf : List ℕ → ℕ
 checkOf s =
     cond (isLengthWrong s) (numberOf Length)
-    (cond (not (isHashed s)) (numberOf Hash)
+    (cond (not (isHashed s)) (numberOf (wrongHash (statusOf s)))
     (cond (isAddressed s && ltb (length s) minAddressedLength) (numberOf Length)
     (cond (isAddressed s && isNested s) (numberOf Nested)
     0)))

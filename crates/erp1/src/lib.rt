@@ -6,7 +6,7 @@ ghost use mathlib.Core.Path.{_≡_};
 ghost use Prim.Native.Nat.{_≤_, _%_};
 ghost use lib.ListN.{length, take};
 ghost use Rattle.lists.specs.Lists.{equal};
-ghost use Rattle.erp1.specs.Subtelegram.{sumOf, hashOf, checkOf, checkedNumber};
+ghost use Rattle.erp1.specs.Subtelegram.{sumOf, hashOf, wrongHash, checkOf, checkedNumber};
 ghost use Rattle.erp1.specs.Same.{isSame};
 
 // The house limits: the whole length of a subtelegram, and of an addressed one.
@@ -38,7 +38,7 @@ pub fn check(bytes: &[u8]) -> Checked
     }
     let last = n - 1;
     if bytes[last] != hash(&bytes[..last]) {
-        return Checked::Refused(Refusal::Hash);
+        return Checked::Refused(wrong_hash(bytes[n - 2]));
     }
     if bytes[0] != ADDRESSED {
         return Checked::Valid;
@@ -50,6 +50,17 @@ pub fn check(bytes: &[u8]) -> Checked
         return Checked::Refused(Refusal::Nested);
     }
     Checked::Valid
+}
+
+// Why a wrong HASH is refused: STATUS selects the hash.
+fn wrong_hash(status: u8) -> Refusal
+    ensures { λ r. ⌜ r ≡ wrongHash status ⌝ }
+{
+    let parts = status::split(status);
+    if parts.crc {
+        return Refusal::Crc;
+    }
+    Refusal::Sum
 }
 
 // HASH over `body`, all the bytes before it. The last of them is STATUS, which selects the hash. Of no bytes it is 0.

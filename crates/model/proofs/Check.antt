@@ -1,4 +1,4 @@
--- What the check's number tells: a valid subtelegram has at most 21 bytes, and one that is not has 1, 2 or 3. Assumes nothing.
+-- What the check's number tells: a valid subtelegram has at most 21 bytes, and one that is not has 1, 2, 3 or 13. Assumes nothing.
 use Prim.Native.Nat.{ℕ, _≤_}
 use mathlib.Core.Path.{_≡_, refl, sym}
 use mathlib.Core.Bool.{Bool, true, false, cond, not, _&&_, _||_, false≢true}
@@ -8,8 +8,10 @@ use lib.ListN.{length}
 use borrow.Author.Tests.{ltb-false}
 use Rattle.lists.proofs.Tests.{branch}
 use Rattle.refusal.specs.Number.{numberOf}
-use Rattle.refusal.specs.declared.Refusal.the-variants.{Length, Hash, Nested}
-use Rattle.erp1.specs.Subtelegram.{minLength, minAddressedLength, maxLength, isLengthWrong, isHashed, isAddressed, isNested, checkOf, isValid}
+use Rattle.refusal.specs.declared.Refusal.the-variants.{Length, Sum, Crc, Nested}
+use Rattle.refusal.specs.declared.Refusal.{Refusal}
+use Rattle.erp1.specs.Status.{splitOf}
+use Rattle.erp1.specs.Subtelegram.{minLength, minAddressedLength, maxLength, isLengthWrong, isHashed, isAddressed, isNested, statusOf, checkOf, isValid}
 
 pub valid-length : (s : List ℕ) → isValid s ≡ true → length s ≤ maxLength
 unfolding checkOf
@@ -23,14 +25,15 @@ valid-length s e = ltb-false maxLength (length s) (go (ltb (length s) minLength)
 -- the numbers of a check that fails
 pub data Failed : ℕ → Type 0 where
   length-wrong : Failed (numberOf Length)
-  hash-wrong : Failed (numberOf Hash)
+  sum-wrong : Failed (numberOf Sum)
+  crc-wrong : Failed (numberOf Crc)
   nested : Failed (numberOf Nested)
 
 pub check-failed : (s : List ℕ) → isValid s ≡ false → Failed (checkOf s)
 unfolding checkOf
 check-failed s =
     branch (λ n. eqb n 0 ≡ false → Failed n) (isLengthWrong s) (λ _ _. length-wrong)
-    λ _. branch (λ n. eqb n 0 ≡ false → Failed n) (not (isHashed s)) (λ _ _. hash-wrong)
+    λ _. branch (λ n. eqb n 0 ≡ false → Failed n) (not (isHashed s)) (λ _ _. branch (λ (why : Refusal). Failed (numberOf why)) (splitOf (statusOf s) .crc) (λ _. crc-wrong) (λ _. sum-wrong))
     λ _. branch (λ n. eqb n 0 ≡ false → Failed n) (isAddressed s && ltb (length s) minAddressedLength) (λ _ _. length-wrong)
     λ _. branch (λ n. eqb n 0 ≡ false → Failed n) (isAddressed s && isNested s) (λ _ _. nested)
     λ _ h. absurd (false≢true (sym h))

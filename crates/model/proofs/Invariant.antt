@@ -21,7 +21,7 @@ use Rattle.model.specs.View.{Reception, View, maturity, capacity, maxSet
 use Rattle.model.specs.Acceptable.{isCopyOf, isEntry, mayFollow, isSummed, acceptable}
 use Rattle.model.specs.Exact.{Fits}
 use Rattle.model.specs.Step.{maxCount, isKnown, isCrowded, classify, advance}
-use Rattle.model.proofs.Check.{Failed, length-wrong, hash-wrong, nested, check-failed}
+use Rattle.model.proofs.Check.{Failed, length-wrong, sum-wrong, crc-wrong, nested, check-failed}
 
 -- totals over that many entries
 pub record GoodTotals (n : Totals) (used : ℕ) : Type 0 where
@@ -154,7 +154,8 @@ module _ (v : View) (r : Reception) where
     good-advance unacceptable = g
     good-advance full = g
     good-advance (damaged length-wrong m) = record { setting = g .setting; entries = g .entries; totals = omega arith }
-    good-advance (damaged hash-wrong m) = record { setting = g .setting; entries = g .entries; totals = omega arith }
+    good-advance (damaged sum-wrong m) = record { setting = g .setting; entries = g .entries; totals = omega arith }
+    good-advance (damaged crc-wrong m) = record { setting = g .setting; entries = g .entries; totals = omega arith }
     good-advance (damaged nested m) = record { setting = g .setting; entries = g .entries; totals = omega arith }
     good-advance (late m) = record { setting = g .setting; entries = g .entries; totals = omega arith }
     good-advance (copy m t) = record {

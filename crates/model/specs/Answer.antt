@@ -45,12 +45,13 @@ isLoose Copy = false
 isLoose Loose = true
 isLoose (Refused n) = false
 
--- "the check (1, 2, 3), counted DAMAGED"
+-- "the check (1, 2, 3), counted DAMAGED", and 13 (document 02, A3: "Damaged stays one total")
 abbrev pub isDamaged : Shown → Bool
 isDamaged a =
     eqb (shownNumber a) (numberOf refusal.Length)
-    || (eqb (shownNumber a) (numberOf refusal.Hash)
-    || eqb (shownNumber a) (numberOf refusal.Nested))
+    || (eqb (shownNumber a) (numberOf refusal.Sum)
+    || (eqb (shownNumber a) (numberOf refusal.Crc)
+    || eqb (shownNumber a) (numberOf refusal.Nested)))
 
 -- "(7), counted LATE"
 abbrev pub isLate : Shown → Bool

@@ -1,11 +1,11 @@
--- The number of each refusal: the table of document 01, "Numbers a caller sees". Assumes nothing.
+-- The number of each refusal: the table of document 01, "Numbers a caller sees", and 13 of document 02, A3. Assumes nothing.
 use Prim.Native.Nat.{ℕ}
 use Rattle.refusal.specs.declared.Refusal.{Refusal}
-use Rattle.refusal.specs.declared.Refusal.the-variants.{Length, Hash, Nested, NotAddressed, TooLong, ShortOutput, Late, Full, NoPlan, Argument, NotAccepted}
+use Rattle.refusal.specs.declared.Refusal.the-variants.{Length, Sum, Nested, NotAddressed, TooLong, ShortOutput, Late, Full, NoPlan, Argument, NotAccepted, Crc}
 
 abbrev pub numberOf : Refusal → ℕ
 numberOf Length = 1
-numberOf Hash = 2
+numberOf Sum = 2
 numberOf Nested = 3
 numberOf NotAddressed = 4
 numberOf TooLong = 5
@@ -15,3 +15,4 @@ numberOf Full = 8
 numberOf NoPlan = 9
 numberOf Argument = 10
 numberOf NotAccepted = 11
+numberOf Crc = 13

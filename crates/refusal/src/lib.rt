@@ -5,8 +5,8 @@ ghost use Rattle.refusal.specs.Number.{numberOf};
 pub enum Refusal {
     // 1: the length is wrong.
     Length,
-    // 2: HASH is wrong.
-    Hash,
+    // 2: HASH is wrong, the sum.
+    Sum,
     // 3: addressed inside addressed, or encapsulating an addressed one.
     Nested,
     // 4: removal asked of a plain telegram.
@@ -25,6 +25,8 @@ pub enum Refusal {
     Argument,
     // 11: the image or the state is not accepted.
     NotAccepted,
+    // 13: HASH is wrong, the CRC.
+    Crc,
 }
 
 // The number of a refusal.
@@ -33,7 +35,7 @@ pub fn number(r: Refusal) -> u8
 {
     match r {
         Refusal::Length => 1,
-        Refusal::Hash => 2,
+        Refusal::Sum => 2,
         Refusal::Nested => 3,
         Refusal::NotAddressed => 4,
         Refusal::TooLong => 5,
@@ -43,5 +45,6 @@ pub fn number(r: Refusal) -> u8
         Refusal::NoPlan => 9,
         Refusal::Argument => 10,
         Refusal::NotAccepted => 11,
+        Refusal::Crc => 13,
     }
 }

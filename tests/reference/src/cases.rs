@@ -55,6 +55,23 @@ fn valid_by_crc_and_repeated() {
     assert_eq!(repeat(1, &BY_CRC).unwrap()[6..], [0x81, 0xF9]);
 }
 
+/// Document 02, A3: one bit of HASH changed, and the hash that STATUS selects is named.
+#[test]
+fn which_hash_failed() {
+    for (bytes, number) in [(&TELEGRAM[..], 2), (&BY_CRC, 13)] {
+        let mut wrong = bytes.to_vec();
+        *wrong.last_mut().unwrap() ^= 1;
+        let mut output = [0; 28];
+        assert_eq!(check(&wrong), Err(number));
+        assert_eq!(read(&wrong), Err(number));
+        assert_eq!(encapsulate(&wrong, [0; 4], &mut output), Err(number));
+        assert_eq!(decapsulate(&wrong, &mut output), Err(number));
+        let mut clerk = Clerk::new(0);
+        assert_eq!(clerk.take(0, &wrong), (Answer::Refused(number), None));
+        assert_eq!(clerk.totals().text(), "1 0 0 0 1 0");
+    }
+}
+
 #[test]
 fn numbers_of_plans() {
     for (level, duration, count) in [

@@ -203,6 +203,13 @@ fn case_records() -> Vec<Record> {
         let bytes = plain(&mut random, length + 7, Kind::Sum);
         all.push(encapsulate_record(28, &bytes, &DESTINATION));
     }
+    // One bit of HASH changed: 2 for the sum, 13 for the CRC (document 02, A3).
+    for bytes in [&SUM_CASE[..], &ADDRESSED_CASE, &CRC_CASE] {
+        let wrong = hash_bit_wrong(bytes, 0);
+        all.push(read_record(&wrong));
+        all.push(encapsulate_record(28, &wrong, &DESTINATION));
+        all.push(decapsulate_record(28, &wrong));
+    }
     all
 }
 
@@ -622,6 +629,12 @@ mod tests {
         assert!(text[19].starts_with("ENCAPSULATE 0 21 A6"));
         assert!(text[20].starts_with("BUILD 5 0 EE"));
         assert!(text[21].starts_with("ENCAPSULATE 5 0 EE"));
+        for (at, number) in [(22, 2), (25, 2), (28, 13)] {
+            let nothing_read = format!("READ {number} 00 0 00000000 00000000 00 -");
+            assert_eq!(text[at], nothing_read);
+            assert!(text[at + 1].starts_with(&format!("ENCAPSULATE {number} 0 EE")));
+            assert!(text[at + 2].starts_with(&format!("DECAPSULATE {number} 0 EE")));
+        }
     }
 
     #[test]
@@ -642,6 +655,7 @@ mod tests {
             "READ 0",
             "READ 1",
             "READ 2",
+            "READ 13",
             "READ 3",
             "BUILD 0",
             "BUILD 5",
@@ -650,12 +664,14 @@ mod tests {
             "ENCAPSULATE 0",
             "ENCAPSULATE 1",
             "ENCAPSULATE 2",
+            "ENCAPSULATE 13",
             "ENCAPSULATE 3",
             "ENCAPSULATE 5",
             "ENCAPSULATE 6",
             "DECAPSULATE 0",
             "DECAPSULATE 1",
             "DECAPSULATE 2",
+            "DECAPSULATE 13",
             "DECAPSULATE 3",
             "DECAPSULATE 4",
             "DECAPSULATE 6",
@@ -666,7 +682,7 @@ mod tests {
         ] {
             assert!(seen.get(key).is_some_and(|&n| n >= 20), "{key}: {seen:?}");
         }
-        assert_eq!(seen.len(), 25, "{seen:?}");
+        assert_eq!(seen.len(), 28, "{seen:?}");
         println!("{seen:?}");
     }
 

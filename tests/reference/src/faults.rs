@@ -6,7 +6,7 @@ use crate::history::{show, spoil, stdin, stdout, word, Call, Model, SHOWN};
 use crate::image::{self, reload, IMAGE};
 use crate::repeater::repeat;
 use crate::scenarios::{calls, ROOMS};
-use crate::subtelegram::{check, same};
+use crate::subtelegram::{check, same, Refusal, CRC_WRONG, SUM_WRONG};
 use crate::telegrams::at_level;
 use std::collections::BTreeMap;
 
@@ -38,11 +38,19 @@ impl PlainClerk {
         }
     }
 
+    fn check(&self, bytes: &[u8]) -> Result<(), Refusal> {
+        match (self.fault, check(bytes)) {
+            ("2 for every hash", Err(CRC_WRONG)) => Err(SUM_WRONG),
+            ("13 for every hash", Err(SUM_WRONG)) => Err(CRC_WRONG),
+            (_, result) => result,
+        }
+    }
+
     fn answer(&self, time: u64, bytes: &[u8]) -> Answer {
         let answered = |answer: Answer| match (self.fault, answer) {
             ("copies move no clock", Answer::Copy) => false,
             ("loose moves no clock", Answer::Loose) => false,
-            ("damage moves the clock", Answer::Refused(1..=3)) => true,
+            ("damage moves the clock", Answer::Refused(1..=3 | CRC_WRONG)) => true,
             _ => answer.accepted(),
         };
         let late = self
@@ -52,7 +60,7 @@ impl PlainClerk {
         if self.fault == "late before damage" && late {
             return Answer::Refused(7);
         }
-        if let Err(number) = check(bytes) {
+        if let Err(number) = self.check(bytes) {
             return Answer::Refused(number);
         }
         if late {
@@ -120,7 +128,12 @@ impl Model for PlainClerk {
     }
 
     fn totals(&self) -> Totals {
-        totals_of(&self.noted)
+        let mut totals = totals_of(&self.noted);
+        if self.fault == "a wrong CRC is not damage" {
+            let crc_wrong = |n: &&Noted| n.answer == Answer::Refused(CRC_WRONG);
+            totals.damaged -= self.noted.iter().filter(crc_wrong).count() as u64;
+        }
+        totals
     }
 
     fn image(&self) -> Vec<u8> {
@@ -180,6 +193,9 @@ fn faults_are_seen() {
         "65 places",
         "loose before copy",
         "copies repeated",
+        "2 for every hash",
+        "13 for every hash",
+        "a wrong CRC is not damage",
     ] {
         assert!(!agrees(fault), "{fault}");
     }
@@ -404,6 +420,7 @@ fn everything_occurs() {
     for key in ["1", "2", "3"] {
         least(key, 80);
     }
+    least("13", 70);
     for key in [
         "sent at 1",
         "sent at 2",

@@ -152,7 +152,7 @@ impl Maker {
         }
     }
 
-    /// One that the check refuses: by 1, 2 or 3, the outer lengths and short addressed ones too.
+    /// One that the check refuses: by 1, 2, 3 or 13, the outer lengths and short addressed ones too.
     fn damaged(&mut self, pool: &[Vec<u8>]) -> Vec<u8> {
         let random = &mut self.random;
         let kind = random_kind(random);
@@ -481,7 +481,8 @@ impl Maker {
     }
 
     /// Document 01's cases that are run and not proved: first heard at level 2 and the original 5 ms
-    /// later, which is a copy with nothing to send; and lengths 7 and 22.
+    /// later, which is a copy with nothing to send; and lengths 7 and 22. Then the two hashes (document 02,
+    /// A3): a telegram by each with one bit of HASH changed, and one whose STATUS names the other hash.
     fn cases(&mut self) {
         let telegram = [0xD5, 0x09, 0x01, 0x02, 0x03, 0x04, 0x00, 0xE8];
         self.start(2, 10);
@@ -489,6 +490,17 @@ impl Maker {
         self.reception_alone(15, &telegram);
         self.reception_alone(16, &[0; 7]);
         self.reception_alone(16, &[0; 22]);
+        let by_crc = [0xD5, 0x09, 0x01, 0x02, 0x03, 0x04, 0x80, 0xFE];
+        for bytes in [telegram, by_crc] {
+            for bit in 0..8 {
+                let mut wrong = bytes;
+                wrong[7] ^= 1 << bit;
+                self.reception_alone(17, &wrong);
+            }
+            let mut wrong = bytes;
+            wrong[6] ^= 0x80;
+            self.reception_alone(17, &wrong);
+        }
     }
 }
 

@@ -12,7 +12,7 @@ pub const SHORTEST_ADDRESSED: usize = 13;
 pub type Refusal = u8;
 
 pub const LENGTH_WRONG: Refusal = 1;
-pub const HASH_WRONG: Refusal = 2;
+pub const SUM_WRONG: Refusal = 2;
 pub const ADDRESSED_TWICE: Refusal = 3;
 pub const NOT_ADDRESSED: Refusal = 4;
 pub const ADDRESSED_TOO_LONG: Refusal = 5;
@@ -22,6 +22,7 @@ pub const FULL_COUNT: Refusal = 8;
 pub const NO_PLAN: Refusal = 9;
 pub const OUT_OF_RANGE: Refusal = 10;
 pub const NOT_ACCEPTED: Refusal = 11;
+pub const CRC_WRONG: Refusal = 13;
 
 pub fn status(bytes: &[u8]) -> u8 {
     bytes[bytes.len() - 2]
@@ -38,14 +39,15 @@ pub fn renew_hash(bytes: &mut [u8]) {
     bytes[last] = hash(bytes[last - 1], &bytes[..last]);
 }
 
-/// "Order of a check".
+/// "Order of a check"; which hash is wrong (document 02, A3) is said by the selector, STATUS bit 7.
 pub fn check(bytes: &[u8]) -> Result<(), Refusal> {
     let n = bytes.len();
     if !(SHORTEST..=LONGEST).contains(&n) {
         return Err(LENGTH_WRONG);
     }
     if bytes[n - 1] != hash(bytes[n - 2], &bytes[..n - 1]) {
-        return Err(HASH_WRONG);
+        let by_crc = bytes[n - 2] & 0x80 != 0;
+        return Err(if by_crc { CRC_WRONG } else { SUM_WRONG });
     }
     if bytes[0] == ADDRESSED {
         if n < SHORTEST_ADDRESSED {
