@@ -6,3 +6,4 @@ pub mod Parts
 pub mod RoundTrip
 pub mod Repeating
 pub mod Laws
+pub mod Sameness

@@ -205,7 +205,7 @@ module _ (t : Telegram) where
     pub built-flag : isAddressed (bytesOf t) ≡ t .addressed
     built-flag = sym (fields-flag (bytesOf t)) ∙ ap (λ (u : Telegram). u .addressed) (built-reads t shape a)
 
-    normal-data : dataOf (normalOf t) ≡ dataOf t
+    pub normal-data : dataOf (normalOf t) ≡ dataOf t
     normal-data = take-at (dataOf t) _ (t .len) (data-length t shape (a .high))
 
     pub built-decapsulated : decapsulated (bytesOf t) ≡ bytesOf (unaddressed t)

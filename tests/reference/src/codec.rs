@@ -22,7 +22,7 @@ const BUILD: u8 = 3;
 const ENCAPSULATE: u8 = 4;
 const DECAPSULATE: u8 = 5;
 const REPEAT: u8 = 6;
-const SAME: u8 = 7;
+pub const SAME: u8 = 7;
 
 /// An output is filled with this before the call.
 const FILL: u8 = 0xEE;

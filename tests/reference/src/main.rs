@@ -21,6 +21,8 @@ mod telegrams;
 mod cases;
 #[cfg(test)]
 mod faults;
+#[cfg(test)]
+mod sameness;
 
 use std::io::{Read, Write};
 
