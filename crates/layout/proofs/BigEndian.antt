@@ -1,17 +1,22 @@
 -- Numbers as bytes, over any width.
 --     be-length, unbe-be        w bytes, which spell the number again where it is below 256 ^ w
+--     unbe-lt, be-unbe          bytes spell a number below 256 ^ w, which has these bytes again
+--     field-lt, field-back      the same of a part of a list; field-one of a single byte
 --     be-set                    how a writer that goes from the last byte to the first proceeds
 --     unbe-more, digit-lt       how a reader that goes from the first to the last does, and what bounds it
 -- Assumes nothing.
-use mathlib.Core.Path.{_≡_, refl}
+use mathlib.Core.Path.{_≡_, refl, sym}
 use mathlib.Core.List.{List, [], _∷_, _++_}
 use Prim.Native.Nat.{ℕ, zero, suc, _+_, _-_, _*_, _/_, _%_, _^_, _≤_, _<_}
 use native.Mathlib.Nat.{not-suc-le-zero, pow-suc, pow-le-pow-right}
 use native.Mathlib.Numerals.{add-one}
+use native.Mathlib.Decide.{decLt}
 use native.Mathlib.Omega.{arith}
-use lib.ListN.{length, getD, take, drop, set, length-append, length-set}
-use lib.Seq.{drop-cons, drop-set-lt, getD-set-same, append-snoc, take-suc}
-use Rattle.layout.specs.BigEndian.{be, unbe, unbeFrom}
+use lib.ListN.{length, getD, take, drop, set, length-append, length-set, length-take, List·getD-eq-default}
+use lib.Seq.{drop-cons, drop-set-lt, getD-set-same, append-snoc, take-suc, take-all, getD-take, getD-drop}
+use Rattle.layout.specs.Buffer.{part}
+use Rattle.layout.specs.BigEndian.{be, unbe, unbeFrom, Bytes}
+use Rattle.layout.proofs.Segments.{part-length}
 
 pub be-length : (w n : ℕ) → length (be w n) ≡ w
 unfolding be
@@ -57,3 +62,51 @@ pub eight-lt : (i n : ℕ) → i ≤ 8 → n < 256 ^ i → n < 2 ^ 64
 eight-lt i n h k =
     let p : 256 ^ i ≤ 256 ^ 8 = pow-le-pow-right (omega arith) h in
     omega arith
+
+-- ---- bytes, as the number that they spell, and back
+
+-- what the first i bytes spell is below 256 ^ i
+spelled-lt : (i : ℕ) (bs : List ℕ) → i ≤ length bs → Bytes bs → unbe (take i bs) < 256 ^ i
+unfolding unbe unbeFrom
+spelled-lt zero bs h b = omega arith
+spelled-lt (suc i) bs h b =
+    let more : unbe (take i bs) * 256 + getD bs i 0 ≡ unbe (take (i + 1) bs) = unbe-more bs i h in
+    let low = digit-lt i (unbe (take i bs)) (getD bs i 0) (spelled-lt i bs (omega arith) b) (b i) in
+    rw (add-one i) at (rw more at low)
+
+pub unbe-lt : (w : ℕ) (bs : List ℕ) → length bs ≡ w → Bytes bs → unbe bs < 256 ^ w
+unbe-lt w bs e b = rw (take-all w bs (omega arith)) at (spelled-lt w bs (omega arith) b)
+
+-- the first i bytes are those of the number that they spell
+spelled-back : (i : ℕ) (bs : List ℕ) → i ≤ length bs → Bytes bs → be i (unbe (take i bs)) ≡ take i bs
+unfolding be
+spelled-back zero bs h b = refl
+spelled-back (suc i) bs h b =
+    let k : i < length bs = h in
+    let more : unbe (take i bs) * 256 + getD bs i 0 ≡ unbe (take (suc i) bs) = rw add-one at (unbe-more bs i k) in
+    let q : (unbe (take i bs) * 256 + getD bs i 0) / 256 ≡ unbe (take i bs) = omega (arith, b i) in
+    let r : (unbe (take i bs) * 256 + getD bs i 0) % 256 ≡ getD bs i 0 = omega (arith, b i) in
+    rw (← more, q, r, spelled-back i bs (omega arith) b) (sym (take-suc bs i 0 k))
+
+pub be-unbe : (w : ℕ) (bs : List ℕ) → length bs ≡ w → Bytes bs → be w (unbe bs) ≡ bs
+be-unbe w bs e b = rw (take-all w bs (omega arith)) at (spelled-back w bs (omega arith) b)
+
+bytes-take : (n : ℕ) (bs : List ℕ) → Bytes bs → Bytes (take n bs)
+bytes-take n bs b i = elim (decLt i n) [
+  | yes h ↦ rw (getD-take n bs i 0 h) (b i)
+  | no h ↦ (let l : length (take n bs) ≤ i = rw (length-take n bs) (omega arith) in rw (List·getD-eq-default (take n bs) 0 l) (omega arith))
+]
+
+bytes-part : (a n : ℕ) (bs : List ℕ) → Bytes bs → Bytes (part a n bs)
+bytes-part a n bs b = bytes-take n (drop a bs) (λ i. rw (getD-drop a bs i 0) (b (a + i)))
+
+pub field-lt : (a w : ℕ) (bs : List ℕ) → Bytes bs → a + w ≤ length bs → unbe (part a w bs) < 256 ^ w
+field-lt a w bs b h = unbe-lt w (part a w bs) (part-length a w bs h) (bytes-part a w bs b)
+
+pub field-back : (a w : ℕ) (bs : List ℕ) → Bytes bs → a + w ≤ length bs → be w (unbe (part a w bs)) ≡ part a w bs
+field-back a w bs b h = be-unbe w (part a w bs) (part-length a w bs h) (bytes-part a w bs b)
+
+-- a field of one byte
+pub field-one : (a : ℕ) (bs : List ℕ) → a < length bs → unbe (part a 1 bs) ≡ getD bs a 0
+unfolding unbe unbeFrom
+field-one a bs h = rw (drop-cons bs a 0 h) (omega arith)

@@ -3,6 +3,8 @@
 --     take-clamped, part-clamped              the same where the ends are cut to the list's length
 --     part-replicate                          a part of one value repeated
 --     left, right, last, whole                a part of xs ++ ys that lies in xs, or in ys; the part that is ys; all of a list
+--     part-join                               two parts, the one where the other ends, are one part
+--     start, part-nth                         segments of any lengths: where segment k starts, and that the part there is segment k
 --     Each, flatten-length, flatten-part      segments of one length: how long they are together, and segment k of them
 --     Begun                                   a list that is written from the front: the first a elements are `front`, the rest is as it was
 --     begin, store, lend, lend-sized, wipe    the start; an element stored; a part lent to a callee, one whose length alone it looks at, one that it clears
@@ -19,7 +21,7 @@ use native.Mathlib.Numerals.{add-one}
 use native.Mathlib.Decide.{decLt}
 use native.Mathlib.Omega.{arith}
 use lib.ListN.{length, getD, take, drop, set, length-append, length-take, length-drop, drop-of-length-le, replicate, length-replicate, getD-replicate, replicate-append-replicate}
-use lib.Seq.{take-at, drop-at, take-all, take-nil, take-append-le, drop-append-le, drop-append-add, drop-drop, drop-cons, set-at, append-snoc, getD-take, getD-drop, ext-getD}
+use lib.Seq.{take-at, take-add, drop-at, take-all, take-nil, take-append-le, drop-append-le, drop-append-add, drop-drop, drop-cons, set-at, append-snoc, getD-take, getD-drop, ext-getD}
 use Rattle.lists.specs.Lists.{padded}
 use Rattle.layout.specs.Buffer.{part}
 
@@ -54,6 +56,26 @@ module _ {A : Type 0} where
 
   pub whole : (xs : List A) (n : ℕ) → length xs ≡ n → part 0 n xs ≡ xs
   whole xs n e = take-all n xs (omega arith)
+
+  pub part-join : (a m n k : ℕ) (xs : List A) → a + m ≡ k → part a m xs ++ part k n xs ≡ part a (m + n) xs
+  part-join a m n k xs e = rw (← e, ← drop-drop m a xs) (sym (take-add m n (drop a xs)))
+
+  -- ---- segments of any lengths
+
+  -- where segment k starts
+  abbrev pub start : ℕ → List (List A) → ℕ
+  start zero segs = 0
+  start (suc k) [] = 0
+  start (suc k) (s ∷ segs) = length s + start k segs
+
+  -- the part from there on, as long as it is, is segment k
+  pub part-nth : (k : ℕ) (segs : List (List A)) (a n : ℕ) → start k segs ≡ a → length (getD segs k []) ≡ n → part a n (flatten segs) ≡ getD segs k []
+  unfolding flatten
+  part-nth zero [] a n e h = rw (← e, ← h) refl
+  part-nth (suc k) [] a n e h = rw (← e, ← h) refl
+  part-nth zero (s ∷ segs) a n e h = rw (← e) (take-at s (flatten segs) n h)
+  part-nth (suc k) (s ∷ segs) a n e h =
+      rw (← e, right s (flatten segs) (length s) (start k segs) n refl) (part-nth k segs (start k segs) n refl h)
 
   pub part-replicate : (a n m : ℕ) (v : A) → a + n ≤ m → part a n (replicate m v) ≡ replicate n v
   part-replicate a n m v h =

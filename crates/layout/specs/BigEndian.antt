@@ -1,6 +1,7 @@
 -- Numbers as bytes, the highest first (document 01, "Parked collector": numbers are big-endian), over any width. Assumes nothing.
 use mathlib.Core.List.{List, [], _∷_, _++_}
-use Prim.Native.Nat.{ℕ, zero, suc, _+_, _*_, _/_, _%_}
+use Prim.Native.Nat.{ℕ, zero, suc, _+_, _*_, _/_, _%_, _<_}
+use lib.ListN.{getD}
 
 -- the low w bytes of n
 unfoldable pub be : ℕ → ℕ → List ℕ
@@ -15,3 +16,7 @@ unbeFrom high (b ∷ bs) = unbeFrom (high * 256 + b) bs
 -- the number that bytes spell
 unfoldable pub unbe : List ℕ → ℕ
 unbe bs = unbeFrom 0 bs
+
+-- each number of a list is a byte
+abbrev pub Bytes : List ℕ → Type 0
+Bytes bs = (i : ℕ) → getD bs i 0 < 256
