@@ -4,7 +4,7 @@ use Prim.Native.Nat.{_<_}
 use native.Mathlib.Omega.{arith}
 use Rattle.refusal.specs.Number.{numberOf}
 use Rattle.refusal.specs.declared.Refusal.{Refusal}
-use Rattle.refusal.specs.declared.Refusal.the-variants.{Length, Sum, Nested, NotAddressed, TooLong, ShortOutput, Late, Full, NoPlan, Argument, NotAccepted, Crc}
+use Rattle.refusal.specs.declared.Refusal.the-variants.{Length, Sum, Nested, NotAddressed, TooLong, ShortOutput, Late, Full, NoPlan, Argument, NotAccepted, Crc, ReservedAddress, Misfit}
 
 positive : (r : Refusal) → 0 < numberOf r
 positive Length = omega arith
@@ -19,6 +19,8 @@ positive NoPlan = omega arith
 positive Argument = omega arith
 positive NotAccepted = omega arith
 positive Crc = omega arith
+positive ReservedAddress = omega arith
+positive Misfit = omega arith
 
 pub refused-number : (r : Refusal) → numberOf r ≡ 0 → ⊥
 refused-number r e = omega (arith, positive r)

@@ -1,7 +1,7 @@
 -- The number of each refusal: the table of document 01, "Numbers a caller sees", and 13 of document 02, A3. Assumes nothing.
 use Prim.Native.Nat.{ℕ}
 use Rattle.refusal.specs.declared.Refusal.{Refusal}
-use Rattle.refusal.specs.declared.Refusal.the-variants.{Length, Sum, Nested, NotAddressed, TooLong, ShortOutput, Late, Full, NoPlan, Argument, NotAccepted, Crc}
+use Rattle.refusal.specs.declared.Refusal.the-variants.{Length, Sum, Nested, NotAddressed, TooLong, ShortOutput, Late, Full, NoPlan, Argument, NotAccepted, Crc, ReservedAddress, Misfit}
 
 abbrev pub numberOf : Refusal → ℕ
 numberOf Length = 1
@@ -16,3 +16,5 @@ numberOf NoPlan = 9
 numberOf Argument = 10
 numberOf NotAccepted = 11
 numberOf Crc = 13
+numberOf ReservedAddress = 14
+numberOf Misfit = 15

@@ -27,6 +27,10 @@ pub enum Refusal {
     NotAccepted,
     // 13: HASH is wrong, the CRC.
     Crc,
+    // 14: the address control of an ERP2 telegram is reserved.
+    ReservedAddress,
+    // 15: the fields of an ERP2 telegram do not fit its length.
+    Misfit,
 }
 
 // The number of a refusal.
@@ -46,5 +50,7 @@ pub fn number(r: Refusal) -> u8
         Refusal::Argument => 10,
         Refusal::NotAccepted => 11,
         Refusal::Crc => 13,
+        Refusal::ReservedAddress => 14,
+        Refusal::Misfit => 15,
     }
 }
