@@ -1,0 +1,10 @@
+pub mod Lookups
+pub mod Bits
+pub mod Sound
+pub mod Placing
+pub mod ReadBack
+pub mod Accepted
+pub mod Facts
+pub mod Segments
+pub mod BuildBack
+pub mod Theorems

@@ -1,0 +1,6 @@
+pub mod Header
+pub mod Sizes
+pub mod Reading
+pub mod Building
+pub mod Bounds
+pub mod Claims
