@@ -19,7 +19,7 @@ use Rattle.erp2_model.specs.Building.{isShortForm, sizesFor, sizeOf, isUnholdab
 use Rattle.erp2_model.specs.Bounds.{Buildable}
 use Rattle.erp2.specs.Private.{admissionOf}
 use Rattle.erp2_model.proofs.Lookups.{short-high, originator-low, originator-high}
-use Rattle.erp2.proofs.Checks.{long-small}
+use Rattle.erp2_model.proofs.Placing.{long-small}
 
 module _ (t : Telegram) where
   by-form-high : (x : Bool) → isShortForm t ≡ x → sizesFor t .originator ≤ 6

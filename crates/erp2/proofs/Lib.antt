@@ -1,5 +1,5 @@
 pub mod Parts
-pub mod Checks
+pub mod Answers
 pub mod Admitting
 pub mod Rows
 pub mod Emitting

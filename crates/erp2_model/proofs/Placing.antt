@@ -6,11 +6,25 @@ use Prim.Native.Nat.{ℕ, _+_, _-_, _%_, _≤_, _<_}
 use native.Mathlib.Omega.{arith}
 use borrow.Author.Tests.{leb-true}
 use lib.ListN.{length, getD}
+use Rattle.erp2_model.specs.declared.Header.{Header}
 use Rattle.erp2_model.specs.Header.{isTypeExtended, isAddressed}
 use Rattle.erp2_model.specs.Sizes.{shortSizes, longSizes, overhead}
 use Rattle.erp2_model.specs.Reading.{lengthByte, isShort, headerIn, sizesIn}
 use Rattle.erp2_model.specs.Bounds.{Fitting, Placed}
 use Rattle.erp2_model.proofs.Lookups.{short-high, originator-low, originator-high, flag-le}
+
+-- no sizes of a long form are large
+pub long-small : (h : Header) (announced : ℕ) → announced < 256 → overhead (longSizes h announced) ≤ 300
+long-small h announced b =
+    let e = flag-le (h .extended) 1 in
+    let x = flag-le (isTypeExtended h) 1 in
+    let o = originator-high (h .control) in
+    let d = flag-le (isAddressed h) 4 in
+    let p = flag-le (h .extended) announced in
+    omega arith
+
+pub low-bits : (n : ℕ) → n % 16 < 256
+low-bits n = omega arith
 
 module _ (s : List ℕ) (v : Fitting s) (b : lengthByte s < 256) where
   short-placed : isShort s ≡ true → Placed s (sizesIn s) (lengthByte s - overhead (sizesIn s))

@@ -4,6 +4,8 @@
 mod clerk;
 mod codec;
 mod collect;
+mod erp2;
+mod erp2_records;
 mod hash;
 mod hex;
 mod history;
@@ -46,6 +48,8 @@ fn main() {
             let input = inputs::stdin(name).unwrap_or_else(usage);
             collect::run(&input).into_bytes()
         }
+        ["erp2", "stdin"] => erp2_records::stdin().into_bytes(),
+        ["erp2", "stdout"] => erp2_records::stdout().into_bytes(),
         ["history", "stdin"] => history::stdin().into_bytes(),
         ["history", "stdout"] => history::stdout().into_bytes(),
         _ => usage(),
@@ -54,7 +58,7 @@ fn main() {
 }
 
 fn usage<T>() -> T {
-    eprintln!("reference codec|history stdin|stdout, reference slots|collect|sample stdout,");
+    eprintln!("reference codec|erp2|history stdin|stdout, reference slots|collect|sample stdout,");
     eprintln!(
         "reference inputs NAME stdin|stdout, NAME one of {}",
         inputs::NAMES.join(", ")

@@ -12,7 +12,8 @@ use Rattle.erp2_model.specs.declared.Header.{Header}
 use Rattle.erp2_model.specs.Sizes.{overhead, longSizes}
 use Rattle.erp2_model.specs.Header.{headerOf}
 use Rattle.erp2_model.specs.Reading.{lengthByte, headerIn}
-use Rattle.erp2.proofs.Checks.{check-zero, check-empty, check-mismatch, check-short, check-crc, check-reserved, check-misfit, check-long, low-bits, long-small}
+use Rattle.erp2_model.proofs.Checks.{check-zero, check-empty, check-mismatch, check-short, check-crc, check-reserved, check-misfit, check-long}
+use Rattle.erp2_model.proofs.Placing.{low-bits, long-small}
 use Rattle.erp2.proofs.check.Statement.{statement}
 use Rattle.erp2.proofs.check.Tie as tie
 

@@ -9,7 +9,7 @@ use Rattle.refusal.specs.declared.Refusal.{Refusal}
 use Rattle.erp1.specs.Subtelegram.{checkedNumber}
 use Rattle.erp2_model.specs.Reading.{checkOf}
 use Rattle.erp2_model.proofs.Sound.{check-facts}
-use Rattle.erp2.proofs.Checks.{read-valid, read-refused}
+use Rattle.erp2.proofs.Answers.{read-valid, read-refused}
 use Rattle.erp2.proofs.read.Statement.{statement}
 use Rattle.erp2.proofs.read.Tie as tie
 

@@ -1,27 +1,18 @@
--- The answers of the check, one for each of its returns. Assumes nothing.
-use mathlib.Core.Path.{_≡_, refl, sym, ap, _∙_}
-use mathlib.Core.Bool.{Bool, true, false, cond, not, _||_, or-true}
-use mathlib.Core.List.{List, [], _∷_}
-use Prim.Native.Nat.{ℕ, zero, suc, _+_, _-_, _%_, _≤_, _<_}
+-- The answers of the check, one for each of its tests in their order: what was tested before passed, and what comes after may be either.
+-- Assumes nothing.
+use mathlib.Core.Path.{_≡_}
+use mathlib.Core.Bool.{or-true}
+use mathlib.Core.List.{List}
+use Prim.Native.Nat.{ℕ, _+_, _-_, _%_, _≤_, _<_}
 use native.Mathlib.Omega.{arith}
-use lib.Dec.{eqb, leb, ltb}
 use lib.ListN.{length, getD, List·getD-eq-default}
 use borrow.Author.Tests.{eq-eqb, ne-eqb, le-leb, lt-leb, lt-ltb, le-ltb}
 use Rattle.refusal.specs.Number.{numberOf}
 use Rattle.refusal.specs.declared.Refusal.the-variants.{Length, Crc, ReservedAddress, Misfit}
 use Rattle.crc8.specs.Crc8.{crcOf}
-use Rattle.refusal.specs.declared.Refusal.{Refusal}
-use Rattle.refusal.proofs.Numbers.{refused-number}
-use Rattle.erp1.specs.declared.Checked.the-variants.{Valid, Refused}
-use Rattle.erp2_model.specs.declared.Telegram.{Telegram}
-use Rattle.erp2_model.specs.declared.Reading.{Reading}
 use Rattle.layout.specs.Buffer.{part}
-use Rattle.erp2_model.specs.declared.Header.{Header}
-use Rattle.erp2_model.specs.declared.Sizes.{Sizes}
-use Rattle.erp2_model.specs.Header.{isTypeExtended, isAddressed}
 use Rattle.erp2_model.specs.Sizes.{longSizes, overhead}
-use Rattle.erp2_model.specs.Reading.{lengthByte, isShort, isIntact, headerIn, sizesIn, checkOf, fieldsOf, noTelegram, readingOf, readOf}
-use Rattle.erp2_model.proofs.Lookups.{originator-high, flag-le}
+use Rattle.erp2_model.specs.Reading.{lengthByte, headerIn, checkOf}
 
 module _ (s : List ℕ) where
   pub check-zero : lengthByte s ≡ 0 → numberOf Length ≡ checkOf s
@@ -87,27 +78,3 @@ module _ (s : List ℕ) where
                 lt-leb 4 (headerIn s .control) r,
                 le-ltb (lengthByte s) (overhead (longSizes (headerIn s) (getD s 2 0 % 16))) m,
               )
-
--- no sizes of a long form are large
-pub long-small : (h : Header) (announced : ℕ) → announced < 256 → overhead (longSizes h announced) ≤ 300
-long-small h announced b =
-    let e = flag-le (h .extended) 1 in
-    let x = flag-le (isTypeExtended h) 1 in
-    let o = originator-high (h .control) in
-    let d = flag-le (isAddressed h) 4 in
-    let p = flag-le (h .extended) announced in
-    omega arith
-
-pub low-bits : (n : ℕ) → n % 16 < 256
-low-bits n = omega arith
-
--- ---- what reading answers
-
-module _ (s : List ℕ) (t : Telegram) where
-  pub read-valid : checkOf s ≡ 0 → t ≡ fieldsOf s → readingOf (record { checked = Valid; telegram = t }) ≡ readOf s
-  unfolding readOf
-  read-valid e f = rw (e, f)
-
-  pub read-refused : (why : Refusal) → numberOf why ≡ checkOf s → t ≡ noTelegram → readingOf (record { checked = Refused why; telegram = t }) ≡ readOf s
-  unfolding readOf
-  read-refused why e f = rw (ne-eqb (checkOf s) 0 (λ z. refused-number why (e ∙ z)), e, f)

@@ -1,0 +1,27 @@
+-- `erp2_run::optional` is safe: its array has 15 bytes. Assumes nothing.
+use mathlib.Core.Path.{_≡_}
+use lib.ListN.{length}
+use native.Mathlib.Omega.{arith}
+use borrow.Author.Needs.{needs}
+use Rattle.erp2_run.proofs.optional.Statement.{statement}
+use Rattle.erp2_run.proofs.optional.Tie as tie
+
+-- the array is the telegram's, as long as its type says
+part-hex-end : tie.Need-part-hex-end
+part-hex-end c =
+    let h : length (c .before .before .before .before .before .before .args .t .optional) ≡ 15 = search needs in
+    omega arith
+
+pub optional-spec : {M : Type 1} → statement M
+optional-spec =
+    tie.close
+    (tie.spec
+    (λ c κs. search needs)
+    (λ c κs. search needs)
+    (λ c. search needs)
+    (λ c κs. search needs)
+    (λ c. search needs)
+    (λ c. search needs)
+    part-hex-end
+    (λ c κs. search needs)
+    (λ c. search needs))
