@@ -1,18 +1,15 @@
 -- Which telegrams are admitted: sizes that are small, and one law for each return of `admission` and `is_misfitting`.
-use mathlib.Core.Path.{_≡_, refl, sym, ap, _∙_}
-use mathlib.Core.Bool.{Bool, true, false, cond, not, _&&_, _||_, or-true}
-use mathlib.Core.List.{List, [], _∷_}
-use Prim.Native.Nat.{ℕ, _+_, _^_, _≤_, _<_}
+use mathlib.Core.Path.{_≡_, refl, sym}
+use mathlib.Core.Bool.{Bool, true, false, not, _&&_, _||_, or-true}
+use Prim.Native.Nat.{_+_, _^_, _≤_, _<_}
 use native.Mathlib.Omega.{arith}
 use lib.Dec.{eqb, leb, ltb}
-use lib.ListN.{getD}
-use borrow.Author.Tests.{eq-eqb, ne-eqb, lt-ltb, le-ltb, ltb-false, not-true, not-false, eqb-true}
-use Rattle.lists.proofs.Choice.{neither, both, cond-no}
+use borrow.Author.Tests.{ne-eqb, lt-ltb, ltb-false, not-false, eqb-true}
+use Rattle.lists.proofs.Choice.{neither, cond-no}
 use Rattle.refusal.specs.Number.{numberOf}
 use Rattle.refusal.specs.declared.Refusal.the-variants.{Argument, ReservedAddress, Misfit}
 use Rattle.refusal.proofs.Numbers.{refused-number}
 use Rattle.erp2_model.specs.declared.Telegram.{Telegram}
-use Rattle.erp2_model.specs.declared.Sizes.{Sizes}
 use Rattle.erp2_model.specs.Header.{isReserved}
 use Rattle.erp2_model.specs.Sizes.{shortSizes, longSizes, overhead}
 use Rattle.erp2_model.specs.Building.{isShortForm, sizesFor, sizeOf, isUnholdable, isAgainstHeader, isMisfitting}

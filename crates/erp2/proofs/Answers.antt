@@ -8,7 +8,6 @@ use Rattle.refusal.specs.declared.Refusal.{Refusal}
 use Rattle.refusal.proofs.Numbers.{refused-number}
 use Rattle.erp1.specs.declared.Checked.the-variants.{Valid, Refused}
 use Rattle.erp2_model.specs.declared.Telegram.{Telegram}
-use Rattle.erp2_model.specs.declared.Reading.{Reading}
 use Rattle.erp2_model.specs.Reading.{checkOf, fieldsOf, noTelegram, readingOf, readOf}
 
 module _ (s : List ℕ) (t : Telegram) where

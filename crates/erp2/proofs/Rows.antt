@@ -1,15 +1,14 @@
 -- What is written part by part is the row. Assumes nothing.
-use mathlib.Core.Path.{_≡_, refl, sym, ap, _∙_}
-use mathlib.Core.Bool.{Bool, true, false, cond}
+use mathlib.Core.Path.{_≡_, ap, _∙_}
 use mathlib.Core.List.{List, [], _∷_, _++_, append-assoc, append-nil}
 use Prim.Native.Nat.{ℕ, _+_, _-_, _≤_, _<_}
 use native.Mathlib.Omega.{arith}
 use lib.ListN.{length, take, drop, set}
-use lib.Seq.{take-all, take-at, length-take-le}
+use lib.Seq.{take-at, length-take-le}
 use Rattle.layout.specs.Buffer.{part, resized}
 use Rattle.layout.specs.BigEndian.{be}
 use Rattle.layout.proofs.Buffer.{resized-whole}
-use Rattle.layout.proofs.Segments.{part-ends, Begun, store}
+use Rattle.layout.proofs.Segments.{Begun, store}
 use Rattle.crc8.specs.Crc8.{crcOf}
 use borrow.Author.Tests.{eq-eqb, ne-eqb}
 use Rattle.erp2_model.specs.declared.Telegram.{Telegram}

@@ -1,10 +1,9 @@
 -- What the private functions of the crate say: no public contract cites these.
-use Prim.Native.Nat.{ℕ, _+_, _≤_, _<_}
-use mathlib.Core.Path.{_≡_}
-use mathlib.Core.Bool.{Bool, true, false, cond, not, _&&_, _||_}
+use Prim.Native.Nat.{ℕ, _+_, _≤_}
+use mathlib.Core.Bool.{cond, not, _&&_, _||_}
 use mathlib.Core.List.{List, [], _∷_, _++_}
 use lib.Dec.{eqb}
-use lib.ListN.{length, getD, take, drop}
+use lib.ListN.{length, take, drop}
 use Rattle.crc8.specs.Crc8.{crcOf}
 use Rattle.layout.specs.BigEndian.{be}
 use Rattle.refusal.specs.Number.{numberOf}

@@ -1,16 +1,16 @@
 -- What is read can be built: no test of building refuses it. Assumes nothing.
-use mathlib.Core.Path.{_≡_, refl, sym, ap, _∙_}
-use mathlib.Core.Bool.{Bool, true, false, cond, not, _&&_, _||_, true≢false, and-false}
+use mathlib.Core.Path.{_≡_, refl, ap}
+use mathlib.Core.Bool.{Bool, true, false, cond, not, _&&_, _||_, and-false}
 use mathlib.Core.List.{List}
-use Prim.Native.Nat.{ℕ, zero, suc, _+_, _-_, _*_, _/_, _%_, _^_, _≤_, _<_}
+use Prim.Native.Nat.{ℕ, _+_, _-_, _/_, _%_, _^_, _≤_, _<_}
 use native.Mathlib.Omega.{arith}
-use lib.Dec.{eqb, leb, ltb}
+use lib.Dec.{leb, ltb}
 use lib.ListN.{length, getD}
 use borrow.Author.Tests.{eq-eqb, lt-leb, le-ltb, leb-true, leb-false}
 use Rattle.layout.specs.Buffer.{part}
 use Rattle.layout.specs.BigEndian.{unbe, unbeFrom, Bytes}
 use Rattle.layout.proofs.BigEndian.{field-lt, field-one}
-use Rattle.telegram.specs.Output.{Result, written}
+use Rattle.telegram.specs.Output.{written}
 use Rattle.erp2_model.specs.Header.{isReserved}
 use Rattle.erp2_model.specs.Sizes.{originatorAt}
 use Rattle.erp2_model.specs.Reading.{lengthByte, isShort, headerIn, sizesIn, fieldsOf}

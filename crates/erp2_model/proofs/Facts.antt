@@ -1,18 +1,18 @@
 -- What a telegram says that can be built: the tests as inequalities, for each form, and how long its parts are. Assumes nothing.
-use mathlib.Core.Path.{_≡_, refl, sym, ap, _∙_}
-use mathlib.Core.Bool.{Bool, true, false, cond, not, _&&_, _||_, true≢false, and-false}
-use mathlib.Core.List.{List, [], _∷_, _++_, append-assoc, append-nil, flatten}
-use Prim.Native.Nat.{ℕ, zero, suc, _+_, _-_, _*_, _/_, _%_, _^_, _≤_, _<_}
+use mathlib.Core.Path.{_≡_, refl}
+use mathlib.Core.Bool.{Bool, true, false, cond, not, _&&_, _||_, true≢false}
+use mathlib.Core.List.{List}
+use Prim.Native.Nat.{ℕ, _+_, _-_, _^_, _≤_, _<_}
 use native.Mathlib.Omega.{arith}
 use lib.Dec.{eqb, leb, ltb}
-use lib.ListN.{length, getD, take}
+use lib.ListN.{length}
 use lib.Seq.{length-take-le}
 use borrow.Author.Tests.{eqb-true, eqb-false, leb-false, ltb-false, not-true, not-false}
 use Rattle.lists.proofs.Choice.{neither}
 use Rattle.refusal.specs.declared.Refusal.the-variants.{Argument, ReservedAddress, Misfit, ShortOutput}
 use Rattle.refusal.proofs.Numbers.{refused-number}
 use Rattle.telegram.proofs.Frames.{unrefused}
-use Rattle.telegram.specs.Output.{Result, written}
+use Rattle.telegram.specs.Output.{written}
 use Rattle.erp2_model.specs.declared.Telegram.{Telegram}
 use Rattle.erp2_model.specs.Header.{isReserved, isTypeExtended, isAddressed}
 use Rattle.erp2_model.specs.Sizes.{shortSizes, longSizes, overhead}

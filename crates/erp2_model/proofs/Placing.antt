@@ -2,10 +2,10 @@
 use mathlib.Core.Path.{_≡_, refl}
 use mathlib.Core.Bool.{Bool, true, false}
 use mathlib.Core.List.{List}
-use Prim.Native.Nat.{ℕ, _+_, _-_, _%_, _≤_, _<_}
+use Prim.Native.Nat.{ℕ, _-_, _%_, _≤_, _<_}
 use native.Mathlib.Omega.{arith}
 use borrow.Author.Tests.{leb-true}
-use lib.ListN.{length, getD}
+use lib.ListN.{getD}
 use Rattle.erp2_model.specs.declared.Header.{Header}
 use Rattle.erp2_model.specs.Header.{isTypeExtended, isAddressed}
 use Rattle.erp2_model.specs.Sizes.{shortSizes, longSizes, overhead}

@@ -1,13 +1,12 @@
 -- What is read builds the same bytes: each field is a part of the list, and parts one after the other are one part. Assumes nothing.
 use mathlib.Core.Path.{_≡_, refl, sym, ap, _∙_}
-use mathlib.Core.Bool.{Bool, true, false, cond, not, _&&_, _||_, true≢false, and-false}
-use mathlib.Core.List.{List, [], _∷_, _++_, append-assoc, append-nil, flatten}
-use Prim.Native.Nat.{ℕ, zero, suc, _+_, _-_, _*_, _/_, _%_, _^_, _≤_, _<_}
+use mathlib.Core.Bool.{Bool, true, false, cond}
+use mathlib.Core.List.{List, [], _∷_, _++_, append-nil}
+use Prim.Native.Nat.{ℕ, _+_, _-_, _%_, _≤_, _<_}
 use native.Mathlib.Omega.{arith}
-use lib.Dec.{eqb, leb, ltb}
 use lib.ListN.{length, getD, take, drop, length-drop}
 use lib.Seq.{take-at, take-all, drop-cons}
-use borrow.Author.Tests.{leb-true, leb-false, ne-eqb}
+use borrow.Author.Tests.{leb-false, ne-eqb}
 use Rattle.lists.specs.Lists.{padded}
 use Rattle.crc8.specs.Crc8.{crcOf}
 use Rattle.layout.specs.Buffer.{part}
@@ -15,7 +14,6 @@ use Rattle.layout.specs.BigEndian.{be, unbe, Bytes}
 use Rattle.layout.proofs.Segments.{part-length, part-join}
 use Rattle.layout.proofs.BigEndian.{field-back, field-one}
 use Rattle.erp2_model.specs.declared.Sizes.{Sizes}
-use Rattle.erp2_model.specs.Header.{headerOf}
 use Rattle.erp2_model.specs.Sizes.{longSizes, overhead, extensionAt, subtypeAt, originatorAt, destinationAt, payloadAt}
 use Rattle.erp2_model.specs.Reading.{maxData, maxOptional, lengthByte, isShort, headerIn, sizesIn, fieldsOf}
 use Rattle.erp2_model.specs.Building.{isShortForm, sizesFor, sizeOf, bodyOf, bytesOf}

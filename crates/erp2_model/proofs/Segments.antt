@@ -1,6 +1,6 @@
 -- A telegram's bytes as a list of segments, one for each field: the part where a field stands is the field. One law over the segments and an
 -- index (`part-nth`) says it of each. Assumes nothing.
-use mathlib.Core.Path.{_≡_, refl}
+use mathlib.Core.Path.{_≡_}
 use mathlib.Core.List.{List, [], _∷_, _++_, append-assoc, append-nil, flatten}
 use Prim.Native.Nat.{ℕ, _+_}
 use native.Mathlib.Omega.{arith}

@@ -8,7 +8,7 @@ use lib.ListN.{length, length-append, length-replicate}
 use lib.Seq.{take-append-seam}
 use Rattle.lists.specs.Lists.{padded}
 use Rattle.layout.specs.Buffer.{part}
-use Rattle.layout.specs.BigEndian.{unbe, Bytes}
+use Rattle.layout.specs.BigEndian.{Bytes}
 use Rattle.layout.proofs.Segments.{part-length}
 use Rattle.layout.proofs.BigEndian.{field-lt}
 use Rattle.telegram.specs.Output.{Result, written, resultBytes}

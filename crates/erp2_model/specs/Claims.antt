@@ -1,14 +1,13 @@
 -- What is claimed of reading and building, for every list of bytes and every telegram (document 02, A4: "Both round trips hold, with the presence
 -- of each optional field part of what was read"): proofs/Theorems.antt has the theorems. Assumes nothing.
 use mathlib.Core.Path.{_≡_}
-use mathlib.Core.Bool.{Bool, true, false, cond}
+use mathlib.Core.Bool.{true, false, cond}
 use mathlib.Core.List.{List, [], _∷_, map}
 use Prim.Native.Nat.{ℕ, _-_, _*_, _^_, _≤_, _<_}
 use lib.ListN.{length}
 use Rattle.lists.specs.Lists.{padded}
 use Rattle.layout.specs.BigEndian.{Bytes}
-use Rattle.telegram.specs.Output.{Result, written, resultBytes}
-use Rattle.erp2_model.specs.declared.Sizes.{Sizes}
+use Rattle.telegram.specs.Output.{written, resultBytes}
 use Rattle.erp2_model.specs.declared.Telegram.{Telegram}
 use Rattle.erp2_model.specs.Header.{headerOf, isReserved}
 use Rattle.erp2_model.specs.Sizes.{shortSizes, longSizes, overhead}

@@ -1,8 +1,7 @@
 -- `erp2::admission` meets its contract: a law of `Admitting` for each return.
-use mathlib.Core.Path.{_≡_, refl, sym, ap, _∙_}
-use mathlib.Core.Bool.{true, false}
+use mathlib.Core.Path.{_≡_, sym, _∙_}
+use mathlib.Core.Bool.{false}
 use borrow.Author.Needs.{needs}
-use borrow.Author.Tests.{not-true, not-false}
 use Rattle.erp2_model.specs.Building.{isUnholdable, isAgainstHeader}
 use Rattle.erp2.proofs.Admitting.{admits-unholdable, admits-against, admits-reserved, admits-misfit, admits-all, short-most}
 use Rattle.erp2.proofs.admission.Statement.{statement}

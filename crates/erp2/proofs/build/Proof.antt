@@ -1,7 +1,6 @@
 -- `erp2::build` meets its contract: what is not refused is written.
-use mathlib.Core.Path.{_≡_, _∙_, sym, ap}
+use mathlib.Core.Path.{_∙_, sym, ap}
 use borrow.Author.Needs.{needs}
-use denote.Ref.{now}
 use Rattle.erp1.specs.Subtelegram.{checkedNumber}
 use Rattle.erp2.proofs.Admitting.{admitted}
 use Rattle.erp2.proofs.Emitting.{build-refused}

@@ -1,7 +1,7 @@
 -- `erp2::check` meets its contract: what is known at each place, and one law of `Checks` for each return.
-use mathlib.Core.Path.{_≡_, refl, sym, ap, _∙_}
+use mathlib.Core.Path.{_≡_, sym, ap, _∙_}
 use mathlib.Core.List.{List}
-use Prim.Native.Nat.{ℕ, _+_, _-_, _%_, _≤_, _<_}
+use Prim.Native.Nat.{ℕ, _+_, _-_, _%_, _<_}
 use native.Mathlib.Omega.{arith}
 use borrow.Author.Needs.{needs}
 use denote.Ref.{now}
@@ -10,7 +10,6 @@ use Rattle.crc8.specs.Crc8.{crcOf}
 use Rattle.layout.specs.Buffer.{part}
 use Rattle.erp2_model.specs.declared.Header.{Header}
 use Rattle.erp2_model.specs.Sizes.{overhead, longSizes}
-use Rattle.erp2_model.specs.Header.{headerOf}
 use Rattle.erp2_model.specs.Reading.{lengthByte, headerIn}
 use Rattle.erp2_model.proofs.Checks.{check-zero, check-empty, check-mismatch, check-short, check-crc, check-reserved, check-misfit, check-long}
 use Rattle.erp2_model.proofs.Placing.{low-bits, long-small}

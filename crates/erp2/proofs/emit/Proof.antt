@@ -1,15 +1,14 @@
 -- `erp2::emit` meets its contract: no room, or the row.
-use mathlib.Core.Path.{_≡_, _∙_, sym, ap}
-use Prim.Native.Nat.{ℕ, _+_, _^_, _≤_, _<_}
+use mathlib.Core.Path.{_≡_, _∙_, ap}
+use Prim.Native.Nat.{_+_, _≤_}
 use native.Mathlib.Omega.{arith}
 use borrow.Author.Needs.{needs}
 use denote.Ref.{now}
-use lib.ListN.{length}
 use Rattle.erp2_model.specs.declared.Sizes.{Sizes}
 use Rattle.erp2_model.specs.Sizes.{overhead}
 use Rattle.erp2_model.specs.Building.{sizesFor, sizeOf}
 use Rattle.erp2_model.specs.Claims.{Shaped}
-use Rattle.erp2.specs.Private.{Laid, rowWritten}
+use Rattle.erp2.specs.Private.{rowWritten}
 use Rattle.erp2.proofs.Admitting.{for-small}
 use Rattle.erp2.proofs.Emitting.{build-short, build-done, laid-built, data-most}
 use Rattle.erp2.proofs.emit.Statement.{statement}

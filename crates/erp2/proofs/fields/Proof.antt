@@ -1,13 +1,10 @@
 -- `erp2::fields` meets its contract: the sizes of a list that fits are those of its row.
-use mathlib.Core.Path.{_≡_, refl, sym, ap, _∙_}
-use Prim.Native.Nat.{ℕ, _+_, _-_, _≤_, _<_}
+use Prim.Native.Nat.{_-_}
 use native.Mathlib.Omega.{arith}
 use borrow.Author.Needs.{needs}
 use denote.Ref.{now}
-use lib.ListN.{length}
-use Rattle.erp2_model.specs.declared.Sizes.{Sizes}
 use Rattle.erp2_model.specs.Sizes.{overhead}
-use Rattle.erp2_model.specs.Reading.{lengthByte, sizesIn, rowOf, fieldsOf}
+use Rattle.erp2_model.specs.Reading.{fieldsOf}
 use Rattle.erp2_model.proofs.Placing.{placed}
 use Rattle.erp2.proofs.fields.Statement.{statement}
 use Rattle.erp2.proofs.fields.Tie as tie

@@ -1,13 +1,12 @@
 -- `erp2::is_misfitting` meets its contract: by the form, after data that is too long for any.
-use mathlib.Core.Path.{_≡_, refl, sym, ap, _∙_}
+use mathlib.Core.Path.{_≡_, ap, _∙_}
 use mathlib.Core.Bool.{not}
-use Prim.Native.Nat.{ℕ, _+_, _≤_, _<_}
+use Prim.Native.Nat.{ℕ, _+_, _≤_}
 use native.Mathlib.Omega.{arith}
 use borrow.Author.Needs.{needs}
-use borrow.Author.Tests.{eq-eqb, ne-eqb, not-true, not-false}
-use Rattle.erp2_model.specs.declared.Sizes.{Sizes}
+use borrow.Author.Tests.{eq-eqb, ne-eqb}
 use Rattle.erp2_model.specs.Sizes.{overhead}
-use Rattle.erp2_model.specs.Building.{sizesFor, sizeOf, isMisfitting}
+use Rattle.erp2_model.specs.Building.{sizeOf}
 use Rattle.erp2.proofs.Admitting.{for-small, long-data, short-misfit, long-misfit}
 use Rattle.erp2.proofs.is_misfitting.Statement.{statement}
 use Rattle.erp2.proofs.is_misfitting.Tie as tie

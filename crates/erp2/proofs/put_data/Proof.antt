@@ -1,13 +1,12 @@
 -- `erp2::put_data` meets its contract: two parts are lent.
-use mathlib.Core.Path.{_≡_, refl, sym, _∙_}
-use mathlib.Core.List.{List}
-use Prim.Native.Nat.{ℕ, _+_, _-_, _≤_}
+use mathlib.Core.Path.{_≡_, _∙_}
+use Prim.Native.Nat.{_+_, _-_}
 use native.Mathlib.Omega.{arith}
 use borrow.Author.Needs.{needs}
 use denote.Ref.{now}
 use lib.ListN.{length}
 use Rattle.layout.specs.Buffer.{part, resized}
-use Rattle.layout.proofs.Segments.{Writing, packed, begin, lend-sized, done, begun-length}
+use Rattle.layout.proofs.Segments.{Writing, packed, begin, lend-sized, done}
 use Rattle.erp2.proofs.Rows.{data-is}
 use Rattle.erp2.proofs.put_data.Statement.{statement}
 use Rattle.erp2.proofs.put_data.Tie as tie

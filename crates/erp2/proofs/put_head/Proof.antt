@@ -1,11 +1,9 @@
 -- `erp2::put_head` meets its contract: a byte is stored and three parts are lent.
-use mathlib.Core.Path.{_≡_, refl, sym, _∙_}
-use mathlib.Core.List.{List}
-use Prim.Native.Nat.{ℕ, _+_, _-_, _≤_}
+use mathlib.Core.Path.{_∙_}
+use Prim.Native.Nat.{ℕ, _+_, _-_}
 use native.Mathlib.Omega.{arith}
 use borrow.Author.Needs.{needs}
 use denote.Ref.{now}
-use lib.ListN.{length}
 use Rattle.layout.specs.BigEndian.{be}
 use Rattle.layout.proofs.Segments.{Writing, packed, begin, store, lend-sized, done, within, begun-length}
 use Rattle.erp2_model.specs.declared.Sizes.{Sizes}

@@ -1,13 +1,11 @@
 -- `erp2::put_ids` meets its contract: two parts are lent.
-use mathlib.Core.Path.{_≡_, refl, sym, _∙_}
-use mathlib.Core.List.{List}
-use Prim.Native.Nat.{ℕ, _+_, _-_, _≤_}
+use mathlib.Core.Path.{_∙_}
+use Prim.Native.Nat.{_+_, _-_}
 use native.Mathlib.Omega.{arith}
 use borrow.Author.Needs.{needs}
 use denote.Ref.{now}
-use lib.ListN.{length}
 use Rattle.layout.specs.BigEndian.{be}
-use Rattle.layout.proofs.Segments.{Writing, packed, begin, lend-sized, done, begun-length}
+use Rattle.layout.proofs.Segments.{Writing, packed, begin, lend-sized, done}
 use Rattle.erp2.proofs.Rows.{ids-is}
 use Rattle.erp2.proofs.put_ids.Statement.{statement}
 use Rattle.erp2.proofs.put_ids.Tie as tie

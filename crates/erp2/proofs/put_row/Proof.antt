@@ -1,11 +1,10 @@
 -- `erp2::put_row` meets its contract: three parts are lent, and the CRC is stored.
-use mathlib.Core.Path.{_≡_, refl, sym, ap, _∙_}
-use mathlib.Core.List.{List}
-use Prim.Native.Nat.{ℕ, _+_, _-_, _≤_}
+use mathlib.Core.Path.{_≡_, refl, ap, _∙_}
+use Prim.Native.Nat.{ℕ, _+_, _-_}
 use native.Mathlib.Omega.{arith}
 use borrow.Author.Needs.{needs}
 use denote.Ref.{now}
-use lib.ListN.{length, length-set}
+use lib.ListN.{length-set}
 use Rattle.layout.proofs.Segments.{Writing, packed, begin, lend, lent, within, begun-length}
 use Rattle.erp2_model.specs.declared.Telegram.{Telegram}
 use Rattle.erp2_model.specs.declared.Sizes.{Sizes}

@@ -1,11 +1,7 @@
 -- `erp2::read` meets its contract: what the check says is what reading the fields asks for.
 use mathlib.Core.Path.{_≡_, _∙_, sym, ap}
-use mathlib.Core.List.{List}
-use Prim.Native.Nat.{ℕ}
 use borrow.Author.Needs.{needs}
 use denote.Ref.{now}
-use Rattle.refusal.specs.Number.{numberOf}
-use Rattle.refusal.specs.declared.Refusal.{Refusal}
 use Rattle.erp1.specs.Subtelegram.{checkedNumber}
 use Rattle.erp2_model.specs.Reading.{checkOf}
 use Rattle.erp2_model.proofs.Sound.{check-facts}

@@ -1,5 +1,5 @@
 -- `erp2::sizes_for` meets its contract: by the form.
-use mathlib.Core.Path.{_≡_, refl, sym, ap, _∙_}
+use mathlib.Core.Path.{ap, _∙_}
 use borrow.Author.Needs.{needs}
 use borrow.Author.Tests.{eq-eqb, ne-eqb}
 use Rattle.erp2_model.specs.Sizes.{shortSizes}

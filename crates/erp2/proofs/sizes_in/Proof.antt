@@ -1,16 +1,16 @@
 -- `erp2::sizes_in` meets its contract: by the form.
-use mathlib.Core.Path.{_≡_, refl, sym, ap, _∙_}
-use mathlib.Core.Bool.{Bool, true, false}
-use Prim.Native.Nat.{ℕ, _+_, _≤_, _<_, _%_}
+use mathlib.Core.Path.{_≡_, ap, _∙_}
+use mathlib.Core.Bool.{true, false}
+use Prim.Native.Nat.{_%_}
 use native.Mathlib.Omega.{arith}
 use borrow.Author.Needs.{needs}
 use borrow.Author.Tests.{le-leb, lt-leb}
 use denote.Ref.{now}
-use lib.ListN.{length, getD}
+use lib.ListN.{getD}
 use lib.Dec.{leb}
 use Rattle.erp2_model.specs.declared.Header.{Header}
 use Rattle.erp2_model.specs.Sizes.{shortSizes, longSizes}
-use Rattle.erp2_model.specs.Reading.{lengthByte, sizesIn}
+use Rattle.erp2_model.specs.Reading.{lengthByte}
 use Rattle.erp2.proofs.sizes_in.Statement.{statement}
 use Rattle.erp2.proofs.sizes_in.Tie as tie
 
