@@ -3,12 +3,14 @@ use std::time::Instant;
 
 mod collector;
 mod crc8;
+mod erp2;
 mod slots;
 
 fn main() {
     crc8::bench();
     slots::bench();
     collector::bench();
+    erp2::bench();
 }
 
 /// Nanoseconds a call: the best of many rounds of `calls` calls.

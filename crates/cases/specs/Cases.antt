@@ -1,11 +1,17 @@
--- Document 01, "Cases, P marks those proved": each row is what a definition gives, and what the document says. Assumes nothing.
+-- Document 01, "Cases, P marks those proved": each row is what a definition gives, and what the document says; behind these, three of our own
+-- on ERP2 telegrams. Assumes nothing.
 use Prim.Native.Nat.{ℕ, _+_}
 use mathlib.Core.List.{List, [], _∷_, _++_}
-use lib.ListN.{length}
+use mathlib.Core.Bool.{cond}
+use lib.ListN.{length, take, replicate}
 use Rattle.crc8.specs.Crc8.{crcOf}
 use Rattle.erp1.specs.Subtelegram.{hashOf, checkOf}
 use Rattle.telegram.specs.Addressing.{encapsulated}
 use Rattle.telegram.specs.Repeater.{repeatOf}
+use Rattle.telegram.specs.Output.{resultBytes}
+use Rattle.erp2_model.specs.declared.Telegram.{Telegram}
+use Rattle.erp2_model.specs.Reading.{Read, readOf}
+use Rattle.erp2_model.specs.Building.{buildOf}
 use Rattle.slots.specs.Plan.{plans, standardRule}
 use Rattle.model.specs.Answer.{Shown, Kept, Copy, Loose, Refused}
 use Rattle.model.specs.View.{fresh}
@@ -59,6 +65,38 @@ received t = Receive (record { bytes = oneByte; time = t })
 abbrev pub twice : ℕ → List ℕ
 twice t = answersOf (run (fresh 1) (received 0 ∷ received t ∷ []))
 
+-- ---- ERP2 telegrams: our own cases, worked out by hand from document 004's tables, which has no worked example
+
+-- the number; Length of a short form, address control, telegram type; repeater count and length of optional data, extended telegram type and
+-- Destination-ID, each behind its flag; then Originator-ID, data and optional data
+abbrev pub shownFields : Telegram → List ℕ
+shownFields t =
+    (t .short ∷ t .header .control ∷ t .header .kind ∷ [])
+    ++ (cond (t .extension .present) 1 0 ∷ t .extension .hops ∷ t .extension .announced ∷ [])
+    ++ (cond (t .subtype .present) 1 0 ∷ t .subtype .value ∷ cond (t .destination .present) 1 0 ∷ t .destination .id ∷ t .originator ∷ [])
+    ++ take (t .len) (t .payload)
+    ++ take (t .extension .announced) (t .optional)
+
+abbrev pub shownRead : Read → List ℕ
+shownRead r = r .number ∷ shownFields (r .telegram)
+
+-- what is built of what is read
+abbrev pub builtAgain : List ℕ → List ℕ
+builtAgain s = resultBytes (buildOf (readOf s .telegram) (replicate (length s) 0))
+
+-- a short form of 5: Originator-ID 01020304, data AA
+abbrev pub shortForm : List ℕ
+shortForm = 0x05 ∷ 0x01 ∷ 0x02 ∷ 0x03 ∷ 0x04 ∷ 0xAA ∷ []
+
+-- a 1BS telegram: Originator-ID 01020304 of 32 bits, data 09
+abbrev pub oneByteLong : List ℕ
+oneByteLong = 0x07 ∷ 0x21 ∷ 0x01 ∷ 0x02 ∷ 0x03 ∷ 0x04 ∷ 0x09 ∷ 0x8A ∷ []
+
+-- every field: header 5F, repeater count 1 and two bytes of optional data, extended telegram type 32, both IDs, data AA, optional data BB CC
+abbrev pub everyField : List ℕ
+everyField =
+    0x0F ∷ 0x5F ∷ 0x12 ∷ 0x32 ∷ 0x01 ∷ 0x02 ∷ 0x03 ∷ 0x04 ∷ 0xF1 ∷ 0xF2 ∷ 0xF3 ∷ 0xF4 ∷ 0xAA ∷ 0xBB ∷ 0xCC ∷ 0x23 ∷ []
+
 abbrev pub cases : List Case
 cases =
     record { got = crcOf (0x01 ∷ []) ∷ []; want = 0x07 ∷ [] }
@@ -86,4 +124,16 @@ cases =
     ∷ record { got = planCount 2 20_001 ∷ []; want = 0 ∷ [] }
     ∷ record { got = twice 100; want = kept ∷ copy ∷ [] }
     ∷ record { got = twice 101; want = kept ∷ kept ∷ [] }
+    ∷ record {
+      got = shownRead (readOf shortForm) ++ builtAgain shortForm;
+      want = (0 ∷ 5 ∷ 0 ∷ 0 ∷ 0 ∷ 0 ∷ 0 ∷ 0 ∷ 0 ∷ 0 ∷ 0 ∷ 0x01020304 ∷ 0xAA ∷ []) ++ shortForm;
+    }
+    ∷ record {
+      got = shownRead (readOf oneByteLong) ++ builtAgain oneByteLong;
+      want = (0 ∷ 0 ∷ 1 ∷ 1 ∷ 0 ∷ 0 ∷ 0 ∷ 0 ∷ 0 ∷ 0 ∷ 0 ∷ 0x01020304 ∷ 0x09 ∷ []) ++ oneByteLong;
+    }
+    ∷ record {
+      got = shownRead (readOf everyField) ++ builtAgain everyField;
+      want = (0 ∷ 0 ∷ 2 ∷ 15 ∷ 1 ∷ 1 ∷ 2 ∷ 1 ∷ 0x32 ∷ 1 ∷ 0xF1F2F3F4 ∷ 0x01020304 ∷ 0xAA ∷ 0xBB ∷ 0xCC ∷ []) ++ everyField;
+    }
     ∷ []
