@@ -74,7 +74,8 @@ module _ (t : Telegram) where
   -- a short form's Length
   by-form-short : isUnholdable t ≡ false → (x : Bool) → isShortForm t ≡ x → t .short ≤ 6
   unfolding isUnholdable
-  by-form-short u true f = ltb-false 6 (t .short) (neither (leb (256 ^ shortSizes (t .short) .originator) (t .originator)) (ltb 6 (t .short)) (rw f at u) .1)
+  by-form-short u true f =
+      ltb-false 6 (t .short) (neither (leb (256 ^ shortSizes (t .short) .originator) (t .originator)) (ltb 6 (t .short)) (rw f at u) .1)
   by-form-short u false f = omega (arith, eqb-true (t .short) 0 (not-false (eqb (t .short) 0) f))
 
   pub short-most : isUnholdable t ≡ false → t .short ≤ 6
@@ -85,11 +86,13 @@ module _ (t : Telegram) where
   by-form-long-data : t .short ≤ 6 → 250 < t .len → (x : Bool) → isShortForm t ≡ x → isMisfitting t ≡ true
   unfolding isMisfitting sizeOf
   by-form-long-data s h true f =
-      let n : eqb (overhead (shortSizes (t .short)) + t .len) (t .short) ≡ false = ne-eqb (overhead (shortSizes (t .short)) + t .len) (t .short) (λ (e : overhead (shortSizes (t .short)) + t .len ≡ t .short). omega arith) in
+      let n : eqb (overhead (shortSizes (t .short)) + t .len) (t .short) ≡ false
+      = ne-eqb (overhead (shortSizes (t .short)) + t .len) (t .short) (λ (e : overhead (shortSizes (t .short)) + t .len ≡ t .short). omega arith) in
       rw (f, n)
   by-form-long-data s h false f =
       let o = originator-low (t .header .control) in
-      let n : ltb 255 (overhead (longSizes (t .header) (t .extension .announced)) + t .len) ≡ true = lt-ltb 255 (overhead (longSizes (t .header) (t .extension .announced)) + t .len) (omega arith) in
+      let n : ltb 255 (overhead (longSizes (t .header) (t .extension .announced)) + t .len) ≡ true
+      = lt-ltb 255 (overhead (longSizes (t .header) (t .extension .announced)) + t .len) (omega arith) in
       simp (f, n, or-true)
 
   pub long-data : t .short ≤ 6 → 250 < t .len → true ≡ isMisfitting t

@@ -24,8 +24,10 @@ use Rattle.erp2_model.proofs.Facts.{optional-high, Lengths, short-facts, long-f
 use Rattle.erp2_model.proofs.Segments.{built-length}
 
 -- a chain of refusals, and the same chain of their numbers
-chain : (a b c : Bool) (n : ℕ) (out : List ℕ) (rest : Result) → (n ≡ 0 → ⊥) → n ≡ cond a (numberOf Argument) (cond b (numberOf ReservedAddress) (cond c (numberOf Misfit) 0))
-    → refused n out ≡ cond a (refused (numberOf Argument) out) (cond b (refused (numberOf ReservedAddress) out) (cond c (refused (numberOf Misfit) out) rest))
+chain : (a b c : Bool) (n : ℕ) (out : List ℕ) (rest : Result) → (n ≡ 0 → ⊥) → n ≡ cond a (numberOf Argument)
+    (cond b (numberOf ReservedAddress) (cond c (numberOf Misfit) 0))
+    → refused n out ≡ cond a (refused (numberOf Argument) out)
+    (cond b (refused (numberOf ReservedAddress) out) (cond c (refused (numberOf Misfit) out) rest))
 chain true b c n out rest z e = ap (λ (m : ℕ). refused m out) e
 chain false true c n out rest z e = ap (λ (m : ℕ). refused m out) e
 chain false false true n out rest z e = ap (λ (m : ℕ). refused m out) e
@@ -34,7 +36,8 @@ chain false false false n out rest z e = absurd (z e)
 pub build-refused : (t : Telegram) (out : List ℕ) (why : Refusal) → numberOf why ≡ admissionOf t → refused (numberOf why) out ≡ buildOf t out
 unfolding admissionOf buildOf
 build-refused t out why e =
-    chain (isUnholdable t || isAgainstHeader t) (not (isShortForm t) && isReserved (t .header)) (isMisfitting t) (numberOf why) out _ (refused-number why) e
+    chain (isUnholdable t || isAgainstHeader t) (not (isShortForm t) && isReserved (t .header)) (isMisfitting t) (numberOf why) out _
+    (refused-number why) e
 
 module _ (t : Telegram) (v : Buildable t) (out : List ℕ) where
   admitted-build : buildOf t out ≡ cond (ltb (length out) (1 + sizeOf t)) (refused (numberOf ShortOutput) out) (written (bytesOf t) out)
@@ -61,7 +64,8 @@ module _ (t : Telegram) (v : Buildable t) (out : List ℕ) where
     unfolding rowWritten bytesOf bodyOf sizeOf
     row-built =
         let n : 1 + overhead (sizesFor t) + t .len ≡ length (bytesOf t) = omega (arith, built-length t lengths) in
-        ap (λ (x : List ℕ). ((overhead (sizesFor t) + t .len) ∷ (rowBytes t (sizesFor t) ++ x)) ++ drop (1 + overhead (sizesFor t) + t .len) out) (by-form-seal (isShortForm t) refl)
+        ap (λ (x : List ℕ). ((overhead (sizesFor t) + t .len) ∷ (rowBytes t (sizesFor t) ++ x)) ++ drop (1 + overhead (sizesFor t) + t .len) out)
+        (by-form-seal (isShortForm t) refl)
         ∙ ap (λ (m : ℕ). ((overhead (sizesFor t) + t .len) ∷ (rowBytes t (sizesFor t) ++ sealOf t)) ++ drop m out) n
 
     pub build-done : 1 + sizeOf t ≤ length out → (n : ℕ) → n ≡ 1 + sizeOf t → (last : List ℕ) → last ≡ rowWritten t (sizesFor t) out

@@ -28,7 +28,8 @@ width : (a w : ℕ) → a + w - a ≡ w
 width a w = omega arith
 
 module _ (t : Telegram) (z : Sizes) where
-  pub ids-is : (n : ℕ) → n ≡ t .destination .id → ([] ++ be (z .originator - 0) (t .originator)) ++ be (z .originator + z .destination - z .originator) n ≡ idBytes t z
+  pub ids-is : (n : ℕ) → n ≡ t .destination .id → ([] ++ be (z .originator - 0) (t .originator)) ++ be
+      (z .originator + z .destination - z .originator) n ≡ idBytes t z
   unfolding idBytes
   ids-is n e =
       let o : z .originator - 0 ≡ z .originator = omega arith in
@@ -44,7 +45,8 @@ module _ (t : Telegram) (z : Sizes) where
 
   -- data of its own length, and optional data
   module _ (payload : length (t .payload) ≡ 250) (optional : length (t .optional) ≡ 15) (n : t .len ≤ 250) (p : z .optional ≤ 15) where
-    pub data-is : [] ++ resized (t .len - 0) (part 0 (t .len - 0) (t .payload)) ++ resized (t .len + z .optional - t .len) (part 0 (t .len + z .optional - t .len - 0) (t .optional)) ≡ dataBytes t z
+    pub data-is : [] ++ resized (t .len - 0) (part 0 (t .len - 0) (t .payload)) ++ resized (t .len + z .optional - t .len)
+        (part 0 (t .len + z .optional - t .len - 0) (t .optional)) ≡ dataBytes t z
     unfolding dataBytes
     data-is =
         let a : t .len - 0 ≡ t .len = omega arith in
@@ -67,13 +69,15 @@ module _ (t : Telegram) (z : Sizes) where
   -- ---- what the output then holds
 
   module _ (orig xs front : List ℕ) (size end : ℕ) (e : size ≡ overhead z + t .len) (f : front ≡ size ∷ rowBytes t z) (b : Begun orig front end xs) where
-    pub plain-is : z .crc ≤ 1 → (z .crc ≡ 1 → ⊥) → end ≡ 1 + z .header + z .extension + z .subtype + z .originator + z .destination + t .len + z .optional → xs ≡ rowWritten t z orig
+    pub plain-is : z .crc ≤ 1 → (z .crc ≡ 1 → ⊥) → end
+        ≡ 1 + z .header + z .extension + z .subtype + z .originator + z .destination + t .len + z .optional → xs ≡ rowWritten t z orig
     unfolding rowWritten
     plain-is h n k =
         let c : z .crc ≡ 0 = omega arith in
         let m : end ≡ 1 + overhead z + t .len = omega arith in
         rw (ne-eqb (z .crc) 1 n, append-nil (rowBytes t z))
-        (b .is ∙ ap (λ (x : List ℕ). x ++ drop end orig) f ∙ ap (λ (y : ℕ). (y ∷ rowBytes t z) ++ drop end orig) e ∙ ap (λ (y : ℕ). ((overhead z + t .len) ∷ rowBytes t z) ++ drop y orig) m)
+        (b .is ∙ ap (λ (x : List ℕ). x ++ drop end orig) f ∙ ap (λ (y : ℕ). (y ∷ rowBytes t z) ++ drop end orig) e ∙ ap
+        (λ (y : ℕ). ((overhead z + t .len) ∷ rowBytes t z) ++ drop y orig) m)
 
     behind : part 1 (end - 1) xs ≡ rowBytes t z
     behind =
@@ -81,13 +85,15 @@ module _ (t : Telegram) (z : Sizes) where
         let r : length (size ∷ rowBytes t z) ≡ end = rw f at l in
         rw (b .is, f) (take-at (rowBytes t z) (drop end orig) (end - 1) (omega arith))
 
-    pub sealed-is : z .crc ≡ 1 → end < length orig → end ≡ 1 + z .header + z .extension + z .subtype + z .originator + z .destination + t .len + z .optional
+    pub sealed-is : z .crc ≡ 1 → end < length orig → end
+        ≡ 1 + z .header + z .extension + z .subtype + z .originator + z .destination + t .len + z .optional
         → (c : ℕ) → c ≡ crcOf (part 1 (end - 1) xs) → set xs end c ≡ rowWritten t z orig
     unfolding rowWritten
     sealed-is h n k c g =
         let m : end + 1 ≡ 1 + overhead z + t .len = omega arith in
         let w = store b c n .is in
         rw (eq-eqb (z .crc) 1 h)
-        (w ∙ ap (λ (x : List ℕ). (x ++ (c ∷ [])) ++ drop (end + 1) orig) f ∙ ap (λ (y : ℕ). (size ∷ (rowBytes t z ++ (y ∷ []))) ++ drop (end + 1) orig) (g ∙ ap crcOf behind)
+        (w ∙ ap (λ (x : List ℕ). (x ++ (c ∷ [])) ++ drop (end + 1) orig) f ∙ ap
+        (λ (y : ℕ). (size ∷ (rowBytes t z ++ (y ∷ []))) ++ drop (end + 1) orig) (g ∙ ap crcOf behind)
         ∙ ap (λ (y : ℕ). (y ∷ (rowBytes t z ++ (crcOf (rowBytes t z) ∷ []))) ++ drop (end + 1) orig) e
         ∙ ap (λ (y : ℕ). ((overhead z + t .len) ∷ (rowBytes t z ++ (crcOf (rowBytes t z) ∷ []))) ++ drop y orig) m)

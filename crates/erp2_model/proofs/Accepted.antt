@@ -37,7 +37,9 @@ bits-hold b e x h k =
 module _ (s : List ℕ) (v : Sound s) (b : Bytes s) where
   originator-holds : leb (256 ^ sizesFor (fieldsOf s) .originator) (fieldsOf s .originator) ≡ false
   unfolding fieldsOf
-  originator-holds = rw (sizes-read s v) (lt-leb _ _ (field-lt (originatorAt (sizesIn s)) (sizesIn s .originator) s b (omega (arith, v .fits, v .long))))
+  originator-holds =
+      let low = field-lt (originatorAt (sizesIn s)) (sizesIn s .originator) s b (omega (arith, v .fits, v .long)) in
+      rw (sizes-read s v) (lt-leb _ _ low)
 
   short-holds : isShort s ≡ true → isUnholdable (fieldsOf s) ≡ false
   unfolding isUnholdable fieldsOf
@@ -65,7 +67,8 @@ module _ (s : List ℕ) (v : Sound s) (b : Bytes s) where
   unfolding isAgainstHeader fieldsOf
   long-agrees h =
       rw (form-long s v h)
-      (or-false (or-false (same-differ (fieldsOf s .extension .present)) (same-differ (fieldsOf s .subtype .present))) (same-differ (fieldsOf s .destination .present)))
+      (or-false (or-false (same-differ (fieldsOf s .extension .present)) (same-differ (fieldsOf s .subtype .present)))
+      (same-differ (fieldsOf s .destination .present)))
 
   named : isShort s ≡ true → fieldsOf s .short ≡ lengthByte s
   unfolding fieldsOf
@@ -93,5 +96,6 @@ module _ (s : List ℕ) (v : Sound s) (b : Bytes s) where
   pub build-fields : (out : List ℕ) → length s ≤ length out → buildOf (fieldsOf s) out ≡ written s out
   unfolding buildOf
   build-fields out h =
-      rw (holds-read (isShort s) refl, allowed-read (isShort s) refl, fits-read (isShort s) refl, length-read s v, le-ltb (length out) (1 + lengthByte s) (omega (arith, v .long)))
+      let room = le-ltb (length out) (1 + lengthByte s) (omega (arith, v .long)) in
+      rw (holds-read (isShort s) refl, allowed-read (isShort s) refl, fits-read (isShort s) refl, length-read s v, room)
       (ap (λ (xs : List ℕ). written xs out) (bytes-read s v b))

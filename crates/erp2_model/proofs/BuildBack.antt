@@ -138,7 +138,8 @@ module _ (t : Telegram) (shape : Shaped t) (f : isShortForm t ≡ false) (v : Lo
     second-byte =
         let two : extensionAt (sizesFor t) ≡ 2 = rw one-header refl in
         sym (field-one 2 (bytesOf t) (rw (built-length t l) (omega (arith, v .low))))
-        ∙ ap unbe (ap (λ (w : ℕ). part 2 w (bytesOf t)) (sym one-extension) ∙ ap (λ (a : ℕ). part a (sizesFor t .extension) (bytesOf t)) (sym two) ∙ part-extension t)
+        ∙ ap unbe (ap (λ (w : ℕ). part 2 w (bytesOf t)) (sym one-extension)
+        ∙ ap (λ (a : ℕ). part a (sizesFor t .extension) (bytesOf t)) (sym two) ∙ part-extension t)
         ∙ extension-read
 
   optional-is : (x : Bool) → t .header .extended ≡ x → cond x (getD (bytesOf t) 2 0 % 16) 0 ≡ cond x (t .extension .announced) 0
@@ -214,12 +215,18 @@ module _ (t : Telegram) (shape : Shaped t) (f : isShortForm t ≡ false) (v : Lo
       ap (λ (n : ℕ). made n (cond (isShortForm t) noHeader (t .header)) keptExtension keptSubtype keptDestination) (v .none)
       ∙ ap (λ (b : Bool). made 0 (cond b noHeader (t .header)) keptExtension keptSubtype keptDestination) f
 
+  abbrev readSubtype : Header → Subtype
+  readSubtype h = record { present = isTypeExtended h; value = unbe (subtypeField t) }
+
+  abbrev readDestination : Header → Destination
+  readDestination h = record { present = isAddressed h; id = unbe (destinationField t) }
+
   -- the same, with what a header says of its optional fields
   abbrev readAs : Header → Telegram
   readAs h =
       made 0 h (extensionOf (h .extended) (unbe (extensionField t)))
-      (record { present = isTypeExtended h; value = unbe (subtypeField t) })
-      (record { present = isAddressed h; id = unbe (destinationField t) })
+      (readSubtype h)
+      (readDestination h)
 
   header-built : headerOf (unbe (headerField t)) ≡ t .header
   header-built = ap headerOf header-read ∙ header-forth (t .header) (omega (arith, v .control)) (v .kind)
@@ -243,8 +250,8 @@ module _ (t : Telegram) (shape : Shaped t) (f : isShortForm t ≡ false) (v : Lo
         lt-leb (sizeOf t) 6 (omega (arith, v .low)),
       )
       (ap readAs header-built
-      ∙ ap (λ (e : Extension). made 0 (t .header) e (record { present = isTypeExtended (t .header); value = unbe (subtypeField t) }) (record { present = isAddressed (t .header); id = unbe (destinationField t) })) (extension-is (t .header .extended) refl)
-      ∙ ap (λ (u : Subtype). made 0 (t .header) keptExtension u (record { present = isAddressed (t .header); id = unbe (destinationField t) })) (subtype-is (isTypeExtended (t .header)) refl)
+      ∙ ap (λ (e : Extension). made 0 (t .header) e (readSubtype (t .header)) (readDestination (t .header))) (extension-is (t .header .extended) refl)
+      ∙ ap (λ (u : Subtype). made 0 (t .header) keptExtension u (readDestination (t .header))) (subtype-is (isTypeExtended (t .header)) refl)
       ∙ ap (λ (w : Destination). made 0 (t .header) keptExtension keptSubtype w) (destination-is (isAddressed (t .header)) refl)
       ∙ sym long-normal)
 

@@ -66,7 +66,8 @@ module _ (t : Telegram) (v : Buildable t) where
   unfolding isUnholdable isAgainstHeader isMisfitting
   short-facts f =
       let h = neither (leb (256 ^ shortSizes (t .short) .originator) (t .originator)) (ltb 6 (t .short)) (rw f at (v .holds)) in
-      let g = neither (differ (t .extension .present) false || differ (t .subtype .present) false) (differ (t .destination .present) false) (rw f at (v .agrees)) in
+      let before-destination = differ (t .extension .present) false || differ (t .subtype .present) false in
+      let g = neither before-destination (differ (t .destination .present) false) (rw f at (v .agrees)) in
       let g2 = neither (differ (t .extension .present) false) (differ (t .subtype .present) false) (g .0) in
       record {
         most = ltb-false 6 (t .short) (h .1);
@@ -81,10 +82,13 @@ module _ (t : Telegram) (v : Buildable t) where
   pub long-facts : isShortForm t ≡ false → Long t
   unfolding isUnholdable isAgainstHeader isMisfitting
   long-facts f =
-      let h = neither (leb (256 ^ longSizes (t .header) 0 .originator) (t .originator)) (ltb 7 (t .header .control) || ltb 15 (t .header .kind) || (t .extension .present && (ltb 15 (t .extension .hops) || ltb 15 (t .extension .announced)))) (rw f at (v .holds)) in
-      let h1 = neither (ltb 7 (t .header .control) || ltb 15 (t .header .kind)) (t .extension .present && (ltb 15 (t .extension .hops) || ltb 15 (t .extension .announced))) (h .1) in
+      let header-over = ltb 7 (t .header .control) || ltb 15 (t .header .kind) in
+      let extension-over = t .extension .present && (ltb 15 (t .extension .hops) || ltb 15 (t .extension .announced)) in
+      let h = neither (leb (256 ^ longSizes (t .header) 0 .originator) (t .originator)) (header-over || extension-over) (rw f at (v .holds)) in
+      let h1 = neither header-over extension-over (h .1) in
       let h2 = neither (ltb 7 (t .header .control)) (ltb 15 (t .header .kind)) (h1 .0) in
-      let g = neither (differ (t .extension .present) (t .header .extended) || differ (t .subtype .present) (isTypeExtended (t .header))) (differ (t .destination .present) (isAddressed (t .header))) (rw f at (v .agrees)) in
+      let before-destination = differ (t .extension .present) (t .header .extended) || differ (t .subtype .present) (isTypeExtended (t .header)) in
+      let g = neither before-destination (differ (t .destination .present) (isAddressed (t .header))) (rw f at (v .agrees)) in
       let g2 = neither (differ (t .extension .present) (t .header .extended)) (differ (t .subtype .present) (isTypeExtended (t .header))) (g .0) in
       let k = neither (ltb (sizeOf t) 7) (ltb 255 (sizeOf t)) (rw f at (v .fits)) in
       let bits : t .extension .present ≡ true → (ltb 15 (t .extension .hops) ≡ false) × (ltb 15 (t .extension .announced) ≡ false)

@@ -83,7 +83,8 @@ module _ (t : Telegram) where
 
   pub part-destination : part (destinationAt z) (z .destination) (bytesOf t) ≡ destinationField
   part-destination =
-      segment 5 (destinationAt z) (z .destination) (omega (arith, header-length, extension-length, subtype-length, originator-length)) destination-length
+      segment 5 (destinationAt z) (z .destination) (omega (arith, header-length, extension-length, subtype-length, originator-length))
+      destination-length
 
   -- the start of the data, in segments
   data-start : start 6 segments ≡ payloadAt z

@@ -4,11 +4,10 @@ use mathlib.Core.List.{List}
 use Prim.Native.Nat.{ℕ, _+_, _-_, _^_, _≤_, _<_}
 use native.Mathlib.Nat.{pow-le-pow-right}
 use native.Mathlib.Omega.{arith}
-use lib.ListN.{length, length-append, length-replicate}
 use lib.Seq.{take-append-seam}
-use Rattle.lists.specs.Lists.{padded}
 use Rattle.layout.specs.Buffer.{part}
 use Rattle.layout.specs.BigEndian.{Bytes}
+use Rattle.layout.proofs.Buffer.{padded-length}
 use Rattle.layout.proofs.Segments.{part-length}
 use Rattle.layout.proofs.BigEndian.{field-lt}
 use Rattle.telegram.specs.Output.{Result, written, resultBytes}
@@ -43,9 +42,6 @@ read-built t shape out e =
     rw (s, r .checks) (ap (λ (u : Telegram). record { number = 0; telegram = u }) (r .fields))
 
 -- ---- what is read is in normal form
-
-padded-length : (m : ℕ) (xs : List ℕ) → length xs ≤ m → length (padded m xs) ≡ m
-padded-length m xs h = simp (length-append, length-replicate) (omega arith)
 
 -- a number of at most w bytes
 narrow : (n k w : ℕ) → k ≤ w → n < 256 ^ k → n < 256 ^ w
@@ -82,7 +78,8 @@ normal-read s b e =
     let t = readOf s .telegram in
     let built : buildOf t s ≡ written s s = build-read s s b e (omega arith) in
     let shape : Shaped t = rw e (read-shaped s (check-facts s e) b) in
-    let back : readOf (resultBytes (buildOf t s)) ≡ record { number = 0; telegram = normalOf t } = read-built t shape s (ap (λ (r : Result). r .number) built) in
+    let back : readOf (resultBytes (buildOf t s)) ≡ record { number = 0; telegram = normalOf t }
+    = read-built t shape s (ap (λ (r : Result). r .number) built) in
     let same : readOf (resultBytes (buildOf t s)) ≡ readOf s = ap (λ (r : Result). readOf (resultBytes r)) built ∙ ap readOf (written-bytes s s) in
     ap (λ (r : Read). r .telegram) (sym back ∙ same)
 

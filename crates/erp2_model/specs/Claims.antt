@@ -67,7 +67,8 @@ optionalRow b = 8 * longSizes (headerOf b) 0 .extension ∷ 8 * longSizes (heade
 
 pub record Figures : Type 0 where
   -- figure 9, Length 1 to 6; 7 is a long form
-  pub short : map shortRow (1 ∷ 2 ∷ 3 ∷ 4 ∷ 5 ∷ 6 ∷ []) ≡ (8 ∷ 0 ∷ []) ∷ (8 ∷ 8 ∷ []) ∷ (16 ∷ 8 ∷ []) ∷ (24 ∷ 8 ∷ []) ∷ (32 ∷ 8 ∷ []) ∷ (32 ∷ 16 ∷ []) ∷ []
+  pub short : map shortRow (1 ∷ 2 ∷ 3 ∷ 4 ∷ 5 ∷ 6 ∷ [])
+      ≡ (8 ∷ 0 ∷ []) ∷ (8 ∷ 8 ∷ []) ∷ (16 ∷ 8 ∷ []) ∷ (24 ∷ 8 ∷ []) ∷ (32 ∷ 8 ∷ []) ∷ (32 ∷ 16 ∷ []) ∷ []
   pub forms : map (λ (l : ℕ). isShort (l ∷ [])) (1 ∷ 6 ∷ 7 ∷ []) ≡ true ∷ true ∷ false ∷ []
   -- figure 11, bits 5 to 7: 000, 001, 010, 011, and the reserved 100, 101, 110, 111
   pub control : map idRow (0x00 ∷ 0x20 ∷ 0x40 ∷ 0x60 ∷ []) ≡ (24 ∷ 0 ∷ []) ∷ (32 ∷ 0 ∷ []) ∷ (32 ∷ 32 ∷ []) ∷ (48 ∷ 0 ∷ []) ∷ []

@@ -28,12 +28,14 @@ is-misfitting-requires c κs = short-most _ (holds (c .before .before .before .b
 returns-4 : tie.Need-returns-4
 returns-4 c =
     let at = c .before .before in
-    admits-misfit _ (holds (at .before .before .before .before .before)) (agrees (at .before .before .before)) (at .if3 .left) (sym (c .before .is-misfitting .ensures) ∙ c .if4 .taken)
+    admits-misfit _ (holds (at .before .before .before .before .before)) (agrees (at .before .before .before)) (at .if3 .left)
+    (sym (c .before .is-misfitting .ensures) ∙ c .if4 .taken)
 
 returns-5 : tie.Need-returns-5
 returns-5 c =
     let at = c .before .before in
-    admits-all _ (holds (at .before .before .before .before .before)) (agrees (at .before .before .before)) (at .if3 .left) (sym (c .before .is-misfitting .ensures) ∙ c .if4 .left)
+    admits-all _ (holds (at .before .before .before .before .before)) (agrees (at .before .before .before)) (at .if3 .left)
+    (sym (c .before .is-misfitting .ensures) ∙ c .if4 .left)
 
 pub admission-spec : {M : Type 1} → statement M
 admission-spec =

@@ -11,7 +11,9 @@ emit-requires : tie.Need-emit-requires
 emit-requires c κs = admitted _ (sym (c .before .before .before .admission .ensures) ∙ ap checkedNumber (c .before .enum-told .given .1))
 
 returns : tie.Need-returns
-returns c = build-refused _ _ (c .before .admission2 .given .0 .0) (sym (ap checkedNumber (c .before .admission2 .given .1)) ∙ c .before .before .before .admission .ensures)
+returns c =
+    build-refused _ _ (c .before .admission2 .given .0 .0)
+    (sym (ap checkedNumber (c .before .admission2 .given .1)) ∙ c .before .before .before .admission .ensures)
 
 pub build-spec : {M : Type 1} → statement M
 build-spec =

@@ -37,16 +37,20 @@ abbrev crcIn : List ℕ → ℕ
 crcIn s = crcOf (part 1 (lengthByte s - 1) s)
 
 crc-is : (c : tie.After-crc8) → c .crc8 .result ≡ crcIn (text (c .before .before .before .before .before .before))
-crc-is c = c .crc8 .ensures ∙ ap (λ (x : ℕ). crcOf (part 1 (x - 1) (text (c .before .before .before .before .before .before)))) (l-is (c .before .before .before .before .before .before))
+crc-is c =
+    c .crc8 .ensures ∙ ap (λ (x : ℕ). crcOf (part 1 (x - 1) (text (c .before .before .before .before .before .before))))
+    (l-is (c .before .before .before .before .before .before))
 
 last-is : (c : tie.After-wide) → getD (text c) (c .wide .result) 0 ≡ getD (text c) (lengthByte (text c)) 0
 last-is c = ap (λ (x : ℕ). getD (text c) x 0) (l-is c)
 
-intact : (c : tie.Else5) → getD (text (c .before .before .before .before .before .before .before)) (lengthByte (text (c .before .before .before .before .before .before .before))) 0
+intact : (c : tie.Else5) → getD (text (c .before .before .before .before .before .before .before))
+    (lengthByte (text (c .before .before .before .before .before .before .before))) 0
     ≡ crcIn (text (c .before .before .before .before .before .before .before))
 intact c = sym (last-is (c .before .before .before .before .before .before .before)) ∙ c .if5 .left ∙ crc-is (c .before)
 
-control-is : (c : tie.After-header-of) → c .header-of .result ≡ headerIn (text (c .before .before .before .before .before .before .before .before .before))
+control-is : (c : tie.After-header-of) → c .header-of .result ≡ headerIn
+    (text (c .before .before .before .before .before .before .before .before .before))
 control-is c = c .header-of .ensures
 
 -- at the last test
@@ -83,14 +87,17 @@ returns-6 : tie.Need-returns-6
 returns-6 c =
     let sealed = c .before .before .before .before in
     let tested = sealed .before .before .before .before in
-    check-reserved _ (some (tested .before .before)) (long (tested .before)) (high tested) (intact sealed) (rw (control-is (c .before .before)) at (c .if6 .taken))
+    check-reserved _ (some (tested .before .before)) (long (tested .before)) (high tested) (intact sealed)
+    (rw (control-is (c .before .before)) at (c .if6 .taken))
 
 overhead-requires : tie.Need-overhead-requires
 overhead-requires c κs =
     let h = c .before .before .before .before .header-of .result in
     let a = getD (text (c .before .before .before .before .before .before .before .before .before .before .before .before .before)) 2 0 % 16 in
     let e : c .long-sizes .result ≡ longSizes h a = c .long-sizes .ensures in
-    rw e (long-small h a (low-bits (getD (text (c .before .before .before .before .before .before .before .before .before .before .before .before .before)) 2 0)))
+    rw e
+    (long-small h a
+    (low-bits (getD (text (c .before .before .before .before .before .before .before .before .before .before .before .before .before)) 2 0)))
 
 returns-7 : tie.Need-returns-7
 returns-7 c =
@@ -98,7 +105,8 @@ returns-7 c =
     let opened = last .before .before .before in
     let sealed = opened .before .before .before .before in
     let tested = sealed .before .before .before .before in
-    check-misfit _ (some (tested .before .before)) (long (tested .before)) (high tested) (intact sealed) (rw (control-is (opened .before .before)) at (opened .if6 .left))
+    check-misfit _ (some (tested .before .before)) (long (tested .before)) (high tested) (intact sealed)
+    (rw (control-is (opened .before .before)) at (opened .if6 .left))
     (rw (l-is (tested .before .before .before), overhead-is last) at (c .if7 .taken))
 
 returns-8 : tie.Need-returns-8
@@ -107,7 +115,8 @@ returns-8 c =
     let opened = last .before .before .before in
     let sealed = opened .before .before .before .before in
     let tested = sealed .before .before .before .before in
-    check-long _ (some (tested .before .before)) (long (tested .before)) (high tested) (intact sealed) (rw (control-is (opened .before .before)) at (opened .if6 .left))
+    check-long _ (some (tested .before .before)) (long (tested .before)) (high tested) (intact sealed)
+    (rw (control-is (opened .before .before)) at (opened .if6 .left))
     (rw (l-is (tested .before .before .before), overhead-is last) at (c .if7 .left))
 
 pub check-spec : {M : Type 1} → statement M

@@ -24,14 +24,16 @@ row-requires : tie.Need-row-requires
 row-requires c κs =
     let s = now (c .before .before .before .before .before .before .before .args .s) in
     let w = c .before .before .before .before .wide .ensures in
-    rw (c .before .before .overhead .ensures, c .before .before .before .sizes-in .ensures, w .0) (placed s (c .before .before .before .before .before .before .before .pre) (rw (w .0) at (w .1)))
+    rw (c .before .before .overhead .ensures, c .before .before .before .sizes-in .ensures, w .0)
+    (placed s (c .before .before .before .before .before .before .before .pre) (rw (w .0) at (w .1)))
 
 returns : tie.Need-returns
 unfolding fieldsOf
 returns c =
     let s = now (c .before .before .before .before .before .before .before .before .args .s) in
     let w = c .before .before .before .before .before .wide .ensures in
-    rw (c .row .ensures, c .before .before .before .overhead .ensures, c .before .before .before .before .sizes-in .ensures, w .0, c .before .short-of .ensures)
+    rw
+    (c .row .ensures, c .before .before .before .overhead .ensures, c .before .before .before .before .sizes-in .ensures, w .0, c .before .short-of .ensures)
 
 pub fields-spec : {M : Type 1} → statement M
 fields-spec =

@@ -21,7 +21,12 @@ returns c = rw (limit-is (c .before .before .before .before), ne-eqb _ _ (c .bef
 
 returns-2 : tie.Need-returns-2
 unfolding isUnholdable
-returns-2 c = rw (limit-is (c .before .before .before .before .before .before .before .before .before .before), eq-eqb _ _ (c .before .before .before .before .before .before .before .if1 .left))
+returns-2 c =
+    rw (
+      limit-is (c .before .before .before .before .before .before .before .before .before .before),
+      eq-eqb _ _
+          (c .before .before .before .before .before .before .before .if1 .left),
+    )
 
 pub is-unholdable-spec : {M : Type 1} → statement M
 is-unholdable-spec = tie.close (tie.spec (λ c κs. search needs) limit-requires returns returns-2)

@@ -32,7 +32,10 @@ cast-n c = omega (arith, c .shared-slice-known .given (c .before .before .loop .
 add-n : tie.Need-add-n Inv-loop μ-loop
 add-n c =
     let at = c .before .before .loop in
-    record { fits = four-lt (at .i + 1) _ (omega arith) (digit-lt (at .i) (at .n) _ (at .inv .2) (omega (arith, c .shared-slice-known .given (at .i)))) }
+    record {
+      fits = four-lt (at .i + 1) _ (omega arith)
+          (digit-lt (at .i) (at .n) _ (at .inv .2) (omega (arith, c .shared-slice-known .given (at .i))));
+    }
 
 loop-again : tie.Need-loop-again Inv-loop μ-loop
 loop-again c =

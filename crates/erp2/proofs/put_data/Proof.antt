@@ -24,15 +24,19 @@ abbrev step1 : (c : tie.After-put-bytes) → Writing (start c .args .t .len)
 step1 c =
     let a = start c .args in
     packed
-    (lend-sized (begin (now (a .out))) _ (λ w. resized w (part 0 (a .t .len - 0) (a .t .payload))) (a .t .len) (c .put-bytes .ensures) (c .put-bytes .kept .0) (omega arith)
+    (lend-sized (begin (now (a .out))) _ (λ w. resized w (part 0 (a .t .len - 0) (a .t .payload))) (a .t .len) (c .put-bytes .ensures)
+    (c .put-bytes .kept .0) (omega arith)
     (omega (arith, start c .pre .0)))
 
-abbrev step2 : (c : tie.After-put-bytes2) → Writing (start (c .before .before .before .before .before .before) .args .t .len + start (c .before .before .before .before .before .before) .args .z .optional)
+abbrev step2 : (c : tie.After-put-bytes2) → Writing
+    (start (c .before .before .before .before .before .before) .args .t .len + start
+    (c .before .before .before .before .before .before) .args .z .optional)
 step2 c =
     let at = c .before .before .before .before .before .before in
     let a = start at .args in
     packed
-    (lend-sized (step1 at .begun) _ (λ w. resized w (part 0 (a .t .len + a .z .optional - a .t .len - 0) (a .t .optional))) (a .t .len + a .z .optional) (c .put-bytes2 .ensures)
+    (lend-sized (step1 at .begun) _ (λ w. resized w (part 0 (a .t .len + a .z .optional - a .t .len - 0) (a .t .optional)))
+    (a .t .len + a .z .optional) (c .put-bytes2 .ensures)
     (c .put-bytes2 .kept .0) (omega arith) (omega (arith, start at .pre .0)))
 
 returns : tie.Need-returns

@@ -32,22 +32,27 @@ abbrev step1 : (c : tie.After-put-number) → Writing (extensionAt (first (c .be
 step1 c =
     let at = c .before .before .before in
     let a = first at .args in
-    packed (lend-sized (step0 at .begun) _ (λ w. be w (c .before .header-byte .result)) (extensionAt (a .z)) (c .put-number .ensures) (c .put-number .kept .0) (omega arith) (omega (arith, first at .pre)))
+    packed
+    (lend-sized (step0 at .begun) _ (λ w. be w (c .before .header-byte .result)) (extensionAt (a .z)) (c .put-number .ensures)
+    (c .put-number .kept .0) (omega arith) (omega (arith, first at .pre)))
 
 abbrev step2 : (c : tie.After-put-number2) → Writing (subtypeAt (first (c .before .before .before .before .before .before .before .before) .args .z))
 step2 c =
     let at = c .before .before .before .before .before in
     let from = at .before .before .before in
     packed
-    (lend-sized (step1 at .begun) _ (λ w. be w (c .before .extension-byte .result)) (subtypeAt (first from .args .z)) (c .put-number2 .ensures) (c .put-number2 .kept .0) (omega arith)
+    (lend-sized (step1 at .begun) _ (λ w. be w (c .before .extension-byte .result)) (subtypeAt (first from .args .z)) (c .put-number2 .ensures)
+    (c .put-number2 .kept .0) (omega arith)
     (omega (arith, first from .pre)))
 
-abbrev step3 : (c : tie.After-put-number3) → Writing (endAt (first (c .before .before .before .before .before .before .before .before .before .before .before .before .before) .args .z))
+abbrev step3 : (c : tie.After-put-number3) → Writing
+    (endAt (first (c .before .before .before .before .before .before .before .before .before .before .before .before .before) .args .z))
 step3 c =
     let at = c .before .before .before .before .before in
     let from = at .before .before .before .before .before .before .before .before in
     packed
-    (lend-sized (step2 at .begun) _ (λ w. be w (c .before .byte-number .result)) (endAt (first from .args .z)) (c .put-number3 .ensures) (c .put-number3 .kept .0) (omega arith)
+    (lend-sized (step2 at .begun) _ (λ w. be w (c .before .byte-number .result)) (endAt (first from .args .z)) (c .put-number3 .ensures)
+    (c .put-number3 .kept .0) (omega arith)
     (omega (arith, first from .pre)))
 
 returns : tie.Need-returns
@@ -58,7 +63,8 @@ returns c =
     let from = one .before .before .before in
     let a = first from .args in
     done (step3 last .begun) (first from .pre)
-    ∙ head-is (a .t) (a .z) (a .size) _ _ _ (one .before .header-byte .ensures) (two .before .extension-byte .ensures) (last .before .byte-number .ensures)
+    ∙ head-is (a .t) (a .z) (a .size) _ _ _ (one .before .header-byte .ensures) (two .before .extension-byte .ensures)
+    (last .before .byte-number .ensures)
 
 pub put-head-spec : {M : Type 1} → statement M
 put-head-spec =

@@ -17,24 +17,41 @@ use Rattle.erp2.proofs.row.Tie as tie
 
 optional-of-requires : tie.Need-optional-of-requires
 optional-of-requires c κs =
-    let a = c .before .before .before .before .before .before .before .before .before .before .before .before .before .before .before .before .before .before .before .before .before .args in
-    part-short (payloadAt (a .z) + a .n) (a .z .optional) 15 (now (a .s)) (c .before .before .before .before .before .before .before .before .before .before .before .before .before .before .before .before .before .before .before .before .before .pre .optional)
+    let header = c .before .before .before .before .before .before .before .before .before .before .before in
+    let first = header .before .before .before .before .before .before .before .before .before .before in
+    let a = first .args in
+    part-short (payloadAt (a .z) + a .n) (a .z .optional) 15 (now (a .s)) (first .pre .optional)
 
+-- from the last call back to the first: each field is the number that its part spells, or its part
 returns : tie.Need-returns
 returns c =
-    let a = c .before .before .before .before .before .before .before .before .before .before .before .before .before .before .before .before .before .before .before .before .before .before .before .before .args in
+    let extra = c .before .before in
+    let payload = extra .before .before in
+    let id = payload .before .before in
+    let from = id .before .before in
+    let value = from .before .before in
+    let byte = value .before .before in
+    let header = byte .before .before in
+    let first = header .before .before .before .before .before .before .before .before .before .before in
+    let a = first .args in
     let s = now (a .s) in
     let z = a .z in
-    let h : c .before .before .before .before .before .before .before .before .before .before .before .before .before .before .header-of .result ≡ headerOf (unbe (part 1 (z .header) s))
-    = c .before .before .before .before .before .before .before .before .before .before .before .before .before .before .header-of .ensures ∙ ap headerOf (c .before .before .before .before .before .before .before .before .before .before .before .before .before .before .before .small .ensures ∙ ap unbe (part-ends 1 (z .header) s)) in
-    let e : c .before .before .before .before .before .before .before .before .before .before .before .before .small2 .result ≡ unbe (part (extensionAt z) (z .extension) s) = c .before .before .before .before .before .before .before .before .before .before .before .before .small2 .ensures ∙ ap unbe (part-ends (extensionAt z) (z .extension) s) in
-    let v : c .before .before .before .before .before .before .before .before .before .before .small3 .result ≡ unbe (part (subtypeAt z) (z .subtype) s) = c .before .before .before .before .before .before .before .before .before .before .small3 .ensures ∙ ap unbe (part-ends (subtypeAt z) (z .subtype) s) in
-    let i : c .before .before .before .before .before .before .middle .result ≡ unbe (part (destinationAt z) (z .destination) s) = c .before .before .before .before .before .before .middle .ensures ∙ ap unbe (part-ends (destinationAt z) (z .destination) s) in
-    let p : c .before .before .before .before .payload-of .result ≡ padded 250 (part (payloadAt z) (a .n) s) = c .before .before .before .before .payload-of .ensures ∙ ap (padded 250) (part-ends (payloadAt z) (a .n) s) in
-    let o : c .before .before .optional-of .result ≡ padded 15 (part (payloadAt z + a .n) (z .optional) s) = c .before .before .optional-of .ensures ∙ ap (padded 15) (part-ends (payloadAt z + a .n) (z .optional) s) in
-    let f : c .before .before .before .before .before .before .before .before .read-number .result ≡ unbe (part (originatorAt z) (z .originator) s)
-    = c .before .before .before .before .before .before .before .before .read-number .ensures ∙ ap unbe (ap (take 8) (part-ends (originatorAt z) (z .originator) s)
-    ∙ take-all 8 (part (originatorAt z) (z .originator) s) (take-short (z .originator) 8 (drop (originatorAt z) s) (c .before .before .before .before .before .before .before .before .before .before .before .before .before .before .before .before .before .before .before .before .before .before .before .before .pre .originator))) in
+    let h : header .header-of .result ≡ headerOf (unbe (part 1 (z .header) s))
+    = header .header-of .ensures ∙ ap headerOf (header .before .small .ensures ∙ ap unbe (part-ends 1 (z .header) s)) in
+    let e : byte .small2 .result ≡ unbe (part (extensionAt z) (z .extension) s)
+    = byte .small2 .ensures ∙ ap unbe (part-ends (extensionAt z) (z .extension) s) in
+    let v : value .small3 .result ≡ unbe (part (subtypeAt z) (z .subtype) s)
+    = value .small3 .ensures ∙ ap unbe (part-ends (subtypeAt z) (z .subtype) s) in
+    let short = take-short (z .originator) 8 (drop (originatorAt z) s) (first .pre .originator) in
+    let f : from .read-number .result ≡ unbe (part (originatorAt z) (z .originator) s)
+    = from .read-number .ensures
+    ∙ ap unbe (ap (take 8) (part-ends (originatorAt z) (z .originator) s) ∙ take-all 8 (part (originatorAt z) (z .originator) s) short) in
+    let i : id .middle .result ≡ unbe (part (destinationAt z) (z .destination) s)
+    = id .middle .ensures ∙ ap unbe (part-ends (destinationAt z) (z .destination) s) in
+    let p : payload .payload-of .result ≡ padded 250 (part (payloadAt z) (a .n) s)
+    = payload .payload-of .ensures ∙ ap (padded 250) (part-ends (payloadAt z) (a .n) s) in
+    let o : extra .optional-of .result ≡ padded 15 (part (payloadAt z + a .n) (z .optional) s)
+    = extra .optional-of .ensures ∙ ap (padded 15) (part-ends (payloadAt z + a .n) (z .optional) s) in
     rw (h, e, v, f, i, p, o)
 
 pub row-spec : {M : Type 1} → statement M
