@@ -220,15 +220,11 @@ impl Codec {
         let header = Header::of(next(&mut rest, 1)[0]);
         let extension = header.extended.then(|| next(&mut rest, 1)[0]);
         let subtype = self.is_type_extended(header).then(|| next(&mut rest, 1)[0]);
-        let early = self.is("Destination-ID first").then_some(4).unwrap_or(0);
-        let early = next(&mut rest, if self.is_addressed(header) { early } else { 0 });
+        let swapped = self.is("Destination-ID first") && self.is_addressed(header);
+        let early = next(&mut rest, if swapped { 4 } else { 0 });
         let originator = number(next(&mut rest, id_bytes(header.control)));
         let destination = self.is_addressed(header).then(|| {
-            let id = if early.is_empty() {
-                next(&mut rest, 4)
-            } else {
-                early
-            };
+            let id = if swapped { early } else { next(&mut rest, 4) };
             number(id) as u32
         });
         let extension = extension.map(|byte| Extension {
