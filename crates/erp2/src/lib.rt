@@ -27,8 +27,20 @@ ghost use Rattle.telegram.specs.Output.{resultOf};
 ghost use Rattle.erp2_model.specs.Bounds.{Fitting, Placed, Buildable};
 ghost use Rattle.erp2.specs.Private.{Laid, rowWritten, headBytes, idBytes, dataBytes, admissionOf};
 
-// The longest Data_PL of a short form.
+// The longest Data_PL of a short form, and the shortest and longest of a long one.
 const MAX_SHORT: usize = 6;
+
+const MIN_LONG: usize = 7;
+
+const MAX_LONG: usize = 255;
+
+// The first reserved address control, and the one with a Destination-ID (004, figure 11).
+const RESERVED: u8 = 4;
+
+const ADDRESSED: u8 = 2;
+
+// The telegram type that says that an extended telegram type follows.
+const EXTENDED_TYPE: u8 = 15;
 
 // Reads a length byte and Data_PL. Refused, in this order: a wrong length (1), and of a long form a wrong CRC (13), a reserved address
 // control (14), fields that do not fit (15); then all is zero.
@@ -158,7 +170,7 @@ fn admission(t: Telegram) -> Checked
         return Checked::Refused(Refusal::Argument);
     }
     let short = t.short != 0;
-    let reserved = !short & (4 <= t.header.control);
+    let reserved = !short & (RESERVED <= t.header.control);
     if reserved {
         return Checked::Refused(Refusal::ReservedAddress);
     }
@@ -189,8 +201,8 @@ fn is_against_header(t: Telegram) -> bool
     let short = t.short != 0;
     let h = t.header;
     let extension = differ(t.extension.present, !short & h.extended);
-    let subtype = differ(t.subtype.present, !short & (h.kind == 15));
-    let destination = differ(t.destination.present, !short & (h.control == 2));
+    let subtype = differ(t.subtype.present, !short & (h.kind == EXTENDED_TYPE));
+    let destination = differ(t.destination.present, !short & (h.control == ADDRESSED));
     (extension | subtype) | destination
 }
 
@@ -206,7 +218,7 @@ fn is_misfitting(t: Telegram) -> bool
     if t.short != 0 {
         return size != wide(t.short);
     }
-    (size < 7) | (255 < size)
+    (size < MIN_LONG) | (MAX_LONG < size)
 }
 
 // The tests of reading, in their order.
@@ -231,7 +243,7 @@ fn check(s: &[u8]) -> Checked
         return Checked::Refused(Refusal::Crc);
     }
     let h = header_of(s[1]);
-    if 4 <= h.control {
+    if RESERVED <= h.control {
         return Checked::Refused(Refusal::ReservedAddress);
     }
     if l < overhead(long_sizes(h, s[2] % 16)) {
@@ -279,12 +291,12 @@ fn row(s: &[u8], z: Sizes, n: usize, short: u8) -> Telegram
             announced: e % 16,
         },
         subtype: Subtype {
-            present: h.kind == 15,
+            present: h.kind == EXTENDED_TYPE,
             value: value,
         },
         originator: from,
         destination: Destination {
-            present: h.control == 2,
+            present: h.control == ADDRESSED,
             id: id,
         },
         payload: payload,
@@ -424,9 +436,9 @@ fn long_sizes(h: Header, announced: u8) -> Sizes
     Sizes {
         header: 1,
         extension: if_set(h.extended, 1),
-        subtype: if_set(h.kind == 15, 1),
+        subtype: if_set(h.kind == EXTENDED_TYPE, 1),
         originator: originator_size(h.control),
-        destination: if_set(h.control == 2, 4),
+        destination: if_set(h.control == ADDRESSED, 4),
         optional: if_set(h.extended, wide(announced)),
         crc: 1,
     }
@@ -449,7 +461,7 @@ fn short_originator(length: usize) -> usize
 fn originator_size(control: u8) -> usize
     ensures { λ r. ⌜ r ≡ getD originators control 6 ⌝ }
 {
-    if control < 4 {
+    if control < RESERVED {
         return ORIGINATORS[control as usize];
     }
     6
