@@ -1,8 +1,8 @@
--- Members of a list: what a test of all says of each, and an index in range gives one. Assumes nothing.
-use mathlib.Core.Path.{_≡_, refl, _∙_, ap}
+-- Members of a list: what a test of all says of each, that an index in range gives one, and that each has an index. Assumes nothing.
+use mathlib.Core.Path.{_≡_, refl, sym, _∙_, ap}
 use mathlib.Core.Bool.{Bool, true}
 use mathlib.Core.List.{List, [], _∷_, List·Memᴰ, List·Memᴰ·head, List·Memᴰ·tail}
-use Prim.Native.Nat.{ℕ, zero, suc, _<_}
+use Prim.Native.Nat.{ℕ, zero, suc, _<_, zero-le, suc-le-suc}
 use native.Mathlib.Nat.{not-suc-le-zero, le-of-suc-le-suc}
 use lib.ListN.{length, getD}
 use Rattle.lists.specs.Lists.{all}
@@ -21,3 +21,7 @@ module _ {A : Type 0} where
   getD-in [] k x h = absurd (not-suc-le-zero h)
   getD-in (y ∷ ys) zero x h = List·Memᴰ·head refl
   getD-in (y ∷ ys) (suc k) x h = List·Memᴰ·tail (getD-in ys k x (le-of-suc-le-suc h))
+
+  pub in-getD : {x : A} {xs : List A} (d : A) → List·Memᴰ x xs → (k : ℕ) × (k < length xs) × (getD xs k d ≡ x)
+  in-getD d (List·Memᴰ·head {x = y} {xs = ys} e) = (0, suc-le-suc zero-le, sym e)
+  in-getD d (List·Memᴰ·tail {x = y} {xs = ys} m) = let w = in-getD d m in (suc (w .0), suc-le-suc (w .1), w .2)

@@ -1,16 +1,20 @@
--- A draw gets a lawful plan, and 9 only where there is none: what it picks is a member of `plans`. Assumes nothing.
-use mathlib.Core.Path.{_≡_, refl}
+-- A draw gets a lawful plan, and 9 only where there is none: what it picks is a member of `plans`, and each member is picked by its index.
+-- Assumes nothing.
+use mathlib.Core.Path.{_≡_, refl, ap, subst}
 use mathlib.Core.Bool.{Bool, true, false}
 use mathlib.Core.List.{List, [], _∷_, List·Memᴰ·not-nil}
 use Prim.Native.Nat.{ℕ, suc, _%_}
-use native.Mathlib.Nat.{mod-lt}
+use native.Mathlib.Nat.{mod-lt, mod-eq-of-lt}
 use native.Mathlib.Omega.{arith}
 use lib.Dec.{eqb·suc-zero}
 use lib.ListN.{length}
-use Rattle.lists.proofs.Members.{getD-in}
+use borrow.Author.Tests.{ne-eqb}
+use Rattle.lists.proofs.Members.{getD-in, in-getD}
+use Rattle.refusal.specs.declared.Refusal.the-variants.{NoPlan}
+use Rattle.refusal.proofs.Numbers.{refused-number}
 use Rattle.slots.specs.declared.Rule.{Rule}
 use Rattle.slots.specs.declared.SlotPlan.{SlotPlan}
-use Rattle.slots.specs.Plan.{lawful, plan, plans, drawn}
+use Rattle.slots.specs.Plan.{lawful, plan, plans, Answer, planned, drawn}
 use Rattle.slots.specs.Claims.{Listed, Chosen, one, none}
 use Rattle.slots.proofs.Listed.{plans-listed}
 
@@ -27,3 +31,15 @@ from-list r d (p ∷ ps) draw l =
 
 pub drawn-chosen : (r : Rule) (d draw : ℕ) → Chosen r d (drawn (plans r d) draw)
 drawn-chosen r d draw = from-list r d (plans r d) draw (plans-listed r d)
+
+-- an answer that is a plan is a lawful one
+pub chosen-lawful : (r : Rule) (d : ℕ) {a : Answer} → Chosen r d a → (p : SlotPlan) → a ≡ planned p → lawful r d p ≡ true
+chosen-lawful r d (one l) p e = subst (λ (q : SlotPlan). lawful r d q ≡ true) (ap (λ (a : Answer). a .slots) e) l
+chosen-lawful r d (none h) p e = absurd (refused-number NoPlan (ap (λ (a : Answer). a .number) e))
+
+-- every lawful plan is picked by some draw: by its index
+pub lawful-drawn : (r : Rule) (d : ℕ) {p : SlotPlan} → lawful r d p ≡ true → (draw : ℕ) × (drawn (plans r d) draw ≡ planned p)
+unfolding drawn
+lawful-drawn r d l =
+    let w = in-getD (plan 0 0 0) (plans-listed r d .every l) in
+    (w .0, rw (ne-eqb (length (plans r d)) 0 (λ z. omega (arith, w .1)), mod-eq-of-lt (w .1), w .2))

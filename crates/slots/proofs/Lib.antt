@@ -4,5 +4,6 @@ mod After
 mod Blocks
 mod Split
 mod Draw
+pub mod Parts
 pub mod Listed
 pub mod Chosen

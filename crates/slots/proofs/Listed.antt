@@ -1,20 +1,22 @@
 -- `plans` lists the lawful plans: it is made by keeping these among all candidates, which stand in order. Assumes nothing.
 use mathlib.Core.Path.{_≡_, refl, sym, ap}
-use mathlib.Core.Bool.{Bool, true, false, cond, _&&_, or-true}
+use mathlib.Core.Bool.{Bool, true, false, cond, or-true}
 use mathlib.Core.List.{List, [], _∷_, map, flatMap, List·Memᴰ, List·Memᴰ·head, Memᴰ·map, Memᴰ·of-map}
 use Prim.Native.Nat.{ℕ, _+_, _-_, _≤_, _<_}
 use native.Mathlib.Omega.{arith}
-use lib.Dec.{leb, eqb}
-use borrow.Author.Tests.{leb-true, eqb-true, lt-ltb, eq-eqb}
+use lib.Dec.{leb}
+use borrow.Author.Tests.{leb-true, lt-ltb, eq-eqb}
 use Rattle.lists.proofs.Choice.{both}
 use Rattle.lists.proofs.Keep.{keep-in, keep-from}
 use Rattle.lists.proofs.Pairwise.{pairwise-keep}
+use Rattle.lists.proofs.Tests.{branch}
 use Rattle.lists.proofs.UpFrom.{upFrom-in, flatMap-in, flatMap-from, pairwise-flatMap, pairwise-map}
 use Rattle.slots.specs.declared.Rule.{Rule}
 use Rattle.slots.specs.declared.SlotRange.{SlotRange}
 use Rattle.slots.specs.declared.SlotPlan.{SlotPlan}
-use Rattle.slots.specs.Plan.{plan, plans, candidates, lawful, secondFollows, thirdFollows, within, empty, endOf, startOf, noSlot, rangeAt, slotsIn, thirdSlots}
+use Rattle.slots.specs.Plan.{plan, plans, candidates, lawful, thirdFollows, within, empty, noSlot, rangeAt, slotsIn, thirdSlots}
 use Rattle.slots.specs.Claims.{precedes, Lexicographic, Listed}
+use Rattle.slots.proofs.Parts.{parts, no-third, third-after}
 
 -- ── every lawful plan is a candidate ──
 
@@ -27,27 +29,18 @@ bounds s n e =
 
 module _ (r : Rule) (d : ℕ) where
   third-in : (b c : ℕ) → thirdFollows r d b c ≡ true → List·Memᴰ c (thirdSlots r)
-  unfolding thirdFollows
-  third-in b c = go (empty (rangeAt r 2))
-    where
-      go : (t : Bool) → cond t (eqb c noSlot && leb (endOf d b) (r .end)) (within (rangeAt r 2) c && (leb (endOf d b) (startOf c) && leb (endOf d c) (r .end))) ≡ true
-          → List·Memᴰ c (cond t (noSlot ∷ []) (slotsIn (rangeAt r 2)))
-      go true e = List·Memᴰ·head (eqb-true c noSlot (both (eqb c noSlot) (leb (endOf d b) (r .end)) e .0))
-      go false e =
-          let w = bounds (rangeAt r 2) c (both (within (rangeAt r 2) c) (leb (endOf d b) (startOf c) && leb (endOf d c) (r .end)) e .0) in
-          upFrom-in _ _ c (w .0) (w .1)
+  third-in b c e =
+      branch (List·Memᴰ c) (empty (rangeAt r 2))
+      (λ t. List·Memᴰ·head (no-third r d b c e t))
+      (λ f. let w = bounds (rangeAt r 2) c (third-after r d b c e f .0) in upFrom-in _ _ c (w .0) (w .1))
 
   candidate : {p : SlotPlan} → lawful r d p ≡ true → List·Memᴰ p (candidates r)
-  unfolding candidates lawful
+  unfolding candidates
   candidate {p} e =
-      let in-second = within (rangeAt r 1) (p .second) in
-      let second = secondFollows r d (p .first) (p .second) in
-      let third = thirdFollows r d (p .second) (p .third) in
-      let u = both (within (rangeAt r 0) (p .first)) (in-second && (second && third)) e in
-      let v = both in-second (second && third) (u .1) in
-      let a = bounds (rangeAt r 0) (p .first) (u .0) in
-      let b = bounds (rangeAt r 1) (p .second) (v .0) in
-      let c = third-in (p .second) (p .third) (both second third (v .1) .1) in
+      let w = parts r d p e in
+      let a = bounds (rangeAt r 0) (p .first) (w .in-first) in
+      let b = bounds (rangeAt r 1) (p .second) (w .in-second) in
+      let c = third-in (p .second) (p .third) (w .third-follows) in
       flatMap-in _ _ _ (p .first) (a .0) (a .1) (flatMap-in _ _ _ (p .second) (b .0) (b .1) (Memᴰ·map (plan (p .first) (p .second)) c))
 
 -- ── the candidates stand in order ──

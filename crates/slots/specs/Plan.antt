@@ -124,9 +124,15 @@ drawn ps draw =
     cond (eqb (length ps) 0) (refused NoPlan)
     (planned (getD ps (draw % length ps) (plan 0 0 0)))
 
+abbrev pub isLevel : ℕ → Bool
+isLevel level = leb level 2
+
+abbrev pub isDuration : ℕ → Bool
+isDuration d = leb 1 d && leb d 65_535
+
 -- level 0 to 2 and duration 1 to 65,535
 abbrev pub allowed : ℕ → ℕ → Bool
-allowed level d = leb level 2 && (leb 1 d && leb d 65_535)
+allowed level d = isLevel level && isDuration d
 
 unfoldable pub planOf : ℕ → ℕ → ℕ → Answer
 planOf level d draw =

@@ -41,36 +41,45 @@ pub const NO_SLOT: u8 = 255;
 // The range of no transmission.
 pub const EMPTY: SlotRange = SlotRange { first: 1, last: 0 };
 
-// The standard ranges, by level sent, then transmission.
-pub const RANGES: [[SlotRange; 3]; 3] = [
-    [
-        SlotRange { first: 0, last: 0 },
-        SlotRange { first: 1, last: 9 },
-        SlotRange {
-            first: 20,
-            last: 39,
-        },
-    ],
-    [
-        SlotRange {
-            first: 10,
-            last: 19,
-        },
-        SlotRange {
-            first: 20,
-            last: 29,
-        },
-        EMPTY,
-    ],
-    [
-        SlotRange { first: 0, last: 9 },
-        SlotRange {
-            first: 20,
-            last: 29,
-        },
-        EMPTY,
-    ],
+// The standard ranges of a telegram sent at level 0, at level 1 and at level 2, by transmission.
+pub const LEVEL_0: [SlotRange; 3] = [
+    SlotRange { first: 0, last: 0 },
+    SlotRange { first: 1, last: 9 },
+    SlotRange {
+        first: 20,
+        last: 39,
+    },
 ];
+
+pub const LEVEL_1: [SlotRange; 3] = [
+    SlotRange {
+        first: 10,
+        last: 19,
+    },
+    SlotRange {
+        first: 20,
+        last: 29,
+    },
+    EMPTY,
+];
+
+pub const LEVEL_2: [SlotRange; 3] = [
+    SlotRange { first: 0, last: 9 },
+    SlotRange {
+        first: 20,
+        last: 29,
+    },
+    EMPTY,
+];
+
+// The standard ranges, by level sent, then transmission.
+pub const RANGES: [[SlotRange; 3]; 3] = [LEVEL_0, LEVEL_1, LEVEL_2];
+
+// The highest level sent.
+pub const MAX_LEVEL: u8 = 2;
+
+// The longest duration, in microseconds.
+pub const MAX_DURATION: u32 = 65_535;
 
 // The last end of the standard rule, in microseconds.
 pub const LAST_END: u32 = 40_000;
@@ -79,7 +88,7 @@ pub const LAST_END: u32 = 40_000;
 pub fn plan(level: u8, duration: u32, draw: u64) -> Planned
     ensures { λ r. ⌜ answerOf r ≡ planOf level duration draw ⌝ }
 {
-    let allowed = (level <= 2) & ((1 <= duration) & (duration <= 65_535));
+    let allowed = (level <= MAX_LEVEL) & ((1 <= duration) & (duration <= MAX_DURATION));
     if !allowed {
         return Planned::Refused(Refusal::Argument);
     }

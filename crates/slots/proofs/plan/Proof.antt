@@ -1,12 +1,10 @@
 -- `slots::plan` meets its contract: its test is `allowed`. Assumes nothing.
 use mathlib.Core.Path.{_∙_, ap}
-use mathlib.Core.Bool.{_&&_}
-use lib.Dec.{leb}
 use borrow.Author.Needs.{needs}
 use borrow.Author.Tests.{leb-true, not-false}
 use Rattle.lists.proofs.Choice.{both}
 use Rattle.slots.specs.declared.Rule.{Rule}
-use Rattle.slots.specs.Plan.{planOf, drawn, plans}
+use Rattle.slots.specs.Plan.{planOf, allowed, isLevel, isDuration, drawn, plans}
 use Rattle.slots.proofs.plan.Statement.{statement}
 use Rattle.slots.proofs.plan.Tie as tie
 
@@ -17,8 +15,7 @@ returns c = simp (c .if1 .taken)
 standard-rule-requires : tie.Need-standard-rule-requires
 standard-rule-requires c κs =
     let args = c .before .args in
-    let rest = leb 1 (args .duration) && leb (args .duration) 65_535 in
-    leb-true (args .level) 2 (both (leb (args .level) 2) rest (not-false (leb (args .level) 2 && rest) (c .if1 .left)) .0)
+    leb-true (args .level) 2 (both (isLevel (args .level)) (isDuration (args .duration)) (not-false (allowed (args .level) (args .duration)) (c .if1 .left)) .0)
 
 returns-2 : tie.Need-returns-2
 unfolding planOf
