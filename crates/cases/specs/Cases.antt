@@ -1,5 +1,5 @@
--- Document 01, "Cases, P marks those proved": each row is what a definition gives, and what the document says; behind these, three of our own
--- on ERP2 telegrams. Assumes nothing.
+-- Document 01, "Cases, P marks those proved", and figures of document 02: each row is what a definition gives, and what the document says; behind
+-- these, three of our own on ERP2 telegrams. Assumes nothing.
 use Prim.Native.Nat.{ℕ, _+_}
 use mathlib.Core.List.{List, [], _∷_, _++_}
 use mathlib.Core.Bool.{cond}
@@ -13,6 +13,7 @@ use Rattle.erp2_model.specs.declared.Telegram.{Telegram}
 use Rattle.erp2_model.specs.Reading.{Read, readOf}
 use Rattle.erp2_model.specs.Building.{buildOf}
 use Rattle.slots.specs.Plan.{plans, standardRule}
+use Rattle.timing.specs.Rules.{ruleOf}
 use Rattle.model.specs.Answer.{Shown, Kept, Copy, Loose, Refused}
 use Rattle.model.specs.View.{fresh}
 use Rattle.model.specs.History.{Call, Receive, Seen, Answered, Wrote, Restored, Looked, run}
@@ -35,6 +36,10 @@ oneByte = 0xD5 ∷ 0x09 ∷ 0x01 ∷ 0x02 ∷ 0x03 ∷ 0x04 ∷ 0x80 ∷ 0xFE �
 -- how many plans are lawful at a level and a duration
 abbrev pub planCount : ℕ → ℕ → ℕ
 planCount level duration = length (plans (standardRule level) duration)
+
+-- the same under a rule, 0 standard, 1 compressed, 2 with a pause, for so many transmissions
+abbrev pub planCountBy : ℕ → ℕ → ℕ → ℕ → ℕ
+planCountBy rule level transmissions duration = length (plans (ruleOf rule level transmissions) duration)
 
 -- ---- a telegram received at two times
 
@@ -122,6 +127,10 @@ cases =
     ∷ record { got = planCount 1 15_001 ∷ []; want = 0 ∷ [] }
     ∷ record { got = planCount 2 20_000 ∷ []; want = 1 ∷ [] }
     ∷ record { got = planCount 2 20_001 ∷ []; want = 0 ∷ [] }
+    ∷ record { got = planCountBy 1 0 3 1_000 ∷ []; want = 162 ∷ [] }
+    ∷ record { got = planCountBy 1 2 2 1_000 ∷ []; want = 0 ∷ [] }
+    ∷ record { got = planCountBy 2 0 2 1_000 ∷ []; want = 27 ∷ [] }
+    ∷ record { got = planCountBy 2 0 3 1_000 ∷ []; want = 351 ∷ [] }
     ∷ record { got = twice 100; want = kept ∷ copy ∷ [] }
     ∷ record { got = twice 101; want = kept ∷ kept ∷ [] }
     ∷ record {

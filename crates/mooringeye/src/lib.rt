@@ -3,7 +3,8 @@ use slots::Planned;
 use slots::SlotPlan;
 ghost use mathlib.Core.Path.{_≡_};
 ghost use Rattle.crc8.specs.Crc8.{crcOf};
-ghost use Rattle.slots.specs.Plan.{planOf};
+ghost use Rattle.slots.specs.Plan.{answerOf, planOf};
+ghost use Rattle.timing.specs.Rules.{planBy};
 ghost use Rattle.mooringeye.specs.Packed.{answer, packed};
 
 // The CRC-8 of ERP1 over bytes.
@@ -14,12 +15,32 @@ pub extern "C" fn mooringeye_crc8(bytes: &[u8]) -> u8
     crc8::crc8(bytes)
 }
 
-// A slot plan: the number of the answer and the first, second and third slot, a byte each from the highest.
+// A slot plan under the standard rule: the number of the answer and the first, second and third slot, a byte each from the highest.
 #[no_mangle]
 pub extern "C" fn mooringeye_plan(level: u8, duration: u32, draw: u64) -> u32
     ensures { λ r. ⌜ r ≡ packed (planOf level duration draw) ⌝ }
 {
-    match slots::plan(level, duration, draw) {
+    pack_planned(slots::plan(level, duration, draw))
+}
+
+// The same under a named rule, for so many transmissions.
+#[no_mangle]
+pub extern "C" fn mooringeye_plan_by(
+    rule: u8,
+    level: u8,
+    transmissions: u8,
+    duration: u32,
+    draw: u64,
+) -> u32
+    ensures { λ r. ⌜ r ≡ packed (planBy rule level transmissions duration draw) ⌝ }
+{
+    pack_planned(timing::plan_by(rule, level, transmissions, duration, draw))
+}
+
+fn pack_planned(planned: Planned) -> u32
+    ensures { λ r. ⌜ r ≡ packed (answerOf planned) ⌝ }
+{
+    match planned {
         Planned::Slots(p) => pack(0, p),
         Planned::Refused(e) => {
             let none = SlotPlan {

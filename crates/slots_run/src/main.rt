@@ -1,10 +1,11 @@
 // Prints how many plans are lawful at each level and many durations, and what some draws pick: stdout is what a second program lists
 // by plain enumeration.
-use libc::STDOUT_FILENO;
 use slots::Planned;
 use slots::Rule;
 use slots::SlotPlan;
-ghost use Prim.Native.Nat.{_≤_};
+use test_io::field;
+use test_io::last_field;
+use test_io::one_if;
 
 fn main() {
     durations(0);
@@ -76,12 +77,6 @@ fn count(level: u8, duration: u32) -> u64 {
     n
 }
 
-fn one_if(passes: bool) -> u64
-    ensures { λ r. ⌜ r ≤ 1 ⌝ }
-{
-    if passes { 1 } else { 0 }
-}
-
 // The i-th of 40 x 40 x 41 plans.
 fn candidate(i: u32) -> SlotPlan {
     let third = i % 41;
@@ -115,14 +110,4 @@ fn answer(number: u8, p: SlotPlan) {
     field(p.first as u64);
     field(p.second as u64);
     last_field(p.third as u64);
-}
-
-fn field(n: u64) {
-    io::print_decimal(STDOUT_FILENO, n);
-    io::write_all(STDOUT_FILENO, b" ");
-}
-
-fn last_field(n: u64) {
-    io::print_decimal(STDOUT_FILENO, n);
-    io::write_all(STDOUT_FILENO, b"\n");
 }

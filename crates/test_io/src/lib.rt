@@ -49,6 +49,25 @@ pub fn decimal(n: u64) {
     io::print_decimal(STDOUT_FILENO, n);
 }
 
+// Prints a number and a space.
+pub fn field(n: u64) {
+    decimal(n);
+    text(b" ");
+}
+
+// Prints a number and a newline.
+pub fn last_field(n: u64) {
+    decimal(n);
+    text(b"\n");
+}
+
+// 1 for true and 0 for false: what a count adds.
+pub fn one_if(passes: bool) -> u64
+    ensures { λ r. ⌜ r ≤ 1 ⌝ }
+{
+    if passes { 1 } else { 0 }
+}
+
 // Prints bytes in upper-case hexadecimal digits, `-` for none.
 pub fn hex(s: &[u8]) {
     if s.len() == 0 {

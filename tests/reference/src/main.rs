@@ -13,6 +13,7 @@ mod image;
 mod inputs;
 mod random;
 mod repeater;
+mod rules;
 mod sample;
 mod scenarios;
 mod slots;
@@ -35,6 +36,7 @@ fn main() {
         ["codec", "stdin"] => codec::stdin().into_bytes(),
         ["codec", "stdout"] => codec::stdout().into_bytes(),
         ["slots", "stdout"] => slots::stdout().into_bytes(),
+        ["rules", "stdout"] => rules::stdout().into_bytes(),
         ["collect", "stdout"] => {
             let mut input = Vec::new();
             std::io::stdin()
@@ -58,7 +60,8 @@ fn main() {
 }
 
 fn usage<T>() -> T {
-    eprintln!("reference codec|erp2|history stdin|stdout, reference slots|collect|sample stdout,");
+    eprintln!("reference codec|erp2|history stdin|stdout,");
+    eprintln!("reference slots|rules|collect|sample stdout,");
     eprintln!(
         "reference inputs NAME stdin|stdout, NAME one of {}",
         inputs::NAMES.join(", ")

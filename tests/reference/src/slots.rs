@@ -13,7 +13,7 @@ fn ranges(level: u8) -> Vec<(u64, u64)> {
 }
 
 /// Every choice of one slot from each range, listed by first, then second, then third slot.
-fn candidates(ranges: &[(u64, u64)]) -> Vec<Vec<u64>> {
+pub fn candidates(ranges: &[(u64, u64)]) -> Vec<Vec<u64>> {
     let mut plans: Vec<Vec<u64>> = vec![vec![]];
     for &(first, last) in ranges {
         let mut longer = Vec::new();

@@ -1,0 +1,29 @@
+-- `rules_run::count` is safe and ends. The invariant: no more plans are counted than were tried; the measure: those left to try.
+-- Assumes nothing.
+use Prim.Native.Nat.{_≤_, _-_}
+use borrow.Author.Needs.{needs}
+use Rattle.rules_run.proofs.count.Statement.{statement}
+use Rattle.rules_run.proofs.count.Tie as tie
+
+abbrev Inv-loop : tie.InvT-loop
+Inv-loop rule level number duration tried n₀ i₀ n i = (n ≤ i) × (i ≤ tried) × (tried ≤ 64_000)
+
+abbrev μ-loop : tie.MeasureT-loop
+μ-loop rule level number duration tried n₀ i₀ n i = tried - i
+
+pub count-spec : {M : Type 1} → statement M
+count-spec =
+    tie.close
+    (tie.spec
+    Inv-loop
+    μ-loop
+    (λ c κs. search needs)
+    (λ c. search needs)
+    (λ c κs. search needs)
+    (λ c κs. search needs)
+    (λ c κs. search needs)
+    (λ c. search needs)
+    (λ c. search needs)
+    (λ c. search needs)
+    (λ c. search needs)
+    (λ c. search needs))

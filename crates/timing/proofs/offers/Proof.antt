@@ -1,0 +1,14 @@
+-- `timing::offers` meets its contract: the tables of code and definition read the same by computation. Assumes nothing.
+use borrow.Author.Needs.{needs}
+use Rattle.timing.proofs.offers.Statement.{statement}
+use Rattle.timing.proofs.offers.Tie as tie
+
+pub offers-spec : {M : Type 1} → statement M
+offers-spec =
+    tie.close
+    (tie.spec
+    (λ c. search needs)
+    (λ c. search needs)
+    (λ c. search needs)
+    (λ c. search needs)
+    (λ c. search needs))
