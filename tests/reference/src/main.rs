@@ -4,6 +4,7 @@
 mod clerk;
 mod codec;
 mod collect;
+mod given;
 mod hash;
 mod hex;
 mod history;
@@ -48,13 +49,17 @@ fn main() {
         }
         ["history", "stdin"] => history::stdin().into_bytes(),
         ["history", "stdout"] => history::stdout().into_bytes(),
+        ["long", "stdin"] => history::text(&scenarios::long_calls()).into_bytes(),
+        ["long", "stdout"] => {
+            history::show(&scenarios::long_calls(), &mut clerk::Clerk::new(0)).into_bytes()
+        }
         _ => usage(),
     };
     std::io::stdout().write_all(&text).expect("standard output");
 }
 
 fn usage<T>() -> T {
-    eprintln!("reference codec|history stdin|stdout, reference slots|collect|sample stdout,");
+    eprintln!("reference codec|history|long stdin|stdout, reference slots|collect|sample stdout,");
     eprintln!(
         "reference inputs NAME stdin|stdout, NAME one of {}",
         inputs::NAMES.join(", ")
