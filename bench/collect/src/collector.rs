@@ -1,9 +1,12 @@
-//! The collector (document 01, "Merging" and "Repeater step"), its state changed in place.
+//! The collector (document 01, "Merging" and "Repeater step"; document 02, A3 and A6), its state
+//! changed in place.
 
 use crate::hash::{hash, renew};
 
 /// How long a telegram is open, in ms.
 const MATURITY: u64 = 100;
+/// How long a sender takes, in ms: a later original is a telegram of its own.
+const TX_MATURITY: u64 = 40;
 /// How many telegrams can be open at once.
 const CAPACITY: usize = 64;
 const MIN_LEN: usize = 8;
@@ -81,7 +84,8 @@ impl Collector {
         self.latest = time;
         self.expire();
         let key = key(bytes);
-        if self.is_open(&key) {
+        let original = bytes[bytes.len() - 2] & 0x0F == 0;
+        if self.is_copy(&key, original) {
             self.totals.copies += 1;
             return Answer::Copy;
         }
@@ -106,12 +110,23 @@ impl Collector {
         }
     }
 
-    fn is_open(&self, key: &Key) -> bool {
+    /// Of the open telegrams that are the same the latest decides.
+    fn is_copy(&self, key: &Key, original: bool) -> bool {
+        self.last(key)
+            .is_some_and(|at| !original || self.latest - self.times[at] <= TX_MATURITY)
+    }
+
+    /// Where the latest open telegram with this key stands.
+    fn last(&self, key: &Key) -> Option<usize> {
         let end = self.first + self.count;
+        let last_of = |from: usize, to: usize| {
+            let at = self.keys[from..to].iter().rposition(|k| k == key);
+            at.map(|at| from + at)
+        };
         if end <= CAPACITY {
-            self.keys[self.first..end].contains(key)
+            last_of(self.first, end)
         } else {
-            self.keys[self.first..].contains(key) || self.keys[..end - CAPACITY].contains(key)
+            last_of(0, end - CAPACITY).or_else(|| last_of(self.first, CAPACITY))
         }
     }
 

@@ -1,5 +1,5 @@
--- Document 01, "Cases, P marks those proved", and figures of document 02: each row is what a definition gives, and what the document says; behind
--- these, three of our own on ERP2 telegrams. Assumes nothing.
+-- Document 01, "Cases, P marks those proved", as document 02 changes them, with figures of document 02: each row is what a definition gives, and
+-- what the documents say. Behind these stand three rows of our own on ERP2 telegrams. Assumes nothing.
 use Prim.Native.Nat.{ℕ, _+_}
 use mathlib.Core.List.{List, [], _∷_, _++_}
 use mathlib.Core.Bool.{cond}
@@ -41,6 +41,10 @@ planCount level duration = length (plans (standardRule level) duration)
 abbrev pub planCountBy : ℕ → ℕ → ℕ → ℕ → ℕ
 planCountBy rule level transmissions duration = length (plans (ruleOf rule level transmissions) duration)
 
+-- the same, repeated: D5 09 01 02 03 04 81 F9
+abbrev pub oneByteRepeated : List ℕ
+oneByteRepeated = 0xD5 ∷ 0x09 ∷ 0x01 ∷ 0x02 ∷ 0x03 ∷ 0x04 ∷ 0x81 ∷ 0xF9 ∷ []
+
 -- ---- a telegram received at two times
 
 -- a form of the answer 0 as a number of the table, apart from those of refusals
@@ -63,12 +67,12 @@ answersOf (Wrote number output n ∷ l) = answersOf l
 answersOf (Restored number n ∷ l) = answersOf l
 answersOf (Looked n ∷ l) = answersOf l
 
-abbrev pub received : ℕ → Call
-received t = Receive (record { bytes = oneByte; time = t })
+abbrev pub received : List ℕ → ℕ → Call
+received s t = Receive (record { bytes = s; time = t })
 
--- the answers to the same telegram at 0 and at another time
-abbrev pub twice : ℕ → List ℕ
-twice t = answersOf (run (fresh 1) (received 0 ∷ received t ∷ []))
+-- the answers to an original at 0 and to the same telegram, as it is or repeated, at another time
+abbrev pub twice : List ℕ → ℕ → List ℕ
+twice s t = answersOf (run (fresh 1) (received oneByte 0 ∷ received s t ∷ []))
 
 -- ---- ERP2 telegrams: our own cases, worked out by hand from document 004's tables, which has no worked example
 
@@ -131,8 +135,12 @@ cases =
     ∷ record { got = planCountBy 1 2 2 1_000 ∷ []; want = 0 ∷ [] }
     ∷ record { got = planCountBy 2 0 2 1_000 ∷ []; want = 27 ∷ [] }
     ∷ record { got = planCountBy 2 0 3 1_000 ∷ []; want = 351 ∷ [] }
-    ∷ record { got = twice 100; want = kept ∷ copy ∷ [] }
-    ∷ record { got = twice 101; want = kept ∷ kept ∷ [] }
+    -- 01's case of 0 and 100 ms as document 02, A6, changes it: COPY at level 1, KEPT at level 0, which is an echo up to 40 ms
+    ∷ record { got = twice oneByteRepeated 100; want = kept ∷ copy ∷ [] }
+    ∷ record { got = twice oneByte 100; want = kept ∷ kept ∷ [] }
+    ∷ record { got = twice oneByte 101; want = kept ∷ kept ∷ [] }
+    ∷ record { got = twice oneByte 40; want = kept ∷ copy ∷ [] }
+    ∷ record { got = twice oneByte 41; want = kept ∷ kept ∷ [] }
     ∷ record {
       got = shownRead (readOf shortForm) ++ builtAgain shortForm;
       want = (0 ∷ 5 ∷ 0 ∷ 0 ∷ 0 ∷ 0 ∷ 0 ∷ 0 ∷ 0 ∷ 0 ∷ 0 ∷ 0x01020304 ∷ 0xAA ∷ []) ++ shortForm;

@@ -3,7 +3,8 @@ use Prim.Native.Nat.{ℕ, suc, _+_, _-_, _*_, _≤_, _<_}
 use native.Mathlib.Nat.{zero-add}
 use native.Mathlib.Omega.{arith}
 use mathlib.Core.Path.{_≡_, refl, sym, _∙_}
-use mathlib.Core.Bool.{true, false}
+use mathlib.Core.Bool.{Bool, true, false, not, _||_}
+use lib.Dec.{leb, eqb}
 use mathlib.Core.List.{List, [], _∷_, _++_, map, map-append}
 use lib.ListN.{length, getD, drop, length-map}
 use lib.Seq.{take-take}
@@ -15,11 +16,12 @@ use Rattle.erp1.proofs.Sames.{other-length}
 use Rattle.layout.specs.Buffer.{part, resized}
 use Rattle.layout.proofs.Segments.{part-length, part-ends}
 use Rattle.layout.proofs.Buffer.{resized-length, resized-cut}
-use Rattle.model.specs.View.{Reception}
-use Rattle.model.specs.Acceptable.{isCopyOf}
+use Rattle.telegram.specs.Repeater.{levelOf}
+use Rattle.model.specs.View.{Reception, txMaturity}
+use Rattle.model.specs.Acceptable.{isEcho, isCopyOf}
 use Rattle.collector.specs.Collector.{entryAt, entriesAt}
-use Rattle.collector.specs.Acceptable.{hasCopy}
-use Rattle.collector.proofs.Inside.{any-inside, any-last}
+use Rattle.collector.specs.Acceptable.{hasCopy, shownAt}
+use Rattle.collector.proofs.Inside.{any-inside, any-last, any-skip}
 
 -- the bytes of an entry, as the code lends them
 pub bytes-shown : (bytes : List ℕ) (e len : ℕ) → len ≤ maxLength → maxLength * e + maxLength ≤ length bytes
@@ -27,6 +29,15 @@ pub bytes-shown : (bytes : List ℕ) (e len : ℕ) → len ≤ maxLength → max
 bytes-shown bytes e len short h =
     let whole : length (part (maxLength * e) maxLength bytes) ≡ maxLength = part-length (maxLength * e) maxLength bytes h in
     part-ends (maxLength * e) len bytes ∙ sym (resized-cut len (part (maxLength * e) maxLength bytes) (omega arith) ∙ take-take len maxLength (drop (maxLength * e) bytes) short)
+
+-- whether the bytes of entry i are the same telegram: those of another length are not
+module _ (lens bytes : List ℕ) (i : ℕ) (xs : List ℕ) where
+  pub longer-not-same : (getD lens i 0 ≡ length xs → ⊥) → isSame (shownAt lens bytes i) xs ≡ false
+  longer-not-same n = sym (other-length _ _ (λ e. n (sym (resized-length (getD lens i 0) _) ∙ e)))
+
+  pub same-said : (telegram : List ℕ) → telegram ≡ resized (length xs) (part (maxLength * i) maxLength bytes) → getD lens i 0 ≡ length xs
+      → isSame (shownAt lens bytes i) xs ≡ isSame telegram xs
+  same-said telegram e l = rw (e, l)
 
 module _ (times lens bytes : List ℕ) where
   pub entries-none : entriesAt times lens bytes 0 ≡ []
@@ -52,27 +63,38 @@ module _ (times lens bytes : List ℕ) where
       let e : i + suc (count - (i + 1)) ≡ count = omega arith in
       (map (entryAt times lens bytes) (upFrom (suc i) (count - (i + 1))), rw e at (entries-at i (count - (i + 1))))
 
-  -- whether entry i is a copy: one of another length is not, and else the bytes say it
+  -- whether entry i is a copy: one of another telegram is not, and else the time says it
   module _ (i : ℕ) (r : Reception) where
-    pub no-copy : (getD lens i 0 ≡ length (r .bytes) → ⊥) → isCopyOf (entryAt times lens bytes i) r ≡ false
+    pub not-same : isSame (shownAt lens bytes i) (r .bytes) ≡ false → isCopyOf (entryAt times lens bytes i) r ≡ false
     unfolding isCopyOf
-    no-copy n = sym (other-length _ _ (λ e. n (sym (resized-length (getD lens i 0) _) ∙ e)))
+    not-same e = rw e
 
-    pub copy-said : (telegram : List ℕ) → telegram ≡ resized (length (r .bytes)) (part (maxLength * i) maxLength bytes)
-        → getD lens i 0 ≡ length (r .bytes) → isCopyOf (entryAt times lens bytes i) r ≡ isSame telegram (r .bytes)
+    pub same-echo : isSame (shownAt lens bytes i) (r .bytes) ≡ true → isCopyOf (entryAt times lens bytes i) r ≡ isEcho (entryAt times lens bytes i) r
     unfolding isCopyOf
-    copy-said telegram e l = rw (e, l)
+    same-echo e = rw e
 
     -- whether one of the first is
     pub has-more : hasCopy (entriesAt times lens bytes i) r ≡ false → isCopyOf (entryAt times lens bytes i) r ≡ false → hasCopy (entriesAt times lens bytes (i + 1)) r ≡ false
     unfolding hasCopy
     has-more h n = rw (entries-more i) (any-last (λ e. isCopyOf e r) (entriesAt times lens bytes i) (entryAt times lens bytes i) h n)
 
+    skipped : isCopyOf (entryAt times lens bytes i) r ≡ false → hasCopy (entriesAt times lens bytes (i + 1)) r ≡ hasCopy (entriesAt times lens bytes i) r
+    unfolding hasCopy
+    skipped n = rw (entries-more i) (any-skip (λ e. isCopyOf e r) (entriesAt times lens bytes i) (entryAt times lens bytes i) n)
+
+    pub echo-said : (original result : Bool) (from : ℕ) → original ≡ eqb (levelOf (r .bytes)) 0 → from ≡ getD times i 0
+        → result ≡ (not original || leb (r .time - from) txMaturity) → isEcho (entryAt times lens bytes i) r ≡ result
+    echo-said original result from e f g = sym (g ∙ rw (e, f))
+
     pub has-inside : (count : ℕ) → i < count → isCopyOf (entryAt times lens bytes i) r ≡ true → hasCopy (entriesAt times lens bytes count) r ≡ true
     unfolding hasCopy
     has-inside count k e =
         let s = entries-inside i count k in
         rw (s .1) (any-inside (λ x. isCopyOf x r) (entriesAt times lens bytes i) (entryAt times lens bytes i) (s .0) e)
+
+  pub has-skip : (i : ℕ) (r : Reception) → 0 < i → isCopyOf (entryAt times lens bytes (i - 1)) r ≡ false
+      → hasCopy (entriesAt times lens bytes i) r ≡ hasCopy (entriesAt times lens bytes (i - 1)) r
+  has-skip i r h n = let e : i - 1 + 1 ≡ i = omega arith in rw e at (skipped (i - 1) r n)
 
   pub has-none : (r : Reception) → hasCopy (entriesAt times lens bytes 0) r ≡ false
   unfolding hasCopy

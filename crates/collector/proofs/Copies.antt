@@ -18,9 +18,6 @@ use Rattle.erp1.proofs.Checks.{front-at}
 use Rattle.layout.specs.Buffer.{part, resized}
 use Rattle.layout.proofs.Segments.{part-at}
 use Rattle.layout.proofs.Buffer.{resized-length}
-use Rattle.model.specs.View.{Reception}
-use Rattle.model.specs.Acceptable.{isCopyOf}
-use Rattle.collector.specs.Collector.{entryAt}
 use Rattle.collector.specs.Acceptable.{shownAt}
 use Rattle.collector.proofs.Inside.{fails}
 
@@ -58,15 +55,13 @@ unfolding resized
 resized-at n xs k h = getD-take n (padded n xs) k 0 h ∙ filled-at xs (n - length xs) k
 
 -- an entry with another byte before STATUS is another telegram, whatever its length is
-module _ (times lens bytes : List ℕ) (i : ℕ) (r : Reception) (low : minLength ≤ length (r .bytes)) (high : length (r .bytes) ≤ maxLength)
-    (k : ℕ) (before : k < length (r .bytes) - 2) where
-  pub other-byte : (getD bytes (maxLength * i + k) 0 ≡ getD (r .bytes) k 0 → ⊥) → isCopyOf (entryAt times lens bytes i) r ≡ false
-  unfolding isCopyOf
-  other-byte n = fails (isSame (shownAt lens bytes i) (r .bytes)) differs
+module _ (lens bytes : List ℕ) (i : ℕ) (xs : List ℕ) (low : minLength ≤ length xs) (high : length xs ≤ maxLength) (k : ℕ) (before : k < length xs - 2) where
+  pub other-byte : (getD bytes (maxLength * i + k) 0 ≡ getD xs k 0 → ⊥) → isSame (shownAt lens bytes i) xs ≡ false
+  other-byte n = fails (isSame (shownAt lens bytes i) xs) differs
     where
-      differs : isSame (shownAt lens bytes i) (r .bytes) ≡ true → ⊥
+      differs : isSame (shownAt lens bytes i) xs ≡ true → ⊥
       differs e =
-          let long = same-length (shownAt lens bytes i) (r .bytes) e in
+          let long = same-length (shownAt lens bytes i) xs e in
           let len : length (shownAt lens bytes i) ≡ getD lens i 0 = resized-length (getD lens i 0) _ in
           let shown = resized-at (getD lens i 0) (part (maxLength * i) maxLength bytes) k (omega arith) ∙ part-at (maxLength * i) maxLength bytes k 0 (omega arith) in
-          n (sym shown ∙ same-at (shownAt lens bytes i) (r .bytes) e (omega arith) k (omega arith))
+          n (sym shown ∙ same-at (shownAt lens bytes i) xs e (omega arith) k (omega arith))

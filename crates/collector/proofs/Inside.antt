@@ -1,5 +1,5 @@
 -- What tests over a list say of an element inside it, and of one more at its end. Assumes nothing.
-use mathlib.Core.Path.{_≡_, refl, sym}
+use mathlib.Core.Path.{_≡_, refl, sym, ap}
 use mathlib.Core.Bool.{Bool, true, false, not, _&&_, _||_, false≢true}
 use mathlib.Core.List.{List, [], _∷_, _++_, List·Memᴰ·head, Memᴰ·append-right}
 use Rattle.lists.specs.Lists.{any, all, pairwise}
@@ -33,6 +33,10 @@ module _ {A : Type 0} where
       go : (b : Bool) → (b || any p xs) ≡ false → (any p xs ≡ false → any p (xs ++ (x ∷ [])) ≡ false) → (b || any p (xs ++ (x ∷ []))) ≡ false
       go true h k = h
       go false h k = k h
+
+  pub any-skip : (p : A → Bool) (xs : List A) (x : A) → p x ≡ false → any p (xs ++ (x ∷ [])) ≡ any p xs
+  any-skip p [] x e = rw e
+  any-skip p (y ∷ xs) x e = ap (λ (b : Bool). p y || b) (any-skip p xs x e)
 
   pub all-inside : (p : A → Bool) (xs : List A) (x : A) (ys : List A) → all p (xs ++ (x ∷ ys)) ≡ true → p x ≡ true
   all-inside p xs x ys e = all-at p (Memᴰ·append-right xs (List·Memᴰ·head refl)) e

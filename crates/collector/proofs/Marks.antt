@@ -21,7 +21,7 @@ use Rattle.model.proofs.Check.{valid-length}
 use Rattle.collector.specs.Collector.{entryAt, entriesAt}
 use Rattle.collector.specs.Acceptable.{hasCopy, shownAt, marks, markOf, MarkedAs, Repeated}
 use Rattle.collector.proofs.Inside.{fails}
-use Rattle.collector.proofs.Arrays.{has-none, has-more}
+use Rattle.collector.proofs.Arrays.{not-same, has-none, has-more}
 use Rattle.collector.proofs.Copies.{same-length, same-at}
 
 same-mark : (a b : List ℕ) → isSame a b ≡ true → minLength ≤ length a → markOf a ≡ markOf b
@@ -64,9 +64,8 @@ module _ (lens bytes : List ℕ) (i : ℕ) (seen : List ℕ) (m : Marked lens by
     low = check-facts (shownAt lens bytes i) (eqb-true _ 0 valid) .low
 
     no-copy-before : (j : ℕ) → j < i → isCopyOf (entryAt times lens bytes j) (entryAt times lens bytes i) ≡ false
-    unfolding isCopyOf
     no-copy-before j h =
-        fails (isSame (shownAt lens bytes j) (shownAt lens bytes i)) seen-twice
+        not-same times lens bytes j (entryAt times lens bytes i) (fails (isSame (shownAt lens bytes j) (shownAt lens bytes i)) seen-twice)
       where
         seen-twice : isSame (shownAt lens bytes j) (shownAt lens bytes i) ≡ true → ⊥
         seen-twice e =

@@ -37,7 +37,7 @@ pub fn is_acceptable<'a>(
     if !are_timely(times, count, latest) {
         return false;
     }
-    if !are_telegrams(lens, bytes, count) {
+    if !are_telegrams(times, lens, bytes, count) {
         return false;
     }
     if !is_summed(totals) {
@@ -62,15 +62,16 @@ fn are_timely(times: &[u64], count: usize, latest: u64) -> bool
     earliest <= latest
 }
 
-// Whether the first `count` entries are valid, and no two the same telegram. `seen` has the marks of those passed: where the mark of an
+// Whether the first `count` entries are valid, and none a copy of one before it. `seen` has the marks of those passed: where the mark of an
 // entry is new, so is its telegram, and only else those before it are searched.
 fn are_telegrams<'a>(
+    times: &'a [u64; Collector::CAPACITY],
     lens: &'a [u8; Collector::CAPACITY],
     bytes: &'a [u8; Collector::CAPACITY * Collector::MAX_LEN],
     count: usize,
 ) -> bool
     requires { ⌜ count ≤ capacity ⌝ }
-    ensures { λ r. ⌜ ((times : List ℕ) → r ≡ areTelegrams (entriesAt times (now (lens .entry)) (now (bytes .entry)) count)) ⌝ }
+    ensures { λ r. ⌜ r ≡ areTelegrams (entriesAt (now (times .entry)) (now (lens .entry)) (now (bytes .entry)) count) ⌝ }
 {
     let mut seen = no_marks();
     for i in 0..count {
@@ -78,7 +79,7 @@ fn are_telegrams<'a>(
         if MARKS <= mark {
             return false;
         }
-        if is_repeated(lens, bytes, i, seen[mark]) {
+        if is_repeated(times, lens, bytes, i, seen[mark]) {
             return false;
         }
         seen[mark] = 1;
@@ -126,22 +127,23 @@ fn mark(telegram: &[u8]) -> usize
     (4 * last + 67 * other + 29 * first) % MARKS
 }
 
-// Whether an entry before entry `i`, which is valid, is the same telegram; none is where its mark was not seen.
+// Whether entry `i`, which is valid, is a copy of one before it; it is of none where its mark was not seen.
 fn is_repeated<'a>(
+    times: &'a [u64; Collector::CAPACITY],
     lens: &'a [u8; Collector::CAPACITY],
     bytes: &'a [u8; Collector::CAPACITY * Collector::MAX_LEN],
     i: usize,
     seen: u8,
 ) -> bool
     requires { ⌜ (i < capacity) × (minLength ≤ getD (now lens) i 0) × (getD (now lens) i 0 ≤ maxLength) ⌝ }
-    ensures { λ r. ⌜ ((times : List ℕ) → Repeated seen (hasCopy (entriesAt times (now (lens .entry)) (now (bytes .entry)) i) (entryAt times (now (lens .entry)) (now (bytes .entry)) i)) r) ⌝ }
+    ensures { λ r. ⌜ Repeated seen (hasCopy (entriesAt (now (times .entry)) (now (lens .entry)) (now (bytes .entry)) i) (entryAt (now (times .entry)) (now (lens .entry)) (now (bytes .entry)) i)) r ⌝ }
 {
     if seen == 0 {
         return false;
     }
     let len = entries::wide(lens[i]);
     let telegram = entries::telegram(bytes, i, len);
-    entries::find(lens, bytes, i, telegram)
+    entries::find(times, lens, bytes, i, telegram, times[i])
 }
 
 // Whether received is the sum of the others, which no sum here can wrap.

@@ -1,35 +1,61 @@
 // The entries in their three arrays: the search for a copy, those no longer open, and a new one. An array at a time is lent and changed
 // where it lies, so that nothing of the state is copied.
 use crate::Collector;
+use erp1::status;
 ghost use mathlib.Core.Path.{_≡_};
-ghost use mathlib.Core.Bool.{true};
+ghost use mathlib.Core.Bool.{true, not, _||_};
 ghost use mathlib.Core.List.{List, [], _∷_};
 ghost use Prim.Native.Nat.{ℕ, _+_, _-_, _*_, _≤_, _<_};
+ghost use lib.Dec.{leb, eqb};
 ghost use lib.ListN.{length};
 ghost use Rattle.erp1.specs.Subtelegram.{minLength, maxLength};
 ghost use Rattle.layout.specs.Buffer.{part, resized};
-ghost use Rattle.model.specs.View.{capacity};
-ghost use Rattle.model.specs.Acceptable.{isCopyOf};
-ghost use Rattle.collector.specs.Collector.{entryAt, entriesAt};
-ghost use Rattle.collector.specs.Acceptable.{hasCopy};
+ghost use Rattle.erp1.specs.Same.{isSame};
+ghost use Rattle.telegram.specs.Repeater.{levelOf};
+ghost use Rattle.model.specs.View.{capacity, txMaturity};
+ghost use Rattle.collector.specs.Collector.{entriesAt};
+ghost use Rattle.collector.specs.Acceptable.{hasCopy, shownAt};
 ghost use Rattle.collector.specs.Merging.{Expired, Moved, PutIf};
 
-// Whether one of the first `count` entries is the same telegram.
+// Whether a reception is a copy of one of the first `count` entries, from the last of them on.
 pub(crate) fn find<'a>(
+    times: &'a [u64; Collector::CAPACITY],
     lens: &'a [u8; Collector::CAPACITY],
     bytes: &'a [u8; Collector::CAPACITY * Collector::MAX_LEN],
     count: usize,
     received: &'a [u8],
+    time: u64,
 ) -> bool
     requires { ⌜ (count ≤ capacity) × (minLength ≤ length (now received)) × (length (now received) ≤ maxLength) ⌝ }
-    ensures { λ r. ⌜ ((times : List ℕ) (time : ℕ) → r ≡ hasCopy (entriesAt times (now (lens .entry)) (now (bytes .entry)) count) (record { bytes = now (received .entry); time = time })) ⌝ }
+    ensures { λ r. ⌜ r ≡ hasCopy (entriesAt (now (times .entry)) (now (lens .entry)) (now (bytes .entry)) count) (record { bytes = now (received .entry); time = time }) ⌝ }
 {
-    for i in 0..count {
+    let original = is_original(received);
+    let mut i = count;
+    while 0 < i {
+        i -= 1;
         if holds(lens, bytes, i, received) {
-            return true;
+            if is_echo(original, times[i], time) {
+                return true;
+            }
         }
     }
     false
+}
+
+// Whether a reception is the sender's own: its level is 0.
+fn is_original(received: &[u8]) -> bool
+    requires { ⌜ minLength ≤ length (now received) ⌝ }
+    ensures { λ r. ⌜ r ≡ eqb (levelOf (now (received .entry))) 0 ⌝ }
+{
+    let status = status::split(received[received.len() - 2]);
+    status.level == 0
+}
+
+// Whether a reception at `time` can be a copy of a telegram opened at `from`: no original comes when its sender is finished.
+fn is_echo(original: bool, from: u64, time: u64) -> bool
+    ensures { λ r. ⌜ r ≡ (not original || leb (time - from) txMaturity) ⌝ }
+{
+    !original | (since(time, from) <= Collector::TX_MATURITY_MS)
 }
 
 // Whether entry `i` is the same telegram. The last byte of TXID is compared first: by it most telegrams differ, whatever length the entry has.
@@ -40,7 +66,7 @@ fn holds<'a>(
     received: &'a [u8],
 ) -> bool
     requires { ⌜ (i < capacity) × (minLength ≤ length (now received)) × (length (now received) ≤ maxLength) ⌝ }
-    ensures { λ r. ⌜ ((times : List ℕ) (time : ℕ) → r ≡ isCopyOf (entryAt times (now (lens .entry)) (now (bytes .entry)) i) (record { bytes = now (received .entry); time = time })) ⌝ }
+    ensures { λ r. ⌜ r ≡ isSame (shownAt (now (lens .entry)) (now (bytes .entry)) i) (now (received .entry)) ⌝ }
 {
     let len = received.len();
     let at = Collector::MAX_LEN * i + (len - 3);

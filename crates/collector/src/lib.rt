@@ -48,6 +48,8 @@ pub struct Taken {
 impl Collector {
     // RX maturity: how long a telegram is open (source document 001, Table 1).
     pub const MATURITY_MS: u64 = 100;
+    // TX maturity: how long a sender takes (source document 001, Table 1).
+    pub const TX_MATURITY_MS: u64 = 40;
     // How many telegrams can be open.
     pub const CAPACITY: usize = 64;
     // The longest subtelegram.

@@ -66,7 +66,7 @@ pub fn admit<'a>(
     entries::close_times(times, gone, left);
     entries::close_lens(lens, gone, left);
     entries::close_bytes(bytes, gone, left);
-    let answer = classify(lens, bytes, left, checked, received);
+    let answer = classify(times, lens, bytes, left, checked, received, time);
     let kept = is_kept(answer);
     entries::put_time(times, left, kept, time);
     entries::put_len(lens, left, kept, received);
@@ -131,19 +131,21 @@ fn latest_after(checked: Checked, latest: u64, time: u64) -> u64
 
 // The answer, where `count` telegrams are open.
 fn classify<'a>(
+    times: &'a [u64; Collector::CAPACITY],
     lens: &'a [u8; Collector::CAPACITY],
     bytes: &'a [u8; Collector::CAPACITY * Collector::MAX_LEN],
     count: usize,
     checked: Checked,
     received: &'a [u8],
+    time: u64,
 ) -> Answer
     requires { ⌜ (count ≤ capacity) × (checkedNumber checked ≡ 0 → (minLength ≤ length (now received)) × (length (now received) ≤ maxLength)) ⌝ }
-    ensures { λ r. ⌜ ((times : List ℕ) (time : ℕ) → shownOf r ≡ answerFor (checkedNumber checked) (hasCopy (entriesAt times (now (lens .entry)) (now (bytes .entry)) count) (record { bytes = now (received .entry); time = time })) (leb capacity count)) ⌝ }
+    ensures { λ r. ⌜ shownOf r ≡ answerFor (checkedNumber checked) (hasCopy (entriesAt (now (times .entry)) (now (lens .entry)) (now (bytes .entry)) count) (record { bytes = now (received .entry); time = time })) (leb capacity count) ⌝ }
 {
     match checked {
         Checked::Refused(why) => Answer::Refused(why),
         Checked::Valid => {
-            if entries::find(lens, bytes, count, received) {
+            if entries::find(times, lens, bytes, count, received, time) {
                 return Answer::Copy;
             }
             if Collector::CAPACITY <= count {

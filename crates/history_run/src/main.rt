@@ -1,5 +1,7 @@
 // Puts a collector through the histories of standard input, a record each call, and prints what is seen of each: stdout is what the
 // second program says (tests/reference/README.md has the format).
+pub(crate) mod given;
+
 use collector::Collector;
 use image::Loaded;
 use image::Saved;
@@ -61,6 +63,7 @@ fn made(session: Session, r: &[u8]) -> Session
         2 => received(session, number, r),
         3 => saved(session, least(number, 3000)),
         4 => cut(session, (number % 256) as u8),
+        8 => given_image(session, least(number, given::MOST)),
         _ => spoiled(session, least(number, 2560)),
     }
 }
@@ -135,16 +138,26 @@ fn spoiled(session: Session, k: usize) -> Session
     let _ = image::checkpoint(collector, &mut bytes);
     if k < IMAGE {
         bytes[k] = bytes[k] ^ 1;
-        return refused(collector, session.shown, &bytes);
+        return restored(session, b"X ", &bytes);
     }
-    refused(collector, session.shown, &bytes[0..IMAGE - 1])
+    restored(session, b"X ", &bytes[0..IMAGE - 1])
 }
 
-fn refused(collector: Collector, shown: u8, bytes: &[u8]) -> Session {
-    let restored = image::restore(collector, bytes);
+// The restore of an image of n bytes that the input gives.
+fn given_image(session: Session, n: usize) -> Session
+    requires { ⌜ n ≤ 3000 ⌝ }
+{
+    let bytes = given::next_bytes(n);
+    restored(session, b"W ", &bytes[0..n])
+}
+
+// The restore of these bytes; a word says which call it is.
+fn restored<'a>(session: Session, word: &'a [u8], bytes: &'a [u8]) -> Session {
+    let shown = session.shown;
+    let restored = image::restore(session.collector, bytes);
     let next = restored.next;
     let loaded = restored.answer;
-    test_io::text(b"X ");
+    test_io::text(word);
     put_loaded(loaded);
     put_totals(next.totals);
     after(next, shown, true)

@@ -5,3 +5,4 @@ pub mod Simulation
 pub mod Theorem
 pub mod States
 pub mod Returns
+pub mod Latest

@@ -36,7 +36,7 @@ ltb-max t a b = go (ltb t a) refl (ltb t b) refl
     go false p true q = sym (lt-ltb t (max a b) (omega (arith, ltb-true t b q)))
     go false p false q = sym (le-ltb t (max a b) (omega (arith, ltb-false t a p, ltb-false t b q)))
 
-behind-latest : (t : ℕ) (log : List Logged) → isBehind t log ≡ ltb t (latestOf log)
+pub behind-latest : (t : ℕ) (log : List Logged) → isBehind t log ≡ ltb t (latestOf log)
 behind-latest t [] = sym (le-ltb t 0 (omega arith))
 behind-latest t (e ∷ log) = go (isAccepted (e .answer)) (behind-latest t log)
   where

@@ -1,17 +1,22 @@
 -- What a state or an image must fulfil (document 01, "Parked collector": "Reload accepts exactly .."). Assumes nothing.
-use Prim.Native.Nat.{ℕ, _+_}
-use mathlib.Core.Bool.{Bool, not, _&&_}
+use Prim.Native.Nat.{ℕ, _+_, _-_}
+use mathlib.Core.Bool.{Bool, not, _&&_, _||_}
 use lib.Dec.{leb, eqb}
 use lib.ListN.{length}
 use Rattle.lists.specs.Lists.{all, pairwise}
 use Rattle.erp1.specs.Subtelegram.{isValid}
 use Rattle.erp1.specs.Same.{isSame}
+use Rattle.telegram.specs.Repeater.{levelOf}
 use Rattle.model.specs.declared.Totals.{Totals}
-use Rattle.model.specs.View.{Reception, View, capacity, maxSetting, isOpen}
+use Rattle.model.specs.View.{Reception, View, txMaturity, capacity, maxSetting, isOpen}
 
--- while the telegram that e opened is open, r is a copy of it: the same telegram
+-- r is no original that came when the sender of e was finished (document 02, A6: "a valid level 0 reception more than 40 ms after the opening")
+abbrev pub isEcho : Reception → Reception → Bool
+isEcho e r = not (eqb (levelOf (r .bytes)) 0) || leb (r .time - e .time) txMaturity
+
+-- while the telegram that e opened is open, r is a copy of it: the same telegram, and an echo
 unfoldable pub isCopyOf : Reception → Reception → Bool
-isCopyOf e r = isSame (e .bytes) (r .bytes)
+isCopyOf e r = isSame (e .bytes) (r .bytes) && isEcho e r
 
 -- "entries are valid, .. open at the latest time, none later than it"
 abbrev pub isEntry : ℕ → Reception → Bool

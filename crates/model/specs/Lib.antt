@@ -7,3 +7,4 @@ pub mod Exact
 pub mod Reference
 pub mod History
 pub mod States
+pub mod Latest

@@ -25,6 +25,10 @@ pub record View : Type 0 where
 abbrev pub maturity : ℕ
 maturity = 100
 
+-- a sender is finished so many ms after it began (TX maturity, 001 Table 1)
+abbrev pub txMaturity : ℕ
+txMaturity = 40
+
 abbrev pub capacity : ℕ
 capacity = 64
 

@@ -100,13 +100,51 @@ fn numbers_of_plans() {
     assert_eq!(plan(3, 1000, 0), Err(10));
 }
 
+/// Document 01's case of 0 and 100 ms as document 02, A6, changes it: COPY for a second reception
+/// at level 1, KEPT at level 0; and the edges of 40 and of 100 ms.
 #[test]
-fn at_100_and_101_ms() {
-    for (second, answer) in [(100, Answer::Copy), (101, Answer::Kept)] {
-        let mut clerk = Clerk::new(0);
-        assert_eq!(clerk.take(0, &TELEGRAM).0, Answer::Kept);
-        assert_eq!(clerk.take(second, &TELEGRAM).0, answer);
+fn the_same_telegram_twice() {
+    for (second, level, answer) in [
+        (40, 0, Answer::Copy),
+        (41, 0, Answer::Kept),
+        (41, 1, Answer::Copy),
+        (100, 1, Answer::Copy),
+        (100, 0, Answer::Kept),
+        (101, 0, Answer::Kept),
+        (101, 1, Answer::Kept),
+    ] {
+        for telegram in [&TELEGRAM[..], &BY_CRC] {
+            let mut clerk = Clerk::new(0);
+            assert_eq!(clerk.take(0, telegram).0, Answer::Kept);
+            let again = at_level(telegram, level);
+            assert_eq!(clerk.take(second, &again).0, answer, "{second} {level}");
+        }
     }
+}
+
+/// Each opening has its own 40 ms, and a COPY belongs to the latest.
+#[test]
+fn three_openings() {
+    let mut clerk = Clerk::new(0);
+    for (time, level, answer) in [
+        (0, 0, Answer::Kept),
+        (40, 0, Answer::Copy),
+        (41, 0, Answer::Kept),
+        (81, 0, Answer::Copy),
+        (82, 0, Answer::Kept),
+        (100, 0, Answer::Copy),
+        (101, 0, Answer::Copy),
+        (122, 1, Answer::Copy),
+        (123, 0, Answer::Kept),
+    ] {
+        assert_eq!(
+            clerk.take(time, &at_level(&TELEGRAM, level)).0,
+            answer,
+            "{time}"
+        );
+    }
+    let opened: Vec<u64> = clerk.entries().iter().map(|e| e.time).collect();
+    assert_eq!(opened, [41, 82, 123]);
 }
 
 #[test]

@@ -2,10 +2,12 @@
 
 use crate::image;
 use crate::repeater::repeat;
-use crate::subtelegram::{check, same, Refusal, CLOCK_BACK, FULL_COUNT};
+use crate::subtelegram::{check, level, same, Refusal, CLOCK_BACK, FULL_COUNT};
 
 /// RX maturity: a telegram kept at f is open at t while t - f is at most this.
 pub const OPEN_FOR: u64 = 100;
+/// TX maturity: a sender is finished so many ms after it began (document 02, A6).
+pub const SENT_WITHIN: u64 = 40;
 /// So many telegrams can be open at once.
 pub const PLACES: usize = 64;
 
@@ -42,6 +44,26 @@ pub struct Totals {
 }
 
 impl Totals {
+    /// With so many KEPT fewer.
+    pub fn without_kept(self, n: u64) -> Totals {
+        Totals {
+            received: self.received - n,
+            kept: self.kept - n,
+            ..self
+        }
+    }
+
+    pub fn plus(self, other: Totals) -> Totals {
+        Totals {
+            received: self.received + other.received,
+            kept: self.kept + other.kept,
+            copies: self.copies + other.copies,
+            loose: self.loose + other.loose,
+            damaged: self.damaged + other.damaged,
+            late: self.late + other.late,
+        }
+    }
+
     pub fn text(&self) -> String {
         format!(
             "{} {} {} {} {} {}",
@@ -63,6 +85,9 @@ pub struct Clerk {
     pub noted: Vec<Noted>,
     accepted: Vec<usize>,
     kept: Vec<usize>,
+    /// Of an image that he goes on from: its totals without the entries, and its latest time.
+    earlier: Totals,
+    earlier_latest: u64,
 }
 
 impl Clerk {
@@ -72,7 +97,27 @@ impl Clerk {
             noted: Vec::new(),
             accepted: Vec::new(),
             kept: Vec::new(),
+            earlier: Totals::default(),
+            earlier_latest: 0,
         }
+    }
+
+    /// Goes on from an image that was accepted and belongs to no history: its entries are the
+    /// receptions that he answered KEPT, and the rest is in its numbers.
+    pub fn going_on(image: image::Reloaded) -> Clerk {
+        let mut clerk = Clerk::new(image.setting);
+        for (at, entry) in image.entries.into_iter().enumerate() {
+            clerk.accepted.push(at);
+            clerk.kept.push(at);
+            clerk.noted.push(Noted {
+                time: entry.time,
+                bytes: entry.bytes,
+                answer: Answer::Kept,
+            });
+        }
+        clerk.earlier = image.totals.without_kept(clerk.noted.len() as u64);
+        clerk.earlier_latest = image.latest;
+        clerk
     }
 
     /// Takes one reception: his answer, and what goes with it to be sent.
@@ -105,15 +150,13 @@ impl Clerk {
         if let Err(number) = check(bytes) {
             return Answer::Refused(number);
         }
-        if self
-            .accepted
-            .last()
-            .is_some_and(|&at| self.noted[at].time > time)
-        {
+        if self.latest() > time {
             return Answer::Refused(CLOCK_BACK);
         }
         let open = self.open_at(time);
-        if open.iter().any(|noted| same(&noted.bytes, bytes)) {
+        // "the latest open same telegram"
+        let latest = open.iter().find(|noted| same(&noted.bytes, bytes));
+        if latest.is_some_and(|noted| !is_second_event(noted.time, time, bytes)) {
             return Answer::Copy;
         }
         if open.len() >= PLACES {
@@ -125,11 +168,8 @@ impl Clerk {
     /// Whether 2^64 - 1 have another answer than 8. With fewer receptions in all there is
     /// nothing to count.
     fn counted_full(&self) -> bool {
-        self.noted.len() as u64 == u64::MAX
-            && self
-                .noted
-                .iter()
-                .all(|noted| noted.answer != Answer::Refused(FULL_COUNT))
+        let left = u64::MAX - self.earlier.received;
+        self.noted.len() as u64 >= left && self.totals().received == u64::MAX
     }
 
     /// The KEPT ones with time - f <= 100, the latest first. The time is no accepted one's past.
@@ -144,7 +184,8 @@ impl Clerk {
 
     /// The greatest time that he answered KEPT, COPY or LOOSE, 0 if none.
     pub fn latest(&self) -> u64 {
-        self.accepted.last().map_or(0, |&at| self.noted[at].time)
+        let noted = self.accepted.last().map_or(0, |&at| self.noted[at].time);
+        noted.max(self.earlier_latest)
     }
 
     /// The KEPT ones with latest - f <= 100, in the order handed over.
@@ -156,7 +197,7 @@ impl Clerk {
 
     /// His totals count his own answers.
     pub fn totals(&self) -> Totals {
-        totals_of(&self.noted)
+        self.earlier.plus(totals_of(&self.noted))
     }
 
     /// His image.
@@ -171,6 +212,11 @@ impl Clerk {
             .collect();
         image::write(self.latest(), &self.totals(), self.setting, &entries)
     }
+}
+
+/// "a valid level 0 reception more than 40 ms after the opening" (document 02, A6).
+pub fn is_second_event(opened: u64, time: u64, bytes: &[u8]) -> bool {
+    level(bytes) == 0 && time - opened > SENT_WITHIN
 }
 
 pub fn totals_of(noted: &[Noted]) -> Totals {

@@ -6,7 +6,7 @@ use crate::history::{show, spoil, stdin, stdout, word, Call, Model, SHOWN};
 use crate::image::{self, reload, IMAGE};
 use crate::repeater::repeat;
 use crate::scenarios::{calls, ROOMS};
-use crate::subtelegram::{check, same, Refusal, CRC_WRONG, SUM_WRONG};
+use crate::subtelegram::{check, level, same, Refusal, CRC_WRONG, SUM_WRONG};
 use crate::telegrams::at_level;
 use std::collections::BTreeMap;
 
@@ -15,10 +15,45 @@ use std::collections::BTreeMap;
 struct PlainClerk {
     setting: u8,
     noted: Vec<Noted>,
+    /// Of an image that is gone on from: its totals without the entries, and its latest time.
+    earlier: Totals,
+    earlier_latest: u64,
     fault: &'static str,
 }
 
 impl PlainClerk {
+    /// Whether a reception is a copy, its openings being those of the same telegram that are
+    /// open, in order.
+    fn is_copy(&self, openings: &[&Noted], time: u64, bytes: &[u8]) -> bool {
+        let (Some(first), Some(latest)) = (openings.first(), openings.last()) else {
+            return false;
+        };
+        let opening = match self.fault {
+            "40 ms from the first opening" => first,
+            _ => latest,
+        };
+        let heard_again = |n: &&Noted| n.answer == Answer::Copy && same(&n.bytes, bytes);
+        let from = match self.fault {
+            "a copy moves the 40 ms" => {
+                let again = self.noted.iter().rfind(heard_again).map_or(0, |n| n.time);
+                again.max(opening.time)
+            }
+            _ => opening.time,
+        };
+        let original = match self.fault {
+            "40 ms for all levels" => true,
+            "no 40 ms" => false,
+            "level of the opening" => level(&opening.bytes) == 0,
+            _ => level(bytes) == 0,
+        };
+        let sent_within = match self.fault {
+            "39 ms" => 39,
+            "41 ms" => 41,
+            _ => 40,
+        };
+        !(original && time - from > sent_within)
+    }
+
     fn is_open(&self, noted: &Noted, time: u64) -> bool {
         match self.fault {
             "99 ms" => time - noted.time < 100,
@@ -53,10 +88,14 @@ impl PlainClerk {
             ("damage moves the clock", Answer::Refused(1..=3 | CRC_WRONG)) => true,
             _ => answer.accepted(),
         };
-        let late = self
-            .noted
-            .iter()
-            .any(|n| answered(n.answer) && n.time > time);
+        if self.totals().received == u64::MAX && self.fault != "never full" {
+            return Answer::Refused(8);
+        }
+        let late = self.earlier_latest > time
+            || self
+                .noted
+                .iter()
+                .any(|n| answered(n.answer) && n.time > time);
         if self.fault == "late before damage" && late {
             return Answer::Refused(7);
         }
@@ -87,7 +126,18 @@ impl PlainClerk {
             .filter(earlier)
             .filter(|n| self.is_open(n, time))
             .collect();
-        let full = open.iter().filter(|n| n.answer == Answer::Kept).count()
+        let openings: Vec<&Noted> = open
+            .iter()
+            .copied()
+            .filter(|n| self.is_same(&n.bytes, bytes))
+            .collect();
+        let counts = |(at, n): &(usize, &&Noted)| match self.fault {
+            "one place for all openings" => {
+                n.answer == Answer::Kept && !open[..*at].iter().any(|o| same(&o.bytes, &n.bytes))
+            }
+            _ => n.answer == Answer::Kept,
+        };
+        let full = open.iter().enumerate().filter(counts).count()
             >= match self.fault {
                 "63 places" => 63,
                 "65 places" => 65,
@@ -96,10 +146,11 @@ impl PlainClerk {
         if self.fault == "loose before copy" && full {
             return Answer::Loose;
         }
-        if open.iter().any(|n| self.is_same(&n.bytes, bytes)) {
+        if self.is_copy(&openings, time, bytes) {
             return Answer::Copy;
         }
-        if full {
+        let again = self.fault == "second opening loose never" && !openings.is_empty();
+        if full && !again {
             return Answer::Loose;
         }
         Answer::Kept
@@ -108,8 +159,11 @@ impl PlainClerk {
 
 impl Model for PlainClerk {
     fn start(&mut self, setting: u8) {
-        self.setting = setting;
-        self.noted.clear();
+        *self = PlainClerk {
+            setting,
+            fault: self.fault,
+            ..PlainClerk::default()
+        };
     }
 
     fn take(&mut self, time: u64, bytes: &[u8]) -> (Answer, Option<Vec<u8>>) {
@@ -128,7 +182,7 @@ impl Model for PlainClerk {
     }
 
     fn totals(&self) -> Totals {
-        let mut totals = totals_of(&self.noted);
+        let mut totals = self.earlier.plus(totals_of(&self.noted));
         if self.fault == "a wrong CRC is not damage" {
             let crc_wrong = |n: &&Noted| n.answer == Answer::Refused(CRC_WRONG);
             totals.damaged -= self.noted.iter().filter(crc_wrong).count() as u64;
@@ -139,6 +193,7 @@ impl Model for PlainClerk {
     fn image(&self) -> Vec<u8> {
         let accepted = self.noted.iter().filter(|n| n.answer.accepted());
         let latest = accepted.map(|n| n.time).max().unwrap_or(0);
+        let latest = latest.max(self.earlier_latest);
         let entries: Vec<image::Entry> = self
             .noted
             .iter()
@@ -153,6 +208,25 @@ impl Model for PlainClerk {
     }
 
     fn restore(&mut self, _image: &[u8], _setting: u8) -> u8 {
+        0
+    }
+
+    fn restore_given(&mut self, image: &[u8]) -> u8 {
+        let Ok(state) = reload(image) else {
+            return 11;
+        };
+        let entries = state.entries;
+        self.setting = state.setting;
+        self.earlier = state.totals.without_kept(entries.len() as u64);
+        self.earlier_latest = state.latest;
+        self.noted = entries
+            .into_iter()
+            .map(|entry| Noted {
+                time: entry.time,
+                bytes: entry.bytes,
+                answer: Answer::Kept,
+            })
+            .collect();
         0
     }
 }
@@ -193,6 +267,16 @@ fn faults_are_seen() {
         "65 places",
         "loose before copy",
         "copies repeated",
+        "40 ms for all levels",
+        "no 40 ms",
+        "39 ms",
+        "41 ms",
+        "40 ms from the first opening",
+        "a copy moves the 40 ms",
+        "level of the opening",
+        "second opening loose never",
+        "one place for all openings",
+        "never full",
         "2 for every hash",
         "13 for every hash",
         "a wrong CRC is not damage",
@@ -230,6 +314,9 @@ impl Model for Window {
             setting,
             entries,
         } = &mut self.state;
+        if totals.received == u64::MAX {
+            return (Answer::Refused(8), None);
+        }
         totals.received += 1;
         if let Err(number) = check(bytes) {
             totals.damaged += 1;
@@ -247,7 +334,9 @@ impl Model for Window {
         let open = entries.iter().filter(|e| time - e.time <= 100).count();
         let copied = entries
             .iter_mut()
-            .find(|e| time - e.time <= 100 && same(&e.bytes, bytes));
+            .filter(|e| time - e.time <= 100 && same(&e.bytes, bytes))
+            .max_by_key(|e| e.time)
+            .filter(|e| level(bytes) > 0 || time - e.time <= 40);
         if let Some(entry) = copied {
             totals.copies += 1;
             if fault == "last copy parked" {
@@ -329,6 +418,16 @@ impl Model for Window {
         self.state = state;
         0
     }
+
+    fn restore_given(&mut self, image: &[u8]) -> u8 {
+        match reload(image) {
+            Ok(state) => {
+                self.state = state;
+                0
+            }
+            Err(number) => number,
+        }
+    }
 }
 
 #[test]
@@ -404,6 +503,10 @@ fn everything_occurs() {
                 assert_eq!(reload(&spoil(clerk.image(), *k)), Err(11));
                 count("spoiled".to_string());
             }
+            Call::Given(image) => {
+                let number = clerk.restore_given(image);
+                count(format!("given, answered {number}"));
+            }
         }
     }
     assert!(rooms_first.iter().all(|&n| n >= IMAGE));
@@ -433,6 +536,9 @@ fn everything_occurs() {
     for room in ROOMS {
         least(&format!("park {room}"), 20);
     }
+    least("given, answered 0", 30);
+    least("given, answered 11", 60);
+    least("8", 5);
     least("entries cut 0", 1);
     least("entries cut 64", 10);
     least("entries parked 64", 10);
@@ -450,7 +556,7 @@ fn shown_numbers() {
         }
     }
     assert!(
-        text.len() + stdin().len() < 2_000_000,
+        text.len() + stdin().len() < 4_000_000,
         "{} {}",
         text.len(),
         stdin().len()

@@ -3,6 +3,7 @@
 //! collector"). The lines of both files are in README.md.
 
 use crate::clerk::{Answer, Clerk, Totals};
+use crate::given;
 use crate::hex::{hex, hex_or_dash};
 use crate::image::{reload, IMAGE};
 use crate::scenarios::calls;
@@ -22,6 +23,8 @@ pub enum Call {
     /// A restore of the present image with one bit of this byte changed; for 2,560, of the
     /// image without its last byte.
     Spoiled(usize),
+    /// A restore of these bytes. Where they are accepted, a history of its own goes on from them.
+    Given(Vec<u8>),
 }
 
 // What must be shown.
@@ -40,6 +43,9 @@ pub trait Model {
     /// The restore of this image into a collector started fresh at this setting, with which
     /// the history goes on.
     fn restore(&mut self, image: &[u8], setting: u8) -> u8;
+    /// The restore of an image that the input gives; where it is accepted, what it says is gone
+    /// on with.
+    fn restore_given(&mut self, image: &[u8]) -> u8;
 }
 
 impl Model for Clerk {
@@ -63,6 +69,16 @@ impl Model for Clerk {
     /// else. The number is that of the conditions of a reload.
     fn restore(&mut self, image: &[u8], _setting: u8) -> u8 {
         restore_number(image)
+    }
+
+    fn restore_given(&mut self, image: &[u8]) -> u8 {
+        match reload(image) {
+            Ok(state) => {
+                *self = Clerk::going_on(state);
+                0
+            }
+            Err(number) => number,
+        }
     }
 }
 
@@ -139,9 +155,22 @@ pub fn show(calls: &[Call], model: &mut impl Model) -> String {
                 let number = restore_number(&spoil(model.image(), *k));
                 writeln!(out, "X {number} {}", model.totals().text()).unwrap();
             }
+            Call::Given(image) => {
+                let number = model.restore_given(image);
+                writeln!(out, "W {number} {}", model.totals().text()).unwrap();
+            }
         }
     }
     out
+}
+
+/// The records of a call: one, and for bytes that are given those that hold them.
+fn records(call: &Call) -> Vec<[u8; 64]> {
+    let mut all = vec![record(call)];
+    if let Call::Given(image) = call {
+        all.extend(given::parts(image));
+    }
+    all
 }
 
 /// A call as a record of 64 bytes: the operation, a number of eight bytes, and a length and bytes.
@@ -152,6 +181,7 @@ pub fn record(call: &Call) -> [u8; 64] {
         Call::Park(n) => (3, *n as u64, &[]),
         Call::Cut(setting) => (4, u64::from(*setting), &[]),
         Call::Spoiled(k) => (5, *k as u64, &[]),
+        Call::Given(image) => (8, image.len() as u64, &[]),
     };
     let mut record = [0; 64];
     record[0] = operation;
@@ -162,12 +192,15 @@ pub fn record(call: &Call) -> [u8; 64] {
 }
 
 pub fn stdin() -> String {
-    calls()
-        .iter()
-        .map(|call| hex(&record(call)) + "\n")
-        .collect()
+    text(&calls())
 }
 
 pub fn stdout() -> String {
     show(&calls(), &mut Clerk::new(0))
+}
+
+/// The records of the calls, a line each.
+pub fn text(calls: &[Call]) -> String {
+    let records = calls.iter().flat_map(records);
+    records.map(|record| hex(&record) + "\n").collect()
 }

@@ -1,6 +1,6 @@
 //! The image of a parked collector (document 01, "Parked collector").
 
-use crate::clerk::{Totals, OPEN_FOR, PLACES};
+use crate::clerk::{is_second_event, Totals, OPEN_FOR, PLACES};
 use crate::hash::crc;
 use crate::subtelegram::{check, same, Refusal, LONGEST, NOT_ACCEPTED};
 
@@ -128,8 +128,11 @@ fn accept(image: &[u8]) -> Option<Reloaded> {
     if !(valid && in_order && open && entries.len() <= PLACES) {
         return None;
     }
-    for (i, a) in entries.iter().enumerate() {
-        if entries[..i].iter().any(|b| same(&a.bytes, &b.bytes)) {
+    // "several entries of one telegram if each was opened more than 40 ms after the one before
+    // and all but the first have level 0" (document 02, A6)
+    for (i, entry) in entries.iter().enumerate() {
+        let before = entries[..i].iter().rfind(|e| same(&e.bytes, &entry.bytes));
+        if before.is_some_and(|e| !is_second_event(e.time, entry.time, &entry.bytes)) {
             return None;
         }
     }
@@ -158,7 +161,7 @@ mod tests {
     use super::*;
     use crate::clerk::Clerk;
     use crate::random::Random;
-    use crate::telegrams::valid;
+    use crate::telegrams::{at_level, valid};
 
     fn full_clerk() -> Clerk {
         let mut random = Random::new(5);
@@ -261,6 +264,29 @@ mod tests {
         level.bytes[n - 2] ^= 1;
         crate::subtelegram::renew_hash(&mut level.bytes);
         assert!(!good(60, &totals, 0, &[a.clone(), level]));
+        // Several openings of one telegram (document 02, A6).
+        let opened = |times: &[(u64, u8)]| {
+            let entries: Vec<Entry> = times
+                .iter()
+                .map(|&(time, level)| Entry {
+                    time,
+                    bytes: at_level(&b.bytes, level),
+                })
+                .collect();
+            let kept = entries.len() as u64;
+            let totals = Totals {
+                received: kept,
+                kept,
+                ..Totals::default()
+            };
+            good(1082, &totals, 0, &entries)
+        };
+        assert!(!opened(&[(1000, 0), (1040, 0)]));
+        assert!(opened(&[(1000, 0), (1041, 0)]));
+        assert!(!opened(&[(1000, 0), (1041, 1)]));
+        assert!(opened(&[(1000, 1), (1041, 0)]));
+        assert!(opened(&[(1000, 2), (1041, 0), (1082, 0)]));
+        assert!(!opened(&[(1000, 0), (1041, 0), (1081, 0)]));
         let mut broken = a.clone();
         broken.bytes[0] ^= 1;
         assert!(!good(60, &totals, 0, &[broken, b.clone()]));

@@ -132,7 +132,7 @@ const LINES: &[(&str, &str)] = &[
     ("340282366920938463463374607431768211456 00", "BAD"),
     // Nothing above has closed what was opened at 1000, or moved the clock past 1002.
     ("1001 %", "1001 REFUSED 7"),
-    ("1100 %", "1100 COPY"),
+    ("1100 D5090102030401E9", "1100 COPY"),
     ("1101 %", "1101 KEPT SEND D5090102030401E9"),
     (
         "18446744073709551615 %",
@@ -411,7 +411,7 @@ mod tests {
         let output = run("garbage");
         assert!(output.matches("BAD\n").count() > 200);
         assert!(
-            output.ends_with("\nRECEIVED 16 KEPT 4 COPIES 12 LOOSE 0 DAMAGED 0 LATE 0\n"),
+            output.ends_with("\nRECEIVED 16 KEPT 8 COPIES 8 LOOSE 0 DAMAGED 0 LATE 0\n"),
             "{output}"
         );
     }
@@ -428,6 +428,7 @@ mod tests {
             (" REFUSED 2\n", 300),
             (" REFUSED 3\n", 100),
             (" REFUSED 7\n", 500),
+            (" REFUSED 13\n", 300),
             ("BAD\n", 500),
             ("18446744073709551615 COPY\n", 10),
         ] {

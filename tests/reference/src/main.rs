@@ -6,6 +6,7 @@ mod codec;
 mod collect;
 mod erp2;
 mod erp2_records;
+mod given;
 mod hash;
 mod hex;
 mod history;
@@ -54,13 +55,17 @@ fn main() {
         ["erp2", "stdout"] => erp2_records::stdout().into_bytes(),
         ["history", "stdin"] => history::stdin().into_bytes(),
         ["history", "stdout"] => history::stdout().into_bytes(),
+        ["long", "stdin"] => history::text(&scenarios::long_calls()).into_bytes(),
+        ["long", "stdout"] => {
+            history::show(&scenarios::long_calls(), &mut clerk::Clerk::new(0)).into_bytes()
+        }
         _ => usage(),
     };
     std::io::stdout().write_all(&text).expect("standard output");
 }
 
 fn usage<T>() -> T {
-    eprintln!("reference codec|erp2|history stdin|stdout,");
+    eprintln!("reference codec|erp2|history|long stdin|stdout,");
     eprintln!("reference slots|rules|collect|sample stdout,");
     eprintln!(
         "reference inputs NAME stdin|stdout, NAME one of {}",

@@ -1,7 +1,8 @@
 //! The calls of the histories: sparse traffic, repeaters, bursts, edges, both ends of time, a
 //! clock that goes back, damage, and checkpoints, cuts and refused restores among them.
 
-use crate::clerk::{Answer, Clerk, OPEN_FOR, PLACES};
+use crate::clerk::{Answer, Clerk, OPEN_FOR, PLACES, SENT_WITHIN};
+use crate::given;
 use crate::history::{Call, SHOWN};
 use crate::image::IMAGE;
 use crate::random::Random;
@@ -112,6 +113,13 @@ impl Maker {
 
     fn pass(&mut self, gap: u64) {
         self.now = self.now.saturating_add(gap);
+    }
+
+    /// The open telegrams: when each was opened, and its bytes.
+    fn opened(&self) -> Vec<(u64, Vec<u8>)> {
+        let entries = self.clerk.entries();
+        let opened = entries.iter().map(|e| (e.time, e.bytes.clone()));
+        opened.collect()
     }
 
     fn pool(&mut self, n: usize) -> Vec<Vec<u8>> {
@@ -225,9 +233,9 @@ impl Maker {
         self.start(setting, now);
         let pool = self.pool(12);
         for _ in 0..count {
-            let gap = self
-                .random
-                .pick(&[0, 1, 3, 10, 20, 40, 60, 99, 100, 101, 102, 250, 1000]);
+            let gap = self.random.pick(&[
+                0, 1, 3, 10, 20, 39, 40, 41, 60, 99, 100, 101, 102, 250, 1000,
+            ]);
             self.pass(gap);
             self.ordinary(&pool);
         }
@@ -286,12 +294,7 @@ impl Maker {
         let pool = self.pool(16);
         while self.clerk.noted.len() < count {
             let latest = self.clerk.latest();
-            let kept: Vec<(u64, Vec<u8>)> = self
-                .clerk
-                .entries()
-                .iter()
-                .map(|e| (e.time, e.bytes.clone()))
-                .collect();
+            let kept = self.opened();
             if kept.is_empty() || self.random.chance(35) {
                 self.now = latest + self.random.pick(&[0, 1, 5, 30]);
                 let heard = self.heard(&pool);
@@ -307,6 +310,58 @@ impl Maker {
             let level = self.random.pick(&LEVELS);
             // Times before the latest are refused by 7, which is an edge too.
             self.reception(time, &at_level(bytes, level));
+        }
+    }
+
+    /// Originals and repeated copies around 40 ms after an opening (document 02, A6), and around 100:
+    /// up to three openings of one telegram are open at once.
+    fn originals(&mut self, setting: u8, count: usize) {
+        self.start(setting, 50);
+        let pool = self.pool(4);
+        while self.clerk.noted.len() < count {
+            let opened = self.opened();
+            if opened.is_empty() || self.random.chance(30) {
+                let gap = self.random.pick(&[0, 1, 39, 40, 41, 80, 81, 82]);
+                self.pass(gap);
+                let heard = self.heard(&pool);
+                self.reception(self.now, &heard);
+            } else {
+                let at = self.random.below(opened.len());
+                let (time, bytes) = &opened[at];
+                let after = self.random.pick(&[
+                    SENT_WITHIN - 1,
+                    SENT_WITHIN,
+                    SENT_WITHIN,
+                    SENT_WITHIN + 1,
+                    SENT_WITHIN + 1,
+                    2 * SENT_WITHIN,
+                    2 * SENT_WITHIN + 1,
+                    2 * SENT_WITHIN + 2,
+                    OPEN_FOR - 1,
+                    OPEN_FOR,
+                    OPEN_FOR + 1,
+                ]);
+                let level = self.random.pick(&[0, 0, 0, 0, 1, 2, 15]);
+                self.reception(time + after, &at_level(bytes, level));
+            }
+            self.now = self.now.max(self.clerk.latest());
+        }
+    }
+
+    /// A full table that late originals meet: they are LOOSE, and open nothing; each opening holds a
+    /// place of its own.
+    fn crowded_originals(&mut self, setting: u8, count: usize) {
+        self.start(setting, 3_000);
+        let pool = self.pool(30);
+        while self.clerk.noted.len() < count {
+            for bytes in &pool {
+                let time = self.now;
+                self.reception(time, &at_level(bytes, 0));
+            }
+            let gap = self.random.pick(&[39, 40, 41, 41, 42]);
+            self.pass(gap);
+            let heard = self.heard(&pool);
+            self.reception(self.now, &heard);
         }
     }
 
@@ -527,5 +582,29 @@ pub fn calls() -> Vec<Call> {
     several(&[1, 2, 2], 180, Maker::top);
     several(&[1, 2], 72, |maker, setting, _| maker.leap(setting));
     several(&[2, 1, 0, 2, 1], 120, Maker::back);
+    several(&[0, 1, 2, 1], 130, Maker::originals);
+    several(&[1, 2], 200, Maker::crowded_originals);
+    let mut all = maker.calls;
+    all.extend(given::calls());
+    all
+}
+
+/// More than 10^5 receptions with gaps around 40 and 100 ms, full tables and cuts, too long to be
+/// stored.
+pub fn long_calls() -> Vec<Call> {
+    let mut maker = Maker::new(0x0004_4D6F_6F72_696E);
+    for round in 0..20 {
+        let setting = round % 3;
+        for make in [
+            Maker::originals,
+            Maker::crowded_originals,
+            Maker::edges,
+            Maker::sparse,
+            Maker::burst,
+        ] {
+            make(&mut maker, setting, 1_010);
+            maker.end();
+        }
+    }
     maker.calls
 }

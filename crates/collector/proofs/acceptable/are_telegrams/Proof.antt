@@ -17,11 +17,11 @@ use Rattle.collector.proofs.acceptable.are_telegrams.Statement.{stateme
 use Rattle.collector.proofs.acceptable.are_telegrams.Tie as tie
 
 abbrev Inv-loop : tie.InvT-loop
-Inv-loop lens bytes count seen₀ i₀ seen i =
-    (i ≤ count) × ((times : List ℕ) → areTelegrams (entriesAt times lens bytes i) ≡ true) × Marked lens bytes i seen
+Inv-loop times lens bytes count seen₀ i₀ seen i =
+    (i ≤ count) × (areTelegrams (entriesAt times lens bytes i) ≡ true) × Marked lens bytes i seen
 
 abbrev μ-loop : tie.MeasureT-loop
-μ-loop lens bytes count seen₀ i₀ seen i = count - i
+μ-loop times lens bytes count seen₀ i₀ seen i = count - i
 
 -- the loop's place and the arguments
 abbrev at : tie.After-mark-at Inv-loop μ-loop → tie.At-loop Inv-loop μ-loop
@@ -31,12 +31,12 @@ abbrev start : tie.At-loop Inv-loop μ-loop → tie.Start Inv-loop μ-loop
 start c = c .before .before
 
 returns : tie.Need-returns Inv-loop μ-loop
-returns c times =
+returns c =
     let l = at (c .before) in
     let a = start l .args in
     let i = l .loop .i in
-    sym (telegrams-not times (now (a .lens)) (now (a .bytes)) i (a .count) (omega arith)
-    (new-not-valid times (now (a .lens)) (now (a .bytes)) i (c .before .mark-at .ensures .invalid (c .if1 .taken))))
+    sym (telegrams-not (now (a .times)) (now (a .lens)) (now (a .bytes)) i (a .count) (omega arith)
+    (new-not-valid (now (a .times)) (now (a .lens)) (now (a .bytes)) i (c .before .mark-at .ensures .invalid (c .if1 .taken))))
 
 valid : (c : tie.Else1 Inv-loop μ-loop) → isValid (shownAt (now (start (at (c .before)) .args .lens)) (now (start (at (c .before)) .args .bytes)) (at (c .before) .loop .i)) ≡ true
 valid c = c .before .mark-at .ensures .valid (c .if1 .left)
@@ -49,12 +49,12 @@ is-repeated-requires c κs =
     (omega arith, len .0, len .1)
 
 returns-2 : tie.Need-returns-2 Inv-loop μ-loop
-returns-2 c times =
+returns-2 c =
     let l = at (c .before .before .before) in
     let a = start l .args in
     let i = l .loop .i in
-    sym (telegrams-not times (now (a .lens)) (now (a .bytes)) i (a .count) (omega arith)
-    (new-repeated times (now (a .lens)) (now (a .bytes)) i (is-known (c .before .is-repeated .ensures times) (c .if2 .taken))))
+    sym (telegrams-not (now (a .times)) (now (a .lens)) (now (a .bytes)) i (a .count) (omega arith)
+    (new-repeated (now (a .times)) (now (a .lens)) (now (a .bytes)) i (is-known (c .before .is-repeated .ensures) (c .if2 .taken))))
 
 loop-again : tie.Need-loop-again Inv-loop μ-loop
 loop-again c =
@@ -62,22 +62,23 @@ loop-again c =
     let l = at (e .before) in
     let a = start l .args in
     let i = l .loop .i in
+    let times = now (a .times) in
     let lens = now (a .lens) in
     let bytes = now (a .bytes) in
     let mark = e .before .mark-at .ensures .mark (e .if1 .left) in (
       omega arith,
-      λ times. telegrams-more times lens bytes i (l .loop .inv .1 times)
+      telegrams-more times lens bytes i (l .loop .inv .1)
           (new-both times lens bytes i (valid e)
-          (not-known (c .before .is-repeated .ensures times) (c .if2 .left)
+          (not-known (c .before .is-repeated .ensures) (c .if2 .left)
           (λ z. new-mark lens bytes i (l .loop .seen) (l .loop .inv .2) times (valid e) (ap (λ (n : ℕ). getD (l .loop .seen) n 0) (sym mark) ∙ z)))),
       marked-more lens bytes i (l .loop .seen) (l .loop .inv .2) _ mark (e .if1 .left),
     )
 
 returns-3 : tie.Need-returns-3 Inv-loop μ-loop
-returns-3 c times =
+returns-3 c =
     let l = c .before in
     let e : l .loop .i ≡ start l .args .count = omega arith in
-    sym (rw e at (l .loop .inv .1 times))
+    sym (rw e at (l .loop .inv .1))
 
 pub are-telegrams-spec : {M : Type 1} → statement M
 are-telegrams-spec =
@@ -86,7 +87,7 @@ are-telegrams-spec =
     Inv-loop
     μ-loop
     (λ c κs. search needs)
-    (λ c. (omega arith, λ times. telegrams-none times _ _, marked-none _ _ _ (c .no-marks .ensures)))
+    (λ c. (omega arith, telegrams-none _ _ _, marked-none _ _ _ (c .no-marks .ensures)))
     (λ c κs. omega arith)
     returns
     (λ c. omega arith)

@@ -31,11 +31,11 @@ returns-4 : tie.Need-returns-4
 returns-4 c =
     let t = c .before in
     let e = t .before .before .before .before in
-    not-telegrams _ _ (entries-length _ _ _ _) (e .before .if1 .left) (e .if2 .left) (timely (t .before)) (sym (t .are-telegrams .ensures _) ∙ not-true _ (c .if4 .taken))
+    not-telegrams _ _ (entries-length _ _ _ _) (e .before .if1 .left) (e .if2 .left) (timely (t .before)) (sym (t .are-telegrams .ensures) ∙ not-true _ (c .if4 .taken))
 
 telegrams : (c : tie.Else4)
     → (let a = c .before .before .before .before .before .before .before .args in areTelegrams (entriesAt (now (a .times)) (now (a .lens)) (now (a .bytes)) (a .count)) ≡ true)
-telegrams c = sym (c .before .are-telegrams .ensures _) ∙ not-false _ (c .if4 .left)
+telegrams c = sym (c .before .are-telegrams .ensures) ∙ not-false _ (c .if4 .left)
 
 returns-5 : tie.Need-returns-5
 returns-5 c =

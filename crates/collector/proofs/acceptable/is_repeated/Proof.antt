@@ -22,23 +22,22 @@ shown c =
     c .telegram .ensures ∙ ap (λ (n : ℕ). resized n (part (maxLength * a .i) maxLength (now (a .bytes)))) (c .before .before .wide .ensures)
 
 returns : tie.Need-returns
-returns c times = record { new = λ _. refl; old = λ n. absurd (n (c .if1 .taken)) }
+returns c = record { new = λ _. refl; old = λ n. absurd (n (c .if1 .taken)) }
 
 find-requires : tie.Need-find-requires
 find-requires c κs =
-    let a = start c .args in
-    let long = ap length (shown c) ∙ resized-length (getD (now (a .lens)) (a .i) 0) (part (maxLength * a .i) maxLength (now (a .bytes))) in
-    (omega arith, omega (arith, start c .pre .1, long), omega (arith, start c .pre .2, long))
+    let a = start (c .before) .args in
+    let long = ap length (shown (c .before)) ∙ resized-length (getD (now (a .lens)) (a .i) 0) (part (maxLength * a .i) maxLength (now (a .bytes))) in
+    (omega arith, omega (arith, start (c .before) .pre .1, long), omega (arith, start (c .before) .pre .2, long))
 
 returns-2 : tie.Need-returns-2
-returns-2 c times =
-    let a = start (c .before) .args in
+returns-2 c =
     record {
-      new = λ e. absurd (c .before .before .before .before .before .if1 .left e);
-      old = λ _. rw (← shown (c .before)) (c .find .ensures times (getD times (a .i) 0));
+      new = λ e. absurd (c .before .before .before .before .before .before .if1 .left e);
+      old = λ _. rw (← shown (c .before .before)) (c .find .ensures);
     }
 
 pub is-repeated-spec : {M : Type 1} → statement M
 is-repeated-spec =
     tie.close
-    (tie.spec returns (λ c. search needs) (λ c κs. search needs) (λ c κs. search needs) find-requires returns-2)
+    (tie.spec returns (λ c. search needs) (λ c κs. search needs) (λ c κs. search needs) (λ c. search needs) (λ c. search needs) find-requires returns-2)

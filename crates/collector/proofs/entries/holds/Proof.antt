@@ -1,32 +1,32 @@
--- `collector::entries::holds` meets its contract: an entry with another last byte of TXID, or of another length, is no copy, and else `same`
--- says it. Assumes nothing.
+-- `collector::entries::holds` meets its contract: an entry with another last byte of TXID, or of another length, is another telegram, and else
+-- `same` says it. Assumes nothing.
 use mathlib.Core.Path.{sym, _∙_}
 use Prim.Native.Nat.{_-_}
 use native.Mathlib.Omega.{arith}
 use borrow.Author.Needs.{needs}
 use denote.Ref.{now}
 use lib.ListN.{length}
-use Rattle.collector.proofs.Arrays.{no-copy, copy-said}
+use Rattle.collector.proofs.Arrays.{longer-not-same, same-said}
 use Rattle.collector.proofs.Copies.{other-byte}
 use Rattle.collector.proofs.entries.holds.Statement.{statement}
 use Rattle.collector.proofs.entries.holds.Tie as tie
 
 returns : tie.Need-returns
-returns c times time =
+returns c =
     let a = c .before .before .before .before .args in
-    sym (other-byte times (now (a .lens)) (now (a .bytes)) (a .i) (record { bytes = now (a .received); time = time }) (omega arith) (omega arith) (length (now (a .received)) - 3) (omega arith) (c .if1 .taken))
+    sym (other-byte (now (a .lens)) (now (a .bytes)) (a .i) (now (a .received)) (omega arith) (omega arith) (length (now (a .received)) - 3) (omega arith) (c .if1 .taken))
 
 returns-2 : tie.Need-returns-2
-returns-2 c times time =
+returns-2 c =
     let a = c .before .before .before .before .before .before .before .args in
-    sym (no-copy times (now (a .lens)) (now (a .bytes)) (a .i) (record { bytes = now (a .received); time = time }) (λ e. c .if2 .taken (c .before .wide .ensures ∙ e)))
+    sym (longer-not-same (now (a .lens)) (now (a .bytes)) (a .i) (now (a .received)) (λ e. c .if2 .taken (c .before .wide .ensures ∙ e)))
 
 returns-3 : tie.Need-returns-3
-returns-3 c times time =
+returns-3 c =
     let b = c .before .before .before in
     let a = b .before .before .before .before .before .before .before .args in
     c .same .ensures
-    ∙ sym (copy-said times (now (a .lens)) (now (a .bytes)) (a .i) (record { bytes = now (a .received); time = time }) _ (c .before .telegram .ensures)
+    ∙ sym (same-said (now (a .lens)) (now (a .bytes)) (a .i) (now (a .received)) _ (c .before .telegram .ensures)
     (sym (b .before .wide .ensures) ∙ b .if2 .left))
 
 pub holds-spec : {M : Type 1} → statement M

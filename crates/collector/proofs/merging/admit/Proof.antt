@@ -65,10 +65,10 @@ closed c = record {
 
 -- the answer
 abbrev gone : tie.After-classify → tie.After-close-bytes
-gone c = c .before .before .before
+gone c = c .before .before .before .before
 
 said : (c : tie.After-classify) → shownOf (c .classify .result) ≡ answerOn (view (start (gone c))) (reception (start (gone c)))
-said c = answer-said (closed (gone c)) _ (c .classify .ensures _ (start (gone c) .args .time))
+said c = answer-said (closed (gone c)) _ (c .classify .ensures)
 
 -- what is kept is valid, and there is room for it
 fits : (c : tie.After-is-kept) → c .is-kept .result ≡ true
@@ -86,7 +86,7 @@ returns c =
 classify-requires : tie.Need-classify-requires
 unfolding viewOf
 classify-requires c κs =
-    let g = c .before .before in
+    let g = c .before .before .before in
     let s = start g in (
       omega (arith, fit (checking g .before) .few),
       λ e. valid-fits _ (passed-valid (view s) (reception s) (sym (closed g .checked) ∙ e)),

@@ -14,24 +14,24 @@ find-requires c κs =
     (p .0, len .0, len .1)
 
 returns : tie.Need-returns
-returns c times time =
+returns c =
     let f = c .before in
-    answer-copy _ _ _ (ap checkedNumber (f .before .enum-told .given .1)) (sym (f .find .ensures times time) ∙ c .if1 .taken)
+    answer-copy _ _ _ (ap checkedNumber (f .before .enum-told .given .1)) (sym (f .find .ensures) ∙ c .if1 .taken)
 
 returns-2 : tie.Need-returns-2
-returns-2 c times time =
+returns-2 c =
     let f = c .before .before in
-    answer-loose _ _ _ (ap checkedNumber (f .before .enum-told .given .1)) (sym (f .find .ensures times time) ∙ c .before .if1 .left) (le-leb _ _ (c .if2 .taken))
+    answer-loose _ _ _ (ap checkedNumber (f .before .enum-told .given .1)) (sym (f .find .ensures) ∙ c .before .if1 .left) (le-leb _ _ (c .if2 .taken))
 
 returns-3 : tie.Need-returns-3
-returns-3 c times time =
+returns-3 c =
     let k = c .before in
     rw (k .checked .given .1) (answer-refused (k .checked .given .0 .0) _ _)
 
 returns-4 : tie.Need-returns-4
-returns-4 c times time =
+returns-4 c =
     let f = c .before .before in
-    answer-kept _ _ _ (ap checkedNumber (f .before .enum-told .given .1)) (sym (f .find .ensures times time) ∙ c .before .if1 .left) (lt-leb _ _ (c .if2 .left))
+    answer-kept _ _ _ (ap checkedNumber (f .before .enum-told .given .1)) (sym (f .find .ensures) ∙ c .before .if1 .left) (lt-leb _ _ (c .if2 .left))
 
 pub classify-spec : {M : Type 1} → statement M
 classify-spec =

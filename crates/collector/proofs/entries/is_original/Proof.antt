@@ -1,0 +1,14 @@
+-- `collector::entries::is_original` meets its contract: STATUS is the last byte but one. Assumes nothing.
+use mathlib.Core.Path.{sym, _∙_}
+use native.Mathlib.Omega.{arith}
+use borrow.Author.Needs.{needs}
+use denote.Ref.{now}
+use Rattle.erp1.proofs.Checks.{status-at}
+use Rattle.collector.proofs.entries.is_original.Statement.{statement}
+use Rattle.collector.proofs.entries.is_original.Tie as tie
+
+returns : tie.Need-returns
+returns c = rw (c .before .split .ensures, status-at (now (c .before .before .before .before .args .received)) (omega arith))
+
+pub is-original-spec : {M : Type 1} → statement M
+is-original-spec = tie.close (tie.spec (λ c. search needs) (λ c. search needs) (λ c κs. search needs) returns)

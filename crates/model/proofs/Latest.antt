@@ -1,0 +1,104 @@
+-- Of telegrams in order of time the latest decides: where an earlier one is no more than 40 ms back, so is it. The reference model's are in
+-- order, since one that it answers Kept is not behind. Assumes nothing.
+use Prim.Native.Nat.{ℕ, _-_, _≤_, max}
+use native.Mathlib.Omega.{arith}
+use mathlib.Core.Path.{_≡_, refl, sym, _∙_, ap}
+use mathlib.Core.Bool.{Bool, true, false, cond, not, _&&_, _||_, false≢true}
+use mathlib.Core.List.{List, [], _∷_, _++_}
+use lib.Dec.{leb, ltb, eqb}
+use borrow.Author.Tests.{le-leb, leb-true, ltb-false}
+use Rattle.lists.specs.Lists.{keep, any, all, pairwise}
+use Rattle.lists.proofs.Choice.{both}
+use Rattle.lists.proofs.Pairwise.{pairwise-keep}
+use Rattle.lists.proofs.Tests.{branch, all-both, all-last, pairwise-last}
+use Rattle.refusal.specs.Number.{numberOf}
+use Rattle.refusal.specs.declared.Refusal.the-variants as refusal
+use Rattle.erp1.specs.Subtelegram.{checkOf, isValid}
+use Rattle.erp1.specs.Same.{isSame}
+use Rattle.telegram.specs.Repeater.{levelOf}
+use Rattle.model.specs.Answer.{Shown, Kept, Copy, Loose, Refused, isKept, isReceived, isAccepted}
+use Rattle.model.specs.View.{Reception, txMaturity, capacity, isOpen}
+use Rattle.model.specs.Acceptable.{isEcho, isCopyOf}
+use Rattle.model.specs.Step.{maxCount, addIf}
+use Rattle.model.specs.Reference.{Logged, answers, keptOf, openAt, isBehind, latestOf, answerTo, logOf}
+use Rattle.model.specs.Latest.{lastOf, latestSame, LatestDecides}
+use Rattle.model.proofs.Simulation.{behind-latest}
+
+abbrev inTime : Reception → Reception → Bool
+inTime e later = leb (e .time) (later .time)
+
+-- ---- a list in order
+
+any-and : (p q : Reception → Bool) (l : List Reception) → any (λ e. p e && q e) l ≡ any q (keep p l)
+any-and p q [] = refl
+any-and p q (x ∷ l) = go (p x) (any-and p q l)
+  where
+    go : (b : Bool) → any (λ e. p e && q e) l ≡ any q (keep p l) → ((b && q x) || any (λ e. p e && q e) l) ≡ any q (cond b (x ∷ keep p l) (keep p l))
+    go true ih = ap (λ z. q x || z) ih
+    go false ih = ih
+
+-- a test that a later one passes with an earlier one is settled by the last
+any-last : (q : Reception → Bool) → ((e later : Reception) → inTime e later ≡ true → q e ≡ true → q later ≡ true)
+    → (l : List Reception) → pairwise inTime l ≡ true → any q l ≡ any q (lastOf l)
+any-last q up [] s = refl
+any-last q up (x ∷ []) s = refl
+any-last q up (x ∷ y ∷ l) s =
+    let w = both (all (inTime x) (y ∷ l)) (pairwise inTime (y ∷ l)) s in
+    go (q x) (q y) (up x y (both (inTime x y) (all (inTime x) l) (w .0) .0)) (any-last q up (y ∷ l) (w .1))
+  where
+    go : (b c : Bool) → (b ≡ true → c ≡ true) → (c || any q l) ≡ any q (lastOf (y ∷ l)) → (b || (c || any q l)) ≡ any q (lastOf (y ∷ l))
+    go true true k ih = ih
+    go true false k ih = absurd (false≢true (k refl))
+    go false c k ih = ih
+
+later-echo : (r e later : Reception) → inTime e later ≡ true → isEcho e r ≡ true → isEcho later r ≡ true
+later-echo r e later h = go (not (eqb (levelOf (r .bytes)) 0))
+  where
+    go : (b : Bool) → (b || leb (r .time - e .time) txMaturity) ≡ true → (b || leb (r .time - later .time) txMaturity) ≡ true
+    go true k = refl
+    go false k = le-leb (r .time - later .time) txMaturity (omega (arith, leb-true (r .time - e .time) txMaturity k, leb-true (e .time) (later .time) h))
+
+by-the-latest : (r : Reception) (l : List Reception) → pairwise inTime l ≡ true → any (λ e. isCopyOf e r) l ≡ any (λ e. isEcho e r) (latestSame l r)
+unfolding isCopyOf
+by-the-latest r l s =
+    any-and (λ e. isSame (e .bytes) (r .bytes)) (λ e. isEcho e r) l
+    ∙ any-last (λ e. isEcho e r) (later-echo r) (keep (λ e. isSame (e .bytes) (r .bytes)) l) (pairwise-keep inTime (λ e. isSame (e .bytes) (r .bytes)) l s)
+
+-- ---- the reference model's list
+
+-- one that is Kept is not before the latest
+kept-latest : (log : List Logged) (r : Reception) → isKept (answerTo log r) ≡ true → latestOf log ≤ r .time
+unfolding answerTo
+kept-latest log r =
+    branch (λ a. isKept a ≡ true → latestOf log ≤ r .time) (leb maxCount (answers isReceived log)) (λ _ e. absurd (false≢true e))
+    λ _. branch (λ a. isKept a ≡ true → latestOf log ≤ r .time) (not (isValid (r .bytes))) (λ _ e. absurd (false≢true e))
+    λ _. branch (λ a. isKept a ≡ true → latestOf log ≤ r .time) (isBehind (r .time) log) (λ _ e. absurd (false≢true e))
+    λ b e. ltb-false (r .time) (latestOf log) (sym (behind-latest (r .time) log) ∙ b)
+
+pub record Ordered (log : List Logged) : Type 0 where
+  pub order : pairwise inTime (keptOf log) ≡ true
+  pub low : all (λ e. leb (e .time) (latestOf log)) (keptOf log) ≡ true
+
+wider : {m n : ℕ} (l : List Reception) → m ≤ n → all (λ e. leb (e .time) m) l ≡ true → all (λ e. leb (e .time) n) l ≡ true
+wider {m} {n} l h a = all-both (λ e. leb (e .time) m) (λ e. leb (e .time) m) (λ e. leb (e .time) n) (λ e p _. le-leb (e .time) n (omega (arith, leb-true (e .time) m p))) l a a
+
+up : (log : List Logged) (r : Reception) → latestOf log ≤ max (r .time) (latestOf log)
+up log r = omega arith
+
+ordered-more : (log : List Logged) (r : Reception) (a : Shown) → (isKept a ≡ true → latestOf log ≤ r .time) → Ordered log → Ordered (record { reception = r; answer = a } ∷ log)
+ordered-more log r Kept h o =
+    let m = h refl in
+    record {
+      order = pairwise-last inTime (keptOf log) r (o .order) (wider (keptOf log) m (o .low));
+      low = all-last (λ e. leb (e .time) (max (r .time) (latestOf log))) (keptOf log) r (wider (keptOf log) (up log r) (o .low)) (le-leb (r .time) (max (r .time) (latestOf log)) (omega arith));
+    }
+ordered-more log r Copy h o = record { order = o .order; low = wider (keptOf log) (up log r) (o .low) }
+ordered-more log r Loose h o = record { order = o .order; low = wider (keptOf log) (up log r) (o .low) }
+ordered-more log r (Refused n) h o = record { order = o .order; low = o .low }
+
+ordered : (past : List Reception) → Ordered (logOf past)
+ordered [] = record { order = refl; low = refl }
+ordered (r ∷ past) = ordered-more (logOf past) r (answerTo (logOf past) r) (kept-latest (logOf past) r) (ordered past)
+
+pub latest-decides : LatestDecides
+latest-decides past r = by-the-latest r (openAt (r .time) (logOf past)) (pairwise-keep inTime (isOpen (r .time)) (keptOf (logOf past)) (ordered past .order))
