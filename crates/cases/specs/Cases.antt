@@ -33,6 +33,10 @@ fourByteSent = fourByte ++ (0xB7 ∷ [])
 abbrev pub oneByte : List ℕ
 oneByte = 0xD5 ∷ 0x09 ∷ 0x01 ∷ 0x02 ∷ 0x03 ∷ 0x04 ∷ 0x80 ∷ 0xFE ∷ []
 
+-- the same, repeated: D5 09 01 02 03 04 81 F9
+abbrev pub oneByteRepeated : List ℕ
+oneByteRepeated = 0xD5 ∷ 0x09 ∷ 0x01 ∷ 0x02 ∷ 0x03 ∷ 0x04 ∷ 0x81 ∷ 0xF9 ∷ []
+
 -- how many plans are lawful at a level and a duration
 abbrev pub planCount : ℕ → ℕ → ℕ
 planCount level duration = length (plans (standardRule level) duration)
@@ -40,10 +44,6 @@ planCount level duration = length (plans (standardRule level) duration)
 -- the same under a rule, 0 standard, 1 compressed, 2 with a pause, for so many transmissions
 abbrev pub planCountBy : ℕ → ℕ → ℕ → ℕ → ℕ
 planCountBy rule level transmissions duration = length (plans (ruleOf rule level transmissions) duration)
-
--- the same, repeated: D5 09 01 02 03 04 81 F9
-abbrev pub oneByteRepeated : List ℕ
-oneByteRepeated = 0xD5 ∷ 0x09 ∷ 0x01 ∷ 0x02 ∷ 0x03 ∷ 0x04 ∷ 0x81 ∷ 0xF9 ∷ []
 
 -- ---- a telegram received at two times
 
