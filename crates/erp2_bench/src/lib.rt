@@ -27,6 +27,6 @@ pub extern "C" fn bench_erp2_again(bytes: &[u8], out: &mut [u8]) -> usize {
 
 fn figure(t: Telegram) -> u64 {
     let payload = t.payload;
-    let ends = payload[0] as u64 + payload[249] as u64;
+    let ends = std::num::wrapping_add_u64(payload[0] as u64, payload[249] as u64);
     std::num::wrapping_add_u64(t.originator, ends)
 }
