@@ -1,5 +1,6 @@
 -- Numbers as bytes, over any width.
 --     be-length, unbe-be        w bytes, which spell the number again where it is below 256 ^ w
+--     unbe-lt                   what w bytes spell is below 256 ^ w
 --     be-set                    how a writer that goes from the last byte to the first proceeds
 --     unbe-more, digit-lt       how a reader that goes from the first to the last does, and what bounds it
 -- Assumes nothing.
@@ -30,6 +31,14 @@ unbe-be (suc w) n h =
     let h1 : n < 256 ^ w * 256 = rw (← pow-suc) h in
     let h2 : n / 256 < 256 ^ w = omega arith in
     rw (unbe-snoc 0 (be w (n / 256)) (n % 256), unbe-be w (n / 256) h2) (omega arith)
+
+-- what w bytes spell, whatever the number was
+pub unbe-lt : (w n : ℕ) → unbe (be w n) < 256 ^ w
+unfolding be unbe unbeFrom
+unbe-lt zero n = omega arith
+unbe-lt (suc w) n =
+    let h : unbe (be w (n / 256)) < 256 ^ w = unbe-lt w (n / 256) in
+    rw (unbe-snoc 0 (be w (n / 256)) (n % 256), pow-suc) (omega arith)
 
 -- ---- a writer from the last byte to the first: after the bytes from i on, what is left of the number is n
 

@@ -6,6 +6,7 @@
 --     Each, flatten-length, flatten-part      segments of one length: how long they are together, and segment k of them
 --     Begun                                   a list that is written from the front: the first a elements are `front`, the rest is as it was
 --     begin, store, lend, lend-sized, wipe    the start; an element stored; a part lent to a callee, one whose length alone it looks at, one that it clears
+--     skip                                    a part that stays as it was
 --     named, so-far, done                     the front by another name; what is written; the end
 --     fill, turn, turned                      a turn of a loop that fills, or lends a segment at a time; where that loop ends
 --     begun-length, within, lent              what the needs about lengths ask on the way
@@ -18,7 +19,7 @@ use native.Mathlib.Nat.{not-suc-le-zero, mul-suc, mul-zero}
 use native.Mathlib.Numerals.{add-one}
 use native.Mathlib.Decide.{decLt}
 use native.Mathlib.Omega.{arith}
-use lib.ListN.{length, getD, take, drop, set, length-append, length-take, length-drop, drop-of-length-le, replicate, length-replicate, getD-replicate, replicate-append-replicate}
+use lib.ListN.{length, getD, take, drop, set, take-append-drop, length-append, length-take, length-drop, drop-of-length-le, replicate, length-replicate, getD-replicate, replicate-append-replicate}
 use lib.Seq.{take-at, drop-at, take-all, take-nil, take-append-le, drop-append-le, drop-append-add, drop-drop, drop-cons, set-at, append-snoc, getD-take, getD-drop, ext-getD}
 use Rattle.lists.specs.Lists.{padded}
 use Rattle.layout.specs.Buffer.{part}
@@ -157,6 +158,17 @@ module _ {A : Type 0} where
     pub lend-sized : (ys : List A) (s : ℕ → List A) (e : ℕ) → ys ≡ s (length (part a (e - a) xs)) → length ys ≡ length (part a (e - a) xs) → a ≤ e → e ≤ length orig
         → Begun orig (front ++ s (e - a)) e (take a xs ++ (ys ++ drop (e - a) (drop a xs)))
     lend-sized ys s e p q l h = lend ys (s (e - a)) e (rw (part-length a (e - a) xs (within (a + (e - a)) (omega arith))) at p) q l h
+
+    -- the part from a up to e stays as it was
+    pub skip : (e : ℕ) → a ≤ e → e ≤ length orig → Begun orig (front ++ part a (e - a) orig) e xs
+    skip e l h =
+        let k : a + (e - a) ≡ e = omega arith in
+        record {
+          is = b .is ∙ ap (λ (l : List A). front ++ l) (sym (take-append-drop (e - a) (drop a orig)) ∙ ap (λ (l : List A). part a (e - a) orig ++ l) (drop-drop (e - a) a orig ∙ ap (λ (n : ℕ). drop n orig) k))
+              ∙ sym (append-assoc front (part a (e - a) orig) (drop e orig));
+          long = simp length-append (omega (arith, b .long, part-length a (e - a) orig (omega arith)));
+          bound = h;
+        }
 
     -- what is written
     pub so-far : take a xs ≡ front

@@ -25,6 +25,10 @@ pub enum Refusal {
     Argument,
     // 11: the image or the state is not accepted.
     NotAccepted,
+    // 12: a block of an archive does not match.
+    Mismatch,
+    // 16: a length that isn't whole blocks, or is over 2^32 of them.
+    Size,
 }
 
 // The number of a refusal.
@@ -43,5 +47,7 @@ pub fn number(r: Refusal) -> u8
         Refusal::NoPlan => 9,
         Refusal::Argument => 10,
         Refusal::NotAccepted => 11,
+        Refusal::Mismatch => 12,
+        Refusal::Size => 16,
     }
 }
