@@ -1,19 +1,20 @@
 -- Numbers as bytes, over any width.
 --     be-length, unbe-be        w bytes, which spell the number again where it is below 256 ^ w
---     unbe-lt, be-unbe          bytes spell a number below 256 ^ w, which has these bytes again
+--     be-at, unbe-be-lt         each of the w bytes; what they spell is below 256 ^ w, whatever the number was
+--     unbe-lt, be-front, be-unbe     bytes spell a number below 256 ^ w, which has these bytes again; so do the first of them
 --     field-lt, field-back      the same of a part of a list; field-one of a single byte
 --     be-set                    how a writer that goes from the last byte to the first proceeds
 --     unbe-more, digit-lt       how a reader that goes from the first to the last does, and what bounds it
 -- Assumes nothing.
-use mathlib.Core.Path.{_≡_, refl, sym}
+use mathlib.Core.Path.{_≡_, refl, sym, ap, _∙_}
 use mathlib.Core.List.{List, [], _∷_, _++_}
 use Prim.Native.Nat.{ℕ, zero, suc, _+_, _-_, _*_, _/_, _%_, _^_, _≤_, _<_}
-use native.Mathlib.Nat.{not-suc-le-zero, pow-suc, pow-le-pow-right}
+use native.Mathlib.Nat.{not-suc-le-zero, div-one, div-div-eq-div-mul, pow-suc, pow-succ', pow-le-pow-right}
 use native.Mathlib.Numerals.{add-one}
 use native.Mathlib.Decide.{decLt}
 use native.Mathlib.Omega.{arith}
-use lib.ListN.{length, getD, take, drop, set, length-append, length-set, length-take, List·getD-eq-default}
-use lib.Seq.{drop-cons, drop-set-lt, getD-set-same, append-snoc, take-suc, take-all, getD-take, getD-drop}
+use lib.ListN.{length, getD, take, drop, set, length-append, length-set, length-take, List·getD-append, List·getD-eq-default}
+use lib.Seq.{drop-cons, drop-set-lt, getD-at, getD-set-same, append-snoc, take-suc, take-all, getD-take, getD-drop}
 use Rattle.layout.specs.Buffer.{part}
 use Rattle.layout.specs.BigEndian.{be, unbe, unbeFrom, Bytes}
 use Rattle.layout.proofs.Segments.{part-length}
@@ -35,6 +36,30 @@ unbe-be (suc w) n h =
     let h1 : n < 256 ^ w * 256 = rw (← pow-suc) h in
     let h2 : n / 256 < 256 ^ w = omega arith in
     rw (unbe-snoc 0 (be w (n / 256)) (n % 256), unbe-be w (n / 256) h2) (omega arith)
+
+-- byte i of the w bytes
+pub be-at : (w n i : ℕ) → i < w → getD (be w n) i 0 ≡ n / 256 ^ (w - 1 - i) % 256
+unfolding be
+be-at zero n i h = absurd (omega arith)
+be-at (suc w) n i h = elim (decLt i w) [
+  | yes l ↦
+      let e : suc w - 1 - i ≡ suc (w - 1 - i) = omega arith in
+      List·getD-append (be w (n / 256)) (n % 256 ∷ []) 0 i (omega (arith, be-length w (n / 256))) ∙ be-at w (n / 256) i l
+      ∙ ap (λ (x : ℕ). x % 256) (div-div-eq-div-mul n 256 (256 ^ (w - 1 - i)) ∙ ap (λ (m : ℕ). n / m) (sym (pow-succ' 256 (w - 1 - i))) ∙ ap (λ (m : ℕ). n / 256 ^ m) (sym e))
+  | no l ↦
+      let e : i ≡ w = omega arith in
+      let z : suc w - 1 - i ≡ 0 = omega arith in
+      ap (λ (m : ℕ). getD (be w (n / 256) ++ (n % 256 ∷ [])) m 0) e ∙ getD-at (be w (n / 256)) (n % 256) [] 0 w (be-length w (n / 256))
+      ∙ ap (λ (x : ℕ). x % 256) (sym (div-one n)) ∙ ap (λ (m : ℕ). n / 256 ^ m % 256) (sym z)
+]
+
+-- what w bytes spell, whatever the number was
+pub unbe-be-lt : (w n : ℕ) → unbe (be w n) < 256 ^ w
+unfolding be unbe unbeFrom
+unbe-be-lt zero n = omega arith
+unbe-be-lt (suc w) n =
+    let h : unbe (be w (n / 256)) < 256 ^ w = unbe-be-lt w (n / 256) in
+    rw (unbe-snoc 0 (be w (n / 256)) (n % 256), pow-suc) (omega arith)
 
 -- ---- a writer from the last byte to the first: after the bytes from i on, what is left of the number is n
 
@@ -78,18 +103,18 @@ pub unbe-lt : (w : ℕ) (bs : List ℕ) → length bs ≡ w → Bytes bs → unb
 unbe-lt w bs e b = rw (take-all w bs (omega arith)) at (spelled-lt w bs (omega arith) b)
 
 -- the first i bytes are those of the number that they spell
-spelled-back : (i : ℕ) (bs : List ℕ) → i ≤ length bs → Bytes bs → be i (unbe (take i bs)) ≡ take i bs
+pub be-front : (i : ℕ) (bs : List ℕ) → i ≤ length bs → Bytes bs → be i (unbe (take i bs)) ≡ take i bs
 unfolding be
-spelled-back zero bs h b = refl
-spelled-back (suc i) bs h b =
+be-front zero bs h b = refl
+be-front (suc i) bs h b =
     let k : i < length bs = h in
     let more : unbe (take i bs) * 256 + getD bs i 0 ≡ unbe (take (suc i) bs) = rw add-one at (unbe-more bs i k) in
     let q : (unbe (take i bs) * 256 + getD bs i 0) / 256 ≡ unbe (take i bs) = omega (arith, b i) in
     let r : (unbe (take i bs) * 256 + getD bs i 0) % 256 ≡ getD bs i 0 = omega (arith, b i) in
-    rw (← more, q, r, spelled-back i bs (omega arith) b) (sym (take-suc bs i 0 k))
+    rw (← more, q, r, be-front i bs (omega arith) b) (sym (take-suc bs i 0 k))
 
 pub be-unbe : (w : ℕ) (bs : List ℕ) → length bs ≡ w → Bytes bs → be w (unbe bs) ≡ bs
-be-unbe w bs e b = rw (take-all w bs (omega arith)) at (spelled-back w bs (omega arith) b)
+be-unbe w bs e b = rw (take-all w bs (omega arith)) at (be-front w bs (omega arith) b)
 
 bytes-take : (n : ℕ) (bs : List ℕ) → Bytes bs → Bytes (take n bs)
 bytes-take n bs b i = elim (decLt i n) [

@@ -1,7 +1,7 @@
 -- Blocks: what is read of one that was written, and how one is sealed.
 --     block-length, block-crc                    a block has 512 bytes, and the last is the CRC of those before it
 --     block-header, block-cell, block-unused     what is read is what was written; a cell past those used is zero
---     seal-not, seal-set, seal-written           sealing: refused; in place; after the header and the cells, zero filled, were written
+--     seal-not, seal-set, seal-front, seal-written     sealing: refused; in place; after all before it was written; the same, header and cells
 -- Assumes nothing.
 use mathlib.Core.Path.{_≡_, refl, sym, ap, _∙_}
 use mathlib.Core.List.{List, [], _∷_, _++_, append-assoc, flatten}
@@ -36,7 +36,11 @@ seal-set block h =
     let e : length block ≤ blockLength = omega arith in
     rw (seal-fits block h, set-split block bodyLength (crcOf (take bodyLength block)) l, drop-of-length-le block e)
 
--- a block that was written up to the CRC, its cells in a part of their own
+-- a block that was written up to the CRC
+pub seal-front : (front : List ℕ) {orig xs : List ℕ} → Begun orig front bodyLength xs → length orig ≡ blockLength → sealBlock xs ≡ sealed front
+seal-front front {orig} {xs} b l = seal-fits xs (begun-length b ∙ l) ∙ ap sealed (so-far b)
+
+-- the same, its cells in a part of their own
 pub seal-written : (header : List ℕ) (cells : List (List ℕ)) {orig xs : List ℕ} → length header ≡ headerLength
     → Begun orig (header ++ padded (bodyLength - headerLength) (flatten cells)) bodyLength xs → length orig ≡ blockLength → sealBlock xs ≡ blockOf header cells
 unfolding blockOf

@@ -1,6 +1,7 @@
 -- Cells: what is read of one that was written, where it fits.
 --     cell-length                       a cell has 32 bytes
 --     cell-time, cell-used, cell-field, cell-bytes, cell-last     what is read is what was written
+--     cell-time-lt                      a time that is read fits 64 bits, whatever was written
 --     put-fits, put-long, put-other     a cell put into 32 bytes; refused, as its bytes are too many, or the buffer has another length
 -- Assumes nothing.
 use mathlib.Core.Path.{_≡_, ap, ap₂, _∙_}
@@ -11,12 +12,12 @@ use borrow.Author.Tests.{le-leb, lt-leb}
 use lib.ListN.{length, length-append, List·getD-append}
 use lib.Seq.{getD-at}
 use Rattle.lists.specs.Lists.{padded}
-use Rattle.layout.specs.Buffer.{resized}
+use Rattle.layout.specs.Buffer.{part, resized}
 use Rattle.layout.specs.BigEndian.{be, unbe}
 use Rattle.layout.specs.Cell.{cellLength, cellCapacity, cellOf, putCell, cellTime, cellUsed, cellField, cellBytes, cellLast}
 use Rattle.layout.proofs.Segments.{left, last, whole}
 use Rattle.layout.proofs.Buffer.{padded-length, resized-back, overwritten-fits, overwritten-not}
-use Rattle.layout.proofs.BigEndian.{be-length, unbe-be}
+use Rattle.layout.proofs.BigEndian.{be-length, unbe-be, unbe-be-lt}
 
 -- ---- putting
 
@@ -54,13 +55,17 @@ module _ (time : ℕ) (bytes : List ℕ) (end : ℕ) (fits : length bytes ≤ ce
   unfolding cellOf
   cell-length = length-append toField (be 2 end) ∙ omega (arith, field-length, be-length 2 end)
 
-  pub cell-time : time < 2 ^ 64 → cellTime (cellOf time bytes end) ≡ time
+  time-bytes : part 0 8 (cellOf time bytes end) ≡ be 8 time
   unfolding cellOf
-  cell-time h =
-      ap unbe
-      (left toField (be 2 end) 30 0 8 field-length (omega arith) ∙ left toUsed (padded cellCapacity bytes) 9 0 8 used-length (omega arith)
-      ∙ left (be 8 time) (length bytes ∷ []) 8 0 8 (be-length 8 time) (omega arith) ∙ whole (be 8 time) 8 (be-length 8 time))
-      ∙ unbe-be 8 time h
+  time-bytes =
+      left toField (be 2 end) 30 0 8 field-length (omega arith) ∙ left toUsed (padded cellCapacity bytes) 9 0 8 used-length (omega arith)
+      ∙ left (be 8 time) (length bytes ∷ []) 8 0 8 (be-length 8 time) (omega arith) ∙ whole (be 8 time) 8 (be-length 8 time)
+
+  pub cell-time : time < 2 ^ 64 → cellTime (cellOf time bytes end) ≡ time
+  cell-time h = ap unbe time-bytes ∙ unbe-be 8 time h
+
+  pub cell-time-lt : cellTime (cellOf time bytes end) < 2 ^ 64
+  cell-time-lt = rw time-bytes (unbe-be-lt 8 time)
 
   pub cell-used : cellUsed (cellOf time bytes end) ≡ length bytes
   unfolding cellOf

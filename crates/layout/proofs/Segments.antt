@@ -1,13 +1,14 @@
 -- Lists made of segments, one after the other: how they are written in place from the front, and read back.
 --     part-length, part-at, part-ends         a part of a list: its length, its elements, and the form that `&xs[a..a + n]` has in a proof
 --     take-clamped, part-clamped              the same where the ends are cut to the list's length
---     part-replicate                          a part of one value repeated
+--     part-take, part-replicate               a part of a front; of one value repeated
 --     left, right, last, whole                a part of xs ++ ys that lies in xs, or in ys; the part that is ys; all of a list
 --     part-join                               two parts, the one where the other ends, are one part
 --     start, part-nth                         segments of any lengths: where segment k starts, and that the part there is segment k
 --     Each, flatten-length, flatten-part      segments of one length: how long they are together, and segment k of them
 --     Begun                                   a list that is written from the front: the first a elements are `front`, the rest is as it was
 --     begin, store, lend, lend-sized, wipe    the start; an element stored; a part lent to a callee, one whose length alone it looks at, one that it clears
+--     skip                                    a part that stays as it was
 --     named, so-far, done                     the front by another name; what is written; the end
 --     fill, turn, turned                      a turn of a loop that fills, or lends a segment at a time; where that loop ends
 --     begun-length, within, lent              what the needs about lengths ask on the way
@@ -20,8 +21,8 @@ use native.Mathlib.Nat.{not-suc-le-zero, mul-suc, mul-zero}
 use native.Mathlib.Numerals.{add-one}
 use native.Mathlib.Decide.{decLt}
 use native.Mathlib.Omega.{arith}
-use lib.ListN.{length, getD, take, drop, set, length-append, length-take, length-drop, drop-of-length-le, replicate, length-replicate, getD-replicate, replicate-append-replicate}
-use lib.Seq.{take-at, take-add, drop-at, take-all, take-nil, take-append-le, drop-append-le, drop-append-add, drop-drop, drop-cons, set-at, append-snoc, getD-take, getD-drop, ext-getD}
+use lib.ListN.{length, getD, take, drop, set, length-append, length-take, length-drop, drop-of-length-le, replicate, length-replicate, getD-replicate, replicate-append-replicate, take-append-drop}
+use lib.Seq.{take-at, take-add, drop-at, take-all, take-nil, take-append-le, drop-append-le, drop-append-add, drop-drop, drop-cons, set-at, append-snoc, getD-take, getD-drop, ext-getD, take-take}
 use Rattle.lists.specs.Lists.{padded}
 use Rattle.layout.specs.Buffer.{part}
 
@@ -31,6 +32,13 @@ module _ {A : Type 0} where
 
   pub part-at : (a n : ℕ) (xs : List A) (i : ℕ) (d : A) → i < n → getD (part a n xs) i d ≡ getD xs (a + i) d
   part-at a n xs i d h = rw (getD-take n (drop a xs) i d h, getD-drop a xs i d)
+
+  -- a part of a front
+  pub part-take : (a w n : ℕ) (xs : List A) → a + w ≤ n → part a w (take n xs) ≡ part a w xs
+  part-take zero w n xs h = take-take w n xs (omega arith)
+  part-take (suc a) w zero xs h = absurd (omega arith)
+  part-take (suc a) w (suc n) [] h = refl
+  part-take (suc a) w (suc n) (x ∷ xs) h = part-take a w n xs (omega arith)
 
   -- what is lent where both ends are written out
   pub part-ends : (a n : ℕ) (xs : List A) → part a (a + n - a) xs ≡ part a n xs
@@ -179,6 +187,17 @@ module _ {A : Type 0} where
     pub lend-sized : (ys : List A) (s : ℕ → List A) (e : ℕ) → ys ≡ s (length (part a (e - a) xs)) → length ys ≡ length (part a (e - a) xs) → a ≤ e → e ≤ length orig
         → Begun orig (front ++ s (e - a)) e (take a xs ++ (ys ++ drop (e - a) (drop a xs)))
     lend-sized ys s e p q l h = lend ys (s (e - a)) e (rw (part-length a (e - a) xs (within (a + (e - a)) (omega arith))) at p) q l h
+
+    -- the part from a up to e stays as it was
+    pub skip : (e : ℕ) → a ≤ e → e ≤ length orig → Begun orig (front ++ part a (e - a) orig) e xs
+    skip e l h =
+        let k : a + (e - a) ≡ e = omega arith in
+        record {
+          is = b .is ∙ ap (λ (l : List A). front ++ l) (sym (take-append-drop (e - a) (drop a orig)) ∙ ap (λ (l : List A). part a (e - a) orig ++ l) (drop-drop (e - a) a orig ∙ ap (λ (n : ℕ). drop n orig) k))
+              ∙ sym (append-assoc front (part a (e - a) orig) (drop e orig));
+          long = simp length-append (omega (arith, b .long, part-length a (e - a) orig (omega arith)));
+          bound = h;
+        }
 
     -- what is written
     pub so-far : take a xs ≡ front

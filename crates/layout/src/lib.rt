@@ -2,11 +2,12 @@
 // collector"; document 02, A2). Every function answers for buffers of any length.
 ghost use mathlib.Core.Path.{_≡_};
 ghost use Prim.Native.Nat.{min};
+ghost use lib.Dec.{eqb};
 ghost use lib.ListN.{length, getD, take, replicate};
 ghost use Rattle.lists.specs.Lists as lists;
 ghost use Rattle.layout.specs.Buffer.{part, resized, overwritten};
 ghost use Rattle.layout.specs.BigEndian.{be, unbe};
-ghost use Rattle.layout.specs.Cell.{putCell, cellTime, cellUsed, cellField};
+ghost use Rattle.layout.specs.Cell.{putCell, cellTime, cellUsed, cellField, cellLast};
 ghost use Rattle.layout.specs.Header.{headerLength, headerOf, headerUsed, headerFirst, headerSecond};
 ghost use Rattle.layout.specs.Block.{sealBlock};
 
@@ -94,7 +95,7 @@ pub fn seal(block: &mut [u8])
     if block.len() != BLOCK_LENGTH {
         return;
     }
-    let crc = crc8::crc8(&block[0..BODY_LENGTH]);
+    let crc = crc8_long::crc8_long(&block[0..BODY_LENGTH]);
     block[BODY_LENGTH] = crc;
 }
 
@@ -156,6 +157,15 @@ pub fn cell_used(cell: &[u8]) -> u8
     byte_at(cell, 8)
 }
 
+// The last two bytes of the cell, as one number.
+pub fn cell_last(cell: &[u8]) -> u64
+    ensures { λ r. ⌜ r ≡ cellLast (now (cell .entry)) ⌝ }
+{
+    let start = least(30, cell.len());
+    let end = least(32, cell.len());
+    read_number(&cell[start..end])
+}
+
 // The 21 bytes of the cell, zeros included, cut where `out` ends or with zeros after them.
 pub fn copy_field(out: &mut [u8], cell: &[u8])
     ensures { λ _. ⌜ now (out .exit) ≡ resized (length (now (out .entry))) (cellField (now (cell .entry))) ⌝ }
@@ -177,6 +187,17 @@ pub fn equal(a: &[u8], b: &[u8]) -> bool
         same = same & (a[i] == b[i]);
     }
     same
+}
+
+// Whether all bytes are zero.
+pub fn is_blank(s: &[u8]) -> bool
+    ensures { λ r. ⌜ r ≡ lists.all (λ b. eqb b 0) (now (s .entry)) ⌝ }
+{
+    let mut blank = true;
+    for i in 0..s.len() {
+        blank = blank & (s[i] == 0);
+    }
+    blank
 }
 
 // ---- helpers

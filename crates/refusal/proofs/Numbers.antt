@@ -4,7 +4,7 @@ use Prim.Native.Nat.{_<_}
 use native.Mathlib.Omega.{arith}
 use Rattle.refusal.specs.Number.{numberOf}
 use Rattle.refusal.specs.declared.Refusal.{Refusal}
-use Rattle.refusal.specs.declared.Refusal.the-variants.{Length, Sum, Nested, NotAddressed, TooLong, ShortOutput, Late, Full, NoPlan, Argument, NotAccepted, Crc, ReservedAddress, Misfit}
+use Rattle.refusal.specs.declared.Refusal.the-variants.{Length, Sum, Nested, NotAddressed, TooLong, ShortOutput, Late, Full, NoPlan, Argument, NotAccepted, Mismatch, Crc, ReservedAddress, Misfit, Size, Transmitters, Unlawful, Overlap}
 
 positive : (r : Refusal) → 0 < numberOf r
 positive Length = omega arith
@@ -18,9 +18,14 @@ positive Full = omega arith
 positive NoPlan = omega arith
 positive Argument = omega arith
 positive NotAccepted = omega arith
+positive Mismatch = omega arith
 positive Crc = omega arith
 positive ReservedAddress = omega arith
 positive Misfit = omega arith
+positive Size = omega arith
+positive Transmitters = omega arith
+positive Unlawful = omega arith
+positive Overlap = omega arith
 
 pub refused-number : (r : Refusal) → numberOf r ≡ 0 → ⊥
 refused-number r e = omega (arith, positive r)

@@ -1,7 +1,7 @@
--- The number of each refusal: the table of document 01, "Numbers a caller sees", and 13 of document 02, A3. Assumes nothing.
+-- The number of each refusal: the table of document 01, "Numbers a caller sees", and the numbers that document 02 adds. Assumes nothing.
 use Prim.Native.Nat.{ℕ}
 use Rattle.refusal.specs.declared.Refusal.{Refusal}
-use Rattle.refusal.specs.declared.Refusal.the-variants.{Length, Sum, Nested, NotAddressed, TooLong, ShortOutput, Late, Full, NoPlan, Argument, NotAccepted, Crc, ReservedAddress, Misfit}
+use Rattle.refusal.specs.declared.Refusal.the-variants.{Length, Sum, Nested, NotAddressed, TooLong, ShortOutput, Late, Full, NoPlan, Argument, NotAccepted, Mismatch, Crc, ReservedAddress, Misfit, Size, Transmitters, Unlawful, Overlap}
 
 abbrev pub numberOf : Refusal → ℕ
 numberOf Length = 1
@@ -15,6 +15,11 @@ numberOf Full = 8
 numberOf NoPlan = 9
 numberOf Argument = 10
 numberOf NotAccepted = 11
+numberOf Mismatch = 12
 numberOf Crc = 13
 numberOf ReservedAddress = 14
 numberOf Misfit = 15
+numberOf Size = 16
+numberOf Transmitters = 17
+numberOf Unlawful = 18
+numberOf Overlap = 19

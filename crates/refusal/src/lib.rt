@@ -25,12 +25,22 @@ pub enum Refusal {
     Argument,
     // 11: the image or the state is not accepted.
     NotAccepted,
+    // 12: a block of an archive does not match.
+    Mismatch,
     // 13: HASH is wrong, the CRC.
     Crc,
     // 14: the address control of an ERP2 telegram is reserved.
     ReservedAddress,
     // 15: the fields of an ERP2 telegram do not fit its length.
     Misfit,
+    // 16: a length that isn't whole blocks, or is over 2^32 of them.
+    Size,
+    // 17: a 257th transmitter of a report.
+    Transmitters,
+    // 18: the slot plan of a repeater of a site is not lawful.
+    Unlawful,
+    // 19: transmissions of two repeaters of a site overlap.
+    Overlap,
 }
 
 // The number of a refusal.
@@ -49,8 +59,13 @@ pub fn number(r: Refusal) -> u8
         Refusal::NoPlan => 9,
         Refusal::Argument => 10,
         Refusal::NotAccepted => 11,
+        Refusal::Mismatch => 12,
         Refusal::Crc => 13,
         Refusal::ReservedAddress => 14,
         Refusal::Misfit => 15,
+        Refusal::Size => 16,
+        Refusal::Transmitters => 17,
+        Refusal::Unlawful => 18,
+        Refusal::Overlap => 19,
     }
 }

@@ -1,0 +1,24 @@
+-- `archive::after_blank` meets its contract: each arm is one case. Assumes nothing.
+use mathlib.Core.Path.{sym, ap}
+use borrow.Author.Needs.{needs}
+use Rattle.archive_model.specs.Buffer as buffer
+use Rattle.archive.specs.Archive.{stageOf}
+use Rattle.archive.specs.declared.Stage.{Stage}
+use Rattle.archive.proofs.after_blank.Statement.{statement}
+use Rattle.archive.proofs.after_blank.Tie as tie
+
+wrong : tie.Need-returns-4
+wrong c = sym (ap (λ (s : Stage). buffer.stageBlank (stageOf s)) (c .before .stage .given .1))
+
+pub after-blank-spec : {M : Type 1} → statement M
+after-blank-spec =
+    tie.close
+    (tie.spec
+    (λ c. search needs)
+    (λ c. search needs)
+    (λ c. search needs)
+    (λ c. search needs)
+    (λ c. search needs)
+    (λ c. search needs)
+    (λ c. search needs)
+    wrong)

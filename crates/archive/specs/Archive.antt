@@ -1,0 +1,109 @@
+-- What the calls over an archive show (document 02, A2). Assumes nothing.
+use Prim.Native.Nat.{ℕ, _-_, _*_}
+use mathlib.Core.Path.{_≡_}
+use mathlib.Core.Bool.{Bool, cond, not, _&&_}
+use mathlib.Core.List.{List, map}
+use lib.Dec.{ltb}
+use Rattle.lists.specs.Lists.{equal, upFrom}
+use Rattle.refusal.specs.Number.{numberOf}
+use Rattle.refusal.specs.declared.Refusal.{Refusal}
+use Rattle.refusal.specs.declared.Refusal.the-variants.{ShortOutput, Argument, Mismatch}
+use Rattle.erp1.specs.Subtelegram.{checkOf, isValid}
+use Rattle.layout.specs.Buffer.{part, resized}
+use Rattle.layout.specs.Block.{blockLength, blockCell}
+use Rattle.archive_model.specs.Row.{Row, rowCell, rowIn, rowCount, isRow, isSound}
+use Rattle.archive_model.specs.Buffer as buffer
+use Rattle.archive_model.specs.Append.{Opening, Appended, Feeding, ReadRow, refused, noRow}
+use Rattle.archive.specs.declared.Opened.{Opened}
+use Rattle.archive.specs.declared.Opened.the-variants as opened
+use Rattle.archive.specs.declared.Outcome.{Outcome}
+use Rattle.archive.specs.declared.Outcome.the-variants as outcome
+use Rattle.archive.specs.declared.Found.{Found}
+use Rattle.archive.specs.declared.Found.the-variants as found
+use Rattle.archive.specs.declared.RowAt.{RowAt}
+use Rattle.archive.specs.declared.Stage.{Stage}
+use Rattle.archive.specs.declared.Stage.the-variants as stage
+use Rattle.archive.specs.declared.Scan.{Scan}
+use Rattle.archive.specs.declared.Taken.{Taken}
+use Rattle.archive.specs.declared.Taken.the-variants as taken
+use Rattle.archive.specs.declared.Fed.{Fed}
+
+-- ---- what the calls show: the number, the position beside 12, and what else is handed back
+
+abbrev pub openResult : Opened → Opening
+openResult (opened.Rows n) = record { number = 0; position = 0; rows = n }
+openResult (opened.Damaged k) = record { number = numberOf Mismatch; position = k; rows = 0 }
+openResult (opened.Refused why) = record { number = numberOf why; position = 0; rows = 0 }
+
+abbrev pub appendResult : Outcome → List ℕ → Appended
+appendResult outcome.Done after = record { number = 0; position = 0; buffer = after }
+appendResult (outcome.Damaged k) after = record { number = numberOf Mismatch; position = k; buffer = after }
+appendResult (outcome.Refused why) after = record { number = numberOf why; position = 0; buffer = after }
+
+abbrev pub rowOf : List ℕ → ℕ → Bool → Row
+rowOf bytes time loose = record { bytes = bytes; time = time; loose = loose }
+
+abbrev pub foundNumber : Found → ℕ
+foundNumber found.Row = 0
+foundNumber (found.Refused why) = numberOf why
+
+-- as many bytes as the length says
+unfoldable pub readResult : RowAt → ReadRow
+readResult r = record { number = foundNumber (r .answer); row = rowOf (resized (r .len) (r .bytes)) (r .time) (r .loose) }
+
+-- ---- a block by itself, and a scan
+
+-- the rows of a sound block, and 0 of any other
+abbrev pub soundRows : List ℕ → ℕ
+soundRows block = cond (isSound block) (rowCount block) 0
+
+abbrev pub stageOf : Stage → buffer.Stage
+stageOf stage.Filling = buffer.Filling
+stageOf stage.Short = buffer.Short
+stageOf stage.Ended = buffer.Ended
+stageOf (stage.Wrong k) = buffer.Wrong k
+
+abbrev pub scanOf : Scan → buffer.Scan
+scanOf s = record { blocks = s .blocks; rows = s .rows; stage = stageOf (s .stage) }
+
+abbrev pub takenNumber : Taken → ℕ
+takenNumber taken.Done = 0
+takenNumber (taken.Refused why) = numberOf why
+
+abbrev pub feedResult : Fed → Feeding
+feedResult r = record { number = takenNumber (r .answer); next = scanOf (r .next) }
+
+-- ---- what private functions say
+
+-- a scan that is refused
+abbrev pub keptWith : Scan → Refusal → Feeding
+keptWith s why = record { number = numberOf why; next = scanOf s }
+
+-- what a scan of all blocks says
+abbrev pub openFound : buffer.Found → ℕ → Opening
+openFound (buffer.At k) n = record { number = numberOf Mismatch; position = k; rows = 0 }
+openFound buffer.None n = record { number = 0; position = 0; rows = n }
+
+-- n blocks of a piece from block a on
+unfoldable pub blocksFrom : List ℕ → ℕ → ℕ → List (List ℕ)
+blocksFrom piece a n = map (λ k. part (blockLength * k) blockLength piece) (upFrom a n)
+
+-- a row that has no block: the check's, then 6
+abbrev pub NoBlock : List ℕ → Outcome → Type 0
+NoBlock bytes r = (old : List ℕ) → appendResult r old ≡ cond (not (isValid bytes)) (refused (checkOf bytes) 0 old) (refused (numberOf ShortOutput) 0 old)
+
+-- no row, and why
+abbrev pub noRowFor : Refusal → ReadRow
+noRowFor why = record { number = numberOf why; row = noRow }
+
+-- row i of a block, where it has one
+abbrev pub rowInBlock : List ℕ → ℕ → ReadRow
+rowInBlock block i = cond (ltb i (rowCount block)) (record { number = 0; row = rowIn (blockCell i block) }) (noRowFor Argument)
+
+-- a cell that is byte for byte what is written of the row that it says, which is valid
+abbrev pub isWritten : List ℕ → Bool
+isWritten cell = isRow (rowIn cell) && equal (rowCell (rowIn cell)) cell
+
+-- n cells from cell a of a block on
+unfoldable pub cellsFrom : List ℕ → ℕ → ℕ → List (List ℕ)
+cellsFrom block a n = map (λ i. blockCell i block) (upFrom a n)

@@ -1,0 +1,143 @@
+-- Opening an archive and appending a row, for every buffer (document 02, A2). Assumes nothing.
+use Prim.Native.Nat.{ℕ, _+_, _-_, _*_, _/_, _%_}
+use mathlib.Core.Bool.{Bool, false, cond, not, _&&_}
+use mathlib.Core.List.{List, [], _∷_, _++_}
+use lib.Dec.{ltb, leb, eqb}
+use lib.ListN.{length, take, drop}
+use Rattle.refusal.specs.Number.{numberOf}
+use Rattle.refusal.specs.declared.Refusal.the-variants.{ShortOutput, Argument, NotAccepted, Mismatch, Size}
+use Rattle.layout.specs.Buffer.{part}
+use Rattle.layout.specs.Cell.{cellLength}
+use Rattle.layout.specs.Header.{headerLength}
+use Rattle.layout.specs.Block.{cellsPerBlock, bodyLength, blockLength, sealed, blockCell}
+use Rattle.erp1.specs.Subtelegram.{checkOf, isValid}
+use Rattle.archive_model.specs.Row.{Row, rowCell, rowsHeader, blockNumber, rowCount, rowIn, isBlank}
+use Rattle.archive_model.specs.Buffer.{Found, At, None, maxBlocks, maxRows, isWhole, blocksIn, mismatch, rowsIn, bufferOf, Scan, scanBlocks}
+
+-- 16, 12 with its position; 0 for an archive
+pub record Verdict : Type 0 where
+  pub number : ℕ
+  pub position : ℕ
+
+abbrev pub found : Found → Verdict
+found (At k) = record { number = numberOf Mismatch; position = k }
+found None = record { number = 0; position = 0 }
+
+unfoldable pub verdict : List ℕ → Verdict
+verdict buffer = cond (not (isWhole (length buffer))) (record { number = numberOf Size; position = 0 }) (found (mismatch buffer))
+
+-- how many rows it has, beside 0
+pub record Opening : Type 0 where
+  pub number : ℕ
+  pub position : ℕ
+  pub rows : ℕ
+
+unfoldable pub openOf : List ℕ → Opening
+openOf buffer = record {
+  number = verdict buffer .number;
+  position = verdict buffer .position;
+  rows = cond (eqb (verdict buffer .number) 0) (length (rowsIn buffer)) 0;
+}
+
+-- the number, the position, and every byte of the buffer at exit
+pub record Appended : Type 0 where
+  pub number : ℕ
+  pub position : ℕ
+  pub buffer : List ℕ
+
+-- "the check's for a row, 6 for no room for another block"
+abbrev pub rowNumber : List ℕ → Row → ℕ
+rowNumber buffer r =
+    cond (not (isValid (r .bytes))) (checkOf (r .bytes))
+    (cond (leb (cellsPerBlock * (length buffer / blockLength)) (length (rowsIn buffer))) (numberOf ShortOutput)
+    0)
+
+-- a refusal, beside which the buffer is as it was
+abbrev pub refused : ℕ → ℕ → List ℕ → Appended
+refused number position buffer = record { number = number; position = position; buffer = buffer }
+
+-- done, and the buffer afterwards
+abbrev pub stored : List ℕ → Appended
+stored buffer = record { number = 0; position = 0; buffer = buffer }
+
+unfoldable pub appendOf : List ℕ → Row → Appended
+appendOf buffer r =
+    cond (not (eqb (verdict buffer .number) 0)) (refused (verdict buffer .number) (verdict buffer .position) buffer)
+    (cond (not (eqb (rowNumber buffer r) 0)) (refused (rowNumber buffer r) 0 buffer)
+    (stored (bufferOf (length buffer) (rowsIn buffer ++ (r ∷ [])))))
+
+-- ---- row n of an archive stands in block n / 15, in its cell n % 15: so the number of rows says where the next one goes
+
+abbrev pub blockAt : ℕ → List ℕ → List ℕ
+blockAt k buffer = part (blockLength * k) blockLength buffer
+
+-- a block where row n is put: its header, the cells before it, the row, what stood behind, and the CRC
+unfoldable pub putRow : ℕ → Row → List ℕ → List ℕ
+putRow n r block =
+    sealed
+    (rowsHeader (n / cellsPerBlock) (n % cellsPerBlock + 1)
+    ++ part headerLength (cellLength * (n % cellsPerBlock)) block
+    ++ rowCell r
+    ++ part (headerLength + cellLength * (n % cellsPerBlock + 1)) (bodyLength - (headerLength + cellLength * (n % cellsPerBlock + 1))) block)
+
+-- a block's first five bytes say that row n is the next
+abbrev pub isNext : ℕ → List ℕ → Bool
+isNext n block =
+    cond (eqb (n % cellsPerBlock) 0) (isBlank (part 0 5 block))
+    (eqb (blockNumber block) (n / cellsPerBlock) && eqb (rowCount block) (n % cellsPerBlock))
+
+-- row n put into its block by itself: 16 for another length or an n that no archive has, 12 at its position, the check's
+unfoldable pub putRowOf : List ℕ → ℕ → Row → Appended
+putRowOf block n r =
+    cond (not (eqb (length block) blockLength && ltb n maxRows)) (refused (numberOf Size) 0 block)
+    (cond (not (isNext n block)) (refused (numberOf Mismatch) (n / cellsPerBlock) block)
+    (cond (not (isValid (r .bytes))) (refused (checkOf (r .bytes)) 0 block)
+    (stored (putRow n r block))))
+
+abbrev pub isInside : ℕ → List ℕ → Bool
+isInside n buffer = ltb (n / cellsPerBlock) (length buffer / blockLength)
+
+-- a row appended as row n, which looks at one block and no other
+unfoldable pub appendAtOf : List ℕ → ℕ → Row → Appended
+appendAtOf buffer n r =
+    cond (not (isWhole (length buffer))) (refused (numberOf Size) 0 buffer)
+    (cond (isInside n buffer && not (isNext n (blockAt (n / cellsPerBlock) buffer))) (refused (numberOf Mismatch) (n / cellsPerBlock) buffer)
+    (cond (not (isValid (r .bytes))) (refused (checkOf (r .bytes)) 0 buffer)
+    (cond (not (isInside n buffer)) (refused (numberOf ShortOutput) 0 buffer)
+    (stored
+    (take (blockLength * (n / cellsPerBlock)) buffer
+    ++ putRow n r (blockAt (n / cellsPerBlock) buffer)
+    ++ drop (blockLength * (n / cellsPerBlock) + blockLength) buffer)))))
+
+-- ---- a scan in pieces
+
+-- a scan that some blocks give: 11 for one over 2^32 blocks, or over 15 rows a block
+abbrev pub isScan : Scan → Bool
+isScan s = leb (s .blocks) maxBlocks && leb (s .rows) (cellsPerBlock * s .blocks)
+
+pub record Feeding : Type 0 where
+  pub number : ℕ
+  pub next : Scan
+
+-- 11, then 16 for a piece that isn't whole blocks, or brings more than 2^32 of them in all
+unfoldable pub feedOf : Scan → List ℕ → Feeding
+feedOf s piece =
+    cond (not (isScan s)) (record { number = numberOf NotAccepted; next = s })
+    (cond (not (eqb (length piece % blockLength) 0 && leb (s .blocks + length piece / blockLength) maxBlocks)) (record { number = numberOf Size; next = s })
+    (record { number = 0; next = scanBlocks s (blocksIn piece) }))
+
+-- ---- row i as it stands
+
+pub record ReadRow : Type 0 where
+  pub number : ℕ
+  pub row : Row
+
+abbrev pub noRow : Row
+noRow = record { bytes = []; time = 0; loose = false }
+
+unfoldable pub rowAtOf : List ℕ → ℕ → ReadRow
+rowAtOf buffer i =
+    cond (not (isWhole (length buffer))) (record { number = numberOf Size; row = noRow })
+    (cond (isInside i buffer && ltb (i % cellsPerBlock) (rowCount (blockAt (i / cellsPerBlock) buffer)))
+    (record { number = 0; row = rowIn (blockCell (i % cellsPerBlock) (blockAt (i / cellsPerBlock) buffer)) })
+    (record { number = numberOf Argument; row = noRow }))

@@ -1,0 +1,125 @@
+-- The buffer of an archive: what it holds, and the first block that does not match (document 02, A2). Assumes nothing.
+use Prim.Native.Nat.{ℕ, suc, _+_, _-_, _*_, _/_, _%_, _^_}
+use mathlib.Core.Bool.{Bool, false, cond, not, _&&_}
+use mathlib.Core.List.{List, [], _∷_, map, flatten}
+use lib.Dec.{ltb, leb, eqb}
+use lib.ListN.{length}
+use Rattle.lists.specs.Lists.{padded, upFrom}
+use Rattle.layout.specs.Buffer.{part}
+use Rattle.layout.specs.Block.{cellsPerBlock, blockLength}
+use Rattle.archive_model.specs.Row.{Row, rowsBlock, blockNumber, rowCount, rowsOf, isSound, isBlank}
+
+-- ---- writing
+
+-- how many blocks n rows take: "only the last block may have fewer than 15 rows"
+abbrev pub blocksFor : ℕ → ℕ
+blocksFor n = (n + (cellsPerBlock - 1)) / cellsPerBlock
+
+-- the rows of block k
+abbrev pub rowsAt : ℕ → List Row → List Row
+rowsAt k rows = part (cellsPerBlock * k) cellsPerBlock rows
+
+unfoldable pub archiveOf : List Row → List ℕ
+archiveOf rows = flatten (map (λ k. rowsBlock k (rowsAt k rows)) (upFrom 0 (blocksFor (length rows))))
+
+-- a buffer of n bytes that holds these rows: "the archive ends at the first all-zero block, after which all is zero, or at the end of the room"
+unfoldable pub bufferOf : ℕ → List Row → List ℕ
+bufferOf n rows = padded n (archiveOf rows)
+
+-- ---- reading
+
+abbrev pub maxBlocks : ℕ
+maxBlocks = 2 ^ 32
+
+-- the most rows of an archive
+abbrev pub maxRows : ℕ
+maxRows = cellsPerBlock * maxBlocks
+
+-- 16: "room that isn't whole blocks or is over 2^32 of them"; it looks at the length alone
+unfoldable pub isWhole : ℕ → Bool
+isWhole n = eqb (n % blockLength) 0 && leb (n / blockLength) maxBlocks
+
+unfoldable pub blocksIn : List ℕ → List (List ℕ)
+blocksIn buffer = map (λ k. part (blockLength * k) blockLength buffer) (upFrom 0 (length buffer / blockLength))
+
+-- the rows that all blocks say: an all-zero one says none
+unfoldable pub rowsIn : List ℕ → List Row
+rowsIn buffer = flatten (map rowsOf (blocksIn buffer))
+
+-- the position of a block, or that there is none
+pub data Found : Type 0 where
+  At : ℕ → Found
+  None : Found
+
+-- the first block that is not zero, of those after the end
+abbrev pub nonZero : ℕ → List (List ℕ) → Found
+nonZero k [] = None
+nonZero k (b ∷ bs) = cond (isBlank b) (nonZero (suc k) bs) (At k)
+
+abbrev pub isShort : List ℕ → Bool
+isShort block = ltb (rowCount block) cellsPerBlock
+
+-- "with a non-zero block next"
+abbrev pub isFollowed : List (List ℕ) → Bool
+isFollowed [] = false
+isFollowed (b ∷ bs) = not (isBlank b)
+
+-- "the first block that doesn't match (wrong number, short with a non-zero block next, or non-zero after the end included)", of the blocks from number k on
+unfoldable pub mismatchFrom : ℕ → List (List ℕ) → Found
+mismatchFrom k [] = None
+mismatchFrom k (b ∷ bs) =
+    cond (isBlank b) (nonZero (suc k) bs)
+    (cond (not (isSound b && eqb (blockNumber b) k)) (At k)
+    (cond (isShort b && isFollowed bs) (At k)
+    (mismatchFrom (suc k) bs)))
+
+unfoldable pub mismatch : List ℕ → Found
+mismatch buffer = mismatchFrom 0 (blocksIn buffer)
+
+-- ---- the same in pieces: what is known after some blocks, so that a file is read once and in parts
+
+pub data Stage : Type 0 where
+  -- every block so far is full; the last one is short; an all-zero one was passed
+  Filling Short Ended : Stage
+  -- the position of the first block that does not match
+  Wrong : ℕ → Stage
+
+pub record Scan : Type 0 where
+  -- how many blocks were passed, and how many rows they hold
+  pub blocks : ℕ
+  pub rows : ℕ
+  pub stage : Stage
+
+abbrev pub startScan : Scan
+startScan = record { blocks = 0; rows = 0; stage = Filling }
+
+-- what a block that is not all zero makes of a stage, at position k
+abbrev pub stageAfter : Stage → ℕ → List ℕ → Stage
+stageAfter Filling k b = cond (isSound b && eqb (blockNumber b) k) (cond (isShort b) Short Filling) (Wrong k)
+stageAfter Short k b = Wrong (k - 1)
+stageAfter Ended k b = Wrong k
+stageAfter (Wrong j) k b = Wrong j
+
+-- what an all-zero block makes of it
+abbrev pub stageBlank : Stage → Stage
+stageBlank Filling = Ended
+stageBlank Short = Ended
+stageBlank Ended = Ended
+stageBlank (Wrong j) = Wrong j
+
+unfoldable pub scanBlock : Scan → List ℕ → Scan
+scanBlock s b = record {
+  blocks = s .blocks + 1;
+  rows = s .rows + cond (isSound b) (rowCount b) 0;
+  stage = cond (isBlank b) (stageBlank (s .stage)) (stageAfter (s .stage) (s .blocks) b);
+}
+
+unfoldable pub scanBlocks : Scan → List (List ℕ) → Scan
+scanBlocks s [] = s
+scanBlocks s (b ∷ bs) = scanBlocks (scanBlock s b) bs
+
+abbrev pub stageFound : Stage → Found
+stageFound Filling = None
+stageFound Short = None
+stageFound Ended = None
+stageFound (Wrong j) = At j

@@ -1,0 +1,4 @@
+pub mod Row
+pub mod Buffer
+pub mod Append
+pub mod Claims

@@ -1,0 +1,1 @@
+// Archive block files: definitions only (a draft).

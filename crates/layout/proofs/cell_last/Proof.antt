@@ -1,0 +1,35 @@
+-- `layout::cell_last` meets its contract: the part that is lent is the last two bytes, however long the cell is. Assumes nothing.
+use mathlib.Core.Path.{_≡_, ap, _∙_}
+use mathlib.Core.List.{List}
+use Prim.Native.Nat.{ℕ, _-_, min}
+use native.Mathlib.Omega.{arith}
+use borrow.Author.Needs.{needs}
+use denote.Ref.{now}
+use lib.ListN.{length, take, drop, length-take}
+use lib.Seq.{take-all}
+use Rattle.layout.specs.Buffer.{part}
+use Rattle.layout.specs.BigEndian.{unbe}
+use Rattle.layout.proofs.Segments.{part-clamped}
+use Rattle.layout.proofs.cell_last.Statement.{statement}
+use Rattle.layout.proofs.cell_last.Tie as tie
+
+both : (start end : ℕ) (cell : List ℕ) → start ≡ min 30 (length cell) → end ≡ min 32 (length cell) → take 8 (take (end - start) (drop start cell)) ≡ part 30 2 cell
+both start end cell s e = rw (s, e) (ap (take 8) (part-clamped 30 2 cell) ∙ take-all 8 (part 30 2 cell) (rw length-take (omega arith)))
+
+returns : tie.Need-returns
+returns c =
+    let at = c .before .before in
+    let a = at .before .before .before .args in
+    c .read-number .ensures ∙ ap unbe (both _ _ (now (a .cell)) (at .before .least .ensures) (at .least2 .ensures))
+
+pub cell-last-spec : {M : Type 1} → statement M
+cell-last-spec =
+    tie.close
+    (tie.spec
+    (λ c κs. search needs)
+    (λ c κs. search needs)
+    (λ c. search needs)
+    (λ c. search needs)
+    (λ c. search needs)
+    (λ c κs. search needs)
+    returns)
