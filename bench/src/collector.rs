@@ -84,9 +84,9 @@ impl Collector {
         }
         self.latest = time;
         self.close(time);
-        // Of the open telegrams that are the same the latest decides: an original more than 40 ms after it is none of its copies.
-        let latest = (0..self.count).rev().find(|&i| self.holds(i, s));
-        if latest.is_some_and(|i| s[s.len() - 2] & 0x0F != 0 || time - self.times[i] <= 40) {
+        // An original more than 40 ms after an opening is none of its copies.
+        let original = s[s.len() - 2] & 0x0F == 0;
+        if (0..self.count).any(|i| self.holds(i, s) && (!original || time - self.times[i] <= 40)) {
             self.totals[2] += 1;
             return Answer::Copy;
         }
