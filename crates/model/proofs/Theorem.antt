@@ -2,19 +2,20 @@
 -- Assumes nothing.
 use Prim.Native.Nat.{ℕ, _≤_}
 use mathlib.Core.Path.{_≡_, refl, sym, _∙_, ap, ap₂}
-use mathlib.Core.Bool.{Bool, true, false, cond}
+use mathlib.Core.Bool.{Bool, true, false, cond, _&&_}
 use mathlib.Core.List.{List, [], _∷_, _++_}
-use lib.Dec.{eqb}
+use lib.Dec.{eqb, leb}
 use lib.ListN.{length, take, drop}
 use lib.Seq.{take-at}
-use borrow.Author.Tests.{le-leb, le-ltb}
+use borrow.Author.Tests.{leb-true, leb-false, le-leb, le-ltb, lt-ltb}
+use Rattle.lists.proofs.Tests.{by-test}
 use Rattle.refusal.specs.Number.{numberOf}
 use Rattle.refusal.specs.declared.Refusal.the-variants.{NotAccepted}
 use Rattle.model.specs.View.{Reception, View, maxSetting, fresh}
 use Rattle.model.specs.Step.{Outcome}
 use Rattle.model.specs.Image.{imageLength, imageOf, accepts, checkpointOf, restoreOf}
 use Rattle.model.specs.Reference.{Logged, totalsOf, modelView, savedBy, logOf, pastAfter, repliesBy}
-use Rattle.model.specs.Burst.{Replied, replyOf, afterAll, repliesTo, sizeNumber, burstNumber, taken, BurstResult, burstOf}
+use Rattle.model.specs.Burst.{Replied, maxBurst, replyOf, afterAll, repliesTo, sizeNumber, burstNumber, taken, BurstResult, burstOf}
 use Rattle.model.specs.History.{Call, Receive, Checkpoint, Restore, Cut, Burst, Look, Timely, IsHistory, Delivered, run, burstTaken, expected, uncut, common, WholeHistory}
 use Rattle.model.proofs.Invariant.{Good, good-acceptable, good-fresh}
 use Rattle.model.proofs.Image.{image-length, parse-image, accepts-image}
@@ -67,38 +68,49 @@ module _ (setting : ℕ) where
   burst-good past [] g t = g
   burst-good past (r ∷ rs) g t = burst-good (r ∷ past) rs (good-after setting (logOf past) r g (t .0)) (t .1)
 
-taken-timely : (n : ℕ) (rs : List Reception) → Timely rs → Timely (taken n rs)
-taken-timely n rs t = go (eqb n 0)
-  where
-    go : (b : Bool) → Timely (cond b rs [])
-    go true = t
-    go false = tt
+-- a burst is not refused for its sizes just where each reception has a place and they are at most 256
+not-refused : (n m : ℕ) → eqb (sizeNumber n m) 0 ≡ (leb n m && leb n maxBurst)
+unfolding sizeNumber
+not-refused n m =
+    by-test (leb n m)
+    (λ a. by-test (leb n maxBurst)
+    (λ b. rw (a, b, le-ltb m n (leb-true n m a), le-ltb maxBurst n (leb-true n maxBurst b)))
+    (λ b. rw (a, b, le-ltb m n (leb-true n m a), lt-ltb maxBurst n (leb-false n maxBurst b))))
+    (λ a. rw (a, lt-ltb m n (leb-false n m a)))
+
+taken-timely : (b : Bool) (rs : List Reception) → Timely rs → Timely (cond b rs [])
+taken-timely true rs t = t
+taken-timely false rs t = tt
 
 module _ (setting : ℕ) (past rs : List Reception) (places : List Replied) (g : Good (modelView setting (logOf past))) (t : Timely rs) where
+  abbrev v : View
+  v = modelView setting (logOf past)
+
   abbrev whole : List Reception
   whole = burstTaken rs places
 
   whole-timely : Timely whole
-  whole-timely = taken-timely (sizeNumber (length rs) (length places)) rs t
+  whole-timely = taken-timely (leb (length rs) (length places) && leb (length rs) maxBurst) rs t
 
-  same-number : burstNumber (modelView setting (logOf past)) (length rs) (length places) ≡ sizeNumber (length rs) (length places)
+  same-number : burstNumber v (length rs) (length places) ≡ sizeNumber (length rs) (length places)
   unfolding burstNumber
   same-number = rw (good-acceptable g)
 
-  same-burst : burstOf (modelView setting (logOf past)) rs places ≡ record {
+  same-taken : taken (sizeNumber (length rs) (length places)) rs ≡ whole
+  same-taken = ap (λ (b : Bool). cond b rs []) (not-refused (length rs) (length places))
+
+  abbrev resultOf : ℕ → List Reception → BurstResult
+  resultOf n l = record { number = n; replies = repliesTo v l ++ drop (length l) places; next = afterAll v l }
+
+  same-burst : burstOf v rs places ≡ record {
     number = sizeNumber (length rs) (length places);
     replies = repliesBy setting past whole ++ drop (length whole) places;
     next = modelView setting (logOf (pastAfter past whole));
   }
   same-burst =
-      ap (λ (n : ℕ). resultAt n (taken n rs)) same-number
-      ∙ ap (λ (l : List Replied). record { number = sizeNumber (length rs) (length places); replies = l ++ drop (length whole) places; next = afterAll (modelView setting (logOf past)) whole })
-      (burst-replies setting past whole g whole-timely)
-      ∙ ap (λ (v : View). record { number = sizeNumber (length rs) (length places); replies = repliesBy setting past whole ++ drop (length whole) places; next = v })
-      (burst-after setting past whole g whole-timely)
-    where
-      resultAt : ℕ → List Reception → BurstResult
-      resultAt n l = record { number = n; replies = repliesTo (modelView setting (logOf past)) l ++ drop (length l) places; next = afterAll (modelView setting (logOf past)) l }
+      ap (λ (n : ℕ). resultOf n (taken n rs)) same-number ∙ ap (resultOf (sizeNumber (length rs) (length places))) same-taken
+      ∙ ap₂ (λ (l : List Replied) (u : View). record { number = sizeNumber (length rs) (length places); replies = l ++ drop (length whole) places; next = u })
+      (burst-replies setting past whole g whole-timely) (burst-after setting past whole g whole-timely)
 
 -- ---- all calls
 

@@ -2,8 +2,9 @@
 -- the reference model says, and what the uncut run shows. Assumes nothing.
 use Prim.Native.Nat.{ℕ, _≤_, _<_, _^_}
 use mathlib.Core.Path.{_≡_}
-use mathlib.Core.Bool.{false}
+use mathlib.Core.Bool.{false, cond, _&&_}
 use mathlib.Core.List.{List, [], _∷_, _++_}
+use lib.Dec.{leb}
 use lib.ListN.{length, take, drop}
 use Rattle.refusal.specs.Number.{numberOf}
 use Rattle.refusal.specs.declared.Refusal.the-variants.{NotAccepted}
@@ -13,7 +14,7 @@ use Rattle.model.specs.Answer.{Shown}
 use Rattle.model.specs.View.{Reception, View, fresh, maxSetting}
 use Rattle.model.specs.Step.{step}
 use Rattle.model.specs.Image.{imageLength, accepts, checkpointOf, restoreOf}
-use Rattle.model.specs.Burst.{Replied, sizeNumber, taken, burstOf}
+use Rattle.model.specs.Burst.{Replied, maxBurst, sizeNumber, burstOf}
 use Rattle.model.specs.Reference.{totalsOf, answerTo, sentWith, logOf, savedBy, pastAfter, repliesBy}
 
 -- "A history is a list of calls: receptions taken, parkings into any room, and reloads."
@@ -78,9 +79,9 @@ run v (Burst rs places ∷ h) =
     Delivered (b .number) (b .replies) (b .next .totals) ∷ run (b .next) h
 run v (Look ∷ h) = Looked (v .totals) ∷ run v h
 
--- the receptions that a burst of a history stands for: its state is acceptable, so that the sizes of its lists decide
+-- the receptions that a burst stands for, to the reference model: all of them, if each has a place and they are at most 256; else none
 abbrev pub burstTaken : List Reception → List Replied → List Reception
-burstTaken rs places = taken (sizeNumber (length rs) (length places)) rs
+burstTaken rs places = cond (leb (length rs) (length places) && leb (length rs) maxBurst) rs []
 
 -- what the reference model says, fed the setting and the receptions so far: checkpoints into room and the restores of cuts are answered 0
 abbrev pub expected : ℕ → List Reception → List Call → List Seen
