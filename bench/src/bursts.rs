@@ -8,6 +8,7 @@ use std::hint::black_box;
 extern "C" {
     fn bench_burst(setting: u8, cells: *const u8, len: usize, size: usize, rounds: u64) -> u64;
     fn bench_take(setting: u8, cells: *const u8, len: usize) -> u64;
+    fn bench_admit(setting: u8, cells: *const u8, len: usize) -> u64;
 }
 
 const MOST: usize = 256;
@@ -72,28 +73,38 @@ fn by_hand(cells: &[u8], size: usize, rounds: usize) -> u64 {
     figure
 }
 
+/// Nanoseconds of a burst of so many from the state that 256 receptions left, without what is done once before all bursts.
+fn burst_time(burst: fn(&[u8], usize, usize) -> u64, cells: &[u8], size: usize) -> f64 {
+    const BURSTS: usize = 16;
+    let whole = |rounds: usize| {
+        time(BURSTS, || {
+            black_box(burst(black_box(cells), size, rounds));
+        })
+    };
+    whole(BURSTS) - whole(0)
+}
+
+fn run(calls: unsafe extern "C" fn(u8, *const u8, usize) -> u64, cells: &[u8]) -> f64 {
+    time(cells.len() / CELL, || {
+        black_box(unsafe { calls(1, cells.as_ptr(), cells.len()) });
+    })
+}
+
+/// The proved call is reached through lists held by value, which are copied: what a burst of none takes is taken off, and what its own
+/// part of that is, the test and the copies of the state, put on again: as much as `take` takes more than `admit`.
 pub fn bench() {
     for open in [4, 16, 64] {
         let cells = &cells(open)[..2 * MOST * CELL];
-        let per = |size: usize, burst: fn(&[u8], usize, usize) -> u64| {
-            let rounds = 16 * MOST / size.max(1);
-            let all = time(rounds * size.max(1), || {
-                black_box(burst(black_box(cells), size, rounds));
-            });
-            let none = time(rounds * size.max(1), || {
-                black_box(burst(black_box(cells), size, 0));
-            });
-            all - none
-        };
         for size in [MOST, 8, 1] {
             assert_eq!(proved(cells, size, 2 * MOST), by_hand(cells, size, 2 * MOST), "{open} open, {size}");
         }
-        report(&format!("a reception in a burst of 256, {open} open, half of them copies"), per(MOST, proved), per(MOST, by_hand));
-        let lists = per(0, proved);
-        println!("  a burst of none, with the copies of its lists {lists:.0} ns");
-        let take = time(2 * MOST, || {
-            black_box(unsafe { bench_take(1, cells.as_ptr(), cells.len()) });
-        });
-        println!("  in a burst of 8 {:.0} ns, of 1 {:.0} ns, by `take` {take:.0} ns", per(8, proved), per(1, proved));
+        let take = run(bench_take, cells);
+        let once = take - run(bench_admit, cells);
+        let lists = burst_time(proved, cells, 0) - once;
+        let each = |size: usize| (burst_time(proved, cells, size) - lists) / size as f64;
+        let by_hand = burst_time(by_hand, cells, MOST) / MOST as f64;
+        report(&format!("a reception in a burst of 256, {open} open, half of them copies"), each(MOST), by_hand);
+        println!("  with the copies of lists held by value {:.0} ns", each(MOST) + lists / MOST as f64);
+        println!("  in a burst of 8 {:.0} ns, of 1 {:.0} ns, by `take` {take:.0} ns", each(8), each(1));
     }
 }
