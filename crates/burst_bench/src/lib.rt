@@ -23,7 +23,12 @@ pub extern "C" fn bench_burst(setting: u8, cells: &[u8], size: usize, rounds: u6
         burst::MAX_BURST,
     );
     let done = first.bursted;
-    bursts_from(done.next, records_from(cells, burst::MAX_BURST), size, rounds)
+    bursts_from(
+        done.next,
+        records_from(cells, burst::MAX_BURST),
+        size,
+        rounds,
+    )
 }
 
 fn bursts_from(c: Collector, records: [Reception; burst::LISTED], size: usize, rounds: u64) -> u64 {

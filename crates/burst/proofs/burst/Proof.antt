@@ -192,7 +192,8 @@ module _ {M : Type 1} (𝓤 : URA M) (H : Heap 𝓤) (A : Atoms 𝓤) (mem : Mem
 
   goes-prepare : (W : Given 𝓤 H A) (c : Collector) (n m : ℕ) → IsCollector c → Is usize n (vint w64 n ∷ []) → Is usize m (vint w64 m ∷ []) → ent 𝓤 (emp 𝓤) (ToPrepare .pre (to-prepare c n m))
   goes-prepare W c n m ic gn gm =
-      qed W [] ∵ nothing ! $ owned ! usize (Is usize) (uint-makes 𝓤 H A W w64) m _ gm $ fjoin ! $ owned ! usize (Is usize) (uint-makes 𝓤 H A W w64) n _ gn $ fjoin ! $
+      qed W [] ∵ nothing ! $ owned ! usize (Is usize) (uint-makes 𝓤 H A W w64) m _ gm $ fjoin ! $
+      owned ! usize (Is usize) (uint-makes 𝓤 H A W w64) n _ gn $ fjoin ! $
       owned ! C.the-row (Is C.the-row) (LL.makes C.the-type C′.the-plain 𝓤 H A) c _ ic $ fjoin ! $ nothing ! $ join ! $ frame ! $ done !
 
   planned-of : (c : Collector) (n m : ℕ) (p : Plan) → ent 𝓤 (ensured 𝓤 H A prep.ended (prep.clauses 𝓤 H A mem run) tt (c, (n, (m, tt))) tt p) (fact 𝓤 (Planned c n m p))
@@ -204,8 +205,10 @@ module _ {M : Type 1} (𝓤 : URA M) (H : Heap 𝓤) (A : Atoms 𝓤) (mem : Mem
 
   goes-finish : (W : Given 𝓤 H A) (ts ls es : List ℕ) (s : Summary) (h : Handed) → IsTs ts → IsLs ls → IsEs es → IsSummary s → IsHanded h → ent 𝓤 (emp 𝓤) (ToFinish .pre (to-finish ts ls es s h))
   goes-finish W ts ls es s h it il ie is ih =
-      qed W [] ∵ nothing ! $ owned ! E.the-row (Is E.the-row) (EL.makes E.the-type E′.the-plain 𝓤 H A) h _ ih $ fjoin ! $ owned ! S.the-row (Is S.the-row) (LL.makes S.the-type S′.the-plain 𝓤 H A) s _ is $ fjoin ! $
-      owned ! Es (Is Es) (array-makes 𝓤 H A W u8 (uint-makes 𝓤 H A W w8) 1344) es _ ie $ fjoin ! $ owned ! Ls (Is Ls) (array-makes 𝓤 H A W u8 (uint-makes 𝓤 H A W w8) 64) ls _ il $ fjoin ! $
+      qed W [] ∵ nothing ! $ owned ! E.the-row (Is E.the-row) (EL.makes E.the-type E′.the-plain 𝓤 H A) h _ ih $ fjoin ! $
+      owned ! S.the-row (Is S.the-row) (LL.makes S.the-type S′.the-plain 𝓤 H A) s _ is $ fjoin ! $
+      owned ! Es (Is Es) (array-makes 𝓤 H A W u8 (uint-makes 𝓤 H A W w8) 1344) es _ ie $ fjoin ! $
+      owned ! Ls (Is Ls) (array-makes 𝓤 H A W u8 (uint-makes 𝓤 H A W w8) 64) ls _ il $ fjoin ! $
       owned ! Ts (Is Ts) (array-makes 𝓤 H A W u64 (uint-makes 𝓤 H A W w64) 64) ts _ it $ fjoin ! $ nothing ! $ join ! $ frame ! $ done !
 
   finished-of : (ts ls es : List ℕ) (s : Summary) (h : Handed) (r : Bursted) → ent 𝓤 (ensured 𝓤 H A fin.ended (fin.clauses 𝓤 H A mem run) tt (ts, (ls, (es, (s, (h, tt))))) tt r) (fact 𝓤 (Finished ts ls es s h r))
@@ -250,7 +253,8 @@ module _ {M : Type 1} (𝓤 : URA M) (H : Heap 𝓤) (A : Atoms 𝓤) (mem : Mem
         -- [the first list; the second; lens; entries; times]
         nothing ! $ move ! (2 ∷ 0 ∷ []) $ fjoin ! $ move ! (1 ∷ 0 ∷ []) $ fjoin ! $
         owned ! usize (Is usize) (uint-makes 𝓤 H A W w64) (p .count) _ (LL.owed P.the-type P′.the-laws p _ ip .1 .0) $ fjoin ! $
-        owned ! S.the-row (Is S.the-row) (LL.makes S.the-type S′.the-plain 𝓤 H A) (p .summary) _ (LL.owed P.the-type P′.the-laws p _ ip .1 .1 .0) $ fjoin ! $
+        owned ! S.the-row (Is S.the-row) (LL.makes S.the-type S′.the-plain 𝓤 H A) (p .summary) _ (LL.owed P.the-type P′.the-laws p _ ip .1 .1 .0) $
+        fjoin ! $
         -- [the last four; lens; entries; times]
         move ! (2 ∷ 0 ∷ []) $ fjoin ! $ move ! (1 ∷ 0 ∷ []) $ fjoin ! $ move ! (1 ∷ 0 ∷ []) $ fjoin ! $
         owned ! Boolean (Is Boolean) (bool-makes 𝓤 H A W) (p .fit) _ (LL.owed P.the-type P′.the-laws p _ ip .0) $ fjoin ! $ done !
@@ -296,7 +300,8 @@ module _ {M : Type 1} (𝓤 : URA M) (H : Heap 𝓤) (A : Atoms 𝓤) (W : Given
       suffices ! _ (ends-at 𝓤 H A f.ended stayed (f.clauses 𝓤 H A mem run) W bound v r (tt, (tt, (zs, tt))) (tt, (tt, (l, tt)))) $ says ! said $
       move ! (1 ∷ []) $ frame ! $
       -- [the result; the last list; the first]
-      nothing ! $ move ! (2 ∷ 0 ∷ []) $ fjoin ! $ move ! (2 ∷ 0 ∷ []) $ fjoin ! $ owned ! C.the-row (Is C.the-row) (LL.makes C.the-type C′.the-plain 𝓤 H A) c _ ic $ fjoin ! $ frame ! $ done !
+      nothing ! $ move ! (2 ∷ 0 ∷ []) $ fjoin ! $ move ! (2 ∷ 0 ∷ []) $ fjoin ! $
+      owned ! C.the-row (Is C.the-row) (LL.makes C.the-type C′.the-plain 𝓤 H A) c _ ic $ fjoin ! $ frame ! $ done !
 
   -- the state's arrays
   is-ts : IsTs (c .times)
@@ -323,21 +328,30 @@ module _ {M : Type 1} (𝓤 : URA M) (H : Heap 𝓤) (A : Atoms 𝓤) (W : Given
     walk =
         qed W ((‵ (flft κ₀ q₀) ⊛ ‵ (flft κ₁ q₁) ⊛ ‵ ftrue) ∷ ‵ (owns (C.the-row ∷ ShrSlice (named 0) κ₀ R.the-row ∷ MutSlice (named 1) κ₁ Y.the-row ∷ []) a vals) ∷ []) ∵
         enter ! (𝓣 .C) (𝓣 .Λ) code.function (ofCollector c ∷ rs-val ∷ ys-val ∷ []) _ $
-        alloc1 ! (λ l₀. alloc1 ! (λ l₁. alloc1 ! (λ l₂. alloc1 ! (λ l₃. alloc1 ! (λ l₄. alloc1 ! (λ l₅. alloc1 ! (λ l₆. alloc1 ! (λ l₇. alloc1 ! (λ l₈. alloc1 ! (λ l₉. alloc1 ! (λ l₁₀. alloc1 ! (λ l₁₁. alloc1 ! (λ l₁₂. alloc1 ! (λ l₁₃. alloc1 ! (λ l₁₄. alloc1 ! (λ l₁₅. alloc1 ! (λ l₁₆. alloc1 ! (λ l₁₇. alloc1 ! (λ l₁₈. alloc0 ! $ params1 ! $
-        pass1 ! (init ! (cell 0 1) refl (LL.lawful C.the-type C′.the-laws 𝓤 H A W .typed c _ ic .0)) $ pass1 ! (init ! (cell 0 2) refl (tt, (tt, (record { fits = gr .0 }, tt)))) $ pass1 ! (init ! (cell 0 3) refl (tt, (tt, (record { fits = gy .0 }, tt)))) $ pass0 ! $
+        alloc1 ! (λ l₀. alloc1 ! (λ l₁. alloc1 ! (λ l₂. alloc1 ! (λ l₃. alloc1 ! (λ l₄. alloc1 ! (λ l₅. alloc1 ! (λ l₆. alloc1 ! (λ l₇. alloc1 ! (λ l₈. alloc1 ! (λ l₉. alloc1 ! (λ l₁₀. alloc1 ! (λ l₁₁. alloc1 ! (λ l₁₂. alloc1 ! (λ l₁₃. alloc1 ! (λ l₁₄. alloc1 ! (λ l₁₅. alloc1 ! (λ l₁₆. alloc1 ! (λ l₁₇. alloc1 ! (λ l₁₈. alloc0 ! $
+        params1 ! $
+        pass1 ! (init ! (cell 0 1) refl (LL.lawful C.the-type C′.the-laws 𝓤 H A W .typed c _ ic .0)) $
+        pass1 ! (init ! (cell 0 2) refl (tt, (tt, (record { fits = gr .0 }, tt)))) $
+        pass1 ! (init ! (cell 0 3) refl (tt, (tt, (record { fits = gy .0 }, tt)))) $ pass0 ! $
         -- the lengths
         assigns ! (of-opd ! (load ! (from ! (fld ! refl (stop !))) (look-in ! (cell 0 2) (sub ! 1 refl (whole !))))) (from ! (stop !)) (init ! (cell 0 9) refl (tt, record { fits = gr .0 })) $
         assigns ! (of-opd ! (load ! (from ! (fld ! refl (stop !))) (look-in ! (cell 0 3) (sub ! 1 refl (whole !))))) (from ! (stop !)) (init ! (cell 0 10) refl (tt, record { fits = gy .0 })) $
         -- what the parameters own is taken apart, and the first list is had twice
-        move ! (39 ∷ []) $ fsplit ! $ drop ! $ fsplit ! $ use1 W (‵ Shared ⊛ ‵ Shared) (shr-slice-copy 𝓤 H A W (named 0) κ₀ R.the-row .twice receptions (rs-val ∷ [])) $ split ! $ move ! (2 ∷ []) $ fsplit ! $ move ! (1 ∷ []) $ drop ! $
+        move ! (39 ∷ []) $ fsplit ! $ drop ! $ fsplit ! $
+        use1 W (‵ Shared ⊛ ‵ Shared) (shr-slice-copy 𝓤 H A W (named 0) κ₀ R.the-row .twice receptions (rs-val ∷ [])) $ split ! $ move ! (2 ∷ []) $
+        fsplit ! $ move ! (1 ∷ []) $ drop ! $
         -- [the second list; the first, twice; the locals, at 3; the tokens, at 41]: `prepare`
         use0 W (raw (ToPrepare 𝓤 H A mem run .pre (to-prepare 𝓤 H A mem run c (length rs) (length ys)))) (goes-prepare 𝓤 H A mem run W c (length rs) (length ys) ic (refl, gr .0) (refl, gy .0)) $
         calls-at ! (fmOf 𝓤 H (W .laws) 𝓣) (ToPrepare 𝓤 H A mem run) known-prepare (to-prepare 𝓤 H A mem run c (length rs) (length ys))
         (and-then ! (load ! (from ! (stop !)) (look ! (cell 4 1) refl)) (and-then ! (load ! (from ! (stop !)) (look ! (cell 4 9) refl)) (and-then ! (load ! (from ! (stop !)) (look ! (cell 4 10) refl)) (no-more !)))) (λ w.
-        use1 W (later (some (λ (p : Plan). (‵ ftrue ⊛ ‵ (P.the-row .own p (w ∷ []))) ⊛ raw (ensured 𝓤 H A prep.ended (prep.clauses 𝓤 H A mem run) tt (c, (length rs, (length ys, tt))) tt p)))) (id⊢ 𝓤 _) $ await ! tt $ pick ! (λ p.
-        split ! $ move ! (1 ∷ []) $ use1 W (raw (fact 𝓤 (Planned c (length rs) (length ys) p))) (planned-of 𝓤 H A mem run c (length rs) (length ys) p) $ heard ! (Planned c (length rs) (length ys) p) (λ planned.
+        use1 W (later (some (λ (p : Plan). (‵ ftrue ⊛ ‵ (P.the-row .own p (w ∷ []))) ⊛ raw (ensured 𝓤 H A prep.ended (prep.clauses 𝓤 H A mem run) tt (c, (length rs, (length ys, tt))) tt p)))) (id⊢ 𝓤 _) $
+        await ! tt $ pick ! (λ p.
+        split ! $ move ! (1 ∷ []) $
+        use1 W (raw (fact 𝓤 (Planned c (length rs) (length ys) p))) (planned-of 𝓤 H A mem run c (length rs) (length ys) p) $
+        heard ! (Planned c (length rs) (length ys) p) (λ planned.
         split ! $ drop ! $ peeks ! P.the-row (Is P.the-row) (shows 𝓤 H A P.the-row) p (w ∷ []) (λ ipw.
-        land ! (from ! (stop !)) (init ! (cell 4 4) refl (LL.lawful P.the-type P′.the-laws 𝓤 H A W .typed p _ ipw .0)) $ drop ! $ rewrite ! (cell 3 4) (λ (u : Val). ‵ (fat fullShare P′.mir l₄ 0 u)) (ap only (LL.tells P.the-type P′.the-laws p _ ipw)) refl $
+        land ! (from ! (stop !)) (init ! (cell 4 4) refl (LL.lawful P.the-type P′.the-laws 𝓤 H A W .typed p _ ipw .0)) $ drop ! $
+        rewrite ! (cell 3 4) (λ (u : Val). ‵ (fat fullShare P′.mir l₄ 0 u)) (ap only (LL.tells P.the-type P′.the-laws p _ ipw)) refl $
         -- the arrays are copied, and references made
         assigns ! (of-opd ! (load ! (from ! (fld ! refl (stop !))) (look-in ! (cell 3 1) (sub ! 0 refl (whole !))))) (from ! (stop !)) (init ! (cell 3 5) refl (typed-t (map (λ (x : ℕ). x) (c .times)) (LL.owed C.the-type C′.the-laws c _ ic .0))) $
         rewrite ! (cell 3 5) (λ (xs : List ℕ). ‵ (fat fullShare t-ty l₅ 0 (only (words xs)))) (same (c .times)) refl $
@@ -353,11 +367,14 @@ module _ {M : Type 1} (𝓤 : URA M) (H : Heap 𝓤) (A : Atoms 𝓤) (W : Given
         -- each array is lent, for a lifetime of its own
         lft-new ! tt (λ α₀. lft-new ! tt (λ α₁. lft-new ! tt (λ α₂.
         move ! (cell 6 5 ∷ []) $ laid u64 (uint-vals w64) 64 (c .times) l₅ ! (uint-makes 𝓤 H A W w64) is-ts $
-        use1 W (later (some (λ (δ₀ : GName). ‵ (times-at (α₀ ∷ []) l₅ δ₀ (c .times)) ⊛ ‵ (flent (α₀ ∷ []) (Body (inMemory Ts) l₅ 0 δ₀))))) (lends-ref 𝓤 H A W Ts (named 0) (α₀ ∷ []) (c .times) l₅ 0) $ await ! tt $ pick ! (λ δ₀. split ! $
+        use1 W (later (some (λ (δ₀ : GName). ‵ (times-at (α₀ ∷ []) l₅ δ₀ (c .times)) ⊛ ‵ (flent (α₀ ∷ []) (Body (inMemory Ts) l₅ 0 δ₀))))) (lends-ref 𝓤 H A W Ts (named 0) (α₀ ∷ []) (c .times) l₅ 0) $
+        await ! tt $ pick ! (λ δ₀. split ! $
         move ! (cell 8 6 ∷ []) $ laid u8 (uint-vals w8) 64 (c .lens) l₆ ! (uint-makes 𝓤 H A W w8) is-ls $
-        use1 W (later (some (λ (δ₁ : GName). ‵ (lens-at (α₁ ∷ []) l₆ δ₁ (c .lens)) ⊛ ‵ (flent (α₁ ∷ []) (Body (inMemory Ls) l₆ 0 δ₁))))) (lends-ref 𝓤 H A W Ls (named 1) (α₁ ∷ []) (c .lens) l₆ 0) $ await ! tt $ pick ! (λ δ₁. split ! $
+        use1 W (later (some (λ (δ₁ : GName). ‵ (lens-at (α₁ ∷ []) l₆ δ₁ (c .lens)) ⊛ ‵ (flent (α₁ ∷ []) (Body (inMemory Ls) l₆ 0 δ₁))))) (lends-ref 𝓤 H A W Ls (named 1) (α₁ ∷ []) (c .lens) l₆ 0) $
+        await ! tt $ pick ! (λ δ₁. split ! $
         move ! (cell 10 7 ∷ []) $ laid u8 (uint-vals w8) 1344 (c .bytes) l₇ ! (uint-makes 𝓤 H A W w8) is-es $
-        use1 W (later (some (λ (δ₂ : GName). ‵ (entries-at (α₂ ∷ []) l₇ δ₂ (c .bytes)) ⊛ ‵ (flent (α₂ ∷ []) (Body (inMemory Es) l₇ 0 δ₂))))) (lends-ref 𝓤 H A W Es (named 2) (α₂ ∷ []) (c .bytes) l₇ 0) $ await ! tt $ pick ! (λ δ₂. split ! $
+        use1 W (later (some (λ (δ₂ : GName). ‵ (entries-at (α₂ ∷ []) l₇ δ₂ (c .bytes)) ⊛ ‵ (flent (α₂ ∷ []) (Body (inMemory Es) l₇ 0 δ₂))))) (lends-ref 𝓤 H A W Es (named 2) (α₂ ∷ []) (c .bytes) l₇ 0) $
+        await ! tt $ pick ! (λ δ₂. split ! $
         -- [entries, its lender's part; lens, its; times, its; the tokens of the third, the second and the first lifetime; the second list; the first, twice; the locals, at 12; the lists' tokens, at 47]: `deliver`
         move ! (6 ∷ 47 ∷ []) $ join ! $ move ! (7 ∷ 0 ∷ []) $ join ! $ move ! (7 ∷ 0 ∷ []) $ join ! $
         -- [all tokens; entries, its lender's part; lens, its; times, its; the second list; the first, twice; the locals, at 10]
@@ -369,22 +386,30 @@ module _ {M : Type 1} (𝓤 : URA M) (H : Heap 𝓤) (A : Atoms 𝓤) (W : Given
         (and-then ! (load ! (from ! (fld ! refl (stop !))) (look-in ! (low 5 4) (sub ! 0 refl (whole !)))) (and-then ! (load ! (from ! (stop !)) (look ! (cell 5 11) refl)) (and-then ! (load ! (from ! (stop !)) (look ! (cell 5 12) refl)) (and-then ! (load ! (from ! (stop !)) (look ! (cell 5 13) refl))
         (and-then ! (load ! (from ! (fld ! refl (stop !))) (look-in ! (low 5 4) (sub ! 2 refl (whole !)))) (and-then ! (load ! (from ! (fld ! refl (stop !))) (look-in ! (low 5 4) (sub ! 1 refl (whole !)))) (and-then ! (load ! (from ! (stop !)) (look ! (low 5 2) refl)) (and-then ! (load ! (from ! (stop !)) (look ! (cell 5 15) refl)) (no-more !))))))))) (λ w₁.
         use1 W (later (some (λ (s : Summary). ((‵ (flft (α₀ ∷ []) fullShare) ⊛ ‵ (flft (α₁ ∷ []) fullShare) ⊛ ‵ (flft (α₂ ∷ []) fullShare) ⊛ ‵ (flft κ₀ q₀) ⊛ ‵ (flft κ₁ q₁) ⊛ ‵ ftrue) ⊛ ‵ (S.the-row .own s (w₁ ∷ [])))
-        ⊛ raw (ensured 𝓤 H A give.ended (give.clauses 𝓤 H A mem run) (α₀ ∷ [], (α₁ ∷ [], (α₂ ∷ [], (κ₀, (κ₁, tt))))) (passed 𝓤 H A mem run α₀ α₁ α₂ κ₀ κ₁ q₀ q₁ l₅ l₆ l₇ δ₀ δ₁ δ₂ (c .times) (c .lens) (c .bytes) p receptions replies) tt s)))) (id⊢ 𝓤 _) $ await ! tt $ pick ! (λ s.
+        ⊛ raw (ensured 𝓤 H A give.ended (give.clauses 𝓤 H A mem run) (α₀ ∷ [], (α₁ ∷ [], (α₂ ∷ [], (κ₀, (κ₁, tt))))) (passed 𝓤 H A mem run α₀ α₁ α₂ κ₀ κ₁ q₀ q₁ l₅ l₆ l₇ δ₀ δ₁ δ₂ (c .times) (c .lens) (c .bytes) p receptions replies) tt s)))) (id⊢ 𝓤 _) $
+        await ! tt $ pick ! (λ s.
         split ! $ move ! (1 ∷ []) $
         use1 W (some (λ (ws : Lasts). ‵ (lasts give.ended (α₀ ∷ [], (α₁ ∷ [], (α₂ ∷ [], (κ₀, (κ₁, tt))))) (passed 𝓤 H A mem run α₀ α₁ α₂ κ₀ κ₁ q₀ q₁ l₅ l₆ l₇ δ₀ δ₁ δ₂ (c .times) (c .lens) (c .bytes) p receptions replies) ws)
-        ⊛ raw (fact 𝓤 (Delivered (p .fit) (c .times) (c .lens) (c .bytes) (p .summary) (p .count) rs ys (ws .1 .0) (ws .1 .1 .0) (ws .1 .1 .1 .0) s (ws .1 .1 .1 .1 .1 .1 .1 .0))))) (id⊢ 𝓤 _) $ pick ! (λ ws.
-        split ! $ move ! (1 ∷ []) $ heard ! (Delivered (p .fit) (c .times) (c .lens) (c .bytes) (p .summary) (p .count) rs ys (ws .1 .0) (ws .1 .1 .0) (ws .1 .1 .1 .0) s (ws .1 .1 .1 .1 .1 .1 .1 .0)) (λ delivered.
-        fsplit ! $ drop ! $ fsplit ! $ move ! (1 ∷ []) $ fsplit ! $ move ! (1 ∷ []) $ fsplit ! $ move ! (1 ∷ []) $ fsplit ! $ drop ! $ fsplit ! $ drop ! $ fsplit ! $ drop ! $ fsplit ! $ fsplit ! $ move ! (1 ∷ []) $ feqL ! (λ long.
+        ⊛ raw (fact 𝓤 (Delivered (p .fit) (c .times) (c .lens) (c .bytes) (p .summary) (p .count) rs ys (ws .1 .0) (ws .1 .1 .0) (ws .1 .1 .1 .0) s (ws .1 .1 .1 .1 .1 .1 .1 .0))))) (id⊢ 𝓤 _) $
+        pick ! (λ ws.
+        split ! $ move ! (1 ∷ []) $
+        heard ! (Delivered (p .fit) (c .times) (c .lens) (c .bytes) (p .summary) (p .count) rs ys (ws .1 .0) (ws .1 .1 .0) (ws .1 .1 .1 .0) s (ws .1 .1 .1 .1 .1 .1 .1 .0)) (λ delivered.
+        fsplit ! $ drop ! $ fsplit ! $ move ! (1 ∷ []) $ fsplit ! $ move ! (1 ∷ []) $ fsplit ! $ move ! (1 ∷ []) $ fsplit ! $ drop ! $ fsplit ! $
+        drop ! $ fsplit ! $ drop ! $ fsplit ! $ fsplit ! $ move ! (1 ∷ []) $ feqL ! (λ long.
         -- [the last second list; true; entries, lens, times at last; the tokens and the result; what is kept of entries, lens, times; the first list; the locals, at 10]
         move ! (5 ∷ []) $ split ! $ move ! (1 ∷ []) $ peeks ! S.the-row (Is S.the-row) (shows 𝓤 H A S.the-row) s (w₁ ∷ []) (λ isw.
-        land ! (from ! (stop !)) (init ! (cell 11 8) refl (LL.lawful S.the-type S′.the-laws 𝓤 H A W .typed s _ isw .0)) $ drop ! $ rewrite ! (cell 10 8) (λ (u : Val). ‵ (fat fullShare S′.mir l₈ 0 u)) (ap only (LL.tells S.the-type S′.the-laws s _ isw)) refl $
+        land ! (from ! (stop !)) (init ! (cell 11 8) refl (LL.lawful S.the-type S′.the-laws 𝓤 H A W .typed s _ isw .0)) $ drop ! $
+        rewrite ! (cell 10 8) (λ (u : Val). ‵ (fat fullShare S′.mir l₈ 0 u)) (ap only (LL.tells S.the-type S′.the-laws s _ isw)) refl $
         -- the lifetimes are ended, and the arrays come back at what `deliver` left in them
         split ! $ lft-end ! tt $ move ! (0 ∷ 9 ∷ 6 ∷ []) $
-        use3 W (later (‵ (inMemory Ts .lies (ws .1 .0) l₅ 0))) (ref-back 𝓤 H A W Ts (α₀ ∷ []) δ₀ (ws .1 .0) l₅ 0) $ await ! tt $ lifted u64 (uint-vals w64) 64 (ws .1 .0) l₅ ! (uint-tells w64) (λ it.
+        use3 W (later (‵ (inMemory Ts .lies (ws .1 .0) l₅ 0))) (ref-back 𝓤 H A W Ts (α₀ ∷ []) δ₀ (ws .1 .0) l₅ 0) $ await ! tt $
+        lifted u64 (uint-vals w64) 64 (ws .1 .0) l₅ ! (uint-tells w64) (λ it.
         move ! (1 ∷ []) $ split ! $ lft-end ! tt $ move ! (0 ∷ 8 ∷ 6 ∷ []) $
-        use3 W (later (‵ (inMemory Ls .lies (ws .1 .1 .0) l₆ 0))) (ref-back 𝓤 H A W Ls (α₁ ∷ []) δ₁ (ws .1 .1 .0) l₆ 0) $ await ! tt $ lifted u8 (uint-vals w8) 64 (ws .1 .1 .0) l₆ ! (uint-tells w8) (λ il.
+        use3 W (later (‵ (inMemory Ls .lies (ws .1 .1 .0) l₆ 0))) (ref-back 𝓤 H A W Ls (α₁ ∷ []) δ₁ (ws .1 .1 .0) l₆ 0) $ await ! tt $
+        lifted u8 (uint-vals w8) 64 (ws .1 .1 .0) l₆ ! (uint-tells w8) (λ il.
         move ! (1 ∷ []) $ split ! $ lft-end ! tt $ move ! (0 ∷ 7 ∷ 6 ∷ []) $
-        use3 W (later (‵ (inMemory Es .lies (ws .1 .1 .1 .0) l₇ 0))) (ref-back 𝓤 H A W Es (α₂ ∷ []) δ₂ (ws .1 .1 .1 .0) l₇ 0) $ await ! tt $ lifted u8 (uint-vals w8) 1344 (ws .1 .1 .1 .0) l₇ ! (uint-tells w8) (λ ie.
+        use3 W (later (‵ (inMemory Es .lies (ws .1 .1 .1 .0) l₇ 0))) (ref-back 𝓤 H A W Es (α₂ ∷ []) δ₂ (ws .1 .1 .1 .0) l₇ 0) $ await ! tt $
+        lifted u8 (uint-vals w8) 1344 (ws .1 .1 .1 .0) l₇ ! (uint-tells w8) (λ ie.
         -- [entries; the lists' tokens; lens; times; the last second list; true; the first list; the locals, at 7]: `finish`
         assigns ! (of-opd ! (load ! (from ! (stop !)) (look ! 3 refl))) (from ! (stop !)) (init ! (cell 7 16) refl (typed-t (ws .1 .0) it)) $
         assigns ! (of-opd ! (load ! (from ! (stop !)) (look ! 2 refl))) (from ! (stop !)) (init ! (cell 7 17) refl (typed-l (ws .1 .1 .0) il)) $
@@ -394,20 +419,30 @@ module _ {M : Type 1} (𝓤 : URA M) (H : Heap 𝓤) (A : Atoms 𝓤) (W : Given
         calls-at ! (fmOf 𝓤 H (W .laws) 𝓣) (ToFinish 𝓤 H A mem run) known-finish (to-finish 𝓤 H A mem run (ws .1 .0) (ws .1 .1 .0) (ws .1 .1 .1 .0) s (p .answer))
         (and-then ! (load ! (from ! (stop !)) (look ! (cell 8 16) refl)) (and-then ! (load ! (from ! (stop !)) (look ! (cell 8 17) refl)) (and-then ! (load ! (from ! (stop !)) (look ! (cell 8 18) refl)) (and-then ! (load ! (from ! (stop !)) (look ! (cell 8 8) refl))
         (and-then ! (load ! (from ! (fld ! refl (stop !))) (look-in ! (low 8 4) (sub ! 3 refl (whole !)))) (no-more !)))))) (λ w₂.
-        use1 W (later (some (λ (r : Bursted). (‵ ftrue ⊛ ‵ (B.the-row .own r (w₂ ∷ []))) ⊛ raw (ensured 𝓤 H A fin.ended (fin.clauses 𝓤 H A mem run) tt (ws .1 .0, (ws .1 .1 .0, (ws .1 .1 .1 .0, (s, (p .answer, tt))))) tt r)))) (id⊢ 𝓤 _) $ await ! tt $ pick ! (λ r.
-        split ! $ move ! (1 ∷ []) $ use1 W (raw (fact 𝓤 (Finished (ws .1 .0) (ws .1 .1 .0) (ws .1 .1 .1 .0) s (p .answer) r))) (finished-of 𝓤 H A mem run (ws .1 .0) (ws .1 .1 .0) (ws .1 .1 .1 .0) s (p .answer) r) $ heard ! (Finished (ws .1 .0) (ws .1 .1 .0) (ws .1 .1 .1 .0) s (p .answer) r) (λ finished.
+        use1 W (later (some (λ (r : Bursted). (‵ ftrue ⊛ ‵ (B.the-row .own r (w₂ ∷ []))) ⊛ raw (ensured 𝓤 H A fin.ended (fin.clauses 𝓤 H A mem run) tt (ws .1 .0, (ws .1 .1 .0, (ws .1 .1 .1 .0, (s, (p .answer, tt))))) tt r)))) (id⊢ 𝓤 _) $
+        await ! tt $ pick ! (λ r.
+        split ! $ move ! (1 ∷ []) $
+        use1 W (raw (fact 𝓤 (Finished (ws .1 .0) (ws .1 .1 .0) (ws .1 .1 .1 .0) s (p .answer) r))) (finished-of 𝓤 H A mem run (ws .1 .0) (ws .1 .1 .0) (ws .1 .1 .1 .0) s (p .answer) r) $
+        heard ! (Finished (ws .1 .0) (ws .1 .1 .0) (ws .1 .1 .1 .0) s (p .answer) r) (λ finished.
         split ! $ drop ! $ peeks ! B.the-row (Is B.the-row) (shows 𝓤 H A B.the-row) r (w₂ ∷ []) (λ ib.
         -- [the result; entries; the lists' tokens; lens; times; the last second list; true; the first list; the locals, at 8]
         land ! (from ! (stop !)) (init ! (low 8 0) refl (LL.lawful B.the-type B′.the-laws 𝓤 H A W .typed r _ ib .0)) $
         returns ! (look ! (low 8 0) refl) $ forget ! 1 refl $ forget ! 3 refl $ forget ! 4 refl $
-        forget ! (cell 8 18) refl $ forget ! (cell 8 17) refl $ forget ! (cell 8 16) refl $ forget ! (cell 8 15) refl $ forget ! (cell 8 14) refl $ forget ! (cell 8 13) refl $ forget ! (cell 8 12) refl $ forget ! (cell 8 11) refl $ forget ! (cell 8 10) refl $ forget ! (cell 8 9) refl $ forget ! (cell 8 8) refl $
+        forget ! (cell 8 18) refl $ forget ! (cell 8 17) refl $ forget ! (cell 8 16) refl $ forget ! (cell 8 15) refl $ forget ! (cell 8 14) refl $
+        forget ! (cell 8 13) refl $ forget ! (cell 8 12) refl $ forget ! (cell 8 11) refl $ forget ! (cell 8 10) refl $ forget ! (cell 8 9) refl $
+        forget ! (cell 8 8) refl $
         forget ! (low 8 4) refl $ forget ! (low 8 3) refl $ forget ! (low 8 2) refl $ forget ! (low 8 1) refl $ forget ! (low 8 0) refl $
-        move ! (low 8 0 ∷ low 9 0 ∷ []) $ free1 ! $ move ! (low 8 1 ∷ low 9 1 ∷ []) $ free1 ! $ move ! (low 8 2 ∷ low 9 2 ∷ []) $ free1 ! $ move ! (low 8 3 ∷ low 9 3 ∷ []) $ free1 ! $ move ! (low 8 4 ∷ low 9 4 ∷ []) $ free1 ! $
+        move ! (low 8 0 ∷ low 9 0 ∷ []) $ free1 ! $ move ! (low 8 1 ∷ low 9 1 ∷ []) $ free1 ! $ move ! (low 8 2 ∷ low 9 2 ∷ []) $ free1 ! $
+        move ! (low 8 3 ∷ low 9 3 ∷ []) $ free1 ! $ move ! (low 8 4 ∷ low 9 4 ∷ []) $ free1 ! $
         move ! (4 ∷ 32 ∷ []) $ free1 ! $ move ! (3 ∷ 30 ∷ []) $ free1 ! $ move ! (1 ∷ 28 ∷ []) $ free1 ! $
         -- [the result; the lists' tokens; the last second list; true; the first list; the locals, at 5]
-        move ! (cell 5 8 ∷ cell 6 8 ∷ []) $ free1 ! $ move ! (cell 5 9 ∷ cell 6 9 ∷ []) $ free1 ! $ move ! (cell 5 10 ∷ cell 6 10 ∷ []) $ free1 ! $ move ! (cell 5 11 ∷ cell 6 11 ∷ []) $ free1 ! $ move ! (cell 5 12 ∷ cell 6 12 ∷ []) $ free1 ! $ move ! (cell 5 13 ∷ cell 6 13 ∷ []) $ free1 ! $
-        move ! (cell 5 14 ∷ cell 6 14 ∷ []) $ free1 ! $ move ! (cell 5 15 ∷ cell 6 15 ∷ []) $ free1 ! $ move ! (cell 5 16 ∷ cell 6 16 ∷ []) $ free1 ! $ move ! (cell 5 17 ∷ cell 6 17 ∷ []) $ free1 ! $ move ! (cell 5 18 ∷ cell 6 18 ∷ []) $ free1 ! $ free0 ! $
-        keep ! (0 ∷ 1 ∷ 2 ∷ 4 ∷ []) $ by ! (exits r w₂ (ws .1 .1 .1 .1 .1 .1 .1 .0) long (law.whole c rs ys r planned delivered finished))))))))))))))))))))))))))))))))))))))))))))
+        move ! (cell 5 8 ∷ cell 6 8 ∷ []) $ free1 ! $ move ! (cell 5 9 ∷ cell 6 9 ∷ []) $ free1 ! $ move ! (cell 5 10 ∷ cell 6 10 ∷ []) $ free1 ! $
+        move ! (cell 5 11 ∷ cell 6 11 ∷ []) $ free1 ! $ move ! (cell 5 12 ∷ cell 6 12 ∷ []) $ free1 ! $ move ! (cell 5 13 ∷ cell 6 13 ∷ []) $
+        free1 ! $
+        move ! (cell 5 14 ∷ cell 6 14 ∷ []) $ free1 ! $ move ! (cell 5 15 ∷ cell 6 15 ∷ []) $ free1 ! $ move ! (cell 5 16 ∷ cell 6 16 ∷ []) $
+        free1 ! $ move ! (cell 5 17 ∷ cell 6 17 ∷ []) $ free1 ! $ move ! (cell 5 18 ∷ cell 6 18 ∷ []) $ free1 ! $ free0 ! $
+        keep ! (0 ∷ 1 ∷ 2 ∷ 4 ∷ []) $
+        by ! (exits r w₂ (ws .1 .1 .1 .1 .1 .1 .1 .0) long (law.whole c rs ys r planned delivered finished))))))))))))))))))))))))))))))))))))))))))))
       where
         is-plan : (p : Plan) (w : Val) → Is P.the-row p (w ∷ []) → IsPlan p
         is-plan p w i = subst (Is P.the-row p) (LL.tells P.the-type P′.the-laws p _ i) i

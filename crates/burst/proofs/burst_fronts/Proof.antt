@@ -190,9 +190,12 @@ module _ {M : Type 1} (𝓤 : URA M) (H : Heap 𝓤) (A : Atoms 𝓤) (W : Given
   exits : (r : Within) (v : Val) → WithinOf c n m rs ys r → ent 𝓤 (sem 𝓤 H A (F.the-row .own r (v ∷ []))) (Post v)
   exits r v said =
       qed W (‵ (F.the-row .own r (v ∷ [])) ∷ []) ∵
-      suffices ! _ (ends-at 𝓤 H A f.ended stayed (f.clauses 𝓤 H A mem run) W ((tt, tt, tt, a, vals), tt) v r (tt, (tt, (tt, (tt, (tt, tt))))) (tt, (tt, (tt, (tt, (tt, tt)))))) $ says ! said $
-      nothing ! $ owned ! usize (Is usize) (uint-makes 𝓤 H A W w64) m _ gm $ fjoin ! $ owned ! Ys (Is Ys) (array-makes 𝓤 H A W Y.the-row (LL.makes Y.the-type Y′.the-plain 𝓤 H A) listed) ys _ iy $ fjoin ! $
-      owned ! usize (Is usize) (uint-makes 𝓤 H A W w64) n _ gn $ fjoin ! $ owned ! Rs (Is Rs) (array-makes 𝓤 H A W R.the-row (LL.makes R.the-type R′.the-plain 𝓤 H A) listed) rs _ ir $ fjoin ! $
+      suffices ! _ (ends-at 𝓤 H A f.ended stayed (f.clauses 𝓤 H A mem run) W ((tt, tt, tt, a, vals), tt) v r (tt, (tt, (tt, (tt, (tt, tt))))) (tt, (tt, (tt, (tt, (tt, tt)))))) $
+      says ! said $
+      nothing ! $ owned ! usize (Is usize) (uint-makes 𝓤 H A W w64) m _ gm $ fjoin ! $
+      owned ! Ys (Is Ys) (array-makes 𝓤 H A W Y.the-row (LL.makes Y.the-type Y′.the-plain 𝓤 H A) listed) ys _ iy $ fjoin ! $
+      owned ! usize (Is usize) (uint-makes 𝓤 H A W w64) n _ gn $ fjoin ! $
+      owned ! Rs (Is Rs) (array-makes 𝓤 H A W R.the-row (LL.makes R.the-type R′.the-plain 𝓤 H A) listed) rs _ ir $ fjoin ! $
       owned ! C.the-row (Is C.the-row) (LL.makes C.the-type C′.the-plain 𝓤 H A) c _ ic $ fjoin ! $ nothing ! $ done !
 
   -- what `burst` says
@@ -219,15 +222,18 @@ module _ {M : Type 1} (𝓤 : URA M) (H : Heap 𝓤) (A : Atoms 𝓤) (W : Given
         (sem 𝓤 H A (MutSlice (named 1) κ′ Y.the-row .own lent (sliceVal (l₇, 0) (length front-y) ∷ []))))) (ToBurst 𝓤 H A mem run .pre to-burst)
     goes-burst =
         qed W ((‵ (flft κ fullShare) ⊛ ‵ (flft κ′ fullShare)) ∷ ‵ (ShrSlice (named 0) κ R.the-row .own shared (sliceVal (l₆, 0) (length front-r) ∷ [])) ∷ ‵ (MutSlice (named 1) κ′ Y.the-row .own lent (sliceVal (l₇, 0) (length front-y) ∷ [])) ∷ []) ∵
-        split ! $ nothing ! $ move ! (2 ∷ 0 ∷ []) $ join ! $ move ! (1 ∷ 0 ∷ []) $ join ! $ nothing ! $ move ! (3 ∷ 0 ∷ []) $ fjoin ! $ move ! (2 ∷ 0 ∷ []) $ fjoin ! $
+        split ! $ nothing ! $ move ! (2 ∷ 0 ∷ []) $ join ! $ move ! (1 ∷ 0 ∷ []) $ join ! $ nothing ! $ move ! (3 ∷ 0 ∷ []) $ fjoin ! $
+        move ! (2 ∷ 0 ∷ []) $ fjoin ! $
         owned ! C.the-row (Is C.the-row) (LL.makes C.the-type C′.the-plain 𝓤 H A) c _ ic $ fjoin ! $ move ! (1 ∷ 0 ∷ []) $ join ! $ frame ! $ done !
 
   module _ (𝓣 : Tables 𝓤 H) (known-burst : Triple 𝓤 (𝓣 .C #burst) (ToBurst 𝓤 H A mem run)) (known-give : Triple 𝓤 (𝓣 .C #both) (ToGive 𝓤 H A mem run)) where
     walk : ent 𝓤 (onEntry 𝓤 H A f.signature tt tt a vals) (WpFn 𝓤 H (𝓣 .C) (𝓣 .Λ) code.function (ofCollector c ∷ only (array-vals ofR rs) ∷ vint w64 n ∷ only (array-vals ofY ys) ∷ vint w64 m ∷ []) Post)
     walk =
         qed W (‵ ftrue ∷ ‵ (owns (C.the-row ∷ Rs ∷ usize ∷ Ys ∷ usize ∷ []) a vals) ∷ []) ∵ enter ! (𝓣 .C) (𝓣 .Λ) code.function (ofCollector c ∷ only (array-vals ofR rs) ∷ vint w64 n ∷ only (array-vals ofY ys) ∷ vint w64 m ∷ []) _ $
-        alloc1 ! (λ l₀. alloc1 ! (λ l₁. alloc1 ! (λ l₂. alloc1 ! (λ l₃. alloc1 ! (λ l₄. alloc1 ! (λ l₅. alloc1 ! (λ l₆. alloc1 ! (λ l₇. alloc1 ! (λ l₈. alloc1 ! (λ l₉. alloc1 ! (λ l₁₀. alloc1 ! (λ l₁₁. alloc1 ! (λ l₁₂. alloc1 ! (λ l₁₃. alloc0 ! $ params1 ! $
-        pass1 ! (init ! (cell 0 1) refl (LL.lawful C.the-type C′.the-laws 𝓤 H A W .typed c _ ic .0)) $ pass1 ! (init ! (cell 0 2) refl typed-r) $ pass1 ! (init ! (cell 0 3) refl (tt, record { fits = gn .1 })) $
+        alloc1 ! (λ l₀. alloc1 ! (λ l₁. alloc1 ! (λ l₂. alloc1 ! (λ l₃. alloc1 ! (λ l₄. alloc1 ! (λ l₅. alloc1 ! (λ l₆. alloc1 ! (λ l₇. alloc1 ! (λ l₈. alloc1 ! (λ l₉. alloc1 ! (λ l₁₀. alloc1 ! (λ l₁₁. alloc1 ! (λ l₁₂. alloc1 ! (λ l₁₃. alloc0 ! $
+        params1 ! $
+        pass1 ! (init ! (cell 0 1) refl (LL.lawful C.the-type C′.the-laws 𝓤 H A W .typed c _ ic .0)) $ pass1 ! (init ! (cell 0 2) refl typed-r) $
+        pass1 ! (init ! (cell 0 3) refl (tt, record { fits = gn .1 })) $
         pass1 ! (init ! (cell 0 4) refl (typed-y ys iy)) $ pass1 ! (init ! (cell 0 5) refl (tt, record { fits = gm .1 })) $ pass0 ! $
         -- the arrays are copied, and a slice reference to the front of each is made
         assigns ! (of-opd ! (load ! (from ! (stop !)) (look ! (cell 0 2) refl))) (from ! (stop !)) (init ! (cell 0 6) refl typed-r) $
@@ -239,46 +245,69 @@ module _ {M : Type 1} (𝓤 : URA M) (H : Heap 𝓤) (A : Atoms 𝓤) (W : Given
         rewrite ! (cell 0 10) (λ (k : ℕ). ‵ (fat fullShare (sliceTy (tyRef erased imm (pointee (R.the-row .written)))) l₁₀ 0 (sliceVal (l₆, 0) k))) (sym many-r) refl $
         rewrite ! (cell 0 12) (λ (k : ℕ). ‵ (fat fullShare (sliceTy (tyRef erased mut (pointee (Y.the-row .written)))) l₁₂ 0 (sliceVal (l₇, 0) k))) (sym many-y) refl $
         -- each front is lent, for a lifetime of its own
-        lft-new ! tt (λ ν. lft-new ! tt (λ ν′. move ! (cell 2 7 ∷ []) $ elements Y.the-row ofY listed ys l₇ ! tt (LL.makes Y.the-type Y′.the-plain 𝓤 H A) iy $ parted Y.the-row ofY listed ys l₇ ! m $
+        lft-new ! tt (λ ν. lft-new ! tt (λ ν′. move ! (cell 2 7 ∷ []) $
+        elements Y.the-row ofY listed ys l₇ ! tt (LL.makes Y.the-type Y′.the-plain 𝓤 H A) iy $ parted Y.the-row ofY listed ys l₇ ! m $
         use1 W (later (some (λ (γ′ : GName). ‵ (MutSlice (named 1) (ν′ ∷ []) Y.the-row .own (record { ptr = (l₇, 0); name = γ′; now = front-y }) (sliceVal (l₇, 0) (length front-y) ∷ [])) ⊛ ‵ (flent (ν′ ∷ []) (Held Y.the-row (length front-y) l₇ 0 γ′)))))
         (lends-slice 𝓤 H A W Y.the-row (named 1) (ν′ ∷ []) front-y l₇ 0 room-y) $ await ! tt $ pick ! (λ γ′. split ! $
         -- [the second slice; its lender's part; what is left of the second array; the tokens; the locals, at 5]
-        move ! (cell 4 6 ∷ []) $ elements R.the-row ofR listed rs l₆ ! tt (LL.makes R.the-type R′.the-plain 𝓤 H A) ir $ parted R.the-row ofR listed rs l₆ ! n $
-        use1 W (‵ (row R.the-row fullShare front-r l₆ 0)) (whole-out 𝓤 H A W R.the-row front-r l₆ 0) $ feqI ! ℕ (length front-r) (length front-r) refl $ fjoin ! $
+        move ! (cell 4 6 ∷ []) $ elements R.the-row ofR listed rs l₆ ! tt (LL.makes R.the-type R′.the-plain 𝓤 H A) ir $
+        parted R.the-row ofR listed rs l₆ ! n $
+        use1 W (‵ (row R.the-row fullShare front-r l₆ 0)) (whole-out 𝓤 H A W R.the-row front-r l₆ 0) $
+        feqI ! ℕ (length front-r) (length front-r) refl $ fjoin ! $
         use1 W (later (some (λ (γ : GName). ‵ (ShrSlice (named 0) (ν ∷ []) R.the-row .own (record { ptr = (l₆, 0); name = γ; now = front-r }) (sliceVal (l₆, 0) (length front-r) ∷ [])) ⊛ ‵ (flent (ν ∷ []) (arr-parts (shares R.the-row) (length front-r) .part fullShare front-r l₆ 0)))))
         (lends-shr-slice 𝓤 H A W R.the-row (named 0) (ν ∷ []) fullShare front-r l₆ 0 room-r) $ await ! tt $ pick ! (λ γ. split ! $
         -- [the first slice; its lender's part; what is left of the first array; the second slice; its lender's part; what is left of the second array; the second token; the first; the locals, at 8]: `burst`
-        move ! (7 ∷ 6 ∷ []) $ join ! $ move ! (0 ∷ 1 ∷ 4 ∷ []) $ use3 W (raw (ToBurst 𝓤 H A mem run .pre (to-burst ν ν′ l₆ l₇ γ γ′))) (goes-burst ν ν′ l₆ l₇ γ γ′) $
+        move ! (7 ∷ 6 ∷ []) $ join ! $ move ! (0 ∷ 1 ∷ 4 ∷ []) $
+        use3 W (raw (ToBurst 𝓤 H A mem run .pre (to-burst ν ν′ l₆ l₇ γ γ′))) (goes-burst ν ν′ l₆ l₇ γ γ′) $
         calls-at ! (fmOf 𝓤 H (W .laws) 𝓣) (ToBurst 𝓤 H A mem run) known-burst (to-burst ν ν′ l₆ l₇ γ γ′)
         (and-then ! (load ! (from ! (stop !)) (look ! (low 5 1) refl)) (and-then ! (load ! (from ! (stop !)) (look ! (cell 5 10) refl)) (and-then ! (load ! (from ! (stop !)) (look ! (cell 5 12) refl)) (no-more !)))) (λ w.
-        use1 W (later (some (λ (r : Bursted). ((‵ (flft (ν ∷ []) fullShare) ⊛ ‵ (flft (ν′ ∷ []) fullShare) ⊛ ‵ ftrue) ⊛ ‵ (B.the-row .own r (w ∷ []))) ⊛ raw (ensured 𝓤 H A burst.ended (burst.clauses 𝓤 H A mem run) (ν ∷ [], (ν′ ∷ [], tt)) (to-burst ν ν′ l₆ l₇ γ γ′ .0 .3) tt r)))) (id⊢ 𝓤 _) $ await ! tt $ pick ! (λ r.
-        split ! $ move ! (1 ∷ []) $ use1 W (some (λ (ws : Unit {0} × (Unit {0} × (List Reply × Unit {0}))). ‵ (lasts burst.ended (ν ∷ [], (ν′ ∷ [], tt)) (to-burst ν ν′ l₆ l₇ γ γ′ .0 .3) ws) ⊛ raw (fact 𝓤 (Says r (ws .1 .1 .0))))) (id⊢ 𝓤 _) $ pick ! (λ ws.
-        split ! $ move ! (1 ∷ []) $ heard ! (Says r (ws .1 .1 .0)) (λ said. fsplit ! $ drop ! $ fsplit ! $ drop ! $ fsplit ! $ fsplit ! $ move ! (1 ∷ []) $ feqL ! (λ l.
+        use1 W (later (some (λ (r : Bursted). ((‵ (flft (ν ∷ []) fullShare) ⊛ ‵ (flft (ν′ ∷ []) fullShare) ⊛ ‵ ftrue) ⊛ ‵ (B.the-row .own r (w ∷ []))) ⊛ raw (ensured 𝓤 H A burst.ended (burst.clauses 𝓤 H A mem run) (ν ∷ [], (ν′ ∷ [], tt)) (to-burst ν ν′ l₆ l₇ γ γ′ .0 .3) tt r)))) (id⊢ 𝓤 _) $
+        await ! tt $ pick ! (λ r.
+        split ! $ move ! (1 ∷ []) $
+        use1 W (some (λ (ws : Unit {0} × (Unit {0} × (List Reply × Unit {0}))). ‵ (lasts burst.ended (ν ∷ [], (ν′ ∷ [], tt)) (to-burst ν ν′ l₆ l₇ γ γ′ .0 .3) ws) ⊛ raw (fact 𝓤 (Says r (ws .1 .1 .0))))) (id⊢ 𝓤 _) $
+        pick ! (λ ws.
+        split ! $ move ! (1 ∷ []) $ heard ! (Says r (ws .1 .1 .0)) (λ said. fsplit ! $ drop ! $ fsplit ! $ drop ! $ fsplit ! $ fsplit ! $
+        move ! (1 ∷ []) $ feqL ! (λ l.
         -- [the last list; true; the tokens and the result; the first lender's part; what is left; the second lender's part; what is left; the locals, at 7]
         move ! (2 ∷ []) $ split ! $ move ! (1 ∷ []) $ peeks ! B.the-row (Is B.the-row) (shows 𝓤 H A B.the-row) r (w ∷ []) (λ ib.
-        land ! (from ! (stop !)) (init ! (cell 8 8) refl (LL.lawful B.the-type B′.the-laws 𝓤 H A W .typed r _ ib .0)) $ drop ! $ rewrite ! (cell 7 8) (λ (u : Val). ‵ (fat fullShare B′.mir l₈ 0 u)) (ap only (LL.tells B.the-type B′.the-laws r _ ib)) refl $
+        land ! (from ! (stop !)) (init ! (cell 8 8) refl (LL.lawful B.the-type B′.the-laws 𝓤 H A W .typed r _ ib .0)) $ drop ! $
+        rewrite ! (cell 7 8) (λ (u : Val). ‵ (fat fullShare B′.mir l₈ 0 u)) (ap only (LL.tells B.the-type B′.the-laws r _ ib)) refl $
         -- the lifetimes are ended, and the arrays are whole again
-        split ! $ lft-end ! tt $ move ! (0 ∷ 4 ∷ []) $ lent-back ! tt $ fsplit ! $ drop ! $ use1 W (‵ (cells (inMemory R.the-row) front-r l₆ 0)) (whole-in 𝓤 H A W R.the-row front-r l₆ 0) $
-        move ! (0 ∷ 4 ∷ []) $ rejoined R.the-row listed l₆ front-r left-r ! whole-r $ rewrite ! 0 (λ (xs : List Reception). ‵ (arr-parts (shares R.the-row) listed .part fullShare xs l₆ 0)) (take-append-drop n rs) refl $ together R.the-row ofR listed rs l₆ ! (LL.tells R.the-type R′.the-laws) (λ _.
+        split ! $ lft-end ! tt $ move ! (0 ∷ 4 ∷ []) $ lent-back ! tt $ fsplit ! $ drop ! $
+        use1 W (‵ (cells (inMemory R.the-row) front-r l₆ 0)) (whole-in 𝓤 H A W R.the-row front-r l₆ 0) $
+        move ! (0 ∷ 4 ∷ []) $ rejoined R.the-row listed l₆ front-r left-r ! whole-r $
+        rewrite ! 0 (λ (xs : List Reception). ‵ (arr-parts (shares R.the-row) listed .part fullShare xs l₆ 0)) (take-append-drop n rs) refl $
+        together R.the-row ofR listed rs l₆ ! (LL.tells R.the-type R′.the-laws) (λ _.
         -- [receptions; the second token; the last list; true; the second lender's part; what is left; the locals, at 6]
         move ! (1 ∷ []) $ split ! $ lft-end ! tt $ move ! (0 ∷ 5 ∷ 3 ∷ []) $
-        use3 W (later (‵ (Arr (inMemory Y.the-row) (length front-y) .lies (ws .1 .1 .0) l₇ 0))) (slice-back 𝓤 H A W Y.the-row (ν′ ∷ []) γ′ (ws .1 .1 .0) (length front-y) l₇ 0) $ await ! tt $
-        fsplit ! $ drop ! $ move ! (0 ∷ 4 ∷ []) $ rewrite ! 1 (λ (k : ℕ). ‵ (cells (inMemory Y.the-row) left-y l₇ (at 0 (inMemory Y.the-row .size) k))) (sym l) refl $
-        rejoined Y.the-row listed l₇ (ws .1 .1 .0) left-y ! (whole-y (ws .1 .1 .0) l) $ together Y.the-row ofY listed (ws .1 .1 .0 ++ left-y) l₇ ! (LL.tells Y.the-type Y′.the-laws) (λ iz.
+        use3 W (later (‵ (Arr (inMemory Y.the-row) (length front-y) .lies (ws .1 .1 .0) l₇ 0))) (slice-back 𝓤 H A W Y.the-row (ν′ ∷ []) γ′ (ws .1 .1 .0) (length front-y) l₇ 0) $
+        await ! tt $
+        fsplit ! $ drop ! $ move ! (0 ∷ 4 ∷ []) $
+        rewrite ! 1 (λ (k : ℕ). ‵ (cells (inMemory Y.the-row) left-y l₇ (at 0 (inMemory Y.the-row .size) k))) (sym l) refl $
+        rejoined Y.the-row listed l₇ (ws .1 .1 .0) left-y ! (whole-y (ws .1 .1 .0) l) $
+        together Y.the-row ofY listed (ws .1 .1 .0 ++ left-y) l₇ ! (LL.tells Y.the-type Y′.the-laws) (λ iz.
         -- [replies; true; receptions; true; the locals, at 4]: `both`
         assigns ! (of-opd ! (load ! (from ! (stop !)) (look ! 0 refl))) (from ! (stop !)) (init ! (cell 4 13) refl (typed-y (ws .1 .1 .0 ++ left-y) iz)) $
         use0 W (raw (ToGive 𝓤 H A mem run .pre (to-give 𝓤 H A mem run r (ws .1 .1 .0 ++ left-y)))) (goes-give 𝓤 H A mem run W r (ws .1 .1 .0 ++ left-y) (subst (Is B.the-row r) (LL.tells B.the-type B′.the-laws r _ ib) ib) iz) $
         calls-at ! (fmOf 𝓤 H (W .laws) 𝓣) (ToGive 𝓤 H A mem run) known-give (to-give 𝓤 H A mem run r (ws .1 .1 .0 ++ left-y)) (and-then ! (load ! (from ! (stop !)) (look ! (cell 5 8) refl)) (and-then ! (load ! (from ! (stop !)) (look ! (cell 5 13) refl)) (no-more !))) (λ w′.
-        use1 W (later (some (λ (d : Within). (‵ ftrue ⊛ ‵ (F.the-row .own d (w′ ∷ []))) ⊛ raw (ensured 𝓤 H A give.ended (give.clauses 𝓤 H A mem run) tt (r, (ws .1 .1 .0 ++ left-y, tt)) tt d)))) (id⊢ 𝓤 _) $ await ! tt $ pick ! (λ d.
-        split ! $ move ! (1 ∷ []) $ use1 W (raw (fact 𝓤 ((d .bursted ≡ r) × (d .replies ≡ ws .1 .1 .0 ++ left-y)))) (given-of 𝓤 H A mem run r (ws .1 .1 .0 ++ left-y) d) $ heard ! ((d .bursted ≡ r) × (d .replies ≡ ws .1 .1 .0 ++ left-y)) (λ same.
+        use1 W (later (some (λ (d : Within). (‵ ftrue ⊛ ‵ (F.the-row .own d (w′ ∷ []))) ⊛ raw (ensured 𝓤 H A give.ended (give.clauses 𝓤 H A mem run) tt (r, (ws .1 .1 .0 ++ left-y, tt)) tt d)))) (id⊢ 𝓤 _) $
+        await ! tt $ pick ! (λ d.
+        split ! $ move ! (1 ∷ []) $
+        use1 W (raw (fact 𝓤 ((d .bursted ≡ r) × (d .replies ≡ ws .1 .1 .0 ++ left-y)))) (given-of 𝓤 H A mem run r (ws .1 .1 .0 ++ left-y) d) $
+        heard ! ((d .bursted ≡ r) × (d .replies ≡ ws .1 .1 .0 ++ left-y)) (λ same.
         split ! $ drop ! $ peeks ! F.the-row (Is F.the-row) (shows 𝓤 H A F.the-row) d (w′ ∷ []) (λ id.
         -- [the result; replies; true; receptions; true; the locals, at 5]
         land ! (from ! (stop !)) (init ! (low 5 0) refl (LL.lawful F.the-type F′.the-laws 𝓤 H A W .typed d _ id .0)) $
-        returns ! (look ! (low 5 0) refl) $ forget ! 1 refl $ forget ! 3 refl $ forget ! (cell 5 13) refl $ forget ! (cell 5 12) refl $ forget ! (cell 5 11) refl $ forget ! (cell 5 10) refl $ forget ! (cell 5 9) refl $ forget ! (cell 5 8) refl $
-        forget ! (low 5 5) refl $ forget ! (low 5 4) refl $ forget ! (low 5 3) refl $ forget ! (low 5 2) refl $ forget ! (low 5 1) refl $ forget ! (low 5 0) refl $
-        move ! (low 5 0 ∷ low 6 0 ∷ []) $ free1 ! $ move ! (low 5 1 ∷ low 6 1 ∷ []) $ free1 ! $ move ! (low 5 2 ∷ low 6 2 ∷ []) $ free1 ! $ move ! (low 5 3 ∷ low 6 3 ∷ []) $ free1 ! $ move ! (low 5 4 ∷ low 6 4 ∷ []) $ free1 ! $ move ! (low 5 5 ∷ low 6 5 ∷ []) $ free1 ! $
+        returns ! (look ! (low 5 0) refl) $ forget ! 1 refl $ forget ! 3 refl $ forget ! (cell 5 13) refl $ forget ! (cell 5 12) refl $
+        forget ! (cell 5 11) refl $ forget ! (cell 5 10) refl $ forget ! (cell 5 9) refl $ forget ! (cell 5 8) refl $
+        forget ! (low 5 5) refl $ forget ! (low 5 4) refl $ forget ! (low 5 3) refl $ forget ! (low 5 2) refl $ forget ! (low 5 1) refl $
+        forget ! (low 5 0) refl $
+        move ! (low 5 0 ∷ low 6 0 ∷ []) $ free1 ! $ move ! (low 5 1 ∷ low 6 1 ∷ []) $ free1 ! $ move ! (low 5 2 ∷ low 6 2 ∷ []) $ free1 ! $
+        move ! (low 5 3 ∷ low 6 3 ∷ []) $ free1 ! $ move ! (low 5 4 ∷ low 6 4 ∷ []) $ free1 ! $ move ! (low 5 5 ∷ low 6 5 ∷ []) $ free1 ! $
         move ! (3 ∷ 18 ∷ []) $ free1 ! $ move ! (1 ∷ 16 ∷ []) $ free1 ! $
-        move ! (cell 3 8 ∷ cell 4 8 ∷ []) $ free1 ! $ move ! (cell 3 9 ∷ cell 4 9 ∷ []) $ free1 ! $ move ! (cell 3 10 ∷ cell 4 10 ∷ []) $ free1 ! $ move ! (cell 3 11 ∷ cell 4 11 ∷ []) $ free1 ! $ move ! (cell 3 12 ∷ cell 4 12 ∷ []) $ free1 ! $ move ! (cell 3 13 ∷ cell 4 13 ∷ []) $ free1 ! $ free0 ! $
+        move ! (cell 3 8 ∷ cell 4 8 ∷ []) $ free1 ! $ move ! (cell 3 9 ∷ cell 4 9 ∷ []) $ free1 ! $ move ! (cell 3 10 ∷ cell 4 10 ∷ []) $ free1 ! $
+        move ! (cell 3 11 ∷ cell 4 11 ∷ []) $ free1 ! $ move ! (cell 3 12 ∷ cell 4 12 ∷ []) $ free1 ! $ move ! (cell 3 13 ∷ cell 4 13 ∷ []) $
+        free1 ! $ free0 ! $
         keep ! (0 ∷ []) $ by ! (exits d w′ (law.within c n m rs ys (ws .1 .1 .0) r d (l ∙ many-y) said same))))))))))))))))))))))))))))))))
       where
         typed-r : Holds (hasTy (tyArray R′.mir listed) (only (array-vals ofR rs))) × WT (only (array-vals ofR rs))
