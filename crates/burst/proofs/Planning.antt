@@ -1,5 +1,5 @@
 -- What is done with a burst, by each test. Assumes nothing.
-use mathlib.Core.Path.{_≡_, refl, sym, _∙_, ap}
+use mathlib.Core.Path.{_≡_, refl, sym, _∙_}
 use mathlib.Core.Bool.{Bool, true, false}
 use Prim.Native.Nat.{ℕ, _≤_, _<_}
 use native.Mathlib.Omega.{arith}
@@ -8,7 +8,6 @@ use Rattle.refusal.specs.declared.Refusal.the-variants.{ShortOutput, Argument, 
 use Rattle.model.specs.Acceptable.{acceptable}
 use Rattle.model.specs.Exact.{Fits}
 use Rattle.collector.specs.declared.Collector.{Collector}
-use Rattle.collector.specs.declared.merging.Summary.{Summary}
 use Rattle.collector.specs.Collector.{viewAt, viewOf}
 use Rattle.collector.specs.Admission.{Tested}
 use Rattle.burst.specs.declared.Handed.{Handed}

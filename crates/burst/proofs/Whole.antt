@@ -7,23 +7,21 @@ use Prim.Native.Nat.{ℕ, zero, suc}
 use lib.Dec.{eqb}
 use lib.ListN.{length, take, drop, length-map}
 use lib.Seq.{take-length, take-append-seam, drop-append-seam}
-use Rattle.lists.proofs.Tests.{by-test}
 use Rattle.model.specs.View as view
 use Rattle.model.specs.View.{View}
 use Rattle.model.specs.Step.{Outcome, step}
 use Rattle.collector.specs.declared.Collector.{Collector}
 use Rattle.collector.specs.declared.merging.Summary.{Summary}
 use Rattle.collector.specs.Collector.{viewOf}
-use Rattle.collector.specs.Admission.{viewIn, admission, Tested}
+use Rattle.collector.specs.Admission.{viewIn, Tested}
 use Rattle.collector.proofs.Stepping.{admission-fit, tested-next}
 use Rattle.burst.specs.declared.Reception.{Reception}
 use Rattle.burst.specs.declared.Reply.{Reply}
 use Rattle.burst.specs.declared.Bursted.{Bursted}
-use Rattle.burst.specs.declared.Handed.{Handed}
 use Rattle.burst.specs.declared.Plan.{Plan}
 use Rattle.burst.specs.declared.Within.{Within}
 use Rattle.model.specs.History.{Timely}
-use Rattle.model.specs.Burst.{Replied, replyOf, afterAll, repliesTo, burstNumber, taken, BurstResult, burstOf}
+use Rattle.model.specs.Burst.{Replied, replyOf, afterAll, repliesTo, burstNumber, taken, burstOf}
 use Rattle.burst.specs.Records.{receptionOf, repliedOf, handedNumber, burstedOf, after, replies, Delivered, Planned, Finished, WithinOf}
 
 -- ---- records one by one

@@ -48,7 +48,8 @@ fn take_record<'a>(
     summary: Summary,
     reception: Reception,
 ) -> Stepped
-    ensures { λ r. ⌜ steppedOf (now (times .exit)) (now (lens .exit)) (now (entries .exit)) r ≡ admission fit (viewIn (now (times .entry)) (now (lens .entry)) (now (entries .entry)) summary) (receptionOf reception) ⌝ }
+    ensures { λ r. ⌜ steppedOf (now (times .exit)) (now (lens .exit)) (now (entries .exit)) r
+        ≡ admission fit (viewIn (now (times .entry)) (now (lens .entry)) (now (entries .entry)) summary) (receptionOf reception) ⌝ }
 {
     let bytes = reception.bytes;
     let n = size(reception.len);
@@ -103,7 +104,8 @@ fn deliver(
     replies: &mut [Reply],
 ) -> Summary
     requires { ⌜ (count ≤ length (now receptions)) × (count ≤ length (now replies)) ⌝ }
-    ensures { λ r. ⌜ Delivered fit (now (times .entry)) (now (lens .entry)) (now (entries .entry)) summary count (now (receptions .entry)) (now (replies .entry)) (now (times .exit)) (now (lens .exit)) (now (entries .exit)) r (now (replies .exit)) ⌝ }
+    ensures { λ r. ⌜ Delivered fit (now (times .entry)) (now (lens .entry)) (now (entries .entry)) summary count
+        (now (receptions .entry)) (now (replies .entry)) (now (times .exit)) (now (lens .exit)) (now (entries .exit)) r (now (replies .exit)) ⌝ }
 {
     let mut s = summary;
     let mut i: usize = 0;
@@ -139,7 +141,8 @@ pub struct Plan {
 // Takes the receptions one by one, the reply to each at its place in the second list; places past them stay. A burst that is
 // refused changes nothing: 11 where the state is not acceptable, 6 where a reply has no place, 10 over 256 receptions.
 pub fn burst(c: Collector, receptions: &[Reception], replies: &mut [Reply]) -> Bursted
-    ensures { λ r. ⌜ burstedOf r (now (replies .exit)) ≡ burstOf (viewOf c) (map receptionOf (now (receptions .entry))) (map repliedOf (now (replies .entry))) ⌝ }
+    ensures { λ r. ⌜ burstedOf r (now (replies .exit))
+        ≡ burstOf (viewOf c) (map receptionOf (now (receptions .entry))) (map repliedOf (now (replies .entry))) ⌝ }
 {
     let plan = prepare(c, receptions.len(), replies.len());
     let mut times = c.times;

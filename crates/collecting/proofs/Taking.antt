@@ -16,7 +16,7 @@ use Rattle.line_input.specs.Ascii.{newline, space}
 use Rattle.line_input.specs.Reading.{readingOf, reception, bad}
 use Rattle.line_input.proofs.Pairs.{leading-hex}
 use Rattle.line_input.proofs.Long.{long-time}
-use Rattle.line_input.proofs.Whole.{Said, said}
+use Rattle.line_input.proofs.Whole.{Said}
 use Rattle.line_output.proofs.ReadBack.{time-back}
 use Rattle.line_output.specs.Text.{decimalText, rowBehind, badText}
 use Rattle.line_output.specs.Printed.{longestTime, Printed}

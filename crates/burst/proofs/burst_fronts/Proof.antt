@@ -55,7 +55,7 @@ use Rattle.burst.specs.declared.Reception.{Reception}
 use Rattle.burst.specs.declared.Reply.{Reply}
 use Rattle.burst.specs.declared.Bursted.{Bursted}
 use Rattle.burst.specs.declared.Within.{Within}
-use Rattle.model.specs.Burst.{BurstResult, burstOf}
+use Rattle.model.specs.Burst.{burstOf}
 use Rattle.burst.specs.Records.{receptionOf, repliedOf, burstedOf, listed, WithinOf}
 use Rattle.collector.proofs.Collector as C
 use Rattle.collector.proofs.Collector.Laws as C′

@@ -2,7 +2,6 @@
 -- Assumes nothing.
 use Prim.Native.Nat.{_≤_, _-_}
 use borrow.Author.Needs.{needs}
-use native.Mathlib.Omega.{arith}
 use Rattle.burst_bench.proofs.bursts_from.Statement.{statement}
 use Rattle.burst_bench.proofs.bursts_from.Tie as tie
 
