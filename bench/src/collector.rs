@@ -11,7 +11,7 @@ extern "C" {
     fn bench_test(setting: u8, cells: *const u8, len: usize, rounds: u64) -> u64;
 }
 
-const CELL: usize = 32;
+pub const CELL: usize = 32;
 const RECEPTIONS: usize = 4_000;
 
 fn proved(cells: &[u8]) -> u64 {
@@ -28,17 +28,18 @@ fn tests(cells: &[u8], rounds: u64) -> u64 {
 }
 
 /// The same job by hand: the state in place, entries in opening order.
-struct Collector {
+#[derive(Clone)]
+pub struct Collector {
     times: [u64; 64],
     lens: [u8; 64],
     bytes: [[u8; 21]; 64],
     count: usize,
     latest: u64,
     setting: u8,
-    totals: [u64; 6],
+    pub totals: [u64; 6],
 }
 
-enum Answer {
+pub enum Answer {
     Kept(usize),
     Copy,
     Loose,
@@ -51,7 +52,7 @@ fn is_valid(s: &[u8]) -> bool {
 }
 
 impl Collector {
-    fn new(setting: u8) -> Collector {
+    pub fn new(setting: u8) -> Collector {
         Collector { times: [0; 64], lens: [0; 64], bytes: [[0; 21]; 64], count: 0, latest: 0, setting, totals: [0; 6] }
     }
 
@@ -72,7 +73,7 @@ impl Collector {
         }
     }
 
-    fn take(&mut self, s: &[u8], time: u64, sent: &mut [u8; 21]) -> Answer {
+    pub fn take(&mut self, s: &[u8], time: u64, sent: &mut [u8; 21]) -> Answer {
         self.totals[0] += 1;
         if !is_valid(s) {
             self.totals[4] += 1;
@@ -84,9 +85,9 @@ impl Collector {
         }
         self.latest = time;
         self.close(time);
-        // Of the open telegrams that are the same the latest decides: an original more than 40 ms after it is none of its copies.
-        let latest = (0..self.count).rev().find(|&i| self.holds(i, s));
-        if latest.is_some_and(|i| s[s.len() - 2] & 0x0F != 0 || time - self.times[i] <= 40) {
+        // An original more than 40 ms after an opening is none of its copies.
+        let original = s[s.len() - 2] & 0x0F == 0;
+        if (0..self.count).any(|i| self.holds(i, s) && (!original || time - self.times[i] <= 40)) {
             self.totals[2] += 1;
             return Answer::Copy;
         }
@@ -133,7 +134,7 @@ fn by_hand(cells: &[u8]) -> u64 {
 }
 
 /// Different telegrams so far apart that `open` of them are open at any time; each second one is heard again through a repeater.
-fn cells(open: usize) -> Vec<u8> {
+pub fn cells(open: usize) -> Vec<u8> {
     let mut random = Random::new();
     let mut cells = Vec::new();
     let mut last = Vec::new();

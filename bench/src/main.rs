@@ -1,6 +1,7 @@
 //! The proved code against hand-written Rust of the same job: same input, one run, answers compared before they are timed.
 use std::time::Instant;
 
+mod bursts;
 mod collector;
 mod crc8;
 mod erp2;
@@ -10,6 +11,7 @@ fn main() {
     crc8::bench();
     slots::bench();
     collector::bench();
+    bursts::bench();
     erp2::bench();
 }
 

@@ -2,7 +2,7 @@
 use mathlib.Core.Path.{_≡_, refl, sym, ap, _∙_}
 use mathlib.Core.Bool.{Bool, true, false, cond, false≢true}
 use mathlib.Core.List.{List, [], _∷_}
-use Prim.Native.Nat.{ℕ, _+_, _-_, _*_, _^_, _<_, _≤_, min}
+use Prim.Native.Nat.{ℕ, _+_, _-_, _*_, _<_, _≤_, min}
 use native.Mathlib.Omega.{arith}
 use lib.Dec.{leb, ltb}
 use lib.ListN.{length, take, drop, take-append-drop, length-append, length-drop}
@@ -10,15 +10,13 @@ use lib.Seq.{length-sets, length-take-le, take-all, take-append-seam, take-appen
 use borrow.Author.Tests.{leb-true, leb-false, ltb-true, ltb-false}
 use Rattle.bytes.specs.Bytes.{indexOf, slice}
 use Rattle.lists.proofs.Tests.{by-test}
-use Rattle.model.specs.View.{Reception, View}
-use Rattle.model.specs.Step.{Outcome, advance, step}
-use Rattle.model.proofs.Returns.{step-unacceptable}
-use Rattle.model.proofs.Invariant.{good-acceptable, good-of, good-advance, classified}
+use Rattle.model.specs.View.{View}
+use Rattle.model.specs.Step.{Outcome}
 use Rattle.line_input.specs.Ascii.{newline, space}
 use Rattle.line_input.specs.Reading.{readingOf, reception, bad}
 use Rattle.line_input.proofs.Pairs.{leading-hex}
 use Rattle.line_input.proofs.Long.{long-time}
-use Rattle.line_input.proofs.Whole.{Said, said}
+use Rattle.line_input.proofs.Whole.{Said}
 use Rattle.line_output.proofs.ReadBack.{time-back}
 use Rattle.line_output.specs.Text.{decimalText, rowBehind, badText}
 use Rattle.line_output.specs.Printed.{longestTime, Printed}
@@ -30,7 +28,7 @@ use Rattle.streams.proofs.Limit.{bounded}
 use Rattle.streams.proofs.Takes.{found, fed-none, fed-next}
 use Rattle.collecting.specs.declared.Session.{Session}
 use Rattle.collecting.specs.declared.Progress.{Progress}
-use Rattle.collecting.specs.Session.{merging, taken, rowOf, sentBytes, phaseOf, longestLine, Tested, Ran}
+use Rattle.collecting.specs.Session.{merging, taken, rowOf, sentBytes, phaseOf, longestLine, Ran}
 
 -- ---- none
 
@@ -117,18 +115,6 @@ module _ (text : List ℕ) (k : ℕ) {t : ℕ} {bs : List ℕ} (within : k ≤ l
       ap (take d) (sym (take-append-drop k text)) ∙ take-append-le d (take k text) (drop k text) (omega (arith, parts-long, length-take-le k text within))
       in
       rw n (front ∙ ap (take d) (w .parts) ∙ take-append-seam (w .digits) (space ∷ w .hex) ∙ sym (time-back (w .digits) (w .isTimely)) ∙ ap decimalText (w .saysTime))
-
--- ---- the test of the state
-
-pub tested-next : (fit : Bool) {v : View} {t : ℕ} (bs : List ℕ) → Tested fit v → t < 2 ^ 64 → Tested fit (taken v t bs .next)
-unfolding step advance
-tested-next true {v} {t} bs k small =
-    let r : Reception = record { bytes = bs; time = t } in
-    let g = good-advance v r (good-of v (sym (k .said)) (k .fits)) small (classified v r) in
-    record { said = sym (good-acceptable g); fits = record { latest = g .entries .fits; received = g .totals .fits } }
-tested-next false {v} {t} bs k small =
-    let stays : taken v t bs .next ≡ v = sym (ap (λ (o : Outcome). o .next) (step-unacceptable v (sym (k .said)) (record { bytes = bs; time = t }))) in
-    rw stays k
 
 -- ---- what is written
 

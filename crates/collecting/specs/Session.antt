@@ -1,7 +1,7 @@
 -- The program `collect` over the collector of the model (document 01, "Cases"), and what a session says of its run. Assumes nothing.
 use Prim.Native.Nat.{ℕ, _*_, _≤_}
 use mathlib.Core.Path.{_≡_}
-use mathlib.Core.Bool.{Bool, true}
+use mathlib.Core.Bool.{true}
 use mathlib.Core.List.{List}
 use lib.ListN.{length, take}
 use Rattle.erp1.specs.Subtelegram.{maxLength}
@@ -9,9 +9,7 @@ use Rattle.telegram.specs.declared.frame.Frame.{Frame}
 use Rattle.model.specs.declared.Totals.{Totals}
 use Rattle.model.specs.Answer as answer
 use Rattle.model.specs.View.{View, fresh}
-use Rattle.model.specs.Acceptable.{acceptable}
 use Rattle.model.specs.Step.{Outcome, step}
-use Rattle.model.specs.Exact.{Fits}
 use Rattle.collector.specs.Collector.{viewOf}
 use Rattle.line_output.specs.declared.Row.{Row}
 use Rattle.line_output.specs.Text.{totalsText}
@@ -70,11 +68,6 @@ abbrev pub longestEnd : Phase View → ℕ
 longestEnd starting = 4
 longestEnd (running v) = longestTotals
 longestEnd over = 0
-
--- fit says whether a state is acceptable; its numbers have 64 bits
-pub record Tested (fit : Bool) (v : View) : Type 0 where
-  pub said : fit ≡ acceptable v
-  pub fits : Fits v
 
 -- Whole lines of the input, of `used` characters, were taken from phase s on to s', and what they give, at most the longest row for each, stands
 -- at the front of the output; where none was taken though the longest row fits, there is none.

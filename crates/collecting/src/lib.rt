@@ -16,11 +16,11 @@ ghost use Prim.Native.Nat.{ℕ, _+_, _≤_, min};
 ghost use lib.ListN.{length};
 ghost use Rattle.model.specs.Answer.{shownOf};
 ghost use Rattle.collector.specs.Collector.{viewOf};
-ghost use Rattle.collector.specs.Admission.{viewIn};
+ghost use Rattle.collector.specs.Admission.{viewIn, Tested};
 ghost use Rattle.line_output.specs.Text.{rowBehind};
 ghost use Rattle.line_output.specs.Printed.{longestTime, Printed, PrintedIfFits};
 ghost use Rattle.streams.specs.Collect.{starting, running, over, afterFirst, firstText, endOf};
-ghost use Rattle.collecting.specs.Session.{merging, phaseOf, rowOf, sentBytes, longestLine, longestEnd, Tested, RanTo, Ran};
+ghost use Rattle.collecting.specs.Session.{merging, phaseOf, rowOf, sentBytes, longestLine, longestEnd, RanTo, Ran};
 
 // Where a run stands: before its first line, past a right one, or ended by a wrong one.
 pub enum Stage {

@@ -1,6 +1,6 @@
 -- A reception that is admitted as the test of the state says is a step of the model: the times of an acceptable state never fall, so that its open
 -- telegrams are those from the first open one on, and at its latest time all are open. Assumes nothing.
-use Prim.Native.Nat.{ℕ, _-_}
+use Prim.Native.Nat.{ℕ, _-_, _^_, _<_}
 use native.Mathlib.Omega.{arith}
 use mathlib.Core.Path.{_≡_, refl, sym, _∙_, ap}
 use mathlib.Core.Bool.{Bool, true, false, cond, not, _&&_}
@@ -15,11 +15,12 @@ use Rattle.erp1.specs.Subtelegram.{isValid}
 use Rattle.model.specs.Answer.{Kept, Copy, Loose, Refused, isKept, isAccepted}
 use Rattle.model.specs.View.{Reception, View, capacity, maturity, isOpen}
 use Rattle.model.specs.Acceptable.{isCopyOf, isEntry, mayFollow, acceptable}
-use Rattle.model.specs.Step.{maxCount, isKnown, isCrowded, classify, tally, addIf, advance, step}
+use Rattle.model.specs.Step.{Outcome, maxCount, isKnown, isCrowded, classify, tally, addIf, advance, step}
 use Rattle.model.proofs.Returns.{step-unacceptable}
+use Rattle.model.proofs.Invariant.{good-acceptable, good-of, good-advance, classified}
 use Rattle.collector.specs.Acceptable.{hasCopy}
 use Rattle.collector.specs.Merging.{receptionCheck, answerFor}
-use Rattle.collector.specs.Admission.{isSafe, numberOn, latestAfter, openFrom, leftAfter, answerOn, admitted, admission}
+use Rattle.collector.specs.Admission.{isSafe, numberOn, latestAfter, openFrom, leftAfter, answerOn, admitted, admission, Tested}
 use Rattle.collector.proofs.Accepting.{accepted-few, accepted-each, accepted-order, accepted-summed}
 
 -- ---- the open telegrams
@@ -114,3 +115,14 @@ module _ (v : View) (r : Reception) where
 
   pub admission-fit : (fit : Bool) → fit ≡ acceptable v → admission fit v r ≡ step v r
   admission-fit fit e = rw e admission-step
+
+-- ---- a run of receptions, of which the first state alone is tested
+
+pub tested-next : (fit : Bool) {v : View} (r : Reception) → Tested fit v → r .time < 2 ^ 64 → Tested fit (step v r .next)
+unfolding step advance
+tested-next true {v} r k small =
+    let g = good-advance v r (good-of v (sym (k .said)) (k .fits)) small (classified v r) in
+    record { said = sym (good-acceptable g); fits = record { latest = g .entries .fits; received = g .totals .fits } }
+tested-next false {v} r k small =
+    let stays : step v r .next ≡ v = sym (ap (λ (o : Outcome). o .next) (step-unacceptable v (sym (k .said)) r)) in
+    rw stays k

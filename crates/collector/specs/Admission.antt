@@ -1,6 +1,7 @@
 -- One reception at a state that was found acceptable or not, whatever it is: for a run of receptions, of which the first state alone is tested
 -- (document 01, "Merging"). Assumes nothing.
 use Prim.Native.Nat.{ℕ}
+use mathlib.Core.Path.{_≡_}
 use mathlib.Core.Bool.{Bool, cond, _&&_}
 use mathlib.Core.List.{List, [], _∷_}
 use lib.Dec.{leb, eqb}
@@ -10,7 +11,8 @@ use Rattle.refusal.specs.declared.Refusal.the-variants.{NotAccepted}
 use Rattle.telegram.specs.Frame.{frameOf}
 use Rattle.model.specs.Answer.{Shown, Refused, isKept, shownOf}
 use Rattle.model.specs.View.{Reception, View, capacity, isOpen}
-use Rattle.model.specs.Acceptable.{isSummed}
+use Rattle.model.specs.Acceptable.{isSummed, acceptable}
+use Rattle.model.specs.Exact.{Fits}
 use Rattle.model.specs.Step.{Outcome, tally, addIf, sentFor}
 use Rattle.collector.specs.declared.merging.Summary.{Summary}
 use Rattle.collector.specs.declared.merging.Admitted.{Admitted}
@@ -71,3 +73,8 @@ notAdmitted v = record { answer = Refused (numberOf NotAccepted); sent = frameOf
 -- a state that was found acceptable takes it, where it is safe
 unfoldable pub admission : Bool → View → Reception → Outcome
 admission fit v r = cond (fit && isSafe v) (admitted v r) (notAdmitted v)
+
+-- fit says whether a state is acceptable, whose numbers have 64 bits: what is known of the first state of a run, and of every next one
+pub record Tested (fit : Bool) (v : View) : Type 0 where
+  pub said : fit ≡ acceptable v
+  pub fits : Fits v

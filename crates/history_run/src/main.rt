@@ -1,5 +1,6 @@
 // Puts a collector through the histories of standard input, a record each call, and prints what is seen of each: stdout is what the
 // second program says (tests/reference/README.md has the format).
+pub(crate) mod bursts;
 pub(crate) mod given;
 
 use collector::Collector;
@@ -63,6 +64,7 @@ fn made(session: Session, r: &[u8]) -> Session
         2 => received(session, number, r),
         3 => saved(session, least(number, 3000)),
         4 => cut(session, (number % 256) as u8),
+        6 => burst_of(session, least(number, burst::LISTED), bursts::places_in(r)),
         8 => given_image(session, least(number, given::MOST)),
         _ => spoiled(session, least(number, 2560)),
     }
@@ -163,6 +165,22 @@ fn restored<'a>(session: Session, word: &'a [u8], bytes: &'a [u8]) -> Session {
     after(next, shown, true)
 }
 
+// A burst of the next n records, with m places for the replies.
+fn burst_of(session: Session, n: usize, m: usize) -> Session
+    requires { ⌜ (n ≤ 259) × (m ≤ 259) ⌝ }
+{
+    let lists = bursts::delivered(session.collector, n, m);
+    let done = lists.bursted;
+    let answer = done.answer;
+    let next = done.next;
+    let replies = lists.replies;
+    test_io::text(b"B ");
+    bursts::put_handed(answer);
+    put_totals(next.totals);
+    bursts::put_replies(replies, m);
+    after(next, session.shown, true)
+}
+
 fn after(collector: Collector, shown: u8, more: bool) -> Session {
     Session {
         collector: collector,
@@ -173,7 +191,7 @@ fn after(collector: Collector, shown: u8, more: bool) -> Session {
 
 // ---- what is printed of them
 
-fn put_answer(answer: Answer) {
+pub(crate) fn put_answer(answer: Answer) {
     match answer {
         Answer::Kept => test_io::text(b"KEPT"),
         Answer::Copy => test_io::text(b"COPY"),
@@ -182,7 +200,7 @@ fn put_answer(answer: Answer) {
     }
 }
 
-fn put_sent(sent: Frame) {
+pub(crate) fn put_sent(sent: Frame) {
     let bytes = sent.bytes;
     let n = least(sent.len as u64, 21);
     test_io::text(b" ");
@@ -257,7 +275,7 @@ fn put_total(n: u64) {
     test_io::decimal(n);
 }
 
-fn least(x: u64, y: usize) -> usize
+pub(crate) fn least(x: u64, y: usize) -> usize
     ensures { λ r. ⌜ r ≤ y ⌝ }
 {
     let n = x % 65_536;

@@ -1,6 +1,6 @@
 -- The model's theorem, for the code's states.
 --     take-shows, checkpoint-shows, restore-shows, cut-shows     what the contract of a call ensures is what a history asks of it
---     collector-histories                                        the theorem
+--     collector-histories, collector-divisions                   the theorem, and that any division of receptions is answered alike
 -- Assumes nothing.
 use Prim.Native.Nat.{ℕ}
 use mathlib.Core.Path.{_≡_}
@@ -13,7 +13,7 @@ use Rattle.model.specs.Image.{imageLength, checkpointOf, restoreOf}
 use Rattle.model.specs.History.{Call, Receive, Checkpoint, Restore, Cut, Seen, Answered, Wrote}
 use Rattle.model.specs.History as history
 use Rattle.model.specs.States.{Shows, received, saved, restored, resumed}
-use Rattle.model.proofs.States.{states-agree}
+use Rattle.model.proofs.States.{states-agree, states-divide}
 use Rattle.collector.specs.declared.Collector.{Collector}
 use Rattle.collector.specs.declared.Fresh.{Fresh}
 use Rattle.collector.specs.declared.Taken.{Taken}
@@ -22,7 +22,7 @@ use Rattle.image.specs.declared.Restored.{Restored}
 use Rattle.collector.specs.Collector.{viewOf, freshAnswer, freshOf}
 use Rattle.collector.specs.Merging.{outcomeOf}
 use Rattle.image.specs.Checkpoint.{savedNumber, checkpointResult, loadedNumber, restoreResult}
-use Rattle.image.specs.Histories.{CollectorHistories}
+use Rattle.image.specs.Histories.{CollectorHistories, CollectorDivisions}
 
 -- each with the rest of the history after it
 module _ {c : Collector} {h : List Call} {l : List Seen} where
@@ -46,3 +46,6 @@ module _ {c : Collector} {h : List Call} {l : List Seen} where
 
 pub collector-histories : CollectorHistories
 collector-histories = states-agree viewOf
+
+pub collector-divisions : CollectorDivisions
+collector-divisions = states-divide viewOf

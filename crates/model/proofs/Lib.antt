@@ -3,6 +3,7 @@ pub mod Invariant
 pub mod Image
 pub mod Simulation
 pub mod Theorem
+pub mod Division
 pub mod States
 pub mod Returns
 pub mod Latest

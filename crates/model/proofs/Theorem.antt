@@ -2,17 +2,21 @@
 -- Assumes nothing.
 use Prim.Native.Nat.{ℕ, _≤_}
 use mathlib.Core.Path.{_≡_, refl, sym, _∙_, ap, ap₂}
-use mathlib.Core.Bool.{false}
+use mathlib.Core.Bool.{Bool, true, false, cond, _&&_}
 use mathlib.Core.List.{List, [], _∷_, _++_}
+use lib.Dec.{eqb, leb}
 use lib.ListN.{length, take, drop}
 use lib.Seq.{take-at}
-use borrow.Author.Tests.{le-leb, le-ltb}
+use borrow.Author.Tests.{leb-true, leb-false, le-leb, le-ltb, lt-ltb}
+use Rattle.lists.proofs.Tests.{by-test}
 use Rattle.refusal.specs.Number.{numberOf}
 use Rattle.refusal.specs.declared.Refusal.the-variants.{NotAccepted}
 use Rattle.model.specs.View.{Reception, View, maxSetting, fresh}
+use Rattle.model.specs.Step.{Outcome}
 use Rattle.model.specs.Image.{imageLength, imageOf, accepts, checkpointOf, restoreOf}
-use Rattle.model.specs.Reference.{Logged, totalsOf, modelView, savedBy, logOf}
-use Rattle.model.specs.History.{Call, Receive, Checkpoint, Restore, Cut, Look, IsHistory, run, expected, uncut, common, WholeHistory}
+use Rattle.model.specs.Reference.{Logged, totalsOf, modelView, savedBy, logOf, pastAfter, repliesBy}
+use Rattle.model.specs.Burst.{Replied, maxBurst, replyOf, afterAll, repliesTo, sizeNumber, burstNumber, taken, BurstResult, burstOf}
+use Rattle.model.specs.History.{Call, Receive, Checkpoint, Restore, Cut, Burst, Look, Timely, IsHistory, Delivered, run, burstTaken, expected, uncut, common, WholeHistory}
 use Rattle.model.proofs.Invariant.{Good, good-acceptable, good-fresh}
 use Rattle.model.proofs.Image.{image-length, parse-image, accepts-image}
 use Rattle.model.proofs.Simulation.{same-step, good-after}
@@ -42,6 +46,72 @@ module _ (setting : ℕ) (log : List Logged) (output : List ℕ) where
   front : Good (modelView setting log) → take imageLength (imageOf (modelView setting log) ++ drop imageLength output) ≡ imageOf (modelView setting log)
   front g = take-at (imageOf (modelView setting log)) (drop imageLength output) imageLength (image-length (modelView setting log) g)
 
+-- ---- receptions one by one, from the reference model's view
+
+module _ (setting : ℕ) where
+  burst-after : (past rs : List Reception) → Good (modelView setting (logOf past)) → Timely rs
+      → afterAll (modelView setting (logOf past)) rs ≡ modelView setting (logOf (pastAfter past rs))
+  unfolding afterAll
+  burst-after past [] g t = refl
+  burst-after past (r ∷ rs) g t =
+      ap (λ (o : Outcome). afterAll (o .next) rs) (same-step setting (logOf past) r g) ∙ burst-after (r ∷ past) rs (good-after setting (logOf past) r g (t .0)) (t .1)
+
+  burst-replies : (past rs : List Reception) → Good (modelView setting (logOf past)) → Timely rs
+      → repliesTo (modelView setting (logOf past)) rs ≡ repliesBy setting past rs
+  unfolding repliesTo
+  burst-replies past [] g t = refl
+  burst-replies past (r ∷ rs) g t =
+      ap (λ (o : Outcome). replyOf o ∷ repliesTo (o .next) rs) (same-step setting (logOf past) r g)
+      ∙ ap₂ _∷_ refl (burst-replies (r ∷ past) rs (good-after setting (logOf past) r g (t .0)) (t .1))
+
+  burst-good : (past rs : List Reception) → Good (modelView setting (logOf past)) → Timely rs → Good (modelView setting (logOf (pastAfter past rs)))
+  burst-good past [] g t = g
+  burst-good past (r ∷ rs) g t = burst-good (r ∷ past) rs (good-after setting (logOf past) r g (t .0)) (t .1)
+
+-- a burst is not refused for its sizes just where each reception has a place and they are at most 256
+not-refused : (n m : ℕ) → eqb (sizeNumber n m) 0 ≡ (leb n m && leb n maxBurst)
+unfolding sizeNumber
+not-refused n m =
+    by-test (leb n m)
+    (λ a. by-test (leb n maxBurst)
+    (λ b. rw (a, b, le-ltb m n (leb-true n m a), le-ltb maxBurst n (leb-true n maxBurst b)))
+    (λ b. rw (a, b, le-ltb m n (leb-true n m a), lt-ltb maxBurst n (leb-false n maxBurst b))))
+    (λ a. rw (a, lt-ltb m n (leb-false n m a)))
+
+taken-timely : (b : Bool) (rs : List Reception) → Timely rs → Timely (cond b rs [])
+taken-timely true rs t = t
+taken-timely false rs t = tt
+
+module _ (setting : ℕ) (past rs : List Reception) (places : List Replied) (g : Good (modelView setting (logOf past))) (t : Timely rs) where
+  abbrev v : View
+  v = modelView setting (logOf past)
+
+  abbrev whole : List Reception
+  whole = burstTaken rs places
+
+  whole-timely : Timely whole
+  whole-timely = taken-timely (leb (length rs) (length places) && leb (length rs) maxBurst) rs t
+
+  same-number : burstNumber v (length rs) (length places) ≡ sizeNumber (length rs) (length places)
+  unfolding burstNumber
+  same-number = rw (good-acceptable g)
+
+  same-taken : taken (sizeNumber (length rs) (length places)) rs ≡ whole
+  same-taken = ap (λ (b : Bool). cond b rs []) (not-refused (length rs) (length places))
+
+  abbrev resultOf : ℕ → List Reception → BurstResult
+  resultOf n l = record { number = n; replies = repliesTo v l ++ drop (length l) places; next = afterAll v l }
+
+  same-burst : burstOf v rs places ≡ record {
+    number = sizeNumber (length rs) (length places);
+    replies = repliesBy setting past whole ++ drop (length whole) places;
+    next = modelView setting (logOf (pastAfter past whole));
+  }
+  same-burst =
+      ap (λ (n : ℕ). resultOf n (taken n rs)) same-number ∙ ap (resultOf (sizeNumber (length rs) (length places))) same-taken
+      ∙ ap₂ (λ (l : List Replied) (u : View). record { number = sizeNumber (length rs) (length places); replies = l ++ drop (length whole) places; next = u })
+      (burst-replies setting past whole g whole-timely) (burst-after setting past whole g whole-timely)
+
 -- ---- all calls
 
 module _ (setting : ℕ) where
@@ -61,6 +131,9 @@ module _ (setting : ℕ) where
         front setting (logOf past) output g,
         restore-image g other,
       ) (ap₂ _∷_ refl (ap₂ _∷_ refl (same-run past h g (ok .1))))
+  same-run past (Burst rs places ∷ h) g ok =
+      ap (λ (b : BurstResult). Delivered (b .number) (b .replies) (b .next .totals) ∷ run (b .next) h) (same-burst setting past rs places g (ok .0))
+      ∙ ap₂ _∷_ refl (same-run (pastAfter past (burstTaken rs places)) h (burst-good setting past (burstTaken rs places) g (whole-timely setting past rs places g (ok .0))) (ok .1))
   same-run past (Look ∷ h) g ok = ap₂ _∷_ refl (same-run past h g ok)
 
   -- and says the same of the uncut run
@@ -71,6 +144,7 @@ module _ (setting : ℕ) where
   same-uncut past (Restore image ∷ h) ok = ap₂ _∷_ refl (same-uncut past h (ok .1))
   same-uncut past (Cut output other ∷ h) ok =
       rw (saved setting (logOf past) output (ok .0)) (ap₂ _∷_ refl (ap₂ _∷_ refl (same-uncut past h (ok .1))))
+  same-uncut past (Burst rs places ∷ h) ok = ap₂ _∷_ refl (same-uncut (pastAfter past (burstTaken rs places)) h (ok .1))
   same-uncut past (Look ∷ h) ok = ap₂ _∷_ refl (same-uncut past h ok)
 
 uncut-history : (h : List Call) → IsHistory h → IsHistory (uncut h)
@@ -79,6 +153,7 @@ uncut-history (Receive r ∷ h) ok = (ok .0, uncut-history h (ok .1))
 uncut-history (Checkpoint output ∷ h) ok = uncut-history h ok
 uncut-history (Restore image ∷ h) ok = uncut-history h (ok .1)
 uncut-history (Cut output setting ∷ h) ok = uncut-history h (ok .1)
+uncut-history (Burst rs places ∷ h) ok = (ok .0, uncut-history h (ok .1))
 uncut-history (Look ∷ h) ok = uncut-history h ok
 
 fresh-model : (setting : ℕ) → setting ≤ maxSetting → fresh setting ≡ modelView setting []
@@ -86,7 +161,7 @@ unfolding fresh modelView totalsOf
 fresh-model setting low = rw (le-leb setting maxSetting low)
 
 -- so does a fresh collector, whose view is the model's before all receptions
-fresh-run : (setting : ℕ) → setting ≤ maxSetting → (h : List Call) → IsHistory h → run (fresh setting) h ≡ expected setting [] h
+pub fresh-run : (setting : ℕ) → setting ≤ maxSetting → (h : List Call) → IsHistory h → run (fresh setting) h ≡ expected setting [] h
 fresh-run setting low h ok = rw (fresh-model setting low) (same-run setting [] h (rw (fresh-model setting low) at (good-fresh setting)) ok)
 
 pub whole-history : WholeHistory

@@ -2,9 +2,10 @@
 -- the reference model says, and what the uncut run shows. Assumes nothing.
 use Prim.Native.Nat.{ℕ, _≤_, _<_, _^_}
 use mathlib.Core.Path.{_≡_}
-use mathlib.Core.Bool.{false}
-use mathlib.Core.List.{List, [], _∷_}
-use lib.ListN.{length, take}
+use mathlib.Core.Bool.{false, cond, _&&_}
+use mathlib.Core.List.{List, [], _∷_, _++_}
+use lib.Dec.{leb}
+use lib.ListN.{length, take, drop}
 use Rattle.refusal.specs.Number.{numberOf}
 use Rattle.refusal.specs.declared.Refusal.the-variants.{NotAccepted}
 use Rattle.telegram.specs.declared.frame.Frame.{Frame}
@@ -13,7 +14,8 @@ use Rattle.model.specs.Answer.{Shown}
 use Rattle.model.specs.View.{Reception, View, fresh, maxSetting}
 use Rattle.model.specs.Step.{step}
 use Rattle.model.specs.Image.{imageLength, accepts, checkpointOf, restoreOf}
-use Rattle.model.specs.Reference.{totalsOf, answerTo, sentWith, logOf, savedBy}
+use Rattle.model.specs.Burst.{Replied, maxBurst, sizeNumber, burstOf}
+use Rattle.model.specs.Reference.{totalsOf, answerTo, sentWith, logOf, savedBy, pastAfter, repliesBy}
 
 -- "A history is a list of calls: receptions taken, parkings into any room, and reloads."
 pub data Call : Type 0 where
@@ -24,8 +26,15 @@ pub data Call : Type 0 where
   Restore : List ℕ → Call
   -- "A cut": a checkpoint into such an output, and the restore of the 2,560 bytes it wrote into another collector started fresh at a setting
   Cut : List ℕ → ℕ → Call
+  -- a burst of these receptions, with a second list that holds these replies (document 02, A1)
+  Burst : List Reception → List Replied → Call
   -- nothing is called, and the totals are read
   Look : Call
+
+-- the receptions' times are 64-bit numbers
+abbrev pub Timely : List Reception → Type 0
+Timely [] = Unit {0}
+Timely (r ∷ rs) = (r .time < 2 ^ 64) × Timely rs
 
 -- a reception's time is a 64-bit number (its bytes may be any), a cut has room, "every other reload in it is a refused one"
 abbrev pub IsHistory : List Call → Type 0
@@ -34,6 +43,7 @@ IsHistory (Receive r ∷ h) = (r .time < 2 ^ 64) × IsHistory h
 IsHistory (Checkpoint output ∷ h) = IsHistory h
 IsHistory (Restore image ∷ h) = (accepts image ≡ false) × IsHistory h
 IsHistory (Cut output setting ∷ h) = (imageLength ≤ length output) × IsHistory h
+IsHistory (Burst rs places ∷ h) = Timely rs × IsHistory h
 IsHistory (Look ∷ h) = IsHistory h
 
 -- what is seen of a call, and "the six totals after every call"
@@ -44,6 +54,8 @@ pub data Seen : Type 0 where
   Wrote : ℕ → List ℕ → Totals → Seen
   -- the number of a restore
   Restored : ℕ → Totals → Seen
+  -- the number of a burst, and every place of its second list
+  Delivered : ℕ → List Replied → Totals → Seen
   Looked : Totals → Seen
 
 -- what the collector shows: "each call gets the state that the one before returned, save the reload of a cut, which gets a fresh one"
@@ -62,7 +74,14 @@ run v (Cut output setting ∷ h) =
     let p = checkpointOf v output in
     let q = restoreOf (fresh setting) (take imageLength (p .output)) in
     Wrote (p .number) (p .output) (v .totals) ∷ Restored (q .number) (q .next .totals) ∷ run (q .next) h
+run v (Burst rs places ∷ h) =
+    let b = burstOf v rs places in
+    Delivered (b .number) (b .replies) (b .next .totals) ∷ run (b .next) h
 run v (Look ∷ h) = Looked (v .totals) ∷ run v h
+
+-- the receptions that a burst stands for, to the reference model: all of them, if each has a place and they are at most 256; else none
+abbrev pub burstTaken : List Reception → List Replied → List Reception
+burstTaken rs places = cond (leb (length rs) (length places) && leb (length rs) maxBurst) rs []
 
 -- what the reference model says, fed the setting and the receptions so far: checkpoints into room and the restores of cuts are answered 0
 abbrev pub expected : ℕ → List Reception → List Call → List Seen
@@ -77,6 +96,10 @@ expected setting past (Restore image ∷ h) = Restored (numberOf NotAccepted) (t
 expected setting past (Cut output other ∷ h) =
     let p = savedBy setting (logOf past) output in
     Wrote 0 (p .output) (totalsOf (logOf past)) ∷ Restored 0 (totalsOf (logOf past)) ∷ expected setting past h
+expected setting past (Burst rs places ∷ h) =
+    let t = burstTaken rs places in
+    Delivered (sizeNumber (length rs) (length places)) (repliesBy setting past t ++ drop (length t) places) (totalsOf (logOf (pastAfter past t)))
+    ∷ expected setting (pastAfter past t) h
 expected setting past (Look ∷ h) = Looked (totalsOf (logOf past)) ∷ expected setting past h
 
 -- "The uncut run is the same list without the reloads"; where one stood, the totals are read
@@ -86,6 +109,7 @@ uncut (Receive r ∷ h) = Receive r ∷ uncut h
 uncut (Checkpoint output ∷ h) = Checkpoint output ∷ uncut h
 uncut (Restore image ∷ h) = Look ∷ uncut h
 uncut (Cut output setting ∷ h) = Checkpoint output ∷ Look ∷ uncut h
+uncut (Burst rs places ∷ h) = Burst rs places ∷ uncut h
 uncut (Look ∷ h) = Look ∷ uncut h
 
 -- what is seen, but for the restores' own numbers
@@ -94,6 +118,7 @@ common [] = []
 common (Answered a sent n ∷ l) = Answered a sent n ∷ common l
 common (Wrote number output n ∷ l) = Wrote number output n ∷ common l
 common (Restored number n ∷ l) = Looked n ∷ common l
+common (Delivered number replies n ∷ l) = Delivered number replies n ∷ common l
 common (Looked n ∷ l) = Looked n ∷ common l
 
 -- all that is seen in a history "equals the clerk's after the receptions up to there, and the uncut run's"

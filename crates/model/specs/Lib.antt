@@ -4,7 +4,9 @@ pub mod Acceptable
 pub mod Step
 pub mod Image
 pub mod Exact
+pub mod Burst
 pub mod Reference
 pub mod History
+pub mod Division
 pub mod States
 pub mod Latest

@@ -18,6 +18,7 @@ use Rattle.model.specs.Answer.{Shown, Kept, Copy, Loose, Refused, isKept
 use Rattle.model.specs.View.{Reception, View, capacity, isOpen}
 use Rattle.model.specs.Acceptable.{isCopyOf}
 use Rattle.model.specs.Step.{addIf, maxCount}
+use Rattle.model.specs.Burst.{Replied}
 use Rattle.model.specs.Image.{CheckpointResult, imageLength, imageOf}
 
 pub record Logged : Type 0 where
@@ -88,3 +89,14 @@ unfoldable pub savedBy : ℕ → List Logged → List ℕ → CheckpointResult
 savedBy setting log output =
     cond (ltb (length output) imageLength) (record { number = numberOf refusal.ShortOutput; output = output })
     (record { number = 0; output = imageOf (modelView setting log) ++ drop imageLength output })
+
+-- the receptions of a burst, oldest first, are fed to it one by one: the receptions so far after them, and the reply to each (document 02, A1)
+abbrev pub pastAfter : List Reception → List Reception → List Reception
+pastAfter past [] = past
+pastAfter past (r ∷ rs) = pastAfter (r ∷ past) rs
+
+abbrev pub repliesBy : ℕ → List Reception → List Reception → List Replied
+repliesBy setting past [] = []
+repliesBy setting past (r ∷ rs) =
+    let a = answerTo (logOf past) r in
+    record { answer = a; sent = sentWith setting a r } ∷ repliesBy setting (r ∷ past) rs

@@ -9,7 +9,9 @@ use Rattle.model.specs.Answer.{Shown}
 use Rattle.model.specs.View.{Reception, View, fresh, maxSetting}
 use Rattle.model.specs.Step.{step}
 use Rattle.model.specs.Image.{imageLength, checkpointOf, restoreOf}
-use Rattle.model.specs.History.{Call, Receive, Checkpoint, Restore, Cut, Look, IsHistory, Seen, Answered, Wrote, Restored, Looked, expected, uncut, common}
+use Rattle.model.specs.Burst.{Replied, burstOf}
+use Rattle.model.specs.History.{Call, Receive, Checkpoint, Restore, Cut, Burst, Look, IsHistory, Seen, Answered, Wrote, Restored, Delivered, Looked, expected, uncut, common}
+use Rattle.model.specs.Division.{receptionsOf, repliesIn}
 
 module _ {State : Type 0} (view : State → View) where
   -- from the state c the calls show the list: each premise is what the contract of the call ensures
@@ -30,6 +32,9 @@ module _ {State : Type 0} (view : State → View) where
         → view d ≡ fresh setting
         → record { number = m; next = view c′ } ≡ restoreOf (view d) (take imageLength after)
         → Shows c′ h l → Shows c (Cut output setting ∷ h) (Wrote n after (view c .totals) ∷ Restored m (view c′ .totals) ∷ l)
+    delivered : {c c′ : State} {rs : List Reception} {places after : List Replied} {n : ℕ} {h : List Call} {l : List Seen}
+        → record { number = n; replies = after; next = view c′ } ≡ burstOf (view c) rs places
+        → Shows c′ h l → Shows c (Burst rs places ∷ h) (Delivered n after (view c′ .totals) ∷ l)
     looked : {c : State} {h : List Call} {l : List Seen} → Shows c h l → Shows c (Look ∷ h) (Looked (view c .totals) ∷ l)
 
   -- what states show that started fresh is what the reference model says, and what states show in the uncut run
@@ -39,3 +44,10 @@ module _ {State : Type 0} (view : State → View) where
       → (c d : State) → view c ≡ fresh setting → view d ≡ fresh setting
       → (l m : List Seen) → Shows c h l → Shows d (uncut h) m
       → (l ≡ expected setting [] h) × (common l ≡ m)
+
+  -- what states show that started fresh holds the same replies in any two histories of the same receptions
+  abbrev pub StatesDivide : Type 0
+  StatesDivide =
+      (setting : ℕ) → setting ≤ maxSetting → (h h′ : List Call) → IsHistory h → IsHistory h′ → receptionsOf h ≡ receptionsOf h′
+      → (c d : State) → view c ≡ fresh setting → view d ≡ fresh setting
+      → (l m : List Seen) → Shows c h l → Shows d h′ m → repliesIn h l ≡ repliesIn h′ m

@@ -1,6 +1,7 @@
 //! What the histories must show: everything that can occur, and the faults a collector could
 //! have. Each fault is put into a model of its own, and its lines must differ from the clerk's.
 
+use crate::bursts;
 use crate::clerk::{totals_of, Answer, Clerk, Noted, Totals};
 use crate::history::{show, spoil, stdin, stdout, word, Call, Model, SHOWN};
 use crate::image::{self, reload, IMAGE};
@@ -506,6 +507,13 @@ fn everything_occurs() {
             Call::Given(image) => {
                 let number = clerk.restore_given(image);
                 count(format!("given, answered {number}"));
+            }
+            Call::Burst(burst) => {
+                bursts::deliver(
+                    &mut clerk,
+                    burst,
+                    &mut vec![bursts::untouched(); burst.places],
+                );
             }
         }
     }

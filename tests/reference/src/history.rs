@@ -2,6 +2,7 @@
 //! (document 01, "One history, and the clerk who writes it down", "Merging" and "Parked
 //! collector"). The lines of both files are in README.md.
 
+use crate::bursts::{self, Burst, Place};
 use crate::clerk::{Answer, Clerk, Totals};
 use crate::given;
 use crate::hex::{hex, hex_or_dash};
@@ -25,6 +26,8 @@ pub enum Call {
     Spoiled(usize),
     /// A restore of these bytes. Where they are accepted, a history of its own goes on from them.
     Given(Vec<u8>),
+    /// A burst.
+    Burst(Burst),
 }
 
 // What must be shown.
@@ -46,6 +49,13 @@ pub trait Model {
     /// The restore of an image that the input gives; where it is accepted, what it says is gone
     /// on with.
     fn restore_given(&mut self, image: &[u8]) -> u8;
+    /// A burst: its number, and the second list after it.
+    fn burst(&mut self, burst: &Burst, places: &mut [Place]) -> u8
+    where
+        Self: Sized,
+    {
+        bursts::deliver(self, burst, places)
+    }
 }
 
 impl Model for Clerk {
@@ -159,28 +169,36 @@ pub fn show(calls: &[Call], model: &mut impl Model) -> String {
                 let number = model.restore_given(image);
                 writeln!(out, "W {number} {}", model.totals().text()).unwrap();
             }
+            Call::Burst(burst) => out += &bursts::show(burst, model),
         }
     }
     out
 }
 
-/// The records of a call: one, and for bytes that are given those that hold them.
+/// The records of a call: one, and for bytes that are given and for a burst those that hold them.
 fn records(call: &Call) -> Vec<[u8; 64]> {
     let mut all = vec![record(call)];
-    if let Call::Given(image) = call {
-        all.extend(given::parts(image));
+    match call {
+        Call::Given(image) => all.extend(given::parts(image)),
+        Call::Burst(burst) => all.extend(bursts::parts(burst)),
+        _ => {}
     }
     all
 }
 
 /// A call as a record of 64 bytes: the operation, a number of eight bytes, and a length and bytes.
 pub fn record(call: &Call) -> [u8; 64] {
+    let places = match call {
+        Call::Burst(burst) => (burst.places as u16).to_be_bytes(),
+        _ => [0; 2],
+    };
     let (operation, number, bytes): (u8, u64, &[u8]) = match call {
         Call::Start(setting) => (1, u64::from(*setting), &[]),
         Call::Reception(time, bytes) => (2, *time, bytes),
         Call::Park(n) => (3, *n as u64, &[]),
         Call::Cut(setting) => (4, u64::from(*setting), &[]),
         Call::Spoiled(k) => (5, *k as u64, &[]),
+        Call::Burst(burst) => (6, burst.records.len() as u64, &places),
         Call::Given(image) => (8, image.len() as u64, &[]),
     };
     let mut record = [0; 64];

@@ -1,6 +1,7 @@
 //! The second program: what Mooringeye's test programs must read and print, from the papers
 //! alone. README.md says how it is run.
 
+mod bursts;
 mod clerk;
 mod codec;
 mod collect;

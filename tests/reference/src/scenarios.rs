@@ -1,6 +1,7 @@
 //! The calls of the histories: sparse traffic, repeaters, bursts, edges, both ends of time, a
 //! clock that goes back, damage, and checkpoints, cuts and refused restores among them.
 
+use crate::bursts;
 use crate::clerk::{Answer, Clerk, OPEN_FOR, PLACES, SENT_WITHIN};
 use crate::given;
 use crate::history::{Call, SHOWN};
@@ -561,6 +562,31 @@ impl Maker {
 
 /// All histories, one after the other.
 pub fn calls() -> Vec<Call> {
+    let mut calls = one_by_one();
+    calls.extend(in_bursts());
+    calls
+}
+
+/// Histories with bursts: of every size, and the receptions of other histories divided.
+fn in_bursts() -> Vec<Call> {
+    let mut maker = Maker::new(0x4131_4D6F_6F72_696E);
+    maker.sparse(2, 120);
+    maker.end();
+    maker.burst(1, 400);
+    maker.end();
+    maker.edges(2, 120);
+    maker.end();
+    maker.back(1, 120);
+    maker.end();
+    let mut random = Random::new(0x4131_6275_7273_7473);
+    let mut calls = bursts::sizes(1, &mut random);
+    calls.extend(bursts::full_count(&mut random));
+    calls.extend(bursts::divided(maker.calls, &mut random));
+    calls
+}
+
+/// Histories of receptions handed over one by one.
+fn one_by_one() -> Vec<Call> {
     let mut maker = Maker::new(0x0002_4D6F_6F72_696E);
     for (setting, from) in [(0, 0), (1, 3), (2, 6), (1, 9)] {
         maker.full(setting, from);

@@ -10,8 +10,8 @@ use denote.Ref.{now}
 use lib.ListN.{length, take, drop, length-take, length-drop}
 use lib.Seq.{length-take-le}
 use Rattle.bytes.specs.Bytes.{indexOf}
-use Rattle.collector.specs.Admission.{viewIn, admittedOf}
-use Rattle.collector.proofs.Stepping.{admission-fit}
+use Rattle.collector.specs.Admission.{viewIn, admittedOf, Tested}
+use Rattle.collector.proofs.Stepping.{admission-fit, tested-next}
 use Rattle.line_input.specs.Ascii.{newline}
 use Rattle.line_input.specs.Reading.{readingOf, reception, frontOf, lineOf, bytesIn}
 use Rattle.line_input.proofs.Answers.{len-fits, bytes-fill, said-open, said-ended, said-bad, said-reception}
@@ -23,8 +23,8 @@ use Rattle.streams.specs.Buffer.{Fed}
 use Rattle.streams.proofs.Segments.{open-whole}
 use Rattle.streams.proofs.Limit.{bounded}
 use Rattle.streams.proofs.Takes.{fed-none}
-use Rattle.collecting.specs.Session.{merging, taken, longestLine, Tested}
-use Rattle.collecting.proofs.Taking.{lineAt, none-written, open-from-start, bad-line, reception-line, time-room, time-short, time-text, tested-next, same-length}
+use Rattle.collecting.specs.Session.{merging, taken, longestLine}
+use Rattle.collecting.proofs.Taking.{lineAt, none-written, open-from-start, bad-line, reception-line, time-room, time-short, time-text, same-length}
 use Rattle.collecting.proofs.merge_lines.Statement.{statement}
 use Rattle.collecting.proofs.merge_lines.Tie as tie
 
@@ -196,7 +196,7 @@ loop-again-2 c =
       omega (arith, w .short, same, spare-out),
       omega (arith, same, l .loop .inv .2),
       omega (arith, w .short, l .loop .inv .3, ended (passed i) .1),
-      rw (← o) at (tested-next _ (bytes i) (l .loop .inv .4) small),
+      rw (← o) at (tested-next _ (record { bytes = bytes i; time = parsed i .parse .result .time }) (l .loop .inv .4) small),
       reception-line (input l) (l .loop .at) (parsed i .parse .result .used) (l .loop .inv .5) (ended (passed i)) (l .loop .inv .0) (omega (arith, w .short, same, spare-out, l .loop .inv .2))
           (admittedOf (a .admit .last .1 .0) (a .admit .last .1 .1 .0) (a .admit .last .1 .1 .1 .0) (a .admit .result)) (says i) o (time g) (q .put-answer .ensures),
     )

@@ -1,0 +1,110 @@
+//! Receptions in bursts: the proved call, which tests its state once and copies it in and out once, against a hand-written walk over a slice
+//! of the same records, which writes the same replies and trusts its state. Both start each burst from the same state.
+use crate::collector::{cells, Answer, Collector, CELL};
+use crate::{report, time};
+use std::hint::black_box;
+
+// A slice passes as a pointer and a length. Nothing checks this line against the Rattle source.
+extern "C" {
+    fn bench_burst(setting: u8, cells: *const u8, len: usize, size: usize, rounds: u64) -> u64;
+    fn bench_take(setting: u8, cells: *const u8, len: usize) -> u64;
+    fn bench_admit(setting: u8, cells: *const u8, len: usize) -> u64;
+}
+
+const MOST: usize = 256;
+
+struct Record {
+    bytes: [u8; 21],
+    len: u8,
+    time: u64,
+}
+
+#[derive(Clone)]
+struct Reply {
+    answer: u64,
+    sent: [u8; 21],
+    len: usize,
+}
+
+fn proved(cells: &[u8], size: usize, rounds: usize) -> u64 {
+    unsafe { bench_burst(1, cells.as_ptr(), cells.len(), size, rounds as u64) }
+}
+
+fn records(cells: &[u8]) -> Vec<Record> {
+    cells
+        .chunks_exact(CELL)
+        .map(|cell| Record {
+            time: u64::from_be_bytes(cell[..8].try_into().unwrap()),
+            len: cell[8],
+            bytes: cell[9..30].try_into().unwrap(),
+        })
+        .collect()
+}
+
+#[inline(never)]
+fn walk(collector: &mut Collector, records: &[Record], replies: &mut [Reply]) {
+    for (record, reply) in records.iter().zip(replies) {
+        let mut sent = [0; 21];
+        let bytes = record.bytes.get(..usize::from(record.len)).unwrap_or(&[]);
+        let (answer, len) = match collector.take(bytes, record.time, &mut sent) {
+            Answer::Kept(len) => (1 + len as u64 * 65_536, len),
+            Answer::Copy => (1 << 32, 0),
+            Answer::Loose => (1 << 48, 0),
+            Answer::Refused => (0, 0),
+        };
+        *reply = Reply { answer, sent, len };
+    }
+}
+
+fn by_hand(cells: &[u8], size: usize, rounds: usize) -> u64 {
+    let all = records(&cells[..2 * MOST * CELL]);
+    let none = Reply { answer: 1 << 48, sent: [0; 21], len: 0 };
+    let mut replies = vec![none; MOST];
+    let mut start = Collector::new(1);
+    walk(&mut start, &all[..MOST], &mut replies.clone());
+    let mut figure = 0u64;
+    for i in 0..rounds {
+        let mut collector = black_box(&start).clone();
+        walk(&mut collector, black_box(&all[MOST..MOST + size]), &mut replies[..size]);
+        let reply = &black_box(&replies)[i % MOST];
+        black_box((&reply.sent, reply.len));
+        figure = figure.wrapping_add(collector.totals[1]).wrapping_add(reply.answer);
+    }
+    figure
+}
+
+/// Nanoseconds of a burst of so many from the state that 256 receptions left, without what is done once before all bursts.
+fn burst_time(burst: fn(&[u8], usize, usize) -> u64, cells: &[u8], size: usize) -> f64 {
+    const BURSTS: usize = 16;
+    let whole = |rounds: usize| {
+        time(BURSTS, || {
+            black_box(burst(black_box(cells), size, rounds));
+        })
+    };
+    whole(BURSTS) - whole(0)
+}
+
+fn run(calls: unsafe extern "C" fn(u8, *const u8, usize) -> u64, cells: &[u8]) -> f64 {
+    time(cells.len() / CELL, || {
+        black_box(unsafe { calls(1, cells.as_ptr(), cells.len()) });
+    })
+}
+
+/// The proved call is reached through lists held by value, which are copied: what a burst of none takes is taken off, and what its own
+/// part of that is, the test and the copies of the state, put on again: as much as `take` takes more than `admit`.
+pub fn bench() {
+    for open in [4, 16, 64] {
+        let cells = &cells(open)[..2 * MOST * CELL];
+        for size in [MOST, 8, 1] {
+            assert_eq!(proved(cells, size, 2 * MOST), by_hand(cells, size, 2 * MOST), "{open} open, {size}");
+        }
+        let take = run(bench_take, cells);
+        let once = take - run(bench_admit, cells);
+        let lists = burst_time(proved, cells, 0) - once;
+        let each = |size: usize| (burst_time(proved, cells, size) - lists) / size as f64;
+        let by_hand = burst_time(by_hand, cells, MOST) / MOST as f64;
+        report(&format!("a reception in a burst of 256, {open} open, half of them copies"), each(MOST), by_hand);
+        println!("  with the copies of lists held by value {:.0} ns", each(MOST) + lists / MOST as f64);
+        println!("  in a burst of 8 {:.0} ns, of 1 {:.0} ns, by `take` {take:.0} ns", each(8), each(1));
+    }
+}

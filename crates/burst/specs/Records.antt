@@ -1,0 +1,94 @@
+-- The records that a burst is handed over in, and what its functions say of them (document 02, A1). Assumes nothing.
+use mathlib.Core.Path.{_≡_}
+use mathlib.Core.Bool.{Bool, cond}
+use mathlib.Core.List.{List, [], _∷_, _++_, map}
+use Prim.Native.Nat.{ℕ, _+_, _≤_}
+use lib.Dec.{ltb, eqb}
+use lib.ListN.{take, drop}
+use Rattle.refusal.specs.Number.{numberOf}
+use Rattle.erp1.specs.Subtelegram.{maxLength}
+use Rattle.layout.specs.Buffer.{resized}
+use Rattle.model.specs.Answer.{shownOf}
+use Rattle.model.specs.View as view
+use Rattle.model.specs.View.{View}
+use Rattle.model.specs.Step.{Outcome}
+use Rattle.collector.specs.declared.Collector.{Collector}
+use Rattle.collector.specs.declared.merging.Summary.{Summary}
+use Rattle.collector.specs.Collector.{viewOf}
+use Rattle.collector.specs.Admission.{viewIn, admission, Tested}
+use Rattle.burst.specs.declared.Reception.{Reception}
+use Rattle.burst.specs.declared.Reply.{Reply}
+use Rattle.burst.specs.declared.Stepped.{Stepped}
+use Rattle.burst.specs.declared.Handed.{Handed}
+use Rattle.burst.specs.declared.Handed.the-variants.{Done, Refused}
+use Rattle.burst.specs.declared.Bursted.{Bursted}
+use Rattle.burst.specs.declared.Plan.{Plan}
+use Rattle.burst.specs.declared.Within.{Within}
+use Rattle.model.specs.History.{Timely}
+use Rattle.model.specs.Burst.{Replied, replyOf, maxBurst, burstNumber, BurstResult, burstOf}
+
+-- what a record hands over: as many bytes as its length says, so that a length over 21 fails the check with 1
+abbrev pub receptionOf : Reception → view.Reception
+receptionOf r = record { bytes = resized (r .len) (r .bytes); time = r .time }
+
+-- what is shown of a reply
+abbrev pub repliedOf : Reply → Replied
+repliedOf r = record { answer = shownOf (r .answer); sent = r .sent }
+
+abbrev pub handedNumber : Handed → ℕ
+handedNumber Done = 0
+handedNumber (Refused why) = numberOf why
+
+-- what is shown of a burst, with the second list after it
+abbrev pub burstedOf : Bursted → List Reply → BurstResult
+burstedOf r replies = record { number = handedNumber (r .answer); replies = map repliedOf replies; next = viewOf (r .next) }
+
+-- the places of a list that is held by value: enough for 10, and for places past its receptions
+abbrev pub listed : ℕ
+listed = maxBurst + 3
+
+-- a burst of the first n records and the first m places; what stands past these places stays
+pub record WithinOf (c : Collector) (n m : ℕ) (records : List Reception) (places : List Reply) (r : Within) : Type 0 where
+  pub result : burstedOf (r .bursted) (take m (r .replies)) ≡ burstOf (viewOf c) (map receptionOf (take n records)) (map repliedOf (take m places))
+  pub past : drop m (r .replies) ≡ drop m places
+
+-- ---- what private functions say
+
+-- how many bytes the code hands over of a record
+abbrev pub sizeOf : ℕ → ℕ
+sizeOf len = cond (ltb maxLength len) 0 len
+
+abbrev pub steppedOf : List ℕ → List ℕ → List ℕ → Stepped → Outcome
+steppedOf times lens entries r = record { answer = shownOf (r .reply .answer); sent = r .reply .sent; next = viewIn times lens entries (r .summary) }
+
+-- records one by one, at a state that was found acceptable or not
+unfoldable pub after : Bool → View → List Reception → View
+after fit v [] = v
+after fit v (r ∷ rs) = after fit (admission fit v (receptionOf r) .next) rs
+
+unfoldable pub replies : Bool → View → List Reception → List Replied
+replies fit v [] = []
+replies fit v (r ∷ rs) =
+    let o = admission fit v (receptionOf r) in
+    replyOf o ∷ replies fit (o .next) rs
+
+-- the first n were taken: the state, and every place of the second list
+pub record Delivered (fit : Bool) (times lens entries : List ℕ) (s : Summary) (n : ℕ) (rs : List Reception) (ys : List Reply)
+    (times' lens' entries' : List ℕ) (s' : Summary) (zs : List Reply) : Type 0 where
+  pub state : viewIn times' lens' entries' s' ≡ after fit (viewIn times lens entries s) (take n rs)
+  pub replied : map repliedOf zs ≡ replies fit (viewIn times lens entries s) (take n rs) ++ map repliedOf (drop n ys)
+  pub timely : Timely (map receptionOf (take n rs))
+
+-- what is done with a burst of so many receptions and places
+pub record Planned (c : Collector) (receptions places : ℕ) (r : Plan) : Type 0 where
+  pub tested : Tested (r .fit) (viewOf c)
+  pub state : viewIn (c .times) (c .lens) (c .bytes) (r .summary) ≡ viewOf c
+  pub count : r .count ≡ cond (eqb (burstNumber (viewOf c) receptions places) 0) receptions 0
+  pub few : r .count ≤ receptions
+  pub placed : r .count ≤ places
+  pub answer : handedNumber (r .answer) ≡ burstNumber (viewOf c) receptions places
+
+-- the next state of these parts, and the answer
+pub record Finished (times lens entries : List ℕ) (s : Summary) (answer : Handed) (r : Bursted) : Type 0 where
+  pub next : viewOf (r .next) ≡ viewIn times lens entries s
+  pub same : r .answer ≡ answer
