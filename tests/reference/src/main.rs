@@ -1,6 +1,8 @@
 //! The second program: what Mooringeye's test programs must read and print, from the papers
 //! alone. README.md says how it is run.
 
+mod archive;
+mod archive_calls;
 mod bursts;
 mod clerk;
 mod codec;
@@ -22,6 +24,8 @@ mod slots;
 mod subtelegram;
 mod telegrams;
 
+#[cfg(test)]
+mod archive_faults;
 #[cfg(test)]
 mod cases;
 #[cfg(test)]
@@ -54,6 +58,8 @@ fn main() {
         }
         ["erp2", "stdin"] => erp2_records::stdin().into_bytes(),
         ["erp2", "stdout"] => erp2_records::stdout().into_bytes(),
+        ["archive", "stdin"] => archive_calls::stdin().into_bytes(),
+        ["archive", "stdout"] => archive_calls::stdout().into_bytes(),
         ["history", "stdin"] => history::stdin().into_bytes(),
         ["history", "stdout"] => history::stdout().into_bytes(),
         ["long", "stdin"] => history::text(&scenarios::long_calls()).into_bytes(),
@@ -66,7 +72,7 @@ fn main() {
 }
 
 fn usage<T>() -> T {
-    eprintln!("reference codec|erp2|history|long stdin|stdout,");
+    eprintln!("reference archive|codec|erp2|history|long stdin|stdout,");
     eprintln!("reference slots|rules|collect|sample stdout,");
     eprintln!(
         "reference inputs NAME stdin|stdout, NAME one of {}",
