@@ -5,7 +5,7 @@ use crate::archive::{append, append_at, block, read, row_at, seal, Row, BLOCK, R
 use crate::hex::{hex, hex_or_dash};
 use crate::random::Random;
 use crate::subtelegram::{renew_hash, Refusal};
-use crate::telegrams::{addressed, hashed, plain, valid, Kind};
+use crate::telegrams::{addressed, hashed, plain, valid, Kind, KINDS};
 use std::fmt::Write;
 
 #[derive(Debug, Clone, PartialEq)]
@@ -328,9 +328,11 @@ fn at_cursor(calls: &mut Vec<Call>) {
 fn refused_rows(calls: &mut Vec<Call>) {
     let mut random = Random::new(23);
     let mut bad: Vec<Vec<u8>> = [0, 1, 7, 22, 64].map(|n| random.bytes(n)).to_vec();
-    let mut hash = valid(&mut random);
-    hash[0] ^= 1;
-    bad.push(hash);
+    for kind in KINDS {
+        let mut wrong_hash = plain(&mut random, 10, kind);
+        wrong_hash[1] ^= 1;
+        bad.push(wrong_hash);
+    }
     bad.push(hashed(&mut random, 12, &[0xA6, 0x01], Kind::Crc));
     bad.push(hashed(&mut random, 13, &[0xA6, 0xA6], Kind::Sum));
     let row = random_row(&mut random);
