@@ -7,3 +7,4 @@ pub mod Keep
 pub mod Pairwise
 pub mod UpFrom
 pub mod Tests
+pub mod First

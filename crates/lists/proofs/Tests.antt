@@ -8,6 +8,7 @@ use mathlib.Core.Bool.{Bool, true, false, cond, not, _&&_, _||_, false≢true}
 use mathlib.Core.List.{List, [], _∷_, _++_, map, List·Memᴰ·eq-of-singleton, List·Memᴰ·append-cases}
 use mathlib.Core.Logic.{⊎-elim}
 use lib.ListN.{length, getD}
+use borrow.Author.Tests.{not-true}
 use Rattle.lists.specs.Lists.{keep, any, all, pairwise}
 use Rattle.lists.proofs.Choice.{both}
 use Rattle.lists.proofs.Members.{all-of, all-at}
@@ -54,9 +55,12 @@ module _ {A : Type 0} where
   pub all-keep : (p q r : A → Bool) → ((x : A) → p x ≡ true → q x ≡ true → r x ≡ true) → (l : List A) → all p l ≡ true → all r (keep q l) ≡ true
   all-keep p q r h l e = all-of r (keep q l) (λ x m. let w = keep-from q l m in h x (all-at p (w .0) e) (w .1))
 
+  pub all-append : (p : A → Bool) (xs ys : List A) → all p xs ≡ true → all p ys ≡ true → all p (xs ++ ys) ≡ true
+  all-append p xs ys e f =
+      all-of p (xs ++ ys) (λ y m. ⊎-elim (λ k. all-at p k e) (λ k. all-at p k f) (List·Memᴰ·append-cases xs m))
+
   pub all-last : (p : A → Bool) (l : List A) (x : A) → all p l ≡ true → p x ≡ true → all p (l ++ (x ∷ [])) ≡ true
-  all-last p l x e f =
-      all-of p (l ++ (x ∷ [])) (λ y m. ⊎-elim (λ k. all-at p k e) (λ k. ap p (List·Memᴰ·eq-of-singleton k) ∙ f) (List·Memᴰ·append-cases l m))
+  all-last p l x e f = all-append p l (x ∷ []) e (and-true f refl)
 
   pub none : (p : A → Bool) (l : List A) → any p l ≡ false → all (λ x. not (p x)) l ≡ true
   none p [] e = refl
@@ -65,6 +69,27 @@ module _ {A : Type 0} where
       go : (b : Bool) → (b || any p l) ≡ false → (any p l ≡ false → all (λ y. not (p y)) l ≡ true) → (not b && all (λ y. not (p y)) l) ≡ true
       go true f k = absurd (false≢true (sym f))
       go false f k = k f
+
+  pub none-back : (p : A → Bool) (l : List A) → all (λ x. not (p x)) l ≡ true → any p l ≡ false
+  none-back p [] e = refl
+  none-back p (x ∷ l) e =
+      let w = both (not (p x)) (all (λ y. not (p y)) l) e in
+      rw (not-true (p x) (w .0)) (none-back p l (w .1))
+
+  pub all-parts : (p : A → Bool) (xs ys : List A) → all p (xs ++ ys) ≡ true → (all p xs ≡ true) × (all p ys ≡ true)
+  all-parts p [] ys e = (refl, e)
+  all-parts p (x ∷ xs) ys e =
+      let w = both (p x) (all p (xs ++ ys)) e in
+      let r = all-parts p xs ys (w .1) in
+      (and-true (w .0) (r .0), r .1)
+
+  -- two lists put together: pairwise in the second, and across
+  pub pairwise-parts : (r : A → A → Bool) (xs ys : List A) → pairwise r (xs ++ ys) ≡ true → (pairwise r ys ≡ true) × (all (λ x. all (r x) ys) xs ≡ true)
+  pairwise-parts r [] ys e = (e, refl)
+  pairwise-parts r (x ∷ xs) ys e =
+      let w = both (all (r x) (xs ++ ys)) (pairwise r (xs ++ ys)) e in
+      let p = pairwise-parts r xs ys (w .1) in
+      (p .0, and-true (all-parts (r x) xs ys (w .0) .1) (p .1))
 
   pub pairwise-last : (r : A → A → Bool) (l : List A) (x : A) → pairwise r l ≡ true → all (λ y. r y x) l ≡ true → pairwise r (l ++ (x ∷ [])) ≡ true
   pairwise-last r l x e f = pairwise-append r l (x ∷ []) e refl (λ y z k m. ap (r y) (List·Memᴰ·eq-of-singleton m) ∙ all-at (λ w. r w x) k f)

@@ -31,6 +31,11 @@ module _ {A : Type 0} where
   pairwise r [] = true
   pairwise r (x ∷ l) = all (r x) l && pairwise r l
 
+  -- the index of the first element that passes; the length where none does
+  abbrev pub firstOf : (A → Bool) → List A → ℕ
+  firstOf p [] = 0
+  firstOf p (x ∷ l) = cond (p x) 0 (suc (firstOf p l))
+
   -- how many elements pass
   abbrev pub count : (A → Bool) → List A → ℕ
   count p [] = 0

@@ -33,7 +33,7 @@ pub enum Planned {
 }
 
 // The length of a slot, in microseconds.
-const SLOT: u64 = 1000;
+pub const SLOT: u64 = 1000;
 
 // What the third slot of a plan reads where there is no third transmission.
 pub const NO_SLOT: u8 = 255;

@@ -20,7 +20,7 @@ use Rattle.slots.specs.Plan.{range, none, noSlot, empty, within, isDuration, la
 use Rattle.slots.proofs.Parts.{parts, no-third, third-after}
 use Rattle.slots.proofs.Chosen.{chosen-lawful, lawful-drawn}
 use Rattle.timing.specs.Rules.{rangesOf, offerOf, isKnown, isOffered, ruleOf, isAllowed, planBy, transmissionsOf, isLawfulBy}
-use Rattle.timing.specs.Claims.{ChosenBy, PlanByLawful, PlanByAsked, LawfulPicked}
+use Rattle.timing.specs.Claims.{PlanByLawful, PlanByAsked, LawfulPicked}
 use Rattle.timing.proofs.Known.{known}
 use Rattle.timing.proofs.Laws.{plan-by-chosen}
 
@@ -102,19 +102,20 @@ module _ (rule level n d : ℕ) (p : SlotPlan) (k : isKnown rule level ≡ true)
 
 -- ---- the theorems
 
--- an answer that is a plan: nothing was wrong with the arguments, and it is lawful under the rule for so many transmissions
+-- where the answer is a plan nothing was wrong with the arguments
+pub picked-allowed : (rule level n d draw : ℕ) (p : SlotPlan) → planBy rule level n d draw ≡ planned p → isAllowed rule level n d ≡ true
+picked-allowed rule level n d draw p e =
+    by-test (isAllowed rule level n d) (λ a. a)
+    (λ a. absurd (refused-number Argument (ap (λ (x : Answer). x .number) (sym (plan-by-chosen rule level n d draw .argument a) ∙ e))))
+
+-- and it is lawful under the rule for so many transmissions
 picked : (rule level n d draw : ℕ) (p : SlotPlan) → planBy rule level n d draw ≡ planned p
     → (isKnown rule level ≡ true) × (isOffered rule level n ≡ true) × (lawful (ruleOf rule level n) d p ≡ true)
 picked rule level n d draw p e =
-    by-test (isAllowed rule level n d)
-    (λ a.
+    let a = picked-allowed rule level n d draw p e in
     let w = both (isDuration d) (isKnown rule level && isOffered rule level n) a in
     let v = both (isKnown rule level) (isOffered rule level n) (w .1) in
-    (v .0, v .1, chosen-lawful (ruleOf rule level n) d (answered .chosen a) p e))
-    (λ a. absurd (refused-number Argument (ap (λ (x : Answer). x .number) (sym (answered .argument a) ∙ e))))
-  where
-    answered : ChosenBy rule level n d (planBy rule level n d draw)
-    answered = plan-by-chosen rule level n d draw
+    (v .0, v .1, chosen-lawful (ruleOf rule level n) d (plan-by-chosen rule level n d draw .chosen a) p e)
 
 pub plan-by-lawful : PlanByLawful
 plan-by-lawful rule level n d draw p e = let w = picked rule level n d draw p e in lawful-by rule level n d p (w .0) (w .1) (w .2)

@@ -20,6 +20,7 @@ mod repeater;
 mod rules;
 mod sample;
 mod scenarios;
+mod site;
 mod slots;
 mod subtelegram;
 mod telegrams;
@@ -43,6 +44,8 @@ fn main() {
         ["codec", "stdout"] => codec::stdout().into_bytes(),
         ["slots", "stdout"] => slots::stdout().into_bytes(),
         ["rules", "stdout"] => rules::stdout().into_bytes(),
+        ["site", "stdin"] => site::stdin().into_bytes(),
+        ["site", "stdout"] => site::stdout().into_bytes(),
         ["collect", "stdout"] => {
             let mut input = Vec::new();
             std::io::stdin()
@@ -72,7 +75,7 @@ fn main() {
 }
 
 fn usage<T>() -> T {
-    eprintln!("reference archive|codec|erp2|history|long stdin|stdout,");
+    eprintln!("reference archive|codec|erp2|history|long|site stdin|stdout,");
     eprintln!("reference slots|rules|collect|sample stdout,");
     eprintln!(
         "reference inputs NAME stdin|stdout, NAME one of {}",

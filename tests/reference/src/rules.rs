@@ -61,6 +61,15 @@ impl Row {
         ordered && last_end <= self.last_end
     }
 
+    /// Whether these slots are a lawful plan: one in each range, and lawful.
+    pub fn has(&self, plan: &[u64], duration: u64) -> bool {
+        let in_range = |(slot, range): (&u64, &(u64, u64))| (range.0..=range.1).contains(slot);
+        !plan.is_empty()
+            && plan.len() == self.ranges.len()
+            && plan.iter().zip(&self.ranges).all(in_range)
+            && self.is_lawful(plan, duration)
+    }
+
     /// Every lawful plan, by first, then second, then third slot.
     pub fn plans(&self, duration: u64) -> Vec<Vec<u64>> {
         if self.ranges.is_empty() {
@@ -208,6 +217,19 @@ mod tests {
         for (row, duration) in table().iter().zip(longest) {
             assert_eq!(row.plans(duration).is_empty(), duration == 0);
             assert!(row.plans(duration + 1).is_empty());
+        }
+    }
+
+    /// The plans that a row has are those that are listed.
+    #[test]
+    fn had_are_listed() {
+        let any = [(0, 41); 3];
+        for row in table() {
+            for duration in [1, 1000, 1001, 9000, 14_000] {
+                let mut had = candidates(&any[..usize::from(row.number)]);
+                had.retain(|plan| row.has(plan, duration));
+                assert_eq!(had, row.plans(duration));
+            }
         }
     }
 

@@ -1,0 +1,5 @@
+pub mod Accepts
+pub mod Named
+mod Loops
+mod Answers
+mod Fill

@@ -1,0 +1,40 @@
+-- The repeaters of a site as bytes, nine for each: rule, level, duration in four from the highest, first, second and third slot. A layout of
+-- this house, for callers in C. Assumes nothing.
+use mathlib.Core.Bool.{cond}
+use mathlib.Core.List.{List, map}
+use Prim.Native.Nat.{ℕ, _+_, _*_, _/_, _%_, min}
+use lib.Dec.{eqb}
+use lib.ListN.{length, getD, take, drop}
+use Rattle.lists.specs.Lists.{upFrom}
+use Rattle.refusal.specs.Number.{numberOf}
+use Rattle.refusal.specs.declared.Refusal.the-variants.{Argument}
+use Rattle.slots.specs.Plan.{plan}
+use Rattle.site.specs.declared.Assignment.{Assignment}
+use Rattle.site.specs.Site.{maxRepeaters, Answer, answer, siteOf}
+
+-- the bytes of one repeater
+abbrev pub size : ℕ
+size = 9
+
+abbrev pub assignmentOf : List ℕ → Assignment
+assignmentOf b = record {
+  rule = getD b 0 0;
+  level = getD b 1 0;
+  duration = getD b 2 0 * 16_777_216 + getD b 3 0 * 65_536 + getD b 4 0 * 256 + getD b 5 0;
+  slots = plan (getD b 6 0) (getD b 7 0) (getD b 8 0);
+}
+
+-- repeater i has the bytes from 9 i on
+abbrev pub assignmentAt : List ℕ → ℕ → Assignment
+assignmentAt s i = assignmentOf (take size (drop (size * i) s))
+
+-- as many as are whole, and at most 32
+abbrev pub countIn : List ℕ → ℕ
+countIn s = min (length s / size) maxRepeaters
+
+abbrev pub assignmentsIn : List ℕ → List Assignment
+assignmentsIn s = map (assignmentAt s) (upFrom 0 (countIn s))
+
+-- 10 also where the bytes are no whole repeaters
+abbrev pub siteIn : List ℕ → Answer
+siteIn s = cond (eqb (length s % size) 0) (siteOf (length s / size) (assignmentsIn s)) (answer (numberOf Argument) 0 0)

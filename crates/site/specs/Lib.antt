@@ -1,0 +1,3 @@
+pub mod Site
+pub mod Claims
+pub mod Bytes

@@ -1,0 +1,54 @@
+// Runs the check of a site on the long records of standard input, and prints a line for each: stdout is what the second program says
+// (tests/reference/README.md has the format).
+use site::Verdict;
+use test_io::LONG;
+use test_io::field;
+use test_io::last_field;
+
+fn main() {
+    records(1_000_000);
+}
+
+// At most so many records, until the input ends.
+fn records(most: u64) {
+    let mut left = most;
+    while 0 < left {
+        left -= 1;
+        if !record() {
+            left = 0;
+        }
+    }
+}
+
+// One record, if there is one more.
+fn record() -> bool {
+    let mut bytes = [0u8; LONG];
+    let more = test_io::next_long_record(&mut bytes);
+    if more {
+        answer(&bytes);
+    }
+    more
+}
+
+// The first 32 repeaters of the record, whatever its count is.
+fn answer(r: &[u8; LONG]) {
+    let whole = &r[..];
+    let repeaters = site::decode(&whole[8..296]);
+    show(site::check(repeaters, whole[0] as usize));
+}
+
+fn show(verdict: Verdict) {
+    match verdict {
+        Verdict::Accepted => line(0, 0, 0),
+        Verdict::OutOfRange => line(10, 0, 0),
+        Verdict::Unlawful(i) => line(18, i, 0),
+        Verdict::Overlap(i, j) => line(19, i, j),
+    }
+}
+
+fn line(number: u64, repeater: usize, other: usize) {
+    test_io::text(b"SITE ");
+    field(number);
+    field(repeater as u64);
+    last_field(other as u64);
+}
