@@ -1,7 +1,8 @@
--- An answer as one number. Assumes nothing.
+-- Answers as one number. Assumes nothing.
 use Prim.Native.Nat.{ℕ, _+_, _*_}
 use Rattle.slots.specs.declared.SlotPlan.{SlotPlan}
 use Rattle.slots.specs.Plan.{Answer}
+use Rattle.site.specs.Site as site
 
 abbrev pub answer : ℕ → SlotPlan → Answer
 answer n p = record { number = n; slots = p }
@@ -9,3 +10,7 @@ answer n p = record { number = n; slots = p }
 -- its number and its slots in order, a byte each from the highest
 abbrev pub packed : Answer → ℕ
 packed a = a .number * 16_777_216 + a .slots .first * 65_536 + a .slots .second * 256 + a .slots .third
+
+-- the answer for a site: its number, and a byte for each repeater that it names
+abbrev pub packedSite : site.Answer → ℕ
+packedSite a = a .number * 65_536 + a .repeater * 256 + a .other

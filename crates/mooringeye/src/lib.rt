@@ -1,11 +1,14 @@
 // The interface for Rust and C, on plain numbers and bytes: `rt staticlib mooringeye` makes the archive to link.
+use refusal::Refusal;
+use site::Verdict;
 use slots::Planned;
 use slots::SlotPlan;
 ghost use mathlib.Core.Path.{_≡_};
 ghost use Rattle.crc8.specs.Crc8.{crcOf};
 ghost use Rattle.slots.specs.Plan.{answerOf, planOf};
 ghost use Rattle.timing.specs.Rules.{planBy};
-ghost use Rattle.mooringeye.specs.Packed.{answer, packed};
+ghost use Rattle.site.specs.Bytes.{siteIn};
+ghost use Rattle.mooringeye.specs.Packed.{answer, packed, packedSite};
 
 // The CRC-8 of ERP1 over bytes.
 #[no_mangle]
@@ -35,6 +38,23 @@ pub extern "C" fn mooringeye_plan_by(
     ensures { λ r. ⌜ r ≡ packed (planBy rule level transmissions duration draw) ⌝ }
 {
     pack_planned(timing::plan_by(rule, level, transmissions, duration, draw))
+}
+
+// The check of a site, nine bytes for each repeater: number x 65,536 + repeater x 256 + other.
+#[no_mangle]
+pub extern "C" fn mooringeye_site(repeaters: &[u8]) -> u32
+    ensures { λ r. ⌜ r ≡ packedSite (siteIn (now (repeaters .entry))) ⌝ }
+{
+    match site::check_bytes(repeaters) {
+        Verdict::Accepted => 0,
+        Verdict::OutOfRange => refusal::number(Refusal::Argument) as u32 * 65_536,
+        Verdict::Unlawful(i) => {
+            refusal::number(Refusal::Unlawful) as u32 * 65_536 + i as u32 * 256
+        }
+        Verdict::Overlap(i, j) => {
+            refusal::number(Refusal::Overlap) as u32 * 65_536 + i as u32 * 256 + j as u32
+        }
+    }
 }
 
 fn pack_planned(planned: Planned) -> u32
