@@ -5,11 +5,13 @@ mod bursts;
 mod collector;
 mod crc8;
 mod erp2;
+mod site;
 mod slots;
 
 fn main() {
     crc8::bench();
     slots::bench();
+    site::bench();
     collector::bench();
     bursts::bench();
     erp2::bench();
