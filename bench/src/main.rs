@@ -1,6 +1,7 @@
 //! The proved code against hand-written Rust of the same job: same input, one run, answers compared before they are timed.
 use std::time::Instant;
 
+mod archive;
 mod bursts;
 mod collector;
 mod crc8;
@@ -15,6 +16,7 @@ fn main() {
     collector::bench();
     bursts::bench();
     erp2::bench();
+    archive::bench();
 }
 
 /// Nanoseconds a call: the best of many rounds of `calls` calls.
