@@ -165,7 +165,7 @@ module _ (rows : List Row) (m : ℕ) (fit : Fits rows) (fits : length rows ≤ c
 
 -- ---- every block matches
 
-blank-blank : isBlank blank ≡ true
+pub blank-blank : isBlank blank ≡ true
 unfolding blank
 blank-blank = refl
 

@@ -346,7 +346,7 @@ module _ (buffer : List ℕ) (v : verdict buffer .number ≡ 0) where
   pub rows-fit : Fits (rowsIn buffer)
   rows-fit = exact-fits buffer blocks (blocks-of buffer v .0) (verdict-facts buffer v .1)
 
-  rows-few : length (rowsIn buffer) ≤ cellsPerBlock * blocks
+  pub rows-few : length (rowsIn buffer) ≤ cellsPerBlock * blocks
   rows-few = exact-few buffer blocks (blocks-of buffer v .0) (verdict-facts buffer v .1)
 
   pub cursor : (r : Row) → r .time < 2 ^ 64 → appendAtOf buffer (length (rowsIn buffer)) r ≡ appendOf buffer r

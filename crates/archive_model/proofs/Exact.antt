@@ -279,7 +279,7 @@ module _ (buffer : List ℕ) (m : ℕ) (long : length buffer ≡ blockLength * m
   blocks-flat = pieces blockLength buffer 0 (length buffer / blockLength) ∙ take-all (blockLength * (length buffer / blockLength)) buffer (omega (arith, count))
 
   module _ (none : mismatch buffer ≡ None) where
-    is-shape : Shape 0 (blocksIn buffer)
+    pub is-shape : Shape 0 (blocksIn buffer)
     unfolding mismatch
     is-shape = shape 0 (blocksIn buffer) each none
 

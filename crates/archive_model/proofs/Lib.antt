@@ -4,3 +4,4 @@ pub mod Pieces
 pub mod Exact
 pub mod Cursor
 pub mod Claims
+pub mod Identity

@@ -1,18 +1,21 @@
 -- Salvage (document 02, A9) and the removal of identities (A11). Assumes nothing.
-use Prim.Native.Nat.{ℕ, suc, _-_}
-use mathlib.Core.Bool.{Bool, cond, not, _&&_, _||_}
-use mathlib.Core.List.{List, [], _∷_, _++_, map, flatten}
-use lib.Dec.{ltb, leb, eqb}
-use lib.ListN.{length, getD, drop}
-use Rattle.lists.specs.Lists.{keep, any}
+use Prim.Native.Nat.{ℕ, _-_, _/_}
+use mathlib.Core.Bool.{Bool, cond, not, _||_}
+use mathlib.Core.List.{List, _++_, map, flatten}
+use lib.Dec.{ltb, eqb}
+use lib.ListN.{length, drop}
+use Rattle.lists.specs.Lists.{keep, any, upFrom}
 use Rattle.refusal.specs.Number.{numberOf}
 use Rattle.refusal.specs.declared.Refusal.the-variants.{ShortOutput, Argument, Size}
+use Rattle.layout.specs.Block.{blockLength}
 use Rattle.archive_model.specs.Row.{Row, rowsOf, isSound, isBlank}
 use Rattle.archive_model.specs.Buffer.{isWhole, blocksIn, blocksFor, rowsIn, bufferOf}
-use Rattle.archive_model.specs.Append.{verdict}
+use Rattle.archive_model.specs.Append.{verdict, blockAt}
 use Rattle.archive_model.specs.Identity.{identityOf}
 
--- the rows of the sound blocks
+-- ---- salvage
+
+-- the rows of the blocks that are kept: those "whose layout, rows and check are right apart from its number"
 unfoldable pub soundRows : List ℕ → List Row
 soundRows buffer = flatten (map rowsOf (keep isSound (blocksIn buffer)))
 
@@ -20,13 +23,9 @@ soundRows buffer = flatten (map rowsOf (keep isSound (blocksIn buffer)))
 abbrev pub isDropped : List ℕ → Bool
 isDropped block = not (isSound block || isBlank block)
 
--- the positions of the dropped ones, of the blocks from position k on
-unfoldable pub droppedFrom : ℕ → List (List ℕ) → List ℕ
-droppedFrom k [] = []
-droppedFrom k (b ∷ bs) = cond (isDropped b) (k ∷ droppedFrom (suc k) bs) (droppedFrom (suc k) bs)
-
-abbrev pub dropped : List ℕ → List ℕ
-dropped buffer = droppedFrom 0 (blocksIn buffer)
+-- "in order, the positions of the dropped blocks"
+unfoldable pub dropped : List ℕ → List ℕ
+dropped buffer = keep (λ k. isDropped (blockAt k buffer)) (upFrom 0 (length buffer / blockLength))
 
 pub record Salvaged : Type 0 where
   pub number : ℕ
@@ -39,6 +38,8 @@ pub record Salvaged : Type 0 where
 abbrev pub fronted : List ℕ → List ℕ → List ℕ
 fronted xs old = xs ++ drop (length xs) old
 
+-- 16; 6 "for output shorter than the room or a list too short for the positions"; else the rows in the front of the output, zeros up to the
+-- buffer's length, and the positions in the front of the list
 unfoldable pub salvageOf : List ℕ → List ℕ → List ℕ → Salvaged
 salvageOf buffer output positions =
     cond (not (isWhole (length buffer))) (record { number = numberOf Size; count = 0; rows = 0; output = output; positions = positions })
@@ -54,12 +55,15 @@ salvageOf buffer output positions =
 
 -- ---- removal
 
+-- "up to 32 transmitter identities"
 abbrev pub maxIdentities : ℕ
 maxIdentities = 32
 
+-- a row of a transmitter that left
 abbrev pub isListed : List ℕ → Row → Bool
 isListed identities r = any (eqb (identityOf r)) identities
 
+-- "the others in order"
 abbrev pub others : List ℕ → List Row → List Row
 others identities rows = keep (λ r. not (isListed identities r)) rows
 
@@ -69,6 +73,7 @@ pub record Removed : Type 0 where
   pub freed : ℕ
   pub buffer : List ℕ
 
+-- 16, 12 with its position, 10; else the other rows in the same buffer, and the blocks no longer needed
 unfoldable pub removeOf : List ℕ → List ℕ → Removed
 removeOf buffer identities =
     cond (not (eqb (verdict buffer .number) 0)) (record { number = verdict buffer .number; position = verdict buffer .position; freed = 0; buffer = buffer })
