@@ -29,7 +29,7 @@ use Rattle.repack_model.specs.Claims.{Remains, RemovedAgain, Freed, Then
 
 -- ---- the rows that stay
 
-fits-keep : (p : Row → Bool) (rows : List Row) → Fits rows → Fits (keep p rows)
+pub fits-keep : (p : Row → Bool) (rows : List Row) → Fits rows → Fits (keep p rows)
 unfolding Fits
 fits-keep p [] f i h = absurd (omega arith)
 fits-keep p (r ∷ rows) f i h = go (p r) i h (fits-keep p rows (λ j k. f (suc j) (omega arith)))

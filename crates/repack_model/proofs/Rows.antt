@@ -33,14 +33,14 @@ use Rattle.repack_model.specs.Claims.{Accounted}
 
 -- ---- some blocks
 
-abbrev rowsKept : List (List ℕ) → List Row
+abbrev pub rowsKept : List (List ℕ) → List Row
 rowsKept bs = flatten (map rowsOf (keep isSound bs))
 
 no-fits : Fits []
 unfolding Fits
 no-fits i h = absurd (omega arith)
 
-kept-fit : (bs : List (List ℕ)) → Fits (rowsKept bs)
+pub kept-fit : (bs : List (List ℕ)) → Fits (rowsKept bs)
 unfolding flatten
 kept-fit [] = no-fits
 kept-fit (b ∷ bs) =

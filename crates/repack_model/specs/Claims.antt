@@ -1,16 +1,17 @@
 -- What is proved of salvage and of removal (document 02, A9 and A11). Assumes nothing.
-use Prim.Native.Nat.{ℕ, _+_, _*_, _/_, _^_, _≤_, _<_}
+use Prim.Native.Nat.{ℕ, _+_, _*_, _/_, _%_, _≤_, _<_}
 use mathlib.Core.Path.{_≡_}
-use mathlib.Core.Bool.{true, not}
-use mathlib.Core.List.{List, [], _∷_, _++_, List·Memᴰ}
-use lib.Dec.{ltb}
+use mathlib.Core.Bool.{true}
+use mathlib.Core.List.{List, [], _∷_, _++_, flatten, List·Memᴰ}
+use lib.Dec.{ltb, eqb}
 use lib.ListN.{length, take, drop}
 use Rattle.lists.specs.Lists.{all, count, pairwise}
 use Rattle.layout.specs.Block.{cellsPerBlock, blockLength}
 use Rattle.archive_model.specs.Row.{Row, isRow, isSound, isBlank}
-use Rattle.archive_model.specs.Buffer.{blocksFor, blocksIn, rowsIn, bufferOf}
+use Rattle.archive_model.specs.Buffer.{blocksFor, blocksIn, rowsIn, archiveOf, bufferOf}
 use Rattle.archive_model.specs.Append.{verdict, appendOf, blockAt}
 use Rattle.repack_model.specs.Repack.{soundRows, isDropped, dropped, Salvaged, salvageOf, maxIdentities, others, Removed, removeOf}
+use Rattle.repack_model.specs.Packer.{startPacking, packedIn}
 
 -- ---- salvage
 
@@ -98,3 +99,11 @@ abbrev pub BothLists : Type 0
 BothLists =
     (buffer xs ys : List ℕ) → verdict buffer .number ≡ 0 → length (xs ++ ys) ≤ maxIdentities
     → removeOf (removeOf buffer xs .buffer) ys .buffer ≡ removeOf buffer (xs ++ ys) .buffer
+
+-- ---- the packer
+
+-- Pieces are the whole: what a packer writes of pieces of whole blocks, one after the other, is the archive of the rows that stay.
+abbrev pub PiecesPacked : Type 0
+PiecesPacked =
+    (identities : List ℕ) (pieces : List (List ℕ)) → all (λ x. eqb (length x % blockLength) 0) pieces ≡ true
+    → packedIn startPacking identities pieces ≡ archiveOf (others identities (soundRows (flatten pieces)))
