@@ -196,7 +196,7 @@ fn put_again(out: &mut [u8], block: &[u8], used: usize)
 }
 
 // How many rows a sound block has, and 0 for any other: it is written again and compared.
-fn sound(block: &[u8]) -> usize
+pub fn sound(block: &[u8]) -> usize
     requires { ⌜ length (now block) ≡ blockLength ⌝ }
     ensures { λ r. ⌜ r ≡ soundRows (now (block .entry)) ⌝ }
 {
@@ -360,7 +360,7 @@ fn before(k: usize) -> usize
 // ---- the calls
 
 // Whether a length is that of a buffer of whole blocks, at most 2^32 of them.
-fn is_whole(len: usize) -> bool
+pub fn is_whole(len: usize) -> bool
     ensures { λ r. ⌜ r ≡ buffer.isWhole len ⌝ }
 {
     if len % BLOCK_LENGTH != 0 {

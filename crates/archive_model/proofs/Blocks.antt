@@ -12,7 +12,7 @@ use mathlib.Core.Path.{_≡_, refl, sym, ap, ap₂, _∙_}
 use mathlib.Core.Bool.{Bool, true, false, cond, _&&_}
 use mathlib.Core.List.{List, [], _∷_, _++_, map}
 use lib.ListN.{length, getD, take, replicate, length-append, length-map, List·getD-append}
-use lib.Seq.{ext-getD, getD-at, take-take}
+use lib.Seq.{ext-getD, getD-at}
 use lib.Dec.{eqb}
 use borrow.Author.Tests.{le-leb, eqb-true}
 use Rattle.lists.specs.Lists.{equal, all, upFrom}
@@ -26,18 +26,11 @@ use Rattle.layout.specs.BigEndian.{be, unbe}
 use Rattle.layout.specs.Cell.{cellLength, cellOf, cellTime, cellBytes, cellLast}
 use Rattle.layout.specs.Header.{headerLength}
 use Rattle.layout.specs.Block.{cellsPerBlock, blockLength, blockOf, blockHeader, blockCell}
-use Rattle.layout.proofs.Segments.{part-at, left, whole, Each}
+use Rattle.layout.proofs.Segments.{part-at, part-take, left, whole, Each}
 use Rattle.layout.proofs.BigEndian.{be-length, unbe-be}
 use Rattle.layout.proofs.Cell.{cell-length, cell-time, cell-bytes, cell-last}
 use Rattle.layout.proofs.Block.{block-length, block-header, block-cell}
 use Rattle.archive_model.specs.Row.{Row, rowLast, rowCell, rowsHeader, rowsBlock, blockNumber, rowCount, rowIn, rowsOf, isRow, isSound}
-
--- a part of a front
-part-take : (a w n : ℕ) (xs : List ℕ) → a + w ≤ n → part a w (take n xs) ≡ part a w xs
-part-take zero w n xs h = take-take w n xs (omega arith)
-part-take (suc a) w zero xs h = absurd (omega arith)
-part-take (suc a) w (suc n) [] h = refl
-part-take (suc a) w (suc n) (x ∷ xs) h = part-take a w n xs (omega arith)
 
 -- a row that a cell holds: a valid subtelegram, and a time of 64 bits
 pub record Fit (r : Row) : Type 0 where

@@ -54,7 +54,7 @@ module _ (b : List ℕ) (sound : isSound b ≡ true) where
   pub sound-few : length (rowsOf b) ≤ cellsPerBlock
   sound-few = omega (arith, rows-count b, tests .1)
 
-  valid-at : (i : ℕ) → i < length (rowsOf b) → isRow (getD (rowsOf b) i noRow) ≡ true
+  pub valid-at : (i : ℕ) → i < length (rowsOf b) → isRow (getD (rowsOf b) i noRow) ≡ true
   valid-at i h = all-getD isRow (rowsOf b) i noRow (tests .2) h
 
   shorts : Shorts (rowsOf b)
@@ -64,13 +64,13 @@ module _ (b : List ℕ) (sound : isSound b ≡ true) where
       check-facts bytes (eqb-true (checkOf bytes) 0 (valid-at i h)) .high
 
   -- the row is what is read of its cell, which is what is written of the row: so its time fits
-  row-is : (i : ℕ) → i < length (rowsOf b) → getD (rowsOf b) i noRow ≡ rowIn (blockCell i b)
+  pub row-is : (i : ℕ) → i < length (rowsOf b) → getD (rowsOf b) i noRow ≡ rowIn (blockCell i b)
   unfolding rowsOf
   row-is i h =
       getD-upFrom (λ j. rowIn (blockCell j b)) 0 (rowCount b) i noRow (omega (arith, length-map (upFrom 0 (rowCount b)) (λ j. rowIn (blockCell j b)), length-upFrom 0 (rowCount b)))
       ∙ ap (λ j. rowIn (blockCell j b)) (zero-add i)
 
-  cell-is : (i : ℕ) → i < length (rowsOf b) → blockCell i b ≡ rowCell (getD (rowsOf b) i noRow)
+  pub cell-is : (i : ℕ) → i < length (rowsOf b) → blockCell i b ≡ rowCell (getD (rowsOf b) i noRow)
   cell-is i h = ap (blockCell i) (sym sound-is) ∙ written-cell (blockNumber b) (rowsOf b) shorts sound-few i h
 
   time-fits : (i : ℕ) → i < length (rowsOf b) → getD (rowsOf b) i noRow .time < 2 ^ 64

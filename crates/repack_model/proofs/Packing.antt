@@ -1,6 +1,6 @@
 -- The packer: cells in pieces fill the same blocks as all of them at once, and the blocks of all rows are the archive.
 --     full-append, push-append        pushing one list and then another is pushing both
---     push-none, push-few, push-full  what few cells do: they wait, or fill one block
+--     cells-block-length, few-blocks, one-block, push-none      a block's length; few cells: they wait, or fill one block
 --     block-cells, archive-cells      a block and an archive by their cells
 --     pieces-packed                   the claim
 -- Assumes nothing.
@@ -22,10 +22,11 @@ use Rattle.layout.specs.Buffer.{part}
 use Rattle.layout.specs.Cell.{cellLength}
 use Rattle.layout.specs.Block.{cellsPerBlock, bodyLength, blockLength, sealed, blockOf}
 use Rattle.layout.proofs.Segments.{left}
+use Rattle.layout.proofs.Buffer.{padded-length}
 use Rattle.layout.proofs.Cell.{cell-length}
 use Rattle.archive_model.specs.Row.{Row, rowLast, rowCell, rowsHeader, rowsBlock}
 use Rattle.archive_model.specs.Buffer.{blocksFor, rowsAt, archiveOf}
-use Rattle.archive_model.proofs.Blocks.{Fit, Fits, noRow, short}
+use Rattle.archive_model.proofs.Blocks.{Fit, Fits, noRow, short, header-length}
 use Rattle.archive_model.proofs.Buffers.{map-same, flatten-append, group-fits}
 use Rattle.repack_model.specs.Packer.{Packing, startPacking, fullLength, cellsBlock, fullBlocks, pushedBlocks, pushed, lastBlock, cellsOf}
 
@@ -98,6 +99,13 @@ module _ (p : Packing) where
       ∙ ap (λ (c : ℕ). drop c (w ++ xs ++ ys)) e ∙ sym (drop-drop (fullLength * m) (fullLength * n) (w ++ xs ++ ys))
       ∙ ap (drop (fullLength * m)) (both-drop (w ++ xs) ys) in
       λ j. record { next = next j; waiting = waits j }
+
+pub cells-block-length : (k : ℕ) (cells : List ℕ) → length cells ≤ fullLength → length (cellsBlock k cells) ≡ blockLength
+unfolding cellsBlock sealed
+cells-block-length k cells h =
+    let head = rowsHeader k (length cells / cellLength) in
+    let long : length (padded bodyLength (head ++ cells)) ≡ bodyLength = padded-length bodyLength (head ++ cells) (omega (arith, length-append head cells, header-length k (length cells / cellLength))) in
+    length-append (padded bodyLength (head ++ cells)) _ ∙ omega (arith, long)
 
 -- fewer than 15 cells fill no block
 pub few-blocks : (k : ℕ) (cells : List ℕ) → length cells < fullLength → fullBlocks k cells ≡ []

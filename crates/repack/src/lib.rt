@@ -1,0 +1,134 @@
+// Archives packed anew (document 02, A9 and A11): a damaged one is salvaged, and the rows of sensors that left are removed. One packer serves both.
+use archive::Taken;
+use layout::BLOCK_LENGTH;
+use layout::CELL_LENGTH;
+use layout::CELLS_PER_BLOCK;
+use layout::HEADER_LENGTH;
+use refusal::Refusal;
+ghost use mathlib.Core.Path.{_≡_};
+ghost use mathlib.Core.Bool.{true, cond};
+ghost use mathlib.Core.List.{_++_};
+ghost use Prim.Native.Nat.{_+_, _-_, _*_, _/_, _%_, _≤_, _<_};
+ghost use lib.Dec.{eqb};
+ghost use lib.ListN.{length, take, drop, set};
+ghost use Rattle.lists.specs.Lists as lists;
+ghost use Rattle.layout.specs.Cell.{cellLength};
+ghost use Rattle.layout.specs.Block.{cellsPerBlock, blockLength};
+ghost use Rattle.archive_model.specs.Row.{rowIn, isRow};
+ghost use Rattle.archive_model.specs.Identity.{identityOf};
+ghost use Rattle.repack_model.specs.Repack as model;
+ghost use Rattle.repack_model.specs.Packer as packer;
+ghost use Rattle.repack.specs.Calls.{salvageResult, pendingLength, packing, areRows, keptCell, keptFrom, Waits, Flushed};
+
+// The bytes of the 15 cells of a block, and of the cells that wait with those of one block more.
+const FULL_LENGTH: usize = CELL_LENGTH * CELLS_PER_BLOCK;
+
+const PENDING_LENGTH: usize = FULL_LENGTH + FULL_LENGTH;
+
+// The bytes of a block before its CRC.
+const BODY_LENGTH: usize = BLOCK_LENGTH - 1;
+
+// Where the bytes of a cell begin.
+const FIELD: usize = 9;
+
+// How many blocks were dropped, and how many rows remain.
+pub struct Salvaged {
+    pub answer: Taken,
+    pub dropped: usize,
+    pub rows: usize,
+}
+
+// ---- one row
+
+// The transmitter of a row.
+fn identity_of(cell: &[u8]) -> u64
+    requires { ⌜ (length (now cell) ≡ cellLength) × (isRow (rowIn (now cell)) ≡ true) ⌝ }
+    ensures { λ r. ⌜ r ≡ identityOf (rowIn (now (cell .entry))) ⌝ }
+{
+    let at = FIELD + layout::cell_used(cell) as usize - 6;
+    layout::read_number(&cell[at..at + 4])
+}
+
+// Whether a transmitter is listed.
+fn is_listed(identity: u64, identities: &[u32]) -> bool
+    ensures { λ r. ⌜ r ≡ lists.any (eqb identity) (now (identities .entry)) ⌝ }
+{
+    for i in 0..identities.len() {
+        if identity == identities[i] as u64 {
+            return true;
+        }
+    }
+    false
+}
+
+// A cell goes behind `at` others, unless its transmitter is listed.
+fn push_cell(pending: &mut [u8], at: usize, cell: &[u8], identities: &[u32]) -> usize
+    requires { ⌜ (length (now pending) ≡ pendingLength) × (at < cellsPerBlock + cellsPerBlock) × (length (now cell) ≡ cellLength) × (isRow (rowIn (now cell)) ≡ true) ⌝ }
+    ensures { λ r. ⌜ Waits (take (cellLength * at) (now (pending .entry))) (keptCell (now (identities .entry)) (now (cell .entry))) (now (pending .exit)) (at + 1) r ⌝ }
+{
+    if is_listed(identity_of(cell), identities) {
+        return at;
+    }
+    bytes::copy(
+        cell,
+        &mut pending[CELL_LENGTH * at..CELL_LENGTH * at + CELL_LENGTH],
+    );
+    at + 1
+}
+
+// The first `rows` cells of a block go behind `used` others, those of listed transmitters left out.
+fn push_cells(pending: &mut [u8], used: usize, source: &[u8], rows: usize, identities: &[u32]) -> usize
+    requires { ⌜ (length (now pending) ≡ pendingLength) × (used < cellsPerBlock) × (length (now source) ≡ blockLength) × (rows ≤ cellsPerBlock) × (areRows (now source) rows ≡ true) ⌝ }
+    ensures { λ r. ⌜ Waits (take (cellLength * used) (now (pending .entry))) (keptFrom (now (identities .entry)) (now (source .entry)) 0 rows) (now (pending .exit)) (used + rows) r ⌝ }
+{
+    let mut at = used;
+    for i in 0..rows {
+        let start = HEADER_LENGTH + CELL_LENGTH * i;
+        at = push_cell(
+            pending,
+            at,
+            &source[start..start + CELL_LENGTH],
+            identities,
+        );
+    }
+    at
+}
+
+// ---- one block
+
+// Block `k` with these cells.
+fn put_block(out: &mut [u8], k: usize, cells: &[u8])
+    requires { ⌜ (length (now out) ≡ blockLength) × (length (now cells) ≤ packer.fullLength) ⌝ }
+    ensures { λ _. ⌜ now (out .exit) ≡ packer.cellsBlock k (now (cells .entry)) ⌝ }
+{
+    let end = HEADER_LENGTH + cells.len();
+    layout::put_number(&mut out[0..4], k as u64);
+    out[4] = (cells.len() / CELL_LENGTH) as u8;
+    layout::clear(&mut out[5..HEADER_LENGTH]);
+    bytes::copy(cells, &mut out[HEADER_LENGTH..end]);
+    layout::clear(&mut out[end..BODY_LENGTH]);
+    layout::seal(out);
+}
+
+// The cells behind the first 15 go to the front.
+fn move_front(pending: &mut [u8])
+    requires { ⌜ length (now pending) ≡ pendingLength ⌝ }
+    ensures { λ _. ⌜ now (pending .exit) ≡ drop packer.fullLength (now (pending .entry)) ++ drop packer.fullLength (now (pending .entry)) ⌝ }
+{
+    let mut later = [0u8; FULL_LENGTH];
+    bytes::copy(&pending[FULL_LENGTH..PENDING_LENGTH], &mut later);
+    bytes::copy(&later, &mut pending[0..FULL_LENGTH]);
+}
+
+// Where 15 of `total` cells fill block `k`, it is put, and the others wait.
+fn flush(pending: &mut [u8], total: usize, k: usize, full: &mut [u8]) -> usize
+    requires { ⌜ (length (now pending) ≡ pendingLength) × (total < cellsPerBlock + cellsPerBlock) × (length (now full) ≡ blockLength) ⌝ }
+    ensures { λ r. ⌜ Flushed k total (now (pending .entry)) (now (pending .exit)) (now (full .entry)) (now (full .exit)) r ⌝ }
+{
+    if total < CELLS_PER_BLOCK {
+        return total;
+    }
+    put_block(full, k, &pending[0..FULL_LENGTH]);
+    move_front(pending);
+    total - CELLS_PER_BLOCK
+}
