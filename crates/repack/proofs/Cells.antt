@@ -28,7 +28,8 @@ use Rattle.layout.proofs.Buffer.{resized-length, resized-cut}
 use Rattle.archive_model.specs.Row.{rowIn, isRow}
 use Rattle.archive_model.specs.Identity.{identityOf}
 use Rattle.repack_model.specs.Repack.{isListed}
-use Rattle.repack.specs.Calls.{cellsFrom, areRows, keptCell, keptFrom}
+use Rattle.archive.specs.Archive.{cellsFrom}
+use Rattle.repack.specs.Calls.{areRows, keptCell, keptFrom}
 
 pub copied : (src dst ys : List ℕ) → length src ≡ length dst → ys ≡ take (length src) src ++ drop (length src) dst → ys ≡ src
 copied src dst ys e c =

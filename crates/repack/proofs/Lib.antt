@@ -1,2 +1,3 @@
 pub mod Cells
 pub mod Flushes
+pub mod Walks

@@ -1,5 +1,5 @@
 -- What the calls of salvage and removal show (document 02, A9 and A11). Assumes nothing.
-use Prim.Native.Nat.{ℕ, _+_, _*_, _/_, _%_, _≤_}
+use Prim.Native.Nat.{ℕ, _+_, _*_, _/_, _%_, _≤_, _<_}
 use mathlib.Core.Path.{_≡_}
 use mathlib.Core.Bool.{Bool, true, cond, not}
 use mathlib.Core.List.{List, [], _++_, map, flatten}
@@ -11,10 +11,11 @@ use Rattle.refusal.specs.declared.Refusal.the-variants.{Mismatch}
 use Rattle.layout.specs.Cell.{cellLength}
 use Rattle.layout.specs.Block.{cellsPerBlock, blockCell, blockLength}
 use Rattle.archive_model.specs.Row.{Row, rowIn, isRow}
-use Rattle.archive.specs.Archive.{takenNumber}
+use Rattle.archive.specs.Archive.{takenNumber, cellsFrom}
 use Rattle.repack_model.specs.Repack as model
-use Rattle.repack_model.specs.Packer.{Packing, Packed, Finished, fullLength, fullBlocks, lastBlock, pushed}
+use Rattle.repack_model.specs.Packer.{Packing, fullLength, fullBlocks, pushedBlocks, pushed}
 use Rattle.repack.specs.declared.Salvaged.{Salvaged}
+use Rattle.repack.specs.declared.Walk.{Walk}
 
 -- ---- what the calls show
 
@@ -31,11 +32,7 @@ pendingLength = fullLength + fullLength
 abbrev pub packing : ℕ → ℕ → List ℕ → Packing
 packing next used pending = record { next = next; waiting = take (cellLength * used) pending }
 
--- n cells of a block from cell a on
-unfoldable pub cellsFrom : List ℕ → ℕ → ℕ → List (List ℕ)
-cellsFrom block a n = map (λ i. blockCell i block) (upFrom a n)
-
--- each of them holds a valid row
+-- each of the first n cells of a block holds a valid row
 abbrev pub areRows : List ℕ → ℕ → Bool
 areRows block n = all (λ c. isRow (rowIn c)) (cellsFrom block 0 n)
 
@@ -57,3 +54,18 @@ pub record Flushed (k total : ℕ) (before after full full2 : List ℕ) (r : ℕ
   pub rest : r ≡ total % cellsPerBlock
   pub are : take (cellLength * r) after ≡ drop (fullLength * (total / cellsPerBlock)) (take (cellLength * total) before)
   pub put : full2 ≡ model.fronted (fullBlocks k (take (cellLength * total) before)) full
+
+-- a dropped block has room in the list
+abbrev pub HasRoom : List ℕ → ℕ → List ℕ → Type 0
+HasRoom block gone positions = model.isDropped block ≡ true → gone < length positions
+
+-- position k behind `gone` others, where its block is dropped
+pub record Listed (isDropped : Bool) (gone k : ℕ) (before after : List ℕ) (r : ℕ) : Type 0 where
+  pub list : after ≡ cond isDropped (set before gone k) before
+  pub count : r ≡ cond isDropped (gone + 1) gone
+
+-- what a walk over the blocks of a piece leaves: cells `kept` pushed behind those that waited, and dropped positions listed
+pub record Walked (p : Packing) (cells : List ℕ) (r : Walk) (pending out out2 : List ℕ) : Type 0 where
+  pub waits : r .used < cellsPerBlock
+  pub packed : packing (r .next) (r .used) pending ≡ pushed p cells
+  pub put : out2 ≡ model.fronted (pushedBlocks p cells) out

@@ -8,17 +8,19 @@ use refusal::Refusal;
 ghost use mathlib.Core.Path.{_≡_};
 ghost use mathlib.Core.Bool.{true, cond};
 ghost use mathlib.Core.List.{_++_};
-ghost use Prim.Native.Nat.{_+_, _-_, _*_, _/_, _%_, _≤_, _<_};
+ghost use Prim.Native.Nat.{_+_, _-_, _*_, _/_, _%_, _^_, _≤_, _<_};
 ghost use lib.Dec.{eqb};
 ghost use lib.ListN.{length, take, drop, set};
 ghost use Rattle.lists.specs.Lists as lists;
 ghost use Rattle.layout.specs.Cell.{cellLength};
 ghost use Rattle.layout.specs.Block.{cellsPerBlock, blockLength};
 ghost use Rattle.archive_model.specs.Row.{rowIn, isRow};
+ghost use Rattle.archive_model.specs.Append.{blockAt};
 ghost use Rattle.archive_model.specs.Identity.{identityOf};
+ghost use Rattle.archive.specs.Archive.{soundRows};
 ghost use Rattle.repack_model.specs.Repack as model;
 ghost use Rattle.repack_model.specs.Packer as packer;
-ghost use Rattle.repack.specs.Calls.{salvageResult, pendingLength, packing, areRows, keptCell, keptFrom, Waits, Flushed};
+ghost use Rattle.repack.specs.Calls.{salvageResult, pendingLength, packing, areRows, keptCell, keptFrom, Waits, Flushed, HasRoom, Listed, Walked};
 
 // The bytes of the 15 cells of a block, and of the cells that wait with those of one block more.
 const FULL_LENGTH: usize = CELL_LENGTH * CELLS_PER_BLOCK;
@@ -36,6 +38,13 @@ pub struct Salvaged {
     pub answer: Taken,
     pub dropped: usize,
     pub rows: usize,
+}
+
+// What a walk over blocks leaves: the cells that wait, the number of the next block, and how many blocks were dropped.
+struct Walk {
+    used: usize,
+    next: usize,
+    dropped: usize,
 }
 
 // ---- one row
@@ -131,4 +140,51 @@ fn flush(pending: &mut [u8], total: usize, k: usize, full: &mut [u8]) -> usize
     put_block(full, k, &pending[0..FULL_LENGTH]);
     move_front(pending);
     total - CELLS_PER_BLOCK
+}
+
+// ---- the blocks of a piece
+
+// Position `k` goes behind `gone` others, where its block, of which `rows` rows are sound, is dropped.
+fn list_block(positions: &mut [u64], gone: usize, k: usize, block: &[u8], rows: usize) -> usize
+    requires { ⌜ (rows ≡ soundRows (now block)) × HasRoom (now block) gone (now positions) ⌝ }
+    ensures { λ r. ⌜ Listed (model.isDropped (now (block .entry))) gone k (now (positions .entry)) (now (positions .exit)) r ⌝ }
+{
+    if rows != 0 {
+        return gone;
+    }
+    if layout::is_blank(block) {
+        return gone;
+    }
+    positions[gone] = k as u64;
+    gone + 1
+}
+
+// The rows of the sound blocks of a piece that stay go behind the `used` that wait, every 15 into a block of `out`, the first of them block `next`;
+// the positions of the dropped ones go to the list.
+fn pack_blocks(pending: &mut [u8], used: usize, next: usize, piece: &[u8], identities: &[u32], out: &mut [u8], positions: &mut [u64]) -> Walk
+    requires { ⌜ (length (now pending) ≡ pendingLength) × (used < cellsPerBlock) × (next + length (now piece) / blockLength < 2 ^ 64) × (length (now piece) ≤ length (now out)) × (length (model.dropped (now piece)) ≤ length (now positions)) ⌝ }
+    ensures { λ r. ⌜ Walked (packing next used (now (pending .entry))) (packer.keptCells (now (identities .entry)) (now (piece .entry))) r (now (pending .exit)) (now (out .entry)) (now (out .exit)) ⌝ }
+    ensures { λ r. ⌜ (r .dropped ≡ length (model.dropped (now (piece .entry)))) × (now (positions .exit) ≡ model.fronted (model.dropped (now (piece .entry))) (now (positions .entry))) ⌝ }
+{
+    let mut waits = used;
+    let mut put = 0;
+    let mut gone = 0;
+    for k in 0..piece.len() / BLOCK_LENGTH {
+        let block = &piece[BLOCK_LENGTH * k..BLOCK_LENGTH * k + BLOCK_LENGTH];
+        let rows = archive::sound(block);
+        gone = list_block(positions, gone, k, block, rows);
+        let total = push_cells(pending, waits, block, rows, identities);
+        waits = flush(
+            pending,
+            total,
+            next + put,
+            &mut out[BLOCK_LENGTH * put..BLOCK_LENGTH * put + BLOCK_LENGTH],
+        );
+        put = put + total / CELLS_PER_BLOCK;
+    }
+    Walk {
+        used: waits,
+        next: next + put,
+        dropped: gone,
+    }
 }
