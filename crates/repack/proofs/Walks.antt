@@ -4,7 +4,7 @@
 --     Listing, list-start, list-turn, list-end     the positions of the dropped blocks so far
 -- Assumes nothing.
 use Prim.Native.Nat.{ℕ, zero, suc, _+_, _-_, _*_, _/_, _%_, _≤_, _<_}
-use native.Mathlib.Nat.{add-zero}
+use native.Mathlib.Nat.{zero-add, add-zero}
 use native.Mathlib.Numerals.{add-one}
 use native.Mathlib.Decide.{decLt}
 use native.Mathlib.Omega.{arith}
@@ -16,7 +16,8 @@ use lib.ListN.{length, take, drop, set, length-append, length-take, drop-of-leng
 use Rattle.lists.specs.Lists.{keep, all, equal, upFrom}
 use Rattle.lists.proofs.Choice.{both}
 use Rattle.lists.proofs.Equal.{equal-eq}
-use Rattle.lists.proofs.Tests.{by-test}
+use Rattle.lists.proofs.Tests.{by-test, length-keep}
+use Rattle.lists.proofs.UpFrom.{length-upFrom}
 use Rattle.layout.specs.Buffer.{part}
 use Rattle.layout.specs.Cell.{cellLength}
 use Rattle.layout.specs.Block.{cellsPerBlock, blockLength, blockCell}
@@ -284,6 +285,9 @@ module _ (p : Packing) (identities piece old : List ℕ) (most n : ℕ) where
     walk-packed =
         sym (ap (pushed q-end) none-left ∙ push-none q-end few-waiting .1) ∙ at .left ∙ ap (pushed p) (sym (kept-is identities piece))
 
+    pub walk-long : blockLength * p .next + length (pushedBlocks p (keptCells identities piece)) ≡ blockLength * (p .next + put)
+    walk-long = omega (arith, sym (ap length front-is), at .begun .long)
+
     pub walk-put : out ≡ fronted (pushedBlocks p (keptCells identities piece)) old
     walk-put =
         at .begun .is ∙ ap₂ (λ (x : List ℕ) (a : ℕ). x ++ drop a old) front-is (sym (at .begun .long) ∙ ap length front-is)
@@ -349,3 +353,37 @@ module _ (piece old : List ℕ) (n : ℕ) where
         let z : n - k ≡ 0 = omega arith in
         let e : at .front ≡ dropped piece = sym (append-nil (at .front)) ∙ ap (λ (x : ℕ). at .front ++ keep (λ j. isDropped (blockAt j piece)) (upFrom k x)) (sym z) ∙ at .whole in
         (sym (at .begun .long) ∙ ap length e, at .begun .is ∙ ap₂ (λ (x : List ℕ) (a : ℕ). x ++ drop a old) e (sym (at .begun .long) ∙ ap length e))
+
+-- ---- how many blocks are dropped
+
+-- of n blocks from block a on
+unfoldable pub droppedFrom : List ℕ → ℕ → ℕ → ℕ
+droppedFrom buffer a n = length (keep (λ j. isDropped (blockAt j buffer)) (upFrom a n))
+
+module _ (buffer : List ℕ) where
+  pub from-first : (n : ℕ) → n ≡ length buffer / blockLength → 0 + droppedFrom buffer 0 (n - 0) ≡ length (dropped buffer)
+  unfolding droppedFrom dropped
+  from-first n e =
+      let z : n - 0 ≡ length buffer / blockLength = omega arith in
+      zero-add (length (keep (λ j. isDropped (blockAt j buffer)) (upFrom 0 (n - 0)))) ∙ ap (λ (x : ℕ). length (keep (λ j. isDropped (blockAt j buffer)) (upFrom 0 x))) z
+
+  pub from-turn : (n k : ℕ) → k < n → droppedFrom buffer k (n - k) ≡ cond (isDropped (blockAt k buffer)) 1 0 + droppedFrom buffer (k + 1) (n - (k + 1))
+  unfolding droppedFrom upFrom
+  from-turn n k h =
+      let z : n - k ≡ suc (n - suc k) = omega arith in
+      rw (z, add-one) (go (isDropped (blockAt k buffer)))
+    where
+      go : (b : Bool) → length (cond b (k ∷ keep (λ j. isDropped (blockAt j buffer)) (upFrom (suc k) (n - suc k))) (keep (λ j. isDropped (blockAt j buffer)) (upFrom (suc k) (n - suc k))))
+          ≡ cond b 1 0 + length (keep (λ j. isDropped (blockAt j buffer)) (upFrom (suc k) (n - suc k)))
+      go true = omega arith
+      go false = omega arith
+
+  pub from-end : (n k : ℕ) → n ≤ k → droppedFrom buffer k (n - k) ≡ 0
+  unfolding droppedFrom upFrom
+  from-end n k h =
+      let z : n - k ≡ 0 = omega arith in
+      rw z
+
+  pub dropped-few : length (dropped buffer) ≤ length buffer / blockLength
+  unfolding dropped
+  dropped-few = omega (arith, length-keep (λ j. isDropped (blockAt j buffer)) (upFrom 0 (length buffer / blockLength)), length-upFrom 0 (length buffer / blockLength))

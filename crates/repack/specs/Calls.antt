@@ -1,5 +1,5 @@
 -- What the calls of salvage and removal show (document 02, A9 and A11). Assumes nothing.
-use Prim.Native.Nat.{ℕ, _+_, _*_, _/_, _%_, _≤_, _<_}
+use Prim.Native.Nat.{ℕ, _+_, _-_, _*_, _/_, _%_, _≤_, _<_}
 use mathlib.Core.Path.{_≡_}
 use mathlib.Core.Bool.{Bool, true, cond, not}
 use mathlib.Core.List.{List, [], _++_, map, flatten}
@@ -13,7 +13,7 @@ use Rattle.layout.specs.Block.{cellsPerBlock, blockCell, blockLength}
 use Rattle.archive_model.specs.Row.{Row, rowIn, isRow}
 use Rattle.archive.specs.Archive.{takenNumber, cellsFrom}
 use Rattle.repack_model.specs.Repack as model
-use Rattle.repack_model.specs.Packer.{Packing, fullLength, fullBlocks, pushedBlocks, pushed}
+use Rattle.repack_model.specs.Packer.{Packing, fullLength, fullBlocks, pushedBlocks, pushed, lastBlock}
 use Rattle.repack.specs.declared.Salvaged.{Salvaged}
 use Rattle.repack.specs.declared.Walk.{Walk}
 
@@ -69,3 +69,14 @@ pub record Walked (p : Packing) (cells : List ℕ) (r : Walk) (pending out out2 
   pub waits : r .used < cellsPerBlock
   pub packed : packing (r .next) (r .used) pending ≡ pushed p cells
   pub put : out2 ≡ model.fronted (pushedBlocks p cells) out
+  pub long : blockLength * p .next + length (pushedBlocks p cells) ≡ blockLength * r .next
+
+-- a buffer after the last block was put, and zeros behind it up to `end`
+abbrev pub closed : Packing → ℕ → List ℕ → List ℕ
+closed p end out = take (blockLength * p .next) out ++ padded (end - blockLength * p .next) (lastBlock p) ++ drop end out
+
+-- a salvage that is refused leaves all as it was
+abbrev pub NotSalvaged : Refusal → Salvaged → Type 0
+NotSalvaged why r =
+    (output positions : List ℕ)
+    → salvageResult r output positions ≡ record { number = numberOf why; count = 0; rows = 0; output = output; positions = positions }

@@ -9,7 +9,7 @@ ghost use mathlib.Core.Path.{_≡_};
 ghost use mathlib.Core.Bool.{true, cond};
 ghost use mathlib.Core.List.{_++_};
 ghost use Prim.Native.Nat.{_+_, _-_, _*_, _/_, _%_, _^_, _≤_, _<_};
-ghost use lib.Dec.{eqb};
+ghost use lib.Dec.{leb, eqb};
 ghost use lib.ListN.{length, take, drop, set};
 ghost use Rattle.lists.specs.Lists as lists;
 ghost use Rattle.layout.specs.Cell.{cellLength};
@@ -20,7 +20,7 @@ ghost use Rattle.archive_model.specs.Identity.{identityOf};
 ghost use Rattle.archive.specs.Archive.{soundRows};
 ghost use Rattle.repack_model.specs.Repack as model;
 ghost use Rattle.repack_model.specs.Packer as packer;
-ghost use Rattle.repack.specs.Calls.{salvageResult, pendingLength, packing, areRows, keptCell, keptFrom, Waits, Flushed, HasRoom, Listed, Walked};
+ghost use Rattle.repack.specs.Calls.{salvageResult, pendingLength, packing, areRows, keptCell, keptFrom, Waits, Flushed, HasRoom, Listed, Walked, closed, NotSalvaged};
 
 // The bytes of the 15 cells of a block, and of the cells that wait with those of one block more.
 const FULL_LENGTH: usize = CELL_LENGTH * CELLS_PER_BLOCK;
@@ -86,19 +86,20 @@ fn push_cell(pending: &mut [u8], at: usize, cell: &[u8], identities: &[u32]) -> 
 }
 
 // The first `rows` cells of a block go behind `used` others, those of listed transmitters left out.
-fn push_cells(pending: &mut [u8], used: usize, source: &[u8], rows: usize, identities: &[u32]) -> usize
+fn push_cells(
+    pending: &mut [u8],
+    used: usize,
+    source: &[u8],
+    rows: usize,
+    identities: &[u32],
+) -> usize
     requires { ⌜ (length (now pending) ≡ pendingLength) × (used < cellsPerBlock) × (length (now source) ≡ blockLength) × (rows ≤ cellsPerBlock) × (areRows (now source) rows ≡ true) ⌝ }
     ensures { λ r. ⌜ Waits (take (cellLength * used) (now (pending .entry))) (keptFrom (now (identities .entry)) (now (source .entry)) 0 rows) (now (pending .exit)) (used + rows) r ⌝ }
 {
     let mut at = used;
     for i in 0..rows {
         let start = HEADER_LENGTH + CELL_LENGTH * i;
-        at = push_cell(
-            pending,
-            at,
-            &source[start..start + CELL_LENGTH],
-            identities,
-        );
+        at = push_cell(pending, at, &source[start..start + CELL_LENGTH], identities);
     }
     at
 }
@@ -161,7 +162,15 @@ fn list_block(positions: &mut [u64], gone: usize, k: usize, block: &[u8], rows: 
 
 // The rows of the sound blocks of a piece that stay go behind the `used` that wait, every 15 into a block of `out`, the first of them block `next`;
 // the positions of the dropped ones go to the list.
-fn pack_blocks(pending: &mut [u8], used: usize, next: usize, piece: &[u8], identities: &[u32], out: &mut [u8], positions: &mut [u64]) -> Walk
+fn pack_blocks(
+    pending: &mut [u8],
+    used: usize,
+    next: usize,
+    piece: &[u8],
+    identities: &[u32],
+    out: &mut [u8],
+    positions: &mut [u64],
+) -> Walk
     requires { ⌜ (length (now pending) ≡ pendingLength) × (used < cellsPerBlock) × (next + length (now piece) / blockLength < 2 ^ 64) × (length (now piece) ≤ length (now out)) × (length (model.dropped (now piece)) ≤ length (now positions)) ⌝ }
     ensures { λ r. ⌜ Walked (packing next used (now (pending .entry))) (packer.keptCells (now (identities .entry)) (now (piece .entry))) r (now (pending .exit)) (now (out .entry)) (now (out .exit)) ⌝ }
     ensures { λ r. ⌜ (r .dropped ≡ length (model.dropped (now (piece .entry)))) × (now (positions .exit) ≡ model.fronted (model.dropped (now (piece .entry))) (now (positions .entry))) ⌝ }
@@ -186,5 +195,95 @@ fn pack_blocks(pending: &mut [u8], used: usize, next: usize, piece: &[u8], ident
         used: waits,
         next: next + put,
         dropped: gone,
+    }
+}
+
+// The last block, where cells wait, into its place, and zeros behind it up to `end`.
+fn close(out: &mut [u8], pending: &[u8], used: usize, next: usize, end: usize)
+    requires { ⌜ (length (now pending) ≡ pendingLength) × (used < cellsPerBlock) × (cellsPerBlock * next + used ≤ cellsPerBlock * (end / blockLength)) × (end ≤ length (now out)) ⌝ }
+    ensures { λ _. ⌜ now (out .exit) ≡ closed (packing next used (now (pending .entry))) end (now (out .entry)) ⌝ }
+{
+    let at = BLOCK_LENGTH * next;
+    if used == 0 {
+        layout::clear(&mut out[at..end]);
+        return;
+    }
+    put_block(
+        &mut out[at..at + BLOCK_LENGTH],
+        next,
+        &pending[0..CELL_LENGTH * used],
+    );
+    layout::clear(&mut out[at + BLOCK_LENGTH..end]);
+}
+
+// ---- salvage
+
+// 1 for a block that is dropped, and 0 for any other.
+fn dropped_one(block: &[u8]) -> usize
+    ensures { λ r. ⌜ r ≡ cond (model.isDropped (now (block .entry))) 1 0 ⌝ }
+{
+    if archive::sound(block) != 0 {
+        return 0;
+    }
+    if layout::is_blank(block) {
+        return 0;
+    }
+    1
+}
+
+// How many blocks are dropped.
+fn dropped_in(buffer: &[u8]) -> usize
+    ensures { λ r. ⌜ r ≡ length (model.dropped (now (buffer .entry))) ⌝ }
+{
+    let mut gone = 0;
+    for k in 0..buffer.len() / BLOCK_LENGTH {
+        gone = gone + dropped_one(&buffer[BLOCK_LENGTH * k..BLOCK_LENGTH * k + BLOCK_LENGTH]);
+    }
+    gone
+}
+
+// Whether a list of `len` is long enough for the positions: a list as long as the buffer has blocks is, and nothing is looked at.
+fn is_listable(buffer: &[u8], len: usize) -> bool
+    ensures { λ r. ⌜ r ≡ leb (length (model.dropped (now (buffer .entry)))) len ⌝ }
+{
+    if buffer.len() / BLOCK_LENGTH <= len {
+        return true;
+    }
+    dropped_in(buffer) <= len
+}
+
+// The rows of the sound blocks of a damaged archive as an archive in the front of `out`, zeros up to the buffer's length, and the positions of the
+// blocks dropped in the front of the list. Refused: 16, 6 for an output shorter than the buffer or a list too short; then both are as they were.
+pub fn salvage(buffer: &[u8], out: &mut [u8], positions: &mut [u64]) -> Salvaged
+    ensures { λ r. ⌜ salvageResult r (now (out .exit)) (now (positions .exit)) ≡ model.salvageOf (now (buffer .entry)) (now (out .entry)) (now (positions .entry)) ⌝ }
+{
+    if !archive::is_whole(buffer.len()) {
+        return not_salvaged(Refusal::Size);
+    }
+    if out.len() < buffer.len() {
+        return not_salvaged(Refusal::ShortOutput);
+    }
+    if !is_listable(buffer, positions.len()) {
+        return not_salvaged(Refusal::ShortOutput);
+    }
+    let mut pending = [0u8; PENDING_LENGTH];
+    let none = [0u32; 1];
+    let end = pack_blocks(&mut pending, 0, 0, buffer, &none[0..0], out, positions);
+    close(out, &pending, end.used, end.next, buffer.len());
+    Salvaged {
+        answer: Taken::Done,
+        dropped: end.dropped,
+        rows: CELLS_PER_BLOCK * end.next + end.used,
+    }
+}
+
+// Nothing was salvaged, and why.
+fn not_salvaged(why: Refusal) -> Salvaged
+    ensures { λ r. ⌜ NotSalvaged why r ⌝ }
+{
+    Salvaged {
+        answer: Taken::Refused(why),
+        dropped: 0,
+        rows: 0,
     }
 }

@@ -15,7 +15,7 @@ use Rattle.archive.specs.Archive.{soundRows}
 use Rattle.archive.proofs.Scans.{sound-le}
 use Rattle.repack_model.specs.Repack.{isDropped}
 use Rattle.repack.specs.Calls.{packing}
-use Rattle.repack.proofs.Walks.{Walking, walk-start, walk-turn, walk-packed, walk-put, Listing, list-start, has-room, list-turn, list-end, block-rows}
+use Rattle.repack.proofs.Walks.{Walking, walk-start, walk-turn, walk-packed, walk-put, walk-long, Listing, list-start, has-room, list-turn, list-end, block-rows}
 use Rattle.repack.proofs.pack_blocks.Statement.{statement}
 use Rattle.repack.proofs.pack_blocks.Tie as tie
 
@@ -30,9 +30,12 @@ abbrev μ-loop : tie.MeasureT-loop
 loop-holds : tie.Need-loop-holds Inv-loop μ-loop
 loop-holds c =
     let s = c .before .before .before .before .before in
-    let a = s .args in
-    (omega arith, refl, walk-start (packing (a .next) (a .used) (now (a .pending))) (now (a .identities)) (now (a .piece)) (now (a .out)) (a .used) _ (a .used) (now (a .pending)) (s .pre .0) (s .pre .1) (omega arith) refl refl,
-    list-start (now (a .piece)) (now (a .positions)) _ refl)
+    let a = s .args in (
+      omega arith,
+      refl,
+      walk-start (packing (a .next) (a .used) (now (a .pending))) (now (a .identities)) (now (a .piece)) (now (a .out)) (a .used) _ (a .used) (now (a .pending)) (s .pre .0) (s .pre .1) (omega arith) refl refl,
+      list-start (now (a .piece)) (now (a .positions)) _ refl,
+    )
 
 -- no more blocks are put than were passed
 behind : (at : tie.At-loop Inv-loop μ-loop) → at .loop .put ≤ at .loop .k
@@ -45,28 +48,33 @@ list-block-requires : tie.Need-list-block-requires Inv-loop μ-loop
 list-block-requires c κs =
     let at = c .before .before .before .before in
     let s = at .before .before .before .before .before .before in
-    let a = s .args in
-    (c .before .sound .ensures,
-    λ d. has-room (now (a .piece)) (now (a .positions)) _ (at .loop .k) (at .loop .gone) (at .loop .positions) (at .loop .inv .3) (omega arith) (s .pre .4) (ap isDropped (sym (shown at)) ∙ d))
+    let a = s .args in (
+      c .before .sound .ensures,
+      λ d. has-room (now (a .piece)) (now (a .positions)) _ (at .loop .k) (at .loop .gone) (at .loop .positions) (at .loop .inv .3) (omega arith) (s .pre .4) (ap isDropped (sym (shown at)) ∙ d),
+    )
 
 push-cells-requires : tie.Need-push-cells-requires Inv-loop μ-loop
 push-cells-requires c κs =
     let at = c .before .before .before .before .before .before .before .before in
     let a = at .before .before .before .before .before .before .args in
-    let so = c .before .before .before .before .before in
-    (at .loop .inv .2 .long, at .loop .inv .2 .few, ap length (shown at) ∙ part-length (blockLength * at .loop .k) blockLength (now (a .piece)) (omega arith),
-    omega (arith, so .sound .ensures, sound-le (part (blockLength * at .loop .k) (blockLength * at .loop .k + blockLength - blockLength * at .loop .k) (now (a .piece)))),
-    block-rows _ (so .sound .result) (so .sound .ensures))
+    let so = c .before .before .before .before .before in (
+      at .loop .inv .2 .long,
+      at .loop .inv .2 .few,
+      ap length (shown at) ∙ part-length (blockLength * at .loop .k) blockLength (now (a .piece)) (omega arith),
+      omega (arith, so .sound .ensures, sound-le (part (blockLength * at .loop .k) (blockLength * at .loop .k + blockLength - blockLength * at .loop .k) (now (a .piece)))),
+      block-rows _ (so .sound .result) (so .sound .ensures),
+    )
 
 flush-requires : tie.Need-flush-requires Inv-loop μ-loop
 flush-requires c κs =
     let at = c .before .before .before .before .before .before .before .before .before .before .before .before .before in
     let push = c .before .before .before .before in
     let so = push .before .before .before .before .before .before in
-    let a = at .before .before .before .before .before .before .args in
-    (push .push-cells .kept .0 ∙ at .loop .inv .2 .long,
-    omega (arith, push .push-cells .ensures .few, at .loop .inv .2 .few, so .sound .ensures, sound-le (part (blockLength * at .loop .k) (blockLength * at .loop .k + blockLength - blockLength * at .loop .k) (now (a .piece)))),
-    lent (at .loop .inv .2 .begun) blockLength _ refl (omega (arith, behind at)))
+    let a = at .before .before .before .before .before .before .args in (
+      push .push-cells .kept .0 ∙ at .loop .inv .2 .long,
+      omega (arith, push .push-cells .ensures .few, at .loop .inv .2 .few, so .sound .ensures, sound-le (part (blockLength * at .loop .k) (blockLength * at .loop .k + blockLength - blockLength * at .loop .k) (now (a .piece)))),
+      lent (at .loop .inv .2 .begun) blockLength _ refl (omega (arith, behind at)),
+    )
 
 loop-again : tie.Need-loop-again Inv-loop μ-loop
 loop-again c =
@@ -78,24 +86,29 @@ loop-again c =
     let push = c .before .before .before .before .before .before .before .before .before in
     let fl = c .before .before .before .before in
     let piece = now (a .piece) in
-    let sound = so .sound .ensures ∙ ap soundRows (shown at) in
-    (omega arith, refl,
-    walk-turn (packing (a .next) (a .used) (now (a .pending))) (now (a .identities)) piece (now (a .out)) (a .used) _ (at .loop .k) (at .loop .put) (at .loop .waits) (at .loop .pending) (at .loop .out) (at .loop .inv .2)
-    (omega arith) (so .sound .result) (push .push-cells .result) (fl .flush .result) _ _ _ sound (rw (shown at) at (push .push-cells .ensures)) (push .push-cells .kept .0 ∙ at .loop .inv .2 .long)
-    (fl .flush .ensures) (fl .flush .kept .0 ∙ push .push-cells .kept .0 ∙ at .loop .inv .2 .long) (fl .flush .kept .1 .1 .1 .0) (omega (arith, behind at)),
-    list-turn piece (now (a .positions)) _ (at .loop .k) (at .loop .gone) (at .loop .positions) (at .loop .inv .3) (omega arith) (s .pre .4) _ _ (rw (shown at) at (li .list-block .ensures)))
+    let sound = so .sound .ensures ∙ ap soundRows (shown at) in (
+      omega arith,
+      refl,
+      walk-turn (packing (a .next) (a .used) (now (a .pending))) (now (a .identities)) piece (now (a .out)) (a .used) _ (at .loop .k) (at .loop .put) (at .loop .waits) (at .loop .pending) (at .loop .out) (at .loop .inv .2)
+          (omega arith) (so .sound .result) (push .push-cells .result) (fl .flush .result) _ _ _ sound (rw (shown at) at (push .push-cells .ensures)) (push .push-cells .kept .0 ∙ at .loop .inv .2 .long)
+          (fl .flush .ensures) (fl .flush .kept .0 ∙ push .push-cells .kept .0 ∙ at .loop .inv .2 .long) (fl .flush .kept .1 .1 .1 .0) (omega (arith, behind at)),
+      list-turn piece (now (a .positions)) _ (at .loop .k) (at .loop .gone) (at .loop .positions) (at .loop .inv .3) (omega arith) (s .pre .4) _ _ (rw (shown at) at (li .list-block .ensures)),
+    )
 
 returns : tie.Need-returns Inv-loop μ-loop
 returns c =
     let at = c .before in
     let a = at .before .before .before .before .before .before .args in
     let p = packing (a .next) (a .used) (now (a .pending)) in
-    let w = at .loop .inv .2 in
-    (record {
-      waits = w .few;
-      packed = walk-packed p (now (a .identities)) (now (a .piece)) (now (a .out)) (a .used) _ (at .loop .k) (at .loop .put) (at .loop .waits) (at .loop .pending) (at .loop .out) w (omega arith);
-      put = walk-put p (now (a .identities)) (now (a .piece)) (now (a .out)) (a .used) _ (at .loop .k) (at .loop .put) (at .loop .waits) (at .loop .pending) (at .loop .out) w (omega arith);
-    }, list-end (now (a .piece)) (now (a .positions)) _ (at .loop .k) (at .loop .gone) (at .loop .positions) (at .loop .inv .3) (omega arith))
+    let w = at .loop .inv .2 in (
+      record {
+        waits = w .few;
+        packed = walk-packed p (now (a .identities)) (now (a .piece)) (now (a .out)) (a .used) _ (at .loop .k) (at .loop .put) (at .loop .waits) (at .loop .pending) (at .loop .out) w (omega arith);
+        put = walk-put p (now (a .identities)) (now (a .piece)) (now (a .out)) (a .used) _ (at .loop .k) (at .loop .put) (at .loop .waits) (at .loop .pending) (at .loop .out) w (omega arith);
+        long = walk-long p (now (a .identities)) (now (a .piece)) (now (a .out)) (a .used) _ (at .loop .k) (at .loop .put) (at .loop .waits) (at .loop .pending) (at .loop .out) w (omega arith);
+      },
+      list-end (now (a .piece)) (now (a .positions)) _ (at .loop .k) (at .loop .gone) (at .loop .positions) (at .loop .inv .3) (omega arith),
+    )
 
 pub pack-blocks-spec : {M : Type 1} → statement M
 pack-blocks-spec =

@@ -37,9 +37,12 @@ push-cell-requires c κs =
     let s = at .before .before .before .before in
     let source = now (s .args .source) in
     let i = at .loop .i in
-    let cell = part-ends (headerLength + cellLength * i) cellLength source in
-    (at .loop .inv .2, omega arith, ap length cell ∙ part-length (headerLength + cellLength * i) cellLength source (omega arith),
-    ap (λ (l : List ℕ). isRow (rowIn l)) cell ∙ row-at (now (s .args .identities)) source (s .args .rows) i (s .pre .4) (omega arith))
+    let cell = part-ends (headerLength + cellLength * i) cellLength source in (
+      at .loop .inv .2,
+      omega arith,
+      ap length cell ∙ part-length (headerLength + cellLength * i) cellLength source (omega arith),
+      ap (λ (l : List ℕ). isRow (rowIn l)) cell ∙ row-at (now (s .args .identities)) source (s .args .rows) i (s .pre .4) (omega arith),
+    )
 
 loop-again : tie.Need-loop-again Inv-loop μ-loop
 loop-again c =
@@ -52,10 +55,13 @@ loop-again c =
     let rest = keptFrom ids source (i + 1) (s .args .rows - (i + 1)) in
     let front = take (cellLength * at .loop .at) (at .loop .pending) in
     let cell = part-ends (headerLength + cellLength * i) cellLength source in
-    let w = push .push-cell .ensures in
-    (omega arith, omega (arith, w .few), push .push-cell .kept .0 ∙ at .loop .inv .2,
-    ap (λ (l : List ℕ). l ++ rest) (w .are ∙ ap (λ (l : List ℕ). front ++ keptCell ids l) cell) ∙ append-assoc front (keptCell ids (blockCell i source)) rest
-    ∙ ap (λ (l : List ℕ). front ++ l) (sym (kept-turn ids source (s .args .rows) i (omega arith))) ∙ at .loop .inv .3)
+    let w = push .push-cell .ensures in (
+      omega arith,
+      omega (arith, w .few),
+      push .push-cell .kept .0 ∙ at .loop .inv .2,
+      ap (λ (l : List ℕ). l ++ rest) (w .are ∙ ap (λ (l : List ℕ). front ++ keptCell ids l) cell) ∙ append-assoc front (keptCell ids (blockCell i source)) rest
+          ∙ ap (λ (l : List ℕ). front ++ l) (sym (kept-turn ids source (s .args .rows) i (omega arith))) ∙ at .loop .inv .3,
+    )
 
 returns : tie.Need-returns Inv-loop μ-loop
 returns c =
