@@ -12,6 +12,8 @@ mod history;
 mod image;
 mod inputs;
 mod random;
+mod repack;
+mod repack_calls;
 mod repeater;
 mod sample;
 mod scenarios;
@@ -25,6 +27,8 @@ mod archive_faults;
 mod cases;
 #[cfg(test)]
 mod faults;
+#[cfg(test)]
+mod repack_faults;
 
 use std::io::{Read, Write};
 
