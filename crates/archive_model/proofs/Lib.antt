@@ -6,3 +6,4 @@ pub mod Cursor
 pub mod ByByte
 pub mod Reading
 pub mod Claims
+pub mod Identity

@@ -1,4 +1,5 @@
 pub mod Row
 pub mod Buffer
 pub mod Append
+pub mod Identity
 pub mod Claims

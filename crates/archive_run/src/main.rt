@@ -16,20 +16,31 @@ const CAPACITY: usize = 24576;
 
 const BLOCK: usize = layout::BLOCK_LENGTH;
 
+// The most positions of the list that salvage writes.
+const POSITIONS: usize = 64;
+
 fn main() {
     let mut buffer = [0u8; CAPACITY];
-    calls(&mut buffer, 1_000_000);
+    run(&mut buffer);
+}
+
+fn run(buffer: &mut [u8])
+    requires { ⌜ length (now buffer) ≡ 24576 ⌝ }
+{
+    let mut out = [0u8; CAPACITY];
+    let mut list = [0u64; POSITIONS];
+    calls(buffer, &mut out, &mut list, 1_000_000);
 }
 
 // At most so many calls, until the input ends.
-fn calls(buffer: &mut [u8], most: u64)
-    requires { ⌜ length (now buffer) ≡ 24576 ⌝ }
+fn calls(buffer: &mut [u8], out: &mut [u8], list: &mut [u64], most: u64)
+    requires { ⌜ (length (now buffer) ≡ 24576) × (length (now out) ≡ 24576) × (length (now list) ≡ 64) ⌝ }
 {
     let mut n: usize = 0;
     let mut left = most;
     while 0 < left {
         left -= 1;
-        let next = called(buffer, n);
+        let next = called(buffer, n, out, list);
         n = next.len;
         if !next.more {
             left = 0;
@@ -58,9 +69,9 @@ struct Next {
     more: bool,
 }
 
-// The next call, if there is one, on the first `n` bytes of the buffer.
-fn called(buffer: &mut [u8], n: usize) -> Next
-    requires { ⌜ (length (now buffer) ≡ 24576) × (n ≤ 24576) ⌝ }
+// The next call, if there is one, on the first `n` bytes of the buffer, and on the output and the list of salvage.
+fn called(buffer: &mut [u8], n: usize, out: &mut [u8], list: &mut [u64]) -> Next
+    requires { ⌜ (length (now buffer) ≡ 24576) × (n ≤ 24576) × (length (now out) ≡ 24576) × (length (now list) ≡ 64) ⌝ }
     ensures { λ c. ⌜ c .len ≤ 24576 ⌝ }
 {
     let input = next_input();
@@ -72,17 +83,29 @@ fn called(buffer: &mut [u8], n: usize) -> Next
     }
     let r = input.bytes;
     Next {
-        len: made(buffer, n, &r),
+        len: made(buffer, n, out, list, &r),
         more: true,
     }
 }
 
-fn made(buffer: &mut [u8], n: usize, r: &[u8]) -> usize
-    requires { ⌜ (length (now buffer) ≡ 24576) × (n ≤ 24576) × (length (now r) ≡ 320) ⌝ }
+fn made(buffer: &mut [u8], n: usize, out: &mut [u8], list: &mut [u64], r: &[u8]) -> usize
+    requires { ⌜ (length (now buffer) ≡ 24576) × (n ≤ 24576) × (length (now out) ≡ 24576) × (length (now list) ≡ 64) × (length (now r) ≡ 320) ⌝ }
     ensures { λ k. ⌜ k ≤ 24576 ⌝ }
 {
     if r[0] == 1 {
         return fresh(buffer, layout::read_number(&r[1..5]));
+    }
+    if r[0] == 9 {
+        salvage(&buffer[0..n], out, list, r);
+        return n;
+    }
+    if r[0] == 10 {
+        out_block(out, layout::read_number(&r[1..5]));
+        return n;
+    }
+    if r[0] == 11 {
+        put_list(list);
+        return n;
     }
     call(&mut buffer[0..n], r);
     n
@@ -201,8 +224,14 @@ fn put_row(found: RowAt) {
 fn block(buffer: &[u8], number: u64)
     requires { ⌜ length (now buffer) ≤ 24576 ⌝ }
 {
-    let at = BLOCK * least(number, CAPACITY);
     test_io::text(b"BLOCK ");
+    block_bytes(buffer, number);
+}
+
+fn block_bytes(buffer: &[u8], number: u64)
+    requires { ⌜ length (now buffer) ≤ 24576 ⌝ }
+{
+    let at = BLOCK * least(number, CAPACITY);
     if buffer.len() < at + BLOCK {
         test_io::text(b"-\n");
         return;
@@ -242,6 +271,57 @@ fn put_scan(s: Scan) {
         Stage::Ended => put_three(0, 0, s.rows),
         Stage::Wrong(k) => put_three(12, k, 0),
     }
+}
+
+// ---- salvage
+
+// Into the front of an output of EE and of a list of eight of them each.
+fn salvage(buffer: &[u8], out: &mut [u8], list: &mut [u64], r: &[u8])
+    requires { ⌜ (length (now out) ≡ 24576) × (length (now list) ≡ 64) × (length (now r) ≡ 320) ⌝ }
+{
+    fill(out);
+    fill_list(list);
+    let end = least(layout::read_number(&r[1..5]), CAPACITY);
+    let len = least(layout::read_number(&r[5..9]), POSITIONS);
+    let done = repack::salvage(buffer, &mut out[0..end], &mut list[0..len]);
+    let answer = done.answer;
+    test_io::text(b"SALVAGE ");
+    put_three(taken_number(answer), done.dropped, done.rows);
+}
+
+fn taken_number(answer: Taken) -> u8 {
+    match answer {
+        Taken::Done => 0,
+        Taken::Refused(why) => refusal::number(why),
+    }
+}
+
+fn fill(out: &mut [u8]) {
+    for i in 0..out.len() {
+        out[i] = 238;
+    }
+}
+
+fn fill_list(list: &mut [u64]) {
+    for i in 0..list.len() {
+        list[i] = 17216961135462248174;
+    }
+}
+
+// The bytes of a block of the output.
+fn out_block(out: &[u8], number: u64)
+    requires { ⌜ length (now out) ≡ 24576 ⌝ }
+{
+    test_io::text(b"OUT ");
+    block_bytes(out, number);
+}
+
+fn put_list(list: &[u64]) {
+    test_io::text(b"LIST");
+    for i in 0..list.len() {
+        put_number(list[i]);
+    }
+    test_io::text(b"\n");
 }
 
 // ---- what is printed of them

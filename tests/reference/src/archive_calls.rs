@@ -4,6 +4,7 @@
 use crate::archive::{append, append_at, block, read, row_at, seal, Row, BLOCK, ROWS};
 use crate::hex::{hex, hex_or_dash};
 use crate::random::Random;
+use crate::repack_calls::{self, Lent, Repack, Repacker};
 use crate::subtelegram::{renew_hash, Refusal};
 use crate::telegrams::{addressed, hashed, plain, valid, Kind, KINDS};
 use std::fmt::Write;
@@ -22,11 +23,13 @@ pub enum Call {
     Block(u32),
     /// The room read in pieces of so many blocks.
     Scan(u32),
+    /// Salvage and removal.
+    Repack(Repack),
     Unknown(u8),
 }
 
 /// The most bytes of a room.
-const MOST: usize = 24_576;
+pub const MOST: usize = 24_576;
 
 /// What the calls are put to: the rules here, others in the tests.
 pub trait Archive {
@@ -82,8 +85,9 @@ fn store(room: &mut [u8], place: u32, bytes: &[u8]) {
 }
 
 /// The lines for a list of calls.
-pub fn show(calls: &[Call], archive: &impl Archive) -> String {
+pub fn show(calls: &[Call], archive: &impl Archive, repacker: &impl Repacker) -> String {
     let mut out = String::new();
+    let mut lent = Lent::new();
     let mut room: Vec<u8> = Vec::new();
     for call in calls {
         let line = match call {
@@ -107,6 +111,7 @@ pub fn show(calls: &[Call], archive: &impl Archive) -> String {
             }
             // In pieces or whole, the answer is the same.
             Call::Scan(_) => format!("SCAN {}", opened(archive.open(&room))),
+            Call::Repack(call) => lent.show(call, &mut room, repacker),
             Call::Unknown(_) => "?".to_string(),
         };
         writeln!(out, "{line}").unwrap();
@@ -116,6 +121,9 @@ pub fn show(calls: &[Call], archive: &impl Archive) -> String {
 
 /// A call as a record of 320 bytes.
 fn record(call: &Call) -> [u8; 320] {
+    if let Call::Repack(call) = call {
+        return repack_calls::record(call);
+    }
     let mut record = [0; 320];
     match call {
         Call::New(n) | Call::Block(n) | Call::Scan(n) => {
@@ -133,7 +141,7 @@ fn record(call: &Call) -> [u8; 320] {
             record[11..11 + row.bytes.len()].copy_from_slice(&row.bytes);
         }
         Call::Row(i) => record[1..9].copy_from_slice(&i.to_be_bytes()),
-        Call::Open | Call::Unknown(_) => {}
+        Call::Open | Call::Repack(_) | Call::Unknown(_) => {}
     }
     if let Call::AppendAt(_, n) = call {
         record[80..88].copy_from_slice(&n.to_be_bytes());
@@ -147,6 +155,7 @@ fn record(call: &Call) -> [u8; 320] {
         Call::Row(_) => 6,
         Call::Block(_) => 7,
         Call::Scan(_) => 8,
+        Call::Repack(_) => 0,
         Call::Unknown(operation) => *operation,
     };
     record
@@ -158,7 +167,7 @@ pub fn stdin() -> String {
 }
 
 pub fn stdout() -> String {
-    show(&calls(), &Rules)
+    show(&calls(), &Rules, &repack_calls::Rules)
 }
 
 // The calls.
@@ -174,10 +183,11 @@ pub fn calls() -> Vec<Call> {
     headers(&mut calls);
     cells(&mut calls);
     changed(&mut calls);
+    repack_calls::calls(&mut calls);
     calls
 }
 
-fn random_row(random: &mut Random) -> Row {
+pub fn random_row(random: &mut Random) -> Row {
     let time = match random.below(8) {
         0 => 0,
         1 => u64::MAX,
@@ -188,12 +198,12 @@ fn random_row(random: &mut Random) -> Row {
     Row { bytes, time, loose }
 }
 
-fn random_rows(random: &mut Random, n: usize) -> Vec<Row> {
+pub fn random_rows(random: &mut Random, n: usize) -> Vec<Row> {
     (0..n).map(|_| random_row(random)).collect()
 }
 
 /// Whole blocks put into the room, each in two parts.
-fn put_block(calls: &mut Vec<Call>, k: usize, block: &[u8]) {
+pub fn put_block(calls: &mut Vec<Call>, k: usize, block: &[u8]) {
     let place = (BLOCK * k) as u32;
     calls.push(Call::Put(place, block[..256].to_vec()));
     calls.push(Call::Put(place + 256, block[256..].to_vec()));

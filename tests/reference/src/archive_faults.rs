@@ -5,6 +5,7 @@
 use crate::archive::{is_whole, Row, BLOCK, MISMATCH, ROWS, SIZE};
 use crate::archive_calls::{calls, show, stdin, stdout, Archive, Call};
 use crate::hash::crc;
+use crate::repack_calls;
 use crate::subtelegram::{check, Refusal, OUTPUT_SHORT};
 use std::collections::BTreeMap;
 use std::sync::OnceLock;
@@ -180,7 +181,7 @@ impl Archive for OnePass {
 fn agrees(fault: &'static str) -> bool {
     static EXPECTED: OnceLock<(Vec<Call>, String)> = OnceLock::new();
     let (calls, lines) = EXPECTED.get_or_init(|| (calls(), stdout()));
-    show(calls, &OnePass { fault }) == *lines
+    show(calls, &OnePass { fault }, &repack_calls::Rules) == *lines
 }
 
 #[test]
@@ -261,7 +262,11 @@ fn the_cursor_writes_what_appending_writes() {
                 .iter()
                 .position(|c| matches!(c, Call::New(_)))
                 .unwrap();
-        let lines = show(&calls[from..end], &OnePass { fault: "" });
+        let lines = show(
+            &calls[from..end],
+            &OnePass { fault: "" },
+            &repack_calls::Rules,
+        );
         lines
             .lines()
             .filter(|l| l.starts_with("BLOCK"))

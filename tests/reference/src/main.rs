@@ -16,6 +16,8 @@ mod history;
 mod image;
 mod inputs;
 mod random;
+mod repack;
+mod repack_calls;
 mod repeater;
 mod rules;
 mod sample;
@@ -31,6 +33,8 @@ mod archive_faults;
 mod cases;
 #[cfg(test)]
 mod faults;
+#[cfg(test)]
+mod repack_faults;
 #[cfg(test)]
 mod sameness;
 

@@ -8,10 +8,11 @@ use Rattle.archive_run.proofs.calls.Statement.{statement}
 use Rattle.archive_run.proofs.calls.Tie as tie
 
 abbrev Inv-loop : tie.InvT-loop
-Inv-loop buffer₀ most n₀ left₀ buffer n left = (length buffer ≡ length buffer₀) × (n ≤ 24576)
+Inv-loop buffer₀ out₀ list₀ most n₀ left₀ buffer out list n left =
+    (length buffer ≡ length buffer₀) × (length out ≡ length out₀) × (length list ≡ length list₀) × (n ≤ 24576)
 
 abbrev μ-loop : tie.MeasureT-loop
-μ-loop buffer₀ most n₀ left₀ buffer n left = left
+μ-loop buffer₀ out₀ list₀ most n₀ left₀ buffer out list n left = left
 
 pub calls-spec : {M : Type 1} → statement M
 calls-spec =
@@ -19,12 +20,14 @@ calls-spec =
     (tie.spec
     Inv-loop
     μ-loop
-    (λ c. (refl, omega arith))
+    (λ c. (refl, refl, refl, omega arith))
     (λ c. omega arith)
-    (λ c κs. (omega arith, omega arith))
+    (λ c κs. (omega arith, omega arith, omega arith, omega arith))
     (λ c. omega arith)
-    (λ c. (omega arith, omega arith))
+    (λ c. (omega arith, omega arith, omega arith, omega arith))
     (λ c. omega arith)
-    (λ c. (omega arith, omega arith))
+    (λ c. (omega arith, omega arith, omega arith, omega arith))
+    (λ c. search needs)
+    (λ c. search needs)
     (λ c. search needs)
     (λ c. search needs))

@@ -1,0 +1,4 @@
+pub mod Cells
+pub mod Flushes
+pub mod Walks
+pub mod Closing

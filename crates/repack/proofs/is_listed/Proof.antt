@@ -1,0 +1,51 @@
+-- `repack::is_listed` meets its contract. The invariant: what is left decides; the measure: the identities left. Assumes nothing.
+use Prim.Native.Nat.{ℕ, _-_, _≤_}
+use mathlib.Core.Path.{_≡_, refl, sym, _∙_}
+use native.Mathlib.Omega.{arith}
+use borrow.Author.Needs.{needs}
+use denote.Ref.{now}
+use lib.Dec.{eqb}
+use lib.ListN.{length, drop}
+use Rattle.lists.specs.Lists.{any}
+use Rattle.repack.proofs.Cells.{any-found, any-next, any-end}
+use Rattle.repack.proofs.is_listed.Statement.{statement}
+use Rattle.repack.proofs.is_listed.Tie as tie
+
+abbrev Inv-loop : tie.InvT-loop
+Inv-loop identity identities i₀ i-end i = (i ≤ i-end) × (i-end ≡ length identities) × (any (eqb identity) (drop i identities) ≡ any (eqb identity) identities)
+
+abbrev μ-loop : tie.MeasureT-loop
+μ-loop identity identities i₀ i-end i = i-end - i
+
+returns : tie.Need-returns Inv-loop μ-loop
+returns c =
+    let at = c .before .before .before in
+    let a = at .before .args in
+    sym (any-found (a .identity) (now (a .identities)) (at .loop .i) (omega arith) (c .if1 .taken)) ∙ at .loop .inv .2
+
+loop-again : tie.Need-loop-again Inv-loop μ-loop
+loop-again c =
+    let at = c .before .before .before in
+    let a = at .before .args in
+    (omega arith, omega arith, sym (any-next (a .identity) (now (a .identities)) (at .loop .i) (omega arith) (c .if1 .left)) ∙ at .loop .inv .2)
+
+returns-2 : tie.Need-returns-2 Inv-loop μ-loop
+returns-2 c =
+    let a = c .before .before .args in
+    sym (any-end (a .identity) (now (a .identities)) (c .before .loop .i) (omega arith)) ∙ c .before .loop .inv .2
+
+pub is-listed-spec : {M : Type 1} → statement M
+is-listed-spec =
+    tie.close
+    (tie.spec
+    Inv-loop
+    μ-loop
+    (λ c. (omega arith, refl, refl))
+    (λ c. search needs)
+    (λ c. search needs)
+    (λ c. omega (arith, c .shared-slice-known .given (c .before .before .loop .i)))
+    returns
+    (λ c. omega arith)
+    (λ c. omega arith)
+    loop-again
+    returns-2)

@@ -1,0 +1,94 @@
+-- `repack::push_cells` meets its contract. The invariant: what waits with the cells that are left is what waited with all; the measure: the cells
+-- left. Assumes nothing.
+use mathlib.Core.Path.{_≡_, refl, sym, ap, _∙_}
+use mathlib.Core.List.{List, _++_, append-assoc, append-nil}
+use Prim.Native.Nat.{ℕ, _+_, _-_, _*_, _≤_}
+use native.Mathlib.Omega.{arith}
+use borrow.Author.Needs.{needs}
+use denote.Ref.{now}
+use lib.ListN.{length, take}
+use Rattle.layout.specs.Cell.{cellLength}
+use Rattle.layout.specs.Header.{headerLength}
+use Rattle.layout.specs.Block.{blockCell}
+use Rattle.layout.proofs.Segments.{part-length, part-ends}
+use Rattle.archive_model.specs.Row.{rowIn, isRow}
+use Rattle.repack.specs.Calls.{pendingLength, keptCell, keptFrom}
+use Rattle.repack.proofs.Cells.{row-at, kept-first, kept-turn, kept-end}
+use Rattle.repack.proofs.push_cells.Statement.{statement}
+use Rattle.repack.proofs.push_cells.Tie as tie
+
+abbrev Inv-loop : tie.InvT-loop
+Inv-loop pending₀ used source rows identities at₀ i₀ pending at i =
+    (i ≤ rows) × (at ≤ used + i) × (length pending ≡ pendingLength)
+    × (take (cellLength * at) pending ++ keptFrom identities source i (rows - i) ≡ take (cellLength * used) pending₀ ++ keptFrom identities source 0 rows)
+
+abbrev μ-loop : tie.MeasureT-loop
+μ-loop pending₀ used source rows identities at₀ i₀ pending at i = rows - i
+
+loop-holds : tie.Need-loop-holds Inv-loop μ-loop
+loop-holds c =
+    let s = c .before .before .before in
+    let a = s .args in
+    (omega arith, omega arith, s .pre .0, ap (λ (l : List ℕ). take (cellLength * a .used) (now (a .pending)) ++ l) (kept-first (now (a .identities)) (now (a .source)) (a .rows)))
+
+push-cell-requires : tie.Need-push-cell-requires Inv-loop μ-loop
+push-cell-requires c κs =
+    let at = c .before .before .before in
+    let s = at .before .before .before .before in
+    let source = now (s .args .source) in
+    let i = at .loop .i in
+    let cell = part-ends (headerLength + cellLength * i) cellLength source in (
+      at .loop .inv .2,
+      omega arith,
+      ap length cell ∙ part-length (headerLength + cellLength * i) cellLength source (omega arith),
+      ap (λ (l : List ℕ). isRow (rowIn l)) cell ∙ row-at (now (s .args .identities)) source (s .args .rows) i (s .pre .4) (omega arith),
+    )
+
+loop-again : tie.Need-loop-again Inv-loop μ-loop
+loop-again c =
+    let push = c .before .before in
+    let at = push .before .before .before .before in
+    let s = at .before .before .before .before in
+    let ids = now (s .args .identities) in
+    let source = now (s .args .source) in
+    let i = at .loop .i in
+    let rest = keptFrom ids source (i + 1) (s .args .rows - (i + 1)) in
+    let front = take (cellLength * at .loop .at) (at .loop .pending) in
+    let cell = part-ends (headerLength + cellLength * i) cellLength source in
+    let w = push .push-cell .ensures in (
+      omega arith,
+      omega (arith, w .few),
+      push .push-cell .kept .0 ∙ at .loop .inv .2,
+      ap (λ (l : List ℕ). l ++ rest) (w .are ∙ ap (λ (l : List ℕ). front ++ keptCell ids l) cell) ∙ append-assoc front (keptCell ids (blockCell i source)) rest
+          ∙ ap (λ (l : List ℕ). front ++ l) (sym (kept-turn ids source (s .args .rows) i (omega arith))) ∙ at .loop .inv .3,
+    )
+
+returns : tie.Need-returns Inv-loop μ-loop
+returns c =
+    let at = c .before in
+    let a = at .before .before .before .before .args in
+    let front = take (cellLength * at .loop .at) (at .loop .pending) in
+    record {
+      few = omega arith;
+      are = sym (append-nil front) ∙ ap (λ (l : List ℕ). front ++ l) (sym (kept-end (now (a .identities)) (now (a .source)) (a .rows) (at .loop .i) (omega arith))) ∙ at .loop .inv .3;
+    }
+
+pub push-cells-spec : {M : Type 1} → statement M
+push-cells-spec =
+    tie.close
+    (tie.spec
+    Inv-loop
+    μ-loop
+    loop-holds
+    (λ c. omega arith)
+    (λ c. omega arith)
+    (λ c. omega arith)
+    (λ c. omega arith)
+    (λ c. omega arith)
+    (λ c. omega arith)
+    push-cell-requires
+    (λ c. omega arith)
+    (λ c. omega arith)
+    loop-again
+    (λ c. omega arith)
+    returns)

@@ -1,0 +1,289 @@
+// Archives packed anew (document 02, A9 and A11): a damaged one is salvaged, and the rows of sensors that left are removed. One packer serves both.
+use archive::Taken;
+use layout::BLOCK_LENGTH;
+use layout::CELL_LENGTH;
+use layout::CELLS_PER_BLOCK;
+use layout::HEADER_LENGTH;
+use refusal::Refusal;
+ghost use mathlib.Core.Path.{_≡_};
+ghost use mathlib.Core.Bool.{true, cond};
+ghost use mathlib.Core.List.{_++_};
+ghost use Prim.Native.Nat.{_+_, _-_, _*_, _/_, _%_, _^_, _≤_, _<_};
+ghost use lib.Dec.{leb, eqb};
+ghost use lib.ListN.{length, take, drop, set};
+ghost use Rattle.lists.specs.Lists as lists;
+ghost use Rattle.layout.specs.Cell.{cellLength};
+ghost use Rattle.layout.specs.Block.{cellsPerBlock, blockLength};
+ghost use Rattle.archive_model.specs.Row.{rowIn, isRow};
+ghost use Rattle.archive_model.specs.Append.{blockAt};
+ghost use Rattle.archive_model.specs.Identity.{identityOf};
+ghost use Rattle.archive.specs.Archive.{soundRows};
+ghost use Rattle.repack_model.specs.Repack as model;
+ghost use Rattle.repack_model.specs.Packer as packer;
+ghost use Rattle.repack.specs.Calls.{salvageResult, pendingLength, packing, areRows, keptCell, keptFrom, Waits, Flushed, HasRoom, Listed, Walked, closed, NotSalvaged};
+
+// The bytes of the 15 cells of a block, and of the cells that wait with those of one block more.
+const FULL_LENGTH: usize = CELL_LENGTH * CELLS_PER_BLOCK;
+
+const PENDING_LENGTH: usize = FULL_LENGTH + FULL_LENGTH;
+
+// The bytes of a block before its CRC.
+const BODY_LENGTH: usize = BLOCK_LENGTH - 1;
+
+// Where the bytes of a cell begin.
+const FIELD: usize = 9;
+
+// How many blocks were dropped, and how many rows remain.
+pub struct Salvaged {
+    pub answer: Taken,
+    pub dropped: usize,
+    pub rows: usize,
+}
+
+// What a walk over blocks leaves: the cells that wait, the number of the next block, and how many blocks were dropped.
+struct Walk {
+    used: usize,
+    next: usize,
+    dropped: usize,
+}
+
+// ---- one row
+
+// The transmitter of a row.
+fn identity_of(cell: &[u8]) -> u64
+    requires { ⌜ (length (now cell) ≡ cellLength) × (isRow (rowIn (now cell)) ≡ true) ⌝ }
+    ensures { λ r. ⌜ r ≡ identityOf (rowIn (now (cell .entry))) ⌝ }
+{
+    let at = FIELD + layout::cell_used(cell) as usize - 6;
+    layout::read_number(&cell[at..at + 4])
+}
+
+// Whether a transmitter is listed.
+fn is_listed(identity: u64, identities: &[u32]) -> bool
+    ensures { λ r. ⌜ r ≡ lists.any (eqb identity) (now (identities .entry)) ⌝ }
+{
+    for i in 0..identities.len() {
+        if identity == identities[i] as u64 {
+            return true;
+        }
+    }
+    false
+}
+
+// A cell goes behind `at` others, unless its transmitter is listed.
+fn push_cell(pending: &mut [u8], at: usize, cell: &[u8], identities: &[u32]) -> usize
+    requires { ⌜ (length (now pending) ≡ pendingLength) × (at < cellsPerBlock + cellsPerBlock) × (length (now cell) ≡ cellLength) × (isRow (rowIn (now cell)) ≡ true) ⌝ }
+    ensures { λ r. ⌜ Waits (take (cellLength * at) (now (pending .entry))) (keptCell (now (identities .entry)) (now (cell .entry))) (now (pending .exit)) (at + 1) r ⌝ }
+{
+    if is_listed(identity_of(cell), identities) {
+        return at;
+    }
+    bytes::copy(
+        cell,
+        &mut pending[CELL_LENGTH * at..CELL_LENGTH * at + CELL_LENGTH],
+    );
+    at + 1
+}
+
+// The first `rows` cells of a block go behind `used` others, those of listed transmitters left out.
+fn push_cells(
+    pending: &mut [u8],
+    used: usize,
+    source: &[u8],
+    rows: usize,
+    identities: &[u32],
+) -> usize
+    requires { ⌜ (length (now pending) ≡ pendingLength) × (used < cellsPerBlock) × (length (now source) ≡ blockLength) × (rows ≤ cellsPerBlock) × (areRows (now source) rows ≡ true) ⌝ }
+    ensures { λ r. ⌜ Waits (take (cellLength * used) (now (pending .entry))) (keptFrom (now (identities .entry)) (now (source .entry)) 0 rows) (now (pending .exit)) (used + rows) r ⌝ }
+{
+    let mut at = used;
+    for i in 0..rows {
+        let start = HEADER_LENGTH + CELL_LENGTH * i;
+        at = push_cell(pending, at, &source[start..start + CELL_LENGTH], identities);
+    }
+    at
+}
+
+// ---- one block
+
+// Block `k` with these cells.
+fn put_block(out: &mut [u8], k: usize, cells: &[u8])
+    requires { ⌜ (length (now out) ≡ blockLength) × (length (now cells) ≤ packer.fullLength) ⌝ }
+    ensures { λ _. ⌜ now (out .exit) ≡ packer.cellsBlock k (now (cells .entry)) ⌝ }
+{
+    let end = HEADER_LENGTH + cells.len();
+    layout::put_number(&mut out[0..4], k as u64);
+    out[4] = (cells.len() / CELL_LENGTH) as u8;
+    layout::clear(&mut out[5..HEADER_LENGTH]);
+    bytes::copy(cells, &mut out[HEADER_LENGTH..end]);
+    layout::clear(&mut out[end..BODY_LENGTH]);
+    layout::seal(out);
+}
+
+// The cells behind the first 15 go to the front.
+fn move_front(pending: &mut [u8])
+    requires { ⌜ length (now pending) ≡ pendingLength ⌝ }
+    ensures { λ _. ⌜ now (pending .exit) ≡ drop packer.fullLength (now (pending .entry)) ++ drop packer.fullLength (now (pending .entry)) ⌝ }
+{
+    let mut later = [0u8; FULL_LENGTH];
+    bytes::copy(&pending[FULL_LENGTH..PENDING_LENGTH], &mut later);
+    bytes::copy(&later, &mut pending[0..FULL_LENGTH]);
+}
+
+// Where 15 of `total` cells fill block `k`, it is put, and the others wait.
+fn flush(pending: &mut [u8], total: usize, k: usize, full: &mut [u8]) -> usize
+    requires { ⌜ (length (now pending) ≡ pendingLength) × (total < cellsPerBlock + cellsPerBlock) × (length (now full) ≡ blockLength) ⌝ }
+    ensures { λ r. ⌜ Flushed k total (now (pending .entry)) (now (pending .exit)) (now (full .entry)) (now (full .exit)) r ⌝ }
+{
+    if total < CELLS_PER_BLOCK {
+        return total;
+    }
+    put_block(full, k, &pending[0..FULL_LENGTH]);
+    move_front(pending);
+    total - CELLS_PER_BLOCK
+}
+
+// ---- the blocks of a piece
+
+// Position `k` goes behind `gone` others, where its block, of which `rows` rows are sound, is dropped.
+fn list_block(positions: &mut [u64], gone: usize, k: usize, block: &[u8], rows: usize) -> usize
+    requires { ⌜ (rows ≡ soundRows (now block)) × HasRoom (now block) gone (now positions) ⌝ }
+    ensures { λ r. ⌜ Listed (model.isDropped (now (block .entry))) gone k (now (positions .entry)) (now (positions .exit)) r ⌝ }
+{
+    if rows != 0 {
+        return gone;
+    }
+    if layout::is_blank(block) {
+        return gone;
+    }
+    positions[gone] = k as u64;
+    gone + 1
+}
+
+// The rows of the sound blocks of a piece that stay go behind the `used` that wait, every 15 into a block of `out`, the first of them block `next`;
+// the positions of the dropped ones go to the list.
+fn pack_blocks(
+    pending: &mut [u8],
+    used: usize,
+    next: usize,
+    piece: &[u8],
+    identities: &[u32],
+    out: &mut [u8],
+    positions: &mut [u64],
+) -> Walk
+    requires { ⌜ (length (now pending) ≡ pendingLength) × (used < cellsPerBlock) × (next + length (now piece) / blockLength < 2 ^ 64) × (length (now piece) ≤ length (now out)) × (length (model.dropped (now piece)) ≤ length (now positions)) ⌝ }
+    ensures { λ r. ⌜ Walked (packing next used (now (pending .entry))) (packer.keptCells (now (identities .entry)) (now (piece .entry))) r (now (pending .exit)) (now (out .entry)) (now (out .exit)) ⌝ }
+    ensures { λ r. ⌜ (r .dropped ≡ length (model.dropped (now (piece .entry)))) × (now (positions .exit) ≡ model.fronted (model.dropped (now (piece .entry))) (now (positions .entry))) ⌝ }
+{
+    let mut waits = used;
+    let mut put = 0;
+    let mut gone = 0;
+    for k in 0..piece.len() / BLOCK_LENGTH {
+        let block = &piece[BLOCK_LENGTH * k..BLOCK_LENGTH * k + BLOCK_LENGTH];
+        let rows = archive::sound(block);
+        gone = list_block(positions, gone, k, block, rows);
+        let total = push_cells(pending, waits, block, rows, identities);
+        waits = flush(
+            pending,
+            total,
+            next + put,
+            &mut out[BLOCK_LENGTH * put..BLOCK_LENGTH * put + BLOCK_LENGTH],
+        );
+        put = put + total / CELLS_PER_BLOCK;
+    }
+    Walk {
+        used: waits,
+        next: next + put,
+        dropped: gone,
+    }
+}
+
+// The last block, where cells wait, into its place, and zeros behind it up to `end`.
+fn close(out: &mut [u8], pending: &[u8], used: usize, next: usize, end: usize)
+    requires { ⌜ (length (now pending) ≡ pendingLength) × (used < cellsPerBlock) × (cellsPerBlock * next + used ≤ cellsPerBlock * (end / blockLength)) × (end ≤ length (now out)) ⌝ }
+    ensures { λ _. ⌜ now (out .exit) ≡ closed (packing next used (now (pending .entry))) end (now (out .entry)) ⌝ }
+{
+    let at = BLOCK_LENGTH * next;
+    if used == 0 {
+        layout::clear(&mut out[at..end]);
+        return;
+    }
+    put_block(
+        &mut out[at..at + BLOCK_LENGTH],
+        next,
+        &pending[0..CELL_LENGTH * used],
+    );
+    layout::clear(&mut out[at + BLOCK_LENGTH..end]);
+}
+
+// ---- salvage
+
+// 1 for a block that is dropped, and 0 for any other.
+fn dropped_one(block: &[u8]) -> usize
+    ensures { λ r. ⌜ r ≡ cond (model.isDropped (now (block .entry))) 1 0 ⌝ }
+{
+    if archive::sound(block) != 0 {
+        return 0;
+    }
+    if layout::is_blank(block) {
+        return 0;
+    }
+    1
+}
+
+// How many blocks are dropped.
+fn dropped_in(buffer: &[u8]) -> usize
+    ensures { λ r. ⌜ r ≡ length (model.dropped (now (buffer .entry))) ⌝ }
+{
+    let mut gone = 0;
+    for k in 0..buffer.len() / BLOCK_LENGTH {
+        gone = gone + dropped_one(&buffer[BLOCK_LENGTH * k..BLOCK_LENGTH * k + BLOCK_LENGTH]);
+    }
+    gone
+}
+
+// Whether a list of `len` is long enough for the positions: a list as long as the buffer has blocks is, and nothing is looked at.
+fn is_listable(buffer: &[u8], len: usize) -> bool
+    ensures { λ r. ⌜ r ≡ leb (length (model.dropped (now (buffer .entry)))) len ⌝ }
+{
+    if buffer.len() / BLOCK_LENGTH <= len {
+        return true;
+    }
+    dropped_in(buffer) <= len
+}
+
+// The rows of the sound blocks of a damaged archive as an archive in the front of `out`, zeros up to the buffer's length, and the positions of the
+// blocks dropped in the front of the list. Refused: 16, 6 for an output shorter than the buffer or a list too short; then both are as they were.
+pub fn salvage(buffer: &[u8], out: &mut [u8], positions: &mut [u64]) -> Salvaged
+    ensures { λ r. ⌜ salvageResult r (now (out .exit)) (now (positions .exit)) ≡ model.salvageOf (now (buffer .entry)) (now (out .entry)) (now (positions .entry)) ⌝ }
+{
+    if !archive::is_whole(buffer.len()) {
+        return not_salvaged(Refusal::Size);
+    }
+    if out.len() < buffer.len() {
+        return not_salvaged(Refusal::ShortOutput);
+    }
+    if !is_listable(buffer, positions.len()) {
+        return not_salvaged(Refusal::ShortOutput);
+    }
+    let mut pending = [0u8; PENDING_LENGTH];
+    let none = [0u32; 1];
+    let end = pack_blocks(&mut pending, 0, 0, buffer, &none[0..0], out, positions);
+    close(out, &pending, end.used, end.next, buffer.len());
+    Salvaged {
+        answer: Taken::Done,
+        dropped: end.dropped,
+        rows: CELLS_PER_BLOCK * end.next + end.used,
+    }
+}
+
+// Nothing was salvaged, and why.
+fn not_salvaged(why: Refusal) -> Salvaged
+    ensures { λ r. ⌜ NotSalvaged why r ⌝ }
+{
+    Salvaged {
+        answer: Taken::Refused(why),
+        dropped: 0,
+        rows: 0,
+    }
+}

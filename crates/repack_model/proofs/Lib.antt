@@ -1,0 +1,5 @@
+pub mod Rows
+pub mod Packing
+pub mod Pieces
+pub mod Salvage
+pub mod Removal

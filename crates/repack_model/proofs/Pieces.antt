@@ -1,0 +1,117 @@
+-- What stays of a buffer's rows, block by block and piece by piece.
+--     keptIn, kept-next, kept-none    the cells that stay of some blocks; of one block more, and of none
+--     pieces-packed                   pieces are the whole
+-- Assumes nothing.
+use Prim.Native.Nat.{ℕ, zero, suc, _+_, _-_, _*_, _/_, _%_, _≤_, _<_}
+use native.Mathlib.Nat.{zero-add, add-zero}
+use native.Mathlib.Omega.{arith}
+use mathlib.Core.Path.{_≡_, refl, sym, ap, ap₂, _∙_}
+use mathlib.Core.Bool.{Bool, true, not}
+use mathlib.Core.List.{List, [], _∷_, _++_, map, flatten, append-assoc, append-nil, map-append}
+use lib.Dec.{eqb}
+use lib.ListN.{length, length-append}
+use borrow.Author.Tests.{eqb-true}
+use Rattle.lists.specs.Lists.{keep, all, upFrom}
+use Rattle.lists.proofs.Choice.{both}
+use Rattle.lists.proofs.Keep.{keep-append}
+use Rattle.lists.proofs.UpFrom.{upFrom-add}
+use Rattle.layout.specs.Buffer.{part}
+use Rattle.layout.specs.Block.{blockLength}
+use Rattle.layout.proofs.Segments.{left, right}
+use Rattle.archive_model.specs.Row.{Row, rowCell, rowsOf, isSound}
+use Rattle.archive_model.specs.Buffer.{blocksIn, archiveOf}
+use Rattle.archive_model.proofs.Blocks.{Fits}
+use Rattle.archive_model.proofs.Buffers.{map-same, flatten-append}
+use Rattle.repack_model.specs.Repack.{soundRows, isListed, others}
+use Rattle.repack_model.specs.Packer.{Packing, startPacking, fullLength, pushedBlocks, pushed, lastBlock, cellsOf, keptCells, packedIn}
+use Rattle.repack_model.specs.Claims.{PiecesPacked}
+use Rattle.repack_model.proofs.Rows.{rowsKept, sound-rows-fit}
+use Rattle.repack_model.proofs.Packing.{shift-by, push-none, push-waits, blocks-append, push-append, archive-cells}
+use Rattle.repack_model.proofs.Removal.{fits-keep}
+
+-- ---- the blocks of two pieces
+
+module _ (xs ys : List ℕ) (e : length xs % blockLength ≡ 0) where
+  abbrev n : ℕ
+  n = length xs / blockLength
+
+  abbrev m : ℕ
+  m = length ys / blockLength
+
+  abbrev at : ℕ → List ℕ
+  at k = part (blockLength * k) blockLength (xs ++ ys)
+
+  pub pieces-blocks : blocksIn (xs ++ ys) ≡ blocksIn xs ++ blocksIn ys
+  unfolding blocksIn
+  pieces-blocks =
+      let count : length (xs ++ ys) / blockLength ≡ n + m = omega (arith, length-append xs ys) in
+      ap (λ (c : ℕ). map at (upFrom 0 c)) count
+      ∙ ap (map at) (upFrom-add 0 n m ∙ ap (λ (c : ℕ). upFrom 0 n ++ upFrom c m) (zero-add n ∙ sym (add-zero n))) ∙ map-append at (upFrom 0 n) (upFrom (n + 0) m)
+      ∙ ap₂ _++_
+      (map-same at (λ k. part (blockLength * k) blockLength xs) 0 n (λ k l h. left xs ys (length xs) (blockLength * k) blockLength refl (omega arith)))
+      (shift-by at n 0 m
+      ∙ map-same (λ k. at (n + k)) (λ k. part (blockLength * k) blockLength ys) 0 m
+      (λ k l h.
+      let d : blockLength * (n + k) ≡ length xs + blockLength * k = omega arith in
+      ap (λ (a : ℕ). part a blockLength (xs ++ ys)) d ∙ right xs ys (length xs) (blockLength * k) blockLength refl))
+
+-- ---- the cells that stay
+
+module _ (identities : List ℕ) where
+  unfoldable pub keptIn : List (List ℕ) → List ℕ
+  keptIn bs = cellsOf (others identities (rowsKept bs))
+
+  pub kept-is : (piece : List ℕ) → keptCells identities piece ≡ keptIn (blocksIn piece)
+  unfolding keptIn keptCells soundRows
+  kept-is piece = refl
+
+  pub kept-none : keptIn [] ≡ []
+  unfolding keptIn flatten
+  kept-none = refl
+
+  kept-append : (bs cs : List (List ℕ)) → keptIn (bs ++ cs) ≡ keptIn bs ++ keptIn cs
+  unfolding keptIn
+  kept-append bs cs =
+      let p : Row → Bool = λ r. not (isListed identities r) in
+      let rows : rowsKept (bs ++ cs) ≡ rowsKept bs ++ rowsKept cs =
+      ap (λ (l : List (List ℕ)). flatten (map rowsOf l)) (keep-append isSound bs cs) ∙ ap flatten (map-append rowsOf (keep isSound bs) (keep isSound cs))
+      ∙ flatten-append (map rowsOf (keep isSound bs)) (map rowsOf (keep isSound cs)) in
+      ap (λ (l : List Row). cellsOf (others identities l)) rows ∙ ap cellsOf (keep-append p (rowsKept bs) (rowsKept cs))
+      ∙ ap flatten (map-append rowCell (keep p (rowsKept bs)) (keep p (rowsKept cs))) ∙ flatten-append (map rowCell (keep p (rowsKept bs))) (map rowCell (keep p (rowsKept cs)))
+
+  pub kept-next : (b : List ℕ) (bs : List (List ℕ)) → keptIn (b ∷ bs) ≡ keptIn (b ∷ []) ++ keptIn bs
+  kept-next b bs = kept-append (b ∷ []) bs
+
+  -- of two pieces
+  kept-pieces : (xs ys : List ℕ) → length xs % blockLength ≡ 0 → keptCells identities (xs ++ ys) ≡ keptCells identities xs ++ keptCells identities ys
+  kept-pieces xs ys e =
+      kept-is (xs ++ ys) ∙ ap keptIn (pieces-blocks xs ys e) ∙ kept-append (blocksIn xs) (blocksIn ys) ∙ sym (ap₂ _++_ (kept-is xs) (kept-is ys))
+
+  no-cells : keptCells identities [] ≡ []
+  unfolding blocksIn upFrom
+  no-cells = kept-is [] ∙ kept-none
+
+  pieces-from : (p : Packing) → length (p .waiting) < fullLength → (pieces : List (List ℕ)) → all (λ x. eqb (length x % blockLength) 0) pieces ≡ true
+      → packedIn p identities pieces ≡ pushedBlocks p (keptCells identities (flatten pieces)) ++ lastBlock (pushed p (keptCells identities (flatten pieces)))
+  unfolding flatten
+  pieces-from p h [] ok =
+      let n = push-none p h in
+      sym (ap (λ (c : List ℕ). pushedBlocks p c ++ lastBlock (pushed p c)) no-cells ∙ ap₂ (λ (b : List ℕ) (q : Packing). b ++ lastBlock q) (n .0) (n .1))
+  pieces-from p h (x ∷ xs) ok =
+      let b = both (eqb (length x % blockLength) 0) _ ok in
+      let here = keptCells identities x in
+      let later = keptCells identities (flatten xs) in
+      ap (λ (l : List ℕ). pushedBlocks p here ++ l) (pieces-from (pushed p here) (push-waits p here) xs (b .1))
+      ∙ sym (append-assoc (pushedBlocks p here) (pushedBlocks (pushed p here) later) (lastBlock (pushed (pushed p here) later)))
+      ∙ sym (ap (λ (c : List ℕ). pushedBlocks p c ++ lastBlock (pushed p c)) (kept-pieces x (flatten xs) (eqb-true (length x % blockLength) 0 (b .0)))
+      ∙ ap₂ (λ (c : List ℕ) (q : Packing). c ++ lastBlock q) (blocks-append p here later) (push-append p here later))
+
+-- the archive of what stays
+pub packed-archive : (identities : List ℕ) (piece : List ℕ)
+    → pushedBlocks startPacking (keptCells identities piece) ++ lastBlock (pushed startPacking (keptCells identities piece)) ≡ archiveOf (others identities (soundRows piece))
+unfolding keptCells
+packed-archive identities piece =
+    sym (archive-cells (others identities (soundRows piece)) (fits-keep (λ r. not (isListed identities r)) (soundRows piece) (sound-rows-fit piece)))
+
+pub pieces-packed : PiecesPacked
+pieces-packed identities pieces ok = pieces-from identities startPacking (omega arith) pieces ok ∙ packed-archive identities (flatten pieces)

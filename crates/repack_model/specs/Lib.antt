@@ -1,0 +1,3 @@
+pub mod Repack
+pub mod Packer
+pub mod Claims

@@ -1,0 +1,108 @@
+-- The packer of salvage and removal: rows that stay are packed "so that only the last block is short" and renumbered from 0, the whole at once
+-- or in pieces (document 02, A9 and A11). Assumes nothing.
+use Prim.Native.Nat.{ℕ, _+_, _*_, _/_, _%_}
+use mathlib.Core.Bool.{Bool, cond, not, _&&_, _||_}
+use mathlib.Core.List.{List, [], _∷_, _++_, map, flatten}
+use lib.Dec.{ltb, leb, eqb}
+use lib.ListN.{length, drop}
+use Rattle.lists.specs.Lists.{padded, upFrom}
+use Rattle.refusal.specs.Number.{numberOf}
+use Rattle.refusal.specs.declared.Refusal.the-variants.{ShortOutput, Argument, NotAccepted, Size}
+use Rattle.layout.specs.Buffer.{part}
+use Rattle.layout.specs.Cell.{cellLength}
+use Rattle.layout.specs.Block.{cellsPerBlock, bodyLength, blockLength, sealed}
+use Rattle.archive_model.specs.Row.{Row, rowCell, rowsHeader}
+use Rattle.archive_model.specs.Buffer.{maxBlocks}
+use Rattle.repack_model.specs.Repack.{soundRows, dropped, fronted, maxIdentities, others}
+
+-- what was packed: how many blocks, and the cells that wait for the next one, as bytes
+pub record Packing : Type 0 where
+  pub next : ℕ
+  pub waiting : List ℕ
+
+abbrev pub startPacking : Packing
+startPacking = record { next = 0; waiting = [] }
+
+-- the bytes of 15 cells
+abbrev pub fullLength : ℕ
+fullLength = cellLength * cellsPerBlock
+
+-- block k with these cells
+unfoldable pub cellsBlock : ℕ → List ℕ → List ℕ
+cellsBlock k cells = sealed (padded bodyLength (rowsHeader k (length cells / cellLength) ++ cells))
+
+-- the blocks that cells fill, the first of them block k
+unfoldable pub fullBlocks : ℕ → List ℕ → List ℕ
+fullBlocks k cells = flatten (map (λ j. cellsBlock (k + j) (part (fullLength * j) fullLength cells)) (upFrom 0 (length cells / fullLength)))
+
+-- cells behind those that wait: the blocks that they fill together, and what is packed then
+abbrev pub pushedBlocks : Packing → List ℕ → List ℕ
+pushedBlocks p cells = fullBlocks (p .next) (p .waiting ++ cells)
+
+unfoldable pub pushed : Packing → List ℕ → Packing
+pushed p cells = record {
+  next = p .next + length (p .waiting ++ cells) / fullLength;
+  waiting = drop (fullLength * (length (p .waiting ++ cells) / fullLength)) (p .waiting ++ cells);
+}
+
+-- the last block, where cells wait
+unfoldable pub lastBlock : Packing → List ℕ
+lastBlock p = cond (eqb (length (p .waiting)) 0) [] (cellsBlock (p .next) (p .waiting))
+
+abbrev pub cellsOf : List Row → List ℕ
+cellsOf rows = flatten (map rowCell rows)
+
+-- the cells of the rows of a piece that stay
+unfoldable pub keptCells : List ℕ → List ℕ → List ℕ
+keptCells identities piece = cellsOf (others identities (soundRows piece))
+
+-- ---- the calls in pieces
+
+-- fewer than 15 cells wait, behind at most 2^32 blocks
+unfoldable pub isPacking : Packing → Bool
+isPacking p = ltb (length (p .waiting)) fullLength && leb (p .next) maxBlocks
+
+-- the number, how many blocks of the piece were dropped, and what is packed then; every byte and element of the output and of the list
+pub record Packed : Type 0 where
+  pub number : ℕ
+  pub count : ℕ
+  pub next : Packing
+  pub output : List ℕ
+  pub positions : List ℕ
+
+abbrev pub keptAs : ℕ → Packing → List ℕ → List ℕ → Packed
+keptAs number p output positions = record { number = number; count = 0; next = p; output = output; positions = positions }
+
+-- a piece: 11; 16 for one that isn't whole blocks or brings more than 2^32 of them in all; 10 for more than 32 identities; 6 for an output shorter
+-- than the piece or a list too short. Positions count from the first block of the piece.
+unfoldable pub packOf : Packing → List ℕ → List ℕ → List ℕ → List ℕ → Packed
+packOf p piece identities output positions =
+    cond (not (isPacking p)) (keptAs (numberOf NotAccepted) p output positions)
+    (cond (not (eqb (length piece % blockLength) 0 && leb (p .next + length piece / blockLength) maxBlocks)) (keptAs (numberOf Size) p output positions)
+    (cond (ltb maxIdentities (length identities)) (keptAs (numberOf Argument) p output positions)
+    (cond (ltb (length output) (length piece) || ltb (length positions) (length (dropped piece))) (keptAs (numberOf ShortOutput) p output positions)
+    (record {
+      number = 0;
+      count = length (dropped piece);
+      next = pushed p (keptCells identities piece);
+      output = fronted (pushedBlocks p (keptCells identities piece)) output;
+      positions = fronted (dropped piece) positions;
+    }))))
+
+pub record Finished : Type 0 where
+  pub number : ℕ
+  pub length : ℕ
+  pub output : List ℕ
+
+-- the end: 11; 6 for an output too short for the last block; else its length, 512 or 0
+unfoldable pub finishOf : Packing → List ℕ → Finished
+finishOf p output =
+    cond (not (isPacking p)) (record { number = numberOf NotAccepted; length = 0; output = output })
+    (cond (ltb (length output) (length (lastBlock p))) (record { number = numberOf ShortOutput; length = 0; output = output })
+    (record { number = 0; length = length (lastBlock p); output = fronted (lastBlock p) output }))
+
+-- ---- what pieces give together
+
+abbrev pub packedIn : Packing → List ℕ → List (List ℕ) → List ℕ
+packedIn p identities [] = lastBlock p
+packedIn p identities (x ∷ xs) = pushedBlocks p (keptCells identities x) ++ packedIn (pushed p (keptCells identities x)) identities xs

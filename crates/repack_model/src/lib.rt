@@ -1,0 +1,1 @@
+// Salvage of a damaged archive and removal of identities: definitions and theorems, no code.

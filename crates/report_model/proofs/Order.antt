@@ -1,0 +1,123 @@
+-- The order in which rows and archives are taken changes nothing (document 02, A12).
+--     insert-comm        two lines are inserted in either order
+--     rows-perm          rows in another order give the same lines
+-- Assumes nothing.
+use Prim.Native.Nat.{ℕ, _+_, _<_, _≤_, min, max}
+use mathlib.Core.Path.{_≡_, refl, sym, ap, _∙_}
+use mathlib.Core.List.{List, [], _∷_, _++_, List·Permᴰ, List·Permᴰ·nil, List·Permᴰ·cons, List·Permᴰ·swap, List·Permᴰ·trans}
+use native.Mathlib.Omega.{arith}
+use native.Mathlib.Nat.{add-comm, add-left-comm, min-comm, max-comm}
+use native.Mathlib.Decide.{decLt}
+use borrow.Author.Tests.{lt-ltb, le-ltb, eq-eqb, ne-eqb}
+use Rattle.archive_model.specs.Row.{Row}
+use Rattle.report_model.specs.Report.{Line, lineOf, joined, insert, addRows}
+
+-- three ways that two identities stand
+data Sides (x y : ℕ) : Type 0 where
+  before : x < y → Sides x y
+  same : x ≡ y → Sides x y
+  after : y < x → Sides x y
+
+sides : (x y : ℕ) → Sides x y
+sides x y = elim (decLt x y) [
+  | yes h ↦ before h
+  | no h ↦ elim (decLt y x) [
+    | yes k ↦ after k
+    | no k ↦ same (omega arith)
+  ]
+]
+
+module _ (a c : Line) (l : List Line) where
+  insert-before : a .identity < c .identity → insert a (c ∷ l) ≡ a ∷ c ∷ l
+  unfolding insert
+  insert-before h = rw (lt-ltb (a .identity) (c .identity) h)
+
+  insert-same : a .identity ≡ c .identity → insert a (c ∷ l) ≡ joined a c ∷ l
+  unfolding insert
+  insert-same e =
+      let h : c .identity ≤ a .identity = omega arith in
+      rw (le-ltb (a .identity) (c .identity) h, eq-eqb (a .identity) (c .identity) e)
+
+  insert-after : c .identity < a .identity → insert a (c ∷ l) ≡ c ∷ insert a l
+  unfolding insert
+  insert-after h =
+      let k : c .identity ≤ a .identity = omega arith in
+      let n : a .identity ≡ c .identity → ⊥ = λ e. omega arith in
+      rw (le-ltb (a .identity) (c .identity) k, ne-eqb (a .identity) (c .identity) n)
+
+joined-comm : (a b : Line) → a .identity ≡ b .identity → joined a b ≡ joined b a
+joined-comm a b e =
+    rw (e, add-comm (a .kept) (b .kept), add-comm (a .loose) (b .loose), min-comm (a .earliest) (b .earliest), max-comm (a .latest) (b .latest))
+
+min-left-comm : (x y z : ℕ) → min x (min y z) ≡ min y (min x z)
+min-left-comm x y z = omega arith
+
+max-left-comm : (x y z : ℕ) → max x (max y z) ≡ max y (max x z)
+max-left-comm x y z = omega arith
+
+joined-left-comm : (a b c : Line) → a .identity ≡ b .identity → joined a (joined b c) ≡ joined b (joined a c)
+joined-left-comm a b c e =
+    rw (e, add-left-comm (a .kept) (b .kept) (c .kept), add-left-comm (a .loose) (b .loose) (c .loose), min-left-comm (a .earliest) (b .earliest) (c .earliest), max-left-comm (a .latest) (b .latest) (c .latest))
+
+-- both go in front of what follows
+fronts : (a b : Line) (l : List Line) → Sides (a .identity) (b .identity) → insert a l ≡ a ∷ l → insert b l ≡ b ∷ l → insert a (b ∷ l) ≡ insert b (a ∷ l)
+fronts a b l (before h) f g = insert-before a b l h ∙ ap (λ (m : List Line). a ∷ m) (sym g) ∙ sym (insert-after b a l h)
+fronts a b l (same e) f g = insert-same a b l e ∙ ap (λ (x : Line). x ∷ l) (joined-comm a b e) ∙ sym (insert-same b a l (sym e))
+fronts a b l (after h) f g = insert-after a b l h ∙ ap (λ (m : List Line). b ∷ m) f ∙ sym (insert-before b a l h)
+
+-- a goes before c, and b is joined to it or goes behind it
+over : (a b c : Line) (l : List Line) → a .identity < c .identity → Sides (b .identity) (c .identity) → c .identity ≤ b .identity
+    → insert a (insert b (c ∷ l)) ≡ insert b (insert a (c ∷ l))
+over a b c l h (before k) m = absurd (omega arith)
+over a b c l h (same e) m =
+    let k : a .identity < b .identity = omega arith in
+    ap (insert a) (insert-same b c l e) ∙ insert-before a (joined b c) l k
+    ∙ ap (λ (m : List Line). a ∷ m) (sym (insert-same b c l e)) ∙ sym (insert-after b a (c ∷ l) k) ∙ ap (insert b) (sym (insert-before a c l h))
+over a b c l h (after k) m =
+    let n : a .identity < b .identity = omega arith in
+    ap (insert a) (insert-after b c l k) ∙ insert-before a c (insert b l) h
+    ∙ ap (λ (m : List Line). a ∷ m) (sym (insert-after b c l k)) ∙ sym (insert-after b a (c ∷ l) n) ∙ ap (insert b) (sym (insert-before a c l h))
+
+-- a is joined to c, and b goes behind it
+beside : (a b c : Line) (l : List Line) → a .identity ≡ c .identity → c .identity < b .identity → insert a (insert b (c ∷ l)) ≡ insert b (insert a (c ∷ l))
+beside a b c l e h =
+    let k : a .identity < b .identity = omega arith in
+    ap (insert a) (insert-after b c l h) ∙ insert-same a c (insert b l) e ∙ sym (insert-after b (joined a c) l k) ∙ ap (insert b) (sym (insert-same a c l e))
+
+step : (a b c : Line) (l : List Line) → Sides (a .identity) (c .identity) → Sides (b .identity) (c .identity) → insert a (insert b l) ≡ insert b (insert a l)
+    → insert a (insert b (c ∷ l)) ≡ insert b (insert a (c ∷ l))
+step a b c l (before h) (before k) i =
+    ap (insert a) (insert-before b c l k) ∙ fronts a b (c ∷ l) (sides (a .identity) (b .identity)) (insert-before a c l h) (insert-before b c l k)
+    ∙ ap (insert b) (sym (insert-before a c l h))
+step a b c l (before h) (same e) i = over a b c l h (same e) (omega arith)
+step a b c l (before h) (after k) i = over a b c l h (after k) (omega arith)
+step a b c l (same e) (before k) i = sym (over b a c l k (same e) (omega arith))
+step a b c l (after h) (before k) i = sym (over b a c l k (after h) (omega arith))
+step a b c l (same e) (same f) i =
+    ap (insert a) (insert-same b c l f) ∙ insert-same a (joined b c) l (e ∙ sym f) ∙ ap (λ (x : Line). x ∷ l) (joined-left-comm a b c (e ∙ sym f))
+    ∙ sym (insert-same b (joined a c) l (f ∙ sym e)) ∙ ap (insert b) (sym (insert-same a c l e))
+step a b c l (same e) (after k) i = beside a b c l e k
+step a b c l (after h) (same f) i = sym (beside b a c l f h)
+step a b c l (after h) (after k) i =
+    ap (insert a) (insert-after b c l k) ∙ insert-after a c (insert b l) h ∙ ap (λ (m : List Line). c ∷ m) i
+    ∙ sym (insert-after b c (insert a l) k) ∙ ap (insert b) (sym (insert-after a c l h))
+
+insert-nil : (a : Line) → insert a [] ≡ a ∷ []
+unfolding insert
+insert-nil a = refl
+
+pub insert-comm : (a b : Line) (l : List Line) → insert a (insert b l) ≡ insert b (insert a l)
+insert-comm a b [] =
+    ap (insert a) (insert-nil b) ∙ fronts a b [] (sides (a .identity) (b .identity)) (insert-nil a) (insert-nil b) ∙ ap (insert b) (sym (insert-nil a))
+insert-comm a b (c ∷ l) = step a b c l (sides (a .identity) (c .identity)) (sides (b .identity) (c .identity)) (insert-comm a b l)
+
+-- rows in another order give the same lines
+pub rows-perm : {xs ys : List Row} → List·Permᴰ xs ys → (lines : List Line) → addRows xs lines ≡ addRows ys lines
+unfolding addRows
+rows-perm List·Permᴰ·nil lines = refl
+rows-perm (List·Permᴰ·cons {b = y} {l₁ = l₁} e p) lines = ap (λ (r : Row). addRows l₁ (insert (lineOf r) lines)) e ∙ rows-perm p (insert (lineOf y) lines)
+rows-perm (List·Permᴰ·swap {a = x} {b = y} {b′ = x′} {l = l} e f) lines =
+    ap (addRows l) (insert-comm (lineOf y) (lineOf x) lines)
+    ∙ ap (λ (r : Row). addRows l (insert (lineOf r) (insert (lineOf y) lines))) e
+    ∙ ap (λ (r : Row). addRows l (insert (lineOf x′) (insert (lineOf r) lines))) f
+rows-perm (List·Permᴰ·trans p q) lines = rows-perm p lines ∙ rows-perm q lines

@@ -1,0 +1,1 @@
+// The yearly report: definitions and theorems, no code.

@@ -1,0 +1,223 @@
+//! Calls of salvage and removal, and what is shown of each (document 02, A9 and A11), on the
+//! room of archive_calls. The records and the lines are in README.md.
+
+use crate::archive::{block, seal, BLOCK, ROWS};
+use crate::archive_calls::{put_block, random_rows, Call, MOST};
+use crate::hex::hex_or_dash;
+use crate::random::Random;
+use crate::repack::{remove, salvage, Salvaged};
+use crate::subtelegram::{renew_hash, Refusal};
+
+#[derive(Debug, Clone, PartialEq)]
+pub enum Repack {
+    /// The lengths of the output and of the list.
+    Salvage(u32, u32),
+    /// A block of the output.
+    Out(u32),
+    List,
+    Remove(Vec<u32>),
+}
+
+/// What the calls are put to: the rules here, others in the tests.
+pub trait Repacker {
+    fn salvage(&self, room: &[u8], out: &mut [u8], list: &mut [u64]) -> Result<Salvaged, Refusal>;
+    fn remove(&self, room: &mut Vec<u8>, ids: &[u32]) -> Result<usize, (Refusal, usize)>;
+}
+
+/// Document 02.
+pub struct Rules;
+
+impl Repacker for Rules {
+    fn salvage(&self, room: &[u8], out: &mut [u8], list: &mut [u64]) -> Result<Salvaged, Refusal> {
+        salvage(room, out, list)
+    }
+
+    fn remove(&self, room: &mut Vec<u8>, ids: &[u32]) -> Result<usize, (Refusal, usize)> {
+        remove(room, ids)
+    }
+}
+
+/// The output and the list, which every salvage fills with EE first.
+pub struct Lent {
+    out: Vec<u8>,
+    list: Vec<u64>,
+}
+
+impl Lent {
+    pub fn new() -> Self {
+        let (out, list) = (vec![0; MOST], vec![0; 64]);
+        Lent { out, list }
+    }
+
+    /// The line for a call.
+    pub fn show(&mut self, call: &Repack, room: &mut Vec<u8>, by: &impl Repacker) -> String {
+        match call {
+            Repack::Salvage(end, len) => {
+                self.out.fill(0xEE);
+                self.list.fill(u64::from_be_bytes([0xEE; 8]));
+                let out = &mut self.out[..(*end as usize).min(MOST)];
+                let list = &mut self.list[..(*len as usize).min(64)];
+                match by.salvage(room, out, list) {
+                    Ok((dropped, rows)) => format!("SALVAGE 0 {} {rows}", dropped.len()),
+                    Err(number) => format!("SALVAGE {number} 0 0"),
+                }
+            }
+            Repack::Out(k) => {
+                let bytes = self.out.chunks_exact(BLOCK).nth(*k as usize);
+                format!("OUT {}", hex_or_dash(bytes.unwrap_or_default()))
+            }
+            Repack::List => {
+                let numbers = self.list.iter().map(|n| format!(" {n}"));
+                format!("LIST{}", numbers.collect::<String>())
+            }
+            Repack::Remove(ids) => match by.remove(room, ids) {
+                Ok(freed) => format!("REMOVE 0 0 {freed}"),
+                Err((number, position)) => format!("REMOVE {number} {position} 0"),
+            },
+        }
+    }
+}
+
+/// A call as a record of 320 bytes.
+pub fn record(call: &Repack) -> [u8; 320] {
+    let mut record = [0; 320];
+    match call {
+        Repack::Salvage(end, len) => {
+            record[0] = 9;
+            record[1..5].copy_from_slice(&end.to_be_bytes());
+            record[5..9].copy_from_slice(&len.to_be_bytes());
+        }
+        Repack::Out(k) => {
+            record[0] = 10;
+            record[1..5].copy_from_slice(&k.to_be_bytes());
+        }
+        Repack::List => record[0] = 11,
+        Repack::Remove(ids) => {
+            record[0] = 12;
+            record[1] = ids.len() as u8;
+            for (i, id) in ids.iter().enumerate() {
+                record[4 + 4 * i..][..4].copy_from_slice(&id.to_be_bytes());
+            }
+        }
+    }
+    record
+}
+
+// The calls.
+
+/// The calls that are stored.
+pub fn calls(calls: &mut Vec<Call>) {
+    salvage_lengths(calls);
+    salvage_blocks(calls);
+    salvage_changed(calls);
+}
+
+/// What is asked of a salvage into this output and list: all that was written.
+fn salvages(calls: &mut Vec<Call>, end: usize, len: usize) {
+    calls.push(Call::Repack(Repack::Salvage(end as u32, len as u32)));
+    let blocks = (end / BLOCK) as u32 + 1;
+    calls.extend((0..blocks).map(|k| Call::Repack(Repack::Out(k))));
+    calls.push(Call::Repack(Repack::List));
+}
+
+/// Rooms of every odd length, with outputs and lists one too short, right and one too long.
+fn salvage_lengths(calls: &mut Vec<Call>) {
+    let mut random = Random::new(31);
+    for n in [0usize, 1, 511, 512, 513, 1024, 24_576] {
+        calls.push(Call::New(n as u32));
+        for end in [n.saturating_sub(1), n, n + 1] {
+            for len in [0, 1, 64, 65] {
+                calls.push(Call::Repack(Repack::Salvage(end as u32, len)));
+                calls.push(Call::Repack(Repack::Out((end / BLOCK) as u32)));
+            }
+        }
+    }
+    calls.extend([0, 47, 48, u32::MAX].map(|k| Call::Repack(Repack::Out(k))));
+    calls.push(Call::Repack(Repack::List));
+    // Three of five blocks are dropped.
+    calls.push(Call::New(2560));
+    let rows = random_rows(&mut random, ROWS);
+    for k in 0..5 {
+        put_block(calls, k, &block(k as u32, &rows[..3 * k + 3]));
+    }
+    for k in [0, 2, 3] {
+        calls.push(Call::Put((BLOCK * k + 100) as u32, vec![0xAA, 0xAA]));
+    }
+    for end in [2559, 2560, 2561] {
+        for len in [2, 3, 4, 5, 6] {
+            salvages(calls, end, len);
+        }
+    }
+    calls.push(Call::Open);
+}
+
+/// Short blocks, blocks behind an all-zero one, other numbers and two of the same number; an
+/// intact archive, and what salvage wrote, salvaged again.
+fn salvage_blocks(calls: &mut Vec<Call>) {
+    let mut random = Random::new(32);
+    for counts in [
+        &[15usize][..],
+        &[1],
+        &[15, 15, 4],
+        &[15, 0, 15],
+        &[0, 0, 7],
+        &[14, 14, 14, 14],
+        &[1, 1, 1, 1, 1, 1],
+        &[15, 1, 15, 1, 14, 15],
+        &[13, 15, 15, 2, 15, 0, 0, 1],
+        &[0, 0],
+        &[15, 15, 15, 15],
+    ] {
+        for numbers in [
+            &[0u32, 1, 2, 3, 4, 5, 6, 7][..],
+            &[7, 7, 65_536, 0, 1 << 31, u32::MAX, 2, 3],
+        ] {
+            let n = BLOCK * counts.len();
+            calls.push(Call::New(n as u32));
+            for (k, &count) in counts.iter().enumerate() {
+                if count > 0 {
+                    put_block(
+                        calls,
+                        k,
+                        &block(numbers[k], &random_rows(&mut random, count)),
+                    );
+                }
+            }
+            calls.push(Call::Open);
+            salvages(calls, n, counts.len());
+            // A block without rows is dropped, and so is one with a wrong CRC.
+            let mut none = block(1, &[]);
+            calls.push(Call::Put(0, none[..256].to_vec()));
+            calls.push(Call::Put(256, none[256..].to_vec()));
+            salvages(calls, n, counts.len());
+            none[511] ^= 0x10;
+            calls.push(Call::Put(511, none[511..].to_vec()));
+            salvages(calls, n, 1);
+            salvages(calls, n, 0);
+        }
+    }
+}
+
+/// Each part of a short block changed, with the CRC renewed and without, between two others.
+fn salvage_changed(calls: &mut Vec<Call>) {
+    let mut random = Random::new(33);
+    let right = block(9, &random_rows(&mut random, 3));
+    calls.push(Call::New(1536));
+    put_block(calls, 0, &block(1, &random_rows(&mut random, 14)));
+    put_block(calls, 2, &block(1, &random_rows(&mut random, 15)));
+    for at in [
+        0, 3, 4, 5, 23, 24, 31, 32, 33, 53, 54, 55, 56, 119, 120, 503, 504, 510, 511,
+    ] {
+        for renewed in [false, true] {
+            let mut other = right.clone();
+            other[at] ^= 1;
+            if renewed {
+                let n = usize::from(other[32]).min(21);
+                renew_hash(&mut other[33..33 + n]);
+                seal(&mut other);
+            }
+            put_block(calls, 1, &other);
+            salvages(calls, 1536, 3);
+        }
+    }
+}
