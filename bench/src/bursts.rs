@@ -1,14 +1,14 @@
 //! Receptions in bursts: the proved call, which tests its state once and copies it in and out once, against a hand-written walk over a slice
 //! of the same records, which writes the same replies and trusts its state. Both start each burst from the same state.
-use crate::collector::{cells, Answer, Collector, CELL};
+use crate::collector::{cells, repeat, Answer, Collector, CELL};
 use crate::{report, time};
 use std::hint::black_box;
 
 // A slice passes as a pointer and a length. Nothing checks this line against the Rattle source.
 extern "C" {
     fn bench_burst(setting: u8, cells: *const u8, len: usize, size: usize, rounds: u64) -> u64;
-    fn bench_take(setting: u8, cells: *const u8, len: usize) -> u64;
-    fn bench_admit(setting: u8, cells: *const u8, len: usize) -> u64;
+    fn bench_take(cells: *const u8, len: usize) -> u64;
+    fn bench_admit(cells: *const u8, len: usize) -> u64;
 }
 
 const MOST: usize = 256;
@@ -42,12 +42,15 @@ fn records(cells: &[u8]) -> Vec<Record> {
 }
 
 #[inline(never)]
-fn walk(collector: &mut Collector, records: &[Record], replies: &mut [Reply]) {
+fn walk(collector: &mut Collector, setting: u8, records: &[Record], replies: &mut [Reply]) {
     for (record, reply) in records.iter().zip(replies) {
         let mut sent = [0; 21];
         let bytes = record.bytes.get(..usize::from(record.len)).unwrap_or(&[]);
-        let (answer, len) = match collector.take(bytes, record.time, &mut sent) {
-            Answer::Kept(len) => (1 + len as u64 * 65_536, len),
+        let (answer, len) = match collector.take(bytes, record.time) {
+            Answer::Kept => {
+                let len = repeat(setting, bytes, &mut sent);
+                (1 + len as u64 * 65_536, len)
+            }
             Answer::Copy => (1 << 32, 0),
             Answer::Loose => (1 << 48, 0),
             Answer::Refused => (0, 0),
@@ -60,12 +63,12 @@ fn by_hand(cells: &[u8], size: usize, rounds: usize) -> u64 {
     let all = records(&cells[..2 * MOST * CELL]);
     let none = Reply { answer: 1 << 48, sent: [0; 21], len: 0 };
     let mut replies = vec![none; MOST];
-    let mut start = Collector::new(1);
-    walk(&mut start, &all[..MOST], &mut replies.clone());
+    let mut start = Collector::new();
+    walk(&mut start, black_box(1), &all[..MOST], &mut replies.clone());
     let mut figure = 0u64;
     for i in 0..rounds {
         let mut collector = black_box(&start).clone();
-        walk(&mut collector, black_box(&all[MOST..MOST + size]), &mut replies[..size]);
+        walk(&mut collector, black_box(1), black_box(&all[MOST..MOST + size]), &mut replies[..size]);
         let reply = &black_box(&replies)[i % MOST];
         black_box((&reply.sent, reply.len));
         figure = figure.wrapping_add(collector.totals[1]).wrapping_add(reply.answer);
@@ -84,9 +87,9 @@ fn burst_time(burst: fn(&[u8], usize, usize) -> u64, cells: &[u8], size: usize) 
     whole(BURSTS) - whole(0)
 }
 
-fn run(calls: unsafe extern "C" fn(u8, *const u8, usize) -> u64, cells: &[u8]) -> f64 {
+fn run(calls: unsafe extern "C" fn(*const u8, usize) -> u64, cells: &[u8]) -> f64 {
     time(cells.len() / CELL, || {
-        black_box(unsafe { calls(1, cells.as_ptr(), cells.len()) });
+        black_box(unsafe { calls(cells.as_ptr(), cells.len()) });
     })
 }
 

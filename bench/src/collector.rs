@@ -1,4 +1,4 @@
-//! Receptions taken one after the other: the proved collector, by value and with the test of its state at each call (`take`), and in
+//! Receptions taken one after the other and classified, nothing sent: the proved collector, by value and with the test of its state at each call (`take`), and in
 //! place with none (`admit`), against a hand-written one that is changed in place and trusts its state.
 use crate::{report, time, Random};
 use collect_rust::hash::{hash, sum};
@@ -6,25 +6,25 @@ use std::hint::black_box;
 
 // A slice passes as a pointer and a length. Nothing checks this line against the Rattle source.
 extern "C" {
-    fn bench_take(setting: u8, cells: *const u8, len: usize) -> u64;
-    fn bench_admit(setting: u8, cells: *const u8, len: usize) -> u64;
-    fn bench_test(setting: u8, cells: *const u8, len: usize, rounds: u64) -> u64;
+    fn bench_take(cells: *const u8, len: usize) -> u64;
+    fn bench_admit(cells: *const u8, len: usize) -> u64;
+    fn bench_test(cells: *const u8, len: usize, rounds: u64) -> u64;
 }
 
 pub const CELL: usize = 32;
 const RECEPTIONS: usize = 4_000;
 
 fn proved(cells: &[u8]) -> u64 {
-    unsafe { bench_take(1, cells.as_ptr(), cells.len()) }
+    unsafe { bench_take(cells.as_ptr(), cells.len()) }
 }
 
 fn proved_in_place(cells: &[u8]) -> u64 {
-    unsafe { bench_admit(1, cells.as_ptr(), cells.len()) }
+    unsafe { bench_admit(cells.as_ptr(), cells.len()) }
 }
 
 /// The test of the state that these receptions leave behind, so many times.
 fn tests(cells: &[u8], rounds: u64) -> u64 {
-    unsafe { bench_test(1, cells.as_ptr(), cells.len(), rounds) }
+    unsafe { bench_test(cells.as_ptr(), cells.len(), rounds) }
 }
 
 /// The same job by hand: the state in place, entries in opening order.
@@ -35,12 +35,11 @@ pub struct Collector {
     bytes: [[u8; 21]; 64],
     count: usize,
     latest: u64,
-    setting: u8,
     pub totals: [u64; 6],
 }
 
 pub enum Answer {
-    Kept(usize),
+    Kept,
     Copy,
     Loose,
     Refused,
@@ -52,8 +51,8 @@ fn is_valid(s: &[u8]) -> bool {
 }
 
 impl Collector {
-    pub fn new(setting: u8) -> Collector {
-        Collector { times: [0; 64], lens: [0; 64], bytes: [[0; 21]; 64], count: 0, latest: 0, setting, totals: [0; 6] }
+    pub fn new() -> Collector {
+        Collector { times: [0; 64], lens: [0; 64], bytes: [[0; 21]; 64], count: 0, latest: 0, totals: [0; 6] }
     }
 
     fn holds(&self, i: usize, s: &[u8]) -> bool {
@@ -73,7 +72,7 @@ impl Collector {
         }
     }
 
-    pub fn take(&mut self, s: &[u8], time: u64, sent: &mut [u8; 21]) -> Answer {
+    pub fn take(&mut self, s: &[u8], time: u64) -> Answer {
         self.totals[0] += 1;
         if !is_valid(s) {
             self.totals[4] += 1;
@@ -101,30 +100,30 @@ impl Collector {
         self.bytes[i][..n].copy_from_slice(s);
         self.count += 1;
         self.totals[1] += 1;
-        Answer::Kept(self.repeat(s, sent))
-    }
-
-    fn repeat(&self, s: &[u8], sent: &mut [u8; 21]) -> usize {
-        let n = s.len();
-        if s[n - 2] & 0x0F >= self.setting.min(2) {
-            return 0;
-        }
-        sent[..n].copy_from_slice(s);
-        sent[n - 2] += 1;
-        sent[n - 1] = hash(&sent[..n - 1]);
-        n
+        Answer::Kept
     }
 }
 
+/// What a repeater sends for a valid telegram, and its length.
+pub fn repeat(setting: u8, s: &[u8], sent: &mut [u8; 21]) -> usize {
+    let n = s.len();
+    if s[n - 2] & 0x0F >= setting.min(2) {
+        return 0;
+    }
+    sent[..n].copy_from_slice(s);
+    sent[n - 2] += 1;
+    sent[n - 1] = hash(&sent[..n - 1]);
+    n
+}
+
 fn by_hand(cells: &[u8]) -> u64 {
-    let mut collector = Collector::new(1);
+    let mut collector = Collector::new();
     let mut total = 0u64;
     for cell in cells.chunks_exact(CELL) {
         let time = u64::from_be_bytes(cell[..8].try_into().unwrap());
         let n = usize::from(cell[8]).min(21);
-        let mut sent = [0; 21];
-        total = total.wrapping_add(match collector.take(&cell[9..9 + n], time, black_box(&mut sent)) {
-            Answer::Kept(len) => 1 + len as u64 * 65_536,
+        total = total.wrapping_add(match collector.take(&cell[9..9 + n], time) {
+            Answer::Kept => 1,
             Answer::Copy => 1 << 32,
             Answer::Loose => 1 << 48,
             Answer::Refused => 0,

@@ -1,4 +1,5 @@
 -- What the contract of a burst ensures is what a history asks of it. Assumes nothing.
+use Prim.Native.Nat.{ℕ}
 use mathlib.Core.Path.{_≡_}
 use mathlib.Core.List.{List, _∷_, map}
 use Rattle.model.specs.View.{Reception}
@@ -11,7 +12,7 @@ use Rattle.burst.specs.declared.Reply.{Reply}
 use Rattle.burst.specs.declared.Bursted.{Bursted}
 use Rattle.burst.specs.Records.{repliedOf, handedNumber, burstedOf}
 
-burst-shows : {c : Collector} {h : List Call} {l : List Seen} {rs : List Reception} {places : List Replied} (b : Bursted) (after : List Reply)
-    → burstedOf b after ≡ burstOf (viewOf c) rs places → Shows viewOf (b .next) h l
-    → Shows viewOf c (Burst rs places ∷ h) (Delivered (handedNumber (b .answer)) (map repliedOf after) (viewOf (b .next) .totals) ∷ l)
+burst-shows : {c : Collector} {h : List Call} {l : List Seen} {setting : ℕ} {rs : List Reception} {places : List Replied} (b : Bursted) (after : List Reply)
+    → burstedOf b after ≡ burstOf setting (viewOf c) rs places → Shows viewOf (b .next) h l
+    → Shows viewOf c (Burst setting rs places ∷ h) (Delivered (handedNumber (b .answer)) (map repliedOf after) (viewOf (b .next) .totals) ∷ l)
 burst-shows b after e rest = delivered e rest

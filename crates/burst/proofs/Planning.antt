@@ -5,6 +5,7 @@ use Prim.Native.Nat.{ℕ, _≤_, _<_}
 use native.Mathlib.Omega.{arith}
 use borrow.Author.Tests.{lt-ltb, le-ltb}
 use Rattle.refusal.specs.declared.Refusal.the-variants.{ShortOutput, Argument, NotAccepted}
+use Rattle.telegram.specs.Repeater.{maxSetting}
 use Rattle.model.specs.Acceptable.{acceptable}
 use Rattle.model.specs.Exact.{Fits}
 use Rattle.collector.specs.declared.Collector.{Collector}
@@ -13,28 +14,28 @@ use Rattle.collector.specs.Admission.{Tested}
 use Rattle.burst.specs.declared.Handed.{Handed}
 use Rattle.burst.specs.declared.Handed.the-variants.{Done, Refused}
 use Rattle.burst.specs.declared.Plan.{Plan}
-use Rattle.model.specs.Burst.{maxBurst, sizeNumber, burstNumber}
+use Rattle.model.specs.Burst.{maxBurst, callNumber, burstNumber}
 use Rattle.burst.specs.Records.{Planned}
 
-module _ (c : Collector) (n m : ℕ) (fit : Bool) (e : fit ≡ acceptable (viewAt (c .times) (c .lens) (c .bytes) (c .count) (c .latest) (c .setting) (c .totals)))
-    (fits : Fits (viewAt (c .times) (c .lens) (c .bytes) (c .count) (c .latest) (c .setting) (c .totals))) where
+module _ (c : Collector) (setting n m : ℕ) (fit : Bool) (e : fit ≡ acceptable (viewAt (c .times) (c .lens) (c .bytes) (c .count) (c .latest) (c .totals)))
+    (fits : Fits (viewAt (c .times) (c .lens) (c .bytes) (c .count) (c .latest) (c .totals))) where
   abbrev plan : ℕ → Handed → Plan
-  plan count answer = record { fit = fit; count = count; summary = record { count = c .count; latest = c .latest; setting = c .setting; totals = c .totals }; answer = answer }
+  plan count answer = record { fit = fit; count = count; summary = record { count = c .count; latest = c .latest; totals = c .totals }; answer = answer }
 
   tested : Tested fit (viewOf c)
   unfolding viewOf
   tested = record { said = e; fits = fits }
 
-  pub not-accepted : fit ≡ false → Planned c n m (plan 0 (Refused NotAccepted))
-  unfolding viewOf burstNumber sizeNumber
+  pub not-accepted : fit ≡ false → Planned c setting n m (plan 0 (Refused NotAccepted))
+  unfolding viewOf burstNumber callNumber
   not-accepted f = record { tested = tested; state = refl; count = rw (sym e ∙ f); few = omega arith; placed = omega arith; answer = rw (sym e ∙ f) }
 
-  pub no-room : fit ≡ true → m < n → Planned c n m (plan 0 (Refused ShortOutput))
-  unfolding viewOf burstNumber sizeNumber
+  pub no-room : fit ≡ true → m < n → Planned c setting n m (plan 0 (Refused ShortOutput))
+  unfolding viewOf burstNumber callNumber
   no-room f h = record { tested = tested; state = refl; count = rw (sym e ∙ f, lt-ltb m n h); few = omega arith; placed = omega arith; answer = rw (sym e ∙ f, lt-ltb m n h) }
 
-  pub too-many : fit ≡ true → n ≤ m → maxBurst < n → Planned c n m (plan 0 (Refused Argument))
-  unfolding viewOf burstNumber sizeNumber
+  pub too-many : fit ≡ true → n ≤ m → maxBurst < n → Planned c setting n m (plan 0 (Refused Argument))
+  unfolding viewOf burstNumber callNumber
   too-many f h k = record {
     tested = tested;
     state = refl;
@@ -44,13 +45,24 @@ module _ (c : Collector) (n m : ℕ) (fit : Bool) (e : fit ≡ acceptable (viewA
     answer = rw (sym e ∙ f, le-ltb m n h, lt-ltb maxBurst n k);
   }
 
-  pub all-right : fit ≡ true → n ≤ m → n ≤ maxBurst → Planned c n m (plan n Done)
-  unfolding viewOf burstNumber sizeNumber
-  all-right f h k = record {
+  pub bad-setting : fit ≡ true → n ≤ m → n ≤ maxBurst → maxSetting < setting → Planned c setting n m (plan 0 (Refused Argument))
+  unfolding viewOf burstNumber callNumber
+  bad-setting f h k l = record {
     tested = tested;
     state = refl;
-    count = rw (sym e ∙ f, le-ltb m n h, le-ltb maxBurst n k);
+    count = rw (sym e ∙ f, le-ltb m n h, le-ltb maxBurst n k, lt-ltb maxSetting setting l);
     few = omega arith;
-    placed = h;
-    answer = rw (sym e ∙ f, le-ltb m n h, le-ltb maxBurst n k);
+    placed = omega arith;
+    answer = rw (sym e ∙ f, le-ltb m n h, le-ltb maxBurst n k, lt-ltb maxSetting setting l);
+  }
+
+  pub all-right : fit ≡ true → n ≤ m → n ≤ maxBurst → setting ≤ maxSetting → Planned c setting n m (plan n Done)
+  unfolding viewOf burstNumber callNumber
+  all-right f h k l = record {
+    tested = tested;
+    state = refl;
+    count = rw (sym e ∙ f, le-ltb m n h, le-ltb maxBurst n k, le-ltb maxSetting setting l);
+    few = omega arith;
+    placed = omega arith;
+    answer = rw (sym e ∙ f, le-ltb m n h, le-ltb maxBurst n k, le-ltb maxSetting setting l);
   }

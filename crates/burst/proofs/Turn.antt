@@ -13,14 +13,13 @@ use lib.ListN.{length, take, drop, getD, set, length-set, take-append-drop}
 use lib.Seq.{length-take-le, drop-cons, drop-length, getD-take, take-suc-set, drop-set-lt}
 use Rattle.telegram.specs.Frame.{frameOf}
 use Rattle.model.specs.View.{View}
-use Rattle.model.specs.Step.{Outcome}
 use Rattle.model.specs.declared.Answer.the-variants.{Kept}
 use Rattle.collector.specs.declared.merging.Summary.{Summary}
-use Rattle.collector.specs.Admission.{viewIn, admission}
+use Rattle.collector.specs.Admission.{viewIn}
 use Rattle.burst.specs.declared.Reception.{Reception}
 use Rattle.burst.specs.declared.Reply.{Reply}
 use Rattle.burst.specs.declared.Stepped.{Stepped}
-use Rattle.burst.specs.Records.{receptionOf, repliedOf, steppedOf, after, replies}
+use Rattle.burst.specs.Records.{receptionOf, repliedOf, StepResult, steppedOf, admittedWith, after, replies}
 use Rattle.model.specs.History.{Timely}
 use Rattle.model.specs.Burst.{Replied}
 
@@ -31,13 +30,13 @@ noReception = record { bytes = []; len = 0; time = 0 }
 pub noReply : Reply
 noReply = record { answer = Kept; sent = frameOf [] }
 
-module _ (fit : Bool) (v : View) (rs : List Reception) (ys : List Reply) (n : ℕ) (in-rs : n ≤ length rs) (in-ys : n ≤ length ys) where
+module _ (setting : ℕ) (fit : Bool) (v : View) (rs : List Reception) (ys : List Reply) (n : ℕ) (in-rs : n ≤ length rs) (in-ys : n ≤ length ys) where
   pub record Going (i : ℕ) (times lens entries : List ℕ) (s : Summary) (zs : List Reply) : Type 0 where
     pub within : i ≤ n
     pub long : length zs ≡ length ys
     pub state : after fit (viewIn times lens entries s) (drop i (take n rs)) ≡ after fit v (take n rs)
-    pub replied : map repliedOf (take i zs) ++ (replies fit (viewIn times lens entries s) (drop i (take n rs)) ++ map repliedOf (drop n zs))
-        ≡ replies fit v (take n rs) ++ map repliedOf (drop n ys)
+    pub replied : map repliedOf (take i zs) ++ (replies setting fit (viewIn times lens entries s) (drop i (take n rs)) ++ map repliedOf (drop n zs))
+        ≡ replies setting fit v (take n rs) ++ map repliedOf (drop n ys)
     pub timely : Timely (map receptionOf (drop i (take n rs))) → Timely (map receptionOf (take n rs))
 
   pub starts : (times lens entries : List ℕ) (s : Summary) → viewIn times lens entries s ≡ v → Going 0 times lens entries s ys
@@ -45,7 +44,7 @@ module _ (fit : Bool) (v : View) (rs : List Reception) (ys : List Reply) (n : �
     within = zero-le;
     long = refl;
     state = ap (λ (u : View). after fit u (take n rs)) e;
-    replied = ap (λ (u : View). replies fit u (take n rs) ++ map repliedOf (drop n ys)) e;
+    replied = ap (λ (u : View). replies setting fit u (take n rs) ++ map repliedOf (drop n ys)) e;
     timely = λ t. t;
   }
 
@@ -57,7 +56,7 @@ module _ (fit : Bool) (v : View) (rs : List Reception) (ys : List Reply) (n : �
 
   module _ {i : ℕ} {times lens entries : List ℕ} {s : Summary} {zs : List Reply} (g : Going i times lens entries s zs) where
     pub turns : i < n → getD rs i noReception .time < 2 ^ 64 → (times' lens' entries' : List ℕ) (r : Stepped)
-        → steppedOf times' lens' entries' r ≡ admission fit (viewIn times lens entries s) (receptionOf (getD rs i noReception))
+        → steppedOf times' lens' entries' r ≡ admittedWith setting fit (viewIn times lens entries s) (receptionOf (getD rs i noReception))
         → Going (i + 1) times' lens' entries' (r .summary) (set zs i (r .reply))
     unfolding after replies
     turns h small times' lens' entries' r said = record {
@@ -65,14 +64,14 @@ module _ (fit : Bool) (v : View) (rs : List Reception) (ys : List Reply) (n : �
       long = length-set zs i (r .reply) ∙ g .long;
       state = ap (λ (u : View). after fit u rest) next ∙ ap (after fit here) (sym (left i h)) ∙ g .state;
       replied =
-          ap (λ (l : List Reply). map repliedOf l ++ (replies fit (viewIn times' lens' entries' (r .summary)) rest ++ map repliedOf (drop n (set zs i (r .reply)))))
+          ap (λ (l : List Reply). map repliedOf l ++ (replies setting fit (viewIn times' lens' entries' (r .summary)) rest ++ map repliedOf (drop n (set zs i (r .reply)))))
           (ap (λ (k : ℕ). take k (set zs i (r .reply))) (add-one i) ∙ take-suc-set zs i (r .reply) inside)
-          ∙ ap (λ (l : List Replied). l ++ (replies fit (viewIn times' lens' entries' (r .summary)) rest ++ map repliedOf (drop n (set zs i (r .reply))))) (map-append repliedOf (take i zs) (r .reply ∷ []))
-          ∙ ap (λ (l : List Reply). (map repliedOf (take i zs) ++ (repliedOf (r .reply) ∷ [])) ++ (replies fit (viewIn times' lens' entries' (r .summary)) rest ++ map repliedOf l)) (drop-set-lt n zs i (r .reply) h)
-          ∙ ap (λ (u : View). (map repliedOf (take i zs) ++ (repliedOf (r .reply) ∷ [])) ++ (replies fit u rest ++ map repliedOf (drop n zs))) next
-          ∙ append-assoc (map repliedOf (take i zs)) (repliedOf (r .reply) ∷ []) (replies fit (o .next) rest ++ map repliedOf (drop n zs))
-          ∙ ap (λ (b : Replied). map repliedOf (take i zs) ++ (b ∷ (replies fit (o .next) rest ++ map repliedOf (drop n zs)))) answered
-          ∙ ap (λ (l : List Reception). map repliedOf (take i zs) ++ (replies fit here l ++ map repliedOf (drop n zs))) (sym (left i h))
+          ∙ ap (λ (l : List Replied). l ++ (replies setting fit (viewIn times' lens' entries' (r .summary)) rest ++ map repliedOf (drop n (set zs i (r .reply))))) (map-append repliedOf (take i zs) (r .reply ∷ []))
+          ∙ ap (λ (l : List Reply). (map repliedOf (take i zs) ++ (repliedOf (r .reply) ∷ [])) ++ (replies setting fit (viewIn times' lens' entries' (r .summary)) rest ++ map repliedOf l)) (drop-set-lt n zs i (r .reply) h)
+          ∙ ap (λ (u : View). (map repliedOf (take i zs) ++ (repliedOf (r .reply) ∷ [])) ++ (replies setting fit u rest ++ map repliedOf (drop n zs))) next
+          ∙ append-assoc (map repliedOf (take i zs)) (repliedOf (r .reply) ∷ []) (replies setting fit (o .next) rest ++ map repliedOf (drop n zs))
+          ∙ ap (λ (b : Replied). map repliedOf (take i zs) ++ (b ∷ (replies setting fit (o .next) rest ++ map repliedOf (drop n zs)))) answered
+          ∙ ap (λ (l : List Reception). map repliedOf (take i zs) ++ (replies setting fit here l ++ map repliedOf (drop n zs))) (sym (left i h))
           ∙ g .replied;
       timely = λ t. g .timely (subst (λ (l : List Reception). Timely (map receptionOf l)) (sym (left i h)) (small, t));
     }
@@ -80,29 +79,29 @@ module _ (fit : Bool) (v : View) (rs : List Reception) (ys : List Reply) (n : �
         here : View
         here = viewIn times lens entries s
 
-        o : Outcome
-        o = admission fit here (receptionOf (getD rs i noReception))
+        o : StepResult
+        o = admittedWith setting fit here (receptionOf (getD rs i noReception))
 
         rest : List Reception
         rest = drop (i + 1) (take n rs)
 
         next : viewIn times' lens' entries' (r .summary) ≡ o .next
-        next = ap (λ (x : Outcome). x .next) said
+        next = ap (λ (x : StepResult). x .next) said
 
-        answered : repliedOf (r .reply) ≡ record { answer = o .answer; sent = o .sent }
-        answered = ap (λ (x : Outcome). record { answer = x .answer; sent = x .sent }) said
+        answered : repliedOf (r .reply) ≡ o .reply
+        answered = ap (λ (x : StepResult). x .reply) said
 
         inside : i < length zs
         inside = omega (arith, g .long)
 
-    pub ends : n ≤ i → (viewIn times lens entries s ≡ after fit v (take n rs)) × ((map repliedOf zs ≡ replies fit v (take n rs) ++ map repliedOf (drop n ys)) × Timely (map receptionOf (take n rs)))
+    pub ends : n ≤ i → (viewIn times lens entries s ≡ after fit v (take n rs)) × ((map repliedOf zs ≡ replies setting fit v (take n rs) ++ map repliedOf (drop n ys)) × Timely (map receptionOf (take n rs)))
     unfolding after replies
     ends h = (
       ap (after fit (viewIn times lens entries s)) (sym none) ∙ g .state,
       (
         ap (map repliedOf) (sym (take-append-drop i zs)) ∙ map-append repliedOf (take i zs) (drop i zs)
             ∙ ap (λ (k : ℕ). map repliedOf (take i zs) ++ map repliedOf (drop k zs)) all
-            ∙ ap (λ (l : List Reception). map repliedOf (take i zs) ++ (replies fit (viewIn times lens entries s) l ++ map repliedOf (drop n zs))) (sym none)
+            ∙ ap (λ (l : List Reception). map repliedOf (take i zs) ++ (replies setting fit (viewIn times lens entries s) l ++ map repliedOf (drop n zs))) (sym none)
             ∙ g .replied,
         g .timely (subst (λ (l : List Reception). Timely (map receptionOf l)) (sym none) tt),
       ),

@@ -21,7 +21,7 @@ use Rattle.burst.specs.declared.Bursted.{Bursted}
 use Rattle.burst.specs.declared.Plan.{Plan}
 use Rattle.burst.specs.declared.Within.{Within}
 use Rattle.model.specs.History.{Timely}
-use Rattle.model.specs.Burst.{Replied, replyOf, afterAll, repliesTo, burstNumber, taken, burstOf}
+use Rattle.model.specs.Burst.{Replied, replyWith, afterAll, repliesTo, burstNumber, taken, burstOf}
 use Rattle.burst.specs.Records.{receptionOf, repliedOf, handedNumber, burstedOf, after, replies, Delivered, Planned, Finished, WithinOf}
 
 -- ---- records one by one
@@ -33,13 +33,13 @@ after-steps fit v (r ∷ rs) k t =
     ap (λ (o : Outcome). after fit (o .next) rs) (admission-fit v (receptionOf r) fit (k .said))
     ∙ after-steps fit (step v (receptionOf r) .next) rs (tested-next fit (receptionOf r) k (t .0)) (t .1)
 
-replies-steps : (fit : Bool) (v : View) (rs : List Reception) → Tested fit v → Timely (map receptionOf rs) → replies fit v rs ≡ repliesTo v (map receptionOf rs)
+replies-steps : (setting : ℕ) (fit : Bool) (v : View) (rs : List Reception) → Tested fit v → Timely (map receptionOf rs) → replies setting fit v rs ≡ repliesTo setting v (map receptionOf rs)
 unfolding replies repliesTo
-replies-steps fit v [] k t = refl
-replies-steps fit v (r ∷ rs) k t =
-    ap (λ (o : Outcome). replyOf o ∷ replies fit (o .next) rs) (admission-fit v (receptionOf r) fit (k .said))
-    ∙ ap (λ (l : List Replied). replyOf (step v (receptionOf r)) ∷ l)
-    (replies-steps fit (step v (receptionOf r) .next) rs (tested-next fit (receptionOf r) k (t .0)) (t .1))
+replies-steps setting fit v [] k t = refl
+replies-steps setting fit v (r ∷ rs) k t =
+    ap (λ (o : Outcome). replyWith setting (o .answer) (receptionOf r) ∷ replies setting fit (o .next) rs) (admission-fit v (receptionOf r) fit (k .said))
+    ∙ ap (λ (l : List Replied). replyWith setting (step v (receptionOf r) .answer) (receptionOf r) ∷ l)
+    (replies-steps setting fit (step v (receptionOf r) .next) rs (tested-next fit (receptionOf r) k (t .0)) (t .1))
 
 -- ---- the whole burst
 
@@ -48,12 +48,12 @@ drop-map f zero l = refl
 drop-map f (suc n) [] = refl
 drop-map f (suc n) (x ∷ l) = drop-map f n l
 
-module _ (c : Collector) (rs : List Reception) (ys : List Reply) where
+module _ (c : Collector) (setting : ℕ) (rs : List Reception) (ys : List Reply) where
   abbrev v : View
   v = viewOf c
 
   abbrev number : ℕ
-  number = burstNumber v (length rs) (length ys)
+  number = burstNumber setting v (length rs) (length ys)
 
   abbrev given : List view.Reception
   given = map receptionOf rs
@@ -61,12 +61,12 @@ module _ (c : Collector) (rs : List Reception) (ys : List Reply) where
   abbrev places : List Replied
   places = map repliedOf ys
 
-  same-number : burstNumber v (length given) (length places) ≡ number
-  same-number = ap (λ (n : ℕ). burstNumber v n (length places)) (length-map rs receptionOf) ∙ ap (burstNumber v (length rs)) (length-map ys repliedOf)
+  same-number : burstNumber setting v (length given) (length places) ≡ number
+  same-number = ap (λ (n : ℕ). burstNumber setting v n (length places)) (length-map rs receptionOf) ∙ ap (burstNumber setting v (length rs)) (length-map ys repliedOf)
 
   -- the receptions that it stands for are the first `count` records
   module _ (n : ℕ) (e : n ≡ cond (eqb number 0) (length rs) 0) where
-    front : map receptionOf (take n rs) ≡ taken (burstNumber v (length given) (length places)) given
+    front : map receptionOf (take n rs) ≡ taken (burstNumber setting v (length given) (length places)) given
     front = ap (λ (k : ℕ). map receptionOf (take k rs)) e
         ∙ go (eqb number 0)
         ∙ ap (λ (k : ℕ). cond (eqb k 0) given []) (sym same-number)
@@ -75,47 +75,47 @@ module _ (c : Collector) (rs : List Reception) (ys : List Reply) where
         go true = ap (map receptionOf) (take-length rs)
         go false = refl
 
-    long : n ≡ length (taken (burstNumber v (length given) (length places)) given)
+    long : n ≡ length (taken (burstNumber setting v (length given) (length places)) given)
     long = e ∙ go (eqb number 0) ∙ ap (λ (k : ℕ). length (cond (eqb k 0) given [])) (sym same-number)
       where
         go : (b : Bool) → cond b (length rs) 0 ≡ length (cond b given [])
         go true = sym (length-map rs receptionOf)
         go false = refl
 
-  pub whole : {p : Plan} {ts ls es : List ℕ} {s : Summary} {zs : List Reply} (r : Bursted) → Planned c (length rs) (length ys) p
-      → Delivered (p .fit) (c .times) (c .lens) (c .bytes) (p .summary) (p .count) rs ys ts ls es s zs → Finished ts ls es s (p .answer) r
-      → burstedOf r zs ≡ burstOf v given places
+  pub whole : {p : Plan} {ts ls es : List ℕ} {s : Summary} {zs : List Reply} (r : Bursted) → Planned c setting (length rs) (length ys) p
+      → Delivered setting (p .fit) (c .times) (c .lens) (c .bytes) (p .summary) (p .count) rs ys ts ls es s zs → Finished ts ls es s (p .answer) r
+      → burstedOf r zs ≡ burstOf setting v given places
   whole {p} {ts} {ls} {es} {s} {zs} r k d f = rw (number-is, replies-is, next-is)
     where
       t : List Reception
       t = take (p .count) rs
 
-      number-is : handedNumber (r .answer) ≡ burstNumber v (length given) (length places)
+      number-is : handedNumber (r .answer) ≡ burstNumber setting v (length given) (length places)
       number-is = ap handedNumber (f .same) ∙ k .answer ∙ sym same-number
 
       here : viewIn (c .times) (c .lens) (c .bytes) (p .summary) ≡ v
       here = k .state
 
-      replies-is : map repliedOf zs ≡ repliesTo v (taken (burstNumber v (length given) (length places)) given) ++ drop (length (taken (burstNumber v (length given) (length places)) given)) places
+      replies-is : map repliedOf zs ≡ repliesTo setting v (taken (burstNumber setting v (length given) (length places)) given) ++ drop (length (taken (burstNumber setting v (length given) (length places)) given)) places
       replies-is =
           d .replied
-          ∙ ap (λ (u : View). replies (p .fit) u t ++ map repliedOf (drop (p .count) ys)) here
-          ∙ ap (λ (l : List Replied). l ++ map repliedOf (drop (p .count) ys)) (replies-steps (p .fit) v t (k .tested) (d .timely))
-          ∙ ap (λ (l : List view.Reception). repliesTo v l ++ map repliedOf (drop (p .count) ys)) (front (p .count) (k .count))
-          ∙ ap (λ (l : List Replied). repliesTo v (taken (burstNumber v (length given) (length places)) given) ++ l)
+          ∙ ap (λ (u : View). replies setting (p .fit) u t ++ map repliedOf (drop (p .count) ys)) here
+          ∙ ap (λ (l : List Replied). l ++ map repliedOf (drop (p .count) ys)) (replies-steps setting (p .fit) v t (k .tested) (d .timely))
+          ∙ ap (λ (l : List view.Reception). repliesTo setting v l ++ map repliedOf (drop (p .count) ys)) (front (p .count) (k .count))
+          ∙ ap (λ (l : List Replied). repliesTo setting v (taken (burstNumber setting v (length given) (length places)) given) ++ l)
           (drop-map repliedOf (p .count) ys ∙ ap (λ (n : ℕ). drop n places) (long (p .count) (k .count)))
 
-      next-is : viewOf (r .next) ≡ afterAll v (taken (burstNumber v (length given) (length places)) given)
+      next-is : viewOf (r .next) ≡ afterAll v (taken (burstNumber setting v (length given) (length places)) given)
       next-is =
           f .next ∙ d .state ∙ ap (λ (u : View). after (p .fit) u t) here ∙ after-steps (p .fit) v t (k .tested) (d .timely)
           ∙ ap (afterAll v) (front (p .count) (k .count))
 
 -- ---- the first places of lists that are held by value
 
-pub within : (c : Collector) (n m : ℕ) (records : List Reception) (places zs : List Reply) (b : Bursted) (r : Within) → length zs ≡ m
-    → burstedOf b zs ≡ burstOf (viewOf c) (map receptionOf (take n records)) (map repliedOf (take m places))
-    → (r .bursted ≡ b) × (r .replies ≡ zs ++ drop m places) → WithinOf c n m records places r
-within c n m records places zs b r l said e = record {
+pub within : (c : Collector) (setting n m : ℕ) (records : List Reception) (places zs : List Reply) (b : Bursted) (r : Within) → length zs ≡ m
+    → burstedOf b zs ≡ burstOf setting (viewOf c) (map receptionOf (take n records)) (map repliedOf (take m places))
+    → (r .bursted ≡ b) × (r .replies ≡ zs ++ drop m places) → WithinOf c setting n m records places r
+within c setting n m records places zs b r l said e = record {
   result =
       ap (λ (x : Bursted). burstedOf x (take m (r .replies))) (e .0)
       ∙ ap (λ (x : List Reply). burstedOf b x) (ap (take m) (e .1) ∙ ap (λ (k : ℕ). take k (zs ++ drop m places)) (sym l) ∙ take-append-seam zs (drop m places)) ∙ said;

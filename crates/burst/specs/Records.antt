@@ -1,4 +1,4 @@
--- The records that a burst is handed over in, and what its functions say of them (document 02, A1). Assumes nothing.
+-- The records that a burst is handed over in, and what its functions say of them (document 02, A1 and A7). Assumes nothing.
 use mathlib.Core.Path.{_≡_}
 use mathlib.Core.Bool.{Bool, cond}
 use mathlib.Core.List.{List, [], _∷_, _++_, map}
@@ -11,7 +11,6 @@ use Rattle.layout.specs.Buffer.{resized}
 use Rattle.model.specs.Answer.{shownOf}
 use Rattle.model.specs.View as view
 use Rattle.model.specs.View.{View}
-use Rattle.model.specs.Step.{Outcome}
 use Rattle.collector.specs.declared.Collector.{Collector}
 use Rattle.collector.specs.declared.merging.Summary.{Summary}
 use Rattle.collector.specs.Collector.{viewOf}
@@ -25,7 +24,7 @@ use Rattle.burst.specs.declared.Bursted.{Bursted}
 use Rattle.burst.specs.declared.Plan.{Plan}
 use Rattle.burst.specs.declared.Within.{Within}
 use Rattle.model.specs.History.{Timely}
-use Rattle.model.specs.Burst.{Replied, replyOf, maxBurst, burstNumber, BurstResult, burstOf}
+use Rattle.model.specs.Burst.{Replied, replyWith, maxBurst, burstNumber, BurstResult, burstOf}
 
 -- what a record hands over: as many bytes as its length says, so that a length over 21 fails the check with 1
 abbrev pub receptionOf : Reception → view.Reception
@@ -48,8 +47,8 @@ abbrev pub listed : ℕ
 listed = maxBurst + 3
 
 -- a burst of the first n records and the first m places; what stands past these places stays
-pub record WithinOf (c : Collector) (n m : ℕ) (records : List Reception) (places : List Reply) (r : Within) : Type 0 where
-  pub result : burstedOf (r .bursted) (take m (r .replies)) ≡ burstOf (viewOf c) (map receptionOf (take n records)) (map repliedOf (take m places))
+pub record WithinOf (c : Collector) (setting n m : ℕ) (records : List Reception) (places : List Reply) (r : Within) : Type 0 where
+  pub result : burstedOf (r .bursted) (take m (r .replies)) ≡ burstOf setting (viewOf c) (map receptionOf (take n records)) (map repliedOf (take m places))
   pub past : drop m (r .replies) ≡ drop m places
 
 -- ---- what private functions say
@@ -58,35 +57,46 @@ pub record WithinOf (c : Collector) (n m : ℕ) (records : List Reception) (plac
 abbrev pub sizeOf : ℕ → ℕ
 sizeOf len = cond (ltb maxLength len) 0 len
 
-abbrev pub steppedOf : List ℕ → List ℕ → List ℕ → Stepped → Outcome
-steppedOf times lens entries r = record { answer = shownOf (r .reply .answer); sent = r .reply .sent; next = viewIn times lens entries (r .summary) }
+-- the reply to one reception, and the next state
+pub record StepResult : Type 0 where
+  pub reply : Replied
+  pub next : View
 
--- records one by one, at a state that was found acceptable or not
+abbrev pub steppedOf : List ℕ → List ℕ → List ℕ → Stepped → StepResult
+steppedOf times lens entries r = record { reply = repliedOf (r .reply); next = viewIn times lens entries (r .summary) }
+
+-- one reception at a state that was found acceptable or not, with what is sent for it at a setting
+abbrev pub admittedWith : ℕ → Bool → View → view.Reception → StepResult
+admittedWith setting fit v r =
+    let o = admission fit v r in
+    record { reply = replyWith setting (o .answer) r; next = o .next }
+
+-- records one by one
 unfoldable pub after : Bool → View → List Reception → View
 after fit v [] = v
 after fit v (r ∷ rs) = after fit (admission fit v (receptionOf r) .next) rs
 
-unfoldable pub replies : Bool → View → List Reception → List Replied
-replies fit v [] = []
-replies fit v (r ∷ rs) =
-    let o = admission fit v (receptionOf r) in
-    replyOf o ∷ replies fit (o .next) rs
+unfoldable pub replies : ℕ → Bool → View → List Reception → List Replied
+replies setting fit v [] = []
+replies setting fit v (r ∷ rs) =
+    let o = admittedWith setting fit v (receptionOf r) in
+    o .reply ∷ replies setting fit (o .next) rs
 
 -- the first n were taken: the state, and every place of the second list
-pub record Delivered (fit : Bool) (times lens entries : List ℕ) (s : Summary) (n : ℕ) (rs : List Reception) (ys : List Reply)
+pub record Delivered (setting : ℕ) (fit : Bool) (times lens entries : List ℕ) (s : Summary) (n : ℕ) (rs : List Reception) (ys : List Reply)
     (times' lens' entries' : List ℕ) (s' : Summary) (zs : List Reply) : Type 0 where
   pub state : viewIn times' lens' entries' s' ≡ after fit (viewIn times lens entries s) (take n rs)
-  pub replied : map repliedOf zs ≡ replies fit (viewIn times lens entries s) (take n rs) ++ map repliedOf (drop n ys)
+  pub replied : map repliedOf zs ≡ replies setting fit (viewIn times lens entries s) (take n rs) ++ map repliedOf (drop n ys)
   pub timely : Timely (map receptionOf (take n rs))
 
--- what is done with a burst of so many receptions and places
-pub record Planned (c : Collector) (receptions places : ℕ) (r : Plan) : Type 0 where
+-- what is done with a burst at a setting, of so many receptions and places
+pub record Planned (c : Collector) (setting receptions places : ℕ) (r : Plan) : Type 0 where
   pub tested : Tested (r .fit) (viewOf c)
   pub state : viewIn (c .times) (c .lens) (c .bytes) (r .summary) ≡ viewOf c
-  pub count : r .count ≡ cond (eqb (burstNumber (viewOf c) receptions places) 0) receptions 0
+  pub count : r .count ≡ cond (eqb (burstNumber setting (viewOf c) receptions places) 0) receptions 0
   pub few : r .count ≤ receptions
   pub placed : r .count ≤ places
-  pub answer : handedNumber (r .answer) ≡ burstNumber (viewOf c) receptions places
+  pub answer : handedNumber (r .answer) ≡ burstNumber setting (viewOf c) receptions places
 
 -- the next state of these parts, and the answer
 pub record Finished (times lens entries : List ℕ) (s : Summary) (answer : Handed) (r : Bursted) : Type 0 where

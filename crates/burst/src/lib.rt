@@ -1,4 +1,4 @@
-// Receptions that are handed over in one lent list, with a second list for the answers (document 02, A1).
+// Receptions that are handed over in one lent list with a repeater setting, and a second list for the answers (document 02, A1 and A7).
 use collector::Collector;
 use collector::acceptable;
 use collector::merging;
@@ -6,14 +6,15 @@ use collector::merging::Summary;
 use model::Answer;
 use refusal::Refusal;
 use telegram::frame::Frame;
+use telegram::repeater::MAX_SETTING;
 ghost use mathlib.Core.Path.{_≡_};
 ghost use mathlib.Core.List.{map};
 ghost use Prim.Native.Nat.{_≤_, min};
 ghost use lib.ListN.{length};
 ghost use Rattle.collector.specs.Collector.{viewOf};
-ghost use Rattle.collector.specs.Admission.{viewIn, admission};
+ghost use Rattle.collector.specs.Admission.{viewIn};
 ghost use Rattle.model.specs.Burst.{burstOf};
-ghost use Rattle.burst.specs.Records.{receptionOf, repliedOf, burstedOf, steppedOf, sizeOf, Delivered, Planned, Finished, listed, WithinOf};
+ghost use Rattle.burst.specs.Records.{receptionOf, repliedOf, burstedOf, steppedOf, admittedWith, sizeOf, Delivered, Planned, Finished, listed, WithinOf};
 
 // The most receptions of a burst.
 pub const MAX_BURST: usize = 256;
@@ -39,17 +40,19 @@ pub struct Stepped {
     pub reply: Reply,
 }
 
-// Takes one reception at a state that is changed where it lies. A length over 21 is answered like that of no bytes.
+// Takes one reception at a state that is changed where it lies, and makes what is sent for it at the setting. A length over 21 is answered like that
+// of no bytes.
 fn take_record<'a>(
     fit: bool,
     times: &'a mut [u64; Collector::CAPACITY],
     lens: &'a mut [u8; Collector::CAPACITY],
     entries: &'a mut [u8; Collector::CAPACITY * Collector::MAX_LEN],
     summary: Summary,
+    setting: u8,
     reception: Reception,
 ) -> Stepped
     ensures { λ r. ⌜ steppedOf (now (times .exit)) (now (lens .exit)) (now (entries .exit)) r
-        ≡ admission fit (viewIn (now (times .entry)) (now (lens .entry)) (now (entries .entry)) summary) (receptionOf reception) ⌝ }
+        ≡ admittedWith setting fit (viewIn (now (times .entry)) (now (lens .entry)) (now (entries .entry)) summary) (receptionOf reception) ⌝ }
 {
     let bytes = reception.bytes;
     let n = size(reception.len);
@@ -64,10 +67,14 @@ fn take_record<'a>(
     );
     let next = done.summary;
     let answer = done.answer;
-    let sent = done.sent;
+    let mut out = [0u8; Collector::MAX_LEN];
+    let len = merging::relay_kept(setting, answer, &bytes[0..n], &mut out);
     let reply = Reply {
         answer: answer,
-        sent: sent,
+        sent: Frame {
+            len: len,
+            bytes: out,
+        },
     };
     Stepped {
         summary: next,
@@ -99,18 +106,19 @@ fn deliver(
     lens: &mut [u8; Collector::CAPACITY],
     entries: &mut [u8; Collector::CAPACITY * Collector::MAX_LEN],
     summary: Summary,
+    setting: u8,
     count: usize,
     receptions: &[Reception],
     replies: &mut [Reply],
 ) -> Summary
     requires { ⌜ (count ≤ length (now receptions)) × (count ≤ length (now replies)) ⌝ }
-    ensures { λ r. ⌜ Delivered fit (now (times .entry)) (now (lens .entry)) (now (entries .entry)) summary count
+    ensures { λ r. ⌜ Delivered setting fit (now (times .entry)) (now (lens .entry)) (now (entries .entry)) summary count
         (now (receptions .entry)) (now (replies .entry)) (now (times .exit)) (now (lens .exit)) (now (entries .exit)) r (now (replies .exit)) ⌝ }
 {
     let mut s = summary;
     let mut i: usize = 0;
     while i < count {
-        let next = take_record(fit, times, lens, entries, s, receptions[i]);
+        let next = take_record(fit, times, lens, entries, s, setting, receptions[i]);
         replies[i] = next.reply;
         s = next.summary;
         i += 1;
@@ -139,12 +147,12 @@ pub struct Plan {
 }
 
 // Takes the receptions one by one, the reply to each at its place in the second list; places past them stay. A burst that is
-// refused changes nothing: 11 where the state is not acceptable, 6 where a reply has no place, 10 over 256 receptions.
-pub fn burst(c: Collector, receptions: &[Reception], replies: &mut [Reply]) -> Bursted
+// refused changes nothing: 11 where the state is not acceptable, 6 where a reply has no place, 10 over 256 receptions or a setting over 2.
+pub fn burst(c: Collector, setting: u8, receptions: &[Reception], replies: &mut [Reply]) -> Bursted
     ensures { λ r. ⌜ burstedOf r (now (replies .exit))
-        ≡ burstOf (viewOf c) (map receptionOf (now (receptions .entry))) (map repliedOf (now (replies .entry))) ⌝ }
+        ≡ burstOf setting (viewOf c) (map receptionOf (now (receptions .entry))) (map repliedOf (now (replies .entry))) ⌝ }
 {
-    let plan = prepare(c, receptions.len(), replies.len());
+    let plan = prepare(c, setting, receptions.len(), replies.len());
     let mut times = c.times;
     let mut lens = c.lens;
     let mut entries = c.bytes;
@@ -154,6 +162,7 @@ pub fn burst(c: Collector, receptions: &[Reception], replies: &mut [Reply]) -> B
         &mut lens,
         &mut entries,
         plan.summary,
+        setting,
         plan.count,
         receptions,
         replies,
@@ -161,20 +170,18 @@ pub fn burst(c: Collector, receptions: &[Reception], replies: &mut [Reply]) -> B
     finish(times, lens, entries, summary, plan.answer)
 }
 
-fn prepare(c: Collector, receptions: usize, places: usize) -> Plan
-    ensures { λ r. ⌜ Planned c receptions places r ⌝ }
+fn prepare(c: Collector, setting: u8, receptions: usize, places: usize) -> Plan
+    ensures { λ r. ⌜ Planned c setting receptions places r ⌝ }
 {
     let times = c.times;
     let lens = c.lens;
     let count = c.count;
     let latest = c.latest;
-    let setting = c.setting;
     let totals = c.totals;
-    let fit = acceptable::is_acceptable(&times, &lens, &c.bytes, count, latest, setting, totals);
+    let fit = acceptable::is_acceptable(&times, &lens, &c.bytes, count, latest, totals);
     let summary = Summary {
         count: count,
         latest: latest,
-        setting: setting,
         totals: totals,
     };
     if !fit {
@@ -194,6 +201,14 @@ fn prepare(c: Collector, receptions: usize, places: usize) -> Plan
         };
     }
     if MAX_BURST < receptions {
+        return Plan {
+            fit: fit,
+            count: 0,
+            summary: summary,
+            answer: Handed::Refused(Refusal::Argument),
+        };
+    }
+    if MAX_SETTING < setting {
         return Plan {
             fit: fit,
             count: 0,
@@ -234,14 +249,15 @@ pub struct Within {
 // caller that holds its lists by value, since the borrow checker covers no function that is given a list of structs.
 pub fn burst_within(
     c: Collector,
+    setting: u8,
     records: [Reception; LISTED],
     n: usize,
     replies: [Reply; LISTED],
     m: usize,
 ) -> Within
-    ensures { λ r. ⌜ WithinOf c (min n listed) (min m listed) records replies r ⌝ }
+    ensures { λ r. ⌜ WithinOf c setting (min n listed) (min m listed) records replies r ⌝ }
 {
-    burst_fronts(c, records, most(n), replies, most(m))
+    burst_fronts(c, setting, records, most(n), replies, most(m))
 }
 
 fn most(n: usize) -> usize
@@ -252,15 +268,16 @@ fn most(n: usize) -> usize
 
 fn burst_fronts(
     c: Collector,
+    setting: u8,
     records: [Reception; LISTED],
     n: usize,
     mut replies: [Reply; LISTED],
     m: usize,
 ) -> Within
     requires { ⌜ (n ≤ listed) × (m ≤ listed) ⌝ }
-    ensures { λ r. ⌜ WithinOf c n m records replies r ⌝ }
+    ensures { λ r. ⌜ WithinOf c setting n m records replies r ⌝ }
 {
-    let bursted = burst(c, &records[..n], &mut replies[..m]);
+    let bursted = burst(c, setting, &records[..n], &mut replies[..m]);
     both(bursted, replies)
 }
 

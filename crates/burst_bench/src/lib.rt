@@ -10,13 +10,14 @@ ghost use lib.ListN.{length};
 
 const CELL: usize = 32;
 
-// Hands the first 256 receptions of `cells`, 32 bytes each (time, length, bytes), over to a collector started fresh at `setting`, and then, `rounds`
+// Hands the first 256 receptions of `cells`, 32 bytes each (time, length, bytes), over to a collector started fresh, at `setting`, and then, `rounds`
 // times from that state, the first `size` of the next 256 in one burst. Answers a figure of the totals, and of one reply of each round.
 #[no_mangle]
 pub extern "C" fn bench_burst(setting: u8, cells: &[u8], size: usize, rounds: u64) -> u64 {
-    let fresh = Collector::fresh(setting);
+    let fresh = Collector::fresh();
     let first = burst::burst_within(
-        fresh.collector,
+        fresh,
+        setting,
         records_from(cells, 0),
         burst::MAX_BURST,
         places(),
@@ -25,17 +26,24 @@ pub extern "C" fn bench_burst(setting: u8, cells: &[u8], size: usize, rounds: u6
     let done = first.bursted;
     bursts_from(
         done.next,
+        setting,
         records_from(cells, burst::MAX_BURST),
         size,
         rounds,
     )
 }
 
-fn bursts_from(c: Collector, records: [Reception; burst::LISTED], size: usize, rounds: u64) -> u64 {
+fn bursts_from(
+    c: Collector,
+    setting: u8,
+    records: [Reception; burst::LISTED],
+    size: usize,
+    rounds: u64,
+) -> u64 {
     let none = places();
     let mut figure: u64 = 0;
     for i in 0..rounds {
-        let lists = burst::burst_within(c, records, size, none, size);
+        let lists = burst::burst_within(c, setting, records, size, none, size);
         let done = lists.bursted;
         let next = done.next;
         let totals = next.totals;

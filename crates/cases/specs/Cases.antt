@@ -69,11 +69,11 @@ answersOf (Delivered number replies n ∷ l) = answersOf l
 answersOf (Looked n ∷ l) = answersOf l
 
 abbrev pub received : List ℕ → ℕ → Call
-received s t = Receive (record { bytes = s; time = t })
+received s t = Receive 1 (record { bytes = s; time = t })
 
 -- the answers to an original at 0 and to the same telegram, as it is or repeated, at another time
 abbrev pub twice : List ℕ → ℕ → List ℕ
-twice s t = answersOf (run (fresh 1) (received oneByte 0 ∷ received s t ∷ []))
+twice s t = answersOf (run fresh (received oneByte 0 ∷ received s t ∷ []))
 
 -- ---- ERP2 telegrams: our own cases, worked out by hand from document 004's tables, which has no worked example
 

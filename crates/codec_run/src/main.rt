@@ -164,9 +164,13 @@ fn repeat(r: &[u8])
     requires { ⌜ length (now r) ≡ 64 ⌝ }
 {
     let n = least(wide(r[2]), MOST);
-    let sent = telegram::repeater::repeat(r[1], &r[8..8 + n]);
+    let repeated = telegram::repeater::repeat(r[1], &r[8..8 + n]);
+    let answer = repeated.answer;
+    let sent = repeated.sent;
     let bytes = sent.bytes;
     test_io::text(b"REPEAT ");
+    test_io::decimal(checked_number(answer));
+    test_io::text(b" ");
     test_io::decimal(sent.len as u64);
     test_io::text(b" ");
     test_io::hex(&bytes);

@@ -9,13 +9,12 @@ use lib.ListN.{length, take, drop, take-append-drop, length-take, length-drop}
 use lib.Seq.{sets, sets-eq, take-append-seam, take-nil}
 use borrow.Author.Tests.{le-leb}
 use borrow.Rule.Slice.PartMut.{midOf, putMid, take-put, same-len-mid}
-use Rattle.model.specs.View.{View}
 use Rattle.line_input.specs.Reading.{lineLimit}
 use Rattle.streams.specs.Chunks.{within, fresh, feed, feedText}
 use Rattle.streams.specs.Collect.{Phase, collect}
 use Rattle.streams.specs.Buffer.{isOpen, keptOf, Carried}
 use Rattle.streams.proofs.Segments.{Drained, left, open-front}
-use Rattle.collecting.specs.Session.{merging}
+use Rattle.collecting.specs.Session.{Receiver, merging}
 use Rattle.collecting.specs.Program.{Kept}
 
 -- a part of the front is the front of a part
@@ -63,7 +62,7 @@ module _ (buffer : List ℕ) (used end : ℕ) (fits : end ≤ length buffer) (or
     pub kept-open : isOpen (drop used (take end buffer)) ≡ true → isOpen (take kept buffer') ≡ true
     kept-open o = rw kept-front (open-front lineLimit (drop used (take end buffer)) o)
 
-    pub chunk-position : (s₀ s : Phase View) → feed (collect merging) lineLimit (fresh s₀) (take used (take end buffer)) ≡ fresh s
+    pub chunk-position : (s₀ s : Phase Receiver) → feed (collect merging) lineLimit (fresh s₀) (take used (take end buffer)) ≡ fresh s
         → isOpen (drop used (take end buffer)) ≡ true → feed (collect merging) lineLimit (fresh s₀) (take end buffer) ≡ within s (take kept buffer')
     chunk-position s₀ s e o =
         let t = take end buffer in

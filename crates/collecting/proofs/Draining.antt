@@ -5,15 +5,14 @@ use mathlib.Core.List.{List}
 use Prim.Native.Nat.{ℕ, _+_, _≤_}
 use lib.ListN.{length, take, drop, drop-of-length-le}
 use lib.Seq.{take-add}
-use Rattle.model.specs.View.{View}
 use Rattle.line_input.specs.Reading.{lineLimit}
 use Rattle.streams.specs.Chunks.{fresh, feed}
 use Rattle.streams.specs.Collect.{Phase, collect}
 use Rattle.streams.specs.Buffer.{isOpen}
 use Rattle.streams.proofs.Pieces.{feed-append}
-use Rattle.collecting.specs.Session.{merging}
+use Rattle.collecting.specs.Session.{Receiver, merging}
 
-module _ (s₀ s s' : Phase View) (input : List ℕ) (at used : ℕ) (e : feed (collect merging) lineLimit (fresh s₀) (take at input) ≡ fresh s)
+module _ (s₀ s s' : Phase Receiver) (input : List ℕ) (at used : ℕ) (e : feed (collect merging) lineLimit (fresh s₀) (take at input) ≡ fresh s)
     (f : feed (collect merging) lineLimit (fresh s) (take used (drop at input)) ≡ fresh s') where
   -- `used` more of the input, behind the first `at`
   pub more-taken : feed (collect merging) lineLimit (fresh s₀) (take (at + used) input) ≡ fresh s'

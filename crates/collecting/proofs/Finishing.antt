@@ -8,7 +8,6 @@ use lib.Dec.{eqb, leb}
 use borrow.Author.Tests.{leb-true, leb-false}
 use lib.ListN.{length, take, set, length-take, length-append}
 use lib.Seq.{take-nil, take-all, take-append-le, take-suc-set, length-take-le}
-use Rattle.model.specs.View.{View}
 use Rattle.line_input.specs.Ascii.{newline}
 use Rattle.line_input.specs.Reading.{lineLimit}
 use Rattle.line_output.specs.Printed.{Printed, PrintedIfFits, longestTotals}
@@ -19,18 +18,18 @@ use Rattle.streams.specs.Buffer.{isOpen}
 use Rattle.streams.proofs.Limit.{bounded}
 use Rattle.streams.proofs.Segments.{Drained, none, more, feed-open, open-front}
 use Rattle.collecting.specs.declared.Progress.{Progress}
-use Rattle.collecting.specs.Session.{merging, phaseOf, longestLine, longestEnd, Ran}
+use Rattle.collecting.specs.Session.{Receiver, merging, phaseOf, longestLine, longestEnd, Ran}
 use Rattle.collecting.specs.Program.{longestFinish, Kept}
 use Rattle.collecting.proofs.Taking.{same-length}
 
-end-short : (s : Phase View) → longestEnd s ≤ longestTotals
+end-short : (s : Phase Receiver) → longestEnd s ≤ longestTotals
 end-short starting = omega arith
 end-short (running v) = omega arith
 end-short over = omega arith
 
 -- ---- nothing is kept
 
-pub no-line-kept : (s : Phase View) (buffer : List ℕ) {out out' : List ℕ} {kept r : ℕ} → kept ≡ 0 → longestFinish ≤ length out
+pub no-line-kept : (s : Phase Receiver) (buffer : List ℕ) {out out' : List ℕ} {kept r : ℕ} → kept ≡ 0 → longestFinish ≤ length out
     → PrintedIfFits out 0 (longestEnd s) (endOf merging s) out' r → Printed out 0 (endText (collect merging) (within s (take kept buffer))) longestFinish out' r
 unfolding lastText
 no-line-kept s buffer e h p =
@@ -51,14 +50,14 @@ not-open (c ∷ l) = go (eqb c newline) (not-open l)
     go false e = e
 
 -- a part of a line is no whole line
-part-is-none : (s s' : Phase View) (l : List ℕ) → isOpen l ≡ true → feed (collect merging) lineLimit (fresh s) l ≡ fresh s' → length l ≡ 0
+part-is-none : (s s' : Phase Receiver) (l : List ℕ) → isOpen l ≡ true → feed (collect merging) lineLimit (fresh s) l ≡ fresh s' → length l ≡ 0
 part-is-none s s' l o e =
     let f = rw (take-nil {A = ℕ} lineLimit) at (feed-open (collect merging) lineLimit l [] s o) in
-    let k : take lineLimit l ≡ [] = ap (λ (a : Position (Phase View)). a .line) (sym f ∙ e) in
+    let k : take lineLimit l ≡ [] = ap (λ (a : Position (Phase Receiver)). a .line) (sym f ∙ e) in
     let n = ap length k in
     omega (arith, length-take lineLimit l)
 
-module _ (s : Phase View) (l : List ℕ) (o : isOpen l ≡ true) (full : 0 < length l) {out out₁ : List ℕ} (p : Progress)
+module _ (s : Phase Receiver) (l : List ℕ) (o : isOpen l ≡ true) (full : 0 < length l) {out out₁ : List ℕ} (p : Progress)
     (capacity : longestLine ≤ length out) (r : Ran s (l ++ (newline ∷ [])) out out₁ p) where
   -- the line is taken
   all-used : p .used ≡ suc (length l)
@@ -84,7 +83,7 @@ module _ (s : Phase View) (l : List ℕ) (o : isOpen l ≡ true) (full : 0 < len
   taken = more (collect merging) lineLimit (bounded merging) (none (collect merging) lineLimit s) l o
 
   next-taken : phaseOf (p .session) ≡ nextPhase merging s l
-  next-taken = ap (λ (a : Position (Phase View)). a .state) (sym (rw whole at (r .fed .state)) ∙ taken .state)
+  next-taken = ap (λ (a : Position (Phase Receiver)). a .state) (sym (rw whole at (r .fed .state)) ∙ taken .state)
 
   text-taken : Printed out 0 (phaseText merging s l) (length out) out₁ (p .written)
   text-taken = rw (taken .text) at (rw whole at (r .fed .output))
@@ -102,13 +101,13 @@ module _ (s : Phase View) (l : List ℕ) (o : isOpen l ≡ true) (full : 0 < len
       let t = then text-taken e in
       rw (sym next-taken) (record { bytes = t .bytes; next = t .next; short = omega (arith, e .short) })
 
-last-full : (s : Phase View) (l : List ℕ) → 0 < length l
+last-full : (s : Phase Receiver) (l : List ℕ) → 0 < length l
     → lastText (collect merging) s l ≡ phaseText merging s l ++ endOf merging (nextPhase merging s l)
 unfolding lastText
 last-full s [] h = absurd (omega arith)
 last-full s (c ∷ l) h = refl
 
-pub line-kept : (s : Phase View) (buffer : List ℕ) {kept n : ℕ} {out out₁ out₂ : List ℕ} (p : Progress) → Kept kept buffer → (kept ≡ 0 → ⊥)
+pub line-kept : (s : Phase Receiver) (buffer : List ℕ) {kept n : ℕ} {out out₁ out₂ : List ℕ} (p : Progress) → Kept kept buffer → (kept ≡ 0 → ⊥)
     → longestFinish ≤ length out → Ran s (take (kept + 1 - 0) (set buffer kept newline)) out out₁ p
     → PrintedIfFits out₁ (p .written) (longestEnd (phaseOf (p .session))) (endOf merging (phaseOf (p .session))) out₂ n
     → Printed out 0 (endText (collect merging) (within s (take kept buffer))) longestFinish out₂ n

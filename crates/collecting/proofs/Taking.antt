@@ -1,17 +1,27 @@
 -- Lines taken by a session: none, one from the start of the input, one more, and what is sent for one. Assumes nothing.
 use mathlib.Core.Path.{_≡_, refl, sym, ap, _∙_}
-use mathlib.Core.Bool.{Bool, true, false, cond, false≢true}
+use mathlib.Core.Bool.{Bool, true, false, cond, not, _&&_, _||_, false≢true}
 use mathlib.Core.List.{List, [], _∷_}
-use Prim.Native.Nat.{ℕ, _+_, _-_, _*_, _<_, _≤_, min}
+use Prim.Native.Nat.{ℕ, _+_, _-_, _*_, _<_, _≤_}
 use native.Mathlib.Omega.{arith}
-use lib.Dec.{leb, ltb}
+use lib.Dec.{ltb}
 use lib.ListN.{length, take, drop, take-append-drop, length-append, length-drop}
-use lib.Seq.{length-sets, length-take-le, take-all, take-append-seam, take-append-le}
-use borrow.Author.Tests.{leb-true, leb-false, ltb-true, ltb-false}
+use lib.Seq.{length-sets, length-take-le, take-append-seam, take-append-le}
+use borrow.Author.Tests.{ltb-true, ltb-false}
 use Rattle.bytes.specs.Bytes.{indexOf, slice}
 use Rattle.lists.proofs.Tests.{by-test}
+use Rattle.erp1.specs.Subtelegram.{minLength, maxLength}
+use Rattle.telegram.specs.Frame.{frameOf}
+use Rattle.telegram.specs.Output.{Result, written}
+use Rattle.telegram.specs.Repeater.{levelOf, repeats, raisedOf, relayOf}
+use Rattle.telegram.proofs.Repeating.{raised-length}
+use Rattle.model.specs.Answer.{Shown, isKept}
+use Rattle.model.specs.View as view
 use Rattle.model.specs.View.{View}
-use Rattle.model.specs.Step.{Outcome}
+use Rattle.model.specs.Step.{Outcome, sentFor}
+use Rattle.collector.specs.Merging.{relayedFor}
+use Rattle.collector.specs.Admission.{admission}
+use Rattle.collector.proofs.Sending.{relayed-sent}
 use Rattle.line_input.specs.Ascii.{newline, space}
 use Rattle.line_input.specs.Reading.{readingOf, reception, bad}
 use Rattle.line_input.proofs.Pairs.{leading-hex}
@@ -28,16 +38,16 @@ use Rattle.streams.proofs.Limit.{bounded}
 use Rattle.streams.proofs.Takes.{found, fed-none, fed-next}
 use Rattle.collecting.specs.declared.Session.{Session}
 use Rattle.collecting.specs.declared.Progress.{Progress}
-use Rattle.collecting.specs.Session.{merging, taken, rowOf, sentBytes, phaseOf, longestLine, Ran}
+use Rattle.collecting.specs.Session.{Receiver, merging, taken, rowOf, sentBytes, phaseOf, longestLine, Ran}
 
 -- ---- none
 
-pub none-taken : {s : Phase View} {x : Session} {r : Progress} (input out : List ℕ) → phaseOf x ≡ s → r ≡ record { session = x; used = 0; written = 0 }
+pub none-taken : {s : Phase Receiver} {x : Session} {r : Progress} (input out : List ℕ) → phaseOf x ≡ s → r ≡ record { session = x; used = 0; written = 0 }
     → (longestLine ≤ length out → isOpen input ≡ true) → Ran s input out out r
 none-taken {s} input out e k h = rw k (record { within = omega arith; fed = rw e (fed-none (collect merging) (bounded merging) s out); short = omega arith; rest = λ z l. h l })
 
 -- nothing is written for no line
-pub none-written : {s s' : Phase View} {out out' : List ℕ} {n : ℕ} (input : List ℕ) {at : ℕ} → Fed (collect merging) s (take at input) out s' out' n
+pub none-written : {s s' : Phase Receiver} {out out' : List ℕ} {n : ℕ} (input : List ℕ) {at : ℕ} → Fed (collect merging) s (take at input) out s' out' n
     → at ≡ 0 → n ≡ 0
 unfolding feedText
 none-written input f e = (rw e at f) .output .next
@@ -53,7 +63,7 @@ open-from-start input at e o = rw e at o
 -- ---- one
 
 -- the first line of the input
-pub one-line : (s : Phase View) {out out' : List ℕ} {most r : ℕ} (input : List ℕ) {n : ℕ} → n ≡ 0 + indexOf newline (slice 0 (length input) input)
+pub one-line : (s : Phase Receiver) {out out' : List ℕ} {most r : ℕ} (input : List ℕ) {n : ℕ} → n ≡ 0 + indexOf newline (slice 0 (length input) input)
     → n < length input → Printed out 0 (phaseText merging s (take (n - 0) input)) most out' r → r ≤ length out
     → Fed (collect merging) s (take (n + 1) input) out (nextPhase merging s (take (n - 0) input)) out' r
 one-line s {out} input {n} e h q fits =
@@ -64,31 +74,32 @@ abbrev pub lineAt : List ℕ → ℕ → List ℕ
 lineAt input at = take (indexOf newline (drop at input)) (drop at input)
 
 -- it has `used` characters with its newline
-module _ {v₀ v : View} {out₀ out out' : List ℕ} {to most r : ℕ} (input : List ℕ) (at used : ℕ)
-    (f : Fed (collect merging) (running v₀) (take at input) out₀ (running v) out to)
+module _ {c₀ c : Receiver} {out₀ out out' : List ℕ} {to most r : ℕ} (input : List ℕ) (at used : ℕ)
+    (f : Fed (collect merging) (running c₀) (take at input) out₀ (running c) out to)
     (h : (indexOf newline (drop at input) < length (drop at input)) × (used ≡ indexOf newline (drop at input) + 1)) (l : at ≤ length input)
     (fits : r ≤ length out₀) where
-  taken-line : Printed out to (phaseText merging (running v) (lineAt input at)) most out' r
-      → Fed (collect merging) (running v₀) (take (at + used) input) out₀ (nextPhase merging (running v) (lineAt input at)) out' r
+  taken-line : Printed out to (phaseText merging (running c) (lineAt input at)) most out' r
+      → Fed (collect merging) (running c₀) (take (at + used) input) out₀ (nextPhase merging (running c) (lineAt input at)) out' r
   taken-line q =
       let k = indexOf newline (drop at input) in
       let within : at + k < length input = omega (arith, h .0, length-drop at input) in
       let same : at + k - at ≡ k = omega arith in
       let end : at + used ≡ at + k + 1 = omega (arith, h .1) in
-      let printed : Printed out to (phaseText merging (running v) (take (at + k - at) (drop at input))) most out' r = rw same q in
+      let printed : Printed out to (phaseText merging (running c) (take (at + k - at) (drop at input))) most out' r = rw same q in
       rw end (rw same at (fed-next (collect merging) (bounded merging) input at (at + k) f refl within l printed fits))
 
   pub bad-line : readingOf (lineAt input at) ≡ bad → Printed out to badText most out' r
-      → Fed (collect merging) (running v₀) (take (at + used) input) out₀ (running v) out' r
+      → Fed (collect merging) (running c₀) (take (at + used) input) out₀ (running c) out' r
   bad-line b q =
-      let w : Printed out to (phaseText merging (running v) (lineAt input at)) most out' r = rw b q in
+      let w : Printed out to (phaseText merging (running c) (lineAt input at)) most out' r = rw b q in
       rw b at (taken-line w)
 
-  pub reception-line : {t : ℕ} {bs time : List ℕ} (o : Outcome) → readingOf (lineAt input at) ≡ reception t bs → o ≡ taken v t bs → time ≡ decimalText t
-      → Printed out to (rowBehind time (rowOf (o .answer)) (sentBytes (o .sent))) most out' r
-      → Fed (collect merging) (running v₀) (take (at + used) input) out₀ (running (o .next)) out' r
-  reception-line o b k e q =
-      let w : Printed out to (phaseText merging (running v) (lineAt input at)) most out' r = rw b (rw (e, k) at q) in
+  pub reception-line : {t : ℕ} {bs time sent : List ℕ} (o : Outcome) → readingOf (lineAt input at) ≡ reception t bs → o ≡ taken (c .view) t bs → time ≡ decimalText t
+      → sent ≡ sentBytes (sentFor (c .setting) (o .answer) (record { bytes = bs; time = t }))
+      → Printed out to (rowBehind time (rowOf (o .answer)) sent) most out' r
+      → Fed (collect merging) (running c₀) (take (at + used) input) out₀ (running (record { setting = c .setting; view = o .next })) out' r
+  reception-line o b k e s q =
+      let w : Printed out to (phaseText merging (running c) (lineAt input at)) most out' r = rw b (rw (s, e, k) at q) in
       rw k (rw b at (taken-line w))
 
 -- ---- the time of a line is printed as it stands there
@@ -126,10 +137,38 @@ pub silent : (t : Bool) (out : List ℕ) (at : ℕ) → Printed out at (cond t [
 silent true out at = record { bytes = refl; next = omega arith; short = omega arith }
 silent false out at = record { bytes = refl; next = omega arith; short = omega arith }
 
--- no more bytes than there are
-pub front-bytes : (n k : ℕ) (l : List ℕ) → length l ≤ k → take (min n k) l ≡ take n l
-front-bytes n k l h = go (leb n k) refl
+-- what is sent has at most 21 bytes
+relay-short : (setting : ℕ) (s : List ℕ) → length (relayOf setting s) ≤ maxLength
+unfolding relayOf
+relay-short setting s = go (ltb (length s) minLength) (ltb maxLength (length s)) (repeats setting (levelOf s)) refl refl
   where
-    go : (t : Bool) → leb n k ≡ t → take (min n k) l ≡ take n l
-    go true e = let m = leb-true n k e in let z : min n k ≡ n = omega arith in rw z
-    go false e = let m = leb-false n k e in take-all (min n k) l (omega arith) ∙ sym (take-all n l (omega arith))
+    go : (a b t : Bool) → ltb (length s) minLength ≡ a → ltb maxLength (length s) ≡ b → length (cond (not (a || b) && t) (raisedOf s) []) ≤ maxLength
+    go true b t e f = omega arith
+    go false true t e f = omega arith
+    go false false true e f =
+        omega (arith, raised-length s (omega (arith, ltb-false (length s) minLength e)), ltb-false maxLength (length s) f)
+    go false false false e f = omega arith
+
+pub relayed-short : (setting : ℕ) (a : Shown) (s : List ℕ) → length (relayedFor setting a s) ≤ maxLength
+unfolding relayedFor
+relayed-short setting a s = go (isKept a)
+  where
+    go : (b : Bool) → length (cond b (relayOf setting s) []) ≤ maxLength
+    go true = relay-short setting s
+    go false = omega arith
+
+-- and stands at the front of the array
+pub sent-front : (xs out : List ℕ) {out' : List ℕ} {n : ℕ} → record { number = 0; len = n; output = out' } ≡ written xs out → (n ≡ length xs) × (take n out' ≡ xs)
+sent-front xs out e =
+    let l = ap (λ (r : Result). r .len) e in
+    let o = ap (λ (r : Result). r .output) e in
+    (l, rw (l, o) (take-append-seam xs (drop (length xs) out)))
+
+-- what is sent for a reception that was admitted, without the zero fill
+sent-bytes : (xs : List ℕ) → sentBytes (frameOf xs) ≡ xs
+unfolding frameOf
+sent-bytes xs = take-append-seam xs _
+
+pub relayed-bytes : (setting : ℕ) (fit : Bool) (v : View) (r : view.Reception) (a : Shown) → a ≡ admission fit v r .answer
+    → relayedFor setting a (r .bytes) ≡ sentBytes (sentFor setting a r)
+relayed-bytes setting fit v r a e = rw e (sym (sent-bytes (relayedFor setting (admission fit v r .answer) (r .bytes))) ∙ ap sentBytes (relayed-sent fit v r setting))

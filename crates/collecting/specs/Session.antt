@@ -9,7 +9,7 @@ use Rattle.telegram.specs.declared.frame.Frame.{Frame}
 use Rattle.model.specs.declared.Totals.{Totals}
 use Rattle.model.specs.Answer as answer
 use Rattle.model.specs.View.{View, fresh}
-use Rattle.model.specs.Step.{Outcome, step}
+use Rattle.model.specs.Step.{Outcome, step, sentFor}
 use Rattle.collector.specs.Collector.{viewOf}
 use Rattle.line_output.specs.declared.Row.{Row}
 use Rattle.line_output.specs.Text.{totalsText}
@@ -41,41 +41,46 @@ taken v time bytes = step v (record { bytes = bytes; time = time })
 abbrev pub totalsLine : Totals → List ℕ
 totalsLine n = totalsText (n .received) (n .kept) (n .copies) (n .loose) (n .damaged) (n .late)
 
-abbrev pub merging : Collector View
+-- the collector, with the setting that its caller keeps (document 02, A7)
+pub record Receiver : Type 0 where
+  pub setting : ℕ
+  pub view : View
+
+abbrev pub merging : Collector Receiver
 merging = record {
-  fresh = fresh;
-  next = λ v time bytes. taken v time bytes .next;
-  answer = λ v time bytes. rowOf (taken v time bytes .answer);
-  sent = λ v time bytes. sentBytes (taken v time bytes .sent);
-  totals = λ v. totalsLine (v .totals);
+  fresh = λ setting. record { setting = setting; view = fresh };
+  next = λ c time bytes. record { setting = c .setting; view = taken (c .view) time bytes .next };
+  answer = λ c time bytes. rowOf (taken (c .view) time bytes .answer);
+  sent = λ c time bytes. sentBytes (sentFor (c .setting) (taken (c .view) time bytes .answer) (record { bytes = bytes; time = time }));
+  totals = λ c. totalsLine (c .view .totals);
 }
 
 -- ---- a session
 
-abbrev pub atStage : Stage → View → Phase View
-atStage Stage.Starting v = starting
-atStage Stage.Running v = running v
-atStage Stage.Over v = over
+abbrev pub atStage : Stage → Receiver → Phase Receiver
+atStage Stage.Starting c = starting
+atStage Stage.Running c = running c
+atStage Stage.Over c = over
 
-abbrev pub phaseOf : Session → Phase View
-phaseOf s = atStage (s .stage) (viewOf (s .collector))
+abbrev pub phaseOf : Session → Phase Receiver
+phaseOf s = atStage (s .stage) (record { setting = s .setting; view = viewOf (s .collector) })
 
 -- the longest text of a line, and of each end
 abbrev pub longestLine : ℕ
 longestLine = longestRow longestTime maxLength
 
-abbrev pub longestEnd : Phase View → ℕ
+abbrev pub longestEnd : Phase Receiver → ℕ
 longestEnd starting = 4
-longestEnd (running v) = longestTotals
+longestEnd (running c) = longestTotals
 longestEnd over = 0
 
 -- Whole lines of the input, of `used` characters, were taken from phase s on to s', and what they give, at most the longest row for each, stands
 -- at the front of the output; where none was taken though the longest row fits, there is none.
-pub record RanTo (s : Phase View) (input out out' : List ℕ) (s' : Phase View) (used written : ℕ) : Type 0 where
+pub record RanTo (s : Phase Receiver) (input out out' : List ℕ) (s' : Phase Receiver) (used written : ℕ) : Type 0 where
   pub within : used ≤ length input
   pub fed : Fed (collect merging) s (take used input) out s' out' written
   pub short : written ≤ longestLine * used
   pub rest : used ≡ 0 → longestLine ≤ length out → isOpen input ≡ true
 
-abbrev pub Ran : (s : Phase View) (input out out' : List ℕ) (r : Progress) → Type 0
+abbrev pub Ran : (s : Phase Receiver) (input out out' : List ℕ) (r : Progress) → Type 0
 Ran s input out out' r = RanTo s input out out' (phaseOf (r .session)) (r .used) (r .written)

@@ -4,7 +4,6 @@ pub(crate) mod program;
 use collector::Collector;
 use collector::acceptable;
 use collector::merging;
-use collector::merging::Admitted;
 use collector::merging::Summary;
 use line_input::Setting;
 use line_output::Row;
@@ -12,15 +11,16 @@ use model::Answer;
 pub use program::run;
 ghost use mathlib.Core.Path.{_≡_};
 ghost use mathlib.Core.List.{List};
-ghost use Prim.Native.Nat.{ℕ, _+_, _≤_, min};
+ghost use Prim.Native.Nat.{ℕ, _+_, _≤_};
 ghost use lib.ListN.{length};
 ghost use Rattle.model.specs.Answer.{shownOf};
 ghost use Rattle.collector.specs.Collector.{viewOf};
+ghost use Rattle.collector.specs.Merging.{relayedFor};
 ghost use Rattle.collector.specs.Admission.{viewIn, Tested};
 ghost use Rattle.line_output.specs.Text.{rowBehind};
 ghost use Rattle.line_output.specs.Printed.{longestTime, Printed, PrintedIfFits};
 ghost use Rattle.streams.specs.Collect.{starting, running, over, afterFirst, firstText, endOf};
-ghost use Rattle.collecting.specs.Session.{merging, phaseOf, rowOf, sentBytes, longestLine, longestEnd, RanTo, Ran};
+ghost use Rattle.collecting.specs.Session.{merging, phaseOf, rowOf, longestLine, longestEnd, RanTo, Ran};
 
 // Where a run stands: before its first line, past a right one, or ended by a wrong one.
 pub enum Stage {
@@ -29,9 +29,10 @@ pub enum Stage {
     Over,
 }
 
-// A run between two lines; its collector counts while it is running.
+// A run between two lines; its setting and its collector count while it is running.
 pub struct Session {
     pub stage: Stage,
+    pub setting: u8,
     pub collector: Collector,
 }
 
@@ -59,11 +60,10 @@ impl Session {
     pub fn start() -> Session
         ensures { λ r. ⌜ phaseOf r ≡ starting ⌝ }
     {
-        let f = Collector::fresh(0);
-        let c = f.collector;
         Session {
             stage: Stage::Starting,
-            collector: c,
+            setting: 0,
+            collector: Collector::fresh(),
         }
     }
 
@@ -77,7 +77,7 @@ impl Session {
             Stage::Starting => first_line(input, out),
             Stage::Running => {
                 let c = self.collector;
-                later_lines(c, input, out)
+                later_lines(self.setting, c, input, out)
             }
             Stage::Over => skip_line(self, input),
         }
@@ -140,24 +140,24 @@ fn nothing(s: Session) -> Progress
     }
 }
 
-// A level sets the collector, any other line ends the run.
+// A level is the run's setting, any other line ends the run.
 fn begin(setting: Setting) -> Session
     ensures { λ r. ⌜ phaseOf r ≡ afterFirst merging setting ⌝ }
 {
     match setting {
         Setting::Level(n) => {
-            let f = Collector::fresh(n);
-            let c = f.collector;
+            let c = Collector::fresh();
             Session {
                 stage: Stage::Running,
+                setting: n,
                 collector: c,
             }
         }
         Setting::Bad => {
-            let f = Collector::fresh(0);
-            let c = f.collector;
+            let c = Collector::fresh();
             Session {
                 stage: Stage::Over,
+                setting: 0,
                 collector: c,
             }
         }
@@ -177,24 +177,17 @@ fn put_first(out: &mut [u8], setting: Setting) -> usize
 // ---- later lines
 
 // The test of the state is made once for all of them.
-fn later_lines(c: Collector, input: &[u8], out: &mut [u8]) -> Progress
-    ensures { λ r. ⌜ Ran (running (viewOf c)) (now (input .entry)) (now (out .entry)) (now (out .exit)) r ⌝ }
+fn later_lines(setting: u8, c: Collector, input: &[u8], out: &mut [u8]) -> Progress
+    ensures { λ r. ⌜ Ran (running (record { setting = setting; view = viewOf c })) (now (input .entry)) (now (out .entry)) (now (out .exit)) r ⌝ }
 {
     let mut times = c.times;
     let mut lens = c.lens;
     let mut entries = c.bytes;
-    let fit = acceptable::is_acceptable(
-        &times,
-        &lens,
-        &entries,
-        c.count,
-        c.latest,
-        c.setting,
-        c.totals,
-    );
+    let fit = acceptable::is_acceptable(&times, &lens, &entries, c.count, c.latest, c.totals);
     let summary = c.summary();
     let done = merge_lines(
         fit,
+        setting,
         &mut times,
         &mut lens,
         &mut entries,
@@ -207,6 +200,7 @@ fn later_lines(c: Collector, input: &[u8], out: &mut [u8]) -> Progress
     Progress {
         session: Session {
             stage: Stage::Running,
+            setting: setting,
             collector: last,
         },
         used: done.used,
@@ -217,6 +211,7 @@ fn later_lines(c: Collector, input: &[u8], out: &mut [u8]) -> Progress
 // The state is changed where it lies, in its lent arrays and the summary.
 fn merge_lines<'a>(
     fit: bool,
+    setting: u8,
     times: &'a mut [u64; Collector::CAPACITY],
     lens: &'a mut [u8; Collector::CAPACITY],
     entries: &'a mut [u8; Collector::CAPACITY * Collector::MAX_LEN],
@@ -225,7 +220,9 @@ fn merge_lines<'a>(
     out: &'a mut [u8],
 ) -> Merged
     requires { ⌜ Tested fit (viewIn (now times) (now lens) (now entries) summary) ⌝ }
-    ensures { λ r. ⌜ RanTo (running (viewIn (now (times .entry)) (now (lens .entry)) (now (entries .entry)) summary)) (now (input .entry)) (now (out .entry)) (now (out .exit)) (running (viewIn (now (times .exit)) (now (lens .exit)) (now (entries .exit)) (r .summary))) (r .used) (r .written) ⌝ }
+    ensures { λ r. ⌜ RanTo (running (record { setting = setting; view = viewIn (now (times .entry)) (now (lens .entry)) (now (entries .entry)) summary }))
+        (now (input .entry)) (now (out .entry)) (now (out .exit))
+        (running (record { setting = setting; view = viewIn (now (times .exit)) (now (lens .exit)) (now (entries .exit)) (r .summary) })) (r .used) (r .written) ⌝ }
 {
     let mut summary = summary;
     let mut bytes = [0u8; line_input::MAX_BYTES];
@@ -248,7 +245,8 @@ fn merge_lines<'a>(
         let end = at - (2 * len + 2);
         let done = merging::admit(fit, times, lens, entries, summary, &bytes[0..len], l.time);
         summary = done.summary;
-        to = put_answer(out, to, &input[from..end], done);
+        let answer = done.answer;
+        to = put_answer(out, to, &input[from..end], setting, answer, &bytes[0..len]);
     }
     Merged {
         summary: summary,
@@ -257,16 +255,22 @@ fn merge_lines<'a>(
     }
 }
 
-// The row of a reception behind the text of its time.
-fn put_answer(out: &mut [u8], at: usize, time: &[u8], done: Admitted) -> usize
+// The row of a reception behind the text of its time, with what is sent for it at the setting.
+fn put_answer(
+    out: &mut [u8],
+    at: usize,
+    time: &[u8],
+    setting: u8,
+    answer: Answer,
+    bytes: &[u8],
+) -> usize
     requires { ⌜ (length (now time) ≤ longestTime) × (at + longestLine ≤ length (now out)) ⌝ }
-    ensures { λ r. ⌜ Printed (now (out .entry)) at (rowBehind (now (time .entry)) (rowOf (shownOf (done .answer))) (sentBytes (done .sent))) longestLine (now (out .exit)) r ⌝ }
+    ensures { λ r. ⌜ Printed (now (out .entry)) at
+        (rowBehind (now (time .entry)) (rowOf (shownOf answer)) (relayedFor setting (shownOf answer) (now (bytes .entry)))) longestLine (now (out .exit)) r ⌝ }
 {
-    let answer = done.answer;
-    let sent = done.sent;
-    let bytes = sent.bytes;
-    let n = least(sent.len, Collector::MAX_LEN);
-    line_output::put_row(out, at, time, row_of(answer), &bytes[0..n])
+    let mut sent = [0u8; Collector::MAX_LEN];
+    let n = merging::relay_kept(setting, answer, bytes, &mut sent);
+    line_output::put_row(out, at, time, row_of(answer), &sent[0..n])
 }
 
 fn row_of(answer: Answer) -> Row
@@ -278,12 +282,6 @@ fn row_of(answer: Answer) -> Row
         Answer::Loose => Row::Loose,
         Answer::Refused(why) => Row::Refused(refusal::number(why)),
     }
-}
-
-fn least(a: usize, b: usize) -> usize
-    ensures { λ r. ⌜ r ≡ min a b ⌝ }
-{
-    if a < b { a } else { b }
 }
 
 // ---- after a wrong first line

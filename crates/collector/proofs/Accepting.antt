@@ -13,7 +13,7 @@ use Rattle.lists.proofs.Choice.{both}
 use Rattle.lists.proofs.Tests.{and-true, all-last, none, pairwise-last}
 use Rattle.erp1.specs.Subtelegram.{isValid}
 use Rattle.model.specs.declared.Totals.{Totals}
-use Rattle.model.specs.View.{Reception, View, capacity, maxSetting, isOpen}
+use Rattle.model.specs.View.{Reception, View, capacity, isOpen}
 use Rattle.model.specs.Acceptable.{isCopyOf, isEntry, mayFollow, isSummed, acceptable}
 use Rattle.collector.specs.Collector.{entryAt, entriesAt}
 use Rattle.collector.specs.Acceptable.{areTimely, areTelegrams, hasCopy, shownAt}
@@ -97,15 +97,14 @@ arranged false true false d x = refl
 arranged false false o d x = refl
 
 acceptable-by : (v : View) → acceptable v
-    ≡ (leb (v .setting) maxSetting
-    && (leb (length (v .entries)) capacity
+    ≡ (leb (length (v .entries)) capacity
     && (areTimely (v .latest) (v .entries)
     && (areTelegrams (v .entries)
     && (isSummed (v .totals)
-    && leb (length (v .entries)) (v .totals .kept))))))
+    && leb (length (v .entries)) (v .totals .kept)))))
 unfolding acceptable areTimely areTelegrams
 acceptable-by v =
-    ap (λ (b : Bool). leb (v .setting) maxSetting && (leb (length (v .entries)) capacity && b))
+    ap (λ (b : Bool). leb (length (v .entries)) capacity && b)
     (rw (
       all-and (λ e. isValid (e .bytes)) (λ e. leb (e .time) (v .latest) && isOpen (v .latest) e) (v .entries),
       pairwise-and isOrdered (λ e later. not (isCopyOf e later)) (v .entries),
@@ -115,30 +114,26 @@ acceptable-by v =
 
 -- each return of the test, in its order
 module _ (v : View) (count : ℕ) (long : length (v .entries) ≡ count) where
-  pub bad-setting : maxSetting < v .setting → false ≡ acceptable v
-  bad-setting h = sym (acceptable-by v ∙ rw (lt-leb _ _ h))
+  pub too-many : capacity < count → false ≡ acceptable v
+  too-many h = sym (acceptable-by v ∙ rw (long, lt-leb _ _ h))
 
-  module _ (a : v .setting ≤ maxSetting) where
-    pub too-many : capacity < count → false ≡ acceptable v
-    too-many h = sym (acceptable-by v ∙ rw (le-leb _ _ a, long, lt-leb _ _ h))
+  module _ (b : count ≤ capacity) where
+    tested : acceptable v ≡ (areTimely (v .latest) (v .entries) && (areTelegrams (v .entries) && (isSummed (v .totals) && leb count (v .totals .kept))))
+    tested = acceptable-by v ∙ rw (long, le-leb _ _ b)
 
-    module _ (b : count ≤ capacity) where
-      tested : acceptable v ≡ (areTimely (v .latest) (v .entries) && (areTelegrams (v .entries) && (isSummed (v .totals) && leb count (v .totals .kept))))
-      tested = acceptable-by v ∙ rw (le-leb _ _ a, long, le-leb _ _ b)
+    pub not-timely : areTimely (v .latest) (v .entries) ≡ false → false ≡ acceptable v
+    not-timely h = sym (tested ∙ rw h)
 
-      pub not-timely : areTimely (v .latest) (v .entries) ≡ false → false ≡ acceptable v
-      not-timely h = sym (tested ∙ rw h)
+    module _ (timely : areTimely (v .latest) (v .entries) ≡ true) where
+      pub not-telegrams : areTelegrams (v .entries) ≡ false → false ≡ acceptable v
+      not-telegrams h = sym (tested ∙ rw (timely, h))
 
-      module _ (timely : areTimely (v .latest) (v .entries) ≡ true) where
-        pub not-telegrams : areTelegrams (v .entries) ≡ false → false ≡ acceptable v
-        not-telegrams h = sym (tested ∙ rw (timely, h))
+      module _ (telegrams : areTelegrams (v .entries) ≡ true) where
+        pub not-summed : isSummed (v .totals) ≡ false → false ≡ acceptable v
+        not-summed h = sym (tested ∙ rw (timely, telegrams, h))
 
-        module _ (telegrams : areTelegrams (v .entries) ≡ true) where
-          pub not-summed : isSummed (v .totals) ≡ false → false ≡ acceptable v
-          not-summed h = sym (tested ∙ rw (timely, telegrams, h))
-
-          pub all-passed : isSummed (v .totals) ≡ true → leb count (v .totals .kept) ≡ acceptable v
-          all-passed h = sym (tested ∙ rw (timely, telegrams, h))
+        pub all-passed : isSummed (v .totals) ≡ true → leb count (v .totals .kept) ≡ acceptable v
+        all-passed h = sym (tested ∙ rw (timely, telegrams, h))
 
 -- ---- the totals
 
@@ -164,11 +159,11 @@ summed-left n h =
 module _ (v : View) (ok : acceptable v ≡ true) where
   pub accepted-few : length (v .entries) ≤ capacity
   unfolding acceptable
-  accepted-few = leb-true _ _ (both (leb (length (v .entries)) capacity) _ (both (leb (v .setting) maxSetting) _ ok .1) .0)
+  accepted-few = leb-true _ _ (both (leb (length (v .entries)) capacity) _ ok .0)
 
   listed : all (isEntry (v .latest)) (v .entries) && (pairwise mayFollow (v .entries) && (isSummed (v .totals) && leb (length (v .entries)) (v .totals .kept))) ≡ true
   unfolding acceptable
-  listed = both (leb (length (v .entries)) capacity) _ (both (leb (v .setting) maxSetting) _ ok .1) .1
+  listed = both (leb (length (v .entries)) capacity) _ ok .1
 
   pub accepted-each : all (isEntry (v .latest)) (v .entries) ≡ true
   accepted-each = both (all (isEntry (v .latest)) (v .entries)) _ listed .0

@@ -13,14 +13,11 @@ use Rattle.refusal.specs.Number.{numberOf}
 use Rattle.refusal.specs.declared.Refusal.the-variants as refusal
 use Rattle.erp1.specs.Subtelegram.{minLength, maxLength, checkOf, isValid}
 use Rattle.erp1.proofs.Checks.{check-facts}
-use Rattle.telegram.specs.declared.frame.Frame.{Frame}
-use Rattle.telegram.specs.Frame.{frameOf}
-use Rattle.telegram.specs.Repeater.{repeatOf}
 use Rattle.model.specs.declared.Totals.{Totals}
 use Rattle.model.specs.Answer.{Shown, Kept, Copy, Loose, Refused, isKept}
 use Rattle.model.specs.View.{Reception, View, capacity}
 use Rattle.model.specs.Acceptable.{isSummed}
-use Rattle.model.specs.Step.{maxCount, tally, plusIf, addIf, sentFor}
+use Rattle.model.specs.Step.{maxCount, tally, plusIf, addIf}
 use Rattle.collector.specs.declared.Collector.{Collector}
 use Rattle.collector.specs.Collector.{entriesAt, viewOf}
 use Rattle.collector.specs.Acceptable.{hasCopy}
@@ -136,9 +133,7 @@ module _ {s : Collector} {r : Reception} {n time gone : ℕ} {times lens bytes :
           put-entries kept left times lens bytes times' lens' bytes' r (λ e. valid-fits (r .bytes) (room e .1) .1) t l b
           ∙ rw (keeps, left-open)
 
-      pub taken : (count : ℕ) (totals : Totals) (sent : Frame) → count ≡ plusIf kept left → totals ≡ tally a (s .totals)
-          → sent ≡ frameOf (cond kept (repeatOf (s .setting) (r .bytes)) [])
-          → record { answer = a; sent = sent; next = record { setting = s .setting; latest = time; totals = totals; entries = entriesAt times' lens' bytes' count } }
-          ≡ admitted (viewOf s) r
-      unfolding viewOf admitted sentFor
-      taken count totals sent e f g = rw (e, f, g, latest-is, entries-after, keeps, said)
+      pub taken : (count : ℕ) (totals : Totals) → count ≡ plusIf kept left → totals ≡ tally a (s .totals)
+          → record { answer = a; next = record { latest = time; totals = totals; entries = entriesAt times' lens' bytes' count } } ≡ admitted (viewOf s) r
+      unfolding viewOf admitted
+      taken count totals e f = rw (e, f, latest-is, entries-after, said)

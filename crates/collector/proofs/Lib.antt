@@ -8,3 +8,4 @@ pub mod Moving
 pub mod Classifying
 pub mod Admitting
 pub mod Stepping
+pub mod Sending

@@ -93,7 +93,7 @@ module _ (v : View) (r : Reception) (ok : acceptable v ≡ true) where
 
   advanced : (known crowded : Bool)
       → (let a = answerFor number known crowded in
-      record { setting = v .setting; latest = latestAfter v r; totals = tally a (v .totals); entries = addIf (isKept a) r (leftAfter v r) } ≡ advance v r a)
+      record { latest = latestAfter v r; totals = tally a (v .totals); entries = addIf (isKept a) r (leftAfter v r) } ≡ advance v r a)
   unfolding advance
   advanced known crowded =
       by-test (eqb number 0) (λ e. rw (accepted-answer number known crowded, e, left-kept (r .time)))

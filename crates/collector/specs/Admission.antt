@@ -8,12 +8,11 @@ use lib.Dec.{leb, eqb}
 use lib.ListN.{length}
 use Rattle.refusal.specs.Number.{numberOf}
 use Rattle.refusal.specs.declared.Refusal.the-variants.{NotAccepted}
-use Rattle.telegram.specs.Frame.{frameOf}
 use Rattle.model.specs.Answer.{Shown, Refused, isKept, shownOf}
 use Rattle.model.specs.View.{Reception, View, capacity, isOpen}
 use Rattle.model.specs.Acceptable.{isSummed, acceptable}
 use Rattle.model.specs.Exact.{Fits}
-use Rattle.model.specs.Step.{Outcome, tally, addIf, sentFor}
+use Rattle.model.specs.Step.{Outcome, tally, addIf}
 use Rattle.collector.specs.declared.merging.Summary.{Summary}
 use Rattle.collector.specs.declared.merging.Admitted.{Admitted}
 use Rattle.collector.specs.Collector.{viewAt}
@@ -22,11 +21,11 @@ use Rattle.collector.specs.Merging.{receptionCheck, answerFor}
 
 -- what the entries' arrays and the fields beside them say
 abbrev pub viewIn : List ℕ → List ℕ → List ℕ → Summary → View
-viewIn times lens bytes s = viewAt times lens bytes (s .count) (s .latest) (s .setting) (s .totals)
+viewIn times lens bytes s = viewAt times lens bytes (s .count) (s .latest) (s .totals)
 
--- the answer, the telegram to send, and the next state
+-- the answer and the next state
 abbrev pub admittedOf : List ℕ → List ℕ → List ℕ → Admitted → Outcome
-admittedOf times lens bytes r = record { answer = shownOf (r .answer); sent = r .sent; next = viewIn times lens bytes (r .summary) }
+admittedOf times lens bytes r = record { answer = shownOf (r .answer); next = viewIn times lens bytes (r .summary) }
 
 -- what a step itself needs of any state: entries that the arrays hold, and totals that add up
 abbrev pub isSafe : View → Bool
@@ -53,13 +52,11 @@ leftAfter v r = openFrom (latestAfter v r) (v .entries)
 abbrev pub answerOn : View → Reception → Shown
 answerOn v r = answerFor (numberOn v r) (hasCopy (leftAfter v r) r) (leb capacity (length (leftAfter v r)))
 
--- the reception is taken: it is answered, sent for, and counted, and one that is Kept opens a telegram
+-- the reception is taken: it is answered and counted, and one that is Kept opens a telegram
 unfoldable pub admitted : View → Reception → Outcome
 admitted v r = record {
   answer = answerOn v r;
-  sent = sentFor (v .setting) (answerOn v r) r;
   next = record {
-    setting = v .setting;
     latest = latestAfter v r;
     totals = tally (answerOn v r) (v .totals);
     entries = addIf (isKept (answerOn v r)) r (leftAfter v r);
@@ -68,7 +65,7 @@ admitted v r = record {
 
 -- "11: .. state not accepted; the collector stays as it was"
 abbrev pub notAdmitted : View → Outcome
-notAdmitted v = record { answer = Refused (numberOf NotAccepted); sent = frameOf []; next = v }
+notAdmitted v = record { answer = Refused (numberOf NotAccepted); next = v }
 
 -- a state that was found acceptable takes it, where it is safe
 unfoldable pub admission : Bool → View → Reception → Outcome

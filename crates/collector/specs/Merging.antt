@@ -2,24 +2,29 @@
 use Prim.Native.Nat.{ℕ, _-_, _≤_, _<_}
 use mathlib.Core.Path.{_≡_}
 use mathlib.Core.Bool.{Bool, true, false, cond, not}
-use mathlib.Core.List.{List}
+use mathlib.Core.List.{List, []}
 use lib.Dec.{leb, ltb, eqb}
 use lib.ListN.{length, getD, take, drop}
 use Rattle.refusal.specs.Number.{numberOf}
 use Rattle.refusal.specs.declared.Refusal.the-variants as refusal
 use Rattle.erp1.specs.Subtelegram.{checkOf, isValid}
+use Rattle.telegram.specs.Repeater.{relayOf}
 use Rattle.layout.specs.Buffer.{part}
 use Rattle.model.specs.declared.Totals.{Totals}
-use Rattle.model.specs.Answer.{Shown, Kept, Copy, Loose, Refused, shownOf}
+use Rattle.model.specs.Answer.{Shown, Kept, Copy, Loose, Refused, isKept, shownOf}
 use Rattle.model.specs.View.{Reception, maturity}
 use Rattle.model.specs.Acceptable.{isSummed}
 use Rattle.model.specs.Step.{Outcome, maxCount}
 use Rattle.collector.specs.declared.Taken.{Taken}
 use Rattle.collector.specs.Collector.{viewOf}
 
--- the answer of each call, the telegram to send, and what the next state says
+-- the answer of each call, and what the next state says
 abbrev pub outcomeOf : Taken → Outcome
-outcomeOf r = record { answer = shownOf (r .answer); sent = r .sent; next = viewOf (r .next) }
+outcomeOf r = record { answer = shownOf (r .answer); next = viewOf (r .next) }
+
+-- "Only KEPT is ever repeated": what is sent for bytes that got this answer and need no check
+unfoldable pub relayedFor : ℕ → Shown → List ℕ → List ℕ
+relayedFor setting a bytes = cond (isKept a) (relayOf setting bytes) []
 
 -- the tests before the open telegrams are looked at, in their order: 8, the check's number, 7; 0 if all pass
 unfoldable pub receptionCheck : ℕ → ℕ → Reception → ℕ

@@ -23,14 +23,10 @@ pub fn is_acceptable<'a>(
     bytes: &'a [u8; Collector::CAPACITY * Collector::MAX_LEN],
     count: usize,
     latest: u64,
-    setting: u8,
     totals: Totals,
 ) -> bool
-    ensures { λ r. ⌜ r ≡ acceptable (viewAt (now (times .entry)) (now (lens .entry)) (now (bytes .entry)) count latest setting totals) ⌝ }
+    ensures { λ r. ⌜ r ≡ acceptable (viewAt (now (times .entry)) (now (lens .entry)) (now (bytes .entry)) count latest totals) ⌝ }
 {
-    if Collector::MAX_SETTING < setting {
-        return false;
-    }
     if Collector::CAPACITY < count {
         return false;
     }

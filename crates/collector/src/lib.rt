@@ -1,4 +1,5 @@
-// The collector: merges receptions of one telegram, counts them, and hands out what a repeater sends (document 01, "Merging").
+// The collector: merges receptions of one telegram and counts them (document 01, "Merging"). What a repeater sends for one that is kept is a call of
+// its own (document 02, A7).
 pub mod acceptable;
 pub(crate) mod entries;
 pub mod merging;
@@ -7,11 +8,10 @@ use acceptable::is_acceptable;
 use merging::Summary;
 use model::Answer;
 use model::Totals;
-use refusal::Refusal;
-use telegram::frame::Frame;
 ghost use mathlib.Core.Path.{_≡_};
+ghost use Rattle.model.specs.View as model;
 ghost use Rattle.model.specs.Step.{step};
-ghost use Rattle.collector.specs.Collector.{freshAnswer, freshOf, emptyView, viewOf};
+ghost use Rattle.collector.specs.Collector.{viewOf};
 ghost use Rattle.collector.specs.Merging.{outcomeOf};
 
 // The state, in flat arrays. Entry i of the first `count`, in opening order, has times[i], lens[i] and the 21 bytes from 21 i, of
@@ -22,27 +22,13 @@ pub struct Collector {
     pub bytes: [u8; Collector::CAPACITY * Collector::MAX_LEN],
     pub count: usize,
     pub latest: u64,
-    pub setting: u8,
     pub totals: Totals,
 }
 
-// Whether a collector was started as asked.
-pub enum Started {
-    Done,
-    Refused(Refusal),
-}
-
-// A collector started fresh, set to 0 beside a refusal.
-pub struct Fresh {
-    pub collector: Collector,
-    pub answer: Started,
-}
-
-// The next state, the answer, and the telegram to send: zero filled, length 0 if none.
+// The next state and the answer.
 pub struct Taken {
     pub next: Collector,
     pub answer: Answer,
-    pub sent: Frame,
 }
 
 impl Collector {
@@ -54,24 +40,25 @@ impl Collector {
     pub const CAPACITY: usize = 64;
     // The longest subtelegram.
     pub const MAX_LEN: usize = erp1::MAX_LEN;
-    // The highest repeater setting.
-    pub const MAX_SETTING: u8 = 2;
 
-    // A collector with no telegram open and nothing counted, set to 0 (off), 1 or 2; another setting is refused with 10.
-    pub fn fresh(setting: u8) -> Fresh
-        ensures { λ r. ⌜ freshAnswer r ≡ freshOf setting ⌝ }
+    // A collector with no telegram open and nothing counted.
+    pub fn fresh() -> Collector
+        ensures { λ r. ⌜ viewOf r ≡ model.fresh ⌝ }
     {
-        if Collector::MAX_SETTING < setting {
-            let c = Collector::empty(0);
-            return Fresh {
-                collector: c,
-                answer: Started::Refused(Refusal::Argument),
-            };
-        }
-        let c = Collector::empty(setting);
-        Fresh {
-            collector: c,
-            answer: Started::Done,
+        Collector {
+            times: [0u64; Collector::CAPACITY],
+            lens: [0u8; Collector::CAPACITY],
+            bytes: [0u8; Collector::CAPACITY * Collector::MAX_LEN],
+            count: 0,
+            latest: 0,
+            totals: Totals {
+                received: 0,
+                kept: 0,
+                copies: 0,
+                loose: 0,
+                damaged: 0,
+                late: 0,
+            },
         }
     }
 
@@ -85,13 +72,11 @@ impl Collector {
         let mut lens = self.lens;
         let count = self.count;
         let latest = self.latest;
-        let setting = self.setting;
         let totals = self.totals;
-        let fit = is_acceptable(&times, &lens, &self.bytes, count, latest, setting, totals);
+        let fit = is_acceptable(&times, &lens, &self.bytes, count, latest, totals);
         let old = Summary {
             count: count,
             latest: latest,
-            setting: setting,
             totals: totals,
         };
         let done = merging::admit(
@@ -106,17 +91,14 @@ impl Collector {
         let next = done.summary;
         let counted = next.totals;
         let answer = done.answer;
-        let sent = done.sent;
         self.times = times;
         self.lens = lens;
         self.count = next.count;
         self.latest = next.latest;
-        self.setting = next.setting;
         self.totals = counted;
         Taken {
             next: self,
             answer: answer,
-            sent: sent,
         }
     }
 
@@ -127,7 +109,7 @@ impl Collector {
         bytes: [u8; Collector::CAPACITY * Collector::MAX_LEN],
         summary: Summary,
     ) -> Collector
-        ensures { λ r. ⌜ r ≡ record { times = times; lens = lens; bytes = bytes; count = summary .count; latest = summary .latest; setting = summary .setting; totals = summary .totals } ⌝ }
+        ensures { λ r. ⌜ r ≡ record { times = times; lens = lens; bytes = bytes; count = summary .count; latest = summary .latest; totals = summary .totals } ⌝ }
     {
         let totals = summary.totals;
         Collector {
@@ -136,42 +118,19 @@ impl Collector {
             bytes: bytes,
             count: summary.count,
             latest: summary.latest,
-            setting: summary.setting,
             totals: totals,
         }
     }
 
     // What the state holds beside its entries' arrays.
     pub fn summary(self) -> Summary
-        ensures { λ r. ⌜ r ≡ record { count = self .count; latest = self .latest; setting = self .setting; totals = self .totals } ⌝ }
+        ensures { λ r. ⌜ r ≡ record { count = self .count; latest = self .latest; totals = self .totals } ⌝ }
     {
         let totals = self.totals;
         Summary {
             count: self.count,
             latest: self.latest,
-            setting: self.setting,
             totals: totals,
-        }
-    }
-
-    fn empty(setting: u8) -> Collector
-        ensures { λ r. ⌜ viewOf r ≡ emptyView setting ⌝ }
-    {
-        Collector {
-            times: [0u64; Collector::CAPACITY],
-            lens: [0u8; Collector::CAPACITY],
-            bytes: [0u8; Collector::CAPACITY * Collector::MAX_LEN],
-            count: 0,
-            latest: 0,
-            setting: setting,
-            totals: Totals {
-                received: 0,
-                kept: 0,
-                copies: 0,
-                loose: 0,
-                damaged: 0,
-                late: 0,
-            },
         }
     }
 }

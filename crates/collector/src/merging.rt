@@ -1,4 +1,4 @@
-// One reception (document 01, "Merging"): its classification, what is counted, and what is sent.
+// One reception (document 01, "Merging"): its classification, and what is counted; what is sent for one that is kept.
 use crate::Collector;
 use crate::acceptable;
 use crate::entries;
@@ -6,38 +6,34 @@ use erp1::Checked;
 use model::Answer;
 use model::Totals;
 use refusal::Refusal;
-use telegram::frame::Frame;
 ghost use mathlib.Core.Path.{_≡_};
 ghost use mathlib.Core.Bool.{true, cond, _&&_};
-ghost use mathlib.Core.List.{List, []};
+ghost use mathlib.Core.List.{List};
 ghost use Prim.Native.Nat.{ℕ, _≤_, _<_};
 ghost use lib.Dec.{leb, eqb};
 ghost use lib.ListN.{length};
-ghost use Rattle.erp1.specs.Subtelegram.{minLength, maxLength, isValid, checkedNumber};
-ghost use Rattle.telegram.specs.Frame.{frameOf};
-ghost use Rattle.telegram.specs.Repeater.{repeatOf};
+ghost use Rattle.erp1.specs.Subtelegram.{minLength, maxLength, checkedNumber};
+ghost use Rattle.telegram.specs.Output.{written};
 ghost use Rattle.model.specs.Answer.{shownOf, shownNumber, isKept, isCopy, isLoose, isDamaged, isLate, isReceived};
 ghost use Rattle.model.specs.View.{capacity};
 ghost use Rattle.model.specs.Acceptable.{isSummed};
 ghost use Rattle.model.specs.Step.{maxCount, plusIf, tally};
 ghost use Rattle.collector.specs.Collector.{entriesAt};
 ghost use Rattle.collector.specs.Acceptable.{hasCopy};
-ghost use Rattle.collector.specs.Merging.{receptionCheck, answerFor, Countable};
+ghost use Rattle.collector.specs.Merging.{relayedFor, receptionCheck, answerFor, Countable};
 ghost use Rattle.collector.specs.Admission.{viewIn, admittedOf, notAdmitted, admission};
 
 // What a state holds beside its entries' arrays.
 pub struct Summary {
     pub count: usize,
     pub latest: u64,
-    pub setting: u8,
     pub totals: Totals,
 }
 
-// The same after a reception, the answer, and the telegram to send.
+// The same after a reception, and the answer.
 pub struct Admitted {
     pub summary: Summary,
     pub answer: Answer,
-    pub sent: Frame,
 }
 
 // Takes one reception at a state that is changed where it lies: its three arrays are lent. `fit` is what the test of the state said, so that a run
@@ -74,14 +70,29 @@ pub fn admit<'a>(
     let after = Summary {
         count: count_after(kept, left),
         latest: latest,
-        setting: summary.setting,
         totals: counted(totals, answer),
     };
     Admitted {
         summary: after,
         answer: answer,
-        sent: sent_for(summary.setting, kept, received),
     }
+}
+
+// What a repeater set to `setting` sends for a reception that got this answer, to the front of `out`, with how many bytes it is: none, if it was not
+// kept. What is kept is valid, so that it needs no further check.
+pub fn relay_kept(
+    setting: u8,
+    answer: Answer,
+    bytes: &[u8],
+    out: &mut [u8; Collector::MAX_LEN],
+) -> usize
+    ensures { λ r. ⌜ record { number = 0; len = r; output = now (out .exit) }
+        ≡ written (relayedFor setting (shownOf answer) (now (bytes .entry))) (now (out .entry)) ⌝ }
+{
+    if !is_kept(answer) {
+        return 0;
+    }
+    telegram::repeater::relay(setting, bytes, out)
 }
 
 // Whether the state was found acceptable, its arrays hold its entries, and no total can wrap.
@@ -98,7 +109,6 @@ fn refused(summary: Summary) -> Admitted
     Admitted {
         summary: summary,
         answer: Answer::Refused(Refusal::NotAccepted),
-        sent: Frame::empty(),
     }
 }
 
@@ -154,19 +164,6 @@ fn classify<'a>(
             Answer::Kept
         }
     }
-}
-
-// What is sent for a reception: nothing, if it is not kept. Only valid ones are, so that it needs no further check.
-fn sent_for(setting: u8, kept: bool, bytes: &[u8]) -> Frame
-    requires { ⌜ (kept ≡ true → isValid (now bytes) ≡ true) ⌝ }
-    ensures { λ r. ⌜ r ≡ frameOf (cond kept (repeatOf setting (now (bytes .entry))) []) ⌝ }
-{
-    let mut out = [0u8; Collector::MAX_LEN];
-    let mut n = 0;
-    if kept {
-        n = telegram::repeater::relay(setting, bytes, &mut out);
-    }
-    Frame { len: n, bytes: out }
 }
 
 // The totals after one more answer.

@@ -13,12 +13,12 @@ ghost use mathlib.Core.Path.{_≡_};
 ghost use Prim.Native.Nat.{_≤_};
 ghost use lib.ListN.{length};
 
-// A burst of the next n records, with m places for the replies.
-pub fn delivered(c: Collector, n: usize, m: usize) -> Within
+// A burst of the next n records at a setting, with m places for the replies.
+pub fn delivered(c: Collector, setting: u8, n: usize, m: usize) -> Within
     requires { ⌜ n ≤ 259 ⌝ }
 {
     let records = next_receptions(n);
-    burst::burst_within(c, records, n, places(), m)
+    burst::burst_within(c, setting, records, n, places(), m)
 }
 
 fn next_receptions(n: usize) -> [Reception; burst::LISTED]

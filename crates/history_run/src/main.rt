@@ -19,9 +19,10 @@ const LONGEST: usize = 3000;
 // Of each history the images of so many checkpoints are printed.
 const SHOWN: u8 = 3;
 
-// A history under way: its collector, how many images it has printed, and whether there may be more calls.
+// A history under way: its collector, the setting that its caller keeps, how many images it has printed, and whether there may be more calls.
 struct Session {
     collector: Collector,
+    setting: u8,
     shown: u8,
     more: bool,
 }
@@ -32,8 +33,7 @@ fn main() {
 
 // At most so many calls, until the input ends.
 fn calls(most: u64) {
-    let fresh = Collector::fresh(0);
-    let mut session = after(fresh.collector, 0, true);
+    let mut session = begun(0);
     let mut left = most;
     while 0 < left {
         left -= 1;
@@ -48,7 +48,7 @@ fn calls(most: u64) {
 fn call(session: Session) -> Session {
     let next = test_io::next_record();
     if !next.more {
-        return after(session.collector, 0, false);
+        return ended(session);
     }
     let r = next.bytes;
     made(session, &r)
@@ -63,8 +63,13 @@ fn made(session: Session, r: &[u8]) -> Session
         1 => started((number % 256) as u8),
         2 => received(session, number, r),
         3 => saved(session, least(number, 3000)),
-        4 => cut(session, (number % 256) as u8),
-        6 => burst_of(session, least(number, burst::LISTED), bursts::places_in(r)),
+        4 => cut(session),
+        6 => burst_of(
+            session,
+            r[12],
+            least(number, burst::LISTED),
+            bursts::places_in(r),
+        ),
         8 => given_image(session, least(number, given::MOST)),
         _ => spoiled(session, least(number, 2560)),
     }
@@ -73,9 +78,8 @@ fn made(session: Session, r: &[u8]) -> Session
 // ---- the calls
 
 fn started(setting: u8) -> Session {
-    let fresh = Collector::fresh(setting);
     test_io::text(b"L 0\n");
-    after(fresh.collector, 0, true)
+    begun(setting)
 }
 
 fn received(session: Session, time: u64, r: &[u8]) -> Session
@@ -86,12 +90,22 @@ fn received(session: Session, time: u64, r: &[u8]) -> Session
     let taken = collector.take(&r[10..10 + n], time);
     let next = taken.next;
     let answer = taken.answer;
-    let sent = taken.sent;
     test_io::text(b"R ");
     put_answer(answer);
-    put_sent(sent);
+    put_sent(sent_for(session.setting, answer, &r[10..10 + n]));
     put_totals(next.totals);
-    after(next, session.shown, true)
+    after(session, next, session.shown)
+}
+
+// What is sent for a reception that got this answer: only KEPT is ever repeated.
+fn sent_for(setting: u8, answer: Answer, bytes: &[u8]) -> Frame {
+    match answer {
+        Answer::Kept => {
+            let repeated = telegram::repeater::repeat(setting, bytes);
+            repeated.sent
+        }
+        _ => Frame::empty(),
+    }
 }
 
 // A checkpoint into an output of n bytes.
@@ -110,25 +124,23 @@ fn saved_into(session: Session, out: &mut [u8]) -> Session {
     put_digest(out);
     put_totals(collector.totals);
     let shown = put_image(session.shown, answer, out);
-    after(collector, shown, true)
+    after(session, collector, shown)
 }
 
 // A cut: a checkpoint, and its restore into another collector.
-fn cut(session: Session, setting: u8) -> Session {
+fn cut(session: Session) -> Session {
     let collector = session.collector;
     let mut bytes = [0xEEu8; IMAGE];
     let answer = image::checkpoint(collector, &mut bytes);
     test_io::text(b"C ");
     put_saved(answer);
     test_io::text(b" ");
-    let fresh = Collector::fresh(setting);
-    let other = fresh.collector;
-    let restored = image::restore(other, &bytes);
+    let restored = image::restore(Collector::fresh(), &bytes);
     let next = restored.next;
     let loaded = restored.answer;
     put_loaded(loaded);
     put_totals(next.totals);
-    after(next, session.shown, true)
+    after(session, next, session.shown)
 }
 
 // The restore of the present image with byte k changed, or for 2,560 without its last byte.
@@ -162,14 +174,14 @@ fn restored<'a>(session: Session, word: &'a [u8], bytes: &'a [u8]) -> Session {
     test_io::text(word);
     put_loaded(loaded);
     put_totals(next.totals);
-    after(next, shown, true)
+    after(session, next, shown)
 }
 
-// A burst of the next n records, with m places for the replies.
-fn burst_of(session: Session, n: usize, m: usize) -> Session
+// A burst of the next n records at a setting, with m places for the replies.
+fn burst_of(session: Session, setting: u8, n: usize, m: usize) -> Session
     requires { ⌜ (n ≤ 259) × (m ≤ 259) ⌝ }
 {
-    let lists = bursts::delivered(session.collector, n, m);
+    let lists = bursts::delivered(session.collector, setting, n, m);
     let done = lists.bursted;
     let answer = done.answer;
     let next = done.next;
@@ -178,14 +190,35 @@ fn burst_of(session: Session, n: usize, m: usize) -> Session
     bursts::put_handed(answer);
     put_totals(next.totals);
     bursts::put_replies(replies, m);
-    after(next, session.shown, true)
+    after(session, next, session.shown)
 }
 
-fn after(collector: Collector, shown: u8, more: bool) -> Session {
+// A history at its start, and after a call; and the end of all.
+fn begun(setting: u8) -> Session {
+    Session {
+        collector: Collector::fresh(),
+        setting: setting,
+        shown: 0,
+        more: true,
+    }
+}
+
+fn after(session: Session, next: Collector, shown: u8) -> Session {
+    Session {
+        collector: next,
+        setting: session.setting,
+        shown: shown,
+        more: true,
+    }
+}
+
+fn ended(session: Session) -> Session {
+    let collector = session.collector;
     Session {
         collector: collector,
-        shown: shown,
-        more: more,
+        setting: session.setting,
+        shown: 0,
+        more: false,
     }
 }
 

@@ -8,14 +8,15 @@ use mathlib.Core.Bool.{true, false, false≢true}
 use mathlib.Core.List.{List}
 use lib.Dec.{leb, eqb}
 use lib.ListN.{length, length-map}
-use borrow.Author.Tests.{leb-true, eq-eqb, eqb-true}
+use borrow.Author.Tests.{le-leb, leb-true, eq-eqb, eqb-true}
 use Rattle.lists.specs.Lists.{upFrom}
 use Rattle.lists.proofs.Choice.{both}
 use Rattle.lists.proofs.Tests.{and-true}
 use Rattle.lists.proofs.UpFrom.{length-upFrom}
-use Rattle.model.specs.View.{View, capacity, maxSetting}
+use Rattle.telegram.specs.Repeater.{maxSetting}
+use Rattle.model.specs.View.{View, capacity}
 use Rattle.model.specs.Acceptable.{acceptable}
-use Rattle.model.specs.Image.{RestoreResult, imageLength, secondIn, countIn, entryIn, parse, accepts, restoreOf}
+use Rattle.model.specs.Image.{RestoreResult, imageLength, settingIn, countIn, entryIn, parse, accepts, restoreOf}
 use Rattle.image.specs.Checkpoint.{refusedWith, isImageOf, isReadable, entriesIn}
 use Rattle.collector.proofs.Inside.{fails}
 
@@ -24,26 +25,26 @@ abbrev pub restoredWith : View → RestoreResult
 restoredWith v = record { number = 0; next = v }
 
 module _ (image : List ℕ) where
-  pub readable : isReadable image ≡ true → (length image ≡ imageLength) × (countIn image ≤ capacity) × (secondIn 3 image ≤ maxSetting)
+  pub readable : isReadable image ≡ true → (length image ≡ imageLength) × (countIn image ≤ capacity) × (settingIn image ≤ maxSetting)
   readable e =
       let a = both (eqb (length image) imageLength) _ e in
-      let b = both (leb (countIn image) capacity) (leb (secondIn 3 image) maxSetting) (a .1) in
-      (eqb-true (length image) imageLength (a .0), leb-true (countIn image) capacity (b .0), leb-true (secondIn 3 image) maxSetting (b .1))
+      let b = both (leb (countIn image) capacity) (leb (settingIn image) maxSetting) (a .1) in
+      (eqb-true (length image) imageLength (a .0), leb-true (countIn image) capacity (b .0), leb-true (settingIn image) maxSetting (b .1))
 
   accepted-readable : accepts image ≡ true → isReadable image ≡ true
   unfolding accepts acceptable parse
   accepted-readable e =
       let a = both (eqb (length image) imageLength) _ e in
-      let b = both (leb (secondIn 3 image) maxSetting) _ (both (acceptable (parse image)) _ (a .1) .0) in
-      let c = both (leb (length (entriesIn image (countIn image))) capacity) _ (b .1) in
+      let b = both (leb (settingIn image) maxSetting) _ (a .1) in
+      let c = both (leb (length (entriesIn image (countIn image))) capacity) _ (both (acceptable (parse image)) _ (b .1) .0) in
       and-true (a .0) (and-true (rw (length-map (upFrom 0 (countIn image)) (entryIn image), length-upFrom 0 (countIn image)) at (c .0)) (b .0))
 
   unreadable : isReadable image ≡ false → accepts image ≡ false
   unreadable e = fails (accepts image) (λ ok. false≢true (sym e ∙ accepted-readable ok))
 
-  accepts-is : length image ≡ imageLength → accepts image ≡ isImageOf (parse image) image
+  accepts-is : length image ≡ imageLength → settingIn image ≤ maxSetting → accepts image ≡ isImageOf (settingIn image) (parse image) image
   unfolding accepts
-  accepts-is l = rw (eq-eqb (length image) imageLength l)
+  accepts-is l s = rw (eq-eqb (length image) imageLength l, le-leb (settingIn image) maxSetting s)
 
   -- each return of a restore, of a state that is acceptable
   module _ (v : View) (ok : acceptable v ≡ true) where
@@ -54,10 +55,10 @@ module _ (image : List ℕ) where
     pub restore-unreadable : isReadable image ≡ false → refusedWith v ≡ restoreOf v image
     restore-unreadable e = not-accepted (unreadable e)
 
-    module _ (long : length image ≡ imageLength) where
-      pub restore-other : isImageOf (parse image) image ≡ false → refusedWith v ≡ restoreOf v image
-      restore-other e = not-accepted (accepts-is long ∙ e)
+    module _ (long : length image ≡ imageLength) (small : settingIn image ≤ maxSetting) where
+      pub restore-other : isImageOf (settingIn image) (parse image) image ≡ false → refusedWith v ≡ restoreOf v image
+      restore-other e = not-accepted (accepts-is long small ∙ e)
 
-      pub restore-done : isImageOf (parse image) image ≡ true → restoredWith (parse image) ≡ restoreOf v image
+      pub restore-done : isImageOf (settingIn image) (parse image) image ≡ true → restoredWith (parse image) ≡ restoreOf v image
       unfolding restoreOf
-      restore-done e = rw (ok, accepts-is long ∙ e)
+      restore-done e = rw (ok, accepts-is long small ∙ e)

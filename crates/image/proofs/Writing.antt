@@ -27,7 +27,7 @@ use Rattle.layout.specs.Block.{cellsPerBlock, blockOf}
 use Rattle.layout.proofs.Segments.{part-at}
 use Rattle.layout.proofs.Buffer.{resized-length}
 use Rattle.model.specs.declared.Totals.{Totals}
-use Rattle.model.specs.View.{Reception, capacity, maxSetting}
+use Rattle.model.specs.View.{Reception, capacity}
 use Rattle.model.specs.Acceptable.{isEntry, acceptable}
 use Rattle.model.specs.Image.{entryCell, blockAt}
 use Rattle.model.proofs.Check.{valid-length}
@@ -75,7 +75,7 @@ writable-part lens k count h w = record {
 }
 
 -- an acceptable state can be written
-module _ (times lens bytes : List ℕ) (count latest setting : ℕ) (totals : Totals) (ok : acceptable (viewAt times lens bytes count latest setting totals) ≡ true) where
+module _ (times lens bytes : List ℕ) (count latest : ℕ) (totals : Totals) (ok : acceptable (viewAt times lens bytes count latest totals) ≡ true) where
   abbrev held : List Reception
   held = entriesAt times lens bytes count
 
@@ -86,8 +86,7 @@ module _ (times lens bytes : List ℕ) (count latest setting : ℕ) (totals : To
   few-each : (length held ≤ capacity) × (all (isEntry latest) held ≡ true)
   unfolding acceptable
   few-each =
-      let a = both (leb setting maxSetting) _ ok in
-      let b = both (leb (length held) capacity) _ (a .1) in
+      let b = both (leb (length held) capacity) _ ok in
       (leb-true (length held) capacity (b .0), both (all (isEntry latest) held) _ (b .1) .0)
 
   held-at : (i : ℕ) → i < count → getD held i none ≡ entryAt times lens bytes i

@@ -8,11 +8,12 @@ use Rattle.lists.specs.Lists.{equal, upFrom}
 use Rattle.refusal.specs.Number.{numberOf}
 use Rattle.refusal.specs.declared.Refusal.the-variants.{NotAccepted}
 use Rattle.erp1.specs.Subtelegram.{maxLength}
+use Rattle.telegram.specs.Repeater.{maxSetting}
 use Rattle.layout.specs.Header.{headerLength}
 use Rattle.layout.specs.Block.{cellsPerBlock, bodyLength, blockCell}
-use Rattle.model.specs.View.{Reception, View, capacity, maxSetting, noTotals}
+use Rattle.model.specs.View.{Reception, View, capacity, noTotals}
 use Rattle.model.specs.Acceptable.{acceptable}
-use Rattle.model.specs.Image.{CheckpointResult, RestoreResult, imageLength, imageOf, blockAt, blockIn, secondIn, countIn, entryIn}
+use Rattle.model.specs.Image.{CheckpointResult, RestoreResult, imageLength, imageWith, blockAt, blockIn, settingIn, countIn, entryIn}
 use Rattle.collector.specs.Collector.{entryAt, viewOf}
 use Rattle.image.specs.declared.Saved.{Saved}
 use Rattle.image.specs.declared.Saved.the-variants as saved
@@ -57,20 +58,20 @@ entriesFrom times lens bytes first n = map (entryAt times lens bytes) (upFrom fi
 
 -- block k of an image, which looks at the entries alone
 abbrev pub blockWith : ℕ → ℕ → ℕ → List Reception → List ℕ
-blockWith k a b entries = blockAt k a b (record { setting = 0; latest = 0; totals = noTotals; entries = entries })
+blockWith k a b entries = blockAt k a b (record { latest = 0; totals = noTotals; entries = entries })
 
 -- the arrays have n entries from `first` on, each short enough for a cell
 pub record Writable (lens : List ℕ) (first n : ℕ) : Type 0 where
   pub bound : first + n ≤ capacity
   pub short : (i : ℕ) → i < n → getD lens (first + i) 0 ≤ maxLength
 
--- an image is byte for byte what a checkpoint of an acceptable state writes
-abbrev pub isImageOf : View → List ℕ → Bool
-isImageOf v image = acceptable v && equal (imageOf v) image
+-- an image is byte for byte what is written of an acceptable state with a number in the setting's place
+abbrev pub isImageOf : ℕ → View → List ℕ → Bool
+isImageOf setting v image = acceptable v && equal (imageWith setting v) image
 
--- the right length, and a count and a setting that a state can have
+-- the right length, a count that a state can have, and a setting in the setting's place
 abbrev pub isReadable : List ℕ → Bool
-isReadable image = eqb (length image) imageLength && (leb (countIn image) capacity && leb (secondIn 3 image) maxSetting)
+isReadable image = eqb (length image) imageLength && (leb (countIn image) capacity && leb (settingIn image) maxSetting)
 
 -- the cell of entry i, counted over all blocks
 abbrev pub cellIn : List ℕ → ℕ → List ℕ

@@ -7,6 +7,7 @@ use layout::CELLS_PER_BLOCK;
 use layout::HEADER_LENGTH;
 use model::Totals;
 use refusal::Refusal;
+use telegram::repeater::MAX_SETTING;
 ghost use mathlib.Core.Path.{_≡_};
 ghost use mathlib.Core.List.{_++_, map, flatten};
 ghost use Prim.Native.Nat.{_-_, _*_, _≤_, _<_, min};
@@ -14,9 +15,9 @@ ghost use lib.ListN.{length, drop};
 ghost use Rattle.lists.specs.Lists.{padded};
 ghost use Rattle.layout.specs.Block.{cellsPerBlock, blockLength, blockHeader};
 ghost use Rattle.erp1.specs.Subtelegram.{maxLength};
-ghost use Rattle.model.specs.View.{capacity, maxSetting};
+ghost use Rattle.model.specs.View.{capacity};
 ghost use Rattle.model.specs.Image as model;
-ghost use Rattle.model.specs.Image.{imageLength, entryCell, imageOf, blockIn, usedIn, firstIn, secondIn, countIn, totalsIn, checkpointOf, restoreOf};
+ghost use Rattle.model.specs.Image.{imageLength, entryCell, imageWith, blockIn, usedIn, firstIn, secondIn, countIn, totalsIn, checkpointOf, restoreOf};
 ghost use Rattle.collector.specs.Collector.{entriesAt, viewAt, viewOf};
 ghost use Rattle.image.specs.Checkpoint.{checkpointResult, restoreResult, refusedWith, blockCount, cellsLength, entriesFrom, blockWith, Writable, isImageOf, isReadable, cellIn, entriesIn};
 
@@ -24,6 +25,9 @@ ghost use Rattle.image.specs.Checkpoint.{checkpointResult, restoreResult
 const BLOCKS: usize = 5;
 
 pub const IMAGE_LENGTH: usize = BLOCKS * BLOCK_LENGTH;
+
+// What a checkpoint writes in the setting's place.
+const NO_SETTING: u64 = 0;
 
 // The bytes of a block between its header and its CRC.
 const CELLS_LENGTH: usize = BLOCK_LENGTH - 1 - HEADER_LENGTH;
@@ -46,19 +50,11 @@ pub struct Restored {
     pub answer: Loaded,
 }
 
-// Writes the image of the state into the first 2,560 bytes; refused with 11, then 6, nothing is written.
+// Writes the image of the state into the first 2,560 bytes, with zero in the setting's place; refused with 11, then 6, nothing is written.
 pub fn checkpoint(c: Collector, out: &mut [u8]) -> Saved
     ensures { λ r. ⌜ checkpointResult r (now (out .exit)) ≡ checkpointOf (viewOf c) (now (out .entry)) ⌝ }
 {
-    if !acceptable::is_acceptable(
-        &c.times,
-        &c.lens,
-        &c.bytes,
-        c.count,
-        c.latest,
-        c.setting,
-        c.totals,
-    ) {
+    if !acceptable::is_acceptable(&c.times, &c.lens, &c.bytes, c.count, c.latest, c.totals) {
         return Saved::Refused(Refusal::NotAccepted);
     }
     if out.len() < IMAGE_LENGTH {
@@ -71,30 +67,24 @@ pub fn checkpoint(c: Collector, out: &mut [u8]) -> Saved
         &c.bytes,
         c.count,
         c.latest,
-        c.setting,
+        NO_SETTING,
         c.totals,
     );
     Saved::Done
 }
 
-// The state that an image holds. Any other image than what a checkpoint writes is refused with 11, as is a state that has none.
+// The state that an image holds. Any other image than what a checkpoint writes, or wrote with 1 or 2 in the setting's place, is refused with 11, as
+// is a state that has none.
 pub fn restore(c: Collector, image: &[u8]) -> Restored
     ensures { λ r. ⌜ restoreResult r ≡ restoreOf (viewOf c) (now (image .entry)) ⌝ }
 {
-    if !acceptable::is_acceptable(
-        &c.times,
-        &c.lens,
-        &c.bytes,
-        c.count,
-        c.latest,
-        c.setting,
-        c.totals,
-    ) {
+    if !acceptable::is_acceptable(&c.times, &c.lens, &c.bytes, c.count, c.latest, c.totals) {
         return refused(c);
     }
     if !is_readable(image) {
         return refused(c);
     }
+    let setting = second_in(image, 3);
     let next = parse(image);
     if !is_image_of(
         image,
@@ -103,7 +93,7 @@ pub fn restore(c: Collector, image: &[u8]) -> Restored
         &next.bytes,
         next.count,
         next.latest,
-        next.setting,
+        setting,
         next.totals,
     ) {
         return refused(c);
@@ -126,7 +116,7 @@ fn refused(c: Collector) -> Restored
 
 // ---- writing
 
-// The image of a state, in the first 2,560 bytes: block k, with its two numbers, in the 512 bytes from 512 k.
+// The image of a state, in the first 2,560 bytes, with a number in the setting's place: block k, with its two numbers, in the 512 bytes from 512 k.
 fn put_image<'a>(
     out: &mut [u8],
     times: &'a [u64; Collector::CAPACITY],
@@ -134,20 +124,15 @@ fn put_image<'a>(
     bytes: &'a [u8; Collector::CAPACITY * Collector::MAX_LEN],
     count: usize,
     latest: u64,
-    setting: u8,
+    setting: u64,
     totals: Totals,
 )
     requires { ⌜ (imageLength ≤ length (now out)) × Writable (now lens) 0 count ⌝ }
-    ensures { λ _. ⌜ now (out .exit) ≡ imageOf (viewAt (now (times .entry)) (now (lens .entry)) (now (bytes .entry)) count latest setting totals) ++ drop imageLength (now (out .entry)) ⌝ }
+    ensures { λ _. ⌜ now (out .exit)
+        ≡ imageWith setting (viewAt (now (times .entry)) (now (lens .entry)) (now (bytes .entry)) count latest totals) ++ drop imageLength (now (out .entry)) ⌝ }
 {
     let firsts = [latest, totals.kept, totals.loose, totals.late, 0];
-    let seconds = [
-        totals.received,
-        totals.copies,
-        totals.damaged,
-        setting as u64,
-        0,
-    ];
+    let seconds = [totals.received, totals.copies, totals.damaged, setting, 0];
     for k in 0..BLOCKS {
         put_block(
             &mut out[BLOCK_LENGTH * k..BLOCK_LENGTH * k + BLOCK_LENGTH],
@@ -216,7 +201,7 @@ fn put_cells<'a>(
     layout::clear(&mut out[CELL_LENGTH * used..CELLS_LENGTH]);
 }
 
-// Whether a state is acceptable, and an image byte for byte what is written of it.
+// Whether a state is acceptable, and an image byte for byte what is written of it with this number in the setting's place.
 fn is_image_of<'a>(
     image: &'a [u8],
     times: &'a [u64; Collector::CAPACITY],
@@ -224,12 +209,12 @@ fn is_image_of<'a>(
     bytes: &'a [u8; Collector::CAPACITY * Collector::MAX_LEN],
     count: usize,
     latest: u64,
-    setting: u8,
+    setting: u64,
     totals: Totals,
 ) -> bool
-    ensures { λ r. ⌜ r ≡ isImageOf (viewAt (now (times .entry)) (now (lens .entry)) (now (bytes .entry)) count latest setting totals) (now (image .entry)) ⌝ }
+    ensures { λ r. ⌜ r ≡ isImageOf setting (viewAt (now (times .entry)) (now (lens .entry)) (now (bytes .entry)) count latest totals) (now (image .entry)) ⌝ }
 {
-    if !acceptable::is_acceptable(times, lens, bytes, count, latest, setting, totals) {
+    if !acceptable::is_acceptable(times, lens, bytes, count, latest, totals) {
         return false;
     }
     let mut again = [0u8; IMAGE_LENGTH];
@@ -262,7 +247,7 @@ fn used_from(count: usize, first: usize) -> u8
 
 // ---- reading
 
-// Whether an image has the right length, and says a count and a setting that a state can have.
+// Whether an image has the right length, a count that a state can have, and 0, 1 or 2 in the setting's place.
 fn is_readable(image: &[u8]) -> bool
     ensures { λ r. ⌜ r ≡ isReadable (now (image .entry)) ⌝ }
 {
@@ -270,12 +255,12 @@ fn is_readable(image: &[u8]) -> bool
         return false;
     }
     let setting = second_in(image, 3);
-    (count_in(image) <= Collector::CAPACITY) & (setting <= Collector::MAX_SETTING as u64)
+    (count_in(image) <= Collector::CAPACITY) & (setting <= MAX_SETTING as u64)
 }
 
 // The state that an image spells, right or not.
 fn parse(image: &[u8]) -> Collector
-    requires { ⌜ (length (now image) ≡ imageLength) × (countIn (now image) ≤ capacity) × (secondIn 3 (now image) ≤ maxSetting) ⌝ }
+    requires { ⌜ (length (now image) ≡ imageLength) × (countIn (now image) ≤ capacity) ⌝ }
     ensures { λ r. ⌜ viewOf r ≡ model.parse (now (image .entry)) ⌝ }
 {
     let mut times = [0u64; Collector::CAPACITY];
@@ -284,7 +269,6 @@ fn parse(image: &[u8]) -> Collector
     let count = count_in(image);
     read_entries(&mut times, &mut lens, &mut bytes, image, count);
     let latest = first_in(image, 0);
-    let setting = second_in(image, 3);
     let totals = totals_in(image);
     Collector {
         times,
@@ -292,7 +276,6 @@ fn parse(image: &[u8]) -> Collector
         bytes,
         count,
         latest,
-        setting: setting as u8,
         totals,
     }
 }

@@ -8,18 +8,19 @@ use Prim.Native.Nat.{ℕ, zero, suc, _+_, _-_, _*_, _/_, _%_, _^_, _≤_, _<_, m
 use native.Mathlib.Nat.{div-add-mod, sub-zero, zero-add}
 use native.Mathlib.Omega.{arith}
 use mathlib.Core.Path.{_≡_, refl, ap, _∙_}
-use mathlib.Core.Bool.{true, _&&_}
+use mathlib.Core.Bool.{true}
 use mathlib.Core.List.{List, [], map}
 use lib.ListN.{length, getD, length-take, length-drop, length-map}
 use lib.Seq.{ext-getD}
-use lib.Dec.{eqb}
-use borrow.Author.Tests.{eq-eqb}
+use lib.Dec.{leb, eqb}
+use borrow.Author.Tests.{eq-eqb, le-leb, leb-true}
 use Rattle.lists.specs.Lists.{equal, upFrom}
 use Rattle.lists.proofs.Choice.{both}
 use Rattle.lists.proofs.Equal.{equal-eq, equal-refl}
 use Rattle.lists.proofs.Tests.{all-getD, getD-map}
 use Rattle.lists.proofs.UpFrom.{length-upFrom, getD-upFrom}
 use Rattle.erp1.specs.Subtelegram.{maxLength}
+use Rattle.telegram.specs.Repeater.{maxSetting}
 use Rattle.layout.specs.Cell.{cellLength}
 use Rattle.layout.specs.Header.{headerOf, headerUsed, headerFirst, headerSecond}
 use Rattle.layout.specs.Block.{cellsPerBlock, blockLength, blockHeader, blockCell}
@@ -29,7 +30,7 @@ use Rattle.layout.proofs.Header.{header-length, header-used, header-first, head
 use Rattle.layout.proofs.Block.{block-length, block-header, block-cell}
 use Rattle.model.specs.View.{Reception, View}
 use Rattle.model.specs.Acceptable.{isEntry, acceptable}
-use Rattle.model.specs.Image.{imageLength, entryCell, entriesOf, blockAt, blocksOf, imageOf, blockIn, usedIn, firstIn, secondIn, countIn, cellEntry, entryIn, totalsIn, parse, accepts}
+use Rattle.model.specs.Image.{imageLength, entryCell, entriesOf, blockAt, blocksOf, imageWith, blockIn, usedIn, firstIn, secondIn, settingIn, countIn, cellEntry, entryIn, totalsIn, parse, accepts}
 use Rattle.model.specs.Exact.{Exact}
 use Rattle.model.proofs.Check.{valid-length}
 use Rattle.model.proofs.Invariant.{Good, good-acceptable, good-of, entry-valid, entry-before}
@@ -42,7 +43,7 @@ none = record { bytes = []; time = 0 }
 more : (m n : ℕ) → min m n + min 15 (n - m) ≡ min (m + 15) n
 more m n = omega arith
 
-module _ (v : View) (g : Good v) where
+module _ (setting : ℕ) (v : View) (g : Good v) where
   -- ---- entries
 
   abbrev count : ℕ
@@ -87,7 +88,7 @@ module _ (v : View) (g : Good v) where
 
   -- ---- blocks
 
-  block-at : (k : ℕ) → k < 5 → (a : ℕ) × (b : ℕ) × (getD (blocksOf v) k [] ≡ blockAt k a b v)
+  block-at : (k : ℕ) → k < 5 → (a : ℕ) × (b : ℕ) × (getD (blocksOf setting v) k [] ≡ blockAt k a b v)
   block-at zero h = (_, _, refl)
   block-at (suc zero) h = (_, _, refl)
   block-at (suc (suc zero)) h = (_, _, refl)
@@ -95,35 +96,35 @@ module _ (v : View) (g : Good v) where
   block-at (suc (suc (suc (suc zero)))) h = (_, _, refl)
   block-at (suc (suc (suc (suc (suc k))))) h = absurd (omega arith)
 
-  pub blocks-long : Each blockLength (blocksOf v)
+  pub blocks-long : Each blockLength (blocksOf setting v)
   unfolding blockAt
   blocks-long k h =
       let w = block-at k h in
       ap length (w .2) ∙ block-length _ _ (header-length k (length (entriesOf k v)) (w .0) (w .1)) (cells-long k) (cells-few k)
 
-  pub image-length : length (imageOf v) ≡ imageLength
-  unfolding imageOf
-  image-length = flatten-length blockLength (blocksOf v) blocks-long
+  pub image-length : length (imageWith setting v) ≡ imageLength
+  unfolding imageWith
+  image-length = flatten-length blockLength (blocksOf setting v) blocks-long
 
-  block-in : (k : ℕ) → k < 5 → blockIn k (imageOf v) ≡ getD (blocksOf v) k []
-  unfolding imageOf
-  block-in k h = flatten-part blockLength (blocksOf v) blocks-long k h
+  block-in : (k : ℕ) → k < 5 → blockIn k (imageWith setting v) ≡ getD (blocksOf setting v) k []
+  unfolding imageWith
+  block-in k h = flatten-part blockLength (blocksOf setting v) blocks-long k h
 
-  module _ (k a b : ℕ) (low : k < 5) (is : getD (blocksOf v) k [] ≡ blockAt k a b v) where
-    header-in : blockHeader (blockIn k (imageOf v)) ≡ headerOf k (length (entriesOf k v)) a b
+  module _ (k a b : ℕ) (low : k < 5) (is : getD (blocksOf setting v) k [] ≡ blockAt k a b v) where
+    header-in : blockHeader (blockIn k (imageWith setting v)) ≡ headerOf k (length (entriesOf k v)) a b
     unfolding blockAt
     header-in = ap blockHeader (block-in k low ∙ is) ∙ block-header _ _ (header-length k (length (entriesOf k v)) a b) (cells-long k) (cells-few k)
 
-    used-in : usedIn k (imageOf v) ≡ min cellsPerBlock (count - cellsPerBlock * k)
+    used-in : usedIn k (imageWith setting v) ≡ min cellsPerBlock (count - cellsPerBlock * k)
     used-in = ap headerUsed header-in ∙ header-used k (length (entriesOf k v)) a b ∙ group-length k
 
-    first-in : a < 2 ^ 64 → firstIn k (imageOf v) ≡ a
+    first-in : a < 2 ^ 64 → firstIn k (imageWith setting v) ≡ a
     first-in h = ap headerFirst header-in ∙ header-first k (length (entriesOf k v)) a b h
 
-    second-in : b < 2 ^ 64 → secondIn k (imageOf v) ≡ b
+    second-in : b < 2 ^ 64 → secondIn k (imageWith setting v) ≡ b
     second-in h = ap headerSecond header-in ∙ header-second k (length (entriesOf k v)) a b h
 
-    cell-in : (i : ℕ) → i < length (entriesOf k v) → blockCell i (blockIn k (imageOf v)) ≡ entryCell (entryAt (cellsPerBlock * k + i))
+    cell-in : (i : ℕ) → i < length (entriesOf k v) → blockCell i (blockIn k (imageWith setting v)) ≡ entryCell (entryAt (cellsPerBlock * k + i))
     unfolding blockAt
     cell-in i h =
         ap (blockCell i) (block-in k low ∙ is)
@@ -132,7 +133,7 @@ module _ (v : View) (g : Good v) where
 
   -- ---- the whole
 
-  count-in : countIn (imageOf v) ≡ count
+  count-in : countIn (imageWith setting v) ≡ count
   count-in =
       rw (
         used-in 0 _ _ (omega arith) refl,
@@ -147,7 +148,7 @@ module _ (v : View) (g : Good v) where
         more 60 count,
       ) (omega (arith, g .entries .few))
 
-  entry-in : (i : ℕ) → i < count → entryIn (imageOf v) i ≡ entryAt i
+  entry-in : (i : ℕ) → i < count → entryIn (imageWith setting v) i ≡ entryAt i
   unfolding entryIn
   entry-in i h =
       let k : i / 15 < 5 = omega (arith, g .entries .few) in
@@ -155,19 +156,18 @@ module _ (v : View) (g : Good v) where
       ap cellEntry (cell-in (i / 15) (w .0) (w .1) k (w .2) (i % 15) (omega (arith, group-length (i / 15))))
       ∙ ap (λ (n : ℕ). cellEntry (entryCell (entryAt n))) (div-add-mod i 15) ∙ entry-cell i h
 
-  entries-in : map (entryIn (imageOf v)) (upFrom 0 (countIn (imageOf v))) ≡ v .entries
+  entries-in : map (entryIn (imageWith setting v)) (upFrom 0 (countIn (imageWith setting v))) ≡ v .entries
   entries-in =
-      let long : length (map (entryIn (imageOf v)) (upFrom 0 count)) ≡ count = length-map (upFrom 0 count) (entryIn (imageOf v)) ∙ length-upFrom 0 count in
+      let long : length (map (entryIn (imageWith setting v)) (upFrom 0 count)) ≡ count = length-map (upFrom 0 count) (entryIn (imageWith setting v)) ∙ length-upFrom 0 count in
       rw count-in
-      (ext-getD none (map (entryIn (imageOf v)) (upFrom 0 count)) (v .entries) long
+      (ext-getD none (map (entryIn (imageWith setting v)) (upFrom 0 count)) (v .entries) long
       (λ i h.
       let low : i < count = omega arith in
-      getD-upFrom (entryIn (imageOf v)) 0 count i none low ∙ ap (entryIn (imageOf v)) (zero-add i) ∙ entry-in i low))
+      getD-upFrom (entryIn (imageWith setting v)) 0 count i none low ∙ ap (entryIn (imageWith setting v)) (zero-add i) ∙ entry-in i low))
 
-  pub parse-image : parse (imageOf v) ≡ v
+  pub parse-image : parse (imageWith setting v) ≡ v
   unfolding parse totalsIn
   parse-image = λ i. record {
-    setting = second-in 3 _ _ (omega arith) refl (omega (arith, g .setting)) i;
     latest = first-in 0 _ _ (omega arith) refl (g .entries .fits) i;
     totals = record {
       received = second-in 0 _ _ (omega arith) refl (g .totals .fits) i;
@@ -180,21 +180,42 @@ module _ (v : View) (g : Good v) where
     entries = entries-in i;
   }
 
-  pub accepts-image : accepts (imageOf v) ≡ true
-  unfolding accepts
-  accepts-image = rw (eq-eqb (length (imageOf v)) imageLength image-length, parse-image, good-acceptable g, equal-refl (imageOf v))
+  -- 0, 1 or 2 stands in the setting's place
+  module _ (low : setting ≤ maxSetting) where
+    setting-in : settingIn (imageWith setting v) ≡ setting
+    setting-in = second-in 3 _ _ (omega arith) refl (omega arith)
+
+    pub accepts-image : accepts (imageWith setting v) ≡ true
+    unfolding accepts
+    accepts-image =
+        rw (
+          eq-eqb (length (imageWith setting v)) imageLength image-length,
+          setting-in,
+          le-leb setting maxSetting low,
+          parse-image,
+          good-acceptable g,
+          equal-refl (imageWith setting v),
+        )
 
 -- what an image says that is accepted
-accepted-says : (image : List ℕ) → accepts image ≡ true → (acceptable (parse image) ≡ true) × (equal (imageOf (parse image)) image ≡ true)
+pub record Accepted (image : List ℕ) : Type 0 where
+  pub small : settingIn image ≤ maxSetting
+  pub view : acceptable (parse image) ≡ true
+  pub same : equal (imageWith (settingIn image) (parse image)) image ≡ true
+
+accepted-says : (image : List ℕ) → accepts image ≡ true → Accepted image
 unfolding accepts
 accepted-says image e =
-    both (acceptable (parse image)) (equal (imageOf (parse image)) image)
-    (both (eqb (length image) imageLength) (acceptable (parse image) && equal (imageOf (parse image)) image) e .1)
+    let a = both (eqb (length image) imageLength) _ e in
+    let b = both (leb (settingIn image) maxSetting) _ (a .1) in
+    let c = both (acceptable (parse image)) (equal (imageWith (settingIn image) (parse image)) image) (b .1) in
+    record { small = leb-true _ _ (b .0); view = c .0; same = c .1 }
 
 pub exact : Exact
 exact = record {
-  accepted = λ v e f. accepts-image v (good-of v e f);
-  readBack = λ v e f. parse-image v (good-of v e f);
-  acceptableView = λ image e. accepted-says image e .0;
-  written = λ image e. equal-eq (imageOf (parse image)) image (rw (accepted-says image e .1) tt);
+  accepted = λ s low v e f. accepts-image s v (good-of v e f) low;
+  readBack = λ s low v e f. parse-image s v (good-of v e f);
+  smallSetting = λ image e. accepted-says image e .small;
+  acceptableView = λ image e. accepted-says image e .view;
+  written = λ image e. equal-eq (imageWith (settingIn image) (parse image)) image (rw (accepted-says image e .same) tt);
 }

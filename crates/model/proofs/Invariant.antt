@@ -17,7 +17,7 @@ use Rattle.refusal.specs.declared.Refusal.the-variants as refusal
 use Rattle.erp1.specs.Subtelegram.{isValid}
 use Rattle.model.specs.declared.Totals.{Totals}
 use Rattle.model.specs.Answer.{Shown, Kept, Copy, Loose, Refused, isAccepted}
-use Rattle.model.specs.View.{Reception, View, maturity, capacity, maxSetting, isOpen, stillOpen, fresh}
+use Rattle.model.specs.View.{Reception, View, maturity, capacity, isOpen, stillOpen, fresh}
 use Rattle.model.specs.Acceptable.{isCopyOf, isEntry, mayFollow, isSummed, acceptable}
 use Rattle.model.specs.Exact.{Fits}
 use Rattle.model.specs.Step.{maxCount, isKnown, isCrowded, classify, advance}
@@ -37,38 +37,33 @@ pub record GoodEntries (latest : ℕ) (l : List Reception) : Type 0 where
   pub fits : latest < 2 ^ 64
 
 pub record Good (v : View) : Type 0 where
-  pub setting : v .setting ≤ maxSetting
   pub entries : GoodEntries (v .latest) (v .entries)
   pub totals : GoodTotals (v .totals) (length (v .entries))
 
 pub good-acceptable : {v : View} → Good v → acceptable v ≡ true
 unfolding acceptable
 good-acceptable g =
-    and-true (le-leb _ _ (g .setting))
-    (and-true (le-leb _ _ (g .entries .few))
+    and-true (le-leb _ _ (g .entries .few))
     (and-true (g .entries .each)
     (and-true (g .entries .order)
     (and-true (eq-eqb _ _ (g .totals .sum))
-    (le-leb _ _ (g .totals .enough))))))
+    (le-leb _ _ (g .totals .enough)))))
 
 pub good-of : (v : View) → acceptable v ≡ true → Fits v → Good v
 unfolding acceptable
 good-of v e f =
-    let a = both (leb (v .setting) maxSetting) _ e in
-    let b = both (leb (length (v .entries)) capacity) _ (a .1) in
+    let b = both (leb (length (v .entries)) capacity) _ e in
     let c = both (all (isEntry (v .latest)) (v .entries)) _ (b .1) in
     let d = both (pairwise mayFollow (v .entries)) _ (c .1) in
     let k = both (isSummed (v .totals)) _ (d .1) in
     record {
-      setting = leb-true _ _ (a .0);
       entries = record { each = c .0; order = d .0; few = leb-true _ _ (b .0); fits = f .latest };
       totals = record { sum = eqb-true _ _ (k .0); enough = leb-true _ _ (k .1); fits = f .received };
     }
 
-pub good-fresh : (setting : ℕ) → Good (fresh setting)
+pub good-fresh : Good fresh
 unfolding fresh
-good-fresh setting = record {
-  setting = branch (λ n. n ≤ maxSetting) (leb setting maxSetting) (leb-true setting maxSetting) (λ e. omega arith);
+good-fresh = record {
   entries = record { each = refl; order = refl; few = omega arith; fits = omega arith };
   totals = omega arith;
 }
@@ -153,23 +148,20 @@ module _ (v : View) (r : Reception) where
     unfolding advance
     good-advance unacceptable = g
     good-advance full = g
-    good-advance (damaged length-wrong m) = record { setting = g .setting; entries = g .entries; totals = omega arith }
-    good-advance (damaged sum-wrong m) = record { setting = g .setting; entries = g .entries; totals = omega arith }
-    good-advance (damaged crc-wrong m) = record { setting = g .setting; entries = g .entries; totals = omega arith }
-    good-advance (damaged nested m) = record { setting = g .setting; entries = g .entries; totals = omega arith }
-    good-advance (late m) = record { setting = g .setting; entries = g .entries; totals = omega arith }
+    good-advance (damaged length-wrong m) = record { entries = g .entries; totals = omega arith }
+    good-advance (damaged sum-wrong m) = record { entries = g .entries; totals = omega arith }
+    good-advance (damaged crc-wrong m) = record { entries = g .entries; totals = omega arith }
+    good-advance (damaged nested m) = record { entries = g .entries; totals = omega arith }
+    good-advance (late m) = record { entries = g .entries; totals = omega arith }
     good-advance (copy m t) = record {
-      setting = g .setting;
       entries = good-still (g .entries) t small;
       totals = omega (arith, length-keep (isOpen (r .time)) (v .entries));
     }
     good-advance (loose m t) = record {
-      setting = g .setting;
       entries = good-still (g .entries) t small;
       totals = omega (arith, length-keep (isOpen (r .time)) (v .entries));
     }
     good-advance (kept m t w c l) = record {
-      setting = g .setting;
       entries = good-add r (good-still (g .entries) t small) w c (leb-false capacity (length (stillOpen (r .time) v)) l);
       totals = omega (arith, length-keep (isOpen (r .time)) (v .entries), length-append (stillOpen (r .time) v) (r ∷ []));
     }

@@ -3,21 +3,20 @@
 use Prim.Native.Nat.{ℕ, _≤_, _<_}
 use mathlib.Core.Path.{_≡_}
 use mathlib.Core.Bool.{true, false}
-use mathlib.Core.List.{List, [], _++_}
+use mathlib.Core.List.{List, _++_}
 use lib.ListN.{length, drop}
 use borrow.Author.Tests.{lt-ltb, le-ltb}
 use Rattle.refusal.specs.Number.{numberOf}
 use Rattle.refusal.specs.declared.Refusal.the-variants.{ShortOutput, NotAccepted}
-use Rattle.telegram.specs.Frame.{frameOf}
 use Rattle.model.specs.Answer.{Refused}
 use Rattle.model.specs.View.{Reception, View}
 use Rattle.model.specs.Acceptable.{acceptable}
-use Rattle.model.specs.Step.{classify, advance, sentFor, step}
+use Rattle.model.specs.Step.{classify, advance, step}
 use Rattle.model.specs.Image.{imageLength, imageOf, checkpointOf, restoreOf}
 
 module _ (v : View) (bad : acceptable v ≡ false) where
-  pub step-unacceptable : (r : Reception) → record { answer = Refused (numberOf NotAccepted); sent = frameOf []; next = v } ≡ step v r
-  unfolding step classify advance sentFor
+  pub step-unacceptable : (r : Reception) → record { answer = Refused (numberOf NotAccepted); next = v } ≡ step v r
+  unfolding step classify advance
   step-unacceptable r = rw bad
 
   pub checkpoint-unacceptable : (output : List ℕ) → record { number = numberOf NotAccepted; output = output } ≡ checkpointOf v output

@@ -45,42 +45,42 @@ behind-latest t (e ∷ log) = go (isAccepted (e .answer)) (behind-latest t log)
     go true ih = ap (λ x. ltb t (e .reception .time) || x) ih ∙ ltb-max t (e .reception .time) (latestOf log)
     go false ih = ih
 
-module _ (setting : ℕ) (log : List Logged) (r : Reception) where
-  same-answer : acceptable (modelView setting log) ≡ true → classify (modelView setting log) r ≡ answerTo log r
+pub same-sent : (setting : ℕ) (a : Shown) (r : Reception) → sentFor setting a r ≡ sentWith setting a r
+unfolding sentFor
+same-sent setting Kept r = refl
+same-sent setting Copy r = refl
+same-sent setting Loose r = refl
+same-sent setting (Refused n) r = refl
+
+module _ (log : List Logged) (r : Reception) where
+  same-answer : acceptable (modelView log) ≡ true → classify (modelView log) r ≡ answerTo log r
   unfolding classify answerTo modelView totalsOf
   same-answer ok =
       by-test (ltb (r .time) (latestOf log)) (λ e. rw (ok, behind-latest (r .time) log, e))
       (λ e. rw (ok, behind-latest (r .time) log, e, still-open (ltb-false (r .time) (latestOf log) e) log))
 
   same-view : (a : Shown) → (isAccepted a ≡ true → latestOf log ≤ r .time)
-      → advance (modelView setting log) r a ≡ modelView setting (record { reception = r; answer = a } ∷ log)
+      → advance (modelView log) r a ≡ modelView (record { reception = r; answer = a } ∷ log)
   unfolding advance modelView totalsOf
   same-view Kept h = rw (max-eq-left (h refl), keep-last (isOpen (r .time)) (keptOf log) r (open-now r), ← (still-open (h refl) log))
   same-view Copy h = rw (max-eq-left (h refl), ← (still-open (h refl) log))
   same-view Loose h = rw (max-eq-left (h refl), ← (still-open (h refl) log))
   same-view (Refused n) h = refl
 
-  same-sent : (a : Shown) → sentFor setting a r ≡ sentWith setting a r
-  unfolding sentFor
-  same-sent Kept = refl
-  same-sent Copy = refl
-  same-sent Loose = refl
-  same-sent (Refused n) = refl
-
   -- the view after one more reception, and the step to it
   abbrev after : View
-  after = modelView setting (record { reception = r; answer = answerTo log r } ∷ log)
+  after = modelView (record { reception = r; answer = answerTo log r } ∷ log)
 
-  module _ (g : Good (modelView setting log)) where
-    next-view : advance (modelView setting log) r (classify (modelView setting log) r) ≡ after
+  module _ (g : Good (modelView log)) where
+    next-view : advance (modelView log) r (classify (modelView log) r) ≡ after
     unfolding modelView
     next-view =
-        same-view (classify (modelView setting log) r) (accepted-time (modelView setting log) r (classified (modelView setting log) r))
-        ∙ ap (λ a. modelView setting (record { reception = r; answer = a } ∷ log)) (same-answer (good-acceptable g))
+        same-view (classify (modelView log) r) (accepted-time (modelView log) r (classified (modelView log) r))
+        ∙ ap (λ a. modelView (record { reception = r; answer = a } ∷ log)) (same-answer (good-acceptable g))
 
-    pub same-step : step (modelView setting log) r ≡ record { answer = answerTo log r; sent = sentWith setting (answerTo log r) r; next = after }
+    pub same-step : step (modelView log) r ≡ record { answer = answerTo log r; next = after }
     unfolding step modelView
-    same-step = rw (next-view, same-answer (good-acceptable g), same-sent (answerTo log r))
+    same-step = rw (next-view, same-answer (good-acceptable g))
 
     pub good-after : r .time < 2 ^ 64 → Good after
-    good-after small = rw next-view at (good-advance (modelView setting log) r g small (classified (modelView setting log) r))
+    good-after small = rw next-view at (good-advance (modelView log) r g small (classified (modelView log) r))

@@ -1,6 +1,5 @@
 -- What states show is what their views show, and so what the reference model says.
 -- Assumes nothing.
-use Prim.Native.Nat.{ℕ}
 use mathlib.Core.Path.{_≡_, refl, sym, _∙_, ap, ap₂}
 use mathlib.Core.List.{List, _∷_}
 use Rattle.model.specs.View.{View, fresh}
@@ -14,7 +13,7 @@ use Rattle.model.proofs.Division.{any-division}
 module _ {State : Type 0} (view : State → View) where
   shows-run : {c : State} {h : List Call} {l : List Seen} → Shows view c h l → l ≡ run (view c) h
   shows-run ended = refl
-  shows-run (received e t) = rw (← e) (ap₂ _∷_ refl (shows-run t))
+  shows-run (received e s t) = rw (← e, s) (ap₂ _∷_ refl (shows-run t))
   shows-run (saved e t) = rw (← e) (ap₂ _∷_ refl (shows-run t))
   shows-run (restored e t) = rw (← e) (ap₂ _∷_ refl (shows-run t))
   shows-run (resumed e d f t) = rw (← e, ← d, ← f) (ap₂ _∷_ refl (ap₂ _∷_ refl (shows-run t)))
@@ -22,15 +21,15 @@ module _ {State : Type 0} (view : State → View) where
   shows-run (looked t) = ap₂ _∷_ refl (shows-run t)
 
   -- started fresh
-  fresh-shows : (setting : ℕ) {c : State} {h : List Call} {l : List Seen} → view c ≡ fresh setting → Shows view c h l → l ≡ run (fresh setting) h
-  fresh-shows setting {h = h} start t = shows-run t ∙ ap (λ v. run v h) start
+  fresh-shows : {c : State} {h : List Call} {l : List Seen} → view c ≡ fresh → Shows view c h l → l ≡ run fresh h
+  fresh-shows {h = h} start t = shows-run t ∙ ap (λ v. run v h) start
 
   pub states-agree : StatesAgree view
-  states-agree setting low h ok c d from-c from-d l m t u =
-      let whole = whole-history setting low h ok in
-      let shown : l ≡ run (fresh setting) h = fresh-shows setting from-c t in
-      (shown ∙ whole .reference, ap common shown ∙ whole .uncutRun ∙ sym (fresh-shows setting from-d u))
+  states-agree h ok c d from-c from-d l m t u =
+      let whole = whole-history h ok in
+      let shown : l ≡ run fresh h = fresh-shows from-c t in
+      (shown ∙ whole .reference, ap common shown ∙ whole .uncutRun ∙ sym (fresh-shows from-d u))
 
   pub states-divide : StatesDivide view
-  states-divide setting low h h′ ok ok′ e c d from-c from-d l m t u =
-      ap (repliesIn h) (fresh-shows setting from-c t) ∙ any-division setting low h h′ ok ok′ e ∙ sym (ap (repliesIn h′) (fresh-shows setting from-d u))
+  states-divide h h′ ok ok′ e c d from-c from-d l m t u =
+      ap (repliesIn h) (fresh-shows from-c t) ∙ any-division h h′ ok ok′ e ∙ sym (ap (repliesIn h′) (fresh-shows from-d u))

@@ -8,7 +8,7 @@ use Rattle.erp1.specs.Subtelegram.{isValid}
 use Rattle.erp1.specs.Same.{isSame}
 use Rattle.telegram.specs.Repeater.{levelOf}
 use Rattle.model.specs.declared.Totals.{Totals}
-use Rattle.model.specs.View.{Reception, View, txMaturity, capacity, maxSetting, isOpen}
+use Rattle.model.specs.View.{Reception, View, txMaturity, capacity, isOpen}
 
 -- r is no original that came when the sender of e was finished (document 02, A6: "a valid level 0 reception more than 40 ms after the opening")
 abbrev pub isEcho : Reception → Reception → Bool
@@ -30,12 +30,11 @@ mayFollow e later = leb (e .time) (later .time) && not (isCopyOf e later)
 abbrev pub isSummed : Totals → Bool
 isSummed n = eqb (n .received) (n .kept + n .copies + n .loose + n .damaged + n .late)
 
--- "the setting is 0 to 2, entries are .., at most 64; received equals ..; kept is at least the entries"
+-- "entries are .., at most 64; received equals ..; kept is at least the entries"
 unfoldable pub acceptable : View → Bool
 acceptable v =
-    leb (v .setting) maxSetting
-    && (leb (length (v .entries)) capacity
+    leb (length (v .entries)) capacity
     && (all (isEntry (v .latest)) (v .entries)
     && (pairwise mayFollow (v .entries)
     && (isSummed (v .totals)
-    && leb (length (v .entries)) (v .totals .kept)))))
+    && leb (length (v .entries)) (v .totals .kept))))

@@ -1,4 +1,4 @@
--- Receptions handed over in one list, with a second list for the replies (document 02, A1). Assumes nothing.
+-- Receptions handed over in one list with a repeater setting, and a second list for the replies (document 02, A1 and A7). Assumes nothing.
 use mathlib.Core.Bool.{cond, not}
 use mathlib.Core.List.{List, [], _∷_, _++_}
 use Prim.Native.Nat.{ℕ}
@@ -7,10 +7,11 @@ use lib.ListN.{length, drop}
 use Rattle.refusal.specs.Number.{numberOf}
 use Rattle.refusal.specs.declared.Refusal.the-variants.{ShortOutput, Argument, NotAccepted}
 use Rattle.telegram.specs.declared.frame.Frame.{Frame}
+use Rattle.telegram.specs.Repeater.{maxSetting}
 use Rattle.model.specs.Answer.{Shown}
 use Rattle.model.specs.View.{Reception, View}
 use Rattle.model.specs.Acceptable.{acceptable}
-use Rattle.model.specs.Step.{Outcome, step}
+use Rattle.model.specs.Step.{step, sentFor}
 
 -- "up to 256 receptions at a time"
 abbrev pub maxBurst : ℕ
@@ -21,28 +22,31 @@ pub record Replied : Type 0 where
   pub answer : Shown
   pub sent : Frame
 
-abbrev pub replyOf : Outcome → Replied
-replyOf o = record { answer = o .answer; sent = o .sent }
+-- the reply to a reception that got this answer, at the caller's setting
+abbrev pub replyWith : ℕ → Shown → Reception → Replied
+replyWith setting a r = record { answer = a; sent = sentFor setting a r }
 
 -- "The outcome must equal handing them over one by one, refused ones included": the state after them, and the reply to each
 unfoldable pub afterAll : View → List Reception → View
 afterAll v [] = v
 afterAll v (r ∷ rs) = afterAll (step v r .next) rs
 
-unfoldable pub repliesTo : View → List Reception → List Replied
-repliesTo v [] = []
-repliesTo v (r ∷ rs) = replyOf (step v r) ∷ repliesTo (step v r .next) rs
+unfoldable pub repliesTo : ℕ → View → List Reception → List Replied
+repliesTo setting v [] = []
+repliesTo setting v (r ∷ rs) = replyWith setting (step v r .answer) r ∷ repliesTo setting (step v r .next) rs
 
--- "6 if the answer list is shorter, then 10 for more than 256", by how many receptions and places there are; 0 if neither
-unfoldable pub sizeNumber : ℕ → ℕ → ℕ
-sizeNumber receptions places =
+-- "6 if the answer list is shorter, then 10 for more than 256", "10 for its setting also", by the setting and how many receptions and places there
+-- are; 0 if none
+unfoldable pub callNumber : ℕ → ℕ → ℕ → ℕ
+callNumber setting receptions places =
     cond (ltb places receptions) (numberOf ShortOutput)
     (cond (ltb maxBurst receptions) (numberOf Argument)
-    0)
+    (cond (ltb maxSetting setting) (numberOf Argument)
+    0))
 
 -- "Refusals: 11, then 6 .., then 10"
-unfoldable pub burstNumber : View → ℕ → ℕ → ℕ
-burstNumber v receptions places = cond (not (acceptable v)) (numberOf NotAccepted) (sizeNumber receptions places)
+unfoldable pub burstNumber : ℕ → View → ℕ → ℕ → ℕ
+burstNumber setting v receptions places = cond (not (acceptable v)) (numberOf NotAccepted) (callNumber setting receptions places)
 
 -- the receptions that a burst with this number stands for: "a refused burst stands for no reception"
 abbrev pub taken : ℕ → List Reception → List Reception
@@ -55,8 +59,8 @@ pub record BurstResult : Type 0 where
   pub next : View
 
 -- one reply for each reception that it stands for, at the same place; the places past them stay
-abbrev pub burstOf : View → List Reception → List Replied → BurstResult
-burstOf v rs places =
-    let number = burstNumber v (length rs) (length places) in
+abbrev pub burstOf : ℕ → View → List Reception → List Replied → BurstResult
+burstOf setting v rs places =
+    let number = burstNumber setting v (length rs) (length places) in
     let t = taken number rs in
-    record { number = number; replies = repliesTo v t ++ drop (length t) places; next = afterAll v t }
+    record { number = number; replies = repliesTo setting v t ++ drop (length t) places; next = afterAll v t }

@@ -1,33 +1,41 @@
--- "Demand 3 then reads over bursts cut at any record" (document 02, A1): the same receptions in the same order are answered alike, however they
--- are divided into calls and whatever stands between these. Assumes nothing.
-use Prim.Native.Nat.{ℕ, _≤_}
+-- "Demand 3 then reads over bursts cut at any record" (document 02, A1): the same receptions in the same order, at the same settings, are answered
+-- alike, however they are divided into calls and whatever stands between these. Assumes nothing.
+use Prim.Native.Nat.{ℕ}
 use mathlib.Core.Path.{_≡_}
-use mathlib.Core.List.{List, [], _∷_, _++_}
+use mathlib.Core.List.{List, [], _∷_, _++_, map}
 use lib.ListN.{length, take, drop}
-use Rattle.model.specs.View.{Reception, fresh, maxSetting}
+use Rattle.model.specs.View.{Reception, fresh}
 use Rattle.model.specs.Burst.{Replied}
 use Rattle.model.specs.History.{Call, Receive, Checkpoint, Restore, Cut, Burst, Look, IsHistory, Seen, Answered, Wrote, Restored, Delivered, Looked, run, burstTaken}
 
+-- a reception, and the setting that its call named
+pub record Given : Type 0 where
+  pub setting : ℕ
+  pub reception : Reception
+
+abbrev pub givenAt : ℕ → Reception → Given
+givenAt setting r = record { setting = setting; reception = r }
+
 -- the receptions that a call stands for, and a list of calls, in order
-abbrev pub standsFor : Call → List Reception
-standsFor (Receive r) = r ∷ []
+abbrev pub standsFor : Call → List Given
+standsFor (Receive setting r) = givenAt setting r ∷ []
 standsFor (Checkpoint output) = []
 standsFor (Restore image) = []
-standsFor (Cut output setting) = []
-standsFor (Burst rs places) = burstTaken rs places
+standsFor (Cut output) = []
+standsFor (Burst setting rs places) = map (givenAt setting) (burstTaken setting rs places)
 standsFor Look = []
 
-abbrev pub receptionsOf : List Call → List Reception
+abbrev pub receptionsOf : List Call → List Given
 receptionsOf [] = []
 receptionsOf (c ∷ h) = standsFor c ++ receptionsOf h
 
 -- how many things are seen of a call
 abbrev pub seens : Call → ℕ
-seens (Receive r) = 1
+seens (Receive setting r) = 1
 seens (Checkpoint output) = 1
 seens (Restore image) = 1
-seens (Cut output setting) = 2
-seens (Burst rs places) = 1
+seens (Cut output) = 2
+seens (Burst setting rs places) = 1
 seens Look = 1
 
 -- the replies in what is seen of a call that stands for k receptions: a burst shows places past them too
@@ -47,5 +55,5 @@ repliesIn (c ∷ h) l = repliesFrom (length (standsFor c)) (take (seens c) l) ++
 -- a collector started fresh answers the same receptions alike in any two histories of them
 abbrev pub AnyDivision : Type 0
 AnyDivision =
-    (setting : ℕ) → setting ≤ maxSetting → (h h′ : List Call) → IsHistory h → IsHistory h′ → receptionsOf h ≡ receptionsOf h′
-    → repliesIn h (run (fresh setting) h) ≡ repliesIn h′ (run (fresh setting) h′)
+    (h h′ : List Call) → IsHistory h → IsHistory h′ → receptionsOf h ≡ receptionsOf h′
+    → repliesIn h (run fresh h) ≡ repliesIn h′ (run fresh h′)

@@ -9,25 +9,27 @@ use lib.ListN.{length, take, drop}
 use Rattle.refusal.specs.Number.{numberOf}
 use Rattle.refusal.specs.declared.Refusal.the-variants.{NotAccepted}
 use Rattle.telegram.specs.declared.frame.Frame.{Frame}
+use Rattle.telegram.specs.Repeater.{maxSetting}
 use Rattle.model.specs.declared.Totals.{Totals}
 use Rattle.model.specs.Answer.{Shown}
-use Rattle.model.specs.View.{Reception, View, fresh, maxSetting}
-use Rattle.model.specs.Step.{step}
+use Rattle.model.specs.View.{Reception, View, fresh}
+use Rattle.model.specs.Step.{step, sentFor}
 use Rattle.model.specs.Image.{imageLength, accepts, checkpointOf, restoreOf}
-use Rattle.model.specs.Burst.{Replied, maxBurst, sizeNumber, burstOf}
+use Rattle.model.specs.Burst.{Replied, maxBurst, callNumber, burstOf}
 use Rattle.model.specs.Reference.{totalsOf, answerTo, sentWith, logOf, savedBy, pastAfter, repliesBy}
 
 -- "A history is a list of calls: receptions taken, parkings into any room, and reloads."
 pub data Call : Type 0 where
-  Receive : Reception → Call
+  -- a reception that is taken, and the caller's setting for what is sent: only KEPT is ever repeated (document 02, A7)
+  Receive : ℕ → Reception → Call
   -- a checkpoint into an output that holds these bytes
   Checkpoint : List ℕ → Call
   -- the restore of an image
   Restore : List ℕ → Call
-  -- "A cut": a checkpoint into such an output, and the restore of the 2,560 bytes it wrote into another collector started fresh at a setting
-  Cut : List ℕ → ℕ → Call
-  -- a burst of these receptions, with a second list that holds these replies (document 02, A1)
-  Burst : List Reception → List Replied → Call
+  -- "A cut": a checkpoint into such an output, and the restore of the 2,560 bytes it wrote into another collector started fresh
+  Cut : List ℕ → Call
+  -- a burst of these receptions at the caller's setting, with a second list that holds these replies (document 02, A1)
+  Burst : ℕ → List Reception → List Replied → Call
   -- nothing is called, and the totals are read
   Look : Call
 
@@ -39,11 +41,11 @@ Timely (r ∷ rs) = (r .time < 2 ^ 64) × Timely rs
 -- a reception's time is a 64-bit number (its bytes may be any), a cut has room, "every other reload in it is a refused one"
 abbrev pub IsHistory : List Call → Type 0
 IsHistory [] = Unit {0}
-IsHistory (Receive r ∷ h) = (r .time < 2 ^ 64) × IsHistory h
+IsHistory (Receive setting r ∷ h) = (r .time < 2 ^ 64) × IsHistory h
 IsHistory (Checkpoint output ∷ h) = IsHistory h
 IsHistory (Restore image ∷ h) = (accepts image ≡ false) × IsHistory h
-IsHistory (Cut output setting ∷ h) = (imageLength ≤ length output) × IsHistory h
-IsHistory (Burst rs places ∷ h) = Timely rs × IsHistory h
+IsHistory (Cut output ∷ h) = (imageLength ≤ length output) × IsHistory h
+IsHistory (Burst setting rs places ∷ h) = Timely rs × IsHistory h
 IsHistory (Look ∷ h) = IsHistory h
 
 -- what is seen of a call, and "the six totals after every call"
@@ -61,55 +63,56 @@ pub data Seen : Type 0 where
 -- what the collector shows: "each call gets the state that the one before returned, save the reload of a cut, which gets a fresh one"
 abbrev pub run : View → List Call → List Seen
 run v [] = []
-run v (Receive r ∷ h) =
+run v (Receive setting r ∷ h) =
     let o = step v r in
-    Answered (o .answer) (o .sent) (o .next .totals) ∷ run (o .next) h
+    Answered (o .answer) (sentFor setting (o .answer) r) (o .next .totals) ∷ run (o .next) h
 run v (Checkpoint output ∷ h) =
     let p = checkpointOf v output in
     Wrote (p .number) (p .output) (v .totals) ∷ run v h
 run v (Restore image ∷ h) =
     let q = restoreOf v image in
     Restored (q .number) (q .next .totals) ∷ run (q .next) h
-run v (Cut output setting ∷ h) =
+run v (Cut output ∷ h) =
     let p = checkpointOf v output in
-    let q = restoreOf (fresh setting) (take imageLength (p .output)) in
+    let q = restoreOf fresh (take imageLength (p .output)) in
     Wrote (p .number) (p .output) (v .totals) ∷ Restored (q .number) (q .next .totals) ∷ run (q .next) h
-run v (Burst rs places ∷ h) =
-    let b = burstOf v rs places in
+run v (Burst setting rs places ∷ h) =
+    let b = burstOf setting v rs places in
     Delivered (b .number) (b .replies) (b .next .totals) ∷ run (b .next) h
 run v (Look ∷ h) = Looked (v .totals) ∷ run v h
 
--- the receptions that a burst stands for, to the reference model: all of them, if each has a place and they are at most 256; else none
-abbrev pub burstTaken : List Reception → List Replied → List Reception
-burstTaken rs places = cond (leb (length rs) (length places) && leb (length rs) maxBurst) rs []
+-- the receptions that a burst stands for, to the reference model: all of them, if each has a place, they are at most 256, and its setting is at
+-- most 2; else none
+abbrev pub burstTaken : ℕ → List Reception → List Replied → List Reception
+burstTaken setting rs places = cond (leb (length rs) (length places) && (leb (length rs) maxBurst && leb setting maxSetting)) rs []
 
--- what the reference model says, fed the setting and the receptions so far: checkpoints into room and the restores of cuts are answered 0
-abbrev pub expected : ℕ → List Reception → List Call → List Seen
-expected setting past [] = []
-expected setting past (Receive r ∷ h) =
+-- what the reference model says, fed the receptions so far: checkpoints into room and the restores of cuts are answered 0
+abbrev pub expected : List Reception → List Call → List Seen
+expected past [] = []
+expected past (Receive setting r ∷ h) =
     let a = answerTo (logOf past) r in
-    Answered a (sentWith setting a r) (totalsOf (logOf (r ∷ past))) ∷ expected setting (r ∷ past) h
-expected setting past (Checkpoint output ∷ h) =
-    let p = savedBy setting (logOf past) output in
-    Wrote (p .number) (p .output) (totalsOf (logOf past)) ∷ expected setting past h
-expected setting past (Restore image ∷ h) = Restored (numberOf NotAccepted) (totalsOf (logOf past)) ∷ expected setting past h
-expected setting past (Cut output other ∷ h) =
-    let p = savedBy setting (logOf past) output in
-    Wrote 0 (p .output) (totalsOf (logOf past)) ∷ Restored 0 (totalsOf (logOf past)) ∷ expected setting past h
-expected setting past (Burst rs places ∷ h) =
-    let t = burstTaken rs places in
-    Delivered (sizeNumber (length rs) (length places)) (repliesBy setting past t ++ drop (length t) places) (totalsOf (logOf (pastAfter past t)))
-    ∷ expected setting (pastAfter past t) h
-expected setting past (Look ∷ h) = Looked (totalsOf (logOf past)) ∷ expected setting past h
+    Answered a (sentWith setting a r) (totalsOf (logOf (r ∷ past))) ∷ expected (r ∷ past) h
+expected past (Checkpoint output ∷ h) =
+    let p = savedBy (logOf past) output in
+    Wrote (p .number) (p .output) (totalsOf (logOf past)) ∷ expected past h
+expected past (Restore image ∷ h) = Restored (numberOf NotAccepted) (totalsOf (logOf past)) ∷ expected past h
+expected past (Cut output ∷ h) =
+    let p = savedBy (logOf past) output in
+    Wrote 0 (p .output) (totalsOf (logOf past)) ∷ Restored 0 (totalsOf (logOf past)) ∷ expected past h
+expected past (Burst setting rs places ∷ h) =
+    let t = burstTaken setting rs places in
+    Delivered (callNumber setting (length rs) (length places)) (repliesBy setting past t ++ drop (length t) places) (totalsOf (logOf (pastAfter past t)))
+    ∷ expected (pastAfter past t) h
+expected past (Look ∷ h) = Looked (totalsOf (logOf past)) ∷ expected past h
 
 -- "The uncut run is the same list without the reloads"; where one stood, the totals are read
 abbrev pub uncut : List Call → List Call
 uncut [] = []
-uncut (Receive r ∷ h) = Receive r ∷ uncut h
+uncut (Receive setting r ∷ h) = Receive setting r ∷ uncut h
 uncut (Checkpoint output ∷ h) = Checkpoint output ∷ uncut h
 uncut (Restore image ∷ h) = Look ∷ uncut h
-uncut (Cut output setting ∷ h) = Checkpoint output ∷ Look ∷ uncut h
-uncut (Burst rs places ∷ h) = Burst rs places ∷ uncut h
+uncut (Cut output ∷ h) = Checkpoint output ∷ Look ∷ uncut h
+uncut (Burst setting rs places ∷ h) = Burst setting rs places ∷ uncut h
 uncut (Look ∷ h) = Look ∷ uncut h
 
 -- what is seen, but for the restores' own numbers
@@ -122,10 +125,10 @@ common (Delivered number replies n ∷ l) = Delivered number replies n ∷ commo
 common (Looked n ∷ l) = Looked n ∷ common l
 
 -- all that is seen in a history "equals the clerk's after the receptions up to there, and the uncut run's"
-pub record Agrees (setting : ℕ) (h : List Call) : Type 0 where
-  pub reference : run (fresh setting) h ≡ expected setting [] h
-  pub uncutRun : common (run (fresh setting) h) ≡ run (fresh setting) (uncut h)
+pub record Agrees (h : List Call) : Type 0 where
+  pub reference : run fresh h ≡ expected [] h
+  pub uncutRun : common (run fresh h) ≡ run fresh (uncut h)
 
--- THE CLAIM, one about the whole list: so does every history, "from a collector started fresh at 0, 1 or 2".
+-- THE CLAIM, one about the whole list: so does every history, "from a collector started fresh", at whatever settings its calls name.
 abbrev pub WholeHistory : Type 0
-WholeHistory = (setting : ℕ) → setting ≤ maxSetting → (h : List Call) → IsHistory h → Agrees setting h
+WholeHistory = (h : List Call) → IsHistory h → Agrees h

@@ -2,11 +2,12 @@
 use Prim.Native.Nat.{ℕ, _+_, _*_, _/_, _%_}
 use mathlib.Core.Bool.{Bool, cond, not, _&&_}
 use mathlib.Core.List.{List, [], _∷_, _++_, map, flatten}
-use lib.Dec.{ltb, eqb}
+use lib.Dec.{leb, ltb, eqb}
 use lib.ListN.{length, drop}
 use Rattle.lists.specs.Lists.{equal, upFrom}
 use Rattle.refusal.specs.Number.{numberOf}
 use Rattle.refusal.specs.declared.Refusal.the-variants.{ShortOutput, NotAccepted}
+use Rattle.telegram.specs.Repeater.{maxSetting}
 use Rattle.layout.specs.Buffer.{part}
 use Rattle.layout.specs.Cell.{cellOf, cellTime, cellBytes}
 use Rattle.layout.specs.Header.{headerOf, headerUsed, headerFirst, headerSecond}
@@ -34,17 +35,22 @@ unfoldable pub blockAt : ℕ → ℕ → ℕ → View → List ℕ
 blockAt k a b v = blockOf (headerOf k (length (entriesOf k v)) a b) (map entryCell (entriesOf k v))
 
 -- "block 0 latest accepted time, received; 1 kept, copies; 2 loose, damaged; 3 late, repeater setting; 4 zero, zero"
-abbrev pub blocksOf : View → List (List ℕ)
-blocksOf v =
+abbrev pub blocksOf : ℕ → View → List (List ℕ)
+blocksOf setting v =
     blockAt 0 (v .latest) (v .totals .received) v
     ∷ blockAt 1 (v .totals .kept) (v .totals .copies) v
     ∷ blockAt 2 (v .totals .loose) (v .totals .damaged) v
-    ∷ blockAt 3 (v .totals .late) (v .setting) v
+    ∷ blockAt 3 (v .totals .late) setting v
     ∷ blockAt 4 0 0 v
     ∷ []
 
-unfoldable pub imageOf : View → List ℕ
-imageOf v = flatten (blocksOf v)
+-- with a number in the setting's place
+unfoldable pub imageWith : ℕ → View → List ℕ
+imageWith setting v = flatten (blocksOf setting v)
+
+-- "its place in the parked image is zero" (document 02, A7)
+abbrev pub imageOf : View → List ℕ
+imageOf v = imageWith 0 v
 
 -- ---- reading
 
@@ -60,6 +66,10 @@ firstIn k image = headerFirst (blockHeader (blockIn k image))
 
 abbrev pub secondIn : ℕ → List ℕ → ℕ
 secondIn k image = headerSecond (blockHeader (blockIn k image))
+
+-- what stands in the setting's place
+abbrev pub settingIn : List ℕ → ℕ
+settingIn image = secondIn 3 image
 
 -- the entries that the five blocks say are used
 abbrev pub countIn : List ℕ → ℕ
@@ -85,15 +95,19 @@ totalsIn image = record {
 -- what an image says; `accepts` tells whether it says it in this layout
 unfoldable pub parse : List ℕ → View
 parse image = record {
-  setting = secondIn 3 image;
   latest = firstIn 0 image;
   totals = totalsIn image;
   entries = map (entryIn image) (upFrom 0 (countIn image));
 }
 
--- "Reload accepts exactly a 2,560-byte image with this layout and right checks, where ..": byte for byte what a checkpoint writes
+-- "Reload accepts exactly a 2,560-byte image with this layout and right checks, where ..": byte for byte what a checkpoint writes, or "an older
+-- image with 1 or 2 there" (document 02, A7), of which the view says nothing
 unfoldable pub accepts : List ℕ → Bool
-accepts image = eqb (length image) imageLength && (acceptable (parse image) && equal (imageOf (parse image)) image)
+accepts image =
+    eqb (length image) imageLength
+    && (leb (settingIn image) maxSetting
+    && (acceptable (parse image)
+    && equal (imageWith (settingIn image) (parse image)) image))
 
 -- ---- the calls, for every state: "a collector state from which no image that reload accepts could be parked gets 11 before all else"
 

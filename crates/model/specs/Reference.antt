@@ -1,5 +1,5 @@
--- The reference model, document 01's clerk ("One history, and the clerk who writes it down"): it is fed the first collector's setting and
--- the receptions in order, and nothing else, and keeps them all, each with the answer that it gave. Receptions and log are newest first.
+-- The reference model, document 01's clerk ("One history, and the clerk who writes it down"): it is fed the
+-- receptions in order, and nothing else, and keeps them all, each with the answer that it gave. Receptions and log are newest first.
 -- Assumes nothing.
 use Prim.Native.Nat.{ℕ, max}
 use mathlib.Core.Bool.{Bool, cond, not, _&&_}
@@ -63,7 +63,7 @@ answerTo log r =
     (cond (leb capacity (length (openAt (r .time) log))) Loose
     Kept))))
 
--- "With KEPT goes what the repeater step sends at the setting; with all else, nothing."
+-- "With KEPT goes what the repeater step sends at the setting; with all else, nothing.": the setting is the caller's (document 02, A7)
 abbrev pub sentWith : ℕ → Shown → Reception → Frame
 sentWith setting Kept r = frameOf (repeatOf setting (r .bytes))
 sentWith setting Copy r = frameOf []
@@ -81,14 +81,14 @@ latestOf [] = 0
 latestOf (e ∷ log) = cond (isAccepted (e .answer)) (max (e .reception .time) (latestOf log)) (latestOf log)
 
 -- what stands in his image: "those he answered KEPT with latest - f <= 100, in the order handed over"
-unfoldable pub modelView : ℕ → List Logged → View
-modelView setting log = record { setting = setting; latest = latestOf log; totals = totalsOf log; entries = openAt (latestOf log) log }
+unfoldable pub modelView : List Logged → View
+modelView log = record { latest = latestOf log; totals = totalsOf log; entries = openAt (latestOf log) log }
 
 -- what he says of a parking into an output: 6 if it is too short, else his image in front of what stood past it
-unfoldable pub savedBy : ℕ → List Logged → List ℕ → CheckpointResult
-savedBy setting log output =
+unfoldable pub savedBy : List Logged → List ℕ → CheckpointResult
+savedBy log output =
     cond (ltb (length output) imageLength) (record { number = numberOf refusal.ShortOutput; output = output })
-    (record { number = 0; output = imageOf (modelView setting log) ++ drop imageLength output })
+    (record { number = 0; output = imageOf (modelView log) ++ drop imageLength output })
 
 -- the receptions of a burst, oldest first, are fed to it one by one: the receptions so far after them, and the reply to each (document 02, A1)
 abbrev pub pastAfter : List Reception → List Reception → List Reception

@@ -1,13 +1,13 @@
 -- The same of an implementation: of its states and answers nothing is known but what its contracts say, which speak of a state's view.
 -- Assumes nothing.
-use Prim.Native.Nat.{ℕ, _≤_}
+use Prim.Native.Nat.{ℕ}
 use mathlib.Core.Path.{_≡_}
 use mathlib.Core.List.{List, [], _∷_}
 use lib.ListN.{take}
 use Rattle.telegram.specs.declared.frame.Frame.{Frame}
 use Rattle.model.specs.Answer.{Shown}
-use Rattle.model.specs.View.{Reception, View, fresh, maxSetting}
-use Rattle.model.specs.Step.{step}
+use Rattle.model.specs.View.{Reception, View, fresh}
+use Rattle.model.specs.Step.{step, sentFor}
 use Rattle.model.specs.Image.{imageLength, checkpointOf, restoreOf}
 use Rattle.model.specs.Burst.{Replied, burstOf}
 use Rattle.model.specs.History.{Call, Receive, Checkpoint, Restore, Cut, Burst, Look, IsHistory, Seen, Answered, Wrote, Restored, Delivered, Looked, expected, uncut, common}
@@ -17,9 +17,11 @@ module _ {State : Type 0} (view : State → View) where
   -- from the state c the calls show the list: each premise is what the contract of the call ensures
   pub data Shows : State → List Call → List Seen → Type 0 where
     ended : {c : State} → Shows c [] []
-    received : {c c′ : State} {r : Reception} {a : Shown} {sent : Frame} {h : List Call} {l : List Seen}
-        → record { answer = a; sent = sent; next = view c′ } ≡ step (view c) r
-        → Shows c′ h l → Shows c (Receive r ∷ h) (Answered a sent (view c′ .totals) ∷ l)
+    -- what is sent is what the caller then has: of the call `repeat` for one that is Kept, and nothing for all else
+    received : {c c′ : State} {setting : ℕ} {r : Reception} {a : Shown} {sent : Frame} {h : List Call} {l : List Seen}
+        → record { answer = a; next = view c′ } ≡ step (view c) r
+        → sent ≡ sentFor setting a r
+        → Shows c′ h l → Shows c (Receive setting r ∷ h) (Answered a sent (view c′ .totals) ∷ l)
     saved : {c : State} {output after : List ℕ} {n : ℕ} {h : List Call} {l : List Seen}
         → record { number = n; output = after } ≡ checkpointOf (view c) output
         → Shows c h l → Shows c (Checkpoint output ∷ h) (Wrote n after (view c .totals) ∷ l)
@@ -27,27 +29,27 @@ module _ {State : Type 0} (view : State → View) where
         → record { number = n; next = view c′ } ≡ restoreOf (view c) image
         → Shows c′ h l → Shows c (Restore image ∷ h) (Restored n (view c′ .totals) ∷ l)
     -- d is the other collector
-    resumed : {c d c′ : State} {output after : List ℕ} {setting n m : ℕ} {h : List Call} {l : List Seen}
+    resumed : {c d c′ : State} {output after : List ℕ} {n m : ℕ} {h : List Call} {l : List Seen}
         → record { number = n; output = after } ≡ checkpointOf (view c) output
-        → view d ≡ fresh setting
+        → view d ≡ fresh
         → record { number = m; next = view c′ } ≡ restoreOf (view d) (take imageLength after)
-        → Shows c′ h l → Shows c (Cut output setting ∷ h) (Wrote n after (view c .totals) ∷ Restored m (view c′ .totals) ∷ l)
-    delivered : {c c′ : State} {rs : List Reception} {places after : List Replied} {n : ℕ} {h : List Call} {l : List Seen}
-        → record { number = n; replies = after; next = view c′ } ≡ burstOf (view c) rs places
-        → Shows c′ h l → Shows c (Burst rs places ∷ h) (Delivered n after (view c′ .totals) ∷ l)
+        → Shows c′ h l → Shows c (Cut output ∷ h) (Wrote n after (view c .totals) ∷ Restored m (view c′ .totals) ∷ l)
+    delivered : {c c′ : State} {setting : ℕ} {rs : List Reception} {places after : List Replied} {n : ℕ} {h : List Call} {l : List Seen}
+        → record { number = n; replies = after; next = view c′ } ≡ burstOf setting (view c) rs places
+        → Shows c′ h l → Shows c (Burst setting rs places ∷ h) (Delivered n after (view c′ .totals) ∷ l)
     looked : {c : State} {h : List Call} {l : List Seen} → Shows c h l → Shows c (Look ∷ h) (Looked (view c .totals) ∷ l)
 
   -- what states show that started fresh is what the reference model says, and what states show in the uncut run
   abbrev pub StatesAgree : Type 0
   StatesAgree =
-      (setting : ℕ) → setting ≤ maxSetting → (h : List Call) → IsHistory h
-      → (c d : State) → view c ≡ fresh setting → view d ≡ fresh setting
+      (h : List Call) → IsHistory h
+      → (c d : State) → view c ≡ fresh → view d ≡ fresh
       → (l m : List Seen) → Shows c h l → Shows d (uncut h) m
-      → (l ≡ expected setting [] h) × (common l ≡ m)
+      → (l ≡ expected [] h) × (common l ≡ m)
 
   -- what states show that started fresh holds the same replies in any two histories of the same receptions
   abbrev pub StatesDivide : Type 0
   StatesDivide =
-      (setting : ℕ) → setting ≤ maxSetting → (h h′ : List Call) → IsHistory h → IsHistory h′ → receptionsOf h ≡ receptionsOf h′
-      → (c d : State) → view c ≡ fresh setting → view d ≡ fresh setting
+      (h h′ : List Call) → IsHistory h → IsHistory h′ → receptionsOf h ≡ receptionsOf h′
+      → (c d : State) → view c ≡ fresh → view d ≡ fresh
       → (l m : List Seen) → Shows c h l → Shows d h′ m → repliesIn h l ≡ repliesIn h′ m

@@ -1,4 +1,5 @@
--- One reception (document 01, "Merging"): the answer, the telegram to send, and the next state. Assumes nothing.
+-- One reception (document 01, "Merging"): the answer, the next state, and the telegram to send (document 02, A7: that is a call of its own).
+-- Assumes nothing.
 use Prim.Native.Nat.{ℕ, _+_, _-_, _^_}
 use mathlib.Core.Bool.{Bool, cond, not}
 use mathlib.Core.List.{List, [], _∷_, _++_}
@@ -61,20 +62,20 @@ addIf b x l = cond b (l ++ (x ∷ [])) l
 -- the next state: an accepted reception sets the latest time, at which closed telegrams go, and one that is Kept opens a telegram
 unfoldable pub advance : View → Reception → Shown → View
 advance v r a = record {
-  setting = v .setting;
   latest = cond (isAccepted a) (r .time) (v .latest);
   totals = tally a (v .totals);
   entries = cond (isAccepted a) (addIf (isKept a) r (stillOpen (r .time) v)) (v .entries);
 }
 
--- "Only KEPT is ever repeated": what the repeater step sends at the setting; with all else, nothing
-unfoldable pub sentFor : ℕ → Shown → Reception → Frame
-sentFor setting a r = frameOf (cond (isKept a) (repeatOf setting (r .bytes)) [])
-
 pub record Outcome : Type 0 where
   pub answer : Shown
-  pub sent : Frame
   pub next : View
 
 unfoldable pub step : View → Reception → Outcome
-step v r = record { answer = classify v r; sent = sentFor (v .setting) (classify v r) r; next = advance v r (classify v r) }
+step v r = record { answer = classify v r; next = advance v r (classify v r) }
+
+-- ---- what is sent
+
+-- "Only KEPT is ever repeated": what the repeater step sends at the caller's setting; with all else, nothing
+unfoldable pub sentFor : ℕ → Shown → Reception → Frame
+sentFor setting a r = frameOf (cond (isKept a) (repeatOf setting (r .bytes)) [])

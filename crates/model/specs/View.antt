@@ -1,11 +1,9 @@
 -- What a state of the collector says (document 01, "Merging"). Assumes nothing.
 use Prim.Native.Nat.{ℕ, _-_}
-use mathlib.Core.Bool.{Bool, cond}
+use mathlib.Core.Bool.{Bool}
 use mathlib.Core.List.{List, []}
 use lib.Dec.{leb}
 use Rattle.lists.specs.Lists.{keep}
-use Rattle.refusal.specs.Number.{numberOf}
-use Rattle.refusal.specs.declared.Refusal.the-variants.{Argument}
 use Rattle.model.specs.declared.Totals.{Totals}
 
 -- "A reception is bytes and the moment they were complete, in ms"; an open telegram is the reception that opened it
@@ -13,14 +11,13 @@ pub record Reception : Type 0 where
   pub bytes : List ℕ
   pub time : ℕ
 
--- the repeater setting, the latest accepted time, the totals, and the open telegrams in opening order
+-- the latest accepted time, the totals, and the open telegrams in opening order
 pub record View : Type 0 where
-  pub setting : ℕ
   pub latest : ℕ
   pub totals : Totals
   pub entries : List Reception
 
--- ---- the collector's limits: 100 ms, 64 telegrams; a setting is at most 2
+-- ---- the collector's limits: 100 ms, 64 telegrams
 
 abbrev pub maturity : ℕ
 maturity = 100
@@ -31,9 +28,6 @@ txMaturity = 40
 
 abbrev pub capacity : ℕ
 capacity = 64
-
-abbrev pub maxSetting : ℕ
-maxSetting = 2
 
 -- "at time t it is open while t - f <= 100 (RX maturity, 001 Table 1)"
 abbrev pub isOpen : ℕ → Reception → Bool
@@ -48,10 +42,6 @@ stillOpen t v = keep (isOpen t) (v .entries)
 abbrev pub noTotals : Totals
 noTotals = record { received = 0; kept = 0; copies = 0; loose = 0; damaged = 0; late = 0 }
 
--- "set to 0 (off), 1 or 2"; "a fresh collector asked for with a bad setting is one set to 0"
-unfoldable pub fresh : ℕ → View
-fresh setting = record { setting = cond (leb setting maxSetting) setting 0; latest = 0; totals = noTotals; entries = [] }
-
--- the number that goes with it: "10: setting not 0 to 2"
-unfoldable pub freshNumber : ℕ → ℕ
-freshNumber setting = cond (leb setting maxSetting) 0 (numberOf Argument)
+-- no telegram open, and nothing counted
+unfoldable pub fresh : View
+fresh = record { latest = 0; totals = noTotals; entries = [] }

@@ -15,30 +15,21 @@ struct Run {
     figure: u64,
 }
 
-// Takes the receptions of `cells`, 32 bytes each (time, length, bytes), into a collector started fresh at `setting`, and answers a figure of the
-// answers.
+// Takes the receptions of `cells`, 32 bytes each (time, length, bytes), into a collector started fresh, and answers a figure of the answers.
 #[no_mangle]
-pub extern "C" fn bench_take(setting: u8, cells: &[u8]) -> u64 {
-    taken_all(setting, cells).figure
+pub extern "C" fn bench_take(cells: &[u8]) -> u64 {
+    taken_all(cells).figure
 }
 
 // The same, and then the test of the state `rounds` times, each second time with the last entry left out; answers how often it passed.
 #[no_mangle]
-pub extern "C" fn bench_test(setting: u8, cells: &[u8], rounds: u64) -> u64 {
-    let done = taken_all(setting, cells);
+pub extern "C" fn bench_test(cells: &[u8], rounds: u64) -> u64 {
+    let done = taken_all(cells);
     let c = done.collector;
     let mut passed: u64 = 0;
     for i in 0..rounds {
         let left = fewer(c.count, i % 2);
-        if acceptable::is_acceptable(
-            &c.times,
-            &c.lens,
-            &c.bytes,
-            left,
-            c.latest,
-            c.setting,
-            c.totals,
-        ) {
+        if acceptable::is_acceptable(&c.times, &c.lens, &c.bytes, left, c.latest, c.totals) {
             passed = std::num::wrapping_add_u64(passed, 1);
         }
     }
@@ -47,9 +38,8 @@ pub extern "C" fn bench_test(setting: u8, cells: &[u8], rounds: u64) -> u64 {
 
 // The same receptions at arrays that are changed where they lie. A fresh state is acceptable, and so is every next one: none is tested.
 #[no_mangle]
-pub extern "C" fn bench_admit(setting: u8, cells: &[u8]) -> u64 {
-    let fresh = Collector::fresh(setting);
-    let c = fresh.collector;
+pub extern "C" fn bench_admit(cells: &[u8]) -> u64 {
+    let c = Collector::fresh();
     let mut times = c.times;
     let mut lens = c.lens;
     let mut entries = c.bytes;
@@ -70,22 +60,19 @@ pub extern "C" fn bench_admit(setting: u8, cells: &[u8]) -> u64 {
         );
         let next = done.summary;
         let answer = done.answer;
-        let sent = done.sent;
         summary = next;
-        figure = std::num::wrapping_add_u64(figure, weight(answer, sent.len));
+        figure = std::num::wrapping_add_u64(figure, weight(answer));
     }
     figure
 }
 
-fn taken_all(setting: u8, cells: &[u8]) -> Run {
-    let fresh = Collector::fresh(setting);
-    let mut c = fresh.collector;
+fn taken_all(cells: &[u8]) -> Run {
+    let mut c = Collector::fresh();
     let mut figure: u64 = 0;
     for i in 0..cells.len() / CELL {
         let taken = take_cell(c, &cells[CELL * i..CELL * i + CELL]);
         let answer = taken.answer;
-        let sent = taken.sent;
-        figure = std::num::wrapping_add_u64(figure, weight(answer, sent.len));
+        figure = std::num::wrapping_add_u64(figure, weight(answer));
         let next = taken.next;
         c = next;
     }
@@ -120,10 +107,9 @@ fn received(cell: &[u8]) -> &[u8]
     &cell[9..9 + n]
 }
 
-fn weight(answer: Answer, sent: usize) -> u64 {
-    let len = (sent % 256) as u64;
+fn weight(answer: Answer) -> u64 {
     match answer {
-        Answer::Kept => 1 + len * 65_536,
+        Answer::Kept => 1,
         Answer::Copy => 4_294_967_296,
         Answer::Loose => 281_474_976_710_656,
         Answer::Refused(_) => 0,

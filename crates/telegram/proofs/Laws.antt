@@ -3,21 +3,24 @@ use mathlib.Core.Path.{_≡_, refl, sym, ap, _∙_}
 use mathlib.Core.Bool.{Bool, true, false}
 use mathlib.Core.List.{List, []}
 use Prim.Native.Nat.{ℕ, _≤_, _<_}
+use lib.Dec.{ltb}
 use lib.ListN.{length}
 use lib.Seq.{take-append-seam}
-use borrow.Author.Tests.{eqb-true}
+use borrow.Author.Tests.{eqb-true, ltb-true}
+use Rattle.lists.proofs.Tests.{by-test}
 use Rattle.erp1.specs.Subtelegram.{maxLength, checkOf, statusOf, isValid}
 use Rattle.erp1.proofs.Checks.{check-facts}
 use Rattle.telegram.specs.declared.fields.Telegram.{Telegram}
 use Rattle.telegram.specs.Output.{Result, written, resultBytes, putOf}
 use Rattle.telegram.specs.Fields.{fieldsOf, Read, readOf, bytesOf, isUnbuildable, buildOf, Buildable, Shaped, normalOf}
 use Rattle.telegram.specs.Addressing.{addressedTo, unaddressed, encapsulated, decapsulated, encapsulateOf, decapsulateOf}
-use Rattle.telegram.specs.Repeater.{levelOf, repeats, repeatOf, RaisedFrom}
+use Rattle.telegram.specs.Frame.{frameOf}
+use Rattle.telegram.specs.Repeater.{levelOf, maxSetting, repeats, repeatOf, repeatResult, RaisedFrom}
 use Rattle.telegram.proofs.Frames.{put-facts, put-written}
 use Rattle.telegram.proofs.Reading.{fields-fit}
 use Rattle.telegram.proofs.Building.{build-facts, build-fields, buildable-fields}
 use Rattle.telegram.proofs.Addressed.{encapsulate-facts, decapsulate-facts, encapsulate-put, decapsulate-put}
-use Rattle.telegram.proofs.Repeating.{relay-none, relay-sent, repeat-valid, repeat-invalid, repeats-low, raised-from}
+use Rattle.telegram.proofs.Repeating.{relay-none, relay-sent, relay-argument, repeat-valid, repeat-invalid, repeats-low, raised-from}
 use Rattle.telegram.proofs.RoundTrip.{built-valid, built-reads, read-builds, read-shaped, built-flag, built-decapsulated, built-encapsulated, plain-itself, addressed-itself}
 
 -- ---- reading, and writing what is read
@@ -111,3 +114,11 @@ repeated setting s byte some = go (isValid s) (repeats setting (levelOf s)) refl
         let f = check-facts s (eqb-true _ _ v) in
         absurd (some (sym (relay-none setting s (f .low) (f .high) r ∙ repeat-valid setting s (eqb-true _ _ v))))
     go false b v r = absurd (some (repeat-invalid setting s v))
+
+-- the call sends what the formula says, whatever the setting and the bytes
+pub repeat-sent : (setting : ℕ) (s : List ℕ) → repeatResult setting s .sent ≡ frameOf (repeatOf setting s)
+unfolding repeatResult repeatOf
+repeat-sent setting s =
+    by-test (ltb maxSetting setting)
+    (λ h. by-test (isValid s) (λ v. rw (h, v, relay-argument setting s (ltb-true maxSetting setting h))) (λ v. rw (h, v)))
+    (λ h. by-test (isValid s) (λ v. rw (h, v)) (λ v. rw (h, v)))

@@ -1,6 +1,6 @@
 -- The cases of the repeater step, and what is sent: a valid telegram, the same but for its level and HASH. Assumes nothing.
 use mathlib.Core.Path.{_≡_, refl, sym, _∙_}
-use mathlib.Core.Bool.{Bool, true, false, and-false, true≢false}
+use mathlib.Core.Bool.{Bool, true, false, not, and-false, true≢false}
 use mathlib.Core.List.{List, [], _∷_, _++_, append-assoc}
 use Prim.Native.Nat.{ℕ, _+_, _-_, _*_, _≤_, _<_, _/_, _%_}
 use native.Mathlib.Omega.{arith}
@@ -12,12 +12,14 @@ use borrow.Author.Tests.{lt-ltb, le-ltb, eq-eqb, ne-eqb, eqb-true, eqb-false, le
 use Rattle.lists.proofs.Equal.{equal-refl}
 use Rattle.refusal.specs.Number.{numberOf}
 use Rattle.refusal.specs.declared.Refusal.{Refusal}
+use Rattle.refusal.specs.declared.Refusal.the-variants.{Argument}
 use Rattle.erp1.specs.Status.{splitOf, joinOf, upperOf}
-use Rattle.erp1.specs.Subtelegram.{minLength, maxLength, bodyOf, statusOf, isAddressed, isValid, checkOf, hashOf, sealedOf}
+use Rattle.erp1.specs.Subtelegram.{minLength, maxLength, bodyOf, statusOf, isLengthWrong, isAddressed, isValid, checkOf, hashOf, sealedOf}
 use Rattle.erp1.specs.Same.{isSame}
 use Rattle.erp1.proofs.Checks.{Sound, not-valid, status-at, front-at, check-plain, check-addressed}
+use Rattle.telegram.specs.Frame.{frameOf}
 use Rattle.telegram.specs.Output.{written}
-use Rattle.telegram.specs.Repeater.{levelOf, repeats, raise, raisedOf, relayOf, repeatOf, RaisedFrom}
+use Rattle.telegram.specs.Repeater.{levelOf, maxSetting, repeats, raise, raisedOf, relayOf, repeatOf, notRepeated, repeatResult, RaisedFrom}
 use Rattle.telegram.proofs.Frames.{written-length, written-push, written-front}
 use Rattle.telegram.proofs.Parts.{last-more, body-more, sealed-hashed}
 
@@ -53,12 +55,30 @@ module _ (setting : ℕ) (s : List ℕ) where
   unfolding repeatOf
   repeat-invalid e = rw e
 
-  pub repeat-refused : (why : Refusal) → numberOf why ≡ checkOf s → [] ≡ repeatOf setting s
-  repeat-refused why e = sym (repeat-invalid (not-valid s why e))
-
   pub repeat-valid : checkOf s ≡ 0 → relayOf setting s ≡ repeatOf setting s
   unfolding repeatOf
   repeat-valid e = rw e
+
+  -- a setting over 2 repeats nothing
+  pub relay-argument : maxSetting < setting → relayOf setting s ≡ []
+  unfolding relayOf
+  relay-argument h =
+      let one = ne-eqb setting 1 (λ e. omega (arith, h, e)) in
+      let two = ne-eqb setting 2 (λ e. omega (arith, h, e)) in
+      rw (one, two, and-false (not (isLengthWrong s)))
+
+  -- the call
+  pub call-argument : maxSetting < setting → notRepeated (numberOf Argument) ≡ repeatResult setting s
+  unfolding repeatResult
+  call-argument h = rw (lt-ltb maxSetting setting h)
+
+  pub call-refused : setting ≤ maxSetting → (why : Refusal) → numberOf why ≡ checkOf s → notRepeated (numberOf why) ≡ repeatResult setting s
+  unfolding repeatResult
+  call-refused h why e = rw (le-ltb maxSetting setting h, not-valid s why e, e)
+
+  pub call-sent : setting ≤ maxSetting → checkOf s ≡ 0 → record { number = 0; sent = frameOf (relayOf setting s) } ≡ repeatResult setting s
+  unfolding repeatResult
+  call-sent h e = rw (le-ltb maxSetting setting h, e)
 
 -- ---- what is sent
 

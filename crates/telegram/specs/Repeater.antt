@@ -3,16 +3,25 @@ use Prim.Native.Nat.{ℕ, _+_}
 use mathlib.Core.Path.{_≡_}
 use mathlib.Core.Bool.{Bool, true, cond, not, _&&_, _||_}
 use mathlib.Core.List.{List, [], _∷_, _++_}
-use lib.Dec.{leb, eqb}
+use lib.Dec.{leb, ltb, eqb}
 use lib.ListN.{length}
+use Rattle.refusal.specs.Number.{numberOf}
+use Rattle.refusal.specs.declared.Refusal.the-variants.{Argument}
 use Rattle.erp1.specs.declared.status.Status.{Status}
 use Rattle.erp1.specs.Status.{splitOf, joinOf}
-use Rattle.erp1.specs.Subtelegram.{bodyOf, checkOf, isLengthWrong, isValid, sealedOf, statusOf}
+use Rattle.erp1.specs.Subtelegram.{bodyOf, checkOf, checkedNumber, isLengthWrong, isValid, sealedOf, statusOf}
 use Rattle.erp1.specs.Same.{isSame}
+use Rattle.telegram.specs.declared.frame.Frame.{Frame}
+use Rattle.telegram.specs.declared.repeater.Repeated.{Repeated}
+use Rattle.telegram.specs.Frame.{frameOf}
 
 -- the level of a subtelegram: the low four bits of STATUS
 abbrev pub levelOf : List ℕ → ℕ
 levelOf s = splitOf (statusOf s) .level
+
+-- a setting is 0 (off), 1 or 2
+abbrev pub maxSetting : ℕ
+maxSetting = 2
 
 -- "Set to 1 it repeats level 0; set to 2 it repeats levels 0 and 1"; else it repeats nothing
 abbrev pub repeats : ℕ → ℕ → Bool
@@ -33,6 +42,29 @@ relayOf setting s = cond (not (isLengthWrong s) && repeats setting (levelOf s)) 
 -- and for a reception, which must be valid
 unfoldable pub repeatOf : ℕ → List ℕ → List ℕ
 repeatOf setting s = cond (isValid s) (relayOf setting s) []
+
+-- ---- the call (document 02, A7)
+
+-- the number, and the telegram to send
+pub record RepeatResult : Type 0 where
+  pub number : ℕ
+  pub sent : Frame
+
+abbrev pub repeatedOf : Repeated → RepeatResult
+repeatedOf r = record { number = checkedNumber (r .answer); sent = r .sent }
+
+-- nothing is sent
+abbrev pub notRepeated : ℕ → RepeatResult
+notRepeated number = record { number = number; sent = frameOf [] }
+
+-- "Refusals: the second call gives 10, then the check's"; else "what to send, if anything"
+unfoldable pub repeatResult : ℕ → List ℕ → RepeatResult
+repeatResult setting s =
+    cond (ltb maxSetting setting) (notRepeated (numberOf Argument))
+    (cond (not (isValid s)) (notRepeated (checkOf s))
+    (record { number = 0; sent = frameOf (relayOf setting s) }))
+
+-- ---- what is sent
 
 -- r differs from s in level, raised by one, and HASH only
 pub record RaisedFrom (s r : List ℕ) : Type 0 where

@@ -2,29 +2,56 @@
 ghost use mathlib.Core.Path.{_≡_};
 ghost use Prim.Native.Nat.{_≤_, _<_};
 ghost use lib.ListN.{length};
+ghost use Rattle.refusal.specs.Number.{numberOf};
 ghost use Rattle.erp1.specs.Status.{splitOf, joinOf};
-ghost use Rattle.telegram.specs.Frame.{frameOf};
 ghost use Rattle.telegram.specs.Output.{written};
-ghost use Rattle.telegram.specs.Repeater.{repeats as repeating, raise, raisedOf, relayOf, repeatOf};
+ghost use Rattle.telegram.specs.Repeater.{repeats as repeating, raise, raisedOf, relayOf, repeatedOf, notRepeated, repeatResult};
 use crate::frame::Frame;
 use erp1::Checked;
 use erp1::status;
 use erp1::status::Status;
+use refusal::Refusal;
 
-// What a repeater set to `setting` sends for a reception: an empty frame, for nothing, if that is not valid or is not repeated.
-pub fn repeat(setting: u8, bytes: &[u8]) -> Frame
-    ensures { λ r. ⌜ r ≡ frameOf (repeatOf setting (now (bytes .entry))) ⌝ }
-{
-    let mut out = [0u8; erp1::MAX_LEN];
-    let mut n = 0;
-    let checked = erp1::check(bytes);
-    if let Checked::Valid = checked {
-        n = relay(setting, bytes, &mut out);
-    }
-    Frame { len: n, bytes: out }
+// The highest setting: 0 is off, 1 repeats level 0, and 2 repeats levels 0 and 1.
+pub const MAX_SETTING: u8 = 2;
+
+// Whether a telegram was taken, and what is sent for it: zero filled, length 0 for nothing.
+pub struct Repeated {
+    pub answer: Checked,
+    pub sent: Frame,
 }
 
-// The same of bytes that need no check: written to the front of `out`, with how many bytes it is; none if they are not as long as a
+// What a repeater set to `setting` sends for a valid telegram, if anything; refused with 10, then the check's number, nothing is sent.
+pub fn repeat(setting: u8, bytes: &[u8]) -> Repeated
+    ensures { λ r. ⌜ repeatedOf r ≡ repeatResult setting (now (bytes .entry)) ⌝ }
+{
+    if MAX_SETTING < setting {
+        return refused(Refusal::Argument);
+    }
+    let checked = erp1::check(bytes);
+    match checked {
+        Checked::Refused(why) => refused(why),
+        Checked::Valid => {
+            let mut out = [0u8; erp1::MAX_LEN];
+            let n = relay(setting, bytes, &mut out);
+            Repeated {
+                answer: Checked::Valid,
+                sent: Frame { len: n, bytes: out },
+            }
+        }
+    }
+}
+
+fn refused(why: Refusal) -> Repeated
+    ensures { λ r. ⌜ repeatedOf r ≡ notRepeated (numberOf why) ⌝ }
+{
+    Repeated {
+        answer: Checked::Refused(why),
+        sent: Frame::empty(),
+    }
+}
+
+// What is sent for bytes that need no check: written to the front of `out`, with how many bytes it is; none if they are not as long as a
 // subtelegram, or are not repeated.
 pub fn relay(setting: u8, bytes: &[u8], out: &mut [u8; erp1::MAX_LEN]) -> usize
     ensures { λ r. ⌜ record { number = 0; len = r; output = now (out .exit) } ≡ written (relayOf setting (now (bytes .entry))) (now (out .entry)) ⌝ }

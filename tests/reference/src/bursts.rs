@@ -1,11 +1,12 @@
-//! Bursts (document 02, A1): receptions as records in one list, with a second list for the
-//! replies. What a burst is answered, and histories whose receptions are handed over so.
+//! Bursts (document 02, A1 and A7): receptions as records in one list with a setting, and a second
+//! list for the replies. What a burst is answered, and histories whose receptions are handed over so.
 
 use crate::clerk::{Answer, Totals};
 use crate::hex::hex_or_dash;
 use crate::history::{word, Call, Model};
 use crate::image;
 use crate::random::Random;
+use crate::repeater::is_setting;
 use crate::subtelegram::{LONGEST, OUTPUT_SHORT, OUT_OF_RANGE};
 use crate::telegrams::{at_level, plain, random_kind, valid};
 use std::fmt::Write;
@@ -42,9 +43,10 @@ impl Record {
     }
 }
 
-/// The records, and how many places the second list has.
+/// The caller's setting, the records, and how many places the second list has.
 #[derive(Debug, Clone, PartialEq)]
 pub struct Burst {
+    pub setting: u8,
     pub records: Vec<Record>,
     pub places: usize,
 }
@@ -57,13 +59,13 @@ pub fn untouched() -> Place {
     (Answer::Loose, vec![0xEE; LONGEST])
 }
 
-/// "Refusals: 11, then 6 if the answer list is shorter, then 10 for more than 256." No history
-/// leads to 11.
+/// "Refusals: 11, then 6 if the answer list is shorter, then 10 for more than 256"; "a burst gives
+/// 10 for its setting also". No history leads to 11.
 pub fn number(burst: &Burst) -> u8 {
     let n = burst.records.len();
     if burst.places < n {
         OUTPUT_SHORT
-    } else if n > MOST {
+    } else if n > MOST || !is_setting(burst.setting) {
         OUT_OF_RANGE
     } else {
         0
@@ -76,8 +78,9 @@ pub fn deliver(model: &mut impl Model, burst: &Burst, places: &mut [Place]) -> u
     let number = number(burst);
     if number == 0 {
         for (record, place) in burst.records.iter().zip(places) {
-            let (answer, sent) = model.take(record.time, &record.handed());
-            *place = (answer, sent.unwrap_or_default());
+            let bytes = record.handed();
+            let answer = model.take(record.time, &bytes);
+            *place = (answer, model.sent(burst.setting, answer, &bytes));
         }
     }
     number
@@ -111,12 +114,15 @@ pub fn show(burst: &Burst, model: &mut impl Model) -> String {
 /// The sizes of a list.
 const SIZES: [usize; 6] = [0, 1, 3, 17, MOST, MOST + 1];
 
+/// The settings of bursts, one after the other.
+const SETTINGS: [u8; 7] = [1, 0, 2, 3, 0, 1, 255];
+
 /// Every size with as many places, one fewer and two more, other calls between; each refused
-/// burst is handed over again one by one.
+/// burst is handed over again one by one. The settings of short bursts go round, and past 2.
 pub fn sizes(setting: u8, random: &mut Random) -> Vec<Call> {
     let pool: Vec<Vec<u8>> = (0..90).map(|_| valid(random)).collect();
     let mut calls = vec![Call::Start(setting)];
-    let mut time = 1_000;
+    let (mut time, mut round) = (1_000, usize::from(setting));
     for (i, n) in SIZES.into_iter().enumerate() {
         for places in [n, n.wrapping_sub(1), n + 2] {
             if places > n + 2 {
@@ -128,7 +134,16 @@ pub fn sizes(setting: u8, random: &mut Random) -> Vec<Call> {
                     some_record(random, &pool, time)
                 })
                 .collect();
-            let burst = Burst { records, places };
+            round += 1;
+            let burst = Burst {
+                setting: if n > 17 {
+                    setting
+                } else {
+                    SETTINGS[round % SETTINGS.len()]
+                },
+                records,
+                places,
+            };
             let again = number(&burst) != 0 && n <= 17;
             let singly: Vec<Call> = burst.records.iter().filter_map(single).collect();
             calls.push(Call::Burst(burst));
@@ -190,7 +205,11 @@ pub fn full_count(random: &mut Random) -> Vec<Call> {
         Call::Park(2560),
         Call::Park(2560),
         Call::Given(image::write(60, &totals, 2, &[])),
-        Call::Burst(Burst { records, places }),
+        Call::Burst(Burst {
+            setting: 2,
+            records,
+            places,
+        }),
         Call::Park(2560),
     ]
 }
@@ -200,7 +219,7 @@ pub fn full_count(random: &mut Random) -> Vec<Call> {
 pub fn divided(calls: Vec<Call>, random: &mut Random) -> Vec<Call> {
     let mut out = Vec::new();
     let (mut records, mut others) = (Vec::new(), Vec::new());
-    let mut size = 1;
+    let (mut size, mut setting) = (1, 0);
     for call in calls {
         match call {
             Call::Reception(time, bytes) => {
@@ -209,9 +228,10 @@ pub fn divided(calls: Vec<Call>, random: &mut Random) -> Vec<Call> {
                     records.push(odd_record(random, time));
                 }
             }
-            Call::Start(_) => {
-                hand_over(&mut out, &mut records, random);
+            Call::Start(kept) => {
+                hand_over(&mut out, &mut records, setting, random);
                 out.append(&mut others);
+                setting = kept;
                 out.push(call);
             }
             _ => {
@@ -222,25 +242,31 @@ pub fn divided(calls: Vec<Call>, random: &mut Random) -> Vec<Call> {
             }
         }
         if records.len() >= size {
-            hand_over(&mut out, &mut records, random);
+            hand_over(&mut out, &mut records, setting, random);
             out.append(&mut others);
             size = random.pick(&[1, 1, 3, 17, 100]);
         }
     }
-    hand_over(&mut out, &mut records, random);
+    hand_over(&mut out, &mut records, setting, random);
     out.append(&mut others);
     out
 }
 
-/// In one burst, now and then after a refused one, or one by one.
-fn hand_over(out: &mut Vec<Call>, records: &mut Vec<Record>, random: &mut Random) {
+/// In one burst, now and then after one that is refused for its places or its setting, or one by one.
+fn hand_over(out: &mut Vec<Call>, records: &mut Vec<Record>, setting: u8, random: &mut Random) {
     let records = std::mem::take(records);
     let n = records.len();
     if n > 0 && random.chance(20) {
         let places = random.below(n);
+        let bad = random.chance(30);
         out.push(Call::Burst(Burst {
+            setting: if bad {
+                random.pick(&[3, 4, 255])
+            } else {
+                setting
+            },
             records: records.clone(),
-            places,
+            places: if bad && random.chance(60) { n } else { places },
         }));
     }
     if n > 0 && random.chance(15) {
@@ -248,7 +274,11 @@ fn hand_over(out: &mut Vec<Call>, records: &mut Vec<Record>, random: &mut Random
         return;
     }
     let places = n + random.pick(&[0, 0, 1, 2]);
-    out.push(Call::Burst(Burst { records, places }));
+    out.push(Call::Burst(Burst {
+        setting,
+        records,
+        places,
+    }));
 }
 
 #[cfg(test)]
@@ -263,15 +293,17 @@ mod tests {
     /// The clerk, with a fault in how he takes a burst.
     struct Faulty {
         clerk: Clerk,
+        setting: u8,
         fault: &'static str,
     }
 
     impl Model for Faulty {
         fn start(&mut self, setting: u8) {
+            self.setting = setting;
             self.clerk.start(setting);
         }
 
-        fn take(&mut self, time: u64, bytes: &[u8]) -> (Answer, Option<Vec<u8>>) {
+        fn take(&mut self, time: u64, bytes: &[u8]) -> Answer {
             self.clerk.take(time, bytes)
         }
 
@@ -283,8 +315,8 @@ mod tests {
             self.clerk.image()
         }
 
-        fn restore(&mut self, image: &[u8], setting: u8) -> u8 {
-            self.clerk.restore(image, setting)
+        fn restore(&mut self, image: &[u8], number: u8) -> u8 {
+            self.clerk.restore(image, number)
         }
 
         fn restore_given(&mut self, image: &[u8]) -> u8 {
@@ -295,12 +327,14 @@ mod tests {
             let n = burst.records.len();
             let (most, fault) = (MOST + usize::from(self.fault == "257"), self.fault);
             let short = burst.places < n;
+            let bad = !is_setting(burst.setting) && fault != "setting not tested";
             let number = match fault {
                 "10 before 6" if n > most => 10,
+                "10 for the setting before 6" if bad => 10,
                 "one place too few" if burst.places + 1 == n && n <= most => 0,
                 _ if short => 6,
                 "255" if n > 255 => 10,
-                _ if n > most => 10,
+                _ if n > most || bad => 10,
                 "none refused" if n == 0 => 10,
                 _ => 0,
             };
@@ -318,12 +352,16 @@ mod tests {
                     "22 read as 21" => record.bytes[..usize::from(record.len).min(21)].to_vec(),
                     _ => record.handed(),
                 };
-                let (answer, sent) = self.clerk.take(record.time, &bytes);
+                let answer = self.clerk.take(record.time, &bytes);
+                let setting = match fault {
+                    "setting of the history" => self.setting,
+                    _ => burst.setting,
+                };
                 let at = i + usize::from(fault == "replies one place on");
                 if number == 0 && at < places.len() {
                     let sent = match fault {
                         "sent of the first only" if i > 0 => Vec::new(),
-                        _ => sent.unwrap_or_default(),
+                        _ => self.sent(setting, answer, &bytes),
                     };
                     places[at] = (answer, sent);
                 }
@@ -340,8 +378,12 @@ mod tests {
     }
 
     fn shown(fault: &'static str) -> String {
-        let clerk = Clerk::new(0);
-        show(&calls(), &mut Faulty { clerk, fault })
+        let mut faulty = Faulty {
+            clerk: Clerk::new(),
+            setting: 0,
+            fault,
+        };
+        show(&calls(), &mut faulty)
     }
 
     #[test]
@@ -362,6 +404,9 @@ mod tests {
             "22 read as 21",
             "sent of the first only",
             "places past cleared",
+            "setting not tested",
+            "10 for the setting before 6",
+            "setting of the history",
         ] {
             assert!(shown(fault) != expected, "{fault}");
         }
@@ -372,10 +417,10 @@ mod tests {
         let mut seen: BTreeMap<String, usize> = BTreeMap::new();
         let mut count = |key: String| *seen.entry(key).or_default() += 1;
         let calls = calls();
-        let mut clerk = Clerk::new(0);
+        let mut clerk = Clerk::new();
         for pair in calls.windows(2) {
             match &pair[0] {
-                Call::Start(setting) => clerk = Clerk::new(*setting),
+                Call::Start(_) => clerk = Clerk::new(),
                 Call::Reception(time, bytes) => {
                     clerk.take(*time, bytes);
                 }
@@ -387,6 +432,7 @@ mod tests {
                     let number = deliver(&mut clerk, burst, &mut places);
                     count(format!("number {number}"));
                     count(format!("size {}", burst.records.len()));
+                    count(format!("setting {}", burst.setting));
                     if number == 0 {
                         burst
                             .records
@@ -414,7 +460,12 @@ mod tests {
         for (key, least) in [
             ("number 0", 80),
             ("number 6", 20),
-            ("number 10", 2),
+            ("number 10", 6),
+            ("setting 0", 3),
+            ("setting 1", 20),
+            ("setting 2", 20),
+            ("setting 3", 3),
+            ("setting 255", 3),
             ("size 0", 2),
             ("size 1", 20),
             ("size 256", 3),
@@ -449,7 +500,7 @@ mod tests {
         let answers = [21, 22, 0].map(|len| {
             let mut record = Record::of(5, &telegram);
             record.len = len;
-            Clerk::new(0).take(record.time, &record.handed()).0
+            Clerk::new().take(record.time, &record.handed())
         });
         assert_eq!(answers[0], Answer::Kept);
         assert_eq!(answers[1..], [Answer::Refused(1); 2]);
@@ -457,13 +508,19 @@ mod tests {
 
     #[test]
     fn order_of_refusals() {
-        let numbers =
-            [(257, 256), (257, 257), (256, 256), (256, 255), (0, 0)].map(|(n, places)| {
-                number(&Burst {
-                    records: vec![Record::of(0, &[]); n],
-                    places,
-                })
-            });
+        let number_of = |setting, n, places| {
+            number(&Burst {
+                setting,
+                records: vec![Record::of(0, &[]); n],
+                places,
+            })
+        };
+        let numbers = [(257, 256), (257, 257), (256, 256), (256, 255), (0, 0)]
+            .map(|(n, places)| number_of(2, n, places));
         assert_eq!(numbers, [6, 10, 0, 6, 0]);
+        assert_eq!(
+            [(1, 0), (1, 1), (0, 0)].map(|(n, m)| number_of(3, n, m)),
+            [6, 10, 10]
+        );
     }
 }

@@ -3,7 +3,7 @@
 
 use crate::clerk::{Answer, Clerk};
 use crate::hash::{crc, sum};
-use crate::repeater::repeat;
+use crate::repeater::{repeat, sent_for};
 use crate::slots::{lawful_plans, plan};
 use crate::subtelegram::{build, check, decapsulate, encapsulate, read, Fields};
 use crate::telegrams::at_level;
@@ -66,8 +66,8 @@ fn which_hash_failed() {
         assert_eq!(read(&wrong), Err(number));
         assert_eq!(encapsulate(&wrong, [0; 4], &mut output), Err(number));
         assert_eq!(decapsulate(&wrong, &mut output), Err(number));
-        let mut clerk = Clerk::new(0);
-        assert_eq!(clerk.take(0, &wrong), (Answer::Refused(number), None));
+        let mut clerk = Clerk::new();
+        assert_eq!(clerk.take(0, &wrong), Answer::Refused(number));
         assert_eq!(clerk.totals().text(), "1 0 0 0 1 0");
     }
 }
@@ -114,10 +114,10 @@ fn the_same_telegram_twice() {
         (101, 1, Answer::Kept),
     ] {
         for telegram in [&TELEGRAM[..], &BY_CRC] {
-            let mut clerk = Clerk::new(0);
-            assert_eq!(clerk.take(0, telegram).0, Answer::Kept);
+            let mut clerk = Clerk::new();
+            assert_eq!(clerk.take(0, telegram), Answer::Kept);
             let again = at_level(telegram, level);
-            assert_eq!(clerk.take(second, &again).0, answer, "{second} {level}");
+            assert_eq!(clerk.take(second, &again), answer, "{second} {level}");
         }
     }
 }
@@ -125,7 +125,7 @@ fn the_same_telegram_twice() {
 /// Each opening has its own 40 ms, and a COPY belongs to the latest.
 #[test]
 fn three_openings() {
-    let mut clerk = Clerk::new(0);
+    let mut clerk = Clerk::new();
     for (time, level, answer) in [
         (0, 0, Answer::Kept),
         (40, 0, Answer::Copy),
@@ -138,7 +138,7 @@ fn three_openings() {
         (123, 0, Answer::Kept),
     ] {
         assert_eq!(
-            clerk.take(time, &at_level(&TELEGRAM, level)).0,
+            clerk.take(time, &at_level(&TELEGRAM, level)),
             answer,
             "{time}"
         );
@@ -149,12 +149,12 @@ fn three_openings() {
 
 #[test]
 fn first_heard_at_level_2() {
-    let mut clerk = Clerk::new(2);
-    assert_eq!(
-        clerk.take(10, &at_level(&TELEGRAM, 2)),
-        (Answer::Kept, None)
-    );
-    assert_eq!(clerk.take(15, &TELEGRAM), (Answer::Copy, None));
+    let mut clerk = Clerk::new();
+    let repeated = at_level(&TELEGRAM, 2);
+    assert_eq!(clerk.take(10, &repeated), Answer::Kept);
+    assert!(sent_for(2, Answer::Kept, &repeated).is_empty());
+    assert_eq!(clerk.take(15, &TELEGRAM), Answer::Copy);
+    assert!(sent_for(2, Answer::Copy, &TELEGRAM).is_empty());
 }
 
 #[test]
@@ -163,7 +163,7 @@ fn lengths_7_and_22() {
         let mut bytes = vec![0; n];
         assert_eq!(check(&bytes), Err(1));
         assert_eq!(repeat(1, &bytes), None);
-        assert_eq!(Clerk::new(0).take(0, &bytes).0, Answer::Refused(1));
+        assert_eq!(Clerk::new().take(0, &bytes), Answer::Refused(1));
         bytes[0] = 1;
         assert_eq!(check(&bytes), Err(1));
     }

@@ -1,7 +1,6 @@
 //! The clerk (document 01, "One history, and the clerk who writes it down").
 
 use crate::image;
-use crate::repeater::repeat;
 use crate::subtelegram::{check, level, same, Refusal, CLOCK_BACK, FULL_COUNT};
 
 /// RX maturity: a telegram kept at f is open at t while t - f is at most this.
@@ -81,7 +80,6 @@ impl Totals {
 /// one; and, looking back over the KEPT ones, the first with t - f above 100 ends the search,
 /// since all before it are as old or older.
 pub struct Clerk {
-    pub setting: u8,
     pub noted: Vec<Noted>,
     accepted: Vec<usize>,
     kept: Vec<usize>,
@@ -91,9 +89,8 @@ pub struct Clerk {
 }
 
 impl Clerk {
-    pub fn new(setting: u8) -> Clerk {
+    pub fn new() -> Clerk {
         Clerk {
-            setting,
             noted: Vec::new(),
             accepted: Vec::new(),
             kept: Vec::new(),
@@ -105,7 +102,7 @@ impl Clerk {
     /// Goes on from an image that was accepted and belongs to no history: its entries are the
     /// receptions that he answered KEPT, and the rest is in its numbers.
     pub fn going_on(image: image::Reloaded) -> Clerk {
-        let mut clerk = Clerk::new(image.setting);
+        let mut clerk = Clerk::new();
         for (at, entry) in image.entries.into_iter().enumerate() {
             clerk.accepted.push(at);
             clerk.kept.push(at);
@@ -120,8 +117,8 @@ impl Clerk {
         clerk
     }
 
-    /// Takes one reception: his answer, and what goes with it to be sent.
-    pub fn take(&mut self, time: u64, bytes: &[u8]) -> (Answer, Option<Vec<u8>>) {
+    /// Takes one reception: his answer.
+    pub fn take(&mut self, time: u64, bytes: &[u8]) -> Answer {
         let answer = self.answer(time, bytes);
         if answer.accepted() {
             self.accepted.push(self.noted.len());
@@ -134,12 +131,7 @@ impl Clerk {
             bytes: bytes.to_vec(),
             answer,
         });
-        let sent = if answer == Answer::Kept {
-            repeat(self.setting, bytes)
-        } else {
-            None
-        };
-        (answer, sent)
+        answer
     }
 
     /// The first that fits.
@@ -200,7 +192,7 @@ impl Clerk {
         self.earlier.plus(totals_of(&self.noted))
     }
 
-    /// His image.
+    /// His image, with zero in the setting's place (document 02, A7).
     pub fn image(&self) -> Vec<u8> {
         let entries: Vec<image::Entry> = self
             .entries()
@@ -210,7 +202,7 @@ impl Clerk {
                 bytes: noted.bytes.clone(),
             })
             .collect();
-        image::write(self.latest(), &self.totals(), self.setting, &entries)
+        image::write(self.latest(), &self.totals(), 0, &entries)
     }
 }
 

@@ -5,7 +5,7 @@
 use crate::hash::{crc, sum};
 use crate::hex::{hex, hex_or_dash};
 use crate::random::Random;
-use crate::repeater::repeat;
+use crate::repeater::ask;
 use crate::subtelegram::{
     build, check, decapsulate, encapsulate, read, renew_hash, same, Fields, Refusal, ADDRESSED,
     LONGEST,
@@ -145,10 +145,14 @@ pub fn answer(record: &Record) -> String {
             written("DECAPSULATE", result, &output)
         }
         REPEAT => {
-            let mut sent = repeat(record[1], &record[8..8 + length]).unwrap_or_default();
+            let (number, sent) = match ask(record[1], &record[8..8 + length]) {
+                Ok(sent) => (0, sent.unwrap_or_default()),
+                Err(number) => (number, Vec::new()),
+            };
             let n = sent.len();
-            sent.resize(LONGEST, 0);
-            format!("REPEAT {n} {}", hex(&sent))
+            let mut bytes = sent;
+            bytes.resize(LONGEST, 0);
+            format!("REPEAT {number} {n} {}", hex(&bytes))
         }
         SAME => {
             let second = usize::from(record[3]);
@@ -447,6 +451,19 @@ fn repeat_records(random: &mut Random) -> Vec<Record> {
         let bytes = valid(random);
         all.push(repeat_record(setting, &at_level(&bytes, 0)));
     }
+    // 10 before the check's number.
+    for round in 0..28 {
+        let setting = [0, 1, 2, 0, 1, 2, 3, 255][round % 8];
+        for kind in KINDS {
+            let bit = random.below(8);
+            let bytes = plain(random, 13, kind);
+            all.push(repeat_record(setting, &hash_bit_wrong(&bytes, bit)));
+        }
+        let mut nested = vec![ADDRESSED; 13];
+        nested[11] = 0;
+        renew_hash(&mut nested);
+        all.push(repeat_record(setting, &nested));
+    }
     all
 }
 
@@ -600,14 +617,14 @@ mod tests {
                 "CRC 89",
                 "CRC 1B",
                 "CRC 00",
-                "REPEAT 11 A50000000801020304 01B8 00000000000000000000",
+                "REPEAT 0 11 A50000000801020304 01B8 00000000000000000000",
                 "ENCAPSULATE 0 16 A6A500000008F1F2F3F4010203040027EEEEEEEEEEEEEEEEEEEEEEEE",
                 "ENCAPSULATE 0 16 A6A500000008F1F2F3F4010203040027",
                 "DECAPSULATE 0 11 A5000000080102030400B7EEEEEEEEEEEEEEEEEEEEEEEEEEEEEEEEEE",
                 "DECAPSULATE 0 11 A5000000080102030400B7",
-                "REPEAT 8 D50901020304 81F9 00000000000000000000000000",
-                "REPEAT 8 D50901020304 81F9 00000000000000000000000000",
-                "REPEAT 8 D50901020304 01E9 00000000000000000000000000",
+                "REPEAT 0 8 D50901020304 81F9 00000000000000000000000000",
+                "REPEAT 0 8 D50901020304 81F9 00000000000000000000000000",
+                "REPEAT 0 8 D50901020304 01E9 00000000000000000000000000",
                 "READ 0 A5 0 00000000 01020304 00 00000008",
                 "READ 0 A5 1 F1F2F3F4 01020304 00 00000008",
                 "READ 0 D5 0 00000000 01020304 80 09",
@@ -619,7 +636,7 @@ mod tests {
                 // REPEAT lines are spaced for reading; their bytes are one word.
                 let words: Vec<&str> = line.split(' ').collect();
                 if words[0] == "REPEAT" {
-                    format!("REPEAT {} {}", words[1], words[2..].concat())
+                    format!("REPEAT {} {} {}", words[1], words[2], words[3..].concat())
                 } else {
                     line.to_string()
                 }
@@ -645,7 +662,7 @@ mod tests {
             let words: Vec<&str> = text.split(' ').collect();
             let key = match words[0] {
                 "CRC" => "CRC".to_string(),
-                "REPEAT" if words[1] != "0" => "REPEAT sent".to_string(),
+                "REPEAT" if words[2] != "0" => "REPEAT sent".to_string(),
                 word => format!("{word} {}", words[1]),
             };
             *seen.entry(key).or_default() += 1;
@@ -677,12 +694,17 @@ mod tests {
             "DECAPSULATE 6",
             "REPEAT sent",
             "REPEAT 0",
+            "REPEAT 1",
+            "REPEAT 2",
+            "REPEAT 13",
+            "REPEAT 3",
+            "REPEAT 10",
             "SAME 0",
             "SAME 1",
         ] {
             assert!(seen.get(key).is_some_and(|&n| n >= 20), "{key}: {seen:?}");
         }
-        assert_eq!(seen.len(), 28, "{seen:?}");
+        assert_eq!(seen.len(), 33, "{seen:?}");
         println!("{seen:?}");
     }
 

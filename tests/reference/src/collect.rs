@@ -2,6 +2,7 @@
 
 use crate::clerk::{Answer, Clerk};
 use crate::hex::{hex, unhex};
+use crate::repeater::sent_for;
 use std::fmt::Write;
 
 /// The most bytes a line may carry.
@@ -46,20 +47,21 @@ pub fn run(input: &[u8]) -> String {
     let Some(setting) = setting(lines.next()) else {
         return "BAD\n".to_string();
     };
-    let mut clerk = Clerk::new(setting);
+    let mut clerk = Clerk::new();
     let mut out = String::new();
     for line in lines {
         let Some((time, bytes)) = reception(line) else {
             out.push_str("BAD\n");
             continue;
         };
-        let (answer, sent) = clerk.take(time, &bytes);
-        match (answer, sent) {
-            (Answer::Kept, Some(sent)) => writeln!(out, "{time} KEPT SEND {}", hex(&sent)),
-            (Answer::Kept, None) => writeln!(out, "{time} KEPT"),
-            (Answer::Copy, _) => writeln!(out, "{time} COPY"),
-            (Answer::Loose, _) => writeln!(out, "{time} LOOSE"),
-            (Answer::Refused(number), _) => writeln!(out, "{time} REFUSED {number}"),
+        let answer = clerk.take(time, &bytes);
+        let sent = sent_for(setting, answer, &bytes);
+        match answer {
+            Answer::Kept if !sent.is_empty() => writeln!(out, "{time} KEPT SEND {}", hex(&sent)),
+            Answer::Kept => writeln!(out, "{time} KEPT"),
+            Answer::Copy => writeln!(out, "{time} COPY"),
+            Answer::Loose => writeln!(out, "{time} LOOSE"),
+            Answer::Refused(number) => writeln!(out, "{time} REFUSED {number}"),
         }
         .unwrap();
     }

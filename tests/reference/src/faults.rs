@@ -5,16 +5,18 @@ use crate::bursts;
 use crate::clerk::{totals_of, Answer, Clerk, Noted, Totals};
 use crate::history::{show, spoil, stdin, stdout, word, Call, Model, SHOWN};
 use crate::image::{self, reload, IMAGE};
-use crate::repeater::repeat;
+use crate::repeater::sent_for;
 use crate::scenarios::{calls, ROOMS};
 use crate::subtelegram::{check, level, same, Refusal, CRC_WRONG, SUM_WRONG};
 use crate::telegrams::at_level;
 use std::collections::BTreeMap;
 
+/// The last byte of the setting's place.
+const SETTING_AT: usize = 3 * 512 + 23;
+
 /// The clerk word for word: every look goes over all receptions. One fault can be set.
 #[derive(Default)]
 struct PlainClerk {
-    setting: u8,
     noted: Vec<Noted>,
     /// Of an image that is gone on from: its totals without the entries, and its latest time.
     earlier: Totals,
@@ -159,27 +161,30 @@ impl PlainClerk {
 }
 
 impl Model for PlainClerk {
-    fn start(&mut self, setting: u8) {
+    fn start(&mut self, _setting: u8) {
         *self = PlainClerk {
-            setting,
             fault: self.fault,
             ..PlainClerk::default()
         };
     }
 
-    fn take(&mut self, time: u64, bytes: &[u8]) -> (Answer, Option<Vec<u8>>) {
+    fn take(&mut self, time: u64, bytes: &[u8]) -> Answer {
         let answer = self.answer(time, bytes);
         self.noted.push(Noted {
             time,
             bytes: bytes.to_vec(),
             answer,
         });
-        let sent = match answer {
-            Answer::Kept => repeat(self.setting, bytes),
-            Answer::Copy if self.fault == "copies repeated" => repeat(self.setting, bytes),
-            _ => None,
-        };
-        (answer, sent)
+        answer
+    }
+
+    fn sent(&self, setting: u8, answer: Answer, bytes: &[u8]) -> Vec<u8> {
+        match answer {
+            Answer::Copy if self.fault == "copies repeated" => {
+                sent_for(setting, Answer::Kept, bytes)
+            }
+            _ => sent_for(setting, answer, bytes),
+        }
     }
 
     fn totals(&self) -> Totals {
@@ -205,10 +210,10 @@ impl Model for PlainClerk {
                 bytes: n.bytes.clone(),
             })
             .collect();
-        image::write(latest, &self.totals(), self.setting, &entries)
+        image::write(latest, &self.totals(), 0, &entries)
     }
 
-    fn restore(&mut self, _image: &[u8], _setting: u8) -> u8 {
+    fn restore(&mut self, _image: &[u8], _number: u8) -> u8 {
         0
     }
 
@@ -217,7 +222,6 @@ impl Model for PlainClerk {
             return 11;
         };
         let entries = state.entries;
-        self.setting = state.setting;
         self.earlier = state.totals.without_kept(entries.len() as u64);
         self.earlier_latest = state.latest;
         self.noted = entries
@@ -290,13 +294,18 @@ fn faults_are_seen() {
 /// really goes through. One fault can be set.
 struct Window {
     state: image::Reloaded,
+    /// What the caller's setting was at the start, and what a fault sends by in its place.
+    setting: u8,
+    other: Option<u8>,
     fault: &'static str,
 }
 
 impl Window {
     fn new(fault: &'static str) -> Window {
         Window {
-            state: reload(&Clerk::new(0).image()).unwrap(),
+            state: reload(&Clerk::new().image()).unwrap(),
+            setting: 0,
+            other: None,
             fault,
         }
     }
@@ -304,28 +313,33 @@ impl Window {
 
 impl Model for Window {
     fn start(&mut self, setting: u8) {
-        self.state = reload(&Clerk::new(setting).image()).unwrap();
+        self.state = reload(&Clerk::new().image()).unwrap();
+        self.setting = setting;
+        self.other = None;
     }
 
-    fn take(&mut self, time: u64, bytes: &[u8]) -> (Answer, Option<Vec<u8>>) {
+    fn sent(&self, setting: u8, answer: Answer, bytes: &[u8]) -> Vec<u8> {
+        sent_for(self.other.unwrap_or(setting), answer, bytes)
+    }
+
+    fn take(&mut self, time: u64, bytes: &[u8]) -> Answer {
         let fault = self.fault;
         let image::Reloaded {
             latest,
             totals,
-            setting,
             entries,
         } = &mut self.state;
         if totals.received == u64::MAX {
-            return (Answer::Refused(8), None);
+            return Answer::Refused(8);
         }
         totals.received += 1;
         if let Err(number) = check(bytes) {
             totals.damaged += 1;
-            return (Answer::Refused(number), None);
+            return Answer::Refused(number);
         }
         if time < *latest {
             totals.late += 1;
-            return (Answer::Refused(7), None);
+            return Answer::Refused(7);
         }
         *latest = time;
         let places_stay = fault == "parked by place";
@@ -343,11 +357,11 @@ impl Model for Window {
             if fault == "last copy parked" {
                 entry.bytes = bytes.to_vec();
             }
-            return (Answer::Copy, None);
+            return Answer::Copy;
         }
         if open == 64 {
             totals.loose += 1;
-            return (Answer::Loose, None);
+            return Answer::Loose;
         }
         totals.kept += 1;
         let opened = image::Entry {
@@ -358,7 +372,7 @@ impl Model for Window {
             Some(at) => entries[at] = opened,
             None => entries.push(opened),
         }
-        (Answer::Kept, repeat(*setting, bytes))
+        Answer::Kept
     }
 
     fn totals(&self) -> Totals {
@@ -369,7 +383,6 @@ impl Model for Window {
         let image::Reloaded {
             latest,
             totals,
-            setting,
             entries,
         } = &self.state;
         let open: Vec<image::Entry> = entries
@@ -377,10 +390,14 @@ impl Model for Window {
             .filter(|e| latest - e.time <= 100)
             .cloned()
             .collect();
-        image::write(*latest, totals, *setting, &open)
+        let parked = match self.fault {
+            "setting parked" => self.setting,
+            _ => 0,
+        };
+        image::write(*latest, totals, parked, &open)
     }
 
-    fn restore(&mut self, image: &[u8], fresh: u8) -> u8 {
+    fn restore(&mut self, image: &[u8], number: u8) -> u8 {
         if self.fault == "parked by place" || self.fault == "last copy parked" {
             return 0;
         }
@@ -388,7 +405,7 @@ impl Model for Window {
             return 11;
         };
         match self.fault {
-            "fresh setting" => state.setting = fresh,
+            "setting of the cut" => self.other = Some(number),
             "latest lost" => state.latest = 0,
             "latest from entries" => state.latest = state.entries.last().map_or(0, |e| e.time),
             "last of 64 lost" if state.entries.len() == 64 => {
@@ -422,10 +439,15 @@ impl Model for Window {
 
     fn restore_given(&mut self, image: &[u8]) -> u8 {
         match reload(image) {
+            Ok(_) if self.fault == "older image refused" && image[SETTING_AT] > 0 => 11,
             Ok(state) => {
                 self.state = state;
+                if self.fault == "setting of the image" {
+                    self.other = Some(image[SETTING_AT]);
+                }
                 0
             }
+            Err(_) if self.fault == "3 accepted" && image.get(SETTING_AT) == Some(&3) => 0,
             Err(number) => number,
         }
     }
@@ -437,7 +459,11 @@ fn a_cut_run_is_the_clerks() {
     let calls = calls();
     assert!(show(&calls, &mut Window::new("")) == expected);
     for fault in [
-        "fresh setting",
+        "setting of the cut",
+        "setting parked",
+        "setting of the image",
+        "older image refused",
+        "3 accepted",
         "latest lost",
         "latest from entries",
         "last of 64 lost",
@@ -459,20 +485,21 @@ fn everything_occurs() {
     let calls = calls();
     let mut seen: BTreeMap<String, usize> = BTreeMap::new();
     let mut count = |key: String| *seen.entry(key).or_default() += 1;
-    let mut clerk = Clerk::new(0);
+    let (mut clerk, mut present) = (Clerk::new(), 0);
     let (mut parked, mut rooms_first) = (0, Vec::new());
     for (i, call) in calls.iter().enumerate() {
         match call {
             Call::Start(setting) => {
-                clerk = Clerk::new(*setting);
+                clerk = Clerk::new();
+                present = *setting;
                 parked = 0;
                 count(format!("start {setting}"));
             }
             Call::Reception(time, bytes) => {
-                let (answer, sent) = clerk.take(*time, bytes);
+                let answer = clerk.take(*time, bytes);
                 count(word(answer));
-                if sent.is_some() {
-                    count(format!("sent at {}", clerk.setting));
+                if !sent_for(present, answer, bytes).is_empty() {
+                    count(format!("sent at {present}"));
                 }
                 assert!(bytes.len() <= 28);
             }
@@ -484,15 +511,15 @@ fn everything_occurs() {
                 count(format!("park {n}"));
                 count(format!("entries parked {}", clerk.entries().len()));
             }
-            Call::Cut(setting) => {
+            Call::Cut(any) => {
                 let image = clerk.image();
                 let reloaded = reload(&image).unwrap();
-                assert_eq!(reloaded.setting, clerk.setting);
+                assert_eq!(image[SETTING_AT], 0);
                 assert_eq!(reloaded.totals, clerk.totals());
                 assert_eq!(reloaded.latest, clerk.latest());
                 count("cut".to_string());
-                if *setting != clerk.setting {
-                    count("cut into another setting".to_string());
+                if *any != present {
+                    count("cut with another number".to_string());
                 }
                 count(format!("entries cut {}", clerk.entries().len()));
                 // Most cuts are followed by a reception, which meets what was restored.
@@ -538,6 +565,7 @@ fn everything_occurs() {
         "cut",
         "spoiled",
         "cut, then reception",
+        "cut with another number",
     ] {
         least(key, 150);
     }

@@ -7,19 +7,20 @@ use crate::clerk::{Answer, Clerk, Totals};
 use crate::given;
 use crate::hex::{hex, hex_or_dash};
 use crate::image::{reload, IMAGE};
+use crate::repeater::sent_for;
 use crate::scenarios::calls;
 use crate::subtelegram::OUTPUT_SHORT;
 use std::fmt::Write;
 
 #[derive(Debug, Clone, PartialEq)]
 pub enum Call {
-    /// A collector started fresh at this setting: a new history.
+    /// A collector started fresh, whose caller keeps this setting: a new history.
     Start(u8),
     Reception(u64, Vec<u8>),
     /// A checkpoint into so many bytes.
     Park(usize),
-    /// A checkpoint into 2,560 bytes and its restore into another collector, started fresh
-    /// at this setting.
+    /// A checkpoint into 2,560 bytes and its restore into another collector, started fresh. The
+    /// number says nothing.
     Cut(u8),
     /// A restore of the present image with one bit of this byte changed; for 2,560, of the
     /// image without its last byte.
@@ -39,13 +40,18 @@ const FILL: u8 = 0xEE;
 
 /// What the calls are put to: the clerk here, others in the tests.
 pub trait Model {
+    /// The setting is the caller's, and no collector should look at it.
     fn start(&mut self, setting: u8);
-    fn take(&mut self, time: u64, bytes: &[u8]) -> (Answer, Option<Vec<u8>>);
+    fn take(&mut self, time: u64, bytes: &[u8]) -> Answer;
+    /// What the caller sends for a reception with this answer, at its setting.
+    fn sent(&self, setting: u8, answer: Answer, bytes: &[u8]) -> Vec<u8> {
+        sent_for(setting, answer, bytes)
+    }
     fn totals(&self) -> Totals;
     fn image(&self) -> Vec<u8>;
-    /// The restore of this image into a collector started fresh at this setting, with which
-    /// the history goes on.
-    fn restore(&mut self, image: &[u8], setting: u8) -> u8;
+    /// The restore of this image into a collector started fresh, with which the history goes on;
+    /// the number says nothing.
+    fn restore(&mut self, image: &[u8], number: u8) -> u8;
     /// The restore of an image that the input gives; where it is accepted, what it says is gone
     /// on with.
     fn restore_given(&mut self, image: &[u8]) -> u8;
@@ -59,11 +65,11 @@ pub trait Model {
 }
 
 impl Model for Clerk {
-    fn start(&mut self, setting: u8) {
-        *self = Clerk::new(setting);
+    fn start(&mut self, _setting: u8) {
+        *self = Clerk::new();
     }
 
-    fn take(&mut self, time: u64, bytes: &[u8]) -> (Answer, Option<Vec<u8>>) {
+    fn take(&mut self, time: u64, bytes: &[u8]) -> Answer {
         Clerk::take(self, time, bytes)
     }
 
@@ -75,9 +81,9 @@ impl Model for Clerk {
         Clerk::image(self)
     }
 
-    /// The clerk stays as he was: he is fed the first setting and the receptions and nothing
-    /// else. The number is that of the conditions of a reload.
-    fn restore(&mut self, image: &[u8], _setting: u8) -> u8 {
+    /// The clerk stays as he was: he is fed the receptions and nothing else. The number is that
+    /// of the conditions of a reload.
+    fn restore(&mut self, image: &[u8], _number: u8) -> u8 {
         restore_number(image)
     }
 
@@ -134,17 +140,18 @@ pub fn word(answer: Answer) -> String {
 /// The lines for a list of calls.
 pub fn show(calls: &[Call], model: &mut impl Model) -> String {
     let mut out = String::new();
-    let mut parked = 0;
+    let (mut parked, mut setting) = (0, 0);
     for call in calls {
         match call {
-            Call::Start(setting) => {
-                model.start(*setting);
+            Call::Start(kept) => {
+                setting = *kept;
+                model.start(setting);
                 parked = 0;
                 writeln!(out, "L 0").unwrap();
             }
             Call::Reception(time, bytes) => {
-                let (answer, sent) = model.take(*time, bytes);
-                let sent = hex_or_dash(&sent.unwrap_or_default());
+                let answer = model.take(*time, bytes);
+                let sent = hex_or_dash(&model.sent(setting, answer, bytes));
                 writeln!(out, "R {} {sent} {}", word(answer), model.totals().text()).unwrap();
             }
             Call::Park(n) => {
@@ -156,9 +163,9 @@ pub fn show(calls: &[Call], model: &mut impl Model) -> String {
                     writeln!(out, "I {}", hex(&output[..IMAGE])).unwrap();
                 }
             }
-            Call::Cut(setting) => {
+            Call::Cut(any) => {
                 let (number, output) = park(model, IMAGE);
-                let restored = model.restore(&output, *setting);
+                let restored = model.restore(&output, *any);
                 writeln!(out, "C {number} {restored} {}", model.totals().text()).unwrap();
             }
             Call::Spoiled(k) => {
@@ -196,7 +203,7 @@ pub fn record(call: &Call) -> [u8; 64] {
         Call::Start(setting) => (1, u64::from(*setting), &[]),
         Call::Reception(time, bytes) => (2, *time, bytes),
         Call::Park(n) => (3, *n as u64, &[]),
-        Call::Cut(setting) => (4, u64::from(*setting), &[]),
+        Call::Cut(any) => (4, u64::from(*any), &[]),
         Call::Spoiled(k) => (5, *k as u64, &[]),
         Call::Burst(burst) => (6, burst.records.len() as u64, &places),
         Call::Given(image) => (8, image.len() as u64, &[]),
@@ -206,6 +213,9 @@ pub fn record(call: &Call) -> [u8; 64] {
     record[1..9].copy_from_slice(&number.to_be_bytes());
     record[9] = bytes.len() as u8;
     record[10..10 + bytes.len()].copy_from_slice(bytes);
+    if let Call::Burst(burst) = call {
+        record[12] = burst.setting;
+    }
     record
 }
 
@@ -214,7 +224,7 @@ pub fn stdin() -> String {
 }
 
 pub fn stdout() -> String {
-    show(&calls(), &mut Clerk::new(0))
+    show(&calls(), &mut Clerk::new())
 }
 
 /// The records of the calls, a line each.

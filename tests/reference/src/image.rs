@@ -39,6 +39,7 @@ fn write_block(k: usize, numbers: [u64; 2], entries: &[Entry]) -> Vec<u8> {
     out
 }
 
+/// With this number in the setting's place: zero, or in an older image the setting.
 pub fn write(latest: u64, totals: &Totals, setting: u8, entries: &[Entry]) -> Vec<u8> {
     let numbers = [
         [latest, totals.received],
@@ -68,7 +69,6 @@ fn number(bytes: &[u8]) -> u64 {
 pub struct Reloaded {
     pub latest: u64,
     pub totals: Totals,
-    pub setting: u8,
     pub entries: Vec<Entry>,
 }
 
@@ -113,6 +113,7 @@ fn accept(image: &[u8]) -> Option<Reloaded> {
         late: first(3),
     };
     let latest = first(0);
+    // "an older image with 1 or 2 there is accepted" (document 02, A7), and nothing is said of it
     if second(3) > 2 {
         return None;
     }
@@ -151,7 +152,6 @@ fn accept(image: &[u8]) -> Option<Reloaded> {
     Some(Reloaded {
         latest,
         totals,
-        setting,
         entries,
     })
 }
@@ -165,7 +165,7 @@ mod tests {
 
     fn full_clerk() -> Clerk {
         let mut random = Random::new(5);
-        let mut clerk = Clerk::new(2);
+        let mut clerk = Clerk::new();
         clerk.take(3, &[]);
         for i in 0..70u64 {
             clerk.take(500 + i, &valid(&mut random));
@@ -189,7 +189,7 @@ mod tests {
         }
         assert_eq!(image[8..16], 569u64.to_be_bytes());
         assert_eq!(image[16..24], 71u64.to_be_bytes());
-        assert_eq!(image[512 * 3 + 16..512 * 3 + 24], 2u64.to_be_bytes());
+        assert_eq!(image[512 * 3 + 16..512 * 3 + 24], [0; 8]);
         assert_eq!(image[24..32], 500u64.to_be_bytes());
         let first = &clerk.noted[1].bytes;
         assert_eq!(usize::from(image[32]), first.len());
@@ -199,17 +199,36 @@ mod tests {
 
     #[test]
     fn a_fresh_image() {
-        let image = Clerk::new(1).image();
+        let image = Clerk::new().image();
         let mut expected = vec![0u8; 2560];
         for k in 0..5 {
             expected[512 * k] = k as u8;
         }
-        expected[512 * 3 + 23] = 1;
         for k in 0..5 {
             expected[512 * k + 511] = crc(&expected[512 * k..512 * k + 511]);
         }
         assert_eq!(image, expected);
         assert!(reload(&image).is_ok());
+    }
+
+    /// An image of before, with the setting in its place, says what one with zero there says, and
+    /// what is parked after it has zero there.
+    #[test]
+    fn an_older_image_is_accepted() {
+        let clerk = full_clerk();
+        let image = clerk.image();
+        for setting in 0..=255 {
+            let mut older = image.clone();
+            older[512 * 3 + 23] = setting;
+            older[512 * 3 + 511] = crc(&older[512 * 3..512 * 3 + 511]);
+            if setting > 2 {
+                assert_eq!(reload(&older), Err(11));
+                continue;
+            }
+            assert_eq!(reload(&older), reload(&image));
+            let again = Clerk::going_on(reload(&older).unwrap());
+            assert_eq!(again.image(), image);
+        }
     }
 
     #[test]

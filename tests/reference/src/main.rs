@@ -71,7 +71,7 @@ fn main() {
         ["history", "stdout"] => history::stdout().into_bytes(),
         ["long", "stdin"] => history::text(&scenarios::long_calls()).into_bytes(),
         ["long", "stdout"] => {
-            history::show(&scenarios::long_calls(), &mut clerk::Clerk::new(0)).into_bytes()
+            history::show(&scenarios::long_calls(), &mut clerk::Clerk::new()).into_bytes()
         }
         _ => usage(),
     };

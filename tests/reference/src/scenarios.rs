@@ -29,7 +29,7 @@ impl Maker {
     fn new(seed: u64) -> Maker {
         Maker {
             random: Random::new(seed),
-            clerk: Clerk::new(0),
+            clerk: Clerk::new(),
             now: 0,
             parked: 0,
             calls: Vec::new(),
@@ -37,7 +37,7 @@ impl Maker {
     }
 
     fn start(&mut self, setting: u8, now: u64) {
-        self.clerk = Clerk::new(setting);
+        self.clerk = Clerk::new();
         self.now = now;
         self.parked = 0;
         self.calls.push(Call::Start(setting));
@@ -46,7 +46,7 @@ impl Maker {
     /// Hands over one reception and no other call.
     fn reception_alone(&mut self, time: u64, bytes: &[u8]) -> Answer {
         self.calls.push(Call::Reception(time, bytes.to_vec()));
-        self.clerk.take(time, bytes).0
+        self.clerk.take(time, bytes)
     }
 
     /// Hands over one reception, and now and then another call after it.
@@ -75,8 +75,8 @@ impl Maker {
     }
 
     fn cut(&mut self) {
-        let setting = self.random.below(3) as u8;
-        self.calls.push(Call::Cut(setting));
+        let any = self.random.below(3) as u8;
+        self.calls.push(Call::Cut(any));
     }
 
     fn spoiled(&mut self) {

@@ -144,6 +144,9 @@ IsSummary s = Is S.the-row s (ofSummary s ∷ [])
 abbrev IsPlan : Plan → Type 0
 IsPlan p = Is P.the-row p (ofPlan p ∷ [])
 
+abbrev IsLevel : ℕ → Type 0
+IsLevel k = Is u8 k (vint w8 k ∷ [])
+
 abbrev IsHanded : Handed → Type 0
 IsHanded h = Is E.the-row h (ofHanded h ∷ [])
 
@@ -153,11 +156,11 @@ same [] = refl
 same (x ∷ xs) = ap (λ (l : List ℕ). x ∷ l) (same xs)
 
 abbrev stayed : Stays (f.ended .signature .params) (f.ended .kept)
-stayed = (stay-none (λ _. C.the-row) yes, (stay-none-slice (0 ∷ []) tt (plain (λ _. R.the-row)) yes, (gave-slice (1 ∷ []) tt (plain (λ _. Y.the-row)), tt)))
+stayed = (stay-none (λ _. C.the-row) yes, (stay-none (λ _. u8) yes, (stay-none-slice (0 ∷ []) tt (plain (λ _. R.the-row)) yes, (gave-slice (1 ∷ []) tt (plain (λ _. Y.the-row)), tt))))
 
--- where the cell of local k stands after b other things: the function has 19 locals, the last first. `low` is the same of locals 4 to 0 once the cells of 5, 6 and 7 are taken out
+-- where the cell of local k stands after b other things: the function has 20 locals, the last first. `low` is the same of locals 5 to 0 once the cells of 6, 7 and 8 are taken out
 abbrev cell : ℕ → ℕ → ℕ
-cell b k = b + 2 * (18 - k)
+cell b k = b + 2 * (19 - k)
 
 abbrev low : ℕ → ℕ → ℕ
 low b k = cell b k - 3
@@ -187,17 +190,17 @@ module _ {M : Type 1} (𝓤 : URA M) (H : Heap 𝓤) (A : Atoms 𝓤) (mem : Mem
   ToFinish = tripleOf 𝓤 H A fin.signature (fin.spec 𝓤 H A mem run)
 
   -- ---- `prepare`
-  abbrev to-prepare : Collector → ℕ → ℕ → ToPrepare .Ghost
-  to-prepare c n m = ((tt, tt, tt, (c, (n, (m, tt))), (ofCollector c ∷ [], (vint w64 n ∷ [], (vint w64 m ∷ [], tt)))), tt)
+  abbrev to-prepare : Collector → ℕ → ℕ → ℕ → ToPrepare .Ghost
+  to-prepare c g n m = ((tt, tt, tt, (c, (g, (n, (m, tt)))), (ofCollector c ∷ [], (vint w8 g ∷ [], (vint w64 n ∷ [], (vint w64 m ∷ [], tt))))), tt)
 
-  goes-prepare : (W : Given 𝓤 H A) (c : Collector) (n m : ℕ) → IsCollector c → Is usize n (vint w64 n ∷ []) → Is usize m (vint w64 m ∷ []) → ent 𝓤 (emp 𝓤) (ToPrepare .pre (to-prepare c n m))
-  goes-prepare W c n m ic gn gm =
+  goes-prepare : (W : Given 𝓤 H A) (c : Collector) (g n m : ℕ) → IsCollector c → IsLevel g → Is usize n (vint w64 n ∷ []) → Is usize m (vint w64 m ∷ []) → ent 𝓤 (emp 𝓤) (ToPrepare .pre (to-prepare c g n m))
+  goes-prepare W c g n m ic ig gn gm =
       qed W [] ∵ nothing ! $ owned ! usize (Is usize) (uint-makes 𝓤 H A W w64) m _ gm $ fjoin ! $
-      owned ! usize (Is usize) (uint-makes 𝓤 H A W w64) n _ gn $ fjoin ! $
+      owned ! usize (Is usize) (uint-makes 𝓤 H A W w64) n _ gn $ fjoin ! $ owned ! u8 (Is u8) (uint-makes 𝓤 H A W w8) g _ ig $ fjoin ! $
       owned ! C.the-row (Is C.the-row) (LL.makes C.the-type C′.the-plain 𝓤 H A) c _ ic $ fjoin ! $ nothing ! $ join ! $ frame ! $ done !
 
-  planned-of : (c : Collector) (n m : ℕ) (p : Plan) → ent 𝓤 (ensured 𝓤 H A prep.ended (prep.clauses 𝓤 H A mem run) tt (c, (n, (m, tt))) tt p) (fact 𝓤 (Planned c n m p))
-  planned-of c n m p = exE 𝓤 _ (λ ws. snd∗ 𝓤 (sem 𝓤 H A (lasts prep.ended tt (c, (n, (m, tt))) ws)) (fact 𝓤 (Planned c n m p)))
+  planned-of : (c : Collector) (g n m : ℕ) (p : Plan) → ent 𝓤 (ensured 𝓤 H A prep.ended (prep.clauses 𝓤 H A mem run) tt (c, (g, (n, (m, tt)))) tt p) (fact 𝓤 (Planned c g n m p))
+  planned-of c g n m p = exE 𝓤 _ (λ ws. snd∗ 𝓤 (sem 𝓤 H A (lasts prep.ended tt (c, (g, (n, (m, tt)))) ws)) (fact 𝓤 (Planned c g n m p)))
 
   -- ---- `finish`
   abbrev to-finish : List ℕ → List ℕ → List ℕ → Summary → Handed → ToFinish .Ghost
@@ -215,9 +218,9 @@ module _ {M : Type 1} (𝓤 : URA M) (H : Heap 𝓤) (A : Atoms 𝓤) (mem : Mem
   finished-of ts ls es s h r = exE 𝓤 _ (λ ws. snd∗ 𝓤 (sem 𝓤 H A (lasts fin.ended tt (ts, (ls, (es, (s, (h, tt))))) ws)) (fact 𝓤 (Finished ts ls es s h r)))
 
   -- ---- `deliver`: the three arrays at lifetimes that are made for the call, the two lists at their own
-  module _ (α₀ α₁ α₂ : ℕ) (κ₀ κ₁ : Lft) (q₀ q₁ : Share) (b₀ b₁ b₂ : ℕ) (δ₀ δ₁ δ₂ : GName) (ts ls es : List ℕ) (p : Plan) (receptions : RefT (List Reception)) (replies : RefT (List Reply)) where
-    abbrev passed : Bool × (RefT (List ℕ) × (RefT (List ℕ) × (RefT (List ℕ) × (Summary × (ℕ × (RefT (List Reception) × (RefT (List Reply) × Unit {0})))))))
-    passed = (p .fit, (ref-at b₀ δ₀ ts, (ref-at b₁ δ₁ ls, (ref-at b₂ δ₂ es, (p .summary, (p .count, (receptions, (replies, tt))))))))
+  module _ (α₀ α₁ α₂ : ℕ) (κ₀ κ₁ : Lft) (q₀ q₁ : Share) (b₀ b₁ b₂ : ℕ) (δ₀ δ₁ δ₂ : GName) (ts ls es : List ℕ) (p : Plan) (setting : ℕ) (receptions : RefT (List Reception)) (replies : RefT (List Reply)) where
+    abbrev passed : Bool × (RefT (List ℕ) × (RefT (List ℕ) × (RefT (List ℕ) × (Summary × (ℕ × (ℕ × (RefT (List Reception) × (RefT (List Reply) × Unit {0}))))))))
+    passed = (p .fit, (ref-at b₀ δ₀ ts, (ref-at b₁ δ₁ ls, (ref-at b₂ δ₂ es, (p .summary, (setting, (p .count, (receptions, (replies, tt)))))))))
 
     abbrev shared-val : List Val
     shared-val = sliceVal (receptions .ptr) (length (receptions .now)) ∷ []
@@ -232,7 +235,7 @@ module _ {M : Type 1} (𝓤 : URA M) (H : Heap 𝓤) (A : Atoms 𝓤) (mem : Mem
         (fullShare, (fullShare, (fullShare, (q₀, (q₁, tt))))),
         tt,
         passed,
-        (vbool (p .fit) ∷ [], (vptr b₀ 0 ∷ [], (vptr b₁ 0 ∷ [], (vptr b₂ 0 ∷ [], (ofSummary (p .summary) ∷ [], (vint w64 (p .count) ∷ [], (shared-val, (lent-val, tt)))))))),
+        (vbool (p .fit) ∷ [], (vptr b₀ 0 ∷ [], (vptr b₁ 0 ∷ [], (vptr b₂ 0 ∷ [], (ofSummary (p .summary) ∷ [], (vint w8 setting ∷ [], (vint w64 (p .count) ∷ [], (shared-val, (lent-val, tt))))))))),
       ),
       tt,
     )
@@ -243,16 +246,17 @@ module _ {M : Type 1} (𝓤 : URA M) (H : Heap 𝓤) (A : Atoms 𝓤) (mem : Mem
     abbrev lent-own : Fml
     lent-own = MutSlice (named 1) κ₁ Y.the-row .own replies lent-val
 
-    goes-deliver : (W : Given 𝓤 H A) → IsPlan p → (p .count ≤ length (receptions .now)) × (p .count ≤ length (replies .now))
+    goes-deliver : (W : Given 𝓤 H A) → IsPlan p → IsLevel setting → (p .count ≤ length (receptions .now)) × (p .count ≤ length (replies .now))
         → ent 𝓤 (⋆ 𝓤 H A ((‵ (flft (α₀ ∷ []) fullShare) ⊛ ‵ (flft (α₁ ∷ []) fullShare) ⊛ ‵ (flft (α₂ ∷ []) fullShare) ⊛ ‵ (flft κ₀ q₀) ⊛ ‵ (flft κ₁ q₁) ⊛ ‵ ftrue)
         ∷ (‵ (times-at (α₀ ∷ []) b₀ δ₀ ts) ⊛ ‵ (lens-at (α₁ ∷ []) b₁ δ₁ ls) ⊛ ‵ (entries-at (α₂ ∷ []) b₂ δ₂ es)) ∷ (‵ shared-own ⊛ ‵ lent-own) ∷ [])) (ToDeliver .pre to-deliver)
-    goes-deliver W ip fits =
+    goes-deliver W ip ig fits =
         qed W ((‵ (flft (α₀ ∷ []) fullShare) ⊛ ‵ (flft (α₁ ∷ []) fullShare) ⊛ ‵ (flft (α₂ ∷ []) fullShare) ⊛ ‵ (flft κ₀ q₀) ⊛ ‵ (flft κ₁ q₁) ⊛ ‵ ftrue)
         ∷ (‵ (times-at (α₀ ∷ []) b₀ δ₀ ts) ⊛ ‵ (lens-at (α₁ ∷ []) b₁ δ₁ ls) ⊛ ‵ (entries-at (α₂ ∷ []) b₂ δ₂ es)) ∷ (‵ shared-own ⊛ ‵ lent-own) ∷ []) ∵
         says ! fits $ frame ! $ split ! $ move ! (1 ∷ []) $ split ! $ move ! (3 ∷ []) $ split ! $
         -- [the first list; the second; lens; entries; times]
         nothing ! $ move ! (2 ∷ 0 ∷ []) $ fjoin ! $ move ! (1 ∷ 0 ∷ []) $ fjoin ! $
         owned ! usize (Is usize) (uint-makes 𝓤 H A W w64) (p .count) _ (LL.owed P.the-type P′.the-laws p _ ip .1 .0) $ fjoin ! $
+        owned ! u8 (Is u8) (uint-makes 𝓤 H A W w8) setting _ ig $ fjoin ! $
         owned ! S.the-row (Is S.the-row) (LL.makes S.the-type S′.the-plain 𝓤 H A) (p .summary) _ (LL.owed P.the-type P′.the-laws p _ ip .1 .1 .0) $
         fjoin ! $
         -- [the last four; lens; entries; times]
@@ -261,11 +265,11 @@ module _ {M : Type 1} (𝓤 : URA M) (H : Heap 𝓤) (A : Atoms 𝓤) (mem : Mem
 
 -- the last values of `deliver`'s parameters
 abbrev Lasts : Type 0
-Lasts = Unit {0} × (List ℕ × (List ℕ × (List ℕ × (Unit {0} × (Unit {0} × (Unit {0} × (List Reply × Unit {0})))))))
+Lasts = Unit {0} × (List ℕ × (List ℕ × (List ℕ × (Unit {0} × (Unit {0} × (Unit {0} × (Unit {0} × (List Reply × Unit {0}))))))))
 
 module _ {M : Type 1} (𝓤 : URA M) (H : Heap 𝓤) (A : Atoms 𝓤) (W : Given 𝓤 H A) (mem : Memory → SProp 𝓤) (run : Routine → Fun 𝓤) (κ₀ κ₁ : Lft) (q₀ q₁ : Share)
-    (c : Collector) (b₃ o₃ : ℕ) (γ₃ : GName) (rs : List Reception) (b₄ o₄ : ℕ) (γ₄ : GName) (ys : List Reply)
-    (ic : IsCollector c) (gr : Room R.the-row (length rs)) (gy : Room Y.the-row (length ys)) where
+    (c : Collector) (setting : ℕ) (b₃ o₃ : ℕ) (γ₃ : GName) (rs : List Reception) (b₄ o₄ : ℕ) (γ₄ : GName) (ys : List Reply)
+    (ic : IsCollector c) (ig : IsLevel setting) (gr : Room R.the-row (length rs)) (gy : Room Y.the-row (length ys)) where
   abbrev receptions : RefT (List Reception)
   receptions = record { ptr = (b₃, o₃); name = γ₃; now = rs }
 
@@ -278,11 +282,11 @@ module _ {M : Type 1} (𝓤 : URA M) (H : Heap 𝓤) (A : Atoms 𝓤) (W : Given
   abbrev ys-val : Val
   ys-val = sliceVal (b₄, o₄) (length ys)
 
-  abbrev a : Collector × (RefT (List Reception) × (RefT (List Reply) × Unit {0}))
-  a = (c, (receptions, (replies, tt)))
+  abbrev a : Collector × (ℕ × (RefT (List Reception) × (RefT (List Reply) × Unit {0})))
+  a = (c, (setting, (receptions, (replies, tt))))
 
-  abbrev vals : List Val × (List Val × (List Val × Unit {0}))
-  vals = (ofCollector c ∷ [], (rs-val ∷ [], (ys-val ∷ [], tt)))
+  abbrev vals : List Val × (List Val × (List Val × (List Val × Unit {0})))
+  vals = (ofCollector c ∷ [], (vint w8 setting ∷ [], (rs-val ∷ [], (ys-val ∷ [], tt))))
 
   abbrev bound : walkOf 𝓤 H A f.ended stayed (f.clauses 𝓤 H A mem run) .Ghost
   bound = (((κ₀, (κ₁, tt)), (q₀, (q₁, tt)), tt, a, vals), tt)
@@ -293,14 +297,15 @@ module _ {M : Type 1} (𝓤 : URA M) (H : Heap 𝓤) (A : Atoms 𝓤) (W : Given
   abbrev Shared : Fml
   Shared = ShrSlice (named 0) κ₀ R.the-row .own receptions (rs-val ∷ [])
 
-  exits : (r : Bursted) (v : Val) (zs : List Reply) → length zs ≡ length ys → burstedOf r zs ≡ burstOf (viewOf c) (map receptionOf rs) (map repliedOf ys)
+  exits : (r : Bursted) (v : Val) (zs : List Reply) → length zs ≡ length ys → burstedOf r zs ≡ burstOf setting (viewOf c) (map receptionOf rs) (map repliedOf ys)
       → ent 𝓤 (⋆ 𝓤 H A (‵ (B.the-row .own r (v ∷ [])) ∷ (‵ (flft κ₀ q₀) ⊛ ‵ (flft κ₁ q₁) ⊛ ‵ ftrue) ∷ ‵ (finally Y.the-row γ₄ zs) ∷ ‵ Shared ∷ [])) (Post v)
   exits r v zs l said =
       qed W (‵ (B.the-row .own r (v ∷ [])) ∷ (‵ (flft κ₀ q₀) ⊛ ‵ (flft κ₁ q₁) ⊛ ‵ ftrue) ∷ ‵ (finally Y.the-row γ₄ zs) ∷ ‵ Shared ∷ []) ∵
-      suffices ! _ (ends-at 𝓤 H A f.ended stayed (f.clauses 𝓤 H A mem run) W bound v r (tt, (tt, (zs, tt))) (tt, (tt, (l, tt)))) $ says ! said $
+      suffices ! _ (ends-at 𝓤 H A f.ended stayed (f.clauses 𝓤 H A mem run) W bound v r (tt, (tt, (tt, (zs, tt)))) (tt, (tt, (tt, (l, tt))))) $
+      says ! said $
       move ! (1 ∷ []) $ frame ! $
       -- [the result; the last list; the first]
-      nothing ! $ move ! (2 ∷ 0 ∷ []) $ fjoin ! $ move ! (2 ∷ 0 ∷ []) $ fjoin ! $
+      nothing ! $ move ! (2 ∷ 0 ∷ []) $ fjoin ! $ move ! (2 ∷ 0 ∷ []) $ fjoin ! $ owned ! u8 (Is u8) (uint-makes 𝓤 H A W w8) setting _ ig $ fjoin ! $
       owned ! C.the-row (Is C.the-row) (LL.makes C.the-type C′.the-plain 𝓤 H A) c _ ic $ fjoin ! $ frame ! $ done !
 
   -- the state's arrays
@@ -324,101 +329,101 @@ module _ {M : Type 1} (𝓤 : URA M) (H : Heap 𝓤) (A : Atoms 𝓤) (W : Given
 
   module _ (𝓣 : Tables 𝓤 H) (known-prepare : Triple 𝓤 (𝓣 .C #prepare) (ToPrepare 𝓤 H A mem run)) (known-deliver : Triple 𝓤 (𝓣 .C #deliver) (ToDeliver 𝓤 H A mem run))
       (known-finish : Triple 𝓤 (𝓣 .C #finish) (ToFinish 𝓤 H A mem run)) where
-    walk : ent 𝓤 (onEntry 𝓤 H A f.signature (κ₀, (κ₁, tt)) (q₀, (q₁, tt)) a vals) (WpFn 𝓤 H (𝓣 .C) (𝓣 .Λ) code.function (ofCollector c ∷ rs-val ∷ ys-val ∷ []) Post)
+    walk : ent 𝓤 (onEntry 𝓤 H A f.signature (κ₀, (κ₁, tt)) (q₀, (q₁, tt)) a vals) (WpFn 𝓤 H (𝓣 .C) (𝓣 .Λ) code.function (ofCollector c ∷ vint w8 setting ∷ rs-val ∷ ys-val ∷ []) Post)
     walk =
-        qed W ((‵ (flft κ₀ q₀) ⊛ ‵ (flft κ₁ q₁) ⊛ ‵ ftrue) ∷ ‵ (owns (C.the-row ∷ ShrSlice (named 0) κ₀ R.the-row ∷ MutSlice (named 1) κ₁ Y.the-row ∷ []) a vals) ∷ []) ∵
-        enter ! (𝓣 .C) (𝓣 .Λ) code.function (ofCollector c ∷ rs-val ∷ ys-val ∷ []) _ $
-        alloc1 ! (λ l₀. alloc1 ! (λ l₁. alloc1 ! (λ l₂. alloc1 ! (λ l₃. alloc1 ! (λ l₄. alloc1 ! (λ l₅. alloc1 ! (λ l₆. alloc1 ! (λ l₇. alloc1 ! (λ l₈. alloc1 ! (λ l₉. alloc1 ! (λ l₁₀. alloc1 ! (λ l₁₁. alloc1 ! (λ l₁₂. alloc1 ! (λ l₁₃. alloc1 ! (λ l₁₄. alloc1 ! (λ l₁₅. alloc1 ! (λ l₁₆. alloc1 ! (λ l₁₇. alloc1 ! (λ l₁₈. alloc0 ! $
+        qed W ((‵ (flft κ₀ q₀) ⊛ ‵ (flft κ₁ q₁) ⊛ ‵ ftrue) ∷ ‵ (owns (C.the-row ∷ u8 ∷ ShrSlice (named 0) κ₀ R.the-row ∷ MutSlice (named 1) κ₁ Y.the-row ∷ []) a vals) ∷ []) ∵
+        enter ! (𝓣 .C) (𝓣 .Λ) code.function (ofCollector c ∷ vint w8 setting ∷ rs-val ∷ ys-val ∷ []) _ $
+        alloc1 ! (λ l₀. alloc1 ! (λ l₁. alloc1 ! (λ l₂. alloc1 ! (λ l₃. alloc1 ! (λ l₄. alloc1 ! (λ l₅. alloc1 ! (λ l₆. alloc1 ! (λ l₇. alloc1 ! (λ l₈. alloc1 ! (λ l₉. alloc1 ! (λ l₁₀. alloc1 ! (λ l₁₁. alloc1 ! (λ l₁₂. alloc1 ! (λ l₁₃. alloc1 ! (λ l₁₄. alloc1 ! (λ l₁₅. alloc1 ! (λ l₁₆. alloc1 ! (λ l₁₇. alloc1 ! (λ l₁₈. alloc1 ! (λ l₁₉. alloc0 ! $
         params1 ! $
         pass1 ! (init ! (cell 0 1) refl (LL.lawful C.the-type C′.the-laws 𝓤 H A W .typed c _ ic .0)) $
-        pass1 ! (init ! (cell 0 2) refl (tt, (tt, (record { fits = gr .0 }, tt)))) $
-        pass1 ! (init ! (cell 0 3) refl (tt, (tt, (record { fits = gy .0 }, tt)))) $ pass0 ! $
+        pass1 ! (init ! (cell 0 2) refl (tt, record { fits = ig .1 })) $ pass1 ! (init ! (cell 0 3) refl (tt, (tt, (record { fits = gr .0 }, tt)))) $
+        pass1 ! (init ! (cell 0 4) refl (tt, (tt, (record { fits = gy .0 }, tt)))) $ pass0 ! $
         -- the lengths
-        assigns ! (of-opd ! (load ! (from ! (fld ! refl (stop !))) (look-in ! (cell 0 2) (sub ! 1 refl (whole !))))) (from ! (stop !)) (init ! (cell 0 9) refl (tt, record { fits = gr .0 })) $
-        assigns ! (of-opd ! (load ! (from ! (fld ! refl (stop !))) (look-in ! (cell 0 3) (sub ! 1 refl (whole !))))) (from ! (stop !)) (init ! (cell 0 10) refl (tt, record { fits = gy .0 })) $
+        assigns ! (of-opd ! (load ! (from ! (fld ! refl (stop !))) (look-in ! (cell 0 3) (sub ! 1 refl (whole !))))) (from ! (stop !)) (init ! (cell 0 10) refl (tt, record { fits = gr .0 })) $
+        assigns ! (of-opd ! (load ! (from ! (fld ! refl (stop !))) (look-in ! (cell 0 4) (sub ! 1 refl (whole !))))) (from ! (stop !)) (init ! (cell 0 11) refl (tt, record { fits = gy .0 })) $
         -- what the parameters own is taken apart, and the first list is had twice
-        move ! (39 ∷ []) $ fsplit ! $ drop ! $ fsplit ! $
+        move ! (41 ∷ []) $ fsplit ! $ drop ! $ fsplit ! $ drop ! $ fsplit ! $
         use1 W (‵ Shared ⊛ ‵ Shared) (shr-slice-copy 𝓤 H A W (named 0) κ₀ R.the-row .twice receptions (rs-val ∷ [])) $ split ! $ move ! (2 ∷ []) $
         fsplit ! $ move ! (1 ∷ []) $ drop ! $
-        -- [the second list; the first, twice; the locals, at 3; the tokens, at 41]: `prepare`
-        use0 W (raw (ToPrepare 𝓤 H A mem run .pre (to-prepare 𝓤 H A mem run c (length rs) (length ys)))) (goes-prepare 𝓤 H A mem run W c (length rs) (length ys) ic (refl, gr .0) (refl, gy .0)) $
-        calls-at ! (fmOf 𝓤 H (W .laws) 𝓣) (ToPrepare 𝓤 H A mem run) known-prepare (to-prepare 𝓤 H A mem run c (length rs) (length ys))
-        (and-then ! (load ! (from ! (stop !)) (look ! (cell 4 1) refl)) (and-then ! (load ! (from ! (stop !)) (look ! (cell 4 9) refl)) (and-then ! (load ! (from ! (stop !)) (look ! (cell 4 10) refl)) (no-more !)))) (λ w.
-        use1 W (later (some (λ (p : Plan). (‵ ftrue ⊛ ‵ (P.the-row .own p (w ∷ []))) ⊛ raw (ensured 𝓤 H A prep.ended (prep.clauses 𝓤 H A mem run) tt (c, (length rs, (length ys, tt))) tt p)))) (id⊢ 𝓤 _) $
+        -- [the second list; the first, twice; the locals, at 3; the tokens, at 43]: `prepare`
+        use0 W (raw (ToPrepare 𝓤 H A mem run .pre (to-prepare 𝓤 H A mem run c setting (length rs) (length ys)))) (goes-prepare 𝓤 H A mem run W c setting (length rs) (length ys) ic ig (refl, gr .0) (refl, gy .0)) $
+        calls-at ! (fmOf 𝓤 H (W .laws) 𝓣) (ToPrepare 𝓤 H A mem run) known-prepare (to-prepare 𝓤 H A mem run c setting (length rs) (length ys))
+        (and-then ! (load ! (from ! (stop !)) (look ! (cell 4 1) refl)) (and-then ! (load ! (from ! (stop !)) (look ! (cell 4 2) refl)) (and-then ! (load ! (from ! (stop !)) (look ! (cell 4 10) refl)) (and-then ! (load ! (from ! (stop !)) (look ! (cell 4 11) refl)) (no-more !))))) (λ w.
+        use1 W (later (some (λ (p : Plan). (‵ ftrue ⊛ ‵ (P.the-row .own p (w ∷ []))) ⊛ raw (ensured 𝓤 H A prep.ended (prep.clauses 𝓤 H A mem run) tt (c, (setting, (length rs, (length ys, tt)))) tt p)))) (id⊢ 𝓤 _) $
         await ! tt $ pick ! (λ p.
         split ! $ move ! (1 ∷ []) $
-        use1 W (raw (fact 𝓤 (Planned c (length rs) (length ys) p))) (planned-of 𝓤 H A mem run c (length rs) (length ys) p) $
-        heard ! (Planned c (length rs) (length ys) p) (λ planned.
+        use1 W (raw (fact 𝓤 (Planned c setting (length rs) (length ys) p))) (planned-of 𝓤 H A mem run c setting (length rs) (length ys) p) $
+        heard ! (Planned c setting (length rs) (length ys) p) (λ planned.
         split ! $ drop ! $ peeks ! P.the-row (Is P.the-row) (shows 𝓤 H A P.the-row) p (w ∷ []) (λ ipw.
-        land ! (from ! (stop !)) (init ! (cell 4 4) refl (LL.lawful P.the-type P′.the-laws 𝓤 H A W .typed p _ ipw .0)) $ drop ! $
-        rewrite ! (cell 3 4) (λ (u : Val). ‵ (fat fullShare P′.mir l₄ 0 u)) (ap only (LL.tells P.the-type P′.the-laws p _ ipw)) refl $
+        land ! (from ! (stop !)) (init ! (cell 4 5) refl (LL.lawful P.the-type P′.the-laws 𝓤 H A W .typed p _ ipw .0)) $ drop ! $
+        rewrite ! (cell 3 5) (λ (u : Val). ‵ (fat fullShare P′.mir l₅ 0 u)) (ap only (LL.tells P.the-type P′.the-laws p _ ipw)) refl $
         -- the arrays are copied, and references made
-        assigns ! (of-opd ! (load ! (from ! (fld ! refl (stop !))) (look-in ! (cell 3 1) (sub ! 0 refl (whole !))))) (from ! (stop !)) (init ! (cell 3 5) refl (typed-t (map (λ (x : ℕ). x) (c .times)) (LL.owed C.the-type C′.the-laws c _ ic .0))) $
-        rewrite ! (cell 3 5) (λ (xs : List ℕ). ‵ (fat fullShare t-ty l₅ 0 (only (words xs)))) (same (c .times)) refl $
-        assigns ! (of-opd ! (load ! (from ! (fld ! refl (stop !))) (look-in ! (cell 3 1) (sub ! 1 refl (whole !))))) (from ! (stop !)) (init ! (cell 3 6) refl (typed-l (map (λ (x : ℕ). x) (c .lens)) (LL.owed C.the-type C′.the-laws c _ ic .1 .0))) $
-        rewrite ! (cell 3 6) (λ (xs : List ℕ). ‵ (fat fullShare l-ty l₆ 0 (only (octets xs)))) (same (c .lens)) refl $
-        assigns ! (of-opd ! (load ! (from ! (fld ! refl (stop !))) (look-in ! (cell 3 1) (sub ! 2 refl (whole !))))) (from ! (stop !)) (init ! (cell 3 7) refl (typed-e (map (λ (x : ℕ). x) (c .bytes)) (LL.owed C.the-type C′.the-laws c _ ic .1 .1 .0))) $
-        rewrite ! (cell 3 7) (λ (xs : List ℕ). ‵ (fat fullShare e-ty l₇ 0 (only (octets xs)))) (same (c .bytes)) refl $
-        assigns ! (addr ! (from ! (stop !))) (from ! (stop !)) (init ! (cell 3 11) refl (tt, tt)) $
+        assigns ! (of-opd ! (load ! (from ! (fld ! refl (stop !))) (look-in ! (cell 3 1) (sub ! 0 refl (whole !))))) (from ! (stop !)) (init ! (cell 3 6) refl (typed-t (map (λ (x : ℕ). x) (c .times)) (LL.owed C.the-type C′.the-laws c _ ic .0))) $
+        rewrite ! (cell 3 6) (λ (xs : List ℕ). ‵ (fat fullShare t-ty l₆ 0 (only (words xs)))) (same (c .times)) refl $
+        assigns ! (of-opd ! (load ! (from ! (fld ! refl (stop !))) (look-in ! (cell 3 1) (sub ! 1 refl (whole !))))) (from ! (stop !)) (init ! (cell 3 7) refl (typed-l (map (λ (x : ℕ). x) (c .lens)) (LL.owed C.the-type C′.the-laws c _ ic .1 .0))) $
+        rewrite ! (cell 3 7) (λ (xs : List ℕ). ‵ (fat fullShare l-ty l₇ 0 (only (octets xs)))) (same (c .lens)) refl $
+        assigns ! (of-opd ! (load ! (from ! (fld ! refl (stop !))) (look-in ! (cell 3 1) (sub ! 2 refl (whole !))))) (from ! (stop !)) (init ! (cell 3 8) refl (typed-e (map (λ (x : ℕ). x) (c .bytes)) (LL.owed C.the-type C′.the-laws c _ ic .1 .1 .0))) $
+        rewrite ! (cell 3 8) (λ (xs : List ℕ). ‵ (fat fullShare e-ty l₈ 0 (only (octets xs)))) (same (c .bytes)) refl $
         assigns ! (addr ! (from ! (stop !))) (from ! (stop !)) (init ! (cell 3 12) refl (tt, tt)) $
         assigns ! (addr ! (from ! (stop !))) (from ! (stop !)) (init ! (cell 3 13) refl (tt, tt)) $
-        assigns ! (addr ! (from ! (fld ! refl (hop ! (look-in ! (cell 3 3) (sub ! 0 refl (whole !))) (stop !))))) (from ! (stop !)) (init ! (cell 3 14) refl (tt, tt)) $
-        assigns ! (agg ! (and-then ! (load ! (from ! (stop !)) (look ! (cell 3 14) refl)) (and-then ! (load ! (from ! (fld ! refl (stop !))) (look-in ! (cell 3 3) (sub ! 1 refl (whole !)))) (no-more !)))) (from ! (stop !)) (init ! (cell 3 15) refl (tt, (tt, (record { fits = gy .0 }, tt)))) $
+        assigns ! (addr ! (from ! (stop !))) (from ! (stop !)) (init ! (cell 3 14) refl (tt, tt)) $
+        assigns ! (addr ! (from ! (fld ! refl (hop ! (look-in ! (cell 3 4) (sub ! 0 refl (whole !))) (stop !))))) (from ! (stop !)) (init ! (cell 3 15) refl (tt, tt)) $
+        assigns ! (agg ! (and-then ! (load ! (from ! (stop !)) (look ! (cell 3 15) refl)) (and-then ! (load ! (from ! (fld ! refl (stop !))) (look-in ! (cell 3 4) (sub ! 1 refl (whole !)))) (no-more !)))) (from ! (stop !)) (init ! (cell 3 16) refl (tt, (tt, (record { fits = gy .0 }, tt)))) $
         -- each array is lent, for a lifetime of its own
         lft-new ! tt (λ α₀. lft-new ! tt (λ α₁. lft-new ! tt (λ α₂.
-        move ! (cell 6 5 ∷ []) $ laid u64 (uint-vals w64) 64 (c .times) l₅ ! (uint-makes 𝓤 H A W w64) is-ts $
-        use1 W (later (some (λ (δ₀ : GName). ‵ (times-at (α₀ ∷ []) l₅ δ₀ (c .times)) ⊛ ‵ (flent (α₀ ∷ []) (Body (inMemory Ts) l₅ 0 δ₀))))) (lends-ref 𝓤 H A W Ts (named 0) (α₀ ∷ []) (c .times) l₅ 0) $
+        move ! (cell 6 6 ∷ []) $ laid u64 (uint-vals w64) 64 (c .times) l₆ ! (uint-makes 𝓤 H A W w64) is-ts $
+        use1 W (later (some (λ (δ₀ : GName). ‵ (times-at (α₀ ∷ []) l₆ δ₀ (c .times)) ⊛ ‵ (flent (α₀ ∷ []) (Body (inMemory Ts) l₆ 0 δ₀))))) (lends-ref 𝓤 H A W Ts (named 0) (α₀ ∷ []) (c .times) l₆ 0) $
         await ! tt $ pick ! (λ δ₀. split ! $
-        move ! (cell 8 6 ∷ []) $ laid u8 (uint-vals w8) 64 (c .lens) l₆ ! (uint-makes 𝓤 H A W w8) is-ls $
-        use1 W (later (some (λ (δ₁ : GName). ‵ (lens-at (α₁ ∷ []) l₆ δ₁ (c .lens)) ⊛ ‵ (flent (α₁ ∷ []) (Body (inMemory Ls) l₆ 0 δ₁))))) (lends-ref 𝓤 H A W Ls (named 1) (α₁ ∷ []) (c .lens) l₆ 0) $
+        move ! (cell 8 7 ∷ []) $ laid u8 (uint-vals w8) 64 (c .lens) l₇ ! (uint-makes 𝓤 H A W w8) is-ls $
+        use1 W (later (some (λ (δ₁ : GName). ‵ (lens-at (α₁ ∷ []) l₇ δ₁ (c .lens)) ⊛ ‵ (flent (α₁ ∷ []) (Body (inMemory Ls) l₇ 0 δ₁))))) (lends-ref 𝓤 H A W Ls (named 1) (α₁ ∷ []) (c .lens) l₇ 0) $
         await ! tt $ pick ! (λ δ₁. split ! $
-        move ! (cell 10 7 ∷ []) $ laid u8 (uint-vals w8) 1344 (c .bytes) l₇ ! (uint-makes 𝓤 H A W w8) is-es $
-        use1 W (later (some (λ (δ₂ : GName). ‵ (entries-at (α₂ ∷ []) l₇ δ₂ (c .bytes)) ⊛ ‵ (flent (α₂ ∷ []) (Body (inMemory Es) l₇ 0 δ₂))))) (lends-ref 𝓤 H A W Es (named 2) (α₂ ∷ []) (c .bytes) l₇ 0) $
+        move ! (cell 10 8 ∷ []) $ laid u8 (uint-vals w8) 1344 (c .bytes) l₈ ! (uint-makes 𝓤 H A W w8) is-es $
+        use1 W (later (some (λ (δ₂ : GName). ‵ (entries-at (α₂ ∷ []) l₈ δ₂ (c .bytes)) ⊛ ‵ (flent (α₂ ∷ []) (Body (inMemory Es) l₈ 0 δ₂))))) (lends-ref 𝓤 H A W Es (named 2) (α₂ ∷ []) (c .bytes) l₈ 0) $
         await ! tt $ pick ! (λ δ₂. split ! $
-        -- [entries, its lender's part; lens, its; times, its; the tokens of the third, the second and the first lifetime; the second list; the first, twice; the locals, at 12; the lists' tokens, at 47]: `deliver`
-        move ! (6 ∷ 47 ∷ []) $ join ! $ move ! (7 ∷ 0 ∷ []) $ join ! $ move ! (7 ∷ 0 ∷ []) $ join ! $
+        -- [entries, its lender's part; lens, its; times, its; the tokens of the third, the second and the first lifetime; the second list; the first, twice; the locals, at 12; the lists' tokens, at 49]: `deliver`
+        move ! (6 ∷ 49 ∷ []) $ join ! $ move ! (7 ∷ 0 ∷ []) $ join ! $ move ! (7 ∷ 0 ∷ []) $ join ! $
         -- [all tokens; entries, its lender's part; lens, its; times, its; the second list; the first, twice; the locals, at 10]
         move ! (3 ∷ 1 ∷ []) $ join ! $ move ! (4 ∷ 0 ∷ []) $ join ! $ move ! (6 ∷ 5 ∷ []) $ join ! $ move ! (2 ∷ 1 ∷ 0 ∷ []) $
-        use3 W (raw (ToDeliver 𝓤 H A mem run .pre (to-deliver 𝓤 H A mem run α₀ α₁ α₂ κ₀ κ₁ q₀ q₁ l₅ l₆ l₇ δ₀ δ₁ δ₂ (c .times) (c .lens) (c .bytes) p receptions replies)))
-        (goes-deliver 𝓤 H A mem run α₀ α₁ α₂ κ₀ κ₁ q₀ q₁ l₅ l₆ l₇ δ₀ δ₁ δ₂ (c .times) (c .lens) (c .bytes) p receptions replies W (is-plan p w ipw) (planned .few, planned .placed)) $
+        use3 W (raw (ToDeliver 𝓤 H A mem run .pre (to-deliver 𝓤 H A mem run α₀ α₁ α₂ κ₀ κ₁ q₀ q₁ l₆ l₇ l₈ δ₀ δ₁ δ₂ (c .times) (c .lens) (c .bytes) p setting receptions replies)))
+        (goes-deliver 𝓤 H A mem run α₀ α₁ α₂ κ₀ κ₁ q₀ q₁ l₆ l₇ l₈ δ₀ δ₁ δ₂ (c .times) (c .lens) (c .bytes) p setting receptions replies W (is-plan p w ipw) ig (planned .few, planned .placed)) $
         -- [..; what is kept of entries, lens, times; the first list; the locals, at 5]
-        calls-at ! (fmOf 𝓤 H (W .laws) 𝓣) (ToDeliver 𝓤 H A mem run) known-deliver (to-deliver 𝓤 H A mem run α₀ α₁ α₂ κ₀ κ₁ q₀ q₁ l₅ l₆ l₇ δ₀ δ₁ δ₂ (c .times) (c .lens) (c .bytes) p receptions replies)
-        (and-then ! (load ! (from ! (fld ! refl (stop !))) (look-in ! (low 5 4) (sub ! 0 refl (whole !)))) (and-then ! (load ! (from ! (stop !)) (look ! (cell 5 11) refl)) (and-then ! (load ! (from ! (stop !)) (look ! (cell 5 12) refl)) (and-then ! (load ! (from ! (stop !)) (look ! (cell 5 13) refl))
-        (and-then ! (load ! (from ! (fld ! refl (stop !))) (look-in ! (low 5 4) (sub ! 2 refl (whole !)))) (and-then ! (load ! (from ! (fld ! refl (stop !))) (look-in ! (low 5 4) (sub ! 1 refl (whole !)))) (and-then ! (load ! (from ! (stop !)) (look ! (low 5 2) refl)) (and-then ! (load ! (from ! (stop !)) (look ! (cell 5 15) refl)) (no-more !))))))))) (λ w₁.
+        calls-at ! (fmOf 𝓤 H (W .laws) 𝓣) (ToDeliver 𝓤 H A mem run) known-deliver (to-deliver 𝓤 H A mem run α₀ α₁ α₂ κ₀ κ₁ q₀ q₁ l₆ l₇ l₈ δ₀ δ₁ δ₂ (c .times) (c .lens) (c .bytes) p setting receptions replies)
+        (and-then ! (load ! (from ! (fld ! refl (stop !))) (look-in ! (low 5 5) (sub ! 0 refl (whole !)))) (and-then ! (load ! (from ! (stop !)) (look ! (cell 5 12) refl)) (and-then ! (load ! (from ! (stop !)) (look ! (cell 5 13) refl)) (and-then ! (load ! (from ! (stop !)) (look ! (cell 5 14) refl))
+        (and-then ! (load ! (from ! (fld ! refl (stop !))) (look-in ! (low 5 5) (sub ! 2 refl (whole !)))) (and-then ! (load ! (from ! (stop !)) (look ! (low 5 2) refl)) (and-then ! (load ! (from ! (fld ! refl (stop !))) (look-in ! (low 5 5) (sub ! 1 refl (whole !)))) (and-then ! (load ! (from ! (stop !)) (look ! (low 5 3) refl)) (and-then ! (load ! (from ! (stop !)) (look ! (cell 5 16) refl)) (no-more !)))))))))) (λ w₁.
         use1 W (later (some (λ (s : Summary). ((‵ (flft (α₀ ∷ []) fullShare) ⊛ ‵ (flft (α₁ ∷ []) fullShare) ⊛ ‵ (flft (α₂ ∷ []) fullShare) ⊛ ‵ (flft κ₀ q₀) ⊛ ‵ (flft κ₁ q₁) ⊛ ‵ ftrue) ⊛ ‵ (S.the-row .own s (w₁ ∷ [])))
-        ⊛ raw (ensured 𝓤 H A give.ended (give.clauses 𝓤 H A mem run) (α₀ ∷ [], (α₁ ∷ [], (α₂ ∷ [], (κ₀, (κ₁, tt))))) (passed 𝓤 H A mem run α₀ α₁ α₂ κ₀ κ₁ q₀ q₁ l₅ l₆ l₇ δ₀ δ₁ δ₂ (c .times) (c .lens) (c .bytes) p receptions replies) tt s)))) (id⊢ 𝓤 _) $
+        ⊛ raw (ensured 𝓤 H A give.ended (give.clauses 𝓤 H A mem run) (α₀ ∷ [], (α₁ ∷ [], (α₂ ∷ [], (κ₀, (κ₁, tt))))) (passed 𝓤 H A mem run α₀ α₁ α₂ κ₀ κ₁ q₀ q₁ l₆ l₇ l₈ δ₀ δ₁ δ₂ (c .times) (c .lens) (c .bytes) p setting receptions replies) tt s)))) (id⊢ 𝓤 _) $
         await ! tt $ pick ! (λ s.
         split ! $ move ! (1 ∷ []) $
-        use1 W (some (λ (ws : Lasts). ‵ (lasts give.ended (α₀ ∷ [], (α₁ ∷ [], (α₂ ∷ [], (κ₀, (κ₁, tt))))) (passed 𝓤 H A mem run α₀ α₁ α₂ κ₀ κ₁ q₀ q₁ l₅ l₆ l₇ δ₀ δ₁ δ₂ (c .times) (c .lens) (c .bytes) p receptions replies) ws)
-        ⊛ raw (fact 𝓤 (Delivered (p .fit) (c .times) (c .lens) (c .bytes) (p .summary) (p .count) rs ys (ws .1 .0) (ws .1 .1 .0) (ws .1 .1 .1 .0) s (ws .1 .1 .1 .1 .1 .1 .1 .0))))) (id⊢ 𝓤 _) $
+        use1 W (some (λ (ws : Lasts). ‵ (lasts give.ended (α₀ ∷ [], (α₁ ∷ [], (α₂ ∷ [], (κ₀, (κ₁, tt))))) (passed 𝓤 H A mem run α₀ α₁ α₂ κ₀ κ₁ q₀ q₁ l₆ l₇ l₈ δ₀ δ₁ δ₂ (c .times) (c .lens) (c .bytes) p setting receptions replies) ws)
+        ⊛ raw (fact 𝓤 (Delivered setting (p .fit) (c .times) (c .lens) (c .bytes) (p .summary) (p .count) rs ys (ws .1 .0) (ws .1 .1 .0) (ws .1 .1 .1 .0) s (ws .1 .1 .1 .1 .1 .1 .1 .1 .0))))) (id⊢ 𝓤 _) $
         pick ! (λ ws.
         split ! $ move ! (1 ∷ []) $
-        heard ! (Delivered (p .fit) (c .times) (c .lens) (c .bytes) (p .summary) (p .count) rs ys (ws .1 .0) (ws .1 .1 .0) (ws .1 .1 .1 .0) s (ws .1 .1 .1 .1 .1 .1 .1 .0)) (λ delivered.
+        heard ! (Delivered setting (p .fit) (c .times) (c .lens) (c .bytes) (p .summary) (p .count) rs ys (ws .1 .0) (ws .1 .1 .0) (ws .1 .1 .1 .0) s (ws .1 .1 .1 .1 .1 .1 .1 .1 .0)) (λ delivered.
         fsplit ! $ drop ! $ fsplit ! $ move ! (1 ∷ []) $ fsplit ! $ move ! (1 ∷ []) $ fsplit ! $ move ! (1 ∷ []) $ fsplit ! $ drop ! $ fsplit ! $
-        drop ! $ fsplit ! $ drop ! $ fsplit ! $ fsplit ! $ move ! (1 ∷ []) $ feqL ! (λ long.
+        drop ! $ fsplit ! $ drop ! $ fsplit ! $ drop ! $ fsplit ! $ fsplit ! $ move ! (1 ∷ []) $ feqL ! (λ long.
         -- [the last second list; true; entries, lens, times at last; the tokens and the result; what is kept of entries, lens, times; the first list; the locals, at 10]
         move ! (5 ∷ []) $ split ! $ move ! (1 ∷ []) $ peeks ! S.the-row (Is S.the-row) (shows 𝓤 H A S.the-row) s (w₁ ∷ []) (λ isw.
-        land ! (from ! (stop !)) (init ! (cell 11 8) refl (LL.lawful S.the-type S′.the-laws 𝓤 H A W .typed s _ isw .0)) $ drop ! $
-        rewrite ! (cell 10 8) (λ (u : Val). ‵ (fat fullShare S′.mir l₈ 0 u)) (ap only (LL.tells S.the-type S′.the-laws s _ isw)) refl $
+        land ! (from ! (stop !)) (init ! (cell 11 9) refl (LL.lawful S.the-type S′.the-laws 𝓤 H A W .typed s _ isw .0)) $ drop ! $
+        rewrite ! (cell 10 9) (λ (u : Val). ‵ (fat fullShare S′.mir l₉ 0 u)) (ap only (LL.tells S.the-type S′.the-laws s _ isw)) refl $
         -- the lifetimes are ended, and the arrays come back at what `deliver` left in them
         split ! $ lft-end ! tt $ move ! (0 ∷ 9 ∷ 6 ∷ []) $
-        use3 W (later (‵ (inMemory Ts .lies (ws .1 .0) l₅ 0))) (ref-back 𝓤 H A W Ts (α₀ ∷ []) δ₀ (ws .1 .0) l₅ 0) $ await ! tt $
-        lifted u64 (uint-vals w64) 64 (ws .1 .0) l₅ ! (uint-tells w64) (λ it.
+        use3 W (later (‵ (inMemory Ts .lies (ws .1 .0) l₆ 0))) (ref-back 𝓤 H A W Ts (α₀ ∷ []) δ₀ (ws .1 .0) l₆ 0) $ await ! tt $
+        lifted u64 (uint-vals w64) 64 (ws .1 .0) l₆ ! (uint-tells w64) (λ it.
         move ! (1 ∷ []) $ split ! $ lft-end ! tt $ move ! (0 ∷ 8 ∷ 6 ∷ []) $
-        use3 W (later (‵ (inMemory Ls .lies (ws .1 .1 .0) l₆ 0))) (ref-back 𝓤 H A W Ls (α₁ ∷ []) δ₁ (ws .1 .1 .0) l₆ 0) $ await ! tt $
-        lifted u8 (uint-vals w8) 64 (ws .1 .1 .0) l₆ ! (uint-tells w8) (λ il.
+        use3 W (later (‵ (inMemory Ls .lies (ws .1 .1 .0) l₇ 0))) (ref-back 𝓤 H A W Ls (α₁ ∷ []) δ₁ (ws .1 .1 .0) l₇ 0) $ await ! tt $
+        lifted u8 (uint-vals w8) 64 (ws .1 .1 .0) l₇ ! (uint-tells w8) (λ il.
         move ! (1 ∷ []) $ split ! $ lft-end ! tt $ move ! (0 ∷ 7 ∷ 6 ∷ []) $
-        use3 W (later (‵ (inMemory Es .lies (ws .1 .1 .1 .0) l₇ 0))) (ref-back 𝓤 H A W Es (α₂ ∷ []) δ₂ (ws .1 .1 .1 .0) l₇ 0) $ await ! tt $
-        lifted u8 (uint-vals w8) 1344 (ws .1 .1 .1 .0) l₇ ! (uint-tells w8) (λ ie.
+        use3 W (later (‵ (inMemory Es .lies (ws .1 .1 .1 .0) l₈ 0))) (ref-back 𝓤 H A W Es (α₂ ∷ []) δ₂ (ws .1 .1 .1 .0) l₈ 0) $ await ! tt $
+        lifted u8 (uint-vals w8) 1344 (ws .1 .1 .1 .0) l₈ ! (uint-tells w8) (λ ie.
         -- [entries; the lists' tokens; lens; times; the last second list; true; the first list; the locals, at 7]: `finish`
-        assigns ! (of-opd ! (load ! (from ! (stop !)) (look ! 3 refl))) (from ! (stop !)) (init ! (cell 7 16) refl (typed-t (ws .1 .0) it)) $
-        assigns ! (of-opd ! (load ! (from ! (stop !)) (look ! 2 refl))) (from ! (stop !)) (init ! (cell 7 17) refl (typed-l (ws .1 .1 .0) il)) $
-        assigns ! (of-opd ! (load ! (from ! (stop !)) (look ! 0 refl))) (from ! (stop !)) (init ! (cell 7 18) refl (typed-e (ws .1 .1 .1 .0) ie)) $
+        assigns ! (of-opd ! (load ! (from ! (stop !)) (look ! 3 refl))) (from ! (stop !)) (init ! (cell 7 17) refl (typed-t (ws .1 .0) it)) $
+        assigns ! (of-opd ! (load ! (from ! (stop !)) (look ! 2 refl))) (from ! (stop !)) (init ! (cell 7 18) refl (typed-l (ws .1 .1 .0) il)) $
+        assigns ! (of-opd ! (load ! (from ! (stop !)) (look ! 0 refl))) (from ! (stop !)) (init ! (cell 7 19) refl (typed-e (ws .1 .1 .1 .0) ie)) $
         use0 W (raw (ToFinish 𝓤 H A mem run .pre (to-finish 𝓤 H A mem run (ws .1 .0) (ws .1 .1 .0) (ws .1 .1 .1 .0) s (p .answer))))
         (goes-finish 𝓤 H A mem run W (ws .1 .0) (ws .1 .1 .0) (ws .1 .1 .1 .0) s (p .answer) it il ie (subst (Is S.the-row s) (LL.tells S.the-type S′.the-laws s _ isw) isw) (LL.owed P.the-type P′.the-laws p _ ipw .1 .1 .1 .0)) $
         calls-at ! (fmOf 𝓤 H (W .laws) 𝓣) (ToFinish 𝓤 H A mem run) known-finish (to-finish 𝓤 H A mem run (ws .1 .0) (ws .1 .1 .0) (ws .1 .1 .1 .0) s (p .answer))
-        (and-then ! (load ! (from ! (stop !)) (look ! (cell 8 16) refl)) (and-then ! (load ! (from ! (stop !)) (look ! (cell 8 17) refl)) (and-then ! (load ! (from ! (stop !)) (look ! (cell 8 18) refl)) (and-then ! (load ! (from ! (stop !)) (look ! (cell 8 8) refl))
-        (and-then ! (load ! (from ! (fld ! refl (stop !))) (look-in ! (low 8 4) (sub ! 3 refl (whole !)))) (no-more !)))))) (λ w₂.
+        (and-then ! (load ! (from ! (stop !)) (look ! (cell 8 17) refl)) (and-then ! (load ! (from ! (stop !)) (look ! (cell 8 18) refl)) (and-then ! (load ! (from ! (stop !)) (look ! (cell 8 19) refl)) (and-then ! (load ! (from ! (stop !)) (look ! (cell 8 9) refl))
+        (and-then ! (load ! (from ! (fld ! refl (stop !))) (look-in ! (low 8 5) (sub ! 3 refl (whole !)))) (no-more !)))))) (λ w₂.
         use1 W (later (some (λ (r : Bursted). (‵ ftrue ⊛ ‵ (B.the-row .own r (w₂ ∷ []))) ⊛ raw (ensured 𝓤 H A fin.ended (fin.clauses 𝓤 H A mem run) tt (ws .1 .0, (ws .1 .1 .0, (ws .1 .1 .1 .0, (s, (p .answer, tt))))) tt r)))) (id⊢ 𝓤 _) $
         await ! tt $ pick ! (λ r.
         split ! $ move ! (1 ∷ []) $
@@ -428,21 +433,22 @@ module _ {M : Type 1} (𝓤 : URA M) (H : Heap 𝓤) (A : Atoms 𝓤) (W : Given
         -- [the result; entries; the lists' tokens; lens; times; the last second list; true; the first list; the locals, at 8]
         land ! (from ! (stop !)) (init ! (low 8 0) refl (LL.lawful B.the-type B′.the-laws 𝓤 H A W .typed r _ ib .0)) $
         returns ! (look ! (low 8 0) refl) $ forget ! 1 refl $ forget ! 3 refl $ forget ! 4 refl $
-        forget ! (cell 8 18) refl $ forget ! (cell 8 17) refl $ forget ! (cell 8 16) refl $ forget ! (cell 8 15) refl $ forget ! (cell 8 14) refl $
-        forget ! (cell 8 13) refl $ forget ! (cell 8 12) refl $ forget ! (cell 8 11) refl $ forget ! (cell 8 10) refl $ forget ! (cell 8 9) refl $
-        forget ! (cell 8 8) refl $
-        forget ! (low 8 4) refl $ forget ! (low 8 3) refl $ forget ! (low 8 2) refl $ forget ! (low 8 1) refl $ forget ! (low 8 0) refl $
+        forget ! (cell 8 19) refl $ forget ! (cell 8 18) refl $ forget ! (cell 8 17) refl $ forget ! (cell 8 16) refl $ forget ! (cell 8 15) refl $
+        forget ! (cell 8 14) refl $ forget ! (cell 8 13) refl $ forget ! (cell 8 12) refl $ forget ! (cell 8 11) refl $ forget ! (cell 8 10) refl $
+        forget ! (cell 8 9) refl $
+        forget ! (low 8 5) refl $ forget ! (low 8 4) refl $ forget ! (low 8 3) refl $ forget ! (low 8 2) refl $ forget ! (low 8 1) refl $
+        forget ! (low 8 0) refl $
         move ! (low 8 0 ∷ low 9 0 ∷ []) $ free1 ! $ move ! (low 8 1 ∷ low 9 1 ∷ []) $ free1 ! $ move ! (low 8 2 ∷ low 9 2 ∷ []) $ free1 ! $
-        move ! (low 8 3 ∷ low 9 3 ∷ []) $ free1 ! $ move ! (low 8 4 ∷ low 9 4 ∷ []) $ free1 ! $
+        move ! (low 8 3 ∷ low 9 3 ∷ []) $ free1 ! $ move ! (low 8 4 ∷ low 9 4 ∷ []) $ free1 ! $ move ! (low 8 5 ∷ low 9 5 ∷ []) $ free1 ! $
         move ! (4 ∷ 32 ∷ []) $ free1 ! $ move ! (3 ∷ 30 ∷ []) $ free1 ! $ move ! (1 ∷ 28 ∷ []) $ free1 ! $
         -- [the result; the lists' tokens; the last second list; true; the first list; the locals, at 5]
-        move ! (cell 5 8 ∷ cell 6 8 ∷ []) $ free1 ! $ move ! (cell 5 9 ∷ cell 6 9 ∷ []) $ free1 ! $ move ! (cell 5 10 ∷ cell 6 10 ∷ []) $ free1 ! $
-        move ! (cell 5 11 ∷ cell 6 11 ∷ []) $ free1 ! $ move ! (cell 5 12 ∷ cell 6 12 ∷ []) $ free1 ! $ move ! (cell 5 13 ∷ cell 6 13 ∷ []) $
+        move ! (cell 5 9 ∷ cell 6 9 ∷ []) $ free1 ! $ move ! (cell 5 10 ∷ cell 6 10 ∷ []) $ free1 ! $ move ! (cell 5 11 ∷ cell 6 11 ∷ []) $ free1 ! $
+        move ! (cell 5 12 ∷ cell 6 12 ∷ []) $ free1 ! $ move ! (cell 5 13 ∷ cell 6 13 ∷ []) $ free1 ! $ move ! (cell 5 14 ∷ cell 6 14 ∷ []) $
         free1 ! $
-        move ! (cell 5 14 ∷ cell 6 14 ∷ []) $ free1 ! $ move ! (cell 5 15 ∷ cell 6 15 ∷ []) $ free1 ! $ move ! (cell 5 16 ∷ cell 6 16 ∷ []) $
-        free1 ! $ move ! (cell 5 17 ∷ cell 6 17 ∷ []) $ free1 ! $ move ! (cell 5 18 ∷ cell 6 18 ∷ []) $ free1 ! $ free0 ! $
+        move ! (cell 5 15 ∷ cell 6 15 ∷ []) $ free1 ! $ move ! (cell 5 16 ∷ cell 6 16 ∷ []) $ free1 ! $ move ! (cell 5 17 ∷ cell 6 17 ∷ []) $
+        free1 ! $ move ! (cell 5 18 ∷ cell 6 18 ∷ []) $ free1 ! $ move ! (cell 5 19 ∷ cell 6 19 ∷ []) $ free1 ! $ free0 ! $
         keep ! (0 ∷ 1 ∷ 2 ∷ 4 ∷ []) $
-        by ! (exits r w₂ (ws .1 .1 .1 .1 .1 .1 .1 .0) long (law.whole c rs ys r planned delivered finished))))))))))))))))))))))))))))))))))))))))))))
+        by ! (exits r w₂ (ws .1 .1 .1 .1 .1 .1 .1 .1 .0) long (law.whole c setting rs ys r planned delivered finished)))))))))))))))))))))))))))))))))))))))))))))
       where
         is-plan : (p : Plan) (w : Val) → Is P.the-row p (w ∷ []) → IsPlan p
         is-plan p w i = subst (Is P.the-row p) (LL.tells P.the-type P′.the-laws p _ i) i
@@ -451,15 +457,15 @@ module _ {M : Type 1} (𝓤 : URA M) (H : Heap 𝓤) (A : Atoms 𝓤) (W : Given
     (known-deliver : Triple 𝓤 (𝓣 .C #deliver) (ToDeliver 𝓤 H A mem run)) (known-finish : Triple 𝓤 (𝓣 .C #finish) (ToFinish 𝓤 H A mem run)) where
   burst-walks : Walks 𝓤 H A f.ended stayed (WpFn 𝓤 H (𝓣 .C) (𝓣 .Λ) code.function) (f.clauses 𝓤 H A mem run)
   burst-walks = walked 𝓤 H A f.ended stayed (f.clauses 𝓤 H A mem run) (WpFn 𝓤 H (𝓣 .C) (𝓣 .Λ) code.function)
-      (λ κs. (LL.vals C.the-type C′.the-laws, (slice-vals, (slice-vals, tt))))
-      (λ κs. (LL.tells C.the-type C′.the-laws, (shr-slice-tells (named 0) (κs .0) R.the-row, (mut-slice-tells (named 1) (κs .1 .0) Y.the-row, tt))))
-      (λ κs qs bounds a g are. via 𝓤 _ (fst∗ 𝓤 _ (emp 𝓤)) (walk 𝓤 H A W mem run (κs .0) (κs .1 .0) (qs .0) (qs .1 .0) (a .0)
-      (a .1 .0 .ptr .0) (a .1 .0 .ptr .1) (a .1 .0 .name) (a .1 .0 .now) (a .1 .1 .0 .ptr .0) (a .1 .1 .0 .ptr .1) (a .1 .1 .0 .name) (a .1 .1 .0 .now)
-      (are .0) (are .1 .0 .0 .1) (are .1 .1 .0 .0 .1) 𝓣 known-prepare known-deliver known-finish))
+      (λ κs. (LL.vals C.the-type C′.the-laws, (uint-vals w8, (slice-vals, (slice-vals, tt)))))
+      (λ κs. (LL.tells C.the-type C′.the-laws, (uint-tells w8, (shr-slice-tells (named 0) (κs .0) R.the-row, (mut-slice-tells (named 1) (κs .1 .0) Y.the-row, tt)))))
+      (λ κs qs bounds a g are. via 𝓤 _ (fst∗ 𝓤 _ (emp 𝓤)) (walk 𝓤 H A W mem run (κs .0) (κs .1 .0) (qs .0) (qs .1 .0) (a .0) (a .1 .0)
+      (a .1 .1 .0 .ptr .0) (a .1 .1 .0 .ptr .1) (a .1 .1 .0 .name) (a .1 .1 .0 .now) (a .1 .1 .1 .0 .ptr .0) (a .1 .1 .1 .0 .ptr .1) (a .1 .1 .1 .0 .name) (a .1 .1 .1 .0 .now)
+      (are .0) (are .1 .0) (are .1 .1 .0 .0 .1) (are .1 .1 .1 .0 .0 .1) 𝓣 known-prepare known-deliver known-finish))
 
   burst-meets : Meets 𝓤 H A f.signature (WpFn 𝓤 H (𝓣 .C) (𝓣 .Λ) code.function) (f.spec 𝓤 H A mem run)
   burst-meets = walk-meets 𝓤 H A f.ended stayed W
-      (goes-none 𝓤 H A W 2 (λ _. C.the-row) yes (λ κs x f. refl), (goes-none-slice 𝓤 H A W 2 (0 ∷ []) tt (plain (λ _. R.the-row)) yes, (goes-gave-slice 𝓤 H A W 2 1 tt (plain (λ _. Y.the-row)), tt)))
+      (goes-none 𝓤 H A W 2 (λ _. C.the-row) yes (λ κs x f. refl), (goes-none 𝓤 H A W 2 (λ _. u8) yes (λ κs x f. refl), (goes-none-slice 𝓤 H A W 2 (0 ∷ []) tt (plain (λ _. R.the-row)) yes, (goes-gave-slice 𝓤 H A W 2 1 tt (plain (λ _. Y.the-row)), tt))))
       (f.clauses 𝓤 H A mem run) (WpFn 𝓤 H (𝓣 .C) (𝓣 .Λ) code.function) (WpFn-mono 𝓤 H (W .laws) 𝓣 code.function) burst-walks
 
 pub burst-spec : {M : Type 1} → stated.statement M

@@ -6,10 +6,10 @@ use Rattle.burst_bench.proofs.bursts_from.Statement.{statement}
 use Rattle.burst_bench.proofs.bursts_from.Tie as tie
 
 abbrev Inv-loop : tie.InvT-loop
-Inv-loop c records size rounds none figure₀ i₀ figure i = i ≤ rounds
+Inv-loop c setting records size rounds none figure₀ i₀ figure i = i ≤ rounds
 
 abbrev μ-loop : tie.MeasureT-loop
-μ-loop c records size rounds none figure₀ i₀ figure i = rounds - i
+μ-loop c setting records size rounds none figure₀ i₀ figure i = rounds - i
 
 pub bursts-from-spec : {M : Type 1} → statement M
 bursts-from-spec =

@@ -1,6 +1,6 @@
 -- `collecting::merge_lines` meets its contract. The invariant: the lines up to `at` were taken, what they give stands before `to`, and the test of
 -- the state says what it said. The measure is what is left of the input. Assumes nothing.
-use mathlib.Core.Path.{_≡_, refl, _∙_}
+use mathlib.Core.Path.{_≡_, refl, ap, _∙_}
 use mathlib.Core.List.{List}
 use Prim.Native.Nat.{ℕ, _+_, _-_, _*_, _^_, _<_, _≤_}
 use native.Mathlib.Omega.{arith}
@@ -10,6 +10,7 @@ use denote.Ref.{now}
 use lib.ListN.{length, take, drop, length-take, length-drop}
 use lib.Seq.{length-take-le}
 use Rattle.bytes.specs.Bytes.{indexOf}
+use Rattle.model.specs.Step.{Outcome}
 use Rattle.collector.specs.Admission.{viewIn, admittedOf, Tested}
 use Rattle.collector.proofs.Stepping.{admission-fit, tested-next}
 use Rattle.line_input.specs.Ascii.{newline}
@@ -24,21 +25,22 @@ use Rattle.streams.proofs.Segments.{open-whole}
 use Rattle.streams.proofs.Limit.{bounded}
 use Rattle.streams.proofs.Takes.{fed-none}
 use Rattle.collecting.specs.Session.{merging, taken, longestLine}
-use Rattle.collecting.proofs.Taking.{lineAt, none-written, open-from-start, bad-line, reception-line, time-room, time-short, time-text, same-length}
+use Rattle.collecting.proofs.Taking.{lineAt, none-written, open-from-start, bad-line, reception-line, time-room, time-short, time-text, same-length, relayed-bytes}
 use Rattle.collecting.proofs.merge_lines.Statement.{statement}
 use Rattle.collecting.proofs.merge_lines.Tie as tie
 
 abbrev Inv-loop : tie.InvT-loop
-Inv-loop fit times₀ lens₀ entries₀ input out₀ summary₀ bytes₀ at₀ to₀ times lens entries out summary bytes at to =
+Inv-loop fit setting times₀ lens₀ entries₀ input out₀ summary₀ bytes₀ at₀ to₀ times lens entries out summary bytes at to =
     (at ≤ length input)
     × (to ≤ length out)
     × (length out ≡ length out₀)
     × (to ≤ longestLine * at)
     × Tested fit (viewIn times lens entries summary)
-    × Fed (collect merging) (running (viewIn times₀ lens₀ entries₀ summary₀)) (take at input) out₀ (running (viewIn times lens entries summary)) out to
+    × Fed (collect merging) (running (record { setting = setting; view = viewIn times₀ lens₀ entries₀ summary₀ })) (take at input) out₀
+    (running (record { setting = setting; view = viewIn times lens entries summary })) out to
 
 abbrev μ-loop : tie.MeasureT-loop
-μ-loop fit times₀ lens₀ entries₀ input out₀ summary₀ bytes₀ at₀ to₀ times lens entries out summary bytes at to = length input - at
+μ-loop fit setting times₀ lens₀ entries₀ input out₀ summary₀ bytes₀ at₀ to₀ times lens entries out summary bytes at to = length input - at
 
 loop-holds : tie.Need-loop-holds Inv-loop μ-loop
 loop-holds c = (omega arith, omega arith, refl, omega arith, c .before .before .pre, fed-none (collect merging) (bounded merging) _ _)
@@ -166,9 +168,14 @@ part-put-answer-start c = omega (arith, spare (reading c))
 part-put-answer-end : tie.Need-part-put-answer-end Inv-loop μ-loop
 part-put-answer-end c = omega (arith, within (passed (reading c)))
 
+part-put-answer-end-2 : tie.Need-part-put-answer-end-2 Inv-loop μ-loop
+part-put-answer-end-2 c =
+    let i = reading (c .before .before) in
+    omega (arith, len-fits _ (answer (parsed i)))
+
 put-answer-requires : tie.Need-put-answer-requires Inv-loop μ-loop
 put-answer-requires c κs =
-    let i = reading (c .before) in
+    let i = reading (c .before .before .before) in
     let e = ended (passed i) in
     let k = indexOf newline (rest i) in
     let n = here i .loop .at + parsed i .parse .result .used - (2 * parsed i .parse .result .len + 2) - here i .loop .at in
@@ -176,20 +183,20 @@ put-answer-requires c κs =
 
 loop-less-2 : tie.Need-loop-less-2 Inv-loop μ-loop
 loop-less-2 c =
-    let i = passed (reading (c .before .before .before .before)) in
+    let i = passed (reading (c .before .before .before .before .before .before)) in
     omega (arith, within i, ended i .1)
 
 loop-again-2 : tie.Need-loop-again-2 Inv-loop μ-loop
 loop-again-2 c =
     let q = c .before .before in
-    let g = q .before .before in
+    let g = q .before .before .before .before in
     let i = reading g in
     let l = here i in
     let a = g .before .before in
     let z : parsed i .parse .result .len - 0 ≡ parsed i .parse .result .len = omega arith in
     let o = rw z at (a .admit .ensures ∙ admission-fit _ _ _ (l .loop .inv .4 .said)) in
     let small : parsed i .parse .result .time < 2 ^ 64 = search needs in
-    let w = q .put-answer .ensures in
+    let w = rw z at (q .put-answer .ensures) in
     let same = same-length w in
     let spare-out = parsed i .before .before .before .loop-test .taken in (
       within (passed i),
@@ -198,7 +205,8 @@ loop-again-2 c =
       omega (arith, w .short, l .loop .inv .3, ended (passed i) .1),
       rw (← o) at (tested-next _ (record { bytes = bytes i; time = parsed i .parse .result .time }) (l .loop .inv .4) small),
       reception-line (input l) (l .loop .at) (parsed i .parse .result .used) (l .loop .inv .5) (ended (passed i)) (l .loop .inv .0) (omega (arith, w .short, same, spare-out, l .loop .inv .2))
-          (admittedOf (a .admit .last .1 .0) (a .admit .last .1 .1 .0) (a .admit .last .1 .1 .1 .0) (a .admit .result)) (says i) o (time g) (q .put-answer .ensures),
+          (admittedOf (a .admit .last .1 .0) (a .admit .last .1 .1 .0) (a .admit .last .1 .1 .1 .0) (a .admit .result)) (says i) o (time g)
+          (relayed-bytes _ _ _ (record { bytes = bytes i; time = parsed i .parse .result .time }) _ (ap (λ (x : Outcome). x .answer) (rw z at (a .admit .ensures)))) w,
     )
 
 returns : tie.Need-returns Inv-loop μ-loop
@@ -243,6 +251,9 @@ merge-lines-spec =
     sub-put-answer
     part-put-answer-start
     part-put-answer-end
+    (λ c. search needs)
+    (λ c. search needs)
+    part-put-answer-end-2
     put-answer-requires
     loop-less-2
     loop-again-2

@@ -1,40 +1,48 @@
 -- `collecting::put_answer` meets its contract: what is sent has no more bytes than its array. Assumes nothing.
-use mathlib.Core.Path.{_≡_}
-use Prim.Native.Nat.{_-_, _≤_, min}
+use mathlib.Core.Path.{_≡_, ap, _∙_}
+use mathlib.Core.List.{List}
+use Prim.Native.Nat.{ℕ, _-_, _≤_}
 use native.Mathlib.Omega.{arith}
-use lib.ListN.{length, length-take}
+use lib.ListN.{length, take, replicate}
 use borrow.Author.Needs.{needs}
-use Rattle.telegram.specs.declared.frame.Frame.{Frame}
+use denote.Ref.{now}
+use Rattle.telegram.specs.Output.{Result}
+use Rattle.telegram.proofs.Frames.{written-length}
+use Rattle.model.specs.Answer.{shownOf}
+use Rattle.collector.specs.Merging.{relayedFor}
 use Rattle.line_output.proofs.Stores.{within, if-fits}
-use Rattle.collecting.proofs.Taking.{front-bytes}
+use Rattle.collecting.proofs.Taking.{relayed-short, sent-front}
 use Rattle.collecting.proofs.put_answer.Statement.{statement}
 use Rattle.collecting.proofs.put_answer.Tie as tie
 
-abbrev sent : tie.After-bytes2 → Frame
-sent c = c .before .before .before .before .before .before .before .before .args .done .sent
+-- what is sent
+abbrev sent : tie.After-relay-kept → List ℕ
+sent c =
+    let a = c .before .before .before .before .before .args in
+    relayedFor (a .setting) (shownOf (a .answer)) (now (a .bytes))
 
-full : (c : tie.After-bytes2) → length (sent c .bytes) ≡ 21
-full c = search needs
+short : (c : tie.After-relay-kept) → length (sent c) ≤ 21
+short c = relayed-short _ _ _
+
+front : (c : tie.After-relay-kept) → (c .relay-kept .result ≡ length (sent c)) × (take (c .relay-kept .result) (c .relay-kept .last .1 .1 .1 .0) ≡ sent c)
+front c = sent-front (sent c) (replicate 21 0) (c .relay-kept .ensures)
+
+full : (c : tie.After-relay-kept) → length (c .relay-kept .last .1 .1 .1 .0) ≡ 21
+full c = ap (λ (r : Result). length (r .output)) (c .relay-kept .ensures) ∙ written-length (sent c) (replicate 21 0) (short c)
 
 part-put-row-end : tie.Need-part-put-row-end
 part-put-row-end c =
-    let l = c .before .before .before in
-    let e : l .least .result ≡ min (sent c .len) 21 = l .least .ensures in
-    let h = full c in
-    omega arith
+    let k = c .before .before .before in
+    omega (arith, front k .0, short k, full k)
 
 returns : tie.Need-returns
 returns c =
     let q = c .before .before in
     let r = q .before .before .before in
-    let l = r .before .before in
-    let s = sent (q .before .before) in
-    let h = full (q .before .before) in
-    let e : l .least .result ≡ min (s .len) 21 = l .least .ensures in
-    let z : l .least .result - 0 ≡ min (s .len) 21 = omega arith in
-    let n : min (s .len) 21 ≤ 21 = omega arith in
-    let w = rw (r .row-of .ensures, z, front-bytes (s .len) 21 (s .bytes) (omega arith)) at (if-fits (omega arith) (q .put-row .ensures)) in
-    within w (omega (arith, length-take (s .len) (s .bytes)))
+    let k = r .before .before in
+    let z : k .relay-kept .result - 0 ≡ k .relay-kept .result = omega arith in
+    let w = rw (r .row-of .ensures, z, front k .1) at (if-fits (omega (arith, front k .0, short k)) (q .put-row .ensures)) in
+    within w (omega (arith, short k))
 
 pub put-answer-spec : {M : Type 1} → statement M
 put-answer-spec =

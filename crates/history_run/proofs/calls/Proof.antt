@@ -17,7 +17,6 @@ calls-spec =
     Inv-loop
     μ-loop
     (λ c κs. search needs)
-    (λ c κs. search needs)
     (λ c. tt)
     (λ c. search needs)
     (λ c κs. search needs)

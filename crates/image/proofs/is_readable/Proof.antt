@@ -7,7 +7,8 @@ use borrow.Author.Tests.{eq-eqb, ne-eqb}
 use denote.Ref.{now}
 use lib.Dec.{leb}
 use lib.ListN.{length}
-use Rattle.model.specs.View.{capacity, maxSetting}
+use Rattle.telegram.specs.Repeater.{maxSetting}
+use Rattle.model.specs.View.{capacity}
 use Rattle.model.specs.Image.{imageLength}
 use Rattle.image.proofs.is_readable.Statement.{statement}
 use Rattle.image.proofs.is_readable.Tie as tie

@@ -1,10 +1,7 @@
 -- `image::parse` meets its contract, field by field. Assumes nothing.
 use mathlib.Core.Path.{refl, ap, _∙_}
-use Prim.Native.Nat.{_≤_}
-use native.Mathlib.Omega.{arith}
 use borrow.Author.Needs.{needs}
 use denote.Ref.{now}
-use Rattle.model.specs.View.{maxSetting}
 use Rattle.model.specs.Image.{parse}
 use Rattle.collector.specs.Collector.{viewOf}
 use Rattle.image.specs.Checkpoint.{entriesIn}
@@ -16,20 +13,13 @@ read-entries-requires c κs =
     let n = c .before .before .before in
     (refl, refl, refl, n .before .before .pre .0, rw (n .count-in .ensures) (n .before .before .pre .1))
 
-cast-setting : tie.Need-cast-t19
-cast-setting c =
-    let s = c .before .before .before .before .before .before .before .before .before .before .before .before in
-    let small : c .before .second-in .result ≤ maxSetting = rw (c .before .second-in .ensures) (s .pre .2) in
-    omega arith
-
 returns : tie.Need-returns
 unfolding viewOf parse
 returns c =
-    let read = c .before .before .before .before .before .before in
+    let read = c .before .before .before .before .before in
     let n = read .before .before .before .before in
     λ i. record {
-      setting = c .before .second-in .ensures i;
-      latest = c .before .before .first-in .ensures i;
+      latest = c .before .first-in .ensures i;
       totals = c .totals-in .ensures i;
       entries = (read .read-entries .ensures ∙ ap (entriesIn (now (n .before .before .args .image))) (n .count-in .ensures)) i;
     }
@@ -45,6 +35,4 @@ parse-spec =
     read-entries-requires
     (λ c κs. search needs)
     (λ c κs. search needs)
-    (λ c κs. search needs)
-    cast-setting
     returns)

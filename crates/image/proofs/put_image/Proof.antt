@@ -9,7 +9,7 @@ use Rattle.layout.specs.Buffer.{part}
 use Rattle.layout.specs.Block.{blockLength}
 use Rattle.layout.proofs.Segments.{Begun, begin, begun-length, within, lent, turn, turned}
 use Rattle.model.specs.View.{Reception}
-use Rattle.model.specs.Image.{blockAt, imageOf}
+use Rattle.model.specs.Image.{blockAt, imageWith}
 use Rattle.collector.specs.Collector.{entriesAt}
 use Rattle.image.specs.Checkpoint.{blockWith}
 use Rattle.image.proofs.put_image.Statement.{statement}
@@ -67,7 +67,7 @@ loop-again c =
     (omega arith, one-more _ _ _ (at .loop .k) _ (at .loop .inv .1) (omega arith) (put .put-block .ensures) (put .put-block .kept .0) (omega arith))
 
 returns : tie.Need-returns Inv-loop μ-loop
-unfolding imageOf blocks blockAt
+unfolding imageWith blocks blockAt
 returns c = turned _ _ blockLength 5 _ _ (c .before .loop .inv .1) (omega arith) refl .is
 
 pub put-image-spec : {M : Type 1} → statement M

@@ -1,5 +1,6 @@
 -- `image::restore` meets its contract: a case for each answer, in the order of the tests. Assumes nothing.
-use mathlib.Core.Path.{_≡_, sym, ap, _∙_}
+use native.Mathlib.Omega.{arith}
+use mathlib.Core.Path.{_≡_, sym, ap, ap₂, _∙_}
 use mathlib.Core.Bool.{true}
 use mathlib.Core.List.{List}
 use Prim.Native.Nat.{ℕ, _≤_}
@@ -7,9 +8,10 @@ use borrow.Author.Needs.{needs}
 use borrow.Author.Tests.{not-true, not-false}
 use denote.Ref.{now}
 use lib.ListN.{length}
-use Rattle.model.specs.View.{View, capacity, maxSetting}
+use Rattle.telegram.specs.Repeater.{maxSetting}
+use Rattle.model.specs.View.{View, capacity}
 use Rattle.model.specs.Acceptable.{acceptable}
-use Rattle.model.specs.Image.{imageLength, secondIn, countIn, parse}
+use Rattle.model.specs.Image.{imageLength, settingIn, countIn, parse}
 use Rattle.model.proofs.Returns.{restore-unacceptable}
 use Rattle.collector.specs.Collector.{viewOf}
 use Rattle.image.specs.Checkpoint.{isImageOf}
@@ -42,7 +44,7 @@ returns-2 c =
 -- what can be read of the image
 read : (c : tie.Else2) →
     let image = image-of (c .before .before .before) in
-    (length image ≡ imageLength) × (countIn image ≤ capacity) × (secondIn 3 image ≤ maxSetting)
+    (length image ≡ imageLength) × (countIn image ≤ capacity) × (settingIn image ≤ maxSetting)
 read c = readable (image-of (c .before .before .before)) (sym (c .before .is-readable .ensures) ∙ not-false _ (c .if2 .left))
 
 -- what the last test says of the image
@@ -50,27 +52,27 @@ abbrev parsed : tie.After-is-image-of → tie.After-parse
 parsed c = c .before .before .before .before .before .before
 
 compared : (c : tie.After-is-image-of) →
-    let image = image-of (parsed c .before .before .before .before) in
-    c .is-image-of .result ≡ isImageOf (parse image) image
+    let image = image-of (parsed c .before .before .before .before .before) in
+    c .is-image-of .result ≡ isImageOf (settingIn image) (parse image) image
 unfolding viewOf
 compared c =
     let p = parsed c in
-    let image = image-of (p .before .before .before .before) in
-    c .is-image-of .ensures ∙ ap (λ (v : View). isImageOf v image) (p .parse .ensures)
+    let image = image-of (p .before .before .before .before .before) in
+    c .is-image-of .ensures ∙ ap₂ (λ (n : ℕ) (v : View). isImageOf n v image) (p .before .second-in .ensures) (p .parse .ensures)
 
 returns-3 : tie.Need-returns-3
 returns-3 c =
     let i = c .before .before in
-    let e = parsed i .before in
+    let e = parsed i .before .before in
     c .refused3 .ensures
-    ∙ restore-other _ _ (passed (e .before .before)) (read e .0) (sym (compared i) ∙ not-true _ (c .before .if3 .taken))
+    ∙ restore-other _ _ (passed (e .before .before)) (read e .0) (read e .2) (sym (compared i) ∙ not-true _ (c .before .if3 .taken))
 
 returns-4 : tie.Need-returns-4
 returns-4 c =
     let p = parsed (c .before) in
-    let e = p .before in
+    let e = p .before .before in
     ap restoredWith (p .parse .ensures)
-    ∙ restore-done _ _ (passed (e .before .before)) (read e .0) (sym (compared (c .before)) ∙ not-false _ (c .if3 .left))
+    ∙ restore-done _ _ (passed (e .before .before)) (read e .0) (read e .2) (sym (compared (c .before)) ∙ not-false _ (c .if3 .left))
 
 pub restore-spec : {M : Type 1} → statement M
 restore-spec =
@@ -82,7 +84,8 @@ restore-spec =
     (λ c κs. search needs)
     (λ c κs. search needs)
     returns-2
-    (λ c κs. read c)
+    (λ c κs. (read c .0, omega arith))
+    (λ c κs. (read (c .before) .0, read (c .before) .1))
     (λ c κs. search needs)
     (λ c κs. search needs)
     returns-3

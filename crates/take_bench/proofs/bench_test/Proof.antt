@@ -6,10 +6,10 @@ use Rattle.take_bench.proofs.bench_test.Statement.{statement}
 use Rattle.take_bench.proofs.bench_test.Tie as tie
 
 abbrev Inv-loop : tie.InvT-loop
-Inv-loop setting cells rounds c passed₀ i₀ passed i = i ≤ rounds
+Inv-loop cells rounds c passed₀ i₀ passed i = i ≤ rounds
 
 abbrev μ-loop : tie.MeasureT-loop
-μ-loop setting cells rounds c passed₀ i₀ passed i = rounds - i
+μ-loop cells rounds c passed₀ i₀ passed i = rounds - i
 
 pub bench-test-spec : {M : Type 1} → statement M
 bench-test-spec =

@@ -8,10 +8,10 @@ use Rattle.take_bench.proofs.taken_all.Statement.{statement}
 use Rattle.take_bench.proofs.taken_all.Tie as tie
 
 abbrev Inv-loop : tie.InvT-loop
-Inv-loop setting cells c₀ figure₀ i₀ i-end c figure i = (i ≤ length cells / 32) × (i-end ≡ length cells / 32)
+Inv-loop cells c₀ figure₀ i₀ i-end c figure i = (i ≤ length cells / 32) × (i-end ≡ length cells / 32)
 
 abbrev μ-loop : tie.MeasureT-loop
-μ-loop setting cells c₀ figure₀ i₀ i-end c figure i = length cells / 32 - i
+μ-loop cells c₀ figure₀ i₀ i-end c figure i = length cells / 32 - i
 
 pub taken-all-spec : {M : Type 1} → statement M
 taken-all-spec =

@@ -9,7 +9,7 @@ use Rattle.collector.proofs.Collector.take.Tie as tie
 returns : tie.Need-returns
 unfolding viewOf
 returns c =
-    let a = c .before .before .before in
+    let a = c .before .before in
     a .admit .ensures ∙ admission-fit _ _ _ (a .before .before .before .before .is-acceptable .ensures)
 
 pub take-spec : {M : Type 1} → statement M

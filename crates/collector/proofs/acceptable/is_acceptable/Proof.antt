@@ -7,58 +7,53 @@ use denote.Ref.{now}
 use Rattle.collector.specs.Collector.{entriesAt}
 use Rattle.collector.specs.Acceptable.{areTimely, areTelegrams}
 use Rattle.collector.proofs.Arrays.{entries-length}
-use Rattle.collector.proofs.Accepting.{bad-setting, too-many, not-timely, not-telegrams, not-summed, all-passed}
+use Rattle.collector.proofs.Accepting.{too-many, not-timely, not-telegrams, not-summed, all-passed}
 use Rattle.collector.proofs.acceptable.is_acceptable.Statement.{statement}
 use Rattle.collector.proofs.acceptable.is_acceptable.Tie as tie
 
 returns : tie.Need-returns
-returns c = bad-setting _ _ (entries-length _ _ _ _) (c .if1 .taken)
+returns c = too-many _ _ (entries-length _ _ _ _) (c .if1 .taken)
 
 returns-2 : tie.Need-returns-2
-returns-2 c = too-many _ _ (entries-length _ _ _ _) (c .before .if1 .left) (c .if2 .taken)
+returns-2 c =
+    let t = c .before in
+    not-timely _ _ (entries-length _ _ _ _) (t .before .before .if1 .left) (sym (t .are-timely .ensures _ _) ∙ not-true _ (c .if2 .taken))
+
+timely : (c : tie.Else2)
+    → (let a = c .before .before .before .before .args in areTimely (a .latest) (entriesAt (now (a .times)) (now (a .lens)) (now (a .bytes)) (a .count)) ≡ true)
+timely c = sym (c .before .are-timely .ensures _ _) ∙ not-false _ (c .if2 .left)
 
 returns-3 : tie.Need-returns-3
 returns-3 c =
     let t = c .before in
-    let e = t .before .before in
-    not-timely _ _ (entries-length _ _ _ _) (e .before .if1 .left) (e .if2 .left) (sym (t .are-timely .ensures _ _) ∙ not-true _ (c .if3 .taken))
+    let e = t .before .before .before .before in
+    not-telegrams _ _ (entries-length _ _ _ _) (e .if1 .left) (timely (t .before)) (sym (t .are-telegrams .ensures) ∙ not-true _ (c .if3 .taken))
 
-timely : (c : tie.Else3)
-    → (let a = c .before .before .before .before .before .args in areTimely (a .latest) (entriesAt (now (a .times)) (now (a .lens)) (now (a .bytes)) (a .count)) ≡ true)
-timely c = sym (c .before .are-timely .ensures _ _) ∙ not-false _ (c .if3 .left)
+telegrams : (c : tie.Else3)
+    → (let a = c .before .before .before .before .before .before .args in areTelegrams (entriesAt (now (a .times)) (now (a .lens)) (now (a .bytes)) (a .count)) ≡ true)
+telegrams c = sym (c .before .are-telegrams .ensures) ∙ not-false _ (c .if3 .left)
 
 returns-4 : tie.Need-returns-4
 returns-4 c =
     let t = c .before in
-    let e = t .before .before .before .before in
-    not-telegrams _ _ (entries-length _ _ _ _) (e .before .if1 .left) (e .if2 .left) (timely (t .before)) (sym (t .are-telegrams .ensures) ∙ not-true _ (c .if4 .taken))
-
-telegrams : (c : tie.Else4)
-    → (let a = c .before .before .before .before .before .before .before .args in areTelegrams (entriesAt (now (a .times)) (now (a .lens)) (now (a .bytes)) (a .count)) ≡ true)
-telegrams c = sym (c .before .are-telegrams .ensures) ∙ not-false _ (c .if4 .left)
+    let e = t .before .before .before .before .before .before in
+    not-summed _ _ (entries-length _ _ _ _) (e .if1 .left) (timely (t .before .before .before)) (telegrams (t .before)) (sym (t .is-summed .ensures) ∙ not-true _ (c .if4 .taken))
 
 returns-5 : tie.Need-returns-5
 returns-5 c =
-    let t = c .before in
-    let e = t .before .before .before .before .before .before in
-    not-summed _ _ (entries-length _ _ _ _) (e .before .if1 .left) (e .if2 .left) (timely (t .before .before .before)) (telegrams (t .before)) (sym (t .is-summed .ensures) ∙ not-true _ (c .if5 .taken))
-
-returns-6 : tie.Need-returns-6
-returns-6 c =
     let t = c .before .before in
     let e = t .before .before .before .before .before .before in
-    all-passed _ _ (entries-length _ _ _ _) (e .before .if1 .left) (e .if2 .left) (timely (t .before .before .before)) (telegrams (t .before)) (sym (t .is-summed .ensures) ∙ not-false _ (c .before .if5 .left))
+    all-passed _ _ (entries-length _ _ _ _) (e .if1 .left) (timely (t .before .before .before)) (telegrams (t .before)) (sym (t .is-summed .ensures) ∙ not-false _ (c .before .if4 .left))
 
 pub is-acceptable-spec : {M : Type 1} → statement M
 is-acceptable-spec =
     tie.close
     (tie.spec
     returns
+    (λ c κs. search needs)
     returns-2
     (λ c κs. search needs)
     returns-3
     (λ c κs. search needs)
     returns-4
-    (λ c κs. search needs)
-    returns-5
-    returns-6)
+    returns-5)

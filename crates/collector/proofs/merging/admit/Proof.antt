@@ -24,7 +24,6 @@ self c = record {
   bytes = now (c .args .bytes);
   count = c .args .summary .count;
   latest = c .args .summary .latest;
-  setting = c .args .summary .setting;
   totals = c .args .summary .totals;
 }
 
@@ -112,12 +111,12 @@ counted-requires c κs =
 returns-2 : tie.Need-returns-2
 unfolding viewOf
 returns-2 c =
-    let k = c .before .before .before .before .before .before .before .before .before in
+    let k = c .before .before .before .before .before .before .before .before in
     let a = k .before in
     let s = start (gone a) in
-    taken (closed (gone a)) (said a) (k .is-kept .ensures) (c .before .before .before .before .before .before .before .put-time .ensures)
-    (c .before .before .before .before .before .put-len .ensures) (c .before .before .before .put-bytes .ensures) _ _ _
-    (c .before .before .count-after .ensures) (c .before .counted .ensures) (c .sent-for .ensures)
+    taken (closed (gone a)) (said a) (k .is-kept .ensures) (c .before .before .before .before .before .before .put-time .ensures)
+    (c .before .before .before .before .put-len .ensures) (c .before .before .put-bytes .ensures) _ _
+    (c .before .count-after .ensures) (c .counted .ensures)
     ∙ is-taken (s .args .fit) (self s) (reception s) (fit (checking (gone a) .before))
 
 pub admit-spec : {M : Type 1} → statement M
@@ -141,5 +140,4 @@ admit-spec =
     put-bytes-requires
     (λ c κs e. fits (c .before .before .before .before .before .before) e .0)
     counted-requires
-    (λ c κs e. fits (c .before .before .before .before .before .before .before .before) e .1)
     returns-2)

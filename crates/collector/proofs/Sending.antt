@@ -1,0 +1,46 @@
+-- What is sent for a reception that was admitted: one that is kept is valid, so that bytes which are not checked again give what the repeater step
+-- gives. Assumes nothing.
+use Prim.Native.Nat.{ℕ}
+use mathlib.Core.Path.{_≡_}
+use mathlib.Core.Bool.{Bool, true, false, cond, _&&_, false≢true}
+use mathlib.Core.List.{List}
+use borrow.Author.Tests.{eqb-true}
+use Rattle.lists.proofs.Tests.{by-test}
+use Rattle.erp1.specs.Subtelegram.{isValid}
+use Rattle.telegram.specs.Frame.{frameOf}
+use Rattle.telegram.specs.Output.{written}
+use Rattle.telegram.specs.Repeater.{relayOf}
+use Rattle.telegram.proofs.Repeating.{repeat-valid}
+use Rattle.model.specs.Answer.{Shown, isKept}
+use Rattle.model.specs.View.{Reception, View}
+use Rattle.model.specs.Step.{sentFor}
+use Rattle.collector.specs.Merging.{relayedFor}
+use Rattle.collector.specs.Admission.{isSafe, admitted, notAdmitted, admission}
+use Rattle.collector.proofs.Admitting.{kept-room}
+
+-- ---- the two ways out of `relay_kept`
+
+module _ (setting : ℕ) (a : Shown) (bytes out : List ℕ) where
+  pub relay-nothing : isKept a ≡ false → record { number = 0; len = 0; output = out } ≡ written (relayedFor setting a bytes) out
+  unfolding relayedFor
+  relay-nothing e = rw e
+
+  pub relay-anything : isKept a ≡ true → written (relayOf setting bytes) out ≡ written (relayedFor setting a bytes) out
+  unfolding relayedFor
+  relay-anything e = rw e
+
+-- ---- of a reception that was admitted
+
+module _ (fit : Bool) (v : View) (r : Reception) where
+  kept-valid : isKept (admission fit v r .answer) ≡ true → isValid (r .bytes) ≡ true
+  unfolding admission admitted
+  kept-valid = go (fit && isSafe v)
+    where
+      go : (b : Bool) → isKept (cond b (admitted v r) (notAdmitted v) .answer) ≡ true → isValid (r .bytes) ≡ true
+      go true h = kept-room v r h .1
+      go false h = absurd (false≢true h)
+
+  pub relayed-sent : (setting : ℕ) → frameOf (relayedFor setting (admission fit v r .answer) (r .bytes)) ≡ sentFor setting (admission fit v r .answer) r
+  unfolding relayedFor sentFor
+  relayed-sent setting =
+      by-test (isKept (admission fit v r .answer)) (λ e. rw (e, ← repeat-valid setting (r .bytes) (eqb-true _ 0 (kept-valid e)))) (λ e. rw e)

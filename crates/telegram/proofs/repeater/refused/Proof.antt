@@ -1,0 +1,13 @@
+-- `telegram::repeater::refused` meets its contract: the empty frame beside the refusal. Assumes nothing.
+use mathlib.Core.Path.{ap}
+use borrow.Author.Needs.{needs}
+use Rattle.telegram.specs.declared.frame.Frame.{Frame}
+use Rattle.refusal.specs.Number.{numberOf}
+use Rattle.telegram.proofs.repeater.refused.Statement.{statement}
+use Rattle.telegram.proofs.repeater.refused.Tie as tie
+
+returns : tie.Need-returns
+returns c = ap (λ (f : Frame). record { number = numberOf (c .before .args .why); sent = f }) (c .empty .ensures)
+
+pub refused-spec : {M : Type 1} → statement M
+refused-spec = tie.close (tie.spec (λ c κs. search needs) returns)
