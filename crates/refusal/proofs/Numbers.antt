@@ -4,7 +4,7 @@ use Prim.Native.Nat.{_<_}
 use native.Mathlib.Omega.{arith}
 use Rattle.refusal.specs.Number.{numberOf}
 use Rattle.refusal.specs.declared.Refusal.{Refusal}
-use Rattle.refusal.specs.declared.Refusal.the-variants.{Length, Hash, Nested, NotAddressed, TooLong, ShortOutput, Late, Full, NoPlan, Argument, NotAccepted, Mismatch, Size}
+use Rattle.refusal.specs.declared.Refusal.the-variants.{Length, Hash, Nested, NotAddressed, TooLong, ShortOutput, Late, Full, NoPlan, Argument, NotAccepted, Mismatch, Size, Transmitters}
 
 positive : (r : Refusal) → 0 < numberOf r
 positive Length = omega arith
@@ -20,6 +20,7 @@ positive Argument = omega arith
 positive NotAccepted = omega arith
 positive Mismatch = omega arith
 positive Size = omega arith
+positive Transmitters = omega arith
 
 pub refused-number : (r : Refusal) → numberOf r ≡ 0 → ⊥
 refused-number r e = omega (arith, positive r)

@@ -1,7 +1,7 @@
 -- The number of each refusal: the table of document 01, "Numbers a caller sees". Assumes nothing.
 use Prim.Native.Nat.{ℕ}
 use Rattle.refusal.specs.declared.Refusal.{Refusal}
-use Rattle.refusal.specs.declared.Refusal.the-variants.{Length, Hash, Nested, NotAddressed, TooLong, ShortOutput, Late, Full, NoPlan, Argument, NotAccepted, Mismatch, Size}
+use Rattle.refusal.specs.declared.Refusal.the-variants.{Length, Hash, Nested, NotAddressed, TooLong, ShortOutput, Late, Full, NoPlan, Argument, NotAccepted, Mismatch, Size, Transmitters}
 
 abbrev pub numberOf : Refusal → ℕ
 numberOf Length = 1
@@ -17,3 +17,4 @@ numberOf Argument = 10
 numberOf NotAccepted = 11
 numberOf Mismatch = 12
 numberOf Size = 16
+numberOf Transmitters = 17

@@ -29,6 +29,8 @@ pub enum Refusal {
     Mismatch,
     // 16: a length that isn't whole blocks, or is over 2^32 of them.
     Size,
+    // 17: a transmitter more than a report has lines.
+    Transmitters,
 }
 
 // The number of a refusal.
@@ -49,5 +51,6 @@ pub fn number(r: Refusal) -> u8
         Refusal::NotAccepted => 11,
         Refusal::Mismatch => 12,
         Refusal::Size => 16,
+        Refusal::Transmitters => 17,
     }
 }
