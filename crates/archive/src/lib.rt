@@ -360,7 +360,7 @@ fn before(k: usize) -> usize
 // ---- the calls
 
 // Whether a length is that of a buffer of whole blocks, at most 2^32 of them.
-fn is_whole(len: usize) -> bool
+pub fn is_whole(len: usize) -> bool
     ensures { λ r. ⌜ r ≡ buffer.isWhole len ⌝ }
 {
     if len % BLOCK_LENGTH != 0 {

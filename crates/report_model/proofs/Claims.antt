@@ -20,7 +20,7 @@ use Rattle.archive_model.specs.Append.{verdict}
 use Rattle.report_model.specs.Report.{Line, Report, emptyReport, addRows, keptIn, looseIn, isRising, isTally, isReport, Addition, answer, added, addOf, shareOf}
 use Rattle.report_model.specs.Claims.{addAll, accepted, noneRefused, rowsOfAll, areBytes, TotalsAreSums, AnyOrder, Sound, RoundedDown, ShareRoundedDown}
 use Rattle.report_model.proofs.Order.{add-comm-rows, add-append, add-none}
-use Rattle.report_model.proofs.Lines.{rising-added, more-added}
+use Rattle.report_model.proofs.Lines.{rising-added, more-added, count-append}
 use Rattle.report_model.proofs.Additions.{Taken, taken-next, is-taken, refused-kept, added-report}
 use Rattle.report_model.proofs.Bytes.{known}
 use Rattle.report_model.proofs.Sums.{line-counts, any-added}
@@ -179,14 +179,6 @@ share-rounded-down s received e =
     (λ r. absurd (refused-number NotAccepted (rw r at e)))
 
 -- ---- the sums
-
-count-append : (p : Row → Bool) (xs ys : List Row) → count p (xs ++ ys) ≡ count p xs + count p ys
-count-append p [] ys = omega arith
-count-append p (x ∷ xs) ys = go (p x) (count-append p xs ys)
-  where
-    go : (b : Bool) → count p (xs ++ ys) ≡ count p xs + count p ys → cond b (count p (xs ++ ys) + 1) (count p (xs ++ ys)) ≡ cond b (count p xs + 1) (count p xs) + count p ys
-    go true e = omega arith
-    go false e = omega arith
 
 rows-cons : (b : List ℕ) (bs : List (List ℕ)) → rowsOfAll (b ∷ bs) ≡ rowsIn b ++ rowsOfAll bs
 unfolding rowsOfAll flatten

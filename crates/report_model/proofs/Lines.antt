@@ -7,7 +7,7 @@
 use Prim.Native.Nat.{ℕ, suc, _+_, _<_, _≤_}
 use mathlib.Core.Path.{_≡_, refl, sym, ap, _∙_}
 use mathlib.Core.Bool.{Bool, true, false, cond, not, _&&_}
-use mathlib.Core.List.{List, [], _∷_}
+use mathlib.Core.List.{List, [], _∷_, _++_}
 use native.Mathlib.Omega.{arith}
 use lib.Dec.{ltb}
 use lib.ListN.{length}
@@ -119,5 +119,13 @@ kinds [] = refl
 kinds (r ∷ rows) = go (r .loose) (kinds rows)
   where
     go : (b : Bool) → keptIn rows + looseIn rows ≡ length rows → cond (not b) (keptIn rows + 1) (keptIn rows) + cond b (looseIn rows + 1) (looseIn rows) ≡ suc (length rows)
+    go true e = omega arith
+    go false e = omega arith
+
+pub count-append : (p : Row → Bool) (xs ys : List Row) → count p (xs ++ ys) ≡ count p xs + count p ys
+count-append p [] ys = omega arith
+count-append p (x ∷ xs) ys = go (p x) (count-append p xs ys)
+  where
+    go : (b : Bool) → count p (xs ++ ys) ≡ count p xs + count p ys → cond b (count p (xs ++ ys) + 1) (count p (xs ++ ys)) ≡ cond b (count p xs + 1) (count p xs) + count p ys
     go true e = omega arith
     go false e = omega arith

@@ -30,17 +30,17 @@ sides x y = elim (decLt x y) [
 ]
 
 module _ (a c : Line) (l : List Line) where
-  insert-before : a .identity < c .identity → insert a (c ∷ l) ≡ a ∷ c ∷ l
+  pub insert-before : a .identity < c .identity → insert a (c ∷ l) ≡ a ∷ c ∷ l
   unfolding insert
   insert-before h = rw (lt-ltb (a .identity) (c .identity) h)
 
-  insert-same : a .identity ≡ c .identity → insert a (c ∷ l) ≡ joined a c ∷ l
+  pub insert-same : a .identity ≡ c .identity → insert a (c ∷ l) ≡ joined a c ∷ l
   unfolding insert
   insert-same e =
       let h : c .identity ≤ a .identity = omega arith in
       rw (le-ltb (a .identity) (c .identity) h, eq-eqb (a .identity) (c .identity) e)
 
-  insert-after : c .identity < a .identity → insert a (c ∷ l) ≡ c ∷ insert a l
+  pub insert-after : c .identity < a .identity → insert a (c ∷ l) ≡ c ∷ insert a l
   unfolding insert
   insert-after h =
       let k : c .identity ≤ a .identity = omega arith in
