@@ -3,14 +3,13 @@
 use Prim.Native.Nat.{ℕ, _+_, _-_, _*_, _/_, _%_, _^_, _≤_, _<_}
 use native.Mathlib.Omega.{arith}
 use mathlib.Core.Path.{_≡_, refl, sym, ap, ap₂, _∙_}
-use mathlib.Core.Bool.{Bool, true, false, cond, not, _&&_}
+use mathlib.Core.Bool.{Bool, true, false, cond, not}
 use mathlib.Core.List.{List, _++_, append-assoc}
-use lib.Dec.{ltb, leb, eqb}
+use lib.Dec.{eqb}
 use lib.ListN.{length, take, drop, take-append-drop}
 use lib.Seq.{drop-drop}
 use borrow.Author.Tests.{eqb-true, leb-true, eq-eqb, ne-eqb, lt-ltb, le-ltb, le-leb, lt-leb}
 use Rattle.lists.proofs.Choice.{both}
-use Rattle.lists.proofs.Tests.{by-test}
 use Rattle.refusal.specs.Number.{numberOf}
 use Rattle.refusal.specs.declared.Refusal.{Refusal}
 use Rattle.refusal.specs.declared.Refusal.the-variants.{ShortOutput, Argument, NotAccepted, Mismatch, Size}
@@ -19,9 +18,9 @@ use Rattle.erp1.specs.Subtelegram.{checkOf, isValid}
 use Rattle.layout.specs.Buffer.{part}
 use Rattle.layout.specs.Block.{cellsPerBlock, blockLength}
 use Rattle.layout.proofs.Segments.{part-length}
-use Rattle.archive_model.specs.Row.{Row, rowCount}
+use Rattle.archive_model.specs.Row.{Row}
 use Rattle.archive_model.specs.Buffer.{Found, At, None, maxBlocks, maxRows, isWhole, blocksIn, rowsIn, mismatch, Scan, scanBlocks}
-use Rattle.archive_model.specs.Append.{Opening, Appended, Feeding, ReadRow, refused, found, verdict, openOf, isNext, isInside, blockAt, putRow, putRowOf, appendOf, appendAtOf, feedOf, rowAtOf}
+use Rattle.archive_model.specs.Append.{Opening, Appended, Feeding, refused, stored, found, verdict, openOf, isNext, blockAt, putRow, putRowOf, appendOf, appendAtOf, feedOf, rowAtOf}
 use Rattle.archive_model.proofs.Cursor.{cursor}
 use Rattle.archive.specs.declared.Opened.the-variants as opened
 use Rattle.archive.specs.declared.Outcome.{Outcome}
@@ -141,12 +140,12 @@ module _ (buffer : List ℕ) (n : ℕ) (r : Row) where
           (by-next (isNext n block) (isValid (r .bytes)))
         where
           by-next : (a b : Bool)
-              → replaced (cond (not a) (refused (numberOf Mismatch) k block) (cond (not b) (refused (checkOf (r .bytes)) 0 block) (refused 0 0 (putRow n r block))))
+              → replaced (cond (not a) (refused (numberOf Mismatch) k block) (cond (not b) (refused (checkOf (r .bytes)) 0 block) (stored (putRow n r block))))
               ≡ cond (not a) (refused (numberOf Mismatch) k buffer)
-              (cond (not b) (refused (checkOf (r .bytes)) 0 buffer) (refused 0 0 (take (blockLength * k) buffer ++ putRow n r block ++ drop (blockLength * k + blockLength) buffer)))
+              (cond (not b) (refused (checkOf (r .bytes)) 0 buffer) (stored (take (blockLength * k) buffer ++ putRow n r block ++ drop (blockLength * k + blockLength) buffer)))
           by-next false b = ap (refused (numberOf Mismatch) k) with-same
           by-next true false = ap (refused (checkOf (r .bytes)) 0) with-same
-          by-next true true = ap (refused 0 0) (with-new (putRow n r block))
+          by-next true true = ap stored (with-new (putRow n r block))
 
       pub at-put : (out : Outcome) (ys : List ℕ) → appendResult out ys ≡ putRowOf (part (blockLength * k) (blockLength * k + blockLength - blockLength * k) buffer) n r
           → appendResult out (with ys) ≡ appendAtOf buffer n r

@@ -1,4 +1,5 @@
-pub mod Rows
+pub mod Cells
 pub mod Scans
 pub mod Puts
 pub mod Calls
+pub mod Tested

@@ -1,20 +1,19 @@
 -- A row put into its block: the cases of `putRowOf`, each from the facts that its tests give. Assumes nothing.
-use Prim.Native.Nat.{ℕ, _+_, _-_, _*_, _/_, _%_, _≤_, _<_}
-use native.Mathlib.Omega.{arith}
-use mathlib.Core.Path.{_≡_, refl, sym, ap, _∙_}
+use Prim.Native.Nat.{ℕ, _-_, _/_, _≤_, _<_}
+use mathlib.Core.Path.{_≡_}
 use mathlib.Core.Bool.{true, false}
-use mathlib.Core.List.{List, _++_}
+use mathlib.Core.List.{List}
 use lib.ListN.{length}
 use borrow.Author.Tests.{eq-eqb, ne-eqb, lt-ltb, le-ltb}
 use Rattle.refusal.specs.Number.{numberOf}
 use Rattle.refusal.specs.declared.Refusal.{Refusal}
 use Rattle.refusal.specs.declared.Refusal.the-variants.{Mismatch, Size}
-use Rattle.erp1.specs.Subtelegram.{checkOf, isValid}
+use Rattle.erp1.specs.Subtelegram.{checkOf}
 use Rattle.erp1.proofs.Checks.{not-valid}
 use Rattle.layout.specs.Block.{cellsPerBlock, blockLength}
 use Rattle.archive_model.specs.Row.{Row}
 use Rattle.archive_model.specs.Buffer.{maxRows}
-use Rattle.archive_model.specs.Append.{Appended, refused, isNext, putRow, putRowOf}
+use Rattle.archive_model.specs.Append.{refused, stored, isNext, putRow, putRowOf}
 
 module _ (block : List ℕ) (n : ℕ) (r : Row) where
   pub put-size : (length block ≡ blockLength → ⊥) → refused (numberOf Size) 0 block ≡ putRowOf block n r
@@ -36,6 +35,6 @@ module _ (block : List ℕ) (n : ℕ) (r : Row) where
         unfolding putRowOf
         put-invalid why e = rw (eq-eqb (length block) blockLength long, lt-ltb n maxRows near, next, not-valid (r .bytes) why e, e)
 
-        pub put-done : checkOf (r .bytes) ≡ 0 → refused 0 0 (putRow n r block) ≡ putRowOf block n r
+        pub put-done : checkOf (r .bytes) ≡ 0 → stored (putRow n r block) ≡ putRowOf block n r
         unfolding putRowOf
         put-done e = rw (eq-eqb (length block) blockLength long, lt-ltb n maxRows near, next, eq-eqb (checkOf (r .bytes)) 0 e)

@@ -4,22 +4,22 @@
 --     scanned-blank, scanned                                  one block more
 --     blocks-next, rest-first, rest-next, rest-none           the loop over the blocks: a turn's count; its start, a turn, its end
 -- Assumes nothing.
-use Prim.Native.Nat.{ℕ, zero, suc, _+_, _-_, _*_, _/_, _≤_, _<_}
+use Prim.Native.Nat.{ℕ, suc, _+_, _-_, _*_, _/_, _≤_, _<_}
 use native.Mathlib.Numerals.{add-one}
 use native.Mathlib.Omega.{arith}
-use mathlib.Core.Path.{_≡_, refl, sym, ap, _∙_}
-use mathlib.Core.Bool.{Bool, true, false, cond, _&&_}
-use mathlib.Core.List.{List, [], _∷_, map}
-use lib.Dec.{leb, eqb}
+use mathlib.Core.Path.{_≡_, refl, ap}
+use mathlib.Core.Bool.{true, false}
+use mathlib.Core.List.{List}
+use lib.Dec.{leb}
 use lib.ListN.{length}
-use borrow.Author.Tests.{eqb-true, eq-eqb, ne-eqb, lt-ltb, le-ltb, lt-leb, leb-true}
-use Rattle.lists.specs.Lists.{all, upFrom}
+use borrow.Author.Tests.{eq-eqb, ne-eqb, lt-ltb, le-ltb, leb-true}
+use Rattle.lists.specs.Lists.{upFrom}
 use Rattle.lists.proofs.Choice.{both}
 use Rattle.lists.proofs.Tests.{by-test}
 use Rattle.layout.specs.Buffer.{part}
 use Rattle.layout.specs.Block.{cellsPerBlock, blockLength}
 use Rattle.archive_model.specs.Row.{blockNumber, rowCount, isSound, isBlank}
-use Rattle.archive_model.specs.Buffer.{blocksIn, isShort, Stage, Filling, Short, Ended, Wrong, Scan, stageAfter, stageBlank, scanBlock, scanBlocks}
+use Rattle.archive_model.specs.Buffer.{blocksIn, Stage, Filling, Short, Wrong, Scan, stageAfter, stageBlank, scanBlock, scanBlocks}
 use Rattle.archive_model.proofs.Buffers.{blank-count}
 use Rattle.archive.specs.Archive.{soundRows, blocksFrom}
 

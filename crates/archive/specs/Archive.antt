@@ -1,18 +1,17 @@
 -- What the calls over an archive show (document 02, A2). Assumes nothing.
 use Prim.Native.Nat.{ℕ, _-_, _*_}
 use mathlib.Core.Path.{_≡_}
-use mathlib.Core.Bool.{Bool, cond, not}
+use mathlib.Core.Bool.{Bool, cond, not, _&&_}
 use mathlib.Core.List.{List, map}
 use lib.Dec.{ltb}
-use Rattle.lists.specs.Lists.{upFrom}
+use Rattle.lists.specs.Lists.{equal, upFrom}
 use Rattle.refusal.specs.Number.{numberOf}
 use Rattle.refusal.specs.declared.Refusal.{Refusal}
 use Rattle.refusal.specs.declared.Refusal.the-variants.{ShortOutput, Argument, Mismatch}
 use Rattle.erp1.specs.Subtelegram.{checkOf, isValid}
 use Rattle.layout.specs.Buffer.{part, resized}
-use Rattle.layout.specs.Header.{headerLength}
-use Rattle.layout.specs.Block.{bodyLength, blockLength, blockCell}
-use Rattle.archive_model.specs.Row.{Row, rowIn, rowCount, isSound}
+use Rattle.layout.specs.Block.{blockLength, blockCell}
+use Rattle.archive_model.specs.Row.{Row, rowCell, rowIn, rowCount, isRow, isSound}
 use Rattle.archive_model.specs.Buffer as buffer
 use Rattle.archive_model.specs.Append.{Opening, Appended, Feeding, ReadRow, refused, noRow}
 use Rattle.archive.specs.declared.Opened.{Opened}
@@ -52,7 +51,11 @@ foundNumber (found.Refused why) = numberOf why
 unfoldable pub readResult : RowAt → ReadRow
 readResult r = record { number = foundNumber (r .answer); row = rowOf (resized (r .len) (r .bytes)) (r .time) (r .loose) }
 
--- ---- a scan
+-- ---- a block by itself, and a scan
+
+-- the rows of a sound block, and 0 of any other
+abbrev pub soundRows : List ℕ → ℕ
+soundRows block = cond (isSound block) (rowCount block) 0
 
 abbrev pub stageOf : Stage → buffer.Stage
 stageOf stage.Filling = buffer.Filling
@@ -71,18 +74,6 @@ abbrev pub feedResult : Fed → Feeding
 feedResult r = record { number = takenNumber (r .answer); next = scanOf (r .next) }
 
 -- ---- what private functions say
-
--- the bytes of a block between its header and its CRC
-abbrev pub cellsLength : ℕ
-cellsLength = bodyLength - headerLength
-
--- n rows from row a of a block on, as they stand
-unfoldable pub rowsFrom : List ℕ → ℕ → ℕ → List Row
-rowsFrom block a n = map (λ i. rowIn (blockCell i block)) (upFrom a n)
-
--- the rows of a sound block, and 0 of any other
-abbrev pub soundRows : List ℕ → ℕ
-soundRows block = cond (isSound block) (rowCount block) 0
 
 -- a scan that is refused
 abbrev pub keptWith : Scan → Refusal → Feeding
@@ -108,3 +99,11 @@ noRowFor why = record { number = numberOf why; row = noRow }
 -- row i of a block, where it has one
 abbrev pub rowInBlock : List ℕ → ℕ → ReadRow
 rowInBlock block i = cond (ltb i (rowCount block)) (record { number = 0; row = rowIn (blockCell i block) }) (noRowFor Argument)
+
+-- a cell that is byte for byte what is written of the row that it says, which is valid
+abbrev pub isWritten : List ℕ → Bool
+isWritten cell = isRow (rowIn cell) && equal (rowCell (rowIn cell)) cell
+
+-- n cells from cell a of a block on
+unfoldable pub cellsFrom : List ℕ → ℕ → ℕ → List (List ℕ)
+cellsFrom block a n = map (λ i. blockCell i block) (upFrom a n)

@@ -7,30 +7,31 @@ use layout::CELLS_PER_BLOCK;
 use layout::HEADER_LENGTH;
 use refusal::Refusal;
 ghost use mathlib.Core.Path.{_≡_};
-ghost use mathlib.Core.Bool.{true, cond};
-ghost use mathlib.Core.List.{map, flatten};
+ghost use mathlib.Core.Bool.{true};
 ghost use Prim.Native.Nat.{_+_, _-_, _*_, _/_, _≤_, _<_};
 ghost use lib.Dec.{eqb};
 ghost use lib.ListN.{length};
-ghost use Rattle.lists.specs.Lists.{all, padded};
+ghost use Rattle.lists.specs.Lists.{all};
 ghost use Rattle.layout.specs.Cell.{cellLength, cellCapacity, cellLast};
 ghost use Rattle.layout.specs.Header.{headerLength};
 ghost use Rattle.layout.specs.Block.{cellsPerBlock, blockLength, blockCell};
-ghost use Rattle.archive_model.specs.Row.{rowLast, rowCell, rowsHeader, rowsBlock, blockNumber, rowIn, isRow};
+ghost use Rattle.archive_model.specs.Row.{rowLast, rowsHeader, blockNumber, rowIn, isRow};
 ghost use Rattle.archive_model.specs.Buffer as buffer;
 ghost use Rattle.archive_model.specs.Append as calls;
-ghost use Rattle.archive.specs.Archive.{openResult, appendResult, rowOf, readResult, stageOf, scanOf, feedResult, cellsLength, rowsFrom, soundRows, keptWith, openFound, NoBlock, rowInBlock, noRowFor};
+ghost use Rattle.archive.specs.Archive.{openResult, appendResult, rowOf, readResult, stageOf, scanOf, feedResult, isWritten, cellsFrom, soundRows, keptWith, openFound, NoBlock, rowInBlock, noRowFor};
 
 // The most blocks of an archive, and the most rows.
 pub const MAX_BLOCKS: usize = 4294967296;
 
 pub const MAX_ROWS: usize = CELLS_PER_BLOCK * MAX_BLOCKS;
 
-// The bytes of a block between its header and its CRC.
-const CELLS_LENGTH: usize = BLOCK_LENGTH - 1 - HEADER_LENGTH;
+// The bytes of a block before its CRC.
+const BODY_LENGTH: usize = BLOCK_LENGTH - 1;
 
-// Where the bytes of a cell begin.
+// Where the bytes of a cell begin, and its last two.
 const FIELD: usize = 9;
+
+const LAST: usize = 30;
 
 // How many rows an archive has, or the position of the first block that does not match.
 pub enum Opened {
@@ -115,19 +116,6 @@ fn cell_at(block: &[u8], i: usize) -> &[u8]
     &block[at..at + CELL_LENGTH]
 }
 
-// Whether the first `used` rows of a block are valid.
-fn are_rows(block: &[u8], used: usize) -> bool
-    requires { ⌜ (length (now block) ≡ blockLength) × (used ≤ cellsPerBlock) ⌝ }
-    ensures { λ r. ⌜ r ≡ all isRow (rowsFrom (now (block .entry)) 0 used) ⌝ }
-{
-    for i in 0..used {
-        if !is_row(cell_at(block, i)) {
-            return false;
-        }
-    }
-    true
-}
-
 // Bytes 30 and 31 of a row as one number.
 fn last_of(loose: bool) -> u16
     ensures { λ r. ⌜ r ≡ rowLast loose ⌝ }
@@ -163,43 +151,45 @@ fn put_head(out: &mut [u8], k: u64, count: u8)
     layout::clear(&mut out[5..HEADER_LENGTH]);
 }
 
-// What stands between the header of a block and its CRC, written again from the first `used` rows that the block says.
-fn put_cells(out: &mut [u8], block: &[u8], used: usize)
-    requires { ⌜ (length (now out) ≡ cellsLength) × (length (now block) ≡ blockLength) × (used ≤ cellsPerBlock) × (all isRow (rowsFrom (now block) 0 used) ≡ true) ⌝ }
-    ensures { λ _. ⌜ now (out .exit) ≡ padded cellsLength (flatten (map rowCell (rowsFrom (now (block .entry)) 0 used))) ⌝ }
+// Whether a cell is byte for byte what is written of the row that it says, which is valid.
+fn is_written(cell: &[u8]) -> bool
+    requires { ⌜ length (now cell) ≡ cellLength ⌝ }
+    ensures { λ r. ⌜ r ≡ isWritten (now (cell .entry)) ⌝ }
+{
+    let len = layout::cell_used(cell) as usize;
+    if CELL_CAPACITY < len {
+        return false;
+    }
+    if !layout::is_blank(&cell[FIELD + len..LAST]) {
+        return false;
+    }
+    let last = layout::cell_last(cell);
+    if (last != 0) & (last != 256) {
+        return false;
+    }
+    is_row(cell)
+}
+
+// Whether the first `used` cells of a block are.
+fn are_written(block: &[u8], used: usize) -> bool
+    requires { ⌜ (length (now block) ≡ blockLength) × (used ≤ cellsPerBlock) ⌝ }
+    ensures { λ r. ⌜ r ≡ all isWritten (cellsFrom (now (block .entry)) 0 used) ⌝ }
 {
     for i in 0..used {
-        let cell = cell_at(block, i);
-        let len = layout::cell_used(cell) as usize;
-        layout::put_cell(
-            &mut out[CELL_LENGTH * i..CELL_LENGTH * i + CELL_LENGTH],
-            layout::cell_time(cell),
-            &cell[FIELD..FIELD + len],
-            last_of(is_loose(cell)),
-        );
+        if !is_written(cell_at(block, i)) {
+            return false;
+        }
     }
-    layout::clear(&mut out[CELL_LENGTH * used..CELLS_LENGTH]);
+    true
 }
 
-// A block written again from the number and the first `used` rows that it says.
-fn put_again(out: &mut [u8], block: &[u8], used: usize)
-    requires { ⌜ (length (now out) ≡ blockLength) × (length (now block) ≡ blockLength) × (used ≤ cellsPerBlock) × (all isRow (rowsFrom (now block) 0 used) ≡ true) ⌝ }
-    ensures { λ _. ⌜ now (out .exit) ≡ rowsBlock (blockNumber (now (block .entry))) (rowsFrom (now (block .entry)) 0 used) ⌝ }
-{
-    put_head(&mut out[0..HEADER_LENGTH], number_of(block), used as u8);
-    put_cells(
-        &mut out[HEADER_LENGTH..HEADER_LENGTH + CELLS_LENGTH],
-        block,
-        used,
-    );
-    layout::seal(out);
-}
-
-// How many rows a sound block has, and 0 for any other: it is written again and compared.
-fn sound(block: &[u8]) -> usize
-    requires { ⌜ length (now block) ≡ blockLength ⌝ }
+// How many rows a sound block has, and 0 for any other, bytes of another length included: each byte is tested where it stands.
+pub fn sound(block: &[u8]) -> usize
     ensures { λ r. ⌜ r ≡ soundRows (now (block .entry)) ⌝ }
 {
+    if block.len() != BLOCK_LENGTH {
+        return 0;
+    }
     let used = layout::byte_at(block, 4) as usize;
     if used < 1 {
         return 0;
@@ -207,12 +197,17 @@ fn sound(block: &[u8]) -> usize
     if CELLS_PER_BLOCK < used {
         return 0;
     }
-    if !are_rows(block, used) {
+    if !layout::is_blank(&block[5..HEADER_LENGTH]) {
         return 0;
     }
-    let mut again = [0u8; BLOCK_LENGTH];
-    put_again(&mut again, block, used);
-    if !layout::equal(&again, block) {
+    if !are_written(block, used) {
+        return 0;
+    }
+    let end = HEADER_LENGTH + CELL_LENGTH * used;
+    if !layout::is_blank(&block[end..BODY_LENGTH]) {
+        return 0;
+    }
+    if crc8_long::crc8_long(&block[0..BODY_LENGTH]) != block[BODY_LENGTH] {
         return 0;
     }
     used

@@ -5,39 +5,32 @@
 --     rows-back       and the rows of a block from the block
 --     block-sound     which is sound, and says its number
 -- Assumes nothing.
-use Prim.Native.Nat.{ℕ, zero, suc, _+_, _-_, _*_, _/_, _%_, _^_, _≤_, _<_}
+use Prim.Native.Nat.{ℕ, suc, _+_, _-_, _^_, _≤_, _<_}
 use native.Mathlib.Nat.{zero-add}
 use native.Mathlib.Omega.{arith}
 use mathlib.Core.Path.{_≡_, refl, sym, ap, ap₂, _∙_}
-use mathlib.Core.Bool.{Bool, true, false, cond, _&&_}
+use mathlib.Core.Bool.{Bool, true, false}
 use mathlib.Core.List.{List, [], _∷_, _++_, map}
-use lib.ListN.{length, getD, take, replicate, length-append, length-map, List·getD-append}
-use lib.Seq.{ext-getD, getD-at, take-take}
+use lib.ListN.{length, getD, replicate, length-append, length-map, List·getD-append}
+use lib.Seq.{ext-getD, getD-at}
 use lib.Dec.{eqb}
 use borrow.Author.Tests.{le-leb, eqb-true}
 use Rattle.lists.specs.Lists.{equal, all, upFrom}
 use Rattle.lists.proofs.Equal.{equal-refl}
-use Rattle.lists.proofs.Tests.{and-true, all-getD, getD-map}
+use Rattle.lists.proofs.Tests.{and-true, getD-map}
 use Rattle.lists.proofs.UpFrom.{length-upFrom, getD-upFrom}
-use Rattle.erp1.specs.Subtelegram.{maxLength, isValid, checkOf}
+use Rattle.erp1.specs.Subtelegram.{maxLength, checkOf}
 use Rattle.erp1.proofs.Checks.{check-facts}
 use Rattle.layout.specs.Buffer.{part}
 use Rattle.layout.specs.BigEndian.{be, unbe}
-use Rattle.layout.specs.Cell.{cellLength, cellOf, cellTime, cellBytes, cellLast}
+use Rattle.layout.specs.Cell.{cellLength}
 use Rattle.layout.specs.Header.{headerLength}
-use Rattle.layout.specs.Block.{cellsPerBlock, blockLength, blockOf, blockHeader, blockCell}
-use Rattle.layout.proofs.Segments.{part-at, left, whole, Each}
+use Rattle.layout.specs.Block.{cellsPerBlock, blockLength, blockHeader, blockCell}
+use Rattle.layout.proofs.Segments.{part-at, part-take, left, whole, Each}
 use Rattle.layout.proofs.BigEndian.{be-length, unbe-be}
 use Rattle.layout.proofs.Cell.{cell-length, cell-time, cell-bytes, cell-last}
 use Rattle.layout.proofs.Block.{block-length, block-header, block-cell}
 use Rattle.archive_model.specs.Row.{Row, rowLast, rowCell, rowsHeader, rowsBlock, blockNumber, rowCount, rowIn, rowsOf, isRow, isSound}
-
--- a part of a front
-part-take : (a w n : ℕ) (xs : List ℕ) → a + w ≤ n → part a w (take n xs) ≡ part a w xs
-part-take zero w n xs h = take-take w n xs (omega arith)
-part-take (suc a) w zero xs h = absurd (omega arith)
-part-take (suc a) w (suc n) [] h = refl
-part-take (suc a) w (suc n) (x ∷ xs) h = part-take a w n xs (omega arith)
 
 -- a row that a cell holds: a valid subtelegram, and a time of 64 bits
 pub record Fit (r : Row) : Type 0 where
@@ -47,7 +40,7 @@ pub record Fit (r : Row) : Type 0 where
 pub short : {r : Row} → Fit r → length (r .bytes) ≤ maxLength
 short {r} f = check-facts (r .bytes) (eqb-true (checkOf (r .bytes)) 0 (f .valid)) .high
 
-last-lt : (b : Bool) → rowLast b < 2 ^ 16
+pub last-lt : (b : Bool) → rowLast b < 2 ^ 16
 last-lt true = omega arith
 last-lt false = omega arith
 
@@ -115,7 +108,7 @@ module _ (k : ℕ) (rows : List Row) (fit : Shorts rows) (few : length rows ≤ 
   header-is = block-header _ _ (header-length k n) each cells-few
 
   -- what stands in the first 24 bytes
-  head-part : (a w : ℕ) → a + w ≤ headerLength → part a w (rowsBlock k rows) ≡ part a w (rowsHeader k n)
+  pub head-part : (a w : ℕ) → a + w ≤ headerLength → part a w (rowsBlock k rows) ≡ part a w (rowsHeader k n)
   head-part a w h = sym (part-take a w headerLength (rowsBlock k rows) h) ∙ ap (part a w) header-is
 
   pub written-number : k < 2 ^ 32 → blockNumber (rowsBlock k rows) ≡ k

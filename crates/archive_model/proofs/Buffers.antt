@@ -4,20 +4,18 @@
 --     no-mismatch     every block matches
 --     blank-count, not-blank     an all-zero block says no rows, and one with a row is not all zero
 -- Assumes nothing.
-use Prim.Native.Nat.{ℕ, zero, suc, _+_, _-_, _*_, _/_, _%_, _^_, _≤_, _<_, min}
-use native.Mathlib.Nat.{zero-add, add-zero, suc-add, add-suc, add-comm, mul-suc, mul-zero}
-use native.Mathlib.Numerals.{add-one}
+use Prim.Native.Nat.{ℕ, zero, suc, _+_, _-_, _*_, _/_, _^_, _≤_, _<_, min}
+use native.Mathlib.Nat.{zero-add, add-comm, mul-suc, mul-zero}
 use native.Mathlib.Decide.{decLt}
 use native.Mathlib.Omega.{arith}
 use mathlib.Core.Path.{_≡_, refl, sym, ap, ap₂, _∙_}
-use mathlib.Core.Bool.{Bool, true, false, cond, not, _&&_}
+use mathlib.Core.Bool.{Bool, true, false, _&&_}
 use mathlib.Core.List.{List, [], _∷_, _++_, map, flatten, append-assoc, append-nil, map-append, map-map}
-use lib.ListN.{length, getD, take, drop, replicate, length-append, length-map, length-take, length-drop, length-replicate, List·getD-eq-default}
+use lib.ListN.{length, getD, take, drop, replicate, length-map, length-take, length-drop, List·getD-eq-default}
 use lib.Seq.{take-all, take-add, drop-drop}
-use lib.Dec.{eqb, ltb}
-use borrow.Author.Tests.{eqb-true, eq-eqb, le-ltb, lt-ltb}
-use Rattle.lists.specs.Lists.{all, padded, upFrom}
-use Rattle.lists.proofs.Choice.{both}
+use lib.Dec.{eqb}
+use borrow.Author.Tests.{eqb-true, eq-eqb, le-ltb}
+use Rattle.lists.specs.Lists.{upFrom}
 use Rattle.lists.proofs.Tests.{by-test, all-getD}
 use Rattle.lists.proofs.UpFrom.{length-upFrom, getD-upFrom, upFrom-add}
 use Rattle.layout.specs.Buffer.{part}
@@ -25,8 +23,8 @@ use Rattle.layout.specs.Block.{cellsPerBlock, blockLength}
 use Rattle.layout.proofs.Segments.{part-at, left, right, part-replicate, Each, flatten-length, flatten-part}
 use Rattle.layout.proofs.Buffer.{padded-length}
 use Rattle.archive_model.specs.Row.{Row, rowsBlock, blockNumber, rowCount, rowsOf, isSound, isBlank}
-use Rattle.archive_model.specs.Buffer.{Found, At, None, blocksFor, rowsAt, archiveOf, bufferOf, maxBlocks, blocksIn, rowsIn, nonZero, isShort, isFollowed, mismatchFrom, mismatch}
-use Rattle.archive_model.proofs.Blocks.{Fit, Fits, rows-block-length, number-back, count-back, rows-back, block-sound}
+use Rattle.archive_model.specs.Buffer.{None, blocksFor, rowsAt, archiveOf, bufferOf, maxBlocks, blocksIn, rowsIn, nonZero, isShort, isFollowed, mismatchFrom, mismatch}
+use Rattle.archive_model.proofs.Blocks.{Fits, rows-block-length, number-back, count-back, rows-back, block-sound}
 
 -- ---- lists over numbers in a row
 
@@ -165,7 +163,7 @@ module _ (rows : List Row) (m : ℕ) (fit : Fits rows) (fits : length rows ≤ c
 
 -- ---- every block matches
 
-blank-blank : isBlank blank ≡ true
+pub blank-blank : isBlank blank ≡ true
 unfolding blank
 blank-blank = refl
 

@@ -1,24 +1,28 @@
 -- The claims on archives. Assumes nothing.
-use Prim.Native.Nat.{ℕ, zero, suc, _+_, _-_, _*_, _/_, _^_, _≤_, _<_}
+use Prim.Native.Nat.{ℕ, _+_, _-_, _*_, _/_, _^_}
 use native.Mathlib.Omega.{arith}
-use mathlib.Core.Path.{_≡_, refl, sym, ap, ap₂, _∙_}
-use mathlib.Core.Bool.{Bool, true, false, cond, _&&_}
+use mathlib.Core.Path.{_≡_, refl, sym, ap, _∙_}
+use mathlib.Core.Bool.{true}
 use mathlib.Core.List.{List, [], _∷_, _++_, append-assoc, append-nil, flatten}
 use lib.Dec.{eqb, ltb}
 use lib.ListN.{length, getD, replicate, length-append}
 use borrow.Author.Tests.{eqb-true, eqb-false, ltb-true, lt-ltb}
-use Rattle.lists.specs.Lists.{all, padded, upFrom}
+use Rattle.lists.specs.Lists.{all, upFrom}
 use Rattle.lists.proofs.Choice.{both}
 use Rattle.lists.proofs.Tests.{and-true, by-test, all-getD}
+use Rattle.erp1.specs.Subtelegram.{checkOf}
+use Rattle.erp1.proofs.Checks.{check-facts}
 use Rattle.layout.specs.Block.{blockLength}
 use Rattle.archive_model.specs.Row.{Row, isRow}
-use Rattle.archive_model.specs.Buffer.{archiveOf, bufferOf, rowsIn, mismatch}
-use Rattle.archive_model.specs.Append.{Appended, verdict, appendOf}
-use Rattle.archive_model.specs.Claims.{isFit, ReadBack, Exact, after, accepted, Run, AtCursor, Pieces}
-use Rattle.archive_model.proofs.Blocks.{Fit, Fits, noRow, all-from}
+use Rattle.archive_model.specs.Buffer.{archiveOf, bufferOf, rowsIn}
+use Rattle.archive_model.specs.Append.{verdict, appendOf}
+use Rattle.archive_model.specs.Claims.{isFit, Layout, ReadBack, Exact, after, accepted, Run, AtCursor, Rows, Pieces}
+use Rattle.archive_model.proofs.Blocks.{Fits, Shorts, noRow, all-from}
 use Rattle.archive_model.proofs.Buffers.{rows-in}
+use Rattle.archive_model.proofs.ByByte.{laid}
 use Rattle.archive_model.proofs.Pieces.{scan-append, scan-found, scan-rows}
-use Rattle.archive_model.proofs.Cursor.{written-verdict, blocks-of, is-exact, rows-fit, cursor, appended, append-kept}
+use Rattle.archive_model.proofs.Cursor.{written-verdict, blocks-of, is-exact, rows-fit, rows-few, cursor, appended, append-kept}
+use Rattle.archive_model.proofs.Reading.{row-at}
 
 fits : (rows : List Row) → all isFit rows ≡ true → Fits rows
 unfolding Fits
@@ -31,6 +35,15 @@ are-fit : (rows : List Row) → Fits rows → all isFit rows ≡ true
 unfolding Fits
 are-fit rows f = all-from isFit rows (λ i h. and-true (f i h .valid) (lt-ltb (getD rows i noRow .time) (2 ^ 64) (f i h .time)))
 
+pub by-byte : Layout
+unfolding Shorts
+by-byte k rows few valid =
+    laid k rows
+    (λ i h.
+    let bytes = getD rows i noRow .bytes in
+    check-facts bytes (eqb-true (checkOf bytes) 0 (all-getD isRow rows i noRow valid h)) .high)
+    few
+
 pub read-back : ReadBack
 read-back m rows mb few ok = (written-verdict rows m (fits rows ok) few mb, rows-in rows m (fits rows ok) few)
 
@@ -39,6 +52,10 @@ exact buffer v = (ap (λ (n : ℕ). bufferOf n (rowsIn buffer)) (blocks-of buffe
 
 pub at-cursor : AtCursor
 at-cursor buffer r v t = (cursor buffer v r t, λ z. ap length (appended buffer v r t z .1) ∙ length-append (rowsIn buffer) (r ∷ []))
+
+pub row-read : Rows
+row-read buffer i v =
+    rw (is-exact buffer v) at (row-at (rowsIn buffer) (length buffer / blockLength) (rows-fit buffer v) (rows-few buffer v) (blocks-of buffer v .1) i)
 
 pub in-pieces : Pieces
 in-pieces = (scan-append, scan-found, scan-rows)

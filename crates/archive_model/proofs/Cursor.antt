@@ -5,34 +5,32 @@
 --     appended, append-kept             after it the archive holds one row more, or is as it was
 -- Assumes nothing.
 use Prim.Native.Nat.{ℕ, zero, suc, _+_, _-_, _*_, _/_, _%_, _^_, _≤_, _<_}
-use native.Mathlib.Nat.{zero-add}
-use native.Mathlib.Numerals.{add-one}
 use native.Mathlib.Decide.{decLt}
 use native.Mathlib.Omega.{arith}
 use mathlib.Core.Path.{_≡_, refl, sym, ap, ap₂, _∙_}
-use mathlib.Core.Bool.{Bool, true, false, cond, not, _&&_}
+use mathlib.Core.Bool.{Bool, true, false, cond, not}
 use mathlib.Core.List.{List, [], _∷_, _++_, map, flatten, append-assoc, append-nil, map-append}
-use lib.Dec.{eqb, leb, ltb}
-use lib.ListN.{length, getD, take, drop, replicate, length-append, length-map, length-drop, length-replicate, take-append-drop}
-use lib.Seq.{take-all, drop-drop, drop-append-le, take-append-le}
+use lib.Dec.{eqb, leb}
+use lib.ListN.{length, take, drop, replicate, length-append, length-map, length-drop, take-append-drop}
+use lib.Seq.{take-all, drop-drop, drop-append-le}
 use borrow.Author.Tests.{eqb-true, eqb-false, leb-true, eq-eqb, ne-eqb, lt-ltb, le-ltb, le-leb, lt-leb}
-use Rattle.lists.specs.Lists.{all, padded, upFrom}
+use Rattle.lists.specs.Lists.{padded, upFrom}
 use Rattle.lists.proofs.Choice.{both}
 use Rattle.lists.proofs.Tests.{by-test, and-true}
 use Rattle.refusal.specs.Number.{numberOf}
-use Rattle.refusal.specs.declared.Refusal.the-variants.{ShortOutput, Mismatch, Size}
+use Rattle.refusal.specs.declared.Refusal.the-variants.{ShortOutput, Size}
 use Rattle.erp1.specs.Subtelegram.{checkOf, isValid}
 use Rattle.crc8.specs.Crc8.{crcOf}
 use Rattle.layout.specs.Buffer.{part}
-use Rattle.layout.specs.Cell.{cellLength, cellOf}
+use Rattle.layout.specs.Cell.{cellLength}
 use Rattle.layout.specs.Header.{headerLength}
 use Rattle.layout.specs.Block.{cellsPerBlock, bodyLength, blockLength, sealed, blockOf}
-use Rattle.layout.proofs.Segments.{part-length, left, right, last, part-replicate, flatten-length}
+use Rattle.layout.proofs.Segments.{left, right, last, part-replicate, flatten-length}
 use Rattle.layout.proofs.Buffer.{padded-length}
 use Rattle.layout.proofs.Cell.{cell-length}
 use Rattle.archive_model.specs.Row.{Row, rowLast, rowCell, rowsHeader, rowsBlock, blockNumber, rowCount, isBlank}
-use Rattle.archive_model.specs.Buffer.{Found, At, None, blocksFor, rowsAt, bufferOf, maxBlocks, isWhole, rowsIn, mismatch}
-use Rattle.archive_model.specs.Append.{Appended, refused, found, verdict, rowNumber, appendOf, blockAt, putRow, isNext, isInside, appendAtOf}
+use Rattle.archive_model.specs.Buffer.{Found, At, None, rowsAt, bufferOf, maxBlocks, isWhole, rowsIn, mismatch}
+use Rattle.archive_model.specs.Append.{Appended, refused, stored, found, verdict, rowNumber, appendOf, blockAt, putRow, isNext, appendAtOf}
 use Rattle.archive_model.proofs.Blocks.{Fit, Fits, short, shorts, header-length, each, number-back, count-back}
 use Rattle.archive_model.proofs.Buffers.{map-same, flatten-append, pieces, blank, blank-is, group-length, group-few, group-fits, used-block, free-block, buffer-length, rows-in, no-mismatch}
 use Rattle.archive_model.proofs.Exact.{exact, exact-fits, exact-few, fits-append}
@@ -113,7 +111,7 @@ module _ (n : ℕ) (r : Row) (fr : length (rowCell r) ≡ cellLength) where
 -- ---- the buffer of some rows is an archive
 
 module _ (rows : List Row) (m : ℕ) (fit : Fits rows) (fits : length rows ≤ cellsPerBlock * m) (mb : m ≤ maxBlocks) where
-  written-whole : isWhole (length (bufferOf (blockLength * m) rows)) ≡ true
+  pub written-whole : isWhole (length (bufferOf (blockLength * m) rows)) ≡ true
   unfolding isWhole
   written-whole =
       let l = buffer-length rows m fit fits in
@@ -259,7 +257,7 @@ module _ (rows : List Row) (m : ℕ) (fit : Fits rows) (fits : length rows ≤ c
 
     -- the last three cases of both
     abbrev answer : Bool → Bool → Appended
-    answer valid free = cond (not valid) (refused (checkOf (r .bytes)) 0 buffer) (cond (not free) (refused (numberOf ShortOutput) 0 buffer) (refused 0 0 (bufferOf (blockLength * m) (rows ++ (r ∷ [])))))
+    answer valid free = cond (not valid) (refused (checkOf (r .bytes)) 0 buffer) (cond (not free) (refused (numberOf ShortOutput) 0 buffer) (stored (bufferOf (blockLength * m) (rows ++ (r ∷ [])))))
 
     append-is : (free : Bool) → leb (cellsPerBlock * (length buffer / blockLength)) n ≡ not free → appendOf buffer r ≡ answer (isValid (r .bytes)) free
     unfolding appendOf
@@ -268,8 +266,8 @@ module _ (rows : List Row) (m : ℕ) (fit : Fits rows) (fits : length rows ≤ c
       where
         go : (c : ℕ) (f : Bool)
             → cond (not (eqb (cond (not (eqb c 0)) c (cond (not f) (numberOf ShortOutput) 0)) 0)) (refused (cond (not (eqb c 0)) c (cond (not f) (numberOf ShortOutput) 0)) 0 buffer)
-            (refused 0 0 (bufferOf (blockLength * m) (rows ++ (r ∷ []))))
-            ≡ cond (not (eqb c 0)) (refused c 0 buffer) (cond (not f) (refused (numberOf ShortOutput) 0 buffer) (refused 0 0 (bufferOf (blockLength * m) (rows ++ (r ∷ [])))))
+            (stored (bufferOf (blockLength * m) (rows ++ (r ∷ []))))
+            ≡ cond (not (eqb c 0)) (refused c 0 buffer) (cond (not f) (refused (numberOf ShortOutput) 0 buffer) (stored (bufferOf (blockLength * m) (rows ++ (r ∷ [])))))
         go zero true = refl
         go zero false = refl
         go (suc c) f =
@@ -285,9 +283,9 @@ module _ (rows : List Row) (m : ℕ) (fit : Fits rows) (fits : length rows ≤ c
     at-in h t =
         rw (whole, count, lt-ltb k m h, is-next h mb)
         (by-test {X = cond (not (isValid (r .bytes))) (refused (checkOf (r .bytes)) 0 buffer)
-        (refused 0 0 (take (blockLength * k) buffer ++ putRow n r (blockAt k buffer) ++ drop (blockLength * k + blockLength) buffer))
+        (stored (take (blockLength * k) buffer ++ putRow n r (blockAt k buffer) ++ drop (blockLength * k + blockLength) buffer))
         ≡ answer (isValid (r .bytes)) true} (isValid (r .bytes))
-        (λ v. rw v (ap (refused 0 0) (buffer-more r (record { valid = v; time = t }) h)))
+        (λ v. rw v (ap stored (buffer-more r (record { valid = v; time = t }) h)))
         (λ f. rw f))
 
     pub cursor-written : r .time < 2 ^ 64 → appendAtOf buffer n r ≡ appendOf buffer r
@@ -303,7 +301,7 @@ module _ (rows : List Row) (m : ℕ) (fit : Fits rows) (fits : length rows ≤ c
           by-test {X = (verdict (appendOf buffer r .buffer) .number ≡ 0) × (rowsIn (appendOf buffer r .buffer) ≡ rows ++ (r ∷ []))} (isValid (r .bytes))
           (λ v.
           let f : Fit r = record { valid = v; time = t } in
-          let is : appendOf buffer r ≡ refused 0 0 (bufferOf (blockLength * m) (rows ++ (r ∷ []))) =
+          let is : appendOf buffer r ≡ stored (bufferOf (blockLength * m) (rows ++ (r ∷ []))) =
           append-is true (lt-leb (cellsPerBlock * (length buffer / blockLength)) n (omega (arith, count))) ∙ ap (λ (b : Bool). answer b true) v in
           rw is (written-verdict (rows ++ (r ∷ [])) m (more-fits r f h) (more-few r f h) mb, rows-in (rows ++ (r ∷ [])) m (more-fits r f h) (more-few r f h)))
           (λ v. absurd (not-zero true v (append-is true (lt-leb (cellsPerBlock * (length buffer / blockLength)) n (omega (arith, count)))) z))
@@ -346,7 +344,7 @@ module _ (buffer : List ℕ) (v : verdict buffer .number ≡ 0) where
   pub rows-fit : Fits (rowsIn buffer)
   rows-fit = exact-fits buffer blocks (blocks-of buffer v .0) (verdict-facts buffer v .1)
 
-  rows-few : length (rowsIn buffer) ≤ cellsPerBlock * blocks
+  pub rows-few : length (rowsIn buffer) ≤ cellsPerBlock * blocks
   rows-few = exact-few buffer blocks (blocks-of buffer v .0) (verdict-facts buffer v .1)
 
   pub cursor : (r : Row) → r .time < 2 ^ 64 → appendAtOf buffer (length (rowsIn buffer)) r ≡ appendOf buffer r
@@ -366,8 +364,8 @@ append-kept buffer r h =
     go (not (eqb (verdict buffer .number) 0)) (not (eqb (rowNumber buffer r) 0)) h
   where
     go : (a b : Bool)
-        → (cond a (refused (verdict buffer .number) (verdict buffer .position) buffer) (cond b (refused (rowNumber buffer r) 0 buffer) (refused 0 0 (bufferOf (length buffer) (rowsIn buffer ++ (r ∷ []))))) .number ≡ 0 → ⊥)
-        → cond a (refused (verdict buffer .number) (verdict buffer .position) buffer) (cond b (refused (rowNumber buffer r) 0 buffer) (refused 0 0 (bufferOf (length buffer) (rowsIn buffer ++ (r ∷ []))))) .buffer ≡ buffer
+        → (cond a (refused (verdict buffer .number) (verdict buffer .position) buffer) (cond b (refused (rowNumber buffer r) 0 buffer) (stored (bufferOf (length buffer) (rowsIn buffer ++ (r ∷ []))))) .number ≡ 0 → ⊥)
+        → cond a (refused (verdict buffer .number) (verdict buffer .position) buffer) (cond b (refused (rowNumber buffer r) 0 buffer) (stored (bufferOf (length buffer) (rowsIn buffer ++ (r ∷ []))))) .buffer ≡ buffer
     go true b n = refl
     go false true n = refl
     go false false n = absurd (n refl)

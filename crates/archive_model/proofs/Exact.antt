@@ -4,24 +4,23 @@
 --     exact                               the buffer is what is written of its rows
 --     exact-fits, exact-few               which fit, and are at most 15 for each block
 -- Assumes nothing.
-use Prim.Native.Nat.{ℕ, zero, suc, _+_, _-_, _*_, _/_, _%_, _^_, _≤_, _<_}
-use native.Mathlib.Nat.{zero-add, add-zero, add-suc, suc-add, mul-suc, mul-zero, add-comm}
-use native.Mathlib.Numerals.{add-one}
+use Prim.Native.Nat.{ℕ, zero, suc, _+_, _-_, _*_, _/_, _^_, _≤_, _<_}
+use native.Mathlib.Nat.{zero-add, add-zero, add-suc, suc-add}
 use native.Mathlib.Decide.{decLt}
 use native.Mathlib.Omega.{arith}
 use mathlib.Core.Path.{_≡_, refl, sym, ap, ap₂, _∙_}
 use mathlib.Core.Bool.{Bool, true, false, cond, not, _&&_}
 use mathlib.Core.List.{List, [], _∷_, _++_, map, flatten, append-assoc, append-nil}
-use lib.Dec.{T, eqb, leb, ltb}
-use lib.ListN.{length, getD, take, drop, replicate, length-append, length-map, length-replicate, replicate-append-replicate, List·getD-append}
-use lib.Seq.{take-all, take-at, drop-at, drop-append-add, getD-append-add}
+use lib.Dec.{eqb, leb}
+use lib.ListN.{length, getD, replicate, length-append, length-map, length-replicate, replicate-append-replicate, List·getD-append}
+use lib.Seq.{take-all, take-at, getD-append-add}
 use borrow.Author.Tests.{eqb-true, leb-true, ltb-false, not-false}
 use Rattle.lists.specs.Lists.{all, equal, padded, upFrom}
 use Rattle.lists.proofs.Choice.{both}
 use Rattle.lists.proofs.Equal.{equal-eq}
 use Rattle.lists.proofs.Tests.{by-test, all-getD}
 use Rattle.lists.proofs.UpFrom.{length-upFrom, getD-upFrom}
-use Rattle.erp1.specs.Subtelegram.{maxLength, checkOf}
+use Rattle.erp1.specs.Subtelegram.{checkOf}
 use Rattle.erp1.proofs.Checks.{check-facts}
 use Rattle.layout.specs.Buffer.{part}
 use Rattle.layout.specs.Cell.{cellTime}
@@ -29,15 +28,15 @@ use Rattle.layout.specs.Block.{cellsPerBlock, blockLength, blockCell}
 use Rattle.layout.proofs.Segments.{part-length, right, Each}
 use Rattle.layout.proofs.Cell.{cell-time-lt}
 use Rattle.archive_model.specs.Row.{Row, rowLast, rowCell, rowsBlock, blockNumber, rowCount, rowIn, rowsOf, isRow, isSound, isBlank}
-use Rattle.archive_model.specs.Buffer.{Found, At, None, blocksFor, rowsAt, archiveOf, bufferOf, blocksIn, rowsIn, nonZero, isShort, isFollowed, mismatchFrom, mismatch}
-use Rattle.archive_model.proofs.Blocks.{Fit, Fits, Shorts, noRow, written-cell}
+use Rattle.archive_model.specs.Buffer.{At, None, blocksFor, rowsAt, archiveOf, bufferOf, blocksIn, rowsIn, nonZero, isShort, isFollowed, mismatchFrom, mismatch}
+use Rattle.archive_model.proofs.Blocks.{Fits, Shorts, noRow, written-length, written-cell}
 use Rattle.archive_model.proofs.Buffers.{map-same, pieces, blank, blank-is, none-flat}
 use Rattle.archive_model.proofs.Pieces.{rows-count, at-none}
 
 -- ---- one sound block
 
 module _ (b : List ℕ) (sound : isSound b ≡ true) where
-  tests : (1 ≤ rowCount b) × (rowCount b ≤ cellsPerBlock) × (all isRow (rowsOf b) ≡ true) × (equal (rowsBlock (blockNumber b) (rowsOf b)) b ≡ true)
+  pub tests : (1 ≤ rowCount b) × (rowCount b ≤ cellsPerBlock) × (all isRow (rowsOf b) ≡ true) × (equal (rowsBlock (blockNumber b) (rowsOf b)) b ≡ true)
   unfolding isSound
   tests =
       let x = both (leb 1 (rowCount b)) _ sound in
@@ -54,31 +53,34 @@ module _ (b : List ℕ) (sound : isSound b ≡ true) where
   pub sound-few : length (rowsOf b) ≤ cellsPerBlock
   sound-few = omega (arith, rows-count b, tests .1)
 
-  valid-at : (i : ℕ) → i < length (rowsOf b) → isRow (getD (rowsOf b) i noRow) ≡ true
+  pub valid-at : (i : ℕ) → i < length (rowsOf b) → isRow (getD (rowsOf b) i noRow) ≡ true
   valid-at i h = all-getD isRow (rowsOf b) i noRow (tests .2) h
 
-  shorts : Shorts (rowsOf b)
+  pub sound-shorts : Shorts (rowsOf b)
   unfolding Shorts
-  shorts i h =
+  sound-shorts i h =
       let bytes = getD (rowsOf b) i noRow .bytes in
       check-facts bytes (eqb-true (checkOf bytes) 0 (valid-at i h)) .high
 
+  pub sound-long : length b ≡ blockLength
+  sound-long = ap length (sym sound-is) ∙ written-length (blockNumber b) (rowsOf b) sound-shorts sound-few
+
   -- the row is what is read of its cell, which is what is written of the row: so its time fits
-  row-is : (i : ℕ) → i < length (rowsOf b) → getD (rowsOf b) i noRow ≡ rowIn (blockCell i b)
+  pub row-is : (i : ℕ) → i < length (rowsOf b) → getD (rowsOf b) i noRow ≡ rowIn (blockCell i b)
   unfolding rowsOf
   row-is i h =
       getD-upFrom (λ j. rowIn (blockCell j b)) 0 (rowCount b) i noRow (omega (arith, length-map (upFrom 0 (rowCount b)) (λ j. rowIn (blockCell j b)), length-upFrom 0 (rowCount b)))
       ∙ ap (λ j. rowIn (blockCell j b)) (zero-add i)
 
-  cell-is : (i : ℕ) → i < length (rowsOf b) → blockCell i b ≡ rowCell (getD (rowsOf b) i noRow)
-  cell-is i h = ap (blockCell i) (sym sound-is) ∙ written-cell (blockNumber b) (rowsOf b) shorts sound-few i h
+  pub cell-is : (i : ℕ) → i < length (rowsOf b) → blockCell i b ≡ rowCell (getD (rowsOf b) i noRow)
+  cell-is i h = ap (blockCell i) (sym sound-is) ∙ written-cell (blockNumber b) (rowsOf b) sound-shorts sound-few i h
 
   time-fits : (i : ℕ) → i < length (rowsOf b) → getD (rowsOf b) i noRow .time < 2 ^ 64
   unfolding Shorts
   time-fits i h =
       let r = getD (rowsOf b) i noRow in
       let e : r .time ≡ cellTime (rowCell r) = ap (λ (q : Row). q .time) (row-is i h) ∙ ap cellTime (cell-is i h) in
-      rw e (cell-time-lt (r .time) (r .bytes) (rowLast (r .loose)) (shorts i h))
+      rw e (cell-time-lt (r .time) (r .bytes) (rowLast (r .loose)) (sound-shorts i h))
 
   pub sound-fits : Fits (rowsOf b)
   unfolding Fits
@@ -86,7 +88,7 @@ module _ (b : List ℕ) (sound : isSound b ≡ true) where
 
 -- ---- all-zero blocks
 
-zeros : (b : List ℕ) → isBlank b ≡ true → b ≡ replicate (length b) 0
+pub zeros : (b : List ℕ) → isBlank b ≡ true → b ≡ replicate (length b) 0
 zeros [] t = refl
 zeros (x ∷ b) t =
     let p = both (eqb x 0) _ t in
@@ -279,7 +281,7 @@ module _ (buffer : List ℕ) (m : ℕ) (long : length buffer ≡ blockLength * m
   blocks-flat = pieces blockLength buffer 0 (length buffer / blockLength) ∙ take-all (blockLength * (length buffer / blockLength)) buffer (omega (arith, count))
 
   module _ (none : mismatch buffer ≡ None) where
-    is-shape : Shape 0 (blocksIn buffer)
+    pub is-shape : Shape 0 (blocksIn buffer)
     unfolding mismatch
     is-shape = shape 0 (blocksIn buffer) each none
 

@@ -3,12 +3,12 @@
 --     scan-found      what is found from the start is the first mismatch
 --     scan-rows       and where there is none, the rows are those of all blocks
 -- Assumes nothing.
-use Prim.Native.Nat.{ℕ, zero, suc, _+_, _-_}
+use Prim.Native.Nat.{ℕ, suc, _+_, _-_}
 use native.Mathlib.Nat.{zero-add}
 use native.Mathlib.Numerals.{add-one}
 use native.Mathlib.Omega.{arith}
 use mathlib.Core.Path.{_≡_, refl, sym, ap, _∙_}
-use mathlib.Core.Bool.{Bool, true, false, cond, not, _&&_}
+use mathlib.Core.Bool.{Bool, true, false, cond, _&&_}
 use mathlib.Core.List.{List, [], _∷_, _++_, map, flatten}
 use lib.Dec.{eqb}
 use lib.ListN.{length, length-append, length-map}
@@ -16,8 +16,8 @@ use Rattle.lists.specs.Lists.{upFrom}
 use Rattle.lists.proofs.Tests.{by-test}
 use Rattle.lists.proofs.UpFrom.{length-upFrom}
 use Rattle.layout.specs.Block.{blockCell}
-use Rattle.archive_model.specs.Row.{Row, blockNumber, rowCount, rowIn, rowsOf, isSound, isBlank}
-use Rattle.archive_model.specs.Buffer.{Found, At, None, blocksIn, rowsIn, nonZero, isShort, isFollowed, mismatchFrom, mismatch, Stage, Filling, Short, Ended, Wrong, Scan, startScan, stageAfter, stageBlank, scanBlock, scanBlocks, stageFound}
+use Rattle.archive_model.specs.Row.{blockNumber, rowCount, rowIn, rowsOf, isSound, isBlank}
+use Rattle.archive_model.specs.Buffer.{At, None, blocksIn, rowsIn, nonZero, isShort, isFollowed, mismatchFrom, mismatch, Stage, Filling, Short, Ended, Wrong, Scan, startScan, stageAfter, stageBlank, scanBlock, scanBlocks, stageFound}
 use Rattle.archive_model.proofs.Buffers.{blank-count}
 
 pub scan-append : (s : Scan) (xs ys : List (List ℕ)) → scanBlocks s (xs ++ ys) ≡ scanBlocks (scanBlocks s xs) ys

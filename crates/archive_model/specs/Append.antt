@@ -52,14 +52,19 @@ rowNumber buffer r =
     (cond (leb (cellsPerBlock * (length buffer / blockLength)) (length (rowsIn buffer))) (numberOf ShortOutput)
     0)
 
+-- a refusal, beside which the buffer is as it was
 abbrev pub refused : ℕ → ℕ → List ℕ → Appended
 refused number position buffer = record { number = number; position = position; buffer = buffer }
+
+-- done, and the buffer afterwards
+abbrev pub stored : List ℕ → Appended
+stored buffer = record { number = 0; position = 0; buffer = buffer }
 
 unfoldable pub appendOf : List ℕ → Row → Appended
 appendOf buffer r =
     cond (not (eqb (verdict buffer .number) 0)) (refused (verdict buffer .number) (verdict buffer .position) buffer)
     (cond (not (eqb (rowNumber buffer r) 0)) (refused (rowNumber buffer r) 0 buffer)
-    (refused 0 0 (bufferOf (length buffer) (rowsIn buffer ++ (r ∷ [])))))
+    (stored (bufferOf (length buffer) (rowsIn buffer ++ (r ∷ [])))))
 
 -- ---- row n of an archive stands in block n / 15, in its cell n % 15: so the number of rows says where the next one goes
 
@@ -87,7 +92,7 @@ putRowOf block n r =
     cond (not (eqb (length block) blockLength && ltb n maxRows)) (refused (numberOf Size) 0 block)
     (cond (not (isNext n block)) (refused (numberOf Mismatch) (n / cellsPerBlock) block)
     (cond (not (isValid (r .bytes))) (refused (checkOf (r .bytes)) 0 block)
-    (refused 0 0 (putRow n r block))))
+    (stored (putRow n r block))))
 
 abbrev pub isInside : ℕ → List ℕ → Bool
 isInside n buffer = ltb (n / cellsPerBlock) (length buffer / blockLength)
@@ -99,7 +104,7 @@ appendAtOf buffer n r =
     (cond (isInside n buffer && not (isNext n (blockAt (n / cellsPerBlock) buffer))) (refused (numberOf Mismatch) (n / cellsPerBlock) buffer)
     (cond (not (isValid (r .bytes))) (refused (checkOf (r .bytes)) 0 buffer)
     (cond (not (isInside n buffer)) (refused (numberOf ShortOutput) 0 buffer)
-    (refused 0 0
+    (stored
     (take (blockLength * (n / cellsPerBlock)) buffer
     ++ putRow n r (blockAt (n / cellsPerBlock) buffer)
     ++ drop (blockLength * (n / cellsPerBlock) + blockLength) buffer)))))

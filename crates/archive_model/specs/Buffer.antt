@@ -1,7 +1,7 @@
 -- The buffer of an archive: what it holds, and the first block that does not match (document 02, A2). Assumes nothing.
 use Prim.Native.Nat.{ℕ, suc, _+_, _-_, _*_, _/_, _%_, _^_}
-use mathlib.Core.Bool.{Bool, true, false, cond, not, _&&_, _||_}
-use mathlib.Core.List.{List, [], _∷_, _++_, map, flatten}
+use mathlib.Core.Bool.{Bool, false, cond, not, _&&_}
+use mathlib.Core.List.{List, [], _∷_, map, flatten}
 use lib.Dec.{ltb, leb, eqb}
 use lib.ListN.{length}
 use Rattle.lists.specs.Lists.{padded, upFrom}

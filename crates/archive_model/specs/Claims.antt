@@ -1,18 +1,52 @@
 -- What is proved of archives (document 02, A2). Assumes nothing.
-use Prim.Native.Nat.{ℕ, _+_, _*_, _^_, _≤_, _<_}
+use Prim.Native.Nat.{ℕ, _+_, _-_, _*_, _/_, _%_, _^_, _≤_, _<_}
 use mathlib.Core.Path.{_≡_}
 use mathlib.Core.Bool.{Bool, true, cond, _&&_}
 use mathlib.Core.List.{List, [], _∷_, _++_}
 use lib.Dec.{ltb, eqb}
-use lib.ListN.{length, replicate}
+use lib.ListN.{length, getD, take, replicate}
 use Rattle.lists.specs.Lists.{all}
-use Rattle.archive_model.specs.Row.{Row, isRow}
+use Rattle.refusal.specs.Number.{numberOf}
+use Rattle.refusal.specs.declared.Refusal.the-variants.{Argument}
+use Rattle.crc8.specs.Crc8.{crcOf}
+use Rattle.archive_model.specs.Row.{Row, rowsBlock, isRow}
 use Rattle.archive_model.specs.Buffer.{None, bufferOf, blocksIn, rowsIn, mismatch, Scan, startScan, scanBlocks, stageFound}
-use Rattle.archive_model.specs.Append.{verdict, appendOf, appendAtOf}
+use Rattle.archive_model.specs.Append.{verdict, appendOf, appendAtOf, noRow, rowAtOf}
 
 -- a row that an archive holds: a valid subtelegram, and a time of 64 bits
 abbrev pub isFit : Row → Bool
 isFit r = isRow r && ltb (r .time) (2 ^ 64)
+
+-- ---- the layout, byte by byte: claims about a block that is written and read by the same definitions would hold of another layout too
+
+-- byte i of w bytes that spell n, the highest first
+abbrev pub digit : ℕ → ℕ → ℕ → ℕ
+digit w n i = n / 256 ^ (w - 1 - i) % 256
+
+-- "rows laid out as parked entries, except that byte 30 of a row is 0 for KEPT and 1 for LOOSE": a row from byte a of a block on
+pub record LaidRow (block : List ℕ) (a : ℕ) (r : Row) : Type 0 where
+  pub time : (i : ℕ) → i < 8 → getD block (a + i) 0 ≡ digit 8 (r .time) i
+  pub used : getD block (a + 8) 0 ≡ length (r .bytes)
+  -- zero filled
+  pub bytes : (i : ℕ) → i < 21 → getD block (a + (9 + i)) 0 ≡ getD (r .bytes) i 0
+  pub loose : getD block (a + 30) 0 ≡ cond (r .loose) 1 0
+  pub last : getD block (a + 31) 0 ≡ 0
+
+-- "number (4 bytes big-endian, from 0), row count 1 to 15 (1), zeros to byte 23, then rows ..; zeros to byte 510; the CRC of bytes 0 to 510 in byte 511"
+pub record Laid (k : ℕ) (rows : List Row) (block : List ℕ) : Type 0 where
+  pub long : length block ≡ 512
+  pub number : (i : ℕ) → i < 4 → getD block i 0 ≡ digit 4 k i
+  pub count : getD block 4 0 ≡ length rows
+  pub gap : (i : ℕ) → 5 ≤ i → i < 24 → getD block i 0 ≡ 0
+  pub each : (j : ℕ) → j < length rows → LaidRow block (24 + 32 * j) (getD rows j noRow)
+  pub behind : (i : ℕ) → 24 + 32 * length rows ≤ i → i < 511 → getD block i 0 ≡ 0
+  pub check : getD block 511 0 ≡ crcOf (take 511 block)
+
+-- Layout: block k of an archive, whatever its number and times are.
+abbrev pub Layout : Type 0
+Layout = (k : ℕ) (rows : List Row) → length rows ≤ 15 → all isRow rows ≡ true → Laid k rows (rowsBlock k rows)
+
+-- ---- reading and writing
 
 -- Read back: rows that are written are read, and every block matches.
 abbrev pub ReadBack : Type 0
@@ -47,6 +81,13 @@ AtCursor =
     (buffer : List ℕ) (r : Row) → verdict buffer .number ≡ 0 → r .time < 2 ^ 64
     → (appendAtOf buffer (length (rowsIn buffer)) r ≡ appendOf buffer r)
     × (appendOf buffer r .number ≡ 0 → length (rowsIn (appendOf buffer r .buffer)) ≡ length (rowsIn buffer) + 1)
+
+-- Rows: row i of an archive is answered, and 10 where there is none.
+abbrev pub Rows : Type 0
+Rows =
+    (buffer : List ℕ) (i : ℕ) → verdict buffer .number ≡ 0
+    → rowAtOf buffer i
+    ≡ cond (ltb i (length (rowsIn buffer))) (record { number = 0; row = getD (rowsIn buffer) i noRow }) (record { number = numberOf Argument; row = noRow })
 
 -- Pieces: a scan of blocks in two pieces is one scan, and of all blocks it finds the first mismatch, or how many rows there are.
 abbrev pub Pieces : Type 0

@@ -14,7 +14,7 @@ use Rattle.lists.proofs.Tests.{by-test}
 use Rattle.erp1.specs.Subtelegram.{maxLength}
 use Rattle.layout.specs.Buffer.{part, resized}
 use Rattle.layout.proofs.Buffer.{resized-cut}
-use Rattle.layout.proofs.Segments.{part-at}
+use Rattle.layout.proofs.Segments.{part-at, part-take}
 use Rattle.model.specs.View.{Reception, isOpen}
 use Rattle.model.specs.Step.{plusIf, addIf}
 use Rattle.collector.specs.Collector.{entryAt, entriesAt}
@@ -58,12 +58,6 @@ pub moved-all : (from n : ℕ) (old xs : List ℕ) {i : ℕ} → i ≡ n → Mov
 moved-all from n old xs e m = record { front = rw e at (m .passed) }
 
 -- ---- what stands after a move
-
-part-take : (a k n : ℕ) (xs : List ℕ) → a + k ≤ n → part a k (take n xs) ≡ part a k xs
-part-take zero k n xs h = take-take k n xs (omega arith)
-part-take (suc a) k zero xs h = absurd (omega arith)
-part-take (suc a) k (suc n) [] h = refl
-part-take (suc a) k (suc n) (x ∷ xs) h = part-take a k n xs (omega arith)
 
 module _ {gone n : ℕ} {old new : List ℕ} (m : Moved gone n old new) where
   moved-at : (i : ℕ) → i < n → getD new i 0 ≡ getD old (gone + i) 0

@@ -1,3 +1,1 @@
 pub mod Division
-pub mod Linear
-pub mod Several

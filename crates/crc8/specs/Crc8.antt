@@ -43,12 +43,3 @@ crcFrom crc (b ∷ bs) = crcFrom (stepOf crc b) bs
 -- the CRC of a list of bytes: it starts at 0
 abbrev pub crcOf : List ℕ → ℕ
 crcOf bytes = crcFrom 0 bytes
-
--- the remainder of a byte times x^(8 n): n bytes of zeros after it
-unfoldable pub powerOf : ℕ → ℕ → ℕ
-powerOf zero b = b
-powerOf (suc n) b = powerOf n (remainderOf b)
-
--- eight tables one behind the other: entry 256 j + b is the remainder of b times x^(8 (j + 1))
-abbrev pub isTables : List ℕ → Bool
-isTables table = isTableOf 2048 (λ i. powerOf (i / 256 + 1) (i % 256)) table

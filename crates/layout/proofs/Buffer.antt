@@ -1,5 +1,6 @@
 -- Buffers: what is resized, and what is overwritten.
 --     padded-length, resized-length                    how long they are
+--     zeros-after, padded-at                           zeros behind a list change no element, as past its end it reads as 0
 --     resized-padded, resized-cut, resized-whole       what is resized: a list that is not longer, not shorter, or as long
 --     resized-more                                     one number more, which a loop puts
 --     resized-back                                     a list, zero filled, and its front again
@@ -7,7 +8,7 @@
 -- Assumes nothing.
 use mathlib.Core.Path.{_≡_, refl, sym, _∙_}
 use mathlib.Core.List.{List, [], _∷_, _++_, append-assoc}
-use Prim.Native.Nat.{ℕ, _+_, _-_, _≤_}
+use Prim.Native.Nat.{ℕ, zero, suc, _+_, _-_, _≤_}
 use native.Mathlib.Numerals.{add-one}
 use native.Mathlib.Decide.{decLt}
 use native.Mathlib.Omega.{arith}
@@ -23,6 +24,20 @@ padded-length n xs h = simp (length-append, length-replicate) (omega arith)
 pub resized-length : (n : ℕ) (xs : List ℕ) → length (resized n xs) ≡ n
 unfolding resized
 resized-length n xs = simp (length-take, length-append, length-replicate) (omega arith)
+
+-- past its end a list reads as 0, as the zeros do
+zeros-at : (n i : ℕ) → getD {A = ℕ} (replicate n 0) i 0 ≡ 0
+zeros-at zero i = refl
+zeros-at (suc n) zero = refl
+zeros-at (suc n) (suc i) = zeros-at n i
+
+pub zeros-after : (xs : List ℕ) (n i : ℕ) → getD (xs ++ replicate n 0) i 0 ≡ getD xs i 0
+zeros-after [] n i = zeros-at n i
+zeros-after (x ∷ xs) n zero = refl
+zeros-after (x ∷ xs) n (suc i) = zeros-after xs n i
+
+pub padded-at : (n : ℕ) (xs : List ℕ) (i : ℕ) → getD (padded n xs) i 0 ≡ getD xs i 0
+padded-at n xs i = zeros-after xs (n - length xs) i
 
 -- a list that is not longer is zero filled
 pub resized-padded : (n : ℕ) (xs : List ℕ) → length xs ≤ n → resized n xs ≡ padded n xs

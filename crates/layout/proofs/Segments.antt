@@ -1,7 +1,7 @@
 -- Lists made of segments, one after the other: how they are written in place from the front, and read back.
 --     part-length, part-at, part-ends         a part of a list: its length, its elements, and the form that `&xs[a..a + n]` has in a proof
 --     take-clamped, part-clamped              the same where the ends are cut to the list's length
---     part-replicate                          a part of one value repeated
+--     part-take, part-replicate               a part of a front; of one value repeated
 --     left, right, last, whole                a part of xs ++ ys that lies in xs, or in ys; the part that is ys; all of a list
 --     Each, flatten-length, flatten-part      segments of one length: how long they are together, and segment k of them
 --     Begun                                   a list that is written from the front: the first a elements are `front`, the rest is as it was
@@ -20,7 +20,7 @@ use native.Mathlib.Numerals.{add-one}
 use native.Mathlib.Decide.{decLt}
 use native.Mathlib.Omega.{arith}
 use lib.ListN.{length, getD, take, drop, set, take-append-drop, length-append, length-take, length-drop, drop-of-length-le, replicate, length-replicate, getD-replicate, replicate-append-replicate}
-use lib.Seq.{take-at, drop-at, take-all, take-nil, take-append-le, drop-append-le, drop-append-add, drop-drop, drop-cons, set-at, append-snoc, getD-take, getD-drop, ext-getD}
+use lib.Seq.{take-at, drop-at, take-all, take-nil, take-append-le, take-take, drop-append-le, drop-append-add, drop-drop, drop-cons, set-at, append-snoc, getD-take, getD-drop, ext-getD}
 use Rattle.lists.specs.Lists.{padded}
 use Rattle.layout.specs.Buffer.{part}
 
@@ -30,6 +30,13 @@ module _ {A : Type 0} where
 
   pub part-at : (a n : ℕ) (xs : List A) (i : ℕ) (d : A) → i < n → getD (part a n xs) i d ≡ getD xs (a + i) d
   part-at a n xs i d h = rw (getD-take n (drop a xs) i d h, getD-drop a xs i d)
+
+  -- a part of a front
+  pub part-take : (a w n : ℕ) (xs : List A) → a + w ≤ n → part a w (take n xs) ≡ part a w xs
+  part-take zero w n xs h = take-take w n xs (omega arith)
+  part-take (suc a) w zero xs h = absurd (omega arith)
+  part-take (suc a) w (suc n) [] h = refl
+  part-take (suc a) w (suc n) (x ∷ xs) h = part-take a w n xs (omega arith)
 
   -- what is lent where both ends are written out
   pub part-ends : (a n : ℕ) (xs : List A) → part a (a + n - a) xs ≡ part a n xs

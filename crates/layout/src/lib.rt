@@ -95,7 +95,7 @@ pub fn seal(block: &mut [u8])
     if block.len() != BLOCK_LENGTH {
         return;
     }
-    let crc = crc8::crc8(&block[0..BODY_LENGTH]);
+    let crc = crc8_long::crc8_long(&block[0..BODY_LENGTH]);
     block[BODY_LENGTH] = crc;
 }
 

@@ -1,7 +1,8 @@
 // What the test programs share: records read, and text, numbers and hexadecimal digits printed.
 use libc::STDIN_FILENO;
 use libc::STDOUT_FILENO;
-ghost use Prim.Native.Nat.{_<_};
+ghost use Prim.Native.Nat.{_<_, _≤_, _*_};
+ghost use lib.ListN.{length};
 
 // A record: 64 bytes, a line of 128 upper-case hexadecimal digits in the input. `more` is false past the last one.
 pub struct Record {
@@ -9,17 +10,33 @@ pub struct Record {
     pub bytes: [u8; 64],
 }
 
+// The digits of a record and a newline.
 const LINE: usize = 129;
+
+// The bytes of a long record.
+pub const LONG: usize = 320;
+
+// The digits of a long record and a newline.
+const LONG_LINE: usize = 641;
 
 // The next record of standard input.
 pub fn next_record() -> Record {
     let mut line = [0u8; LINE];
     let n = io::read_full(STDIN_FILENO, &mut line);
-    let bytes = decode(line);
+    let mut bytes = [0u8; 64];
+    decode(&line, &mut bytes);
     Record {
         more: n == LINE,
         bytes: bytes,
     }
+}
+
+// Reads the next long record of standard input, a line of 640 upper-case hexadecimal digits, into `bytes`. False past the last one.
+pub fn next_long_record(bytes: &mut [u8; LONG]) -> bool {
+    let mut line = [0u8; LONG_LINE];
+    let n = io::read_full(STDIN_FILENO, &mut line);
+    decode(&line, bytes);
+    n == LONG_LINE
 }
 
 // Prints text as it is.
@@ -47,12 +64,13 @@ pub fn byte(b: u8) {
     text(&[digit(b / 16), digit(b % 16)]);
 }
 
-fn decode(line: [u8; LINE]) -> [u8; 64] {
-    let mut bytes = [0u8; 64];
-    for i in 0..64 {
+// Writes the bytes that a line of digits says.
+fn decode(line: &[u8], bytes: &mut [u8])
+    requires { ⌜ 2 * length (now bytes) ≤ length (now line) ⌝ }
+{
+    for i in 0..bytes.len() {
         bytes[i] = pair(line[2 * i], line[2 * i + 1]);
     }
-    bytes
 }
 
 // The byte that two digits say.

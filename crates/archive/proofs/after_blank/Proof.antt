@@ -1,5 +1,5 @@
 -- `archive::after_blank` meets its contract: each arm is one case. Assumes nothing.
-use mathlib.Core.Path.{_≡_, refl, sym, ap, _∙_}
+use mathlib.Core.Path.{sym, ap}
 use borrow.Author.Needs.{needs}
 use Rattle.archive_model.specs.Buffer as buffer
 use Rattle.archive.specs.Archive.{stageOf}

@@ -1,16 +1,13 @@
 -- `archive::is_row` meets its contract: a length over 21 is refused before the bytes are looked at. Assumes nothing.
 use mathlib.Core.Path.{_≡_, sym, ap, _∙_}
-use mathlib.Core.Bool.{true, false}
-use mathlib.Core.List.{List}
-use Prim.Native.Nat.{ℕ}
 use native.Mathlib.Omega.{arith}
 use borrow.Author.Needs.{needs}
 use borrow.Author.Tests.{eq-eqb}
 use denote.Ref.{now}
 use Rattle.layout.specs.Cell.{cellBytes}
-use Rattle.erp1.specs.Subtelegram.{checkOf, checkedNumber, isValid}
+use Rattle.erp1.specs.Subtelegram.{checkOf, checkedNumber}
 use Rattle.erp1.proofs.Checks.{told-valid, told-refused, not-valid}
-use Rattle.archive.proofs.Rows.{bytes-shown, long-row}
+use Rattle.archive.proofs.Cells.{bytes-shown, long-row}
 use Rattle.archive.proofs.is_row.Statement.{statement}
 use Rattle.archive.proofs.is_row.Tie as tie
 

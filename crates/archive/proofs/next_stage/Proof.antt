@@ -1,6 +1,5 @@
 -- `archive::next_stage` meets its contract: each return is one case. Assumes nothing.
 use mathlib.Core.Path.{_≡_, sym, _∙_}
-use native.Mathlib.Omega.{arith}
 use borrow.Author.Needs.{needs}
 use denote.Ref.{now}
 use Rattle.archive_model.specs.Row.{blockNumber}

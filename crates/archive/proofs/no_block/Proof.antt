@@ -1,5 +1,4 @@
 -- `archive::no_block` meets its contract. Assumes nothing.
-use mathlib.Core.Path.{_≡_, sym, ap, _∙_}
 use borrow.Author.Needs.{needs}
 use borrow.Author.Tests.{eq-eqb}
 use Rattle.erp1.proofs.Checks.{told-valid, told-refused, not-valid}

@@ -1,7 +1,6 @@
 -- `archive::open` meets its contract: a scan of all blocks says what the definition of the first mismatch does. Assumes nothing.
-use mathlib.Core.Path.{_≡_, refl, sym, ap, ap₂, _∙_}
+use mathlib.Core.Path.{_≡_, sym, ap, _∙_}
 use mathlib.Core.Bool.{true}
-use Prim.Native.Nat.{ℕ}
 use native.Mathlib.Omega.{arith}
 use borrow.Author.Needs.{needs}
 use borrow.Author.Tests.{not-true, not-false}
@@ -9,7 +8,7 @@ use denote.Ref.{now}
 use lib.ListN.{length}
 use Rattle.archive_model.specs.Buffer as buffer
 use Rattle.archive_model.proofs.Pieces.{scan-found, scan-rows}
-use Rattle.archive.specs.Archive.{stageOf, scanOf, openFound}
+use Rattle.archive.specs.Archive.{openFound}
 use Rattle.archive.proofs.Calls.{whole-facts, open-size, open-whole}
 use Rattle.archive.proofs.open.Statement.{statement}
 use Rattle.archive.proofs.open.Tie as tie

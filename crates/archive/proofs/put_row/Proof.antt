@@ -1,14 +1,11 @@
 -- `archive::put_row` meets its contract: each return is one case of `putRowOf`. Assumes nothing.
 use mathlib.Core.Path.{_≡_, sym, ap, _∙_}
 use mathlib.Core.Bool.{true}
-use mathlib.Core.List.{List}
-use Prim.Native.Nat.{ℕ}
-use native.Mathlib.Omega.{arith}
 use borrow.Author.Needs.{needs}
 use borrow.Author.Tests.{not-true, not-false}
 use denote.Ref.{now}
 use Rattle.erp1.proofs.Checks.{told-valid, told-refused, check-facts}
-use Rattle.archive_model.specs.Append.{refused, isNext}
+use Rattle.archive_model.specs.Append.{stored, isNext}
 use Rattle.archive.specs.Archive.{rowOf}
 use Rattle.archive.proofs.Puts.{put-size, put-far, put-other, put-invalid, put-done}
 use Rattle.archive.proofs.put_row.Statement.{statement}
@@ -59,7 +56,7 @@ done c =
     let e3 = ch .before in
     let e = e3 .before .before .before in
     let a = e .before .before .before .before .args in
-    ap (refused 0 0) (wr .write-row .ensures)
+    ap stored (wr .write-row .ensures)
     ∙ put-done (now (a .block)) (a .n) (rowOf (now (a .bytes)) (a .time) (a .loose)) (e .before .if1 .left) (e .if2 .left) (next e3) (told-valid _ _ (ch .check .ensures) (t .enum-told .given .1))
 
 pub put-row-spec : {M : Type 1} → statement M

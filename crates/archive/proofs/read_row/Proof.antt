@@ -1,5 +1,5 @@
 -- `archive::read_row` meets its contract: the field is copied whole. Assumes nothing.
-use mathlib.Core.Path.{_≡_, sym, ap, _∙_}
+use mathlib.Core.Path.{_≡_, ap, _∙_}
 use mathlib.Core.Bool.{Bool}
 use mathlib.Core.List.{List}
 use Prim.Native.Nat.{ℕ, _+_, _*_, _≤_, _<_}
@@ -9,9 +9,8 @@ use borrow.Author.Tests.{lt-ltb, le-ltb}
 use denote.Ref.{now}
 use lib.ListN.{length}
 use Rattle.layout.specs.Buffer.{resized}
-use Rattle.layout.specs.Cell.{cellLength, cellCapacity, cellTime, cellUsed, cellField, cellBytes, cellLast}
+use Rattle.layout.specs.Cell.{cellLength, cellCapacity, cellTime, cellUsed, cellField, cellBytes}
 use Rattle.layout.specs.Header.{headerLength}
-use Rattle.layout.specs.Block.{blockLength, blockCell}
 use Rattle.layout.proofs.Segments.{part-length}
 use Rattle.layout.proofs.Buffer.{resized-whole}
 use Rattle.archive_model.specs.Row.{Row, rowCount, rowIn}

@@ -1,9 +1,9 @@
 -- `archive::scan_block` meets its contract: an all-zero block, and any other. Assumes nothing.
-use mathlib.Core.Path.{_≡_, sym, _∙_}
+use mathlib.Core.Path.{sym, _∙_}
 use native.Mathlib.Omega.{arith}
 use borrow.Author.Needs.{needs}
 use denote.Ref.{now}
-use Rattle.archive.specs.Archive.{stageOf, scanOf, soundRows}
+use Rattle.archive.specs.Archive.{stageOf, scanOf}
 use Rattle.archive.proofs.Scans.{sound-le, scanned-blank, scanned}
 use Rattle.archive.proofs.scan_block.Statement.{statement}
 use Rattle.archive.proofs.scan_block.Tie as tie

@@ -1,13 +1,10 @@
 -- `archive::scan_blocks` meets its contract. The invariant: the blocks that are left bring the scan so far to the end of the whole; the
 -- measure: the blocks left. Assumes nothing.
 use mathlib.Core.Path.{_≡_, sym, ap, _∙_}
-use mathlib.Core.List.{List}
-use Prim.Native.Nat.{ℕ, _+_, _-_, _*_, _/_, _≤_}
+use Prim.Native.Nat.{_+_, _-_, _*_, _/_, _≤_}
 use native.Mathlib.Omega.{arith}
-use borrow.Author.Needs.{needs}
 use denote.Ref.{now}
 use lib.ListN.{length}
-use Rattle.layout.specs.Buffer.{part}
 use Rattle.layout.specs.Block.{cellsPerBlock, blockLength}
 use Rattle.layout.proofs.Segments.{part-length, part-ends}
 use Rattle.archive_model.specs.Buffer as buffer

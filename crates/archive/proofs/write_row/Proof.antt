@@ -13,7 +13,7 @@ use Rattle.layout.specs.Buffer.{part}
 use Rattle.layout.proofs.Segments.{Writing, packed, begin, lend, lent, skip}
 use Rattle.layout.proofs.Cell.{put-fits}
 use Rattle.layout.proofs.Block.{seal-front}
-use Rattle.archive_model.specs.Row.{Row, rowLast, rowCell, rowsHeader}
+use Rattle.archive_model.specs.Row.{rowLast, rowsHeader}
 use Rattle.archive_model.specs.Append.{putRow}
 use Rattle.archive.specs.Archive.{rowOf}
 use Rattle.archive.proofs.write_row.Statement.{statement}

@@ -1,17 +1,18 @@
--- `test_io::decode` is safe and ends. The loop's invariant: the index is at most 64; the measure is what is left of it.
--- Assumes nothing.
-use Prim.Native.Nat.{_≤_, _-_}
+-- `test_io::decode` is safe and ends. The loop's invariant: the index is at most the length, which stays, and the line is twice as long; the
+-- measure is what is left of it. Assumes nothing.
+use Prim.Native.Nat.{_≤_, _-_, _*_}
 use mathlib.Core.Path.{_≡_}
+use native.Mathlib.Omega.{arith}
 use lib.ListN.{length}
 use borrow.Author.Needs.{needs}
 use Rattle.test_io.proofs.decode.Statement.{statement}
 use Rattle.test_io.proofs.decode.Tie as tie
 
 abbrev Inv-loop : tie.InvT-loop
-Inv-loop line bytes₀ i₀ bytes i = (i ≤ 64) × (length bytes ≡ 64)
+Inv-loop line bytes₀ i₀ i-end bytes i = (i ≤ i-end) × (length bytes ≡ length bytes₀) × (i-end ≡ length bytes) × (2 * length bytes ≤ length line)
 
 abbrev μ-loop : tie.MeasureT-loop
-μ-loop line bytes₀ i₀ bytes i = 64 - i
+μ-loop line bytes₀ i₀ i-end bytes i = i-end - i
 
 pub decode-spec : {M : Type 1} → statement M
 decode-spec =
@@ -26,6 +27,7 @@ decode-spec =
     (λ c. search needs)
     (λ c. search needs)
     (λ c κs. search needs)
+    (λ c. search needs)
     (λ c. search needs)
     (λ c. search needs)
     (λ c. search needs)

@@ -1,6 +1,5 @@
 -- `archive::Scan::feed` meets its contract: each return is one case of `feedOf`. Assumes nothing.
-use mathlib.Core.Path.{_≡_, _∙_}
-use native.Mathlib.Omega.{arith}
+use mathlib.Core.Path.{_∙_}
 use borrow.Author.Needs.{needs}
 use denote.Ref.{now}
 use Rattle.archive.specs.Archive.{scanOf}

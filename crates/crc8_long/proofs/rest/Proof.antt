@@ -8,9 +8,10 @@ use denote.Ref.{now}
 use lib.Bits.{bitXor}
 use lib.ListN.{length, drop, getD, drop-of-length-le}
 use lib.Seq.{drop-cons}
-use Rattle.crc8.specs.Crc8.{remainderOf, stepOf, crcFrom, powerOf}
-use Rattle.crc8.proofs.rest.Statement.{statement}
-use Rattle.crc8.proofs.rest.Tie as tie
+use Rattle.crc8.specs.Crc8.{stepOf, crcFrom}
+use Rattle.crc8_long.specs.Tables.{powerOf}
+use Rattle.crc8_long.proofs.rest.Statement.{statement}
+use Rattle.crc8_long.proofs.rest.Tie as tie
 
 crc-next : (bytes : List ℕ) (i crc : ℕ) → i < length bytes
     → crcFrom crc (drop i bytes) ≡ crcFrom (powerOf 1 (bitXor crc (getD bytes i 0))) (drop (i + 1) bytes)

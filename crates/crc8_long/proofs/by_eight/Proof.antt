@@ -1,15 +1,15 @@
-use Prim.Native.Nat.{ℕ, _≤_, _<_, _+_, _-_}
+use Prim.Native.Nat.{ℕ, _≤_, _+_, _-_}
 use mathlib.Core.Path.{_≡_, refl, sym, ap, _∙_}
-use mathlib.Core.List.{List, _++_}
+use mathlib.Core.List.{List}
 use borrow.Author.Needs.{needs}
 use native.Mathlib.Omega.{arith}
 use denote.Ref.{now}
 use lib.ListN.{length, take, drop, length-take, length-drop, take-append-drop}
 use lib.Seq.{drop-drop, take-all}
 use Rattle.crc8.specs.Crc8.{crcFrom, crcOf}
-use Rattle.crc8.proofs.Several.{crc-part}
-use Rattle.crc8.proofs.by_eight.Statement.{statement}
-use Rattle.crc8.proofs.by_eight.Tie as tie
+use Rattle.crc8_long.proofs.Several.{crc-part}
+use Rattle.crc8_long.proofs.by_eight.Statement.{statement}
+use Rattle.crc8_long.proofs.by_eight.Tie as tie
 
 abbrev Inv-loop : tie.InvT-loop
 Inv-loop tables bytes crc₀ i₀ crc i = (i ≤ length bytes) × (crcFrom crc (drop i bytes) ≡ crcOf bytes)

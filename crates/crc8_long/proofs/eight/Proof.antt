@@ -1,9 +1,8 @@
 use borrow.Author.Needs.{needs}
-use native.Mathlib.Omega.{arith}
 use denote.Ref.{now}
-use Rattle.crc8.proofs.Several.{eight-is}
-use Rattle.crc8.proofs.eight.Statement.{statement}
-use Rattle.crc8.proofs.eight.Tie as tie
+use Rattle.crc8_long.proofs.Several.{eight-is}
+use Rattle.crc8_long.proofs.eight.Statement.{statement}
+use Rattle.crc8_long.proofs.eight.Tie as tie
 
 returns : tie.Need-returns
 returns c =

@@ -2,20 +2,18 @@
 --     power-xor      the remainder of a sum times x^(8 n) is the sum of the remainders
 --     crc-at         a byte, looked up by itself, and those after it
 --     eight-is       eight bytes, each looked up by itself
---     tables-entry   what the tables hold
+--     crc-part       a part, and what follows it
 -- Assumes nothing.
-use mathlib.Core.Path.{_≡_, refl, sym, ap, ap₂, _∙_}
+use mathlib.Core.Path.{_≡_, refl, sym, ap, _∙_}
 use mathlib.Core.List.{List, [], _∷_, _++_}
-use mathlib.Core.Bool.{true}
-use Prim.Native.Nat.{ℕ, zero, suc, _+_, _-_, _*_, _/_, _%_, _<_, _≤_}
-use native.Mathlib.Numerals.{add-one}
+use Prim.Native.Nat.{ℕ, zero, suc, _+_, _-_, _≤_}
 use native.Mathlib.Omega.{arith}
 use lib.Bits.{bitXor, xor-zero-r}
 use lib.ListN.{length, getD, drop, length-drop, drop-of-length-le}
 use lib.Seq.{drop-cons}
-use Rattle.lists.proofs.Table.{table-entry}
-use Rattle.crc8.specs.Crc8.{remainderOf, stepOf, crcFrom, powerOf, isTables}
-use Rattle.crc8.proofs.Linear.{xor-assoc, remainder-xor}
+use Rattle.crc8.specs.Crc8.{remainderOf, stepOf, crcFrom}
+use Rattle.crc8_long.specs.Tables.{powerOf}
+use Rattle.crc8_long.proofs.Linear.{xor-assoc, remainder-xor}
 
 pub power-xor : (n a b : ℕ) → powerOf n (bitXor a b) ≡ bitXor (powerOf n a) (powerOf n b)
 unfolding powerOf
@@ -66,12 +64,6 @@ eight-is c b h =
     let l2 = crc-at 0 b 2 5 (omega arith) ∙ ap (bitXor (powerOf 6 (getD b 2 0))) l3 in
     let l1 = crc-at 0 b 1 6 (omega arith) ∙ ap (bitXor (powerOf 7 (getD b 1 0))) l2 in
     sym (crc-at c b 0 7 (omega arith) ∙ ap (bitXor (powerOf 8 (bitXor c (getD b 0 0)))) l1)
-
-pub tables-entry : (tables : List ℕ) → isTables tables ≡ true → (j b : ℕ) → j < 8 → b < 256 → getD tables (256 * j + b) 0 ≡ powerOf (j + 1) b
-tables-entry tables t j b h k =
-    let q : (256 * j + b) / 256 ≡ j = omega arith in
-    let r : (256 * j + b) % 256 ≡ b = omega arith in
-    table-entry 2048 (λ i. powerOf (i / 256 + 1) (i % 256)) tables t (256 * j + b) (omega arith) ∙ rw (q, r)
 
 -- a part, and what follows it
 pub crc-part : (c : ℕ) (xs ys : List ℕ) → crcFrom c (xs ++ ys) ≡ crcFrom (crcFrom c xs) ys

@@ -1,0 +1,90 @@
+-- Row i of an archive stands in block i / 15, in its cell i % 15.
+--     row-at       what is answered, of a buffer that was written
+-- Assumes nothing.
+use Prim.Native.Nat.{ℕ, _+_, _-_, _*_, _/_, _%_, _≤_, _<_}
+use native.Mathlib.Decide.{decLt}
+use native.Mathlib.Omega.{arith}
+use mathlib.Core.Path.{_≡_, ap, _∙_}
+use mathlib.Core.Bool.{Bool, true, false, cond, _&&_}
+use mathlib.Core.List.{List}
+use lib.Dec.{ltb}
+use lib.ListN.{length, getD}
+use borrow.Author.Tests.{lt-ltb, le-ltb}
+use Rattle.refusal.specs.Number.{numberOf}
+use Rattle.refusal.specs.declared.Refusal.the-variants.{Argument}
+use Rattle.layout.specs.Block.{cellsPerBlock, blockLength, blockCell}
+use Rattle.layout.proofs.Segments.{part-at}
+use Rattle.archive_model.specs.Row.{Row, rowsBlock, rowCount, rowIn}
+use Rattle.archive_model.specs.Buffer.{blocksFor, rowsAt, bufferOf, maxBlocks}
+use Rattle.archive_model.specs.Append.{ReadRow, blockAt, isInside, rowAtOf}
+use Rattle.archive_model.proofs.Blocks.{Fits, noRow, shorts, row-back, count-back, written-cell}
+use Rattle.archive_model.proofs.Buffers.{blank, blank-blank, blank-count, group-length, group-few, group-fits, used-block, free-block, buffer-length}
+use Rattle.archive_model.proofs.Cursor.{written-whole}
+
+-- what is answered, by whether there is such a row
+abbrev answer : List Row → ℕ → Bool → ReadRow
+answer rows i b = cond b (record { number = 0; row = getD rows i noRow }) (record { number = numberOf Argument; row = noRow })
+
+module _ (rows : List Row) (m : ℕ) (fit : Fits rows) (few : length rows ≤ cellsPerBlock * m) (mb : m ≤ maxBlocks) (i : ℕ) where
+  abbrev k : ℕ
+  k = i / cellsPerBlock
+
+  abbrev buffer : List ℕ
+  buffer = bufferOf (blockLength * m) rows
+
+  count : length buffer / blockLength ≡ m
+  count = omega (arith, buffer-length rows m fit few)
+
+  -- the rows of its block
+  abbrev group : List Row
+  group = rowsAt k rows
+
+  used : k < blocksFor (length rows) → blockAt k buffer ≡ rowsBlock k group
+  used h = used-block rows m fit few k (omega arith) (omega arith)
+
+  said : k < blocksFor (length rows) → rowCount (blockAt k buffer) ≡ length group
+  said h = ap rowCount (used h) ∙ count-back k group (group-fits rows fit k) (group-few rows k)
+
+  past : blocksFor (length rows) ≤ k → k < m → rowCount (blockAt k buffer) ≡ 0
+  past l h = ap rowCount (free-block rows m fit few k l (omega arith)) ∙ blank-count blank blank-blank
+
+  -- row i in its cell
+  found : i < length rows → rowIn (blockCell (i % cellsPerBlock) (blockAt k buffer)) ≡ getD rows i noRow
+  unfolding Fits
+  found h =
+      let j = i % cellsPerBlock in
+      let l : j < length group = omega (arith, group-length rows k) in
+      let e : cellsPerBlock * k + j ≡ i = omega arith in
+      ap (λ (b : List ℕ). rowIn (blockCell j b)) (used (omega arith)) ∙ ap rowIn (written-cell k group (shorts group (group-fits rows fit k)) (group-few rows k) j l)
+      ∙ row-back (getD group j noRow) (group-fits rows fit k j l)
+      ∙ part-at (cellsPerBlock * k) cellsPerBlock rows j noRow (omega arith) ∙ ap (λ (n : ℕ). getD rows n noRow) e
+
+  -- the two tests of the answer
+  here : i < length rows → isInside i buffer && ltb (i % cellsPerBlock) (rowCount (blockAt k buffer)) ≡ true
+  here h =
+      let a : k < length buffer / blockLength = omega (arith, count) in
+      let b : i % cellsPerBlock < rowCount (blockAt k buffer) = omega (arith, said (omega arith), group-length rows k) in
+      rw (lt-ltb k (length buffer / blockLength) a, lt-ltb (i % cellsPerBlock) (rowCount (blockAt k buffer)) b)
+
+  away : length rows ≤ i → isInside i buffer && ltb (i % cellsPerBlock) (rowCount (blockAt k buffer)) ≡ false
+  away h = elim (decLt k m) [
+    | yes l ↦
+        let b : rowCount (blockAt k buffer) ≤ i % cellsPerBlock = elim (decLt k (blocksFor (length rows))) [
+          | yes u ↦ omega (arith, said u, group-length rows k)
+          | no u ↦ omega (arith, past (omega arith) l)
+        ] in
+        let a : k < length buffer / blockLength = omega (arith, count) in
+        rw (lt-ltb k (length buffer / blockLength) a, le-ltb (i % cellsPerBlock) (rowCount (blockAt k buffer)) b)
+    | no l ↦
+        let a : length buffer / blockLength ≤ k = omega (arith, count) in
+        rw (le-ltb k (length buffer / blockLength) a)
+  ]
+
+  pub row-at : rowAtOf buffer i ≡ answer rows i (ltb i (length rows))
+  unfolding rowAtOf
+  row-at = elim (decLt i (length rows)) [
+    | yes h ↦ rw (written-whole rows m fit few mb, here h, lt-ltb i (length rows) h, found h)
+    | no h ↦
+        let l : length rows ≤ i = omega arith in
+        rw (written-whole rows m fit few mb, away l, le-ltb i (length rows) l)
+  ]
