@@ -19,7 +19,7 @@ use Rattle.lists.proofs.Choice.{both}
 use Rattle.lists.proofs.Tests.{all-getD}
 use Rattle.lists.proofs.UpFrom.{upFrom-add, length-upFrom, getD-upFrom}
 use Rattle.report_model.specs.Report.{Line, noLine, isRising, sumOf, rowsOfLine}
-use Rattle.report.specs.Lines.{lineLength, lineAt, linesFrom, linesOf, totalOf, Ordered, Stored}
+use Rattle.report.specs.Lines.{lineLength, lineAt, linesFrom, linesOf, totalOf, Ordered, Stored, Inserted}
 
 module _ (xs : List ℕ) where
   pub lines-count : (a n : ℕ) → length (linesFrom xs a n) ≡ n
@@ -174,3 +174,6 @@ stored-line xs i a b c d e fits =
 
 pub stored-as : {i : ℕ} {old new : List ℕ} {a b : Line} → a ≡ b → Stored i a old new → Stored i b old new
 stored-as {i} {old} {new} e s = subst (λ (x : Line). Stored i x old new) e s
+
+pub inserted-as : {n r : ℕ} {old new : List ℕ} {a b : Line} → a ≡ b → Inserted n a old new r → Inserted n b old new r
+inserted-as {n} {r} {old} {new} e s = subst (λ (x : Line). Inserted n x old new r) e s

@@ -1,11 +1,13 @@
 -- The lines of a report in one array of numbers (document 02, A12): what it shows, and what the functions over it say. Assumes nothing.
-use Prim.Native.Nat.{ℕ, _+_, _*_, _≤_, _<_}
+use Prim.Native.Nat.{ℕ, _+_, _*_, _^_, _≤_, _<_}
 use mathlib.Core.Path.{_≡_}
-use mathlib.Core.Bool.{Bool, cond}
-use mathlib.Core.List.{List, map}
+use mathlib.Core.Bool.{Bool, true, cond, _&&_, _||_}
+use lib.Dec.{ltb, leb, eqb}
+use mathlib.Core.List.{List, [], _∷_, map}
 use lib.ListN.{length, getD}
 use Rattle.lists.specs.Lists.{upFrom}
-use Rattle.archive_model.specs.Row.{Row}
+use Rattle.archive_model.specs.Row.{Row, rowIn}
+use Rattle.layout.specs.Block.{blockCell}
 use Rattle.report_model.specs.Report.{Line, maxLines, insert, addRows, rowsOfLine, sumOf}
 
 -- five numbers a line
@@ -34,6 +36,10 @@ abbrev pub linesOf : List ℕ → ℕ → List Line
 linesOf xs n = linesFrom xs 0 n
 
 -- ---- what private functions say
+
+-- n rows from row a of a block on, as they stand
+unfoldable pub rowsBetween : List ℕ → ℕ → ℕ → List Row
+rowsBetween block a n = map (λ i. rowIn (blockCell i block)) (upFrom a n)
 
 -- what a row of this transmitter gives
 abbrev pub rowLine : ℕ → ℕ → Bool → Line
@@ -76,3 +82,21 @@ pub record AddedRows (n : ℕ) (rows : List Row) (old new : List ℕ) (r : ℕ) 
   pub long : length new ≡ length old
   pub lines : r ≤ maxLines → linesOf new r ≡ addRows rows (linesOf old n)
   pub many : maxLines < r → maxLines < length (addRows rows (linesOf old n))
+
+-- ---- the test of the lines, one after the other
+
+-- a line by its numbers, where the latest time has 64 bits
+abbrev pub isLineOf : ℕ → ℕ → ℕ → ℕ → Bool
+isLineOf identity rows earliest latest = ltb identity (2 ^ 32) && (leb 1 rows && (leb earliest latest && (ltb 1 rows || eqb earliest latest)))
+
+-- a line is below the next one
+abbrev pub isBefore : Line → List Line → Bool
+isBefore a [] = true
+isBefore a (b ∷ lines) = ltb (a .identity) (b .identity)
+
+-- a line in front of others, with no more rows than these
+abbrev pub lineFits : Line → List Line → ℕ → ℕ → Bool
+lineFits a lines kept loose =
+    leb (a .kept) kept
+    && (leb (a .loose) loose
+    && (isLineOf (a .identity) (rowsOfLine a) (a .earliest) (a .latest) && isBefore a lines))

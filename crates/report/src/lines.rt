@@ -4,10 +4,10 @@ use crate::Report;
 ghost use mathlib.Core.Path.{_≡_};
 ghost use mathlib.Core.Bool.{true, cond, _&&_};
 ghost use lib.Dec.{ltb, eqb};
-ghost use Prim.Native.Nat.{_+_, _*_, _^_, _≤_, _<_, min, max};
+ghost use Prim.Native.Nat.{_+_, _-_, _*_, _^_, _≤_, _<_, min, max};
 ghost use lib.ListN.{length};
-ghost use Rattle.report_model.specs.Report.{maxLines, joined, rowsOfLine, isLine, isRising, isTally};
-ghost use Rattle.report.specs.Lines.{lineLength, linesLength, lineAt, linesOf, rowLine, totalOf, Ordered, Place, Gap, Stored, Inserted};
+ghost use Rattle.report_model.specs.Report.{maxLines, joined, rowsOfLine, isRising, isTally};
+ghost use Rattle.report.specs.Lines.{lineLength, linesLength, lineAt, linesFrom, linesOf, rowLine, totalOf, isLineOf, isBefore, lineFits, Ordered, Place, Gap, Stored, Inserted};
 
 // How many of the first `count` lines have an identity below this one.
 fn find(lines: &[u64], count: usize, identity: u64) -> usize
@@ -71,7 +71,7 @@ fn store_line(
     lines[at + 4] = latest;
 }
 
-fn one_if(test: bool) -> u64
+pub(crate) fn one_if(test: bool) -> u64
     ensures { λ r. ⌜ r ≡ cond test 1 0 ⌝ }
 {
     if test {
@@ -151,4 +151,58 @@ pub(crate) fn add_row(
         time,
     );
     count + 1
+}
+
+// ---- the test of the lines
+
+// Whether line `i` is below the next of `count` lines.
+fn is_before(lines: &[u64], count: usize, i: usize) -> bool
+    requires { ⌜ (i < count) × (count ≤ maxLines) × (length (now lines) ≡ linesLength) ⌝ }
+    ensures { λ r. ⌜ r ≡ isBefore (lineAt (now (lines .entry)) i) (linesFrom (now (lines .entry)) (i + 1) (count - (i + 1))) ⌝ }
+{
+    if count <= i + 1 {
+        return true;
+    }
+    lines[LINE_LENGTH * i] < lines[LINE_LENGTH * (i + 1)]
+}
+
+// Whether these are the numbers of a line with so many rows.
+fn is_line(identity: u64, rows: u64, earliest: u64, latest: u64) -> bool
+    ensures { λ r. ⌜ r ≡ isLineOf identity rows earliest latest ⌝ }
+{
+    (identity < 4294967296)
+        & ((1 <= rows) & ((earliest <= latest) & ((1 < rows) | (earliest == latest))))
+}
+
+// Whether line `i` is one, is below the next, and has no more rows than these.
+fn fits(lines: &[u64], count: usize, i: usize, kept: u64, loose: u64) -> bool
+    requires { ⌜ (i < count) × (count ≤ maxLines) × (length (now lines) ≡ linesLength) × (kept + loose < 2 ^ 63) ⌝ }
+    ensures { λ r. ⌜ r ≡ lineFits (lineAt (now (lines .entry)) i) (linesFrom (now (lines .entry)) (i + 1) (count - (i + 1))) kept loose ⌝ }
+{
+    let at = LINE_LENGTH * i;
+    if kept < lines[at + 1] {
+        return false;
+    }
+    if loose < lines[at + 2] {
+        return false;
+    }
+    let rows = lines[at + 1] + lines[at + 2];
+    is_line(lines[at], rows, lines[at + 3], lines[at + 4]) & is_before(lines, count, i)
+}
+
+// Whether the first `count` lines are lines in order with these totals.
+pub(crate) fn are_lines(lines: &[u64], count: usize, kept: u64, loose: u64) -> bool
+    requires { ⌜ (count ≤ maxLines) × (length (now lines) ≡ linesLength) × (kept + loose < 2 ^ 63) ⌝ }
+    ensures { λ r. ⌜ r ≡ isTally (linesOf (now (lines .entry)) count) kept loose ⌝ }
+{
+    let mut k = kept;
+    let mut l = loose;
+    for i in 0..count {
+        if !fits(lines, count, i, k, l) {
+            return false;
+        }
+        k -= lines[LINE_LENGTH * i + 1];
+        l -= lines[LINE_LENGTH * i + 2];
+    }
+    (k == 0) & (l == 0)
 }
