@@ -14,9 +14,9 @@ use Rattle.erp1.specs.Subtelegram.{checkOf}
 use Rattle.erp1.proofs.Checks.{check-facts}
 use Rattle.layout.specs.Block.{blockLength}
 use Rattle.archive_model.specs.Row.{Row, isRow}
-use Rattle.archive_model.specs.Buffer.{archiveOf, bufferOf, rowsIn}
+use Rattle.archive_model.specs.Buffer.{archiveOf, bufferOf, isWhole, rowsIn}
 use Rattle.archive_model.specs.Append.{verdict, appendOf}
-use Rattle.archive_model.specs.Claims.{isFit, Layout, ReadBack, Exact, after, accepted, Run, AtCursor, Rows, Pieces}
+use Rattle.archive_model.specs.Claims.{isFit, Sizes, Layout, ReadBack, Exact, after, accepted, Run, AtCursor, Rows, Pieces}
 use Rattle.archive_model.proofs.Blocks.{Fits, Shorts, noRow, all-from}
 use Rattle.archive_model.proofs.Buffers.{rows-in}
 use Rattle.archive_model.proofs.ByByte.{laid}
@@ -34,6 +34,10 @@ fits rows ok i h =
 are-fit : (rows : List Row) → Fits rows → all isFit rows ≡ true
 unfolding Fits
 are-fit rows f = all-from isFit rows (λ i h. and-true (f i h .valid) (lt-ltb (getD rows i noRow .time) (2 ^ 64) (f i h .time)))
+
+pub sizes : Sizes
+unfolding isWhole
+sizes = refl
 
 pub by-byte : Layout
 unfolding Shorts

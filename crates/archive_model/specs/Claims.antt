@@ -1,8 +1,8 @@
 -- What is proved of archives (document 02, A2). Assumes nothing.
 use Prim.Native.Nat.{ℕ, _+_, _-_, _*_, _/_, _%_, _^_, _≤_, _<_}
 use mathlib.Core.Path.{_≡_}
-use mathlib.Core.Bool.{Bool, true, cond, _&&_}
-use mathlib.Core.List.{List, [], _∷_, _++_}
+use mathlib.Core.Bool.{Bool, true, false, cond, _&&_}
+use mathlib.Core.List.{List, [], _∷_, _++_, map}
 use lib.Dec.{ltb, eqb}
 use lib.ListN.{length, getD, take, replicate}
 use Rattle.lists.specs.Lists.{all}
@@ -10,12 +10,18 @@ use Rattle.refusal.specs.Number.{numberOf}
 use Rattle.refusal.specs.declared.Refusal.the-variants.{Argument}
 use Rattle.crc8.specs.Crc8.{crcOf}
 use Rattle.archive_model.specs.Row.{Row, rowsBlock, isRow}
-use Rattle.archive_model.specs.Buffer.{None, bufferOf, blocksIn, rowsIn, mismatch, Scan, startScan, scanBlocks, stageFound}
+use Rattle.archive_model.specs.Buffer.{None, bufferOf, isWhole, blocksIn, rowsIn, mismatch, Scan, startScan, scanBlocks, stageFound}
 use Rattle.archive_model.specs.Append.{verdict, appendOf, appendAtOf, noRow, rowAtOf}
 
 -- a row that an archive holds: a valid subtelegram, and a time of 64 bits
 abbrev pub isFit : Row → Bool
 isFit r = isRow r && ltb (r .time) (2 ^ 64)
+
+-- Sizes: 16 looks at the length alone. None, a byte short of a block, a block, a byte more; 2^32 blocks, and one more.
+abbrev pub Sizes : Type 0
+Sizes =
+    map isWhole (0 ∷ 511 ∷ 512 ∷ 513 ∷ 2199023255552 ∷ 2199023256064 ∷ [])
+    ≡ (true ∷ false ∷ true ∷ false ∷ true ∷ false ∷ [])
 
 -- ---- the layout, byte by byte: claims about a block that is written and read by the same definitions would hold of another layout too
 

@@ -1,6 +1,8 @@
 //! The second program: what Mooringeye's test programs must read and print, from the papers
 //! alone. README.md says how it is run.
 
+mod archive;
+mod archive_calls;
 mod clerk;
 mod codec;
 mod collect;
@@ -17,6 +19,8 @@ mod slots;
 mod subtelegram;
 mod telegrams;
 
+#[cfg(test)]
+mod archive_faults;
 #[cfg(test)]
 mod cases;
 #[cfg(test)]
@@ -44,6 +48,8 @@ fn main() {
             let input = inputs::stdin(name).unwrap_or_else(usage);
             collect::run(&input).into_bytes()
         }
+        ["archive", "stdin"] => archive_calls::stdin().into_bytes(),
+        ["archive", "stdout"] => archive_calls::stdout().into_bytes(),
         ["history", "stdin"] => history::stdin().into_bytes(),
         ["history", "stdout"] => history::stdout().into_bytes(),
         _ => usage(),
@@ -52,7 +58,9 @@ fn main() {
 }
 
 fn usage<T>() -> T {
-    eprintln!("reference codec|history stdin|stdout, reference slots|collect|sample stdout,");
+    eprintln!(
+        "reference archive|codec|history stdin|stdout, reference slots|collect|sample stdout,"
+    );
     eprintln!(
         "reference inputs NAME stdin|stdout, NAME one of {}",
         inputs::NAMES.join(", ")

@@ -1,0 +1,41 @@
+// Archives for C and Rust, on plain numbers and bytes: for the benchmark, and for a buffer of more addresses than any test program holds.
+use archive::Opened;
+use archive::Outcome;
+
+// The CRC over long inputs.
+#[no_mangle]
+pub extern "C" fn archive_bench_crc(bytes: &[u8]) -> u8 {
+    crc8_long::crc8_long(bytes)
+}
+
+// The number of the answer in the highest byte, and below it the rows, or the position beside 12.
+#[no_mangle]
+pub extern "C" fn archive_bench_open(buffer: &[u8]) -> u64 {
+    let answer = archive::open(buffer);
+    match answer {
+        Opened::Rows(n) => packed(0, n),
+        Opened::Damaged(k) => packed(12, k),
+        Opened::Refused(why) => packed(refusal::number(why), 0),
+    }
+}
+
+// The same, with the position beside 12.
+#[no_mangle]
+pub extern "C" fn archive_bench_append_at(
+    buffer: &mut [u8],
+    n: u64,
+    bytes: &[u8],
+    time: u64,
+    loose: u8,
+) -> u64 {
+    let answer = archive::append_at(buffer, n as usize, bytes, time, loose != 0);
+    match answer {
+        Outcome::Done => 0,
+        Outcome::Damaged(k) => packed(12, k),
+        Outcome::Refused(why) => packed(refusal::number(why), 0),
+    }
+}
+
+fn packed(number: u8, value: usize) -> u64 {
+    number as u64 * 72_057_594_037_927_936 + value as u64 % 72_057_594_037_927_936
+}

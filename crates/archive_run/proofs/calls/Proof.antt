@@ -1,0 +1,30 @@
+-- `archive_run::calls` is safe and ends: the count of what is left falls. Assumes nothing.
+use mathlib.Core.Path.{_≡_, refl}
+use Prim.Native.Nat.{_≤_}
+use native.Mathlib.Omega.{arith}
+use borrow.Author.Needs.{needs}
+use lib.ListN.{length}
+use Rattle.archive_run.proofs.calls.Statement.{statement}
+use Rattle.archive_run.proofs.calls.Tie as tie
+
+abbrev Inv-loop : tie.InvT-loop
+Inv-loop buffer₀ most n₀ left₀ buffer n left = (length buffer ≡ length buffer₀) × (n ≤ 24576)
+
+abbrev μ-loop : tie.MeasureT-loop
+μ-loop buffer₀ most n₀ left₀ buffer n left = left
+
+pub calls-spec : {M : Type 1} → statement M
+calls-spec =
+    tie.close
+    (tie.spec
+    Inv-loop
+    μ-loop
+    (λ c. (refl, omega arith))
+    (λ c. omega arith)
+    (λ c κs. (omega arith, omega arith))
+    (λ c. omega arith)
+    (λ c. (omega arith, omega arith))
+    (λ c. omega arith)
+    (λ c. (omega arith, omega arith))
+    (λ c. search needs)
+    (λ c. search needs))

@@ -1,0 +1,312 @@
+// Puts archives through the calls of standard input, a long record each, and prints what each answers: stdout is what the second
+// program says (tests/reference/README.md has the format).
+use archive::Found;
+use archive::Opened;
+use archive::Outcome;
+use archive::RowAt;
+use archive::Scan;
+use archive::Stage;
+use archive::Taken;
+ghost use mathlib.Core.Path.{_≡_};
+ghost use Prim.Native.Nat.{_≤_, _<_, min};
+ghost use lib.ListN.{length};
+
+// The most bytes of the buffer that holds the archive.
+const CAPACITY: usize = 24576;
+
+const BLOCK: usize = layout::BLOCK_LENGTH;
+
+fn main() {
+    let mut buffer = [0u8; CAPACITY];
+    calls(&mut buffer, 1_000_000);
+}
+
+// At most so many calls, until the input ends.
+fn calls(buffer: &mut [u8], most: u64)
+    requires { ⌜ length (now buffer) ≡ 24576 ⌝ }
+{
+    let mut n: usize = 0;
+    let mut left = most;
+    while 0 < left {
+        left -= 1;
+        let next = called(buffer, n);
+        n = next.len;
+        if !next.more {
+            left = 0;
+        }
+    }
+}
+
+// The next record; `more` is false past the last one.
+struct Input {
+    more: bool,
+    bytes: [u8; test_io::LONG],
+}
+
+fn next_input() -> Input {
+    let mut bytes = [0u8; test_io::LONG];
+    let more = test_io::next_long_record(&mut bytes);
+    Input {
+        more: more,
+        bytes: bytes,
+    }
+}
+
+// How long the archive's buffer is after a call, and whether there was one.
+struct Next {
+    len: usize,
+    more: bool,
+}
+
+// The next call, if there is one, on the first `n` bytes of the buffer.
+fn called(buffer: &mut [u8], n: usize) -> Next
+    requires { ⌜ (length (now buffer) ≡ 24576) × (n ≤ 24576) ⌝ }
+    ensures { λ c. ⌜ c .len ≤ 24576 ⌝ }
+{
+    let input = next_input();
+    if !input.more {
+        return Next {
+            len: n,
+            more: false,
+        };
+    }
+    let r = input.bytes;
+    Next {
+        len: made(buffer, n, &r),
+        more: true,
+    }
+}
+
+fn made(buffer: &mut [u8], n: usize, r: &[u8]) -> usize
+    requires { ⌜ (length (now buffer) ≡ 24576) × (n ≤ 24576) × (length (now r) ≡ 320) ⌝ }
+    ensures { λ k. ⌜ k ≤ 24576 ⌝ }
+{
+    if r[0] == 1 {
+        return fresh(buffer, layout::read_number(&r[1..5]));
+    }
+    call(&mut buffer[0..n], r);
+    n
+}
+
+fn call(buffer: &mut [u8], r: &[u8])
+    requires { ⌜ (length (now buffer) ≤ 24576) × (length (now r) ≡ 320) ⌝ }
+{
+    let operation = r[0];
+    match operation {
+        2 => put(buffer, r),
+        3 => append(buffer, r),
+        4 => append_at(buffer, r),
+        5 => open(buffer),
+        6 => row(buffer, layout::read_number(&r[1..9])),
+        7 => block(buffer, layout::read_number(&r[1..5])),
+        8 => scan(buffer, layout::read_number(&r[1..5])),
+        _ => test_io::text(b"?\n"),
+    }
+}
+
+// ---- the calls
+
+// A buffer of zeros.
+fn fresh(buffer: &mut [u8], number: u64) -> usize
+    requires { ⌜ length (now buffer) ≡ 24576 ⌝ }
+    ensures { λ k. ⌜ k ≤ 24576 ⌝ }
+{
+    let n = least(number, CAPACITY);
+    layout::clear(&mut buffer[0..n]);
+    test_io::text(b"NEW ");
+    test_io::decimal(n as u64);
+    test_io::text(b"\n");
+    n
+}
+
+// The record's bytes to their place, as far as they lie in the buffer.
+fn put(buffer: &mut [u8], r: &[u8])
+    requires { ⌜ length (now r) ≡ 320 ⌝ }
+{
+    let place = least(layout::read_number(&r[1..5]), CAPACITY);
+    let count = least(layout::read_number(&r[5..7]), 300);
+    store(buffer, place, &r[8..8 + count]);
+    test_io::text(b"PUT\n");
+}
+
+fn store(buffer: &mut [u8], place: usize, bytes: &[u8])
+    requires { ⌜ (place ≤ 24576) × (length (now bytes) ≤ 300) ⌝ }
+{
+    for i in 0..bytes.len() {
+        store_one(buffer, place + i, bytes[i]);
+    }
+}
+
+fn store_one(buffer: &mut [u8], at: usize, byte: u8) {
+    if at < buffer.len() {
+        buffer[at] = byte;
+    }
+}
+
+fn append(buffer: &mut [u8], r: &[u8])
+    requires { ⌜ length (now r) ≡ 320 ⌝ }
+{
+    let len = least(wide(r[10]), 64);
+    let time = layout::read_number(&r[1..9]);
+    let answer = archive::append(buffer, &r[11..11 + len], time, r[9] != 0);
+    test_io::text(b"APPEND ");
+    put_outcome(answer);
+    test_io::text(b"\n");
+}
+
+fn append_at(buffer: &mut [u8], r: &[u8])
+    requires { ⌜ length (now r) ≡ 320 ⌝ }
+{
+    let len = least(wide(r[10]), 64);
+    let time = layout::read_number(&r[1..9]);
+    let rows = layout::read_number(&r[80..88]) as usize;
+    let answer = archive::append_at(buffer, rows, &r[11..11 + len], time, r[9] != 0);
+    test_io::text(b"APPENDAT ");
+    put_outcome(answer);
+    test_io::text(b"\n");
+}
+
+fn open(buffer: &[u8]) {
+    let answer = archive::open(buffer);
+    test_io::text(b"OPEN ");
+    match answer {
+        Opened::Rows(n) => put_three(0, 0, n),
+        Opened::Damaged(k) => put_three(12, k, 0),
+        Opened::Refused(why) => put_three(refusal::number(why), 0, 0),
+    }
+}
+
+fn row(buffer: &[u8], index: u64) {
+    let found = archive::row_at(buffer, index as usize);
+    let answer = found.answer;
+    test_io::text(b"ROW ");
+    match answer {
+        Found::Row => test_io::text(b"0"),
+        Found::Refused(why) => test_io::decimal(refusal::number(why) as u64),
+    }
+    put_row(found);
+}
+
+fn put_row(found: RowAt) {
+    let bytes = found.bytes;
+    let len = least(wide(found.len), 21);
+    put_number(found.time);
+    put_number(bit(found.loose));
+    test_io::text(b" ");
+    test_io::hex(&bytes[0..len]);
+    test_io::text(b"\n");
+}
+
+// The bytes of a block that lies wholly in the buffer.
+fn block(buffer: &[u8], number: u64)
+    requires { ⌜ length (now buffer) ≤ 24576 ⌝ }
+{
+    let at = BLOCK * least(number, CAPACITY);
+    test_io::text(b"BLOCK ");
+    if buffer.len() < at + BLOCK {
+        test_io::text(b"-\n");
+        return;
+    }
+    test_io::hex(&buffer[at..at + BLOCK]);
+    test_io::text(b"\n");
+}
+
+// The buffer fed in pieces of so many blocks.
+fn scan(buffer: &[u8], blocks: u64)
+    requires { ⌜ length (now buffer) ≤ 24576 ⌝ }
+{
+    let step = BLOCK * piece(blocks);
+    let mut s = Scan::start();
+    let mut at: usize = 0;
+    test_io::text(b"SCAN ");
+    while at < buffer.len() {
+        let end = smaller(at + step, buffer.len());
+        let fed = s.feed(&buffer[at..end]);
+        let answer = fed.answer;
+        if let Taken::Refused(why) = answer {
+            put_three(refusal::number(why), 0, 0);
+            return;
+        }
+        s = fed.next;
+        at = end;
+    }
+    put_scan(s);
+}
+
+// What a scan of all blocks says.
+fn put_scan(s: Scan) {
+    let stage = s.stage;
+    match stage {
+        Stage::Filling => put_three(0, 0, s.rows),
+        Stage::Short => put_three(0, 0, s.rows),
+        Stage::Ended => put_three(0, 0, s.rows),
+        Stage::Wrong(k) => put_three(12, k, 0),
+    }
+}
+
+// ---- what is printed of them
+
+fn put_outcome(answer: Outcome) {
+    match answer {
+        Outcome::Done => test_io::text(b"0 0"),
+        Outcome::Damaged(k) => put_two(12, k),
+        Outcome::Refused(why) => put_two(refusal::number(why), 0),
+    }
+}
+
+fn put_two(number: u8, position: usize) {
+    test_io::decimal(number as u64);
+    put_number(position as u64);
+}
+
+fn put_three(number: u8, position: usize, rows: usize) {
+    put_two(number, position);
+    put_number(rows as u64);
+    test_io::text(b"\n");
+}
+
+fn put_number(n: u64) {
+    test_io::text(b" ");
+    test_io::decimal(n);
+}
+
+fn bit(b: bool) -> u64 {
+    if b {
+        return 1;
+    }
+    0
+}
+
+// ---- numbers of records
+
+// A number of a record, or the bound where it is greater.
+fn least(x: u64, bound: usize) -> usize
+    ensures { λ r. ⌜ r ≤ bound ⌝ }
+{
+    let n = x as usize;
+    smaller(n, bound)
+}
+
+fn smaller(n: usize, m: usize) -> usize
+    ensures { λ r. ⌜ r ≡ min n m ⌝ }
+{
+    if n < m {
+        return n;
+    }
+    m
+}
+
+// The blocks of a piece: at least one, and no more than the buffer has.
+fn piece(blocks: u64) -> usize
+    ensures { λ r. ⌜ (0 < r) × (r ≤ 48) ⌝ }
+{
+    let n = least(blocks, 48);
+    if n == 0 {
+        return 1;
+    }
+    n
+}
+
+fn wide(x: u8) -> u64 {
+    x as u64
+}
