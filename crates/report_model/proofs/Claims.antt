@@ -180,22 +180,22 @@ share-rounded-down s received e =
 
 -- ---- the sums
 
-rows-cons : (b : List ℕ) (bs : List (List ℕ)) → rowsOfAll (b ∷ bs) ≡ rowsIn b ++ rowsOfAll bs
+pub rows-cons : (b : List ℕ) (bs : List (List ℕ)) → rowsOfAll (b ∷ bs) ≡ rowsIn b ++ rowsOfAll bs
 unfolding rowsOfAll flatten
 rows-cons b bs = refl
 
 -- a report after archives, those answered 0 in their order
-record After (s : Report) (buffers : List (List ℕ)) (t : Report) : Type 0 where
-  archives : t .archives ≡ s .archives + length buffers
-  lines : t .lines ≡ addRows (rowsOfAll buffers) (s .lines)
-  kept : t .kept ≡ s .kept + keptIn (rowsOfAll buffers)
-  loose : t .loose ≡ s .loose + looseIn (rowsOfAll buffers)
+pub record After (s : Report) (buffers : List (List ℕ)) (t : Report) : Type 0 where
+  pub archives : t .archives ≡ s .archives + length buffers
+  pub lines : t .lines ≡ addRows (rowsOfAll buffers) (s .lines)
+  pub kept : t .kept ≡ s .kept + keptIn (rowsOfAll buffers)
+  pub loose : t .loose ≡ s .loose + looseIn (rowsOfAll buffers)
 
-after-none : (s : Report) → After s [] s
+pub after-none : (s : Report) → After s [] s
 unfolding rowsOfAll flatten
 after-none s = record { archives = omega arith; lines = sym (add-none (s .lines)); kept = omega arith; loose = omega arith }
 
-after-more : (s : Report) (b : List ℕ) (bs : List (List ℕ)) (t : Report) → After (added s (rowsIn b)) bs t → After s (b ∷ bs) t
+pub after-more : (s : Report) (b : List ℕ) (bs : List (List ℕ)) (t : Report) → After (added s (rowsIn b)) bs t → After s (b ∷ bs) t
 unfolding added
 after-more s b bs t a =
     let split : (p : Row → Bool) → count p (rowsOfAll (b ∷ bs)) ≡ count p (rowsIn b) + count p (rowsOfAll bs) =

@@ -1,16 +1,14 @@
--- An archive that is added in pieces, so that a file is read once and in parts: what is known after some blocks. Assumes nothing.
-use Prim.Native.Nat.{ℕ, _+_, _/_, _%_}
-use mathlib.Core.Bool.{Bool, true, false, cond, not, _&&_, _||_}
+-- An archive that is added block by block, so that it is read once: what is known after some blocks. Assumes nothing.
+use Prim.Native.Nat.{ℕ, _+_}
+use mathlib.Core.Bool.{Bool, true, false, cond, _||_}
 use mathlib.Core.List.{List, [], _∷_}
-use lib.Dec.{ltb, leb, eqb}
+use lib.Dec.{ltb, leb}
 use lib.ListN.{length}
 use Rattle.refusal.specs.Number.{numberOf}
-use Rattle.refusal.specs.declared.Refusal.the-variants.{Argument, NotAccepted, Mismatch, Size, Transmitters}
-use Rattle.layout.specs.Block.{blockLength}
+use Rattle.refusal.specs.declared.Refusal.the-variants.{Argument, Mismatch, Transmitters}
 use Rattle.archive_model.specs.Row.{Row, rowsOf, isSound}
-use Rattle.archive_model.specs.Buffer.{Found, At, None, maxBlocks, blocksIn, Scan, startScan, scanBlock, stageFound}
-use Rattle.archive_model.specs.Append.{isScan}
-use Rattle.report_model.specs.Report.{Line, Report, maxArchives, maxLines, addRows, keptIn, looseIn, isTally, isReport, Addition, answer}
+use Rattle.archive_model.specs.Buffer.{Found, At, None, Scan, startScan, scanBlock, stageFound}
+use Rattle.report_model.specs.Report.{Line, Report, maxArchives, maxLines, addRows, keptIn, looseIn, Addition, answer}
 
 -- the lines and the totals so far, whether a transmitter was one too many (then no line is left), and the scan of the blocks
 pub record Tally : Type 0 where
@@ -51,34 +49,3 @@ closed s t None =
 
 unfoldable pub closing : Report → Tally → Addition
 closing s t = closed s t (stageFound (t .scan .stage))
-
--- ---- the calls
-
--- the report as it was handed in, and the tally
-pub record Adding : Type 0 where
-  pub before : Report
-  pub tally : Tally
-
--- what some blocks give: 11 for any other
-unfoldable pub isAdding : Adding → Bool
-isAdding a =
-    isReport (a .before)
-    && (isScan (a .tally .scan)
-    && (leb (length (a .tally .lines)) maxLines
-    && (leb (a .tally .kept + a .tally .loose) (a .before .kept + a .before .loose + a .tally .scan .rows)
-    && isTally (a .tally .lines) (a .tally .kept) (a .tally .loose))))
-
-pub record Step : Type 0 where
-  pub number : ℕ
-  pub next : Adding
-
--- 11, then 16 for a piece that isn't whole blocks, or brings more than 2^32 of them in all
-unfoldable pub stepOf : Adding → List ℕ → Step
-stepOf a piece =
-    cond (not (isAdding a)) (record { number = numberOf NotAccepted; next = a })
-    (cond (not (eqb (length piece % blockLength) 0 && leb (a .tally .scan .blocks + length piece / blockLength) maxBlocks)) (record { number = numberOf Size; next = a })
-    (record { number = 0; next = record { before = a .before; tally = addBlocks (a .tally) (blocksIn piece) } }))
-
--- 11, 12, 10, 17
-unfoldable pub endOf : Adding → Addition
-endOf a = cond (not (isAdding a)) (answer (numberOf NotAccepted) 0 (a .before)) (closing (a .before) (a .tally))

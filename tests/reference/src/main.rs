@@ -13,6 +13,8 @@ mod image;
 mod inputs;
 mod random;
 mod repeater;
+mod report;
+mod report_calls;
 mod sample;
 mod scenarios;
 mod slots;
@@ -48,8 +50,8 @@ fn main() {
             let input = inputs::stdin(name).unwrap_or_else(usage);
             collect::run(&input).into_bytes()
         }
-        ["archive", "stdin"] => archive_calls::stdin().into_bytes(),
-        ["archive", "stdout"] => archive_calls::stdout().into_bytes(),
+        ["archive", "stdin"] => (archive_calls::stdin() + &report_calls::stdin()).into_bytes(),
+        ["archive", "stdout"] => (archive_calls::stdout() + &report_calls::stdout()).into_bytes(),
         ["history", "stdin"] => history::stdin().into_bytes(),
         ["history", "stdout"] => history::stdout().into_bytes(),
         _ => usage(),

@@ -8,10 +8,10 @@ use Rattle.archive_run.proofs.calls.Statement.{statement}
 use Rattle.archive_run.proofs.calls.Tie as tie
 
 abbrev Inv-loop : tie.InvT-loop
-Inv-loop buffer₀ most n₀ left₀ buffer n left = (length buffer ≡ length buffer₀) × (n ≤ 24576)
+Inv-loop buffer₀ most report₀ n₀ left₀ buffer report n left = (length buffer ≡ length buffer₀) × (n ≤ 24576)
 
 abbrev μ-loop : tie.MeasureT-loop
-μ-loop buffer₀ most n₀ left₀ buffer n left = left
+μ-loop buffer₀ most report₀ n₀ left₀ buffer report n left = left
 
 pub calls-spec : {M : Type 1} → statement M
 calls-spec =
@@ -19,6 +19,7 @@ calls-spec =
     (tie.spec
     Inv-loop
     μ-loop
+    (λ c κs. search needs)
     (λ c. (refl, omega arith))
     (λ c. omega arith)
     (λ c κs. (omega arith, omega arith))
