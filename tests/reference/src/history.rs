@@ -78,7 +78,9 @@ fn park(model: &impl Model, n: usize) -> (u8, Vec<u8>) {
 
 /// A figure of all the bytes, in their order: 31 times the one before it, plus the byte, kept to 32 bits.
 fn digest(bytes: &[u8]) -> u32 {
-    bytes.iter().fold(0, |h: u32, b| h.wrapping_mul(31).wrapping_add(u32::from(*b)))
+    bytes.iter().fold(0, |h: u32, b| {
+        h.wrapping_mul(31).wrapping_add(u32::from(*b))
+    })
 }
 
 fn restore_number(image: &[u8]) -> u8 {
@@ -160,7 +162,10 @@ pub fn record(call: &Call) -> [u8; 64] {
 }
 
 pub fn stdin() -> String {
-    calls().iter().map(|call| hex(&record(call)) + "\n").collect()
+    calls()
+        .iter()
+        .map(|call| hex(&record(call)) + "\n")
+        .collect()
 }
 
 pub fn stdout() -> String {

@@ -27,6 +27,8 @@ mod archive_faults;
 mod cases;
 #[cfg(test)]
 mod faults;
+#[cfg(test)]
+mod report_faults;
 
 use std::io::{Read, Write};
 

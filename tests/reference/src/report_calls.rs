@@ -127,11 +127,18 @@ fn line_text(answer: Result<Line, Refusal>) -> String {
     let number = answer.err().unwrap_or(0);
     let l = answer.unwrap_or_default();
     let rows = format!("{} {}", l.kept, l.loose);
-    format!("LINE {number} {} {rows} {} {}", l.identity, l.earliest, l.latest)
+    format!(
+        "LINE {number} {} {rows} {} {}",
+        l.identity, l.earliest, l.latest
+    )
 }
 
 fn share_text(answer: Result<u64, Refusal>) -> String {
-    format!("SHARE {} {}", answer.err().unwrap_or(0), answer.unwrap_or(0))
+    format!(
+        "SHARE {} {}",
+        answer.err().unwrap_or(0),
+        answer.unwrap_or(0)
+    )
 }
 
 /// The lines for a list of calls.
@@ -229,7 +236,9 @@ fn row(identity: u32, time: u64, loose: bool) -> Row {
 
 /// An addressed one: its DESTID is no transmitter.
 fn addressed_row(identity: u32, time: u64, loose: bool) -> Row {
-    let mut bytes = vec![0xA6, 0xD5, 0x09, 0xF1, 0xF2, 0xF3, 0xF4, 0, 0, 0, 0, 0x80, 0];
+    let mut bytes = vec![
+        0xA6, 0xD5, 0x09, 0xF1, 0xF2, 0xF3, 0xF4, 0, 0, 0, 0, 0x80, 0,
+    ];
     bytes[7..11].copy_from_slice(&identity.to_be_bytes());
     renew_hash(&mut bytes);
     Row { bytes, time, loose }
@@ -310,10 +319,26 @@ fn refused_rooms(calls: &mut Vec<Call>) {
     calls.push(Call::Report);
     put_room(calls, &[row(7, 100, false)], 2);
     calls.extend([Call::Add, Call::Put(1030, vec![1]), Call::Add]);
-    calls.extend([Call::New(513), Call::Add, Call::Line(0), Call::New(0), Call::Add]);
+    calls.extend([
+        Call::New(513),
+        Call::Add,
+        Call::Line(0),
+        Call::New(0),
+        Call::Add,
+    ]);
     // 11 before 16, and 16 and 12 before 10.
-    calls.extend([Call::Spoil(2, 0, 2), Call::New(513), Call::Add, Call::Spoil(2, 0, 1)]);
-    calls.extend([Call::Spoil(0, 0, 64), Call::Add, Call::New(512), Call::Put(0, vec![1])]);
+    calls.extend([
+        Call::Spoil(2, 0, 2),
+        Call::New(513),
+        Call::Add,
+        Call::Spoil(2, 0, 1),
+    ]);
+    calls.extend([
+        Call::Spoil(0, 0, 64),
+        Call::Add,
+        Call::New(512),
+        Call::Put(0, vec![1]),
+    ]);
     calls.extend([Call::Add, Call::New(512), Call::Add]);
 }
 
@@ -398,7 +423,20 @@ fn shares(calls: &mut Vec<Call>) {
     let rows: Vec<Row> = (0..37).map(|i| row(i % 5, i.into(), i % 2 == 0)).collect();
     put_room(calls, &rows, 0);
     calls.push(Call::Add);
-    for received in [0, 1, 36, 37, 38, 73, 74, 75, 36_999, 37_000, 37_001, u64::MAX] {
+    for received in [
+        0,
+        1,
+        36,
+        37,
+        38,
+        73,
+        74,
+        75,
+        36_999,
+        37_000,
+        37_001,
+        u64::MAX,
+    ] {
         calls.push(Call::Share(received));
     }
 }
