@@ -72,7 +72,7 @@ looseIn rows = count (λ r. r .loose) rows
 abbrev pub keptIn : List Row → ℕ
 keptIn rows = count (λ r. not (r .loose)) rows
 
--- ---- what some archives give: 11 for any other (`Sound` of Claims.antt says that no sheet of archives is among them)
+-- ---- what some archives give: 11 for any other (that it is just this is `Sound` and `Complete` of Claims.antt)
 
 abbrev pub rowsOfLine : Line → ℕ
 rowsOfLine a = a .kept + a .loose
