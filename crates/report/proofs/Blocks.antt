@@ -6,20 +6,20 @@
 --     sane-next                              no number goes past its end
 --     blocks-next, blocks-end                the loop over blocks
 -- Assumes nothing.
-use Prim.Native.Nat.{ℕ, zero, suc, _+_, _-_, _*_, _/_, _%_, _^_, _≤_, _<_}
+use Prim.Native.Nat.{ℕ, zero, suc, _+_, _-_, _*_, _/_, _%_, _≤_, _<_}
 use native.Mathlib.Numerals.{add-one}
 use native.Mathlib.Decide.{decLt}
 use native.Mathlib.Omega.{arith}
-use mathlib.Core.Path.{_≡_, refl, sym, ap, ap₂, _∙_, subst}
-use mathlib.Core.Bool.{Bool, true, false, cond, not, _&&_, _||_}
-use mathlib.Core.List.{List, [], _∷_, map}
-use lib.Dec.{ltb, leb, eqb}
+use mathlib.Core.Path.{_≡_, refl, sym, ap, _∙_, subst}
+use mathlib.Core.Bool.{Bool, true, false, cond, _||_}
+use mathlib.Core.List.{List, [], _∷_}
+use lib.Dec.{ltb, leb}
 use lib.ListN.{length, length-map, take, drop}
 use lib.Seq.{take-all, drop-drop}
-use borrow.Author.Tests.{lt-ltb, le-ltb, ltb-true, ltb-false, le-leb, leb-true, eq-eqb, eqb-true}
+use borrow.Author.Tests.{lt-ltb, le-ltb, ltb-false, le-leb, leb-true, eq-eqb, eqb-true}
 use Rattle.lists.specs.Lists.{all, upFrom, count}
 use Rattle.lists.proofs.Choice.{both, neither}
-use Rattle.lists.proofs.Tests.{and-true, by-test, all-getD}
+use Rattle.lists.proofs.Tests.{and-true, by-test}
 use Rattle.lists.proofs.UpFrom.{length-upFrom}
 use Rattle.erp1.specs.Subtelegram.{minLength, maxLength, checkOf}
 use Rattle.erp1.proofs.Checks.{check-facts}
@@ -30,19 +30,18 @@ use Rattle.layout.specs.Cell.{cellLength, cellUsed, cellBytes}
 use Rattle.layout.specs.Block.{cellsPerBlock, blockLength, blockCell}
 use Rattle.archive_model.specs.Row.{Row, rowCount, rowIn, rowsOf, isRow, isSound}
 use Rattle.archive_model.specs.Buffer.{maxBlocks, maxRows, blocksIn, Scan, scanBlock, scanBlocks}
-use Rattle.archive_model.specs.Append.{isScan, Feeding, feedOf}
+use Rattle.archive_model.specs.Append.{isScan, feedOf}
 use Rattle.archive_model.specs.Identity.{identityOf}
 use Rattle.archive_model.proofs.Pieces.{rows-count}
 use Rattle.archive.specs.Archive.{blocksFrom}
 use Rattle.archive.proofs.Cells.{used-is, bytes-shown}
-use Rattle.report_model.specs.Report.{Line, Report, isReport, maxArchives, maxLines, lineOf, joined, insert, addRows, keptIn, looseIn, rowsOfLine, isRising, sumOf}
+use Rattle.report_model.specs.Report.{Line, Report, isReport, maxLines, lineOf, joined, insert, addRows, keptIn, looseIn, rowsOfLine, isRising, sumOf}
 use Rattle.report_model.specs.Pieces.{Tally, startTally, countedRows, counted, addBlock, addBlocks}
 use Rattle.report_model.proofs.Order.{add-first, add-none}
 use Rattle.report_model.proofs.Additions.{facts}
 use Rattle.report_model.proofs.Lines.{rising-insert, rising-added, sum-insert, more-added, kinds}
 use Rattle.report.specs.Lines.{linesLength, linesOf, rowsBetween, totalOf, Inserted}
 use Rattle.report.specs.Report.{Sane}
-use Rattle.report.proofs.Windows.{lines-count}
 
 -- ---- one cell
 

@@ -1,17 +1,15 @@
 -- The calls: each of their ends is one case of its definition. Assumes nothing.
-use Prim.Native.Nat.{ℕ, _+_, _-_, _*_, _/_, _^_, _≤_, _<_}
-use native.Mathlib.Omega.{arith}
-use mathlib.Core.Path.{_≡_, refl, sym, ap, _∙_}
-use mathlib.Core.Bool.{Bool, true, false, cond, not, _&&_, _||_}
+use Prim.Native.Nat.{ℕ, _+_, _-_, _*_, _/_, _≤_, _<_}
+use mathlib.Core.Path.{_≡_}
+use mathlib.Core.Bool.{true, false}
 use mathlib.Core.List.{List}
-use lib.Dec.{ltb, leb, eqb}
 use lib.ListN.{length, getD}
 use borrow.Author.Tests.{lt-ltb, le-ltb, le-leb, lt-leb, eq-eqb, ne-eqb}
 use Rattle.refusal.specs.Number.{numberOf}
 use Rattle.refusal.specs.declared.Refusal.the-variants.{Argument, NotAccepted, Size, Transmitters}
-use Rattle.archive_model.specs.Buffer.{None, maxRows, isWhole, mismatch}
-use Rattle.archive_model.specs.Append.{found, verdict}
-use Rattle.report_model.specs.Report.{Line, Report, maxArchives, maxLines, isTally, isReport, answer, addOf, shareOf, lineOfReport, LineAnswer, noLine, Share}
+use Rattle.archive_model.specs.Buffer.{None, maxRows, isWhole}
+use Rattle.archive_model.specs.Append.{verdict}
+use Rattle.report_model.specs.Report.{Report, maxArchives, maxLines, isTally, isReport, answer, addOf, shareOf, lineOfReport, noLine}
 use Rattle.report_model.specs.Pieces.{Tally, closed}
 
 module _ (s : Report) (t : Tally) where

@@ -3,25 +3,24 @@
 --     Taken, taken, is-taken    the tests of `addOf`, both ways
 --     added-report              a report with an archive more is a report
 -- Assumes nothing.
-use Prim.Native.Nat.{ℕ, _+_, _*_, _-_, _/_, _^_, _<_, _≤_, min, max}
-use mathlib.Core.Path.{_≡_, refl, sym, ap, ap₂, _∙_}
-use mathlib.Core.Bool.{Bool, true, false, cond, not, _&&_, _||_}
-use mathlib.Core.List.{List, [], _∷_}
+use Prim.Native.Nat.{ℕ, _+_, _*_, _-_, _^_, _<_, _≤_, min, max}
+use mathlib.Core.Path.{_≡_, refl, sym, ap, _∙_}
+use mathlib.Core.Bool.{Bool, true, false, cond, _||_}
+use mathlib.Core.List.{List}
 use native.Mathlib.Omega.{arith}
 use lib.Dec.{ltb, leb, eqb}
 use lib.ListN.{length}
 use borrow.Author.Tests.{lt-ltb, le-ltb, ltb-true, ltb-false, le-leb, lt-leb, leb-true, leb-false, eq-eqb, eqb-true, eqb-false}
-use Rattle.refusal.specs.Number.{numberOf}
 use Rattle.refusal.specs.declared.Refusal.the-variants.{Argument, NotAccepted, Transmitters}
 use Rattle.refusal.proofs.Numbers.{refused-number}
 use Rattle.lists.specs.Lists.{all}
-use Rattle.lists.proofs.Choice.{both, cond-no}
+use Rattle.lists.proofs.Choice.{both}
 use Rattle.lists.proofs.Tests.{and-true, by-test}
 use Rattle.archive_model.specs.Row.{Row}
 use Rattle.archive_model.specs.Buffer.{maxRows, rowsIn}
 use Rattle.archive_model.specs.Append.{verdict}
-use Rattle.report_model.specs.Report.{Line, Report, maxArchives, maxLines, lineOf, joined, addRows, keptIn, looseIn, isLine, isRising, sumOf, isTally, isReport, Addition, answer, added, addOf}
-use Rattle.report_model.proofs.Lines.{all-added, rising-added, more-added, kept-added, loose-added, kinds}
+use Rattle.report_model.specs.Report.{Line, Report, maxArchives, maxLines, lineOf, joined, addRows, keptIn, looseIn, isLine, isRising, sumOf, isTally, isReport, answer, added, addOf}
+use Rattle.report_model.proofs.Lines.{all-added, rising-added, kept-added, loose-added, kinds}
 
 -- ---- a report
 

@@ -4,13 +4,12 @@
 --     known                      what is known of the rows of an archive
 -- Assumes nothing.
 use Prim.Native.Nat.{ℕ, zero, suc, _+_, _*_, _-_, _/_, _^_, _<_, _≤_}
-use native.Mathlib.Nat.{pow-suc, pow-le-pow-right, add-suc, add-zero}
-use native.Mathlib.Numerals.{add-one}
+use native.Mathlib.Nat.{pow-suc, pow-le-pow-right, add-zero}
 use native.Mathlib.Omega.{arith}
-use mathlib.Core.Path.{_≡_, refl, sym, ap, _∙_}
-use mathlib.Core.Bool.{Bool, true, _&&_}
+use mathlib.Core.Path.{_≡_, refl}
+use mathlib.Core.Bool.{Bool, true}
 use mathlib.Core.List.{List, [], _∷_, _++_, map, flatten}
-use lib.Dec.{ltb, eqb}
+use lib.Dec.{ltb}
 use lib.ListN.{length, take, drop, replicate, length-take}
 use borrow.Author.Tests.{lt-ltb, ltb-true}
 use Rattle.lists.specs.Lists.{all, upFrom}
@@ -19,10 +18,10 @@ use Rattle.lists.proofs.Tests.{and-true, all-both}
 use Rattle.layout.specs.Buffer.{part, resized}
 use Rattle.layout.specs.BigEndian.{unbe, unbeFrom}
 use Rattle.layout.specs.Cell.{cellLength, cellCapacity, cellUsed, cellField, cellBytes}
-use Rattle.layout.specs.Block.{cellsPerBlock, blockLength, blockCell}
+use Rattle.layout.specs.Block.{blockLength, blockCell}
 use Rattle.layout.specs.Header.{headerLength}
 use Rattle.archive_model.specs.Row.{Row, isRow, rowIn, rowCount, rowsOf}
-use Rattle.archive_model.specs.Buffer.{maxRows, blocksIn, rowsIn}
+use Rattle.archive_model.specs.Buffer.{blocksIn, rowsIn}
 use Rattle.archive_model.specs.Append.{verdict}
 use Rattle.archive_model.specs.Identity.{identityOf}
 use Rattle.archive_model.specs.Claims.{isFit}

@@ -1,14 +1,13 @@
 -- The claims on reports. Assumes nothing.
-use Prim.Native.Nat.{ℕ, zero, suc, _+_, _*_, _/_, _%_, _<_, _≤_}
+use Prim.Native.Nat.{ℕ, _+_, _*_, _/_, _%_, _<_, _≤_}
 use native.Mathlib.Nat.{div-add-mod', mod-lt, div-le-of-le-mul, add-mul, one-mul}
 use native.Mathlib.Omega.{arith}
-use mathlib.Core.Path.{_≡_, refl, sym, ap, ap₂, _∙_, subst}
-use mathlib.Core.Bool.{Bool, true, false, cond, not, _&&_, _||_}
+use mathlib.Core.Path.{_≡_, refl, sym, ap, _∙_, subst}
+use mathlib.Core.Bool.{Bool, true, not, _&&_, _||_}
 use mathlib.Core.List.{List, [], _∷_, _++_, flatten, List·Memᴰ, List·Permᴰ, List·Permᴰ·nil, List·Permᴰ·cons, List·Permᴰ·swap, List·Permᴰ·trans}
 use lib.Dec.{ltb, eqb}
 use lib.ListN.{length}
 use borrow.Author.Tests.{eq-eqb, eqb-true, eqb-false, ltb-false}
-use Rattle.refusal.specs.Number.{numberOf}
 use Rattle.refusal.specs.declared.Refusal.the-variants.{Argument, NotAccepted}
 use Rattle.refusal.proofs.Numbers.{refused-number}
 use Rattle.lists.specs.Lists.{any, all, count}
@@ -16,8 +15,7 @@ use Rattle.lists.proofs.Choice.{both, neither}
 use Rattle.lists.proofs.Tests.{and-true, by-test}
 use Rattle.archive_model.specs.Row.{Row}
 use Rattle.archive_model.specs.Buffer.{rowsIn}
-use Rattle.archive_model.specs.Append.{verdict}
-use Rattle.report_model.specs.Report.{Line, Report, emptyReport, addRows, keptIn, looseIn, isRising, isTally, isReport, Addition, answer, added, addOf, shareOf}
+use Rattle.report_model.specs.Report.{Line, Report, emptyReport, addRows, keptIn, looseIn, isRising, isTally, isReport, Addition, added, addOf, shareOf}
 use Rattle.report_model.specs.Claims.{addAll, accepted, noneRefused, rowsOfAll, areBytes, TotalsAreSums, AnyOrder, Sound, RoundedDown, ShareRoundedDown}
 use Rattle.report_model.proofs.Order.{add-comm-rows, add-append, add-none}
 use Rattle.report_model.proofs.Lines.{rising-added, more-added, count-append}

@@ -1,17 +1,17 @@
 -- What is not refused with 11 is what some archives give: the rows of its lines, cut into archives of the most rows that one has, and empty ones
 -- behind them. Nothing of such an archive is computed. Assumes nothing.
-use Prim.Native.Nat.{ℕ, zero, suc, _+_, _*_, _^_, _<_, _≤_, min}
+use Prim.Native.Nat.{ℕ, zero, suc, _+_, _*_, _^_, _<_, _≤_}
 use native.Mathlib.Omega.{arith}
-use mathlib.Core.Path.{_≡_, refl, sym, ap, ap₂, _∙_, subst}
+use mathlib.Core.Path.{_≡_, refl, sym, ap, _∙_, subst}
 use mathlib.Core.Bool.{Bool, true}
-use mathlib.Core.List.{List, [], _∷_, _++_, map, flatten, map-map}
+use mathlib.Core.List.{List, [], _∷_, map, flatten, map-map}
 use lib.ListN.{length, take, drop, length-take, length-map}
 use lib.Seq.{take-all}
 use Rattle.lists.specs.Lists.{all, upFrom}
 use Rattle.lists.proofs.UpFrom.{length-upFrom}
 use Rattle.layout.specs.Buffer.{part}
 use Rattle.archive_model.specs.Row.{Row}
-use Rattle.archive_model.specs.Buffer.{maxBlocks, maxRows, bufferOf, rowsIn}
+use Rattle.archive_model.specs.Buffer.{maxRows, bufferOf, rowsIn}
 use Rattle.archive_model.specs.Append.{verdict}
 use Rattle.archive_model.specs.Claims.{isFit}
 use Rattle.archive_model.proofs.Claims.{read-back}

@@ -5,14 +5,14 @@
 --     more-insert, more-added    lines never become fewer
 -- Assumes nothing.
 use Prim.Native.Nat.{ℕ, suc, _+_, _<_, _≤_}
-use mathlib.Core.Path.{_≡_, refl, sym, ap, _∙_}
-use mathlib.Core.Bool.{Bool, true, false, cond, not, _&&_}
+use mathlib.Core.Path.{_≡_, refl, ap, _∙_}
+use mathlib.Core.Bool.{Bool, true, false, cond, not}
 use mathlib.Core.List.{List, [], _∷_, _++_}
 use native.Mathlib.Omega.{arith}
 use lib.Dec.{ltb}
 use lib.ListN.{length}
 use borrow.Author.Tests.{lt-ltb, ltb-true}
-use Rattle.lists.specs.Lists.{all, pairwise, count}
+use Rattle.lists.specs.Lists.{all, count}
 use Rattle.lists.proofs.Choice.{both}
 use Rattle.lists.proofs.Tests.{and-true}
 use Rattle.lists.proofs.Members.{all-of, all-at}

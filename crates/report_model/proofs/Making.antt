@@ -4,25 +4,24 @@
 --     rows-line                    the rows of a line give it
 --     rows-lines                   and those of all lines give them
 -- Assumes nothing.
-use Prim.Native.Nat.{ℕ, zero, suc, _+_, _-_, _*_, _^_, _<_, _≤_, min, max}
-use native.Mathlib.Nat.{add-assoc}
+use Prim.Native.Nat.{ℕ, zero, suc, _+_, _-_, _^_, _<_, _≤_, min, max}
 use native.Mathlib.Omega.{arith}
-use mathlib.Core.Path.{_≡_, refl, sym, ap, ap₂, _∙_, subst}
+use mathlib.Core.Path.{_≡_, refl, sym, ap, _∙_}
 use mathlib.Core.Bool.{Bool, true, false, cond, _&&_, _||_}
 use mathlib.Core.List.{List, [], _∷_, _++_, map, flatten}
-use lib.Dec.{ltb, leb, eqb}
+use lib.Dec.{ltb, eqb}
 use lib.ListN.{length, getD, take, replicate, length-append}
 use lib.Seq.{getD-at, take-at, take-append-le}
-use borrow.Author.Tests.{lt-ltb, le-ltb, ltb-true, eq-eqb, eqb-true}
+use borrow.Author.Tests.{lt-ltb, ltb-true, eq-eqb, eqb-true}
 use Rattle.lists.specs.Lists.{all}
 use Rattle.lists.proofs.Choice.{both}
 use Rattle.lists.proofs.Tests.{and-true}
-use Rattle.erp1.specs.Subtelegram.{addressed, lastOf, bodyOf, hashOf, sealedOf, checkOf, isValid}
+use Rattle.erp1.specs.Subtelegram.{lastOf, bodyOf, hashOf, sealedOf, checkOf, isValid}
 use Rattle.erp1.proofs.Checks.{check-plain}
 use Rattle.layout.specs.Buffer.{part}
 use Rattle.layout.specs.BigEndian.{be, unbe}
 use Rattle.layout.proofs.BigEndian.{be-length, unbe-be}
-use Rattle.archive_model.specs.Row.{Row, isRow}
+use Rattle.archive_model.specs.Row.{Row}
 use Rattle.archive_model.specs.Identity.{identityOf}
 use Rattle.archive_model.specs.Claims.{isFit}
 use Rattle.report_model.specs.Report.{Line, lineOf, joined, insert, addRows, isLine, isRising}
@@ -80,21 +79,11 @@ made-fit i time loose h = and-true (bytes-valid i) (lt-ltb time (2 ^ 64) h)
 
 joined-assoc : (a b c : Line) → joined a (joined b c) ≡ joined (joined a b) c
 joined-assoc a b c =
-    let k : a .kept + (b .kept + c .kept) ≡ a .kept + b .kept + c .kept = omega arith in
-    let l : a .loose + (b .loose + c .loose) ≡ a .loose + b .loose + c .loose = omega arith in
-    λ i. record {
-      identity = a .identity;
-      kept = k i;
-      loose = l i;
-      earliest = least (a .earliest) (b .earliest) (c .earliest) i;
-      latest = greatest (a .latest) (b .latest) (c .latest) i;
-    }
-  where
-    least : (x y z : ℕ) → min x (min y z) ≡ min (min x y) z
-    least x y z = omega arith
-
-    greatest : (x y z : ℕ) → max x (max y z) ≡ max (max x y) z
-    greatest x y z = omega arith
+    let k : joined a (joined b c) .kept ≡ joined (joined a b) c .kept = omega arith in
+    let l : joined a (joined b c) .loose ≡ joined (joined a b) c .loose = omega arith in
+    let s : joined a (joined b c) .earliest ≡ joined (joined a b) c .earliest = omega arith in
+    let t : joined a (joined b c) .latest ≡ joined (joined a b) c .latest = omega arith in
+    λ i. record { identity = a .identity; kept = k i; loose = l i; earliest = s i; latest = t i }
 
 insert-twice : (a b : Line) (l : List Line) → a .identity ≡ b .identity → insert a (insert b l) ≡ insert (joined a b) l
 insert-twice a b [] e = ap (insert a) (insert-nil b) ∙ insert-same a b [] e ∙ sym (insert-nil (joined a b))

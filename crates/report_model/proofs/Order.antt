@@ -4,11 +4,10 @@
 --     add-insert, add-comm-rows           rows and a line, and rows and rows
 --     add-append, add-first, add-none     rows put together, one row more, and none
 -- Assumes nothing.
-use Prim.Native.Nat.{ℕ, _+_, _<_, _≤_, min, max}
+use Prim.Native.Nat.{ℕ, _<_, _≤_}
 use mathlib.Core.Path.{_≡_, refl, sym, ap, _∙_, subst}
 use mathlib.Core.List.{List, [], _∷_, _++_}
 use native.Mathlib.Omega.{arith}
-use native.Mathlib.Nat.{add-comm, add-left-comm, min-comm, max-comm}
 use native.Mathlib.Decide.{decLt}
 use borrow.Author.Tests.{lt-ltb, le-ltb, eq-eqb, ne-eqb}
 use Rattle.archive_model.specs.Row.{Row}
@@ -59,17 +58,19 @@ insert-cases P a c l f g h = go (sides (a .identity) (c .identity))
 
 joined-comm : (a b : Line) → a .identity ≡ b .identity → joined a b ≡ joined b a
 joined-comm a b e =
-    rw (e, add-comm (a .kept) (b .kept), add-comm (a .loose) (b .loose), min-comm (a .earliest) (b .earliest), max-comm (a .latest) (b .latest))
-
-min-left-comm : (x y z : ℕ) → min x (min y z) ≡ min y (min x z)
-min-left-comm x y z = omega arith
-
-max-left-comm : (x y z : ℕ) → max x (max y z) ≡ max y (max x z)
-max-left-comm x y z = omega arith
+    let k : joined a b .kept ≡ joined b a .kept = omega arith in
+    let l : joined a b .loose ≡ joined b a .loose = omega arith in
+    let s : joined a b .earliest ≡ joined b a .earliest = omega arith in
+    let t : joined a b .latest ≡ joined b a .latest = omega arith in
+    λ i. record { identity = e i; kept = k i; loose = l i; earliest = s i; latest = t i }
 
 joined-left-comm : (a b c : Line) → a .identity ≡ b .identity → joined a (joined b c) ≡ joined b (joined a c)
 joined-left-comm a b c e =
-    rw (e, add-left-comm (a .kept) (b .kept) (c .kept), add-left-comm (a .loose) (b .loose) (c .loose), min-left-comm (a .earliest) (b .earliest) (c .earliest), max-left-comm (a .latest) (b .latest) (c .latest))
+    let k : joined a (joined b c) .kept ≡ joined b (joined a c) .kept = omega arith in
+    let l : joined a (joined b c) .loose ≡ joined b (joined a c) .loose = omega arith in
+    let s : joined a (joined b c) .earliest ≡ joined b (joined a c) .earliest = omega arith in
+    let t : joined a (joined b c) .latest ≡ joined b (joined a c) .latest = omega arith in
+    λ i. record { identity = e i; kept = k i; loose = l i; earliest = s i; latest = t i }
 
 -- both go in front of what follows
 fronts : (a b : Line) (l : List Line) → Sides (a .identity) (b .identity) → insert a l ≡ a ∷ l → insert b l ≡ b ∷ l → insert a (b ∷ l) ≡ insert b (a ∷ l)

@@ -5,22 +5,21 @@
 -- Assumes nothing.
 use Prim.Native.Nat.{ℕ, suc, _+_, _<_, _≤_}
 use native.Mathlib.Omega.{arith}
-use mathlib.Core.Path.{_≡_, refl, sym, ap, ap₂, _∙_, subst}
+use mathlib.Core.Path.{_≡_, refl, sym, ap, ap₂, _∙_}
 use mathlib.Core.Bool.{Bool, true, false, cond, not, _&&_, _||_, false≢true}
 use mathlib.Core.List.{List, [], _∷_, _++_, map, flatten, append-nil}
-use lib.Dec.{ltb, leb, eqb}
+use lib.Dec.{ltb, eqb}
 use lib.ListN.{length}
-use borrow.Author.Tests.{lt-ltb, le-ltb, ltb-true, ltb-false}
+use borrow.Author.Tests.{lt-ltb, le-ltb, ltb-true}
 use Rattle.refusal.specs.Number.{numberOf}
 use Rattle.refusal.specs.declared.Refusal.the-variants.{Mismatch}
-use Rattle.lists.specs.Lists.{count}
 use Rattle.lists.proofs.Tests.{by-test}
 use Rattle.archive_model.specs.Row.{Row, blockNumber, rowsOf, isSound, isBlank}
 use Rattle.archive_model.specs.Buffer.{Found, At, None, isWhole, blocksIn, rowsIn, nonZero, isShort, isFollowed, mismatchFrom, mismatch, Scan, startScan, scanBlock, scanBlocks, stageFound}
-use Rattle.archive_model.specs.Append.{Verdict, found, verdict}
+use Rattle.archive_model.specs.Append.{verdict}
 use Rattle.archive_model.proofs.Pieces.{scan-found, rows-count, at-none}
 use Rattle.archive_model.proofs.Buffers.{blank-count}
-use Rattle.report_model.specs.Report.{Line, Report, maxArchives, maxLines, addRows, keptIn, looseIn, isReport, Addition, answer, added, addOf}
+use Rattle.report_model.specs.Report.{Line, Report, maxLines, addRows, keptIn, looseIn, isReport, answer, added, addOf}
 use Rattle.report_model.specs.Pieces.{Tally, startTally, countedRows, counted, addBlock, addBlocks, closed, closing}
 use Rattle.report_model.proofs.Order.{add-append, add-none}
 use Rattle.report_model.proofs.Lines.{more-added, count-append}

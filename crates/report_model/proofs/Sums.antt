@@ -4,16 +4,15 @@
 --     line-counts             so does every line
 --     any-added               which transmitters have a line
 -- Assumes nothing.
-use Prim.Native.Nat.{ℕ, zero, suc, _+_, _<_, _≤_, min, max}
+use Prim.Native.Nat.{ℕ, _+_, _<_, _≤_, min, max}
 use native.Mathlib.Decide.{decLt}
 use native.Mathlib.Omega.{arith}
-use mathlib.Core.Path.{_≡_, refl, sym, ap, ap₂, _∙_, subst}
-use mathlib.Core.Bool.{Bool, true, false, cond, not, _&&_, _||_}
-use mathlib.Core.List.{List, [], _∷_, _++_, List·Memᴰ, List·Memᴰ·not-nil, List·Memᴰ·eq-of-singleton}
+use mathlib.Core.Path.{_≡_, refl, sym, ap, _∙_, subst}
+use mathlib.Core.Bool.{Bool, true, false, cond, not, _||_}
+use mathlib.Core.List.{List, [], _∷_, List·Memᴰ, List·Memᴰ·not-nil, List·Memᴰ·eq-of-singleton}
 use lib.Dec.{ltb, leb, eqb}
-use lib.ListN.{length}
-use borrow.Author.Tests.{eq-eqb, ne-eqb, eqb-true, eqb-false, ltb-true, leb-true, le-leb}
-use Rattle.lists.specs.Lists.{keep, any, all, count}
+use borrow.Author.Tests.{eq-eqb, ne-eqb, eqb-true, ltb-true, leb-true, le-leb}
+use Rattle.lists.specs.Lists.{keep, any, all}
 use Rattle.lists.proofs.Choice.{both}
 use Rattle.lists.proofs.Members.{all-of, all-at}
 use Rattle.lists.proofs.Keep.{keep-in}

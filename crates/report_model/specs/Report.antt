@@ -1,7 +1,7 @@
 -- The yearly sheet (document 02, A12), here a report: what it says, adding an archive, and its share of receptions. Assumes nothing.
-use Prim.Native.Nat.{ℕ, suc, _+_, _*_, _/_, _^_, min, max}
+use Prim.Native.Nat.{ℕ, _+_, _*_, _/_, _^_, min, max}
 use mathlib.Core.Bool.{Bool, cond, not, _&&_, _||_}
-use mathlib.Core.List.{List, [], _∷_, _++_, map}
+use mathlib.Core.List.{List, [], _∷_}
 use lib.Dec.{ltb, leb, eqb}
 use lib.ListN.{length, getD}
 use Rattle.lists.specs.Lists.{all, pairwise, count}

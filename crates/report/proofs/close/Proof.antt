@@ -1,11 +1,9 @@
 -- `report::close` meets its contract. Assumes nothing.
-use native.Mathlib.Omega.{arith}
 use borrow.Author.Needs.{needs}
-use mathlib.Core.Path.{_≡_, refl, sym, ap, ap₂, _∙_}
-use Rattle.archive_model.specs.Buffer.{Found, stageFound}
+use mathlib.Core.Path.{_≡_, sym, ap, _∙_}
+use Rattle.archive_model.specs.Buffer.{stageFound}
 use Rattle.archive.specs.Archive.{stageOf}
 use Rattle.archive.specs.declared.Stage.{Stage}
-use Rattle.report_model.specs.Report.{Addition}
 use Rattle.report_model.specs.Pieces.{closed, closing}
 use Rattle.report.specs.Report.{reportOf, tallyOf}
 use Rattle.report.proofs.close.Statement.{statement}

@@ -1,9 +1,9 @@
 -- `report::is_report` meets its contract: each return is one test of the definition. Assumes nothing.
 use native.Mathlib.Omega.{arith}
 use borrow.Author.Needs.{needs}
-use mathlib.Core.Path.{_≡_, refl, sym, ap, ap₂, _∙_}
+use mathlib.Core.Path.{_∙_}
 use lib.ListN.{length}
-use Prim.Native.Nat.{ℕ, _+_, _-_, _*_, _/_, _≤_, _<_}
+use Prim.Native.Nat.{_-_, _≤_}
 use Rattle.report.proofs.Windows.{lines-count}
 use Rattle.report_model.specs.Report.{maxLines}
 use Rattle.report.specs.Lines.{linesOf}

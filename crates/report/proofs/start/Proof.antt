@@ -1,6 +1,5 @@
 -- `report::start` meets its contract. Assumes nothing.
 use borrow.Author.Needs.{needs}
-use mathlib.Core.Path.{_≡_, refl, sym, ap, ap₂, _∙_}
 use Rattle.report.specs.Lines.{linesOf}
 use mathlib.Core.Bool.{false}
 use Rattle.report.proofs.start.Statement.{statement}

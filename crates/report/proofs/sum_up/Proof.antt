@@ -1,7 +1,6 @@
 -- `report::sum_up` meets its contract. Assumes nothing.
-use native.Mathlib.Omega.{arith}
 use borrow.Author.Needs.{needs}
-use mathlib.Core.Path.{_≡_, refl, sym, ap, ap₂, _∙_}
+use mathlib.Core.Path.{_∙_}
 use Rattle.report.specs.Report.{reportOf, tallyOf}
 use Rattle.report.proofs.Calls.{closed-full, closed-over, closed-done}
 use Rattle.report.proofs.sum_up.Statement.{statement}

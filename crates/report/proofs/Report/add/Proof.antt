@@ -2,10 +2,8 @@
 use native.Mathlib.Omega.{arith}
 use borrow.Author.Needs.{needs}
 use denote.Ref.{now}
-use mathlib.Core.Path.{_≡_, refl, sym, ap, ap₂, _∙_}
+use mathlib.Core.Path.{_≡_, sym, ap, _∙_}
 use mathlib.Core.Bool.{true}
-use mathlib.Core.List.{List}
-use Prim.Native.Nat.{ℕ, _+_, _/_, _≤_}
 use lib.ListN.{length}
 use borrow.Author.Tests.{not-true, not-false}
 use Rattle.archive_model.specs.Buffer.{isWhole, blocksIn}
@@ -13,7 +11,6 @@ use Rattle.archive.proofs.Calls.{whole-facts}
 use Rattle.report_model.specs.Report.{isReport}
 use Rattle.report_model.specs.Pieces.{Tally, addBlocks, closing}
 use Rattle.report_model.proofs.Pieces.{closing-is}
-use Rattle.report.specs.Lines.{linesLength}
 use Rattle.report.specs.Report.{reportOf}
 use Rattle.report.proofs.Blocks.{sane-as, start-sane}
 use Rattle.report.proofs.Calls.{add-not, add-size}

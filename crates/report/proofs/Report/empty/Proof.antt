@@ -1,9 +1,6 @@
 -- `report::Report::empty` meets its contract. Assumes nothing.
 use borrow.Author.Needs.{needs}
-use mathlib.Core.Path.{_≡_, refl, sym, ap, ap₂, _∙_}
 use Rattle.report.proofs.Windows.{lines-none}
-use Rattle.report_model.specs.Report.{Line}
-use mathlib.Core.List.{List}
 use Rattle.report.proofs.Report.empty.Statement.{statement}
 use Rattle.report.proofs.Report.empty.Tie as tie
 

@@ -1,11 +1,11 @@
 -- `report::Report::line` meets its contract. Assumes nothing.
 use native.Mathlib.Omega.{arith}
 use borrow.Author.Needs.{needs}
-use mathlib.Core.Path.{_≡_, refl, sym, ap, ap₂, _∙_}
+use mathlib.Core.Path.{_≡_, sym, ap, _∙_}
 use mathlib.Core.Bool.{true}
-use Prim.Native.Nat.{ℕ, _+_, _-_, _*_, _/_, _≤_, _<_}
+use Prim.Native.Nat.{_-_, _<_}
 use borrow.Author.Tests.{not-true, not-false}
-use Rattle.report_model.specs.Report.{Line, LineAnswer, isReport}
+use Rattle.report_model.specs.Report.{Line, isReport}
 use Rattle.report_model.proofs.Additions.{facts}
 use Rattle.report.specs.Report.{reportOf}
 use Rattle.report.proofs.Windows.{lines-count, line-at}

@@ -1,9 +1,8 @@
 -- `report::lines::fits` meets its contract. Assumes nothing.
-use native.Mathlib.Omega.{arith}
 use borrow.Author.Needs.{needs}
 use denote.Ref.{now}
-use mathlib.Core.Path.{_≡_, refl, sym, ap, ap₂, _∙_}
-use mathlib.Core.Bool.{Bool, true, false, cond, _&&_}
+use mathlib.Core.Path.{ap₂, _∙_}
+use mathlib.Core.Bool.{_&&_}
 use Rattle.report.specs.Lines.{lineAt, linesFrom}
 use Prim.Native.Nat.{_+_, _-_}
 use Rattle.report.proofs.Testing.{fits-kept, fits-loose, fits-both}

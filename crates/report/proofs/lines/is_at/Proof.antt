@@ -1,5 +1,4 @@
 -- `report::lines::is_at` meets its contract. Assumes nothing.
-use native.Mathlib.Omega.{arith}
 use borrow.Author.Needs.{needs}
 use borrow.Author.Tests.{le-ltb, lt-ltb}
 use Rattle.report.proofs.lines.is_at.Statement.{statement}

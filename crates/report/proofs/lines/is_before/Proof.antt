@@ -1,5 +1,4 @@
 -- `report::lines::is_before` meets its contract. Assumes nothing.
-use native.Mathlib.Omega.{arith}
 use borrow.Author.Needs.{needs}
 use denote.Ref.{now}
 use Rattle.report.proofs.Testing.{before-none, before-more}

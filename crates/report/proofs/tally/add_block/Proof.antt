@@ -2,10 +2,10 @@
 use native.Mathlib.Omega.{arith}
 use borrow.Author.Needs.{needs}
 use denote.Ref.{now}
-use mathlib.Core.Path.{_≡_, refl, sym, ap, ap₂, _∙_}
-use mathlib.Core.Bool.{Bool, true, false, cond, _&&_}
+use mathlib.Core.Path.{_≡_, sym, ap, _∙_}
+use mathlib.Core.Bool.{true, cond}
 use mathlib.Core.List.{List, []}
-use Prim.Native.Nat.{ℕ, _+_, _-_, _*_, _/_, _≤_, _<_}
+use Prim.Native.Nat.{ℕ, _+_, _-_, _≤_}
 use lib.ListN.{length}
 use lib.Dec.{ltb}
 use Rattle.layout.specs.Block.{cellsPerBlock}
@@ -14,7 +14,7 @@ use Rattle.archive_model.specs.Buffer.{Scan, scanBlock}
 use Rattle.archive_model.specs.Append.{Feeding}
 use Rattle.archive.specs.Archive.{scanOf}
 use Rattle.archive.specs.declared.Scan as scan
-use Rattle.report_model.specs.Report.{Line, maxLines, addRows, keptIn, looseIn}
+use Rattle.report_model.specs.Report.{maxLines, addRows, looseIn}
 use Rattle.report_model.specs.Pieces.{countedRows}
 use Rattle.report_model.proofs.Lines.{kinds}
 use Rattle.report.specs.declared.tally.Tally.{Tally}

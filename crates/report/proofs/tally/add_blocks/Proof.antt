@@ -1,16 +1,15 @@
 -- `report::tally::add_blocks` meets its contract. The invariant: the blocks that are left bring the tally so far to that of the whole; the
 -- measure: the blocks left. Assumes nothing.
 use native.Mathlib.Omega.{arith}
-use borrow.Author.Needs.{needs}
 use denote.Ref.{now}
-use mathlib.Core.Path.{_≡_, refl, sym, ap, ap₂, _∙_}
+use mathlib.Core.Path.{_≡_, sym, ap, _∙_}
 use mathlib.Core.List.{List}
-use Prim.Native.Nat.{ℕ, _+_, _-_, _*_, _/_, _≤_, _<_}
+use Prim.Native.Nat.{ℕ, _+_, _-_, _*_, _/_, _≤_}
 use lib.ListN.{length}
 use Rattle.layout.specs.Buffer.{part}
 use Rattle.layout.specs.Block.{blockLength}
 use Rattle.layout.proofs.Segments.{part-length, part-ends}
-use Rattle.archive_model.specs.Buffer.{Scan, blocksIn}
+use Rattle.archive_model.specs.Buffer.{blocksIn}
 use Rattle.archive.specs.Archive.{blocksFrom}
 use Rattle.archive.proofs.Scans.{rest-first}
 use Rattle.report_model.specs.Pieces.{Tally, addBlock, addBlocks}

@@ -1,9 +1,6 @@
 -- `report::tally::add_cell` meets its contract. Assumes nothing.
-use native.Mathlib.Omega.{arith}
 use borrow.Author.Needs.{needs}
-use denote.Ref.{now}
-use mathlib.Core.Path.{_≡_, refl, sym, ap, ap₂, _∙_}
-use mathlib.Core.Bool.{Bool, true, false, cond, _&&_}
+use mathlib.Core.Bool.{cond}
 use Rattle.report.proofs.Windows.{inserted-as}
 use Rattle.report.proofs.tally.add_cell.Statement.{statement}
 use Rattle.report.proofs.tally.add_cell.Tie as tie

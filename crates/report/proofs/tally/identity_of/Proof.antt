@@ -2,10 +2,10 @@
 use native.Mathlib.Omega.{arith}
 use borrow.Author.Needs.{needs}
 use denote.Ref.{now}
-use mathlib.Core.Path.{_≡_, refl, sym, ap, ap₂, _∙_}
+use mathlib.Core.Path.{ap, _∙_}
 use mathlib.Core.List.{List}
 use Prim.Native.Nat.{ℕ, _+_, _-_}
-use lib.ListN.{take, length-take, drop}
+use lib.ListN.{length-take, drop}
 use lib.Seq.{take-all}
 use Rattle.layout.specs.Buffer.{part}
 use Rattle.layout.specs.BigEndian.{unbe}
