@@ -4,6 +4,7 @@ use std::time::Instant;
 mod archive;
 mod collector;
 mod crc8;
+mod reports;
 mod slots;
 
 fn main() {
@@ -11,6 +12,7 @@ fn main() {
     slots::bench();
     collector::bench();
     archive::bench();
+    reports::bench();
 }
 
 /// Nanoseconds a call: the best of many rounds of `calls` calls.
