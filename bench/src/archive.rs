@@ -13,10 +13,10 @@ extern "C" {
     fn mmap(at: *mut c_void, len: usize, access: i32, flags: i32, file: i32, offset: i64) -> *mut c_void;
 }
 
-const BLOCK: usize = 512;
+pub const BLOCK: usize = 512;
 const ROWS: usize = 15;
 /// The number of an answer stands in the highest byte.
-const NUMBER: u64 = 1 << 56;
+pub const NUMBER: u64 = 1 << 56;
 
 fn proved_crc(bytes: &[u8]) -> u8 {
     unsafe { archive_bench_crc(bytes.as_ptr(), bytes.len()) }
@@ -55,7 +55,7 @@ const fn tables() -> [[u8; 256]; 8] {
 
 static TABLES: [[u8; 256]; 8] = tables();
 
-fn crc_by_eight(bytes: &[u8]) -> u8 {
+pub fn crc_by_eight(bytes: &[u8]) -> u8 {
     let t = &TABLES;
     let mut parts = bytes.chunks_exact(8);
     let mut crc = 0u8;
@@ -95,7 +95,7 @@ fn rows_of(block: &[u8]) -> usize {
     if crc_by_eight(&block[..511]) == block[511] { n } else { 0 }
 }
 
-fn open(buffer: &[u8]) -> u64 {
+pub fn open(buffer: &[u8]) -> u64 {
     if buffer.len() % BLOCK != 0 || buffer.len() / BLOCK > 1 << 32 {
         return 16 * NUMBER;
     }

@@ -6,6 +6,7 @@ mod bursts;
 mod collector;
 mod crc8;
 mod erp2;
+mod reports;
 mod site;
 mod slots;
 
@@ -17,6 +18,7 @@ fn main() {
     bursts::bench();
     erp2::bench();
     archive::bench();
+    reports::bench();
 }
 
 /// Nanoseconds a call: the best of many rounds of `calls` calls.

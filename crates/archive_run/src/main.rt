@@ -1,5 +1,7 @@
 // Puts archives through the calls of standard input, a long record each, and prints what each answers: stdout is what the second
 // program says (tests/reference/README.md has the format).
+mod reports;
+
 use archive::Found;
 use archive::Opened;
 use archive::Outcome;
@@ -7,6 +9,7 @@ use archive::RowAt;
 use archive::Scan;
 use archive::Stage;
 use archive::Taken;
+use report::Report;
 ghost use mathlib.Core.Path.{_≡_};
 ghost use Prim.Native.Nat.{_≤_, _<_, min};
 ghost use lib.ListN.{length};
@@ -36,12 +39,14 @@ fn run(buffer: &mut [u8])
 fn calls(buffer: &mut [u8], out: &mut [u8], list: &mut [u64], most: u64)
     requires { ⌜ (length (now buffer) ≡ 24576) × (length (now out) ≡ 24576) × (length (now list) ≡ 64) ⌝ }
 {
+    let mut report = Report::empty();
     let mut n: usize = 0;
     let mut left = most;
     while 0 < left {
         left -= 1;
-        let next = called(buffer, n, out, list);
+        let next = called(buffer, n, out, list, report);
         n = next.len;
+        report = next.report;
         if !next.more {
             left = 0;
         }
@@ -63,14 +68,15 @@ fn next_input() -> Input {
     }
 }
 
-// How long the archive's buffer is after a call, and whether there was one.
+// How long the archive's buffer is after a call, whether there was one, and the report.
 struct Next {
     len: usize,
     more: bool,
+    report: Report,
 }
 
-// The next call, if there is one, on the first `n` bytes of the buffer, and on the output and the list of salvage.
-fn called(buffer: &mut [u8], n: usize, out: &mut [u8], list: &mut [u64]) -> Next
+// The next call, if there is one, on the first `n` bytes of the buffer, on the output and the list of salvage, and on the report.
+fn called(buffer: &mut [u8], n: usize, out: &mut [u8], list: &mut [u64], report: Report) -> Next
     requires { ⌜ (length (now buffer) ≡ 24576) × (n ≤ 24576) × (length (now out) ≡ 24576) × (length (now list) ≡ 64) ⌝ }
     ensures { λ c. ⌜ c .len ≤ 24576 ⌝ }
 {
@@ -79,12 +85,21 @@ fn called(buffer: &mut [u8], n: usize, out: &mut [u8], list: &mut [u64]) -> Next
         return Next {
             len: n,
             more: false,
+            report,
         };
     }
     let r = input.bytes;
+    if reports::is_call(r[0]) {
+        return Next {
+            len: n,
+            more: true,
+            report: reports::call(&buffer[0..n], report, &r),
+        };
+    }
     Next {
         len: made(buffer, n, out, list, &r),
         more: true,
+        report,
     }
 }
 
@@ -326,7 +341,7 @@ fn put_list(list: &[u64]) {
 
 // ---- what is printed of them
 
-fn put_outcome(answer: Outcome) {
+pub(crate) fn put_outcome(answer: Outcome) {
     match answer {
         Outcome::Done => test_io::text(b"0 0"),
         Outcome::Damaged(k) => put_two(12, k),
@@ -345,7 +360,7 @@ fn put_three(number: u8, position: usize, rows: usize) {
     test_io::text(b"\n");
 }
 
-fn put_number(n: u64) {
+pub(crate) fn put_number(n: u64) {
     test_io::text(b" ");
     test_io::decimal(n);
 }
@@ -360,7 +375,7 @@ fn bit(b: bool) -> u64 {
 // ---- numbers of records
 
 // A number of a record, or the bound where it is greater.
-fn least(x: u64, bound: usize) -> usize
+pub(crate) fn least(x: u64, bound: usize) -> usize
     ensures { λ r. ⌜ r ≤ bound ⌝ }
 {
     let n = x as usize;

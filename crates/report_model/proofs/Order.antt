@@ -1,12 +1,13 @@
 -- The order in which rows and archives are taken changes nothing (document 02, A12).
---     insert-comm        two lines are inserted in either order
---     rows-perm          rows in another order give the same lines
+--     insert-cases                        where a line goes
+--     insert-comm                         two lines are inserted in either order
+--     add-insert, add-comm-rows           rows and a line, and rows and rows
+--     add-append, add-first, add-none     rows put together, one row more, and none
 -- Assumes nothing.
-use Prim.Native.Nat.{ℕ, _+_, _<_, _≤_, min, max}
-use mathlib.Core.Path.{_≡_, refl, sym, ap, _∙_}
-use mathlib.Core.List.{List, [], _∷_, _++_, List·Permᴰ, List·Permᴰ·nil, List·Permᴰ·cons, List·Permᴰ·swap, List·Permᴰ·trans}
+use Prim.Native.Nat.{ℕ, _<_, _≤_}
+use mathlib.Core.Path.{_≡_, refl, sym, ap, _∙_, subst}
+use mathlib.Core.List.{List, [], _∷_, _++_}
 use native.Mathlib.Omega.{arith}
-use native.Mathlib.Nat.{add-comm, add-left-comm, min-comm, max-comm}
 use native.Mathlib.Decide.{decLt}
 use borrow.Author.Tests.{lt-ltb, le-ltb, eq-eqb, ne-eqb}
 use Rattle.archive_model.specs.Row.{Row}
@@ -28,36 +29,48 @@ sides x y = elim (decLt x y) [
 ]
 
 module _ (a c : Line) (l : List Line) where
-  insert-before : a .identity < c .identity → insert a (c ∷ l) ≡ a ∷ c ∷ l
+  pub insert-before : a .identity < c .identity → insert a (c ∷ l) ≡ a ∷ c ∷ l
   unfolding insert
   insert-before h = rw (lt-ltb (a .identity) (c .identity) h)
 
-  insert-same : a .identity ≡ c .identity → insert a (c ∷ l) ≡ joined a c ∷ l
+  pub insert-same : a .identity ≡ c .identity → insert a (c ∷ l) ≡ joined a c ∷ l
   unfolding insert
   insert-same e =
       let h : c .identity ≤ a .identity = omega arith in
       rw (le-ltb (a .identity) (c .identity) h, eq-eqb (a .identity) (c .identity) e)
 
-  insert-after : c .identity < a .identity → insert a (c ∷ l) ≡ c ∷ insert a l
+  pub insert-after : c .identity < a .identity → insert a (c ∷ l) ≡ c ∷ insert a l
   unfolding insert
   insert-after h =
       let k : c .identity ≤ a .identity = omega arith in
       let n : a .identity ≡ c .identity → ⊥ = λ e. omega arith in
       rw (le-ltb (a .identity) (c .identity) k, ne-eqb (a .identity) (c .identity) n)
 
+-- what holds of a line inserted, by where it goes
+pub insert-cases : (P : List Line → Type 0) (a c : Line) (l : List Line) → (a .identity < c .identity → P (a ∷ c ∷ l)) → (a .identity ≡ c .identity → P (joined a c ∷ l))
+    → (c .identity < a .identity → P (c ∷ insert a l)) → P (insert a (c ∷ l))
+insert-cases P a c l f g h = go (sides (a .identity) (c .identity))
+  where
+    go : Sides (a .identity) (c .identity) → P (insert a (c ∷ l))
+    go (before k) = subst P (sym (insert-before a c l k)) (f k)
+    go (same k) = subst P (sym (insert-same a c l k)) (g k)
+    go (after k) = subst P (sym (insert-after a c l k)) (h k)
+
 joined-comm : (a b : Line) → a .identity ≡ b .identity → joined a b ≡ joined b a
 joined-comm a b e =
-    rw (e, add-comm (a .kept) (b .kept), add-comm (a .loose) (b .loose), min-comm (a .earliest) (b .earliest), max-comm (a .latest) (b .latest))
-
-min-left-comm : (x y z : ℕ) → min x (min y z) ≡ min y (min x z)
-min-left-comm x y z = omega arith
-
-max-left-comm : (x y z : ℕ) → max x (max y z) ≡ max y (max x z)
-max-left-comm x y z = omega arith
+    let k : joined a b .kept ≡ joined b a .kept = omega arith in
+    let l : joined a b .loose ≡ joined b a .loose = omega arith in
+    let s : joined a b .earliest ≡ joined b a .earliest = omega arith in
+    let t : joined a b .latest ≡ joined b a .latest = omega arith in
+    λ i. record { identity = e i; kept = k i; loose = l i; earliest = s i; latest = t i }
 
 joined-left-comm : (a b c : Line) → a .identity ≡ b .identity → joined a (joined b c) ≡ joined b (joined a c)
 joined-left-comm a b c e =
-    rw (e, add-left-comm (a .kept) (b .kept) (c .kept), add-left-comm (a .loose) (b .loose) (c .loose), min-left-comm (a .earliest) (b .earliest) (c .earliest), max-left-comm (a .latest) (b .latest) (c .latest))
+    let k : joined a (joined b c) .kept ≡ joined b (joined a c) .kept = omega arith in
+    let l : joined a (joined b c) .loose ≡ joined b (joined a c) .loose = omega arith in
+    let s : joined a (joined b c) .earliest ≡ joined b (joined a c) .earliest = omega arith in
+    let t : joined a (joined b c) .latest ≡ joined b (joined a c) .latest = omega arith in
+    λ i. record { identity = e i; kept = k i; loose = l i; earliest = s i; latest = t i }
 
 -- both go in front of what follows
 fronts : (a b : Line) (l : List Line) → Sides (a .identity) (b .identity) → insert a l ≡ a ∷ l → insert b l ≡ b ∷ l → insert a (b ∷ l) ≡ insert b (a ∷ l)
@@ -102,22 +115,36 @@ step a b c l (after h) (after k) i =
     ap (insert a) (insert-after b c l k) ∙ insert-after a c (insert b l) h ∙ ap (λ (m : List Line). c ∷ m) i
     ∙ sym (insert-after b c (insert a l) k) ∙ ap (insert b) (sym (insert-after a c l h))
 
-insert-nil : (a : Line) → insert a [] ≡ a ∷ []
+pub insert-nil : (a : Line) → insert a [] ≡ a ∷ []
 unfolding insert
 insert-nil a = refl
 
-pub insert-comm : (a b : Line) (l : List Line) → insert a (insert b l) ≡ insert b (insert a l)
+insert-comm : (a b : Line) (l : List Line) → insert a (insert b l) ≡ insert b (insert a l)
 insert-comm a b [] =
     ap (insert a) (insert-nil b) ∙ fronts a b [] (sides (a .identity) (b .identity)) (insert-nil a) (insert-nil b) ∙ ap (insert b) (sym (insert-nil a))
 insert-comm a b (c ∷ l) = step a b c l (sides (a .identity) (c .identity)) (sides (b .identity) (c .identity)) (insert-comm a b l)
 
--- rows in another order give the same lines
-pub rows-perm : {xs ys : List Row} → List·Permᴰ xs ys → (lines : List Line) → addRows xs lines ≡ addRows ys lines
+-- rows and a line, and rows and rows, in either order
+pub add-insert : (rows : List Row) (a : Line) (lines : List Line) → addRows rows (insert a lines) ≡ insert a (addRows rows lines)
 unfolding addRows
-rows-perm List·Permᴰ·nil lines = refl
-rows-perm (List·Permᴰ·cons {b = y} {l₁ = l₁} e p) lines = ap (λ (r : Row). addRows l₁ (insert (lineOf r) lines)) e ∙ rows-perm p (insert (lineOf y) lines)
-rows-perm (List·Permᴰ·swap {a = x} {b = y} {b′ = x′} {l = l} e f) lines =
-    ap (addRows l) (insert-comm (lineOf y) (lineOf x) lines)
-    ∙ ap (λ (r : Row). addRows l (insert (lineOf r) (insert (lineOf y) lines))) e
-    ∙ ap (λ (r : Row). addRows l (insert (lineOf x′) (insert (lineOf r) lines))) f
-rows-perm (List·Permᴰ·trans p q) lines = rows-perm p lines ∙ rows-perm q lines
+add-insert [] a lines = refl
+add-insert (r ∷ rows) a lines = ap (addRows rows) (insert-comm (lineOf r) a lines) ∙ add-insert rows a (insert (lineOf r) lines)
+
+pub add-comm-rows : (xs ys : List Row) (lines : List Line) → addRows xs (addRows ys lines) ≡ addRows ys (addRows xs lines)
+unfolding addRows
+add-comm-rows [] ys lines = refl
+add-comm-rows (r ∷ xs) ys lines = ap (addRows xs) (sym (add-insert ys (lineOf r) lines)) ∙ add-comm-rows xs ys (insert (lineOf r) lines)
+
+pub add-append : (xs ys : List Row) (lines : List Line) → addRows (xs ++ ys) lines ≡ addRows ys (addRows xs lines)
+unfolding addRows
+add-append [] ys lines = refl
+add-append (r ∷ xs) ys lines = add-append xs ys (insert (lineOf r) lines)
+
+-- the last row first
+pub add-first : (r : Row) (rows : List Row) (lines : List Line) → addRows (r ∷ rows) lines ≡ insert (lineOf r) (addRows rows lines)
+unfolding addRows
+add-first r rows lines = add-insert rows (lineOf r) lines
+
+pub add-none : (lines : List Line) → addRows [] lines ≡ lines
+unfolding addRows
+add-none lines = refl

@@ -1,17 +1,18 @@
--- The yearly sheet (document 02, A12): what a report says, and taking an archive into it. Assumes nothing.
-use Prim.Native.Nat.{ℕ, suc, _+_, _*_, _/_, _^_, min, max}
+-- The yearly sheet (document 02, A12), here a report: what it says, adding an archive, and its share of receptions. Assumes nothing.
+use Prim.Native.Nat.{ℕ, _+_, _*_, _/_, _^_, min, max}
 use mathlib.Core.Bool.{Bool, cond, not, _&&_, _||_}
-use mathlib.Core.List.{List, [], _∷_, _++_, map}
+use mathlib.Core.List.{List, [], _∷_}
 use lib.Dec.{ltb, leb, eqb}
-use lib.ListN.{length}
+use lib.ListN.{length, getD}
 use Rattle.lists.specs.Lists.{all, pairwise, count}
 use Rattle.refusal.specs.Number.{numberOf}
-use Rattle.refusal.specs.declared.Refusal.the-variants.{Argument, NotAccepted}
+use Rattle.refusal.specs.declared.Refusal.the-variants.{Argument, NotAccepted, Transmitters}
 use Rattle.archive_model.specs.Row.{Row}
 use Rattle.archive_model.specs.Buffer.{maxRows, rowsIn}
 use Rattle.archive_model.specs.Append.{verdict}
 use Rattle.archive_model.specs.Identity.{identityOf}
 
+-- "for each of at most 256 transmitters the KEPT and LOOSE rows and the earliest and latest time"
 pub record Line : Type 0 where
   pub identity : ℕ
   pub kept : ℕ
@@ -19,12 +20,14 @@ pub record Line : Type 0 where
   pub earliest : ℕ
   pub latest : ℕ
 
+-- how many archives were added, the lines, and the grand totals
 pub record Report : Type 0 where
   pub archives : ℕ
   pub lines : List Line
   pub kept : ℕ
   pub loose : ℕ
 
+-- "over up to 64 archives", "at most 256 transmitters"
 abbrev pub maxArchives : ℕ
 maxArchives = 64
 
@@ -36,9 +39,11 @@ emptyReport = record { archives = 0; lines = []; kept = 0; loose = 0 }
 
 -- ---- one row more
 
+-- what one row gives
 abbrev pub lineOf : Row → Line
 lineOf r = record { identity = identityOf r; kept = cond (r .loose) 0 1; loose = cond (r .loose) 1 0; earliest = r .time; latest = r .time }
 
+-- two lines of one transmitter
 abbrev pub joined : Line → Line → Line
 joined a b = record {
   identity = a .identity;
@@ -48,7 +53,7 @@ joined a b = record {
   latest = max (a .latest) (b .latest);
 }
 
--- in order of identity, a line of the same identity joined
+-- "ordered by identity", a line of the same identity joined
 unfoldable pub insert : Line → List Line → List Line
 insert a [] = a ∷ []
 insert a (b ∷ lines) =
@@ -60,17 +65,19 @@ unfoldable pub addRows : List Row → List Line → List Line
 addRows [] lines = lines
 addRows (r ∷ rows) lines = addRows rows (insert (lineOf r) lines)
 
+-- "the KEPT and LOOSE rows"
 abbrev pub looseIn : List Row → ℕ
 looseIn rows = count (λ r. r .loose) rows
 
 abbrev pub keptIn : List Row → ℕ
 keptIn rows = count (λ r. not (r .loose)) rows
 
--- ---- what some archives give: 11 for any other
+-- ---- what some archives give: 11 for any other (that it is just this is `Sound` and `Complete` of Claims.antt)
 
 abbrev pub rowsOfLine : Line → ℕ
 rowsOfLine a = a .kept + a .loose
 
+-- a transmitter has a row, and one row has one time
 abbrev pub isLine : Line → Bool
 isLine a =
     ltb (a .identity) (2 ^ 32)
@@ -79,49 +86,79 @@ isLine a =
     && (ltb (a .latest) (2 ^ 64)
     && (ltb 1 (rowsOfLine a) || eqb (a .earliest) (a .latest)))))
 
+abbrev pub isRising : List Line → Bool
+isRising lines = pairwise (λ a b. ltb (a .identity) (b .identity)) lines
+
 abbrev pub sumOf : (Line → ℕ) → List Line → ℕ
 sumOf f [] = 0
 sumOf f (a ∷ lines) = f a + sumOf f lines
 
+-- lines in order, and their sums
+unfoldable pub isTally : List Line → ℕ → ℕ → Bool
+isTally lines kept loose =
+    all isLine lines
+    && (isRising lines
+    && (eqb kept (sumOf (λ a. a .kept) lines)
+    && eqb loose (sumOf (λ a. a .loose) lines)))
+
+-- few archives hold few rows
 unfoldable pub isReport : Report → Bool
 isReport s =
     leb (s .archives) maxArchives
     && (leb (length (s .lines)) maxLines
-    && (all isLine (s .lines)
-    && (pairwise (λ a b. ltb (a .identity) (b .identity)) (s .lines)
-    && (eqb (s .kept) (sumOf (λ a. a .kept) (s .lines))
-    && (eqb (s .loose) (sumOf (λ a. a .loose) (s .lines))
-    && leb (s .kept + s .loose) (maxRows * s .archives))))))
+    && (leb (s .kept + s .loose) (maxRows * s .archives)
+    && isTally (s .lines) (s .kept) (s .loose)))
 
 -- ---- the calls
 
-pub record Taken : Type 0 where
+-- the number, the position beside 12, and the report afterwards
+pub record Addition : Type 0 where
   pub number : ℕ
   pub position : ℕ
   pub next : Report
 
-abbrev pub kept-as : ℕ → ℕ → Report → Taken
-kept-as number position s = record { number = number; position = position; next = s }
+abbrev pub answer : ℕ → ℕ → Report → Addition
+answer number position next = record { number = number; position = position; next = next }
 
-unfoldable pub takeOf : Report → List ℕ → Taken
-takeOf s buffer =
-    cond (not (isReport s)) (kept-as (numberOf NotAccepted) 0 s)
-    (cond (not (eqb (verdict buffer .number) 0)) (kept-as (verdict buffer .number) (verdict buffer .position) s)
-    (cond (eqb (s .archives) maxArchives) (kept-as (numberOf Argument) 0 s)
-    (cond (ltb maxLines (length (addRows (rowsIn buffer) (s .lines)))) (kept-as 17 0 s)
-    (kept-as 0 0 (record {
-      archives = s .archives + 1;
-      lines = addRows (rowsIn buffer) (s .lines);
-      kept = s .kept + keptIn (rowsIn buffer);
-      loose = s .loose + looseIn (rowsIn buffer);
-    })))))
+-- a report with the rows of one archive more
+unfoldable pub added : Report → List Row → Report
+added s rows = record {
+  archives = s .archives + 1;
+  lines = addRows rows (s .lines);
+  kept = s .kept + keptIn rows;
+  loose = s .loose + looseIn rows;
+}
+
+-- 11, 16, 12, 10 for a 65th archive, 17 for a 257th transmitter; "a refused archive adds nothing"
+unfoldable pub addOf : Report → List ℕ → Addition
+addOf s buffer =
+    cond (not (isReport s)) (answer (numberOf NotAccepted) 0 s)
+    (cond (not (eqb (verdict buffer .number) 0)) (answer (verdict buffer .number) (verdict buffer .position) s)
+    (cond (leb maxArchives (s .archives)) (answer (numberOf Argument) 0 s)
+    (cond (ltb maxLines (length (addRows (rowsIn buffer) (s .lines)))) (answer (numberOf Transmitters) 0 s)
+    (answer 0 0 (added s (rowsIn buffer))))))
 
 pub record Share : Type 0 where
   pub number : ℕ
   pub thousandths : ℕ
 
+-- "the share of its rows in receptions, in whole thousandths rounded down": 11, then 10 for a received figure of 0 or less than the rows
 unfoldable pub shareOf : Report → ℕ → Share
 shareOf s received =
     cond (not (isReport s)) (record { number = numberOf NotAccepted; thousandths = 0 })
     (cond (eqb received 0 || ltb received (s .kept + s .loose)) (record { number = numberOf Argument; thousandths = 0 })
     (record { number = 0; thousandths = 1000 * (s .kept + s .loose) / received }))
+
+-- line i, from 0: 11, then 10 where there is none
+pub record LineAnswer : Type 0 where
+  pub number : ℕ
+  pub line : Line
+
+abbrev pub noLine : Line
+noLine = record { identity = 0; kept = 0; loose = 0; earliest = 0; latest = 0 }
+
+unfoldable pub lineOfReport : Report → ℕ → LineAnswer
+lineOfReport s i =
+    cond (not (isReport s)) (record { number = numberOf NotAccepted; line = noLine })
+    (cond (leb (length (s .lines)) i) (record { number = numberOf Argument; line = noLine })
+    (record { number = 0; line = getD (s .lines) i noLine }))

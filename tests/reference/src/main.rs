@@ -19,6 +19,8 @@ mod random;
 mod repack;
 mod repack_calls;
 mod repeater;
+mod report;
+mod report_calls;
 mod rules;
 mod sample;
 mod scenarios;
@@ -35,6 +37,8 @@ mod cases;
 mod faults;
 #[cfg(test)]
 mod repack_faults;
+#[cfg(test)]
+mod report_faults;
 #[cfg(test)]
 mod sameness;
 
@@ -65,8 +69,8 @@ fn main() {
         }
         ["erp2", "stdin"] => erp2_records::stdin().into_bytes(),
         ["erp2", "stdout"] => erp2_records::stdout().into_bytes(),
-        ["archive", "stdin"] => archive_calls::stdin().into_bytes(),
-        ["archive", "stdout"] => archive_calls::stdout().into_bytes(),
+        ["archive", "stdin"] => (archive_calls::stdin() + &report_calls::stdin()).into_bytes(),
+        ["archive", "stdout"] => (archive_calls::stdout() + &report_calls::stdout()).into_bytes(),
         ["history", "stdin"] => history::stdin().into_bytes(),
         ["history", "stdout"] => history::stdout().into_bytes(),
         ["long", "stdin"] => history::text(&scenarios::long_calls()).into_bytes(),

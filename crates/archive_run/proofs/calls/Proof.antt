@@ -8,11 +8,11 @@ use Rattle.archive_run.proofs.calls.Statement.{statement}
 use Rattle.archive_run.proofs.calls.Tie as tie
 
 abbrev Inv-loop : tie.InvT-loop
-Inv-loop buffer₀ out₀ list₀ most n₀ left₀ buffer out list n left =
+Inv-loop buffer₀ out₀ list₀ most report₀ n₀ left₀ buffer out list report n left =
     (length buffer ≡ length buffer₀) × (length out ≡ length out₀) × (length list ≡ length list₀) × (n ≤ 24576)
 
 abbrev μ-loop : tie.MeasureT-loop
-μ-loop buffer₀ out₀ list₀ most n₀ left₀ buffer out list n left = left
+μ-loop buffer₀ out₀ list₀ most report₀ n₀ left₀ buffer out list report n left = left
 
 pub calls-spec : {M : Type 1} → statement M
 calls-spec =
@@ -20,6 +20,7 @@ calls-spec =
     (tie.spec
     Inv-loop
     μ-loop
+    (λ c κs. search needs)
     (λ c. (refl, refl, refl, omega arith))
     (λ c. omega arith)
     (λ c κs. (omega arith, omega arith, omega arith, omega arith))

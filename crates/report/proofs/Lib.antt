@@ -1,0 +1,5 @@
+pub mod Windows
+pub mod Places
+pub mod Testing
+pub mod Blocks
+pub mod Calls

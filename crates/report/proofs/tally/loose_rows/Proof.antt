@@ -1,0 +1,77 @@
+-- `report::tally::loose_rows` meets its contract. The invariant: those counted and those left are all; the measure: the rows left.
+-- Assumes nothing.
+use native.Mathlib.Omega.{arith}
+use borrow.Author.Needs.{needs}
+use denote.Ref.{now}
+use mathlib.Core.Path.{_≡_, ap, _∙_}
+use mathlib.Core.Bool.{Bool, true, false, cond}
+use mathlib.Core.List.{List}
+use Prim.Native.Nat.{ℕ, _+_, _-_, _*_, _≤_}
+use Rattle.layout.specs.Block.{blockCell}
+use Rattle.layout.specs.Cell.{cellLength}
+use Rattle.layout.specs.Header.{headerLength}
+use Rattle.layout.proofs.Segments.{part-ends}
+use Rattle.archive_model.specs.Row.{rowIn}
+use Rattle.report_model.specs.Report.{looseIn}
+use Rattle.report.specs.Lines.{rowsBetween}
+use Rattle.report.proofs.Blocks.{loose-first, loose-next, loose-end, loose-few}
+use Rattle.report.proofs.tally.loose_rows.Statement.{statement}
+use Rattle.report.proofs.tally.loose_rows.Tie as tie
+
+abbrev Inv-loop : tie.InvT-loop
+Inv-loop block used n₀ i₀ n i = (i ≤ used) × (n + looseIn (rowsBetween block i (used - i)) ≡ looseIn (rowsBetween block 0 used))
+
+abbrev μ-loop : tie.MeasureT-loop
+μ-loop block used n₀ i₀ n i = used - i
+
+-- what is counted of row i
+counted : (c : tie.After-one-if Inv-loop μ-loop)
+    → c .one-if .result ≡ cond (rowIn (blockCell (c .before .before .before .before .loop .i) (now (c .before .before .before .before .before .before .args .block))) .loose) 1 0
+counted c =
+    let at = c .before .before .before .before in
+    c .one-if .ensures
+    ∙ ap (λ (b : Bool). cond b 1 0) (c .before .is-loose .ensures ∙ ap (λ (l : List ℕ). rowIn l .loose) (part-ends (headerLength + cellLength * at .loop .i) cellLength (now (at .before .before .args .block))))
+
+one-le : (b : Bool) → cond b 1 0 ≤ 1
+one-le true = omega arith
+one-le false = omega arith
+
+add-n : tie.Need-add-n Inv-loop μ-loop
+add-n c =
+    let at = c .before .before .before .before in
+    let s = at .before .before in
+    omega (arith, at .loop .inv .1, loose-few (now (s .args .block)) 0 (s .args .used), s .pre .1, c .one-if .ensures, one-le (c .before .is-loose .result))
+
+loop-again : tie.Need-loop-again Inv-loop μ-loop
+loop-again c =
+    let d = c .before .before .before in
+    let at = d .before in
+    let s = at .before .before in
+    (omega (arith, d .loop-test .taken), omega (arith, at .loop .inv .1, loose-next (now (s .args .block)) (s .args .used) (at .loop .i) (d .loop-test .taken), counted c))
+
+returns : tie.Need-returns Inv-loop μ-loop
+returns c =
+    let at = c .before in
+    let s = at .before .before in
+    omega (arith, at .loop .inv .1, loose-end (now (s .args .block)) (s .args .used) (at .loop .i) (c .loop-test .left))
+
+pub loose-rows-spec : {M : Type 1} → statement M
+loose-rows-spec =
+    tie.close
+    (tie.spec
+    Inv-loop
+    μ-loop
+    (λ c. (omega arith, loose-first (now (c .before .args .block)) (c .before .args .used)))
+    (λ c. omega arith)
+    (λ c. omega arith)
+    (λ c. omega arith)
+    (λ c. omega arith)
+    (λ c. omega arith)
+    (λ c. omega arith)
+    (λ c κs. search needs)
+    (λ c κs. search needs)
+    add-n
+    (λ c. omega arith)
+    (λ c. omega arith)
+    loop-again
+    returns)

@@ -1,0 +1,238 @@
+// The yearly report (document 02, A12): archives are added, lines read, and the share of its rows in receptions worked out.
+mod lines;
+mod tally;
+
+use archive::Outcome;
+use archive::Scan;
+use archive::Stage;
+use refusal::Refusal;
+use tally::Tally;
+ghost use mathlib.Core.Path.{_≡_};
+ghost use lib.ListN.{length};
+ghost use Rattle.report_model.specs.Report as model;
+ghost use Rattle.archive_model.specs.Buffer.{None};
+ghost use Rattle.report_model.specs.Pieces.{closed, closing};
+ghost use Rattle.report.specs.Lines.{linesLength};
+ghost use Rattle.report.specs.Report.{reportOf, addedResult, shareResult, lineResult, tallyOf, keptWith, noLineFor, Starts};
+
+// The numbers of a line.
+pub(crate) const LINE_LENGTH: usize = 5;
+
+// What the archives added so far hold: how many they are, how many lines there are, the grand totals, and the lines, five numbers each.
+pub struct Report {
+    pub archives: usize,
+    pub count: usize,
+    pub kept: u64,
+    pub loose: u64,
+    pub lines: [u64; Report::MAX_LINES * LINE_LENGTH],
+}
+
+// The report after an archive, or beside a refusal the one that was handed in.
+pub struct Added {
+    pub next: Report,
+    pub answer: Outcome,
+}
+
+// The share of a report's rows in receptions, in whole thousandths.
+pub enum Share {
+    PerMille(u64),
+    Refused(Refusal),
+}
+
+// Whether there is such a line.
+pub enum Looked {
+    Line,
+    Refused(Refusal),
+}
+
+// A line of a report.
+pub struct LineAt {
+    pub answer: Looked,
+    pub identity: u64,
+    pub kept: u64,
+    pub loose: u64,
+    pub earliest: u64,
+    pub latest: u64,
+}
+
+impl Report {
+    pub const MAX_ARCHIVES: usize = 64;
+
+    pub const MAX_LINES: usize = 256;
+
+    // Before the first archive.
+    pub fn empty() -> Report
+        ensures { λ r. ⌜ reportOf r ≡ model.emptyReport ⌝ }
+    {
+        Report {
+            archives: 0,
+            count: 0,
+            kept: 0,
+            loose: 0,
+            lines: no_lines(),
+        }
+    }
+
+    // Adds the rows of an archive. Refused: 11 for a report that no archives give, 16, 12 with the position, 10 for a 65th archive, 17 for a 257th
+    // transmitter; then the report is as it was.
+    pub fn add(self, buffer: &[u8]) -> Added
+        ensures { λ r. ⌜ addedResult r ≡ model.addOf (reportOf self) (now (buffer .entry)) ⌝ }
+    {
+        if !is_report(self) {
+            return kept(self, Refusal::NotAccepted);
+        }
+        if !archive::is_whole(buffer.len()) {
+            return kept(self, Refusal::Size);
+        }
+        let mut lines = self.lines;
+        let t = tally::add_blocks(&mut lines, start(self.count, self.kept, self.loose), buffer);
+        close(self, t, lines)
+    }
+
+    // Line `i`, in order of identity. Refused: 11, then 10 where there is no line i.
+    pub fn line(self, i: usize) -> LineAt
+        ensures { λ r. ⌜ lineResult r ≡ model.lineOfReport (reportOf self) i ⌝ }
+    {
+        if !is_report(self) {
+            return no_line(Refusal::NotAccepted);
+        }
+        if self.count <= i {
+            return no_line(Refusal::Argument);
+        }
+        let lines = self.lines;
+        let at = LINE_LENGTH * i;
+        LineAt {
+            answer: Looked::Line,
+            identity: lines[at],
+            kept: lines[at + 1],
+            loose: lines[at + 2],
+            earliest: lines[at + 3],
+            latest: lines[at + 4],
+        }
+    }
+
+    // The share of its rows in a received figure, in whole thousandths rounded down. Refused: 11, then 10 for a figure of 0 or less than the rows.
+    pub fn share(self, received: u64) -> Share
+        ensures { λ r. ⌜ shareResult r ≡ model.shareOf (reportOf self) received ⌝ }
+    {
+        if !is_report(self) {
+            return Share::Refused(Refusal::NotAccepted);
+        }
+        let rows = self.kept + self.loose;
+        if received == 0 {
+            return Share::Refused(Refusal::Argument);
+        }
+        if received < rows {
+            return Share::Refused(Refusal::Argument);
+        }
+        Share::PerMille(1000 * rows / received)
+    }
+}
+
+// No line.
+fn no_lines() -> [u64; Report::MAX_LINES * LINE_LENGTH]
+    ensures { λ r. ⌜ length r ≡ linesLength ⌝ }
+{
+    [0u64; Report::MAX_LINES * LINE_LENGTH]
+}
+
+// Whether some archives give this report.
+fn is_report(report: Report) -> bool
+    ensures { λ r. ⌜ r ≡ model.isReport (reportOf report) ⌝ }
+{
+    let archives = report.archives;
+    let count = report.count;
+    let kept = report.kept;
+    let loose = report.loose;
+    if Report::MAX_ARCHIVES < archives {
+        return false;
+    }
+    if Report::MAX_LINES < count {
+        return false;
+    }
+    let most = (archive::MAX_ROWS * archives) as u64;
+    if most < kept {
+        return false;
+    }
+    if most - kept < loose {
+        return false;
+    }
+    lines::are_lines(&report.lines, count, kept, loose)
+}
+
+// The report stays as it was.
+fn kept(s: Report, why: Refusal) -> Added
+    ensures { λ r. ⌜ addedResult r ≡ keptWith s why ⌝ }
+{
+    Added {
+        next: s,
+        answer: Outcome::Refused(why),
+    }
+}
+
+// No line, and why.
+fn no_line(why: Refusal) -> LineAt
+    ensures { λ r. ⌜ lineResult r ≡ noLineFor why ⌝ }
+{
+    LineAt {
+        answer: Looked::Refused(why),
+        identity: 0,
+        kept: 0,
+        loose: 0,
+        earliest: 0,
+        latest: 0,
+    }
+}
+
+// Before the first block.
+fn start(count: usize, kept: u64, loose: u64) -> Tally
+    ensures { λ r. ⌜ Starts count kept loose r ⌝ }
+{
+    Tally {
+        scan: Scan::start(),
+        count,
+        kept,
+        loose,
+        over: false,
+    }
+}
+
+// What a report is after all blocks.
+fn close(before: Report, t: Tally, lines: [u64; Report::MAX_LINES * LINE_LENGTH]) -> Added
+    ensures { λ r. ⌜ addedResult r ≡ closing (reportOf before) (tallyOf t lines) ⌝ }
+{
+    let scan = t.scan;
+    let stage = scan.stage;
+    match stage {
+        Stage::Filling => sum_up(before, t, lines),
+        Stage::Short => sum_up(before, t, lines),
+        Stage::Ended => sum_up(before, t, lines),
+        Stage::Wrong(k) => Added {
+            next: before,
+            answer: Outcome::Damaged(k),
+        },
+    }
+}
+
+// The same where every block matches.
+fn sum_up(before: Report, t: Tally, lines: [u64; Report::MAX_LINES * LINE_LENGTH]) -> Added
+    ensures { λ r. ⌜ addedResult r ≡ closed (reportOf before) (tallyOf t lines) None ⌝ }
+{
+    let archives = before.archives;
+    if Report::MAX_ARCHIVES <= archives {
+        return kept(before, Refusal::Argument);
+    }
+    if t.over {
+        return kept(before, Refusal::Transmitters);
+    }
+    Added {
+        next: Report {
+            archives: archives + 1,
+            count: t.count,
+            kept: t.kept,
+            loose: t.loose,
+            lines,
+        },
+        answer: Outcome::Done,
+    }
+}

@@ -1,0 +1,23 @@
+// Reports for C and Rust, on plain numbers and bytes: for the benchmark.
+use archive::Outcome;
+use report::Report;
+
+// An archive added to an empty report: the number of the answer in the highest byte, then the lines in two bytes, and the rows below.
+#[no_mangle]
+pub extern "C" fn report_bench_add(buffer: &[u8]) -> u64 {
+    let r = Report::empty().add(buffer);
+    let answer = r.answer;
+    let next = r.next;
+    match answer {
+        Outcome::Done => packed(0, next.count, next.kept, next.loose),
+        Outcome::Damaged(_) => packed(12, 0, 0, 0),
+        Outcome::Refused(why) => packed(refusal::number(why), 0, 0, 0),
+    }
+}
+
+fn packed(number: u8, lines: usize, kept: u64, loose: u64) -> u64 {
+    let rows = kept % 1_099_511_627_776 + loose % 1_099_511_627_776;
+    number as u64 * 72_057_594_037_927_936
+        + lines as u64 % 65_536 * 1_099_511_627_776
+        + rows % 1_099_511_627_776
+}
