@@ -1,6 +1,7 @@
 //! The proved code against hand-written Rust of the same job: same input, one run, answers compared before they are timed.
 use std::time::Instant;
 
+mod archive;
 mod collector;
 mod crc8;
 mod slots;
@@ -9,6 +10,7 @@ fn main() {
     crc8::bench();
     slots::bench();
     collector::bench();
+    archive::bench();
 }
 
 /// Nanoseconds a call: the best of many rounds of `calls` calls.

@@ -129,7 +129,7 @@ fn call(buffer: &mut [u8], r: &[u8])
 
 // ---- the calls
 
-// A buffer of zeros.
+// A buffer of zeros of the length asked for.
 fn fresh(buffer: &mut [u8], number: u64) -> usize
     requires { ⌜ length (now buffer) ≡ 24576 ⌝ }
     ensures { λ k. ⌜ k ≤ 24576 ⌝ }

@@ -2055,7 +2055,7 @@ const TABLES: [u8; 2048] = [
     238,
     253,
     200,
-    219,
+    219, // 255 times x^64
 ];
 
 // The CRC of all of `bytes`, eight at a time: for long inputs, as the tables are copied once a call.

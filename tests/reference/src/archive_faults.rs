@@ -117,9 +117,7 @@ impl Archive for OnePass {
                 if self.has("nothing looked at behind the end") {
                     break;
                 }
-            } else if ended {
-                return Err((MISMATCH, k));
-            } else if short && self.has("the block after the short one") {
+            } else if ended || short && self.has("the block after the short one") {
                 return Err((MISMATCH, k));
             } else if short && !self.has("short blocks anywhere") {
                 return Err((MISMATCH, k - 1));
