@@ -24,31 +24,31 @@ use Rattle.layout.proofs.Segments.{Begun}
 use Rattle.archive_model.specs.Row.{Row}
 use Rattle.archive_model.specs.Buffer.{archiveOf, bufferOf, isWhole}
 use Rattle.repack_model.specs.Repack.{isListed, others, soundRows, dropped, fronted, Salvaged, salvageOf}
-use Rattle.repack_model.specs.Packer.{Packing, startPacking, fullLength, cellsBlock, pushedBlocks, pushed, lastBlock, keptCells}
+use Rattle.repack_model.specs.Packer.{Packing, startPacking, fullLength, cellsBlock, pushedBlocks, pushed, lastBlock, keptCells, pendingLength, packing}
 use Rattle.repack_model.proofs.Packing.{cells-block-length, cells-length}
 use Rattle.repack_model.proofs.Rows.{sound-rows-fit, sound-rows-few}
 use Rattle.repack_model.proofs.Salvage.{salvaged-length}
 use Rattle.repack_model.proofs.Removal.{fits-keep}
 use Rattle.repack_model.proofs.Pieces.{packed-archive}
-use Rattle.repack.specs.Calls.{pendingLength, packing, closed}
+use Rattle.repack.specs.Calls.{closed}
 
 module _ (next used : ℕ) (pending : List ℕ) (l : length pending ≡ pendingLength) (few : used < cellsPerBlock) where
   waiting-long : length (take (cellLength * used) pending) ≡ cellLength * used
   waiting-long = length-take (cellLength * used) pending ∙ omega arith
 
-  last-none : used ≡ 0 → lastBlock (packing next used pending) ≡ []
+  pub last-none : used ≡ 0 → lastBlock (packing next used pending) ≡ []
   unfolding lastBlock
   last-none z =
       let e : length (take (cellLength * used) pending) ≡ 0 = waiting-long ∙ omega arith in
       rw (eq-eqb _ 0 e)
 
-  last-some : (used ≡ 0 → ⊥) → lastBlock (packing next used pending) ≡ cellsBlock next (take (cellLength * used) pending)
+  pub last-some : (used ≡ 0 → ⊥) → lastBlock (packing next used pending) ≡ cellsBlock next (take (cellLength * used) pending)
   unfolding lastBlock
   last-some z =
       let e : length (take (cellLength * used) pending) ≡ 0 → ⊥ = λ q. z (omega (arith, waiting-long, q)) in
       rw (ne-eqb _ 0 e)
 
-  last-long : length (cellsBlock next (take (cellLength * used) pending)) ≡ blockLength
+  pub last-long : length (cellsBlock next (take (cellLength * used) pending)) ≡ blockLength
   last-long = cells-block-length next (take (cellLength * used) pending) (omega (arith, waiting-long))
 
   module _ (end : ℕ) (out xs : List ℕ) where

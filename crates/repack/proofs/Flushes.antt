@@ -11,9 +11,9 @@ use lib.Seq.{take-nil, take-take, take-append-le}
 use Rattle.layout.specs.Buffer.{part}
 use Rattle.layout.specs.Cell.{cellLength}
 use Rattle.layout.specs.Block.{cellsPerBlock, blockLength}
-use Rattle.repack_model.specs.Packer.{fullLength, cellsBlock, fullBlocks}
+use Rattle.repack_model.specs.Packer.{fullLength, cellsBlock, fullBlocks, pendingLength}
 use Rattle.repack_model.proofs.Packing.{few-blocks, one-block, cells-block-length}
-use Rattle.repack.specs.Calls.{pendingLength, Flushed}
+use Rattle.repack.specs.Calls.{Flushed}
 
 drop-take : (a n : ℕ) (xs : List ℕ) → drop a (take (a + n) xs) ≡ take n (drop a xs)
 drop-take zero n xs = rw zero-add

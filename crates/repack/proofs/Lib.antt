@@ -2,3 +2,4 @@ pub mod Cells
 pub mod Flushes
 pub mod Walks
 pub mod Closing
+pub mod Packs

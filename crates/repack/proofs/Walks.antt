@@ -31,10 +31,10 @@ use Rattle.archive.specs.Archive.{soundRows, isWritten, cellsFrom, blocksFrom}
 use Rattle.archive.proofs.Scans.{rest-first, sound-le}
 use Rattle.archive.proofs.Tested.{sound-cells}
 use Rattle.repack_model.specs.Repack.{isListed, others, isDropped, dropped, fronted}
-use Rattle.repack_model.specs.Packer.{Packing, fullLength, fullBlocks, pushedBlocks, pushed, cellsOf, keptCells}
+use Rattle.repack_model.specs.Packer.{Packing, fullLength, fullBlocks, pushedBlocks, pushed, cellsOf, keptCells, pendingLength, packing}
 use Rattle.repack_model.proofs.Packing.{few-blocks, one-block, cells-block-length, blocks-append, push-append, push-none}
 use Rattle.repack_model.proofs.Pieces.{keptIn, kept-is, kept-next, kept-none}
-use Rattle.repack.specs.Calls.{pendingLength, packing, areRows, keptCell, keptFrom, Waits, Flushed, Listed, Walked}
+use Rattle.repack.specs.Calls.{areRows, keptCell, keptFrom, Waits, Flushed, Listed, Walked}
 
 -- ---- the cells of one block
 

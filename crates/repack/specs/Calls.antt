@@ -13,8 +13,10 @@ use Rattle.layout.specs.Block.{cellsPerBlock, blockCell, blockLength}
 use Rattle.archive_model.specs.Row.{Row, rowIn, isRow}
 use Rattle.archive.specs.Archive.{takenNumber, cellsFrom}
 use Rattle.repack_model.specs.Repack as model
-use Rattle.repack_model.specs.Packer.{Packing, fullLength, fullBlocks, pushedBlocks, pushed, lastBlock}
+use Rattle.repack_model.specs.Packer.{Packing, Packed, Finished, packing, keptAs, fullLength, fullBlocks, pushedBlocks, pushed, lastBlock}
 use Rattle.repack.specs.declared.Salvaged.{Salvaged}
+use Rattle.repack.specs.declared.Repacked.{Repacked}
+use Rattle.repack.specs.declared.Ended.{Ended}
 use Rattle.repack.specs.declared.Walk.{Walk}
 
 -- ---- what the calls show
@@ -22,15 +24,19 @@ use Rattle.repack.specs.declared.Walk.{Walk}
 abbrev pub salvageResult : Salvaged → List ℕ → List ℕ → model.Salvaged
 salvageResult r output positions = record { number = takenNumber (r .answer); count = r .dropped; rows = r .rows; output = output; positions = positions }
 
+abbrev pub packResult : Repacked → List ℕ → List ℕ → List ℕ → Packed
+packResult r pending output positions = record {
+  number = takenNumber (r .answer);
+  count = r .dropped;
+  next = packing (r .next) (r .used) pending;
+  output = output;
+  positions = positions;
+}
+
+abbrev pub finishResult : Ended → List ℕ → Finished
+finishResult r output = record { number = takenNumber (r .answer); length = r .len; output = output }
+
 -- ---- what private functions say
-
--- bytes for the cells that wait, and for those of one block more
-abbrev pub pendingLength : ℕ
-pendingLength = fullLength + fullLength
-
--- the packing that code holds: the first `used` cells wait
-abbrev pub packing : ℕ → ℕ → List ℕ → Packing
-packing next used pending = record { next = next; waiting = take (cellLength * used) pending }
 
 -- each of the first n cells of a block holds a valid row
 abbrev pub areRows : List ℕ → ℕ → Bool
@@ -80,3 +86,9 @@ abbrev pub NotSalvaged : Refusal → Salvaged → Type 0
 NotSalvaged why r =
     (output positions : List ℕ)
     → salvageResult r output positions ≡ record { number = numberOf why; count = 0; rows = 0; output = output; positions = positions }
+
+-- a piece that is refused
+abbrev pub NotPacked : ℕ → ℕ → Refusal → Repacked → Type 0
+NotPacked used next why r =
+    (pending output positions : List ℕ)
+    → packResult r pending output positions ≡ keptAs (numberOf why) (packing next used pending) output positions

@@ -20,12 +20,16 @@ ghost use Rattle.archive_model.specs.Identity.{identityOf};
 ghost use Rattle.archive.specs.Archive.{soundRows};
 ghost use Rattle.repack_model.specs.Repack as model;
 ghost use Rattle.repack_model.specs.Packer as packer;
-ghost use Rattle.repack.specs.Calls.{salvageResult, pendingLength, packing, areRows, keptCell, keptFrom, Waits, Flushed, HasRoom, Listed, Walked, closed, NotSalvaged};
+ghost use Rattle.repack_model.specs.Packer.{pendingLength, packing};
+ghost use Rattle.repack.specs.Calls.{salvageResult, packResult, finishResult, areRows, keptCell, keptFrom, Waits, Flushed, HasRoom, Listed, Walked, closed, NotSalvaged, NotPacked};
 
-// The bytes of the 15 cells of a block, and of the cells that wait with those of one block more.
+// The most identities of one removal.
+pub const MAX_IDENTITIES: usize = 32;
+
+// The bytes of the 15 cells of a block, and of what a packer is lent: the cells that wait, and those of one block more.
 const FULL_LENGTH: usize = CELL_LENGTH * CELLS_PER_BLOCK;
 
-const PENDING_LENGTH: usize = FULL_LENGTH + FULL_LENGTH;
+pub const PENDING_LENGTH: usize = FULL_LENGTH + FULL_LENGTH;
 
 // The bytes of a block before its CRC.
 const BODY_LENGTH: usize = BLOCK_LENGTH - 1;
@@ -38,6 +42,20 @@ pub struct Salvaged {
     pub answer: Taken,
     pub dropped: usize,
     pub rows: usize,
+}
+
+// What a piece brought a packer to: how many cells wait, the number of the next block, and how many blocks of the piece were dropped.
+pub struct Repacked {
+    pub answer: Taken,
+    pub used: usize,
+    pub next: usize,
+    pub dropped: usize,
+}
+
+// The length of the last block, 512 or 0.
+pub struct Ended {
+    pub answer: Taken,
+    pub len: usize,
 }
 
 // What a walk over blocks leaves: the cells that wait, the number of the next block, and how many blocks were dropped.
@@ -285,5 +303,106 @@ fn not_salvaged(why: Refusal) -> Salvaged
         answer: Taken::Refused(why),
         dropped: 0,
         rows: 0,
+    }
+}
+
+// ---- in pieces
+
+// Whether a packer is lent 960 bytes, fewer than 15 cells wait, and at most 2^32 blocks were packed.
+fn is_packing(pending: &[u8], used: usize, next: usize) -> bool
+    ensures { λ r. ⌜ r ≡ packer.isPacking next used (now (pending .entry)) ⌝ }
+{
+    if pending.len() != PENDING_LENGTH {
+        return false;
+    }
+    if CELLS_PER_BLOCK <= used {
+        return false;
+    }
+    next <= archive::MAX_BLOCKS
+}
+
+// The next piece of an archive that is packed in pieces: what stays of its rows goes behind the `used` cells that wait in `pending`, every 15 into a
+// block of `out`, the first of them block `next`; the positions of the dropped blocks, from the first block of the piece, go to the list. Refused: 11
+// for a packer that no pieces give, 16, 10 for more than 32 identities, 6; then all are as they were.
+pub fn pack(
+    pending: &mut [u8],
+    used: usize,
+    next: usize,
+    piece: &[u8],
+    identities: &[u32],
+    out: &mut [u8],
+    positions: &mut [u64],
+) -> Repacked
+    ensures { λ r. ⌜ packResult r (now (pending .exit)) (now (out .exit)) (now (positions .exit)) ≡ packer.packOf next used (now (pending .entry)) (now (piece .entry)) (now (identities .entry)) (now (out .entry)) (now (positions .entry)) ⌝ }
+{
+    if !is_packing(pending, used, next) {
+        return not_packed(used, next, Refusal::NotAccepted);
+    }
+    if piece.len() % BLOCK_LENGTH != 0 {
+        return not_packed(used, next, Refusal::Size);
+    }
+    if archive::MAX_BLOCKS < next + piece.len() / BLOCK_LENGTH {
+        return not_packed(used, next, Refusal::Size);
+    }
+    if MAX_IDENTITIES < identities.len() {
+        return not_packed(used, next, Refusal::Argument);
+    }
+    if out.len() < piece.len() {
+        return not_packed(used, next, Refusal::ShortOutput);
+    }
+    if !is_listable(piece, positions.len()) {
+        return not_packed(used, next, Refusal::ShortOutput);
+    }
+    let end = pack_blocks(pending, used, next, piece, identities, out, positions);
+    Repacked {
+        answer: Taken::Done,
+        used: end.used,
+        next: end.next,
+        dropped: end.dropped,
+    }
+}
+
+// Nothing was packed, and why.
+fn not_packed(used: usize, next: usize, why: Refusal) -> Repacked
+    ensures { λ r. ⌜ NotPacked used next why r ⌝ }
+{
+    Repacked {
+        answer: Taken::Refused(why),
+        used,
+        next,
+        dropped: 0,
+    }
+}
+
+// The end of pieces: the last block, where cells wait, in the front of `out`, and its length, 512 or 0. Refused: 11, 6 for an output too short.
+pub fn finish(pending: &[u8], used: usize, next: usize, out: &mut [u8]) -> Ended
+    ensures { λ r. ⌜ finishResult r (now (out .exit)) ≡ packer.finishOf next used (now (pending .entry)) (now (out .entry)) ⌝ }
+{
+    if !is_packing(pending, used, next) {
+        return Ended {
+            answer: Taken::Refused(Refusal::NotAccepted),
+            len: 0,
+        };
+    }
+    if used == 0 {
+        return Ended {
+            answer: Taken::Done,
+            len: 0,
+        };
+    }
+    if out.len() < BLOCK_LENGTH {
+        return Ended {
+            answer: Taken::Refused(Refusal::ShortOutput),
+            len: 0,
+        };
+    }
+    put_block(
+        &mut out[0..BLOCK_LENGTH],
+        next,
+        &pending[0..CELL_LENGTH * used],
+    );
+    Ended {
+        answer: Taken::Done,
+        len: BLOCK_LENGTH,
     }
 }

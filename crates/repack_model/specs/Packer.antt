@@ -4,7 +4,7 @@ use Prim.Native.Nat.{ℕ, _+_, _*_, _/_, _%_}
 use mathlib.Core.Bool.{Bool, cond, not, _&&_, _||_}
 use mathlib.Core.List.{List, [], _∷_, _++_, map, flatten}
 use lib.Dec.{ltb, leb, eqb}
-use lib.ListN.{length, drop}
+use lib.ListN.{length, take, drop}
 use Rattle.lists.specs.Lists.{padded, upFrom}
 use Rattle.refusal.specs.Number.{numberOf}
 use Rattle.refusal.specs.declared.Refusal.the-variants.{ShortOutput, Argument, NotAccepted, Size}
@@ -58,9 +58,17 @@ keptCells identities piece = cellsOf (others identities (soundRows piece))
 
 -- ---- the calls in pieces
 
+-- the bytes that a packer is lent: for the cells that wait, and for those of one block more
+abbrev pub pendingLength : ℕ
+pendingLength = fullLength + fullLength
+
+-- the packing that they hold: the first `used` cells wait; what stands behind them is left to the program
+abbrev pub packing : ℕ → ℕ → List ℕ → Packing
+packing next used pending = record { next = next; waiting = take (cellLength * used) pending }
+
 -- fewer than 15 cells wait, behind at most 2^32 blocks
-unfoldable pub isPacking : Packing → Bool
-isPacking p = ltb (length (p .waiting)) fullLength && leb (p .next) maxBlocks
+unfoldable pub isPacking : ℕ → ℕ → List ℕ → Bool
+isPacking next used pending = eqb (length pending) pendingLength && (ltb used cellsPerBlock && leb next maxBlocks)
 
 -- the number, how many blocks of the piece were dropped, and what is packed then; every byte and element of the output and of the list
 pub record Packed : Type 0 where
@@ -75,17 +83,17 @@ keptAs number p output positions = record { number = number; count = 0; next = p
 
 -- a piece: 11; 16 for one that isn't whole blocks or brings more than 2^32 of them in all; 10 for more than 32 identities; 6 for an output shorter
 -- than the piece or a list too short. Positions count from the first block of the piece.
-unfoldable pub packOf : Packing → List ℕ → List ℕ → List ℕ → List ℕ → Packed
-packOf p piece identities output positions =
-    cond (not (isPacking p)) (keptAs (numberOf NotAccepted) p output positions)
-    (cond (not (eqb (length piece % blockLength) 0 && leb (p .next + length piece / blockLength) maxBlocks)) (keptAs (numberOf Size) p output positions)
-    (cond (ltb maxIdentities (length identities)) (keptAs (numberOf Argument) p output positions)
-    (cond (ltb (length output) (length piece) || ltb (length positions) (length (dropped piece))) (keptAs (numberOf ShortOutput) p output positions)
+unfoldable pub packOf : ℕ → ℕ → List ℕ → List ℕ → List ℕ → List ℕ → List ℕ → Packed
+packOf next used pending piece identities output positions =
+    cond (not (isPacking next used pending)) (keptAs (numberOf NotAccepted) (packing next used pending) output positions)
+    (cond (not (eqb (length piece % blockLength) 0 && leb (next + length piece / blockLength) maxBlocks)) (keptAs (numberOf Size) (packing next used pending) output positions)
+    (cond (ltb maxIdentities (length identities)) (keptAs (numberOf Argument) (packing next used pending) output positions)
+    (cond (ltb (length output) (length piece) || ltb (length positions) (length (dropped piece))) (keptAs (numberOf ShortOutput) (packing next used pending) output positions)
     (record {
       number = 0;
       count = length (dropped piece);
-      next = pushed p (keptCells identities piece);
-      output = fronted (pushedBlocks p (keptCells identities piece)) output;
+      next = pushed (packing next used pending) (keptCells identities piece);
+      output = fronted (pushedBlocks (packing next used pending) (keptCells identities piece)) output;
       positions = fronted (dropped piece) positions;
     }))))
 
@@ -95,11 +103,11 @@ pub record Finished : Type 0 where
   pub output : List ℕ
 
 -- the end: 11; 6 for an output too short for the last block; else its length, 512 or 0
-unfoldable pub finishOf : Packing → List ℕ → Finished
-finishOf p output =
-    cond (not (isPacking p)) (record { number = numberOf NotAccepted; length = 0; output = output })
-    (cond (ltb (length output) (length (lastBlock p))) (record { number = numberOf ShortOutput; length = 0; output = output })
-    (record { number = 0; length = length (lastBlock p); output = fronted (lastBlock p) output }))
+unfoldable pub finishOf : ℕ → ℕ → List ℕ → List ℕ → Finished
+finishOf next used pending output =
+    cond (not (isPacking next used pending)) (record { number = numberOf NotAccepted; length = 0; output = output })
+    (cond (ltb (length output) (length (lastBlock (packing next used pending)))) (record { number = numberOf ShortOutput; length = 0; output = output })
+    (record { number = 0; length = length (lastBlock (packing next used pending)); output = fronted (lastBlock (packing next used pending)) output }))
 
 -- ---- what pieces give together
 

@@ -1,11 +1,10 @@
-//! Calls of salvage and removal, and what is shown of each (document 02, A9 and A11), on the
-//! room of archive_calls. The records and the lines are in README.md.
+//! Calls of salvage, and what is shown of each (document 02, A9), on the room of archive_calls. The records and the lines are in README.md.
 
 use crate::archive::{block, seal, BLOCK, ROWS};
 use crate::archive_calls::{put_block, random_rows, Call, MOST};
 use crate::hex::hex_or_dash;
 use crate::random::Random;
-use crate::repack::{remove, salvage, Salvaged};
+use crate::repack::{salvage, Salvaged};
 use crate::subtelegram::{renew_hash, Refusal};
 
 #[derive(Debug, Clone, PartialEq)]
@@ -15,13 +14,11 @@ pub enum Repack {
     /// A block of the output.
     Out(u32),
     List,
-    Remove(Vec<u32>),
 }
 
 /// What the calls are put to: the rules here, others in the tests.
 pub trait Repacker {
     fn salvage(&self, room: &[u8], out: &mut [u8], list: &mut [u64]) -> Result<Salvaged, Refusal>;
-    fn remove(&self, room: &mut Vec<u8>, ids: &[u32]) -> Result<usize, (Refusal, usize)>;
 }
 
 /// Document 02.
@@ -30,10 +27,6 @@ pub struct Rules;
 impl Repacker for Rules {
     fn salvage(&self, room: &[u8], out: &mut [u8], list: &mut [u64]) -> Result<Salvaged, Refusal> {
         salvage(room, out, list)
-    }
-
-    fn remove(&self, room: &mut Vec<u8>, ids: &[u32]) -> Result<usize, (Refusal, usize)> {
-        remove(room, ids)
     }
 }
 
@@ -50,7 +43,7 @@ impl Lent {
     }
 
     /// The line for a call.
-    pub fn show(&mut self, call: &Repack, room: &mut Vec<u8>, by: &impl Repacker) -> String {
+    pub fn show(&mut self, call: &Repack, room: &[u8], by: &impl Repacker) -> String {
         match call {
             Repack::Salvage(end, len) => {
                 self.out.fill(0xEE);
@@ -70,10 +63,6 @@ impl Lent {
                 let numbers = self.list.iter().map(|n| format!(" {n}"));
                 format!("LIST{}", numbers.collect::<String>())
             }
-            Repack::Remove(ids) => match by.remove(room, ids) {
-                Ok(freed) => format!("REMOVE 0 0 {freed}"),
-                Err((number, position)) => format!("REMOVE {number} {position} 0"),
-            },
         }
     }
 }
@@ -92,13 +81,6 @@ pub fn record(call: &Repack) -> [u8; 320] {
             record[1..5].copy_from_slice(&k.to_be_bytes());
         }
         Repack::List => record[0] = 11,
-        Repack::Remove(ids) => {
-            record[0] = 12;
-            record[1] = ids.len() as u8;
-            for (i, id) in ids.iter().enumerate() {
-                record[4 + 4 * i..][..4].copy_from_slice(&id.to_be_bytes());
-            }
-        }
     }
     record
 }

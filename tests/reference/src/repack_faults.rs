@@ -1,10 +1,10 @@
-//! What the calls of salvage and removal must show: everything that can occur, and the faults a
+//! What the calls of salvage must show: everything that can occur, and the faults a
 //! program could have. Each fault is put into a program of its own, which copies cells, and its
 //! lines must differ from the rules'.
 
 use crate::archive::{is_whole, rows_of, seal, BLOCK, ROWS, SIZE};
 use crate::archive_calls::{self, calls, show, stdout};
-use crate::repack::{remove, Salvaged};
+use crate::repack::Salvaged;
 use crate::repack_calls::Repacker;
 use crate::subtelegram::{Refusal, OUTPUT_SHORT};
 use std::collections::BTreeSet;
@@ -114,10 +114,6 @@ impl Repacker for Cells {
             *there = *k;
         }
         Ok((gone, cells.len()))
-    }
-
-    fn remove(&self, room: &mut Vec<u8>, ids: &[u32]) -> Result<usize, (Refusal, usize)> {
-        remove(room, ids)
     }
 }
 

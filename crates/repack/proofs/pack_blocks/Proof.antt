@@ -14,7 +14,7 @@ use Rattle.archive_model.specs.Append.{blockAt}
 use Rattle.archive.specs.Archive.{soundRows}
 use Rattle.archive.proofs.Scans.{sound-le}
 use Rattle.repack_model.specs.Repack.{isDropped}
-use Rattle.repack.specs.Calls.{packing}
+use Rattle.repack_model.specs.Packer.{packing}
 use Rattle.repack.proofs.Walks.{Walking, walk-start, walk-turn, walk-packed, walk-put, walk-long, Listing, list-start, has-room, list-turn, list-end, block-rows}
 use Rattle.repack.proofs.pack_blocks.Statement.{statement}
 use Rattle.repack.proofs.pack_blocks.Tie as tie

@@ -12,7 +12,8 @@ use Rattle.layout.specs.Header.{headerLength}
 use Rattle.layout.specs.Block.{blockCell}
 use Rattle.layout.proofs.Segments.{part-length, part-ends}
 use Rattle.archive_model.specs.Row.{rowIn, isRow}
-use Rattle.repack.specs.Calls.{pendingLength, keptCell, keptFrom}
+use Rattle.repack_model.specs.Packer.{pendingLength}
+use Rattle.repack.specs.Calls.{keptCell, keptFrom}
 use Rattle.repack.proofs.Cells.{row-at, kept-first, kept-turn, kept-end}
 use Rattle.repack.proofs.push_cells.Statement.{statement}
 use Rattle.repack.proofs.push_cells.Tie as tie

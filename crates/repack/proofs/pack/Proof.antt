@@ -1,0 +1,102 @@
+-- `repack::pack` meets its contract: each refusal is one case, and else the walk gives the answer. Assumes nothing.
+use mathlib.Core.Path.{_≡_, refl, sym, ap, ap₂, _∙_}
+use mathlib.Core.Bool.{true, false}
+use mathlib.Core.List.{List}
+use Prim.Native.Nat.{ℕ, _+_, _/_, _≤_, _<_}
+use native.Mathlib.Omega.{arith}
+use borrow.Author.Needs.{needs}
+use borrow.Author.Tests.{not-true, not-false, leb-true}
+use denote.Ref.{now}
+use lib.ListN.{length}
+use Rattle.layout.specs.Block.{cellsPerBlock, blockLength}
+use Rattle.archive_model.specs.Buffer.{maxBlocks}
+use Rattle.repack_model.specs.Repack.{dropped}
+use Rattle.repack_model.specs.Packer.{pendingLength, Packing, isPacking}
+use Rattle.repack.proofs.Packs.{packing-facts, pack-no, pack-odd, pack-far, pack-identities, pack-short, pack-list, pack-done}
+use Rattle.repack.proofs.pack.Statement.{statement}
+use Rattle.repack.proofs.pack.Tie as tie
+
+told : (c : tie.Else1) → isPacking (c .before .before .before .before .before .before .before .before .args .next) (c .before .before .before .before .before .before .before .before .args .used) (now (c .before .before .before .before .before .before .before .before .args .pending)) ≡ true
+told c = sym (c .before .is-packing .ensures) ∙ not-false _ (c .if1 .left)
+
+facts : (c : tie.Else1) → (length (now (c .before .before .before .before .before .before .before .before .args .pending)) ≡ pendingLength) × (c .before .before .before .before .before .before .before .before .args .used < cellsPerBlock) × (c .before .before .before .before .before .before .before .before .args .next ≤ maxBlocks)
+facts c = packing-facts _ _ _ (told c)
+
+no : tie.Need-returns
+no c =
+    let a = c .before .before .before .before .before .before .before .before .before .args in
+    c .not-packed .ensures (now (a .pending)) (now (a .out)) (now (a .positions)) ∙ pack-no (a .next) (a .used) (now (a .pending)) (now (a .piece)) (now (a .identities)) (now (a .out)) (now (a .positions)) (sym (c .before .before .is-packing .ensures) ∙ not-true _ (c .before .if1 .taken))
+
+odd : tie.Need-returns-2
+odd c =
+    let a = c .before .before .before .before .before .before .before .before .before .before .args in
+    c .not-packed2 .ensures (now (a .pending)) (now (a .out)) (now (a .positions)) ∙ pack-odd (a .next) (a .used) (now (a .pending)) (now (a .piece)) (now (a .identities)) (now (a .out)) (now (a .positions)) (told (c .before .before)) (c .before .if2 .taken)
+
+far : tie.Need-returns-3
+far c =
+    let a = c .before .before .before .before .before .before .before .before .before .before .before .args in
+    c .not-packed3 .ensures (now (a .pending)) (now (a .out)) (now (a .positions)) ∙ pack-far (a .next) (a .used) (now (a .pending)) (now (a .piece)) (now (a .identities)) (now (a .out)) (now (a .positions)) (told (c .before .before .before)) (c .before .before .if2 .left) (c .before .if3 .taken)
+
+many : tie.Need-returns-4
+many c =
+    let a = c .before .before .before .before .before .before .before .before .before .before .before .before .args in
+    c .not-packed4 .ensures (now (a .pending)) (now (a .out)) (now (a .positions)) ∙ pack-identities (a .next) (a .used) (now (a .pending)) (now (a .piece)) (now (a .identities)) (now (a .out)) (now (a .positions)) (told (c .before .before .before .before)) (c .before .before .before .if2 .left) (omega arith) (c .before .if4 .taken)
+
+short : tie.Need-returns-5
+short c =
+    let a = c .before .before .before .before .before .before .before .before .before .before .before .before .before .args in
+    c .not-packed5 .ensures (now (a .pending)) (now (a .out)) (now (a .positions)) ∙ pack-short (a .next) (a .used) (now (a .pending)) (now (a .piece)) (now (a .identities)) (now (a .out)) (now (a .positions)) (told (c .before .before .before .before .before)) (c .before .before .before .before .if2 .left) (omega arith) (omega arith) (c .before .if5 .taken)
+
+list : tie.Need-returns-6
+list c =
+    let a = c .before .before .before .before .before .before .before .before .before .before .before .before .before .before .before .args in
+    c .not-packed6 .ensures (now (a .pending)) (now (a .out)) (now (a .positions)) ∙ pack-list (a .next) (a .used) (now (a .pending)) (now (a .piece)) (now (a .identities)) (now (a .out)) (now (a .positions)) (told (c .before .before .before .before .before .before .before)) (c .before .before .before .before .before .before .if2 .left) (omega arith) (omega arith) (omega arith) (sym (c .before .before .is-listable .ensures) ∙ not-true _ (c .before .if6 .taken))
+
+listable : (c : tie.Else6) → length (dropped (now (c .before .before .before .before .before .before .before .before .before .before .before .before .before .before .args .piece))) ≤ length (now (c .before .before .before .before .before .before .before .before .before .before .before .before .before .before .args .positions))
+listable c = leb-true _ _ (sym (c .before .is-listable .ensures) ∙ not-false _ (c .if6 .left))
+
+pack-blocks-requires : tie.Need-pack-blocks-requires
+pack-blocks-requires c κs =
+    let f = facts (c .before .before .before .before .before .before .before .before .before) in
+    (f .0, f .1, omega arith, omega arith, listable (c .before .before .before))
+
+done : tie.Need-returns-7
+done c =
+    let walk = c .before .before .before .before .before .before in
+    let e = walk .before .before .before .before in
+    let a = e .before .before .before .before .before .before .before .before .before .before .before .before .before .before .args in
+    let w = walk .pack-blocks .ensures .0 in
+    let l = walk .pack-blocks .ensures .1 in
+    (λ j. record { number = 0; count = l .0 j; next = w .packed j; output = w .put j; positions = l .1 j })
+    ∙ pack-done (a .next) (a .used) (now (a .pending)) (now (a .piece)) (now (a .identities)) (now (a .out)) (now (a .positions)) (told (e .before .before .before .before .before .before)) (e .before .before .before .before .before .if2 .left) (omega arith) (omega arith) (omega arith) (listable e)
+
+pub pack-spec : {M : Type 1} → statement M
+pack-spec =
+    tie.close
+    (tie.spec
+    (λ c κs. search needs)
+    (λ c κs. search needs)
+    (λ c. search needs)
+    no
+    (λ c κs. search needs)
+    (λ c. search needs)
+    odd
+    (λ c. omega (arith, facts (c .before)))
+    (λ c κs. search needs)
+    (λ c. search needs)
+    far
+    (λ c κs. search needs)
+    (λ c. search needs)
+    many
+    (λ c κs. search needs)
+    (λ c. search needs)
+    short
+    (λ c κs. search needs)
+    (λ c κs. search needs)
+    (λ c. search needs)
+    list
+    pack-blocks-requires
+    (λ c. search needs)
+    (λ c. search needs)
+    (λ c. search needs)
+    done)
