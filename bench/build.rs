@@ -5,7 +5,7 @@ fn main() {
     let root = PathBuf::from(std::env::var("CARGO_MANIFEST_DIR").unwrap()).join("..");
     let dir = root.join("target/staticlib").canonicalize().expect("bench/run makes the archives first");
     println!("cargo:rustc-link-search=native={}", dir.display());
-    for name in ["archive_bench", "mooringeye", "take_bench"] {
+    for name in ["archive_bench", "mooringeye", "take_bench", "repack_bench"] {
         println!("cargo:rustc-link-lib=static={name}");
         println!("cargo:rerun-if-changed={}", dir.join(format!("lib{name}.a")).display());
     }

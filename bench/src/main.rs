@@ -4,12 +4,14 @@ use std::time::Instant;
 mod archive;
 mod collector;
 mod crc8;
+mod repack;
 mod slots;
 
 fn main() {
     crc8::bench();
     slots::bench();
     collector::bench();
+    repack::bench();
     archive::bench();
 }
 
