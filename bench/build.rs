@@ -5,7 +5,7 @@ fn main() {
     let root = PathBuf::from(std::env::var("CARGO_MANIFEST_DIR").unwrap()).join("..");
     let dir = root.join("target/staticlib").canonicalize().expect("bench/run makes the archives first");
     println!("cargo:rustc-link-search=native={}", dir.display());
-    for name in ["archive_bench", "burst_bench", "erp2_bench", "mooringeye", "report_bench", "take_bench"] {
+    for name in ["archive_bench", "burst_bench", "erp2_bench", "mooringeye", "repack_bench", "report_bench", "take_bench"] {
         println!("cargo:rustc-link-lib=static={name}");
         println!("cargo:rerun-if-changed={}", dir.join(format!("lib{name}.a")).display());
     }

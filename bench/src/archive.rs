@@ -14,7 +14,7 @@ extern "C" {
 }
 
 pub const BLOCK: usize = 512;
-const ROWS: usize = 15;
+pub const ROWS: usize = 15;
 /// The number of an answer stands in the highest byte.
 pub const NUMBER: u64 = 1 << 56;
 
@@ -69,7 +69,7 @@ pub fn crc_by_eight(bytes: &[u8]) -> u8 {
     crc
 }
 
-fn is_zero(bytes: &[u8]) -> bool {
+pub fn is_zero(bytes: &[u8]) -> bool {
     bytes.iter().fold(0, |all, b| all | b) == 0
 }
 
@@ -81,7 +81,7 @@ fn is_valid(bytes: &[u8]) -> bool {
     bytes[0] != 0xA6 || (n >= 13 && bytes[1] != 0xA6)
 }
 
-fn rows_of(block: &[u8]) -> usize {
+pub fn rows_of(block: &[u8]) -> usize {
     let n = usize::from(block[4]);
     if n == 0 || n > ROWS || !is_zero(&block[5..24]) || !is_zero(&block[24 + 32 * n..511]) {
         return 0;
@@ -151,7 +151,7 @@ fn append_at(buffer: &mut [u8], n: usize, bytes: &[u8], time: u64, loose: bool) 
 // ---- the runs
 
 /// A valid subtelegram of 8 to 21 bytes, half of them with the CRC.
-fn telegram(random: &mut Random) -> Vec<u8> {
+pub fn telegram(random: &mut Random) -> Vec<u8> {
     let n = 8 + (random.next() % 14) as usize;
     let mut bytes: Vec<u8> = (0..n).map(|_| random.next() as u8).collect();
     bytes[0] = 0xD2;

@@ -6,6 +6,7 @@ mod bursts;
 mod collector;
 mod crc8;
 mod erp2;
+mod repack;
 mod reports;
 mod site;
 mod slots;
@@ -17,6 +18,7 @@ fn main() {
     collector::bench();
     bursts::bench();
     erp2::bench();
+    repack::bench();
     archive::bench();
     reports::bench();
 }

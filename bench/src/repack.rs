@@ -1,0 +1,106 @@
+//! Salvage of a damaged archive against Rust of the same walks, with the same test of a block and the same CRC.
+use crate::archive::{crc_by_eight, is_zero, rows_of, telegram, BLOCK, ROWS};
+use crate::{report, time, Random};
+use std::hint::black_box;
+
+// A slice passes as a pointer and a length. Nothing checks this line against the Rattle source.
+extern "C" {
+    fn repack_bench_salvage(buffer: *const u8, len: usize, out: *mut u8, out_len: usize, positions: *mut u64, count: usize) -> u64;
+}
+
+const BLOCKS: usize = 64;
+
+fn proved(buffer: &[u8], out: &mut [u8], positions: &mut [u64]) -> u64 {
+    let (at, len) = (positions.as_mut_ptr(), positions.len());
+    unsafe { repack_bench_salvage(buffer.as_ptr(), buffer.len(), out.as_mut_ptr(), out.len(), at, len) }
+}
+
+// ---- by hand
+
+fn put_block(block: &mut [u8], k: usize, cells: &[u8]) {
+    let end = 24 + cells.len();
+    block[..4].copy_from_slice(&(k as u32).to_be_bytes());
+    block[4] = (cells.len() / 32) as u8;
+    block[5..24].fill(0);
+    block[24..end].copy_from_slice(cells);
+    block[end..511].fill(0);
+    block[511] = crc_by_eight(&block[..511]);
+}
+
+fn is_dropped(block: &[u8]) -> bool {
+    rows_of(block) == 0 && !is_zero(block)
+}
+
+/// How many rows remain, and 0 beside a refusal.
+fn salvage(buffer: &[u8], out: &mut [u8], positions: &mut [u64]) -> u64 {
+    let blocks = buffer.len() / BLOCK;
+    if buffer.len() % BLOCK != 0 || blocks > 1 << 32 || out.len() < buffer.len() {
+        return 0;
+    }
+    if positions.len() < blocks && positions.len() < buffer.chunks_exact(BLOCK).filter(|b| is_dropped(b)).count() {
+        return 0;
+    }
+    let (mut pending, mut used, mut next, mut gone) = ([0u8; 960], 0, 0, 0);
+    for (k, block) in buffer.chunks_exact(BLOCK).enumerate() {
+        let n = rows_of(block);
+        if n == 0 && !is_zero(block) {
+            positions[gone] = k as u64;
+            gone += 1;
+        }
+        pending[32 * used..32 * (used + n)].copy_from_slice(&block[24..24 + 32 * n]);
+        used += n;
+        if used >= ROWS {
+            put_block(&mut out[BLOCK * next..BLOCK * (next + 1)], next, &pending[..480]);
+            pending.copy_within(480..960, 0);
+            used -= ROWS;
+            next += 1;
+        }
+    }
+    let mut at = BLOCK * next;
+    if used > 0 {
+        put_block(&mut out[at..at + BLOCK], next, &pending[..32 * used]);
+        at += BLOCK;
+    }
+    out[at..buffer.len()].fill(0);
+    (ROWS * next + used) as u64
+}
+
+// ---- the runs
+
+/// Blocks with these counts of rows in turn, one of them spoiled.
+fn damaged(random: &mut Random, counts: &[usize]) -> Vec<u8> {
+    let mut buffer = vec![0; BLOCK * BLOCKS];
+    for (k, block) in buffer.chunks_exact_mut(BLOCK).enumerate() {
+        let mut cells = vec![0; 32 * counts[k % counts.len()]];
+        for (i, cell) in cells.chunks_exact_mut(32).enumerate() {
+            let bytes = telegram(random);
+            cell[..8].copy_from_slice(&random.next().to_be_bytes());
+            cell[8] = bytes.len() as u8;
+            cell[9..9 + bytes.len()].copy_from_slice(&bytes);
+            cell[30] = (i % 2) as u8;
+        }
+        put_block(block, k, &cells);
+    }
+    buffer[BLOCK * 5 + 100] ^= 1;
+    buffer
+}
+
+pub fn bench() {
+    let mut random = Random::new();
+    for (what, counts) in [("full blocks", &[ROWS][..]), ("15, 14, 3 and 1 rows", &[15, 14, 3, 1])] {
+        let buffer = damaged(&mut random, counts);
+        for (walks, len) in [("one walk", BLOCKS), ("two walks", 1)] {
+            let (mut out, mut list) = (vec![1; buffer.len()], vec![0; len]);
+            let (mut out2, mut list2) = (out.clone(), list.clone());
+            assert_eq!(proved(&buffer, &mut out, &mut list), salvage(&buffer, &mut out2, &mut list2));
+            assert_eq!((&out, &list), (&out2, &list2));
+            let first = time(BLOCKS, || {
+                black_box(proved(black_box(&buffer), &mut out, &mut list));
+            });
+            let second = time(BLOCKS, || {
+                black_box(salvage(black_box(&buffer), &mut out2, &mut list2));
+            });
+            report(&format!("salvage, a block, {what}, {walks}"), first, second);
+        }
+    }
+}
