@@ -1,1 +1,1 @@
-// Archive block files: definitions only (a draft).
+// Archive block files: definitions and theorems, no code.
