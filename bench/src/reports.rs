@@ -4,10 +4,16 @@ use crate::{report as print, time, Random};
 
 extern "C" {
     fn report_bench_add(buffer: *const u8, len: usize) -> u64;
+    fn report_bench_pieces(buffer: *const u8, len: usize) -> u64;
 }
 
 fn proved(buffer: &[u8]) -> u64 {
     unsafe { report_bench_add(buffer.as_ptr(), buffer.len()) }
+}
+
+/// The same in two pieces.
+fn in_pieces(buffer: &[u8]) -> u64 {
+    unsafe { report_bench_pieces(buffer.as_ptr(), buffer.len()) }
 }
 
 // ---- by hand
@@ -90,7 +96,9 @@ pub fn bench() {
     for transmitters in [8, 200] {
         let buffer = archive(BLOCKS, transmitters);
         assert_eq!(proved(&buffer), by_hand(&buffer), "both say the same");
+        assert_eq!(in_pieces(&buffer), by_hand(&buffer), "in pieces too");
         let of = |f: fn(&[u8]) -> u64| time(BLOCKS, || assert!(std::hint::black_box(f(&buffer)) < NUMBER));
         print(&format!("archive added to a report, a full block, {transmitters} transmitters"), of(proved), of(by_hand));
+        print(&format!("the same in two pieces, {transmitters} transmitters"), of(in_pieces), of(by_hand));
     }
 }

@@ -5,6 +5,7 @@
 --     fed, used-is, sound-used               what a scan of one block tells
 --     sane-next                              no number goes past its end
 --     blocks-next, blocks-end                the loop over blocks
+--     start-sane, going-sane                 before the first block, and between pieces
 -- Assumes nothing.
 use Prim.Native.Nat.{ℕ, zero, suc, _+_, _-_, _*_, _/_, _%_, _≤_, _<_}
 use native.Mathlib.Numerals.{add-one}
@@ -19,7 +20,7 @@ use lib.Seq.{take-all, drop-drop}
 use borrow.Author.Tests.{lt-ltb, le-ltb, ltb-false, le-leb, leb-true, eq-eqb, eqb-true}
 use Rattle.lists.specs.Lists.{all, upFrom, count}
 use Rattle.lists.proofs.Choice.{both, neither}
-use Rattle.lists.proofs.Tests.{and-true, by-test}
+use Rattle.lists.proofs.Tests.{by-test}
 use Rattle.lists.proofs.UpFrom.{length-upFrom}
 use Rattle.erp1.specs.Subtelegram.{minLength, maxLength, checkOf}
 use Rattle.erp1.proofs.Checks.{check-facts}
@@ -32,11 +33,11 @@ use Rattle.archive_model.specs.Row.{Row, rowCount, rowIn, rowsOf, isRow, isSoun
 use Rattle.archive_model.specs.Buffer.{maxBlocks, maxRows, blocksIn, Scan, scanBlock, scanBlocks}
 use Rattle.archive_model.specs.Append.{isScan, feedOf}
 use Rattle.archive_model.specs.Identity.{identityOf}
-use Rattle.archive_model.proofs.Pieces.{rows-count}
 use Rattle.archive.specs.Archive.{blocksFrom}
 use Rattle.archive.proofs.Cells.{used-is, bytes-shown}
-use Rattle.report_model.specs.Report.{Line, Report, isReport, maxLines, lineOf, joined, insert, addRows, keptIn, looseIn, rowsOfLine, isRising, sumOf}
-use Rattle.report_model.specs.Pieces.{Tally, startTally, countedRows, counted, addBlock, addBlocks}
+use Rattle.report_model.specs.Report.{Line, Report, isReport, maxArchives, maxLines, lineOf, joined, insert, addRows, keptIn, looseIn, rowsOfLine, isRising, sumOf}
+use Rattle.report_model.specs.Pieces.{Tally, startTally, countedRows, counted, addBlock, addBlocks, Adding, isAdding}
+use Rattle.report_model.proofs.Adding.{rows-after, sound-facts, counted-length, scanned-next, blocks-one, tally-facts, going}
 use Rattle.report_model.proofs.Order.{add-first, add-none}
 use Rattle.report_model.proofs.Additions.{facts}
 use Rattle.report_model.proofs.Lines.{rising-insert, rising-added, sum-insert, more-added, kinds}
@@ -204,38 +205,16 @@ module _ (block : List ℕ) where
       let one : s .blocks + length block / blockLength ≤ maxBlocks = omega arith in
       rw (t, eq-eqb (length block % blockLength) 0 whole, le-leb (s .blocks + length block / blockLength) maxBlocks one, one-block l)
 
-  pub rows-after : (s : Scan) → scanBlock s block .rows ≡ s .rows + cond (isSound block) (rowCount block) 0
-  unfolding scanBlock
-  rows-after s = refl
-
-  pub blocks-after : (s : Scan) → scanBlock s block .blocks ≡ s .blocks + 1
-  unfolding scanBlock
-  blocks-after s = refl
-
   pub counted-rows : (used : ℕ) → used ≡ cond (isSound block) (rowCount block) 0 → rowsBetween block 0 used ≡ countedRows block
   unfolding rowsBetween rowsOf upFrom
   counted-rows used e =
       by-test {X = rowsBetween block 0 used ≡ countedRows block} (isSound block) (λ t. rw (e, t)) (λ f. rw (e, f))
 
-  sound-facts : isSound block ≡ true → (rowCount block ≤ cellsPerBlock) × (all isRow (rowsOf block) ≡ true)
-  unfolding isSound
-  sound-facts h =
-      let a = both (leb 1 (rowCount block)) _ h in
-      let b = both (leb (rowCount block) cellsPerBlock) _ (a .1) in
-      let c = both (all isRow (rowsOf block)) _ (b .1) in
-      (leb-true (rowCount block) cellsPerBlock (b .0), c .0)
-
-  pub used-few : (used : ℕ) → used ≡ cond (isSound block) (rowCount block) 0 → used ≤ cellsPerBlock
-  used-few used e = by-test {X = used ≤ cellsPerBlock} (isSound block) (λ t. rw (e, t) (sound-facts t .0)) (λ f. rw (e, f) (omega arith))
-
   pub used-rows : (used : ℕ) → used ≡ cond (isSound block) (rowCount block) 0 → all isRow (rowsBetween block 0 used) ≡ true
   used-rows used e =
       by-test {X = all isRow (rowsBetween block 0 used) ≡ true} (isSound block)
-      (λ t. ap (all isRow) (counted-rows used e) ∙ (rw t (sound-facts t .1)))
+      (λ t. ap (all isRow) (counted-rows used e) ∙ (rw t (sound-facts block t .1)))
       (λ f. ap (all isRow) (counted-rows used e) ∙ (rw f))
-
-  counted-length : length (countedRows block) ≡ cond (isSound block) (rowCount block) 0
-  counted-length = by-test {X = length (countedRows block) ≡ cond (isSound block) (rowCount block) 0} (isSound block) (λ t. rw t (rows-count block)) (λ f. rw f)
 
   -- ---- no number goes past its end
 
@@ -244,12 +223,8 @@ module _ (block : List ℕ) where
   sane-next t s h =
       let rows = countedRows block in
       let next = scanBlock (t .scan) block in
-      let w = both (leb (t .scan .blocks) maxBlocks) _ (s .scanned) in
-      let dense : t .scan .rows ≤ cellsPerBlock * t .scan .blocks = leb-true (t .scan .rows) (cellsPerBlock * t .scan .blocks) (w .1) in
-      let few : length rows ≤ cellsPerBlock = omega (arith, counted-length, used-few (cond (isSound block) (rowCount block) 0) refl) in
-      let grown : next .rows ≡ t .scan .rows + length rows = rows-after (t .scan) ∙ omega (arith, counted-length) in
-      let one : next .blocks ≡ t .scan .blocks + 1 = blocks-after (t .scan) in
-      let scanned : isScan next ≡ true = and-true (le-leb (next .blocks) maxBlocks (omega arith)) (le-leb (next .rows) (cellsPerBlock * next .blocks) (omega arith)) in
+      let grown : next .rows ≡ t .scan .rows + length rows = rows-after block (t .scan) ∙ omega (arith, counted-length block) in
+      let scanned = scanned-next block (t .scan) (s .scanned) h in
       by-test {X = Sane (counted t rows next)} (t .over || ltb maxLines (length (addRows rows (t .lines))))
       (λ o. rw o (record { scanned = scanned; few = omega arith; rising = refl; rows = omega arith; totals = omega arith }))
       (λ o.
@@ -279,6 +254,9 @@ module _ (piece : List ℕ) where
       rw e
 
 -- ---- the ends of `add_block`
+
+pub scan-blocks : (s : Scan) → isScan s ≡ true → s .blocks ≤ maxBlocks
+scan-blocks s h = leb-true (s .blocks) maxBlocks (both (leb (s .blocks) maxBlocks) _ h .0)
 
 pub scan-few : (s : Scan) → isScan s ≡ true → s .rows ≤ maxRows
 scan-few s h =
@@ -313,12 +291,7 @@ pub sane-as : {t u : Tally} → t ≡ u → Sane u → Sane t
 sane-as e s = subst Sane (sym e) s
 
 pub blocks-of : (u t : Tally) (block : List ℕ) → u ≡ addBlock t block → u .scan .blocks ≡ t .scan .blocks + 1
-unfolding addBlock
-blocks-of u t block e =
-    ap (λ (v : Tally). v .scan .blocks) e
-    ∙ by-test {X = counted t (countedRows block) (scanBlock (t .scan) block) .scan .blocks ≡ t .scan .blocks + 1} (t .over || ltb maxLines (length (addRows (countedRows block) (t .lines))))
-    (λ h. rw h (blocks-after block (t .scan)))
-    (λ h. rw h (blocks-after block (t .scan)))
+blocks-of u t block e = ap (λ (v : Tally). v .scan .blocks) e ∙ blocks-one t block
 
 -- ---- before the first block
 
@@ -335,4 +308,24 @@ start-sane s h =
       rising = p .rising;
       rows = omega (arith, total-sums (s .lines), p .kept, p .loose, p .rows, p .archives);
       totals = omega (arith, p .rows, p .archives);
+    }
+
+-- ---- in pieces
+
+pub few-so-far : (over : Bool) (n m : ℕ) → n ≡ cond over 0 m → n ≤ m
+few-so-far true n m e = omega arith
+few-so-far false n m e = omega arith
+
+pub going-sane : (a : Adding) → isAdding a ≡ true → Sane (a .tally)
+going-sane a h =
+    let g = going a h in
+    let p = facts (a .report) (g .report) in
+    let t = tally-facts (a .tally .lines) (a .tally .kept) (a .tally .loose) (g .sums) in
+    let most : a .tally .kept + a .tally .loose ≤ maxRows * maxArchives + a .tally .scan .rows = omega (arith, few-so-far (a .tally .over) _ _ (g .rows), p .rows, p .archives) in
+    record {
+      scanned = g .scanned;
+      few = g .few;
+      rising = t .0;
+      rows = omega (arith, total-sums (a .tally .lines), t .1, t .2);
+      totals = most;
     }

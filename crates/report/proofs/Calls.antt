@@ -1,16 +1,19 @@
 -- The calls: each of their ends is one case of its definition. Assumes nothing.
-use Prim.Native.Nat.{ℕ, _+_, _-_, _*_, _/_, _≤_, _<_}
+use Prim.Native.Nat.{ℕ, _+_, _-_, _*_, _/_, _%_, _≤_, _<_}
+use native.Mathlib.Omega.{arith}
 use mathlib.Core.Path.{_≡_}
 use mathlib.Core.Bool.{true, false}
 use mathlib.Core.List.{List}
+use lib.Dec.{leb}
 use lib.ListN.{length, getD}
 use borrow.Author.Tests.{lt-ltb, le-ltb, le-leb, lt-leb, eq-eqb, ne-eqb}
 use Rattle.refusal.specs.Number.{numberOf}
 use Rattle.refusal.specs.declared.Refusal.the-variants.{Argument, NotAccepted, Size, Transmitters}
-use Rattle.archive_model.specs.Buffer.{None, maxRows, isWhole}
-use Rattle.archive_model.specs.Append.{verdict}
+use Rattle.layout.specs.Block.{blockLength, cellsPerBlock}
+use Rattle.archive_model.specs.Buffer.{None, maxBlocks, maxRows, isWhole, blocksIn, Scan}
+use Rattle.archive_model.specs.Append.{verdict, isScan}
 use Rattle.report_model.specs.Report.{Report, maxArchives, maxLines, isTally, isReport, answer, addOf, shareOf, lineOfReport, noLine}
-use Rattle.report_model.specs.Pieces.{Tally, closed}
+use Rattle.report_model.specs.Pieces.{Tally, addBlocks, closed, closing, Adding, adding, rowsSoFar, isAdding, isPiece, fed, feedOf, endOf}
 
 module _ (s : Report) (t : Tally) where
   pub closed-full : maxArchives ≤ s .archives → answer (numberOf Argument) 0 s ≡ closed s t None
@@ -84,3 +87,71 @@ module _ (s : Report) (yes : isReport s ≡ true) where
   pub line-found : (i : ℕ) → i < length (s .lines) → record { number = 0; line = getD (s .lines) i noLine } ≡ lineOfReport s i
   unfolding lineOfReport
   line-found i h = rw (yes, lt-leb (length (s .lines)) i h)
+
+-- ---- in pieces
+
+module _ (a : Adding) where
+  pub adding-report : isReport (a .report) ≡ false → false ≡ isAdding a
+  unfolding isAdding
+  adding-report h = rw h
+
+  module _ (yes : isReport (a .report) ≡ true) where
+    pub adding-scan : isScan (a .tally .scan) ≡ false → false ≡ isAdding a
+    unfolding isAdding
+    adding-scan h = rw (yes, h)
+
+    module _ (scanned : isScan (a .tally .scan) ≡ true) where
+      pub adding-lines : maxLines < length (a .tally .lines) → false ≡ isAdding a
+      unfolding isAdding
+      adding-lines h = rw (yes, scanned, lt-leb (length (a .tally .lines)) maxLines h)
+
+      module _ (few : length (a .tally .lines) ≤ maxLines) where
+        pub adding-rows : (a .tally .kept + a .tally .loose ≡ rowsSoFar a → ⊥) → false ≡ isAdding a
+        unfolding isAdding
+        adding-rows h = rw (yes, scanned, le-leb (length (a .tally .lines)) maxLines few, ne-eqb (a .tally .kept + a .tally .loose) (rowsSoFar a) h)
+
+        pub adding-tally : a .tally .kept + a .tally .loose ≡ rowsSoFar a → isTally (a .tally .lines) (a .tally .kept) (a .tally .loose) ≡ isAdding a
+        unfolding isAdding
+        adding-tally h = rw (yes, scanned, le-leb (length (a .tally .lines)) maxLines few, eq-eqb (a .tally .kept + a .tally .loose) (rowsSoFar a) h)
+
+  module _ (no : isAdding a ≡ false) where
+    pub feed-not : (piece : List ℕ) → fed (numberOf NotAccepted) a ≡ feedOf a piece
+    unfolding feedOf
+    feed-not piece = rw no
+
+    pub end-not : answer (numberOf NotAccepted) 0 (a .report) ≡ endOf a
+    unfolding endOf
+    end-not = rw no
+
+  module _ (yes : isAdding a ≡ true) where
+    pub feed-size : (piece : List ℕ) → isPiece (a .tally .scan) piece ≡ false → fed (numberOf Size) a ≡ feedOf a piece
+    unfolding feedOf
+    feed-size piece h = rw (yes, h)
+
+    pub feed-done : (piece : List ℕ) → isPiece (a .tally .scan) piece ≡ true → (t : Tally) → t ≡ addBlocks (a .tally) (blocksIn piece) → fed 0 (adding (a .report) t) ≡ feedOf a piece
+    unfolding feedOf
+    feed-done piece h t e = rw (yes, h, e)
+
+    pub end-done : closing (a .report) (a .tally) ≡ endOf a
+    unfolding endOf
+    end-done = rw yes
+
+module _ (blocks len : ℕ) where
+  pub piece-odd : (len % blockLength ≡ 0 → ⊥) → false ≡ isWhole (blockLength * blocks + len)
+  unfolding isWhole
+  piece-odd h =
+      let odd : (blockLength * blocks + len) % blockLength ≡ 0 → ⊥ = λ z. h (omega arith) in
+      rw (ne-eqb ((blockLength * blocks + len) % blockLength) 0 odd)
+
+  pub piece-whole : len % blockLength ≡ 0 → leb (blocks + len / blockLength) maxBlocks ≡ isWhole (blockLength * blocks + len)
+  unfolding isWhole
+  piece-whole h =
+      let even : (blockLength * blocks + len) % blockLength ≡ 0 = omega arith in
+      let sum : (blockLength * blocks + len) / blockLength ≡ blocks + len / blockLength = omega arith in
+      rw (eq-eqb ((blockLength * blocks + len) % blockLength) 0 even, sum)
+
+pub scan-many : (s : Scan) → maxBlocks < s .blocks → false ≡ isScan s
+scan-many s h = rw (lt-leb (s .blocks) maxBlocks h)
+
+pub scan-dense : (s : Scan) → s .blocks ≤ maxBlocks → leb (s .rows) (cellsPerBlock * s .blocks) ≡ isScan s
+scan-dense s h = rw (le-leb (s .blocks) maxBlocks h)

@@ -1,5 +1,5 @@
 -- Where a line goes: the search for its place, the gap that is made for it, and what the lines then are.
---     Bracket, bracket-start, bracket-up, bracket-down, bracket-place     the search
+--     Bracket, bracket-start, bracket-half, bracket-place                 the search
 --     Shifting, shift-none, shift-more, shifted                           the gap
 --     joined-there, put-there, no-room                                    the three ends of `add_row`
 -- Assumes nothing.
@@ -8,15 +8,15 @@ use native.Mathlib.Decide.{decLt}
 use native.Mathlib.Nat.{zero-add}
 use native.Mathlib.Omega.{arith}
 use mathlib.Core.Path.{_≡_, refl, sym, ap, ap₂, _∙_}
-use mathlib.Core.Bool.{true, false, _&&_, false≢true}
+use mathlib.Core.Bool.{true, false, cond, _&&_, false≢true}
 use mathlib.Core.List.{List, [], _∷_, _++_}
-use lib.Dec.{ltb, eqb}
+use lib.Dec.{ltb, leb, eqb}
 use lib.ListN.{length, getD, set, length-set, length-append}
 use lib.Seq.{getD-set-same, getD-set-other}
-use borrow.Author.Tests.{lt-ltb, ltb-true, eq-eqb, eqb-true}
+use borrow.Author.Tests.{lt-ltb, ltb-true, ltb-false, leb-true, leb-false, eq-eqb, eqb-true}
 use Rattle.lists.specs.Lists.{all}
 use Rattle.lists.proofs.Choice.{both}
-use Rattle.lists.proofs.Tests.{and-true}
+use Rattle.lists.proofs.Tests.{and-true, by-test}
 use Rattle.report_model.specs.Report.{Line, maxLines, joined, insert}
 use Rattle.report_model.proofs.Order.{insert-before, insert-same, insert-after, insert-nil}
 use Rattle.report.specs.Lines.{lineLength, lineAt, linesFrom, linesOf, Ordered, Place, Gap, Stored, Inserted}
@@ -24,47 +24,59 @@ use Rattle.report.proofs.Windows.{lines-count, lines-split, lines-next,
 
 -- ---- the search
 
-pub record Bracket (xs : List ℕ) (n x low high : ℕ) : Type 0 where
-  pub ordered : low ≤ high
-  pub within : high ≤ n
+-- lines before `low` are below x, lines from `low + size` on are not
+pub record Bracket (xs : List ℕ) (n x low size : ℕ) : Type 0 where
+  pub within : low ≤ n
+  pub few : low + size ≤ maxLines
   pub below : (i : ℕ) → i < low → lineAt xs i .identity < x
-  pub above : (i : ℕ) → high ≤ i → i < n → x ≤ lineAt xs i .identity
+  pub above : (i : ℕ) → low + size ≤ i → i < n → x ≤ lineAt xs i .identity
 
 module _ (xs : List ℕ) (n x : ℕ) where
-  pub bracket-start : Bracket xs n x 0 n
-  bracket-start = record { ordered = omega arith; within = omega arith; below = λ i h. absurd (omega arith); above = λ i h k. absurd (omega arith) }
+  pub bracket-start : n ≤ maxLines → Bracket xs n x 0 maxLines
+  bracket-start h = record { within = omega arith; few = omega arith; below = λ i l. absurd (omega arith); above = λ i l k. absurd (omega arith) }
 
-  module _ (order : Ordered xs n) (low high mid : ℕ) (b : Bracket xs n x low high) (l : low ≤ mid) (h : mid < high) where
-    pub bracket-up : lineAt xs mid .identity < x → Bracket xs n x (mid + 1) high
-    bracket-up lt = record {
-      ordered = omega arith;
-      within = b .within;
+  -- a turn: the last line of one half tells which half is left, and of an odd size the greater one comes first
+  module _ (order : Ordered xs n) (low size half end r : ℕ) (b : Bracket xs n x low size) (one : 1 ≤ half) (two : half ≤ size - half + 1) (most : half ≤ size) (e : end ≡ low + half) where
+    abbrev last : ℕ
+    last = end - 1
+
+    up : end ≤ n → lineAt xs last .identity < x → r ≡ end → Bracket xs n x r (size - half)
+    up h lt is = record {
+      within = omega arith;
+      few = omega (arith, b .few);
       below =
-          λ i k. elim (decLt i mid) [
-            | yes s ↦ omega (arith, order i mid s (omega (arith, b .within)), lt)
-            | no s ↦ let e : i ≡ mid = omega arith in omega (arith, ap (λ (m : ℕ). lineAt xs m .identity) e, lt)
+          λ i k. elim (decLt i last) [
+            | yes s ↦ omega (arith, order i last s (omega arith), lt)
+            | no s ↦ let f : i ≡ last = omega arith in omega (arith, ap (λ (m : ℕ). lineAt xs m .identity) f, lt)
           ];
-      above = b .above;
+      above = λ i k m. b .above i (omega arith) m;
     }
 
-    pub bracket-down : x ≤ lineAt xs mid .identity → Bracket xs n x low mid
-    bracket-down le = record {
-      ordered = l;
+    down : (end ≤ n → x ≤ lineAt xs last .identity) → r ≡ low → Bracket xs n x r (size - half)
+    down le is = record {
       within = omega (arith, b .within);
-      below = b .below;
+      few = omega (arith, b .few);
+      below = λ i k. b .below i (omega arith);
       above =
-          λ i k m. elim (decLt mid i) [
-            | yes s ↦ omega (arith, order mid i s m, le)
-            | no s ↦ let e : i ≡ mid = omega arith in omega (arith, ap (λ (m : ℕ). lineAt xs m .identity) e, le)
+          λ i k m. elim (decLt last i) [
+            | yes s ↦ omega (arith, order last i s m, le (omega arith))
+            | no s ↦ let f : i ≡ last = omega arith in omega (arith, ap (λ (m : ℕ). lineAt xs m .identity) f, le (omega arith))
           ];
     }
 
-  pub bracket-place : (low high : ℕ) → Bracket xs n x low high → high ≤ low → Place xs n x low
-  bracket-place low high b h = record {
-    within = omega (arith, b .ordered, b .within);
-    below = b .below;
-    above = λ i k m. b .above i (omega arith) m;
-  }
+    pub bracket-half : r ≡ cond (leb end n && ltb (lineAt xs last .identity) x) end low → Bracket xs n x r (size - half)
+    bracket-half is =
+        by-test {X = Bracket xs n x r (size - half)} (leb end n)
+        (λ t.
+        by-test {X = Bracket xs n x r (size - half)} (ltb (lineAt xs last .identity) x)
+        (λ u. up (leb-true end n t) (ltb-true (lineAt xs last .identity) x u) (is ∙ (rw (t, u))))
+        (λ f. down (λ h. ltb-false (lineAt xs last .identity) x f) (is ∙ (rw (t, f)))))
+        (λ f.
+        let past : n < end = leb-false end n f in
+        down (λ h. absurd (omega arith)) (is ∙ (rw f)))
+
+  pub bracket-place : (low size : ℕ) → Bracket xs n x low size → size ≡ 0 → Place xs n x low
+  bracket-place low size b z = record { within = b .within; below = b .below; above = λ i k m. b .above i (omega arith) m }
 
 -- ---- the gap
 

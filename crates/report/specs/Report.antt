@@ -11,11 +11,13 @@ use Rattle.archive_model.specs.Buffer.{maxRows, startScan}
 use Rattle.archive_model.specs.Append.{isScan}
 use Rattle.archive.specs.declared.Outcome.{Outcome}
 use Rattle.archive.specs.declared.Outcome.the-variants as outcome
-use Rattle.archive.specs.Archive.{scanOf}
+use Rattle.archive.specs.Archive.{scanOf, takenNumber}
 use Rattle.report_model.specs.Report as model
 use Rattle.report_model.specs.Pieces as pieces
 use Rattle.report.specs.declared.Report.{Report}
 use Rattle.report.specs.declared.Added.{Added}
+use Rattle.report.specs.declared.Adding.{Adding}
+use Rattle.report.specs.declared.Fed.{Fed}
 use Rattle.report.specs.declared.Share.{Share}
 use Rattle.report.specs.declared.Share.the-variants as share
 use Rattle.report.specs.declared.Looked.{Looked}
@@ -57,6 +59,17 @@ lineResult r = record {
   number = lookedNumber (r .answer);
   line = record { identity = r .identity; kept = r .kept; loose = r .loose; earliest = r .earliest; latest = r .latest };
 }
+
+-- ---- an archive in pieces
+
+abbrev pub addingOf : Adding → pieces.Adding
+addingOf a = record {
+  report = reportOf (a .before);
+  tally = record { lines = linesOf (a .lines) (a .count); kept = a .kept; loose = a .loose; over = a .over; scan = scanOf (a .scan) };
+}
+
+abbrev pub feedResult : Fed → pieces.Feeding
+feedResult r = pieces.fed (takenNumber (r .answer)) (addingOf (r .next))
 
 -- ---- what private functions say
 

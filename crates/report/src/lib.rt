@@ -5,15 +5,24 @@ mod tally;
 use archive::Outcome;
 use archive::Scan;
 use archive::Stage;
+use archive::Taken;
+use layout::BLOCK_LENGTH;
+use layout::CELLS_PER_BLOCK;
 use refusal::Refusal;
 use tally::Tally;
 ghost use mathlib.Core.Path.{_≡_};
+ghost use mathlib.Core.Bool.{cond};
+ghost use Prim.Native.Nat.{_+_, _*_, _^_, _≤_, _<_};
 ghost use lib.ListN.{length};
+ghost use Rattle.refusal.specs.Number.{numberOf};
+ghost use Rattle.layout.specs.Block.{blockLength};
+ghost use Rattle.archive_model.specs.Append.{isScan};
+ghost use Rattle.archive.specs.Archive.{scanOf};
 ghost use Rattle.report_model.specs.Report as model;
-ghost use Rattle.archive_model.specs.Buffer.{None};
-ghost use Rattle.report_model.specs.Pieces.{closed, closing};
+ghost use Rattle.archive_model.specs.Buffer.{None, isWhole, maxBlocks};
+ghost use Rattle.report_model.specs.Pieces.{closed, closing, startAdding, isAdding, fed, feedOf, endOf};
 ghost use Rattle.report.specs.Lines.{linesLength};
-ghost use Rattle.report.specs.Report.{reportOf, addedResult, shareResult, lineResult, tallyOf, keptWith, noLineFor, Starts};
+ghost use Rattle.report.specs.Report.{reportOf, addedResult, shareResult, lineResult, tallyOf, addingOf, feedResult, keptWith, noLineFor, Starts};
 
 // The numbers of a line.
 pub(crate) const LINE_LENGTH: usize = 5;
@@ -53,6 +62,24 @@ pub struct LineAt {
     pub loose: u64,
     pub earliest: u64,
     pub latest: u64,
+}
+
+// An archive that is added in pieces: the report as handed in; the scan, how many lines there are, the totals and the lines so far; and whether a
+// transmitter was one too many.
+pub struct Adding {
+    pub before: Report,
+    pub scan: Scan,
+    pub count: usize,
+    pub kept: u64,
+    pub loose: u64,
+    pub over: bool,
+    pub lines: [u64; Report::MAX_LINES * LINE_LENGTH],
+}
+
+// What is known after a piece, or beside a refusal what was handed in.
+pub struct Fed {
+    pub next: Adding,
+    pub answer: Taken,
 }
 
 impl Report {
@@ -126,6 +153,67 @@ impl Report {
             return Share::Refused(Refusal::Argument);
         }
         Share::PerMille(1000 * rows / received)
+    }
+}
+
+impl Adding {
+    // Before the first piece.
+    pub fn start(report: Report) -> Adding
+        ensures { λ r. ⌜ addingOf r ≡ startAdding (reportOf report) ⌝ }
+    {
+        let scan = Scan::start();
+        let lines = report.lines;
+        Adding {
+            before: report,
+            scan,
+            count: report.count,
+            kept: report.kept,
+            loose: report.loose,
+            over: false,
+            lines,
+        }
+    }
+
+    // The blocks of a piece, in their order. Refused: 11 for an adding that no pieces give, as far as its numbers tell, 16 for a piece that isn't whole
+    // blocks or brings more than 2^32 of them in all; then nothing is changed.
+    pub fn feed(self, piece: &[u8]) -> Fed
+        ensures { λ r. ⌜ feedResult r ≡ feedOf (addingOf self) (now (piece .entry)) ⌝ }
+    {
+        if !is_adding(self) {
+            return unchanged(self, Refusal::NotAccepted);
+        }
+        let scan = self.scan;
+        if !is_piece(scan.blocks, piece.len()) {
+            return unchanged(self, Refusal::Size);
+        }
+        let mut lines = self.lines;
+        let t = tally::add_blocks(&mut lines, so_far(self), piece);
+        let before = self.before;
+        let passed = t.scan;
+        Fed {
+            next: Adding {
+                before,
+                scan: passed,
+                count: t.count,
+                kept: t.kept,
+                loose: t.loose,
+                over: t.over,
+                lines,
+            },
+            answer: Taken::Done,
+        }
+    }
+
+    // What `add` answers for all pieces that were taken, as one archive. Refused: 11, 12 with the position, 10, 17; then the report is as it was.
+    pub fn end(self) -> Added
+        ensures { λ r. ⌜ addedResult r ≡ endOf (addingOf self) ⌝ }
+    {
+        let before = self.before;
+        if !is_adding(self) {
+            return kept(before, Refusal::NotAccepted);
+        }
+        let lines = self.lines;
+        close(before, so_far(self), lines)
     }
 }
 
@@ -235,4 +323,88 @@ fn sum_up(before: Report, t: Tally, lines: [u64; Report::MAX_LINES * LINE_LENGTH
         },
         answer: Outcome::Done,
     }
+}
+
+// ---- in pieces
+
+// What is known beside the lines.
+fn so_far(a: Adding) -> Tally
+    ensures { λ r. ⌜ tallyOf r (a .lines) ≡ addingOf a .tally ⌝ }
+{
+    let scan = a.scan;
+    Tally {
+        scan,
+        count: a.count,
+        kept: a.kept,
+        loose: a.loose,
+        over: a.over,
+    }
+}
+
+// Nothing is changed.
+fn unchanged(a: Adding, why: Refusal) -> Fed
+    ensures { λ r. ⌜ feedResult r ≡ fed (numberOf why) (addingOf a) ⌝ }
+{
+    Fed {
+        next: a,
+        answer: Taken::Refused(why),
+    }
+}
+
+// Whether a piece of so many bytes is whole blocks, at most 2^32 with those passed.
+fn is_piece(blocks: usize, len: usize) -> bool
+    requires { ⌜ blocks ≤ maxBlocks ⌝ }
+    ensures { λ r. ⌜ r ≡ isWhole (blockLength * blocks + len) ⌝ }
+{
+    if len % BLOCK_LENGTH != 0 {
+        return false;
+    }
+    blocks + len / BLOCK_LENGTH <= archive::MAX_BLOCKS
+}
+
+// Whether some blocks give this scan, as far as its numbers tell.
+fn is_scan(scan: Scan) -> bool
+    ensures { λ r. ⌜ r ≡ isScan (scanOf scan) ⌝ }
+{
+    let blocks = scan.blocks;
+    if archive::MAX_BLOCKS < blocks {
+        return false;
+    }
+    scan.rows <= CELLS_PER_BLOCK * blocks
+}
+
+// The rows of the lines so far, of a report with so many.
+fn rows_of(over: bool, before: u64, rows: usize) -> u64
+    requires { ⌜ before + rows < 2 ^ 63 ⌝ }
+    ensures { λ r. ⌜ r ≡ cond over 0 (before + rows) ⌝ }
+{
+    if over {
+        return 0;
+    }
+    before + rows as u64
+}
+
+// Whether some pieces give this adding, as far as its numbers tell.
+fn is_adding(a: Adding) -> bool
+    ensures { λ r. ⌜ r ≡ isAdding (addingOf a) ⌝ }
+{
+    let before = a.before;
+    if !is_report(before) {
+        return false;
+    }
+    let scan = a.scan;
+    if !is_scan(scan) {
+        return false;
+    }
+    if Report::MAX_LINES < a.count {
+        return false;
+    }
+    let rows = rows_of(a.over, before.kept + before.loose, scan.rows);
+    if rows < a.kept {
+        return false;
+    }
+    if rows - a.kept != a.loose {
+        return false;
+    }
+    lines::are_lines(&a.lines, a.count, a.kept, a.loose)
 }

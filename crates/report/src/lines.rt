@@ -3,26 +3,35 @@ use crate::LINE_LENGTH;
 use crate::Report;
 ghost use mathlib.Core.Path.{_≡_};
 ghost use mathlib.Core.Bool.{true, cond, _&&_};
-ghost use lib.Dec.{ltb, eqb};
+ghost use lib.Dec.{ltb, leb, eqb};
 ghost use Prim.Native.Nat.{_+_, _-_, _*_, _^_, _≤_, _<_, min, max};
 ghost use lib.ListN.{length};
 ghost use Rattle.report_model.specs.Report.{maxLines, joined, rowsOfLine, isRising, isTally};
 ghost use Rattle.report.specs.Lines.{lineLength, linesLength, lineAt, linesFrom, linesOf, rowLine, totalOf, isLineOf, isBefore, lineFits, Ordered, Place, Gap, Stored, Inserted};
 
-// How many of the first `count` lines have an identity below this one.
+// `end` where so many lines are all there and below this identity, else `low`.
+fn step(lines: &[u64], count: usize, identity: u64, low: usize, end: usize) -> usize
+    requires { ⌜ (length (now lines) ≡ linesLength) × (low < end) × (end ≤ maxLines) ⌝ }
+    ensures { λ r. ⌜ r ≡ cond (leb end count && ltb (lineAt (now (lines .entry)) (end - 1) .identity) identity) end low ⌝ }
+{
+    if (end <= count) & (lines[LINE_LENGTH * (end - 1)] < identity) {
+        return end;
+    }
+    low
+}
+
+// How many of the first `count` lines have an identity below this one. The turns are the same for every count, so that they can be laid out one
+// after another without a branch.
 fn find(lines: &[u64], count: usize, identity: u64) -> usize
-    requires { ⌜ (lineLength * count ≤ length (now lines)) × (count ≤ maxLines) × Ordered (now lines) count ⌝ }
+    requires { ⌜ (length (now lines) ≡ linesLength) × (count ≤ maxLines) × Ordered (now lines) count ⌝ }
     ensures { λ r. ⌜ Place (now (lines .entry)) count identity r ⌝ }
 {
     let mut low = 0;
-    let mut high = count;
-    while low < high {
-        let mid = low + ((high - low) >> 1);
-        if lines[LINE_LENGTH * mid] < identity {
-            low = mid + 1;
-        } else {
-            high = mid;
-        }
+    let mut size = Report::MAX_LINES;
+    while 0 < size {
+        let half = (size + 1) >> 1;
+        low = step(lines, count, identity, low, low + half);
+        size -= half;
     }
     low
 }

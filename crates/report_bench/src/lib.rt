@@ -1,11 +1,27 @@
 // Reports for C and Rust, on plain numbers and bytes: for the benchmark.
 use archive::Outcome;
+use report::Added;
+use report::Adding;
 use report::Report;
 
 // An archive added to an empty report: the number of the answer in the highest byte, then the lines in two bytes, and the rows below.
 #[no_mangle]
 pub extern "C" fn report_bench_add(buffer: &[u8]) -> u64 {
-    let r = Report::empty().add(buffer);
+    packed_of(Report::empty().add(buffer))
+}
+
+// The same in two pieces, the first of them half of the blocks.
+#[no_mangle]
+pub extern "C" fn report_bench_pieces(buffer: &[u8]) -> u64 {
+    let half = buffer.len() / 1024 * 512;
+    let first = Adding::start(Report::empty()).feed(&buffer[0..half]);
+    let between = first.next;
+    let second = between.feed(&buffer[half..buffer.len()]);
+    let last = second.next;
+    packed_of(last.end())
+}
+
+fn packed_of(r: Added) -> u64 {
     let answer = r.answer;
     let next = r.next;
     match answer {

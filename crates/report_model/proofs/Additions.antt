@@ -52,6 +52,13 @@ facts s h =
       loose = eqb-true (s .loose) (sumOf (λ a. a .loose) (s .lines)) (f .1);
     }
 
+pub report-tally : (s : Report) → isReport s ≡ true → isTally (s .lines) (s .kept) (s .loose) ≡ true
+unfolding isReport
+report-tally s h =
+    let a = both (leb (s .archives) maxArchives) _ h in
+    let b = both (leb (length (s .lines)) maxLines) _ (a .1) in
+    both (leb (s .kept + s .loose) (maxRows * s .archives)) _ (b .1) .1
+
 pub passed : (s : Report) → Passed s → isReport s ≡ true
 unfolding isReport isTally
 passed s p =
@@ -99,7 +106,7 @@ line-facts a h =
       one = e .1;
     }
 
-line-joined : (a b : Line) → isLine a ≡ true → isLine b ≡ true → isLine (joined a b) ≡ true
+pub line-joined : (a b : Line) → isLine a ≡ true → isLine b ≡ true → isLine (joined a b) ≡ true
 line-joined a b h k =
     let f = line-facts a h in
     let g = line-facts b k in

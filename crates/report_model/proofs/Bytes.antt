@@ -2,6 +2,7 @@
 --     all-append, all-part       a test of every element, over lists put together and over a part
 --     unbe-bytes                 what bytes spell
 --     known                      what is known of the rows of an archive
+--     blocks-bytes, cell-lines   its blocks are bytes, and each row of such a block gives a line
 -- Assumes nothing.
 use Prim.Native.Nat.{ℕ, zero, suc, _+_, _*_, _-_, _/_, _^_, _<_, _≤_}
 use native.Mathlib.Nat.{pow-suc, pow-le-pow-right, add-zero}
@@ -136,3 +137,20 @@ known buffer v t = record {
   few =
       omega (arith, exact-few buffer (length buffer / blockLength) (blocks-of buffer v .0) (verdict-facts buffer v .1), blocks-of buffer v .1);
 }
+
+-- ---- a block of bytes
+
+pub blocks-bytes : (buffer : List ℕ) → areBytes buffer ≡ true → all areBytes (blocksIn buffer) ≡ true
+unfolding blocksIn
+blocks-bytes buffer t =
+    all-each areBytes (λ k. part (blockLength * k) blockLength buffer) (λ k. all-part isByte (blockLength * k) blockLength buffer t) 0 (length buffer / blockLength)
+
+line-cell : (cell : List ℕ) → areBytes cell ≡ true → isLine (lineOf (rowIn cell)) ≡ true
+line-cell cell t =
+    isLineOf (rowIn cell) (narrow-bytes (rowIn cell) (shown-bytes cell t)) (unbe-bytes 8 (part 0 8 cell) (omega (arith, length-take 8 cell)) (all-part isByte 0 8 cell t))
+
+pub cell-lines : (block : List ℕ) → areBytes block ≡ true → all (λ r. isLine (lineOf r)) (rowsOf block) ≡ true
+unfolding rowsOf
+cell-lines block t =
+    all-each (λ (r : Row). isLine (lineOf r)) (λ i. rowIn (blockCell i block))
+    (λ i. line-cell (blockCell i block) (all-part isByte (headerLength + cellLength * i) cellLength block t)) 0 (rowCount block)

@@ -10,6 +10,7 @@ use Rattle.archive_model.specs.Row.{Row}
 use Rattle.archive_model.specs.Buffer.{rowsIn}
 use Rattle.archive_model.specs.Identity.{identityOf}
 use Rattle.report_model.specs.Report.{Line, Report, emptyReport, keptIn, looseIn, isRising, isReport, addOf, shareOf}
+use Rattle.report_model.specs.Pieces.{Adding, startAdding, isAdding, feedOf, endOf}
 
 -- ---- archives handed in one after another
 
@@ -92,3 +93,23 @@ pub record RoundedDown (t n received : ℕ) : Type 0 where
 
 abbrev pub ShareRoundedDown : Type 0
 ShareRoundedDown = (s : Report) (received : ℕ) → shareOf s received .number ≡ 0 → RoundedDown (shareOf s received .thousandths) (s .kept + s .loose) received
+
+-- ---- an archive handed in piece by piece
+
+-- what is known after the pieces
+abbrev pub feedAll : Adding → List (List ℕ) → Adding
+feedAll a [] = a
+feedAll a (p ∷ ps) = feedAll (feedOf a p .next) ps
+
+-- those that were answered 0
+abbrev pub fedPieces : Adding → List (List ℕ) → List (List ℕ)
+fedPieces a [] = []
+fedPieces a (p ∷ ps) = cond (eqb (feedOf a p .number) 0) (p ∷ fedPieces (feedOf a p .next) ps) (fedPieces (feedOf a p .next) ps)
+
+-- Pieces: what they give is refused with 11 just where the report is; and the pieces that were taken, refused ones anywhere between, answer at the
+-- end what the whole archive answers.
+abbrev pub PiecesAreWhole : Type 0
+PiecesAreWhole =
+    (s : Report) (pieces : List (List ℕ)) → all areBytes pieces ≡ true
+    → (isAdding (feedAll (startAdding s) pieces) ≡ isReport s)
+    × (endOf (feedAll (startAdding s) pieces) ≡ addOf s (flatten (fedPieces (startAdding s) pieces)))

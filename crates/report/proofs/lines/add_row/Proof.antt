@@ -15,7 +15,7 @@ use Rattle.report.proofs.lines.add_row.Tie as tie
 find-requires : tie.Need-find-requires
 find-requires c κs =
     let s = c .before .before in
-    (omega (arith, s .pre .0, s .pre .1), s .pre .0, ordered-of (now (s .args .lines)) (s .args .count) (s .pre .2))
+    (s .pre .1, s .pre .0, ordered-of (now (s .args .lines)) (s .args .count) (s .pre .2))
 
 -- what is known where the line is there
 found : (c : tie.Then1) → (c .before .before .before .find .result < c .before .before .before .before .before .before .args .count)

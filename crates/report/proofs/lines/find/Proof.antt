@@ -1,32 +1,44 @@
--- `report::lines::find` meets its contract. The invariant: lines before `low` are below the identity, lines from `high` on are not; the order
--- of the lines settles all on one side of the middle. The measure is `high - low`. Assumes nothing.
+-- `report::lines::find` meets its contract. The invariant: lines before `low` are below the identity, lines from `low + size` on are not; the
+-- order of the lines settles all on one side of the last line of a half. The measure is `size`. Assumes nothing.
 use Prim.Native.Nat.{ℕ, _+_, _-_, _/_}
 use native.Mathlib.Omega.{arith}
 use denote.Ref.{now}
-use Rattle.report.proofs.Places.{Bracket, bracket-start, bracket-up, bracket-down, bracket-place}
+use mathlib.Core.Path.{refl}
+use Rattle.report.proofs.Places.{Bracket, bracket-start, bracket-half, bracket-place}
 use Rattle.report.proofs.lines.find.Statement.{statement}
 use Rattle.report.proofs.lines.find.Tie as tie
 
 abbrev Inv-loop : tie.InvT-loop
-Inv-loop lines count identity low₀ high₀ low high = Bracket lines count identity low high
+Inv-loop lines count identity low₀ size₀ low size = Bracket lines count identity low size
 
 abbrev μ-loop : tie.MeasureT-loop
-μ-loop lines count identity low₀ high₀ low high = high - low
+μ-loop lines count identity low₀ size₀ low size = size
 
-abbrev middle : ℕ → ℕ → ℕ
-middle low high = low + (high - low) / 2
+step-requires : tie.Need-step-requires Inv-loop μ-loop
+step-requires c κs =
+    let at = c .before in
+    (at .before .before .pre .0, omega (arith, c .loop-test .taken), omega (arith, at .loop .inv .few, c .loop-test .taken))
 
 loop-again : tie.Need-loop-again Inv-loop μ-loop
 loop-again c =
-    let at = c .before .before .before in
-    let a = at .before .args in
-    bracket-up (now (a .lines)) (a .count) (a .identity) (at .before .pre .2) (at .loop .low) (at .loop .high) (middle (at .loop .low) (at .loop .high)) (at .loop .inv) (omega arith) (omega (arith, c .before .before .loop-test .taken)) (c .if1 .taken)
+    let d = c .before in
+    let at = d .before in
+    let s = at .before .before in
+    let low = at .loop .low in
+    let size = at .loop .size in
+    let half = (size + 1) / 2 in
+    bracket-half (now (s .args .lines)) (s .args .count) (s .args .identity) (s .pre .2) low size half (low + half) (c .step .result) (at .loop .inv)
+    (omega (arith, d .loop-test .taken))
+    (omega arith)
+    (omega (arith, d .loop-test .taken))
+    refl
+    (c .step .ensures)
 
-loop-again-2 : tie.Need-loop-again-2 Inv-loop μ-loop
-loop-again-2 c =
-    let at = c .before .before .before in
-    let a = at .before .args in
-    bracket-down (now (a .lines)) (a .count) (a .identity) (at .before .pre .2) (at .loop .low) (at .loop .high) (middle (at .loop .low) (at .loop .high)) (at .loop .inv) (omega arith) (omega (arith, c .before .before .loop-test .taken)) (c .if1 .left)
+returns : tie.Need-returns Inv-loop μ-loop
+returns c =
+    let at = c .before in
+    let a = at .before .before .args in
+    bracket-place (now (a .lines)) (a .count) (a .identity) (at .loop .low) (at .loop .size) (at .loop .inv) (omega (arith, c .loop-test .left))
 
 pub find-spec : {M : Type 1} → statement M
 find-spec =
@@ -34,15 +46,11 @@ find-spec =
     (tie.spec
     Inv-loop
     μ-loop
-    (λ c. bracket-start (now (c .args .lines)) (c .args .count) (c .args .identity))
-    (λ c. omega (arith, c .loop-test .taken))
-    (λ c. omega (arith, c .loop-test .taken, c .before .loop .inv .within, c .before .before .pre .1))
-    (λ c. omega (arith, c .loop-test .taken, c .before .loop .inv .within, c .before .before .pre .1))
-    (λ c. omega (arith, c .loop-test .taken, c .before .loop .inv .within, c .before .before .pre .1))
-    (λ c. omega (arith, c .before .loop-test .taken, c .before .before .loop .inv .within, c .before .before .before .pre .0))
-    (λ c. omega (arith, c .before .before .loop-test .taken, c .before .before .before .loop .inv .within, c .before .before .before .before .pre .1))
-    (λ c. omega (arith, c .before .before .loop-test .taken))
+    (λ c. bracket-start (now (c .before .args .lines)) (c .before .args .count) (c .before .args .identity) (c .before .pre .1))
+    (λ c. omega (arith, c .before .loop .inv .few))
+    (λ c. omega (arith, c .before .loop .inv .few, c .loop-test .taken))
+    step-requires
+    (λ c. omega (arith, c .before .loop-test .taken))
+    (λ c. omega (arith, c .before .loop-test .taken))
     loop-again
-    (λ c. omega (arith, c .before .before .loop-test .taken))
-    loop-again-2
-    (λ c. bracket-place (now (c .before .before .args .lines)) (c .before .before .args .count) (c .before .before .args .identity) (c .before .loop .low) (c .before .loop .high) (c .before .loop .inv) (c .loop-test .left)))
+    returns)

@@ -21,7 +21,8 @@ use Rattle.report.specs.declared.tally.Tally.{Tally}
 use Rattle.report.specs.Lines.{linesOf, rowsBetween, AddedRows}
 use Rattle.report.specs.Report.{tallyOf}
 use Rattle.report.proofs.Windows.{lines-count, lines-none}
-use Rattle.report.proofs.Blocks.{between-length, loose-few, fed, rows-after, counted-rows, used-few, used-rows, scan-few, over-block, done-block, over-before, over-now}
+use Rattle.report_model.proofs.Adding.{rows-after, used-few}
+use Rattle.report.proofs.Blocks.{between-length, loose-few, fed, counted-rows, used-rows, scan-few, over-block, done-block, over-before, over-now}
 use Rattle.report.proofs.tally.add_block.Statement.{statement}
 use Rattle.report.proofs.tally.add_block.Tie as tie
 

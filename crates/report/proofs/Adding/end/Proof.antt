@@ -1,0 +1,32 @@
+-- `report::Adding::end` meets its contract. Assumes nothing.
+use borrow.Author.Needs.{needs}
+use mathlib.Core.Path.{sym, ap, _∙_}
+use borrow.Author.Tests.{not-true, not-false}
+use Rattle.report_model.specs.Pieces.{closing}
+use Rattle.report.specs.Report.{reportOf, addingOf}
+use Rattle.report.proofs.Calls.{end-not, end-done}
+use Rattle.report.proofs.Adding.end.Statement.{statement}
+use Rattle.report.proofs.Adding.end.Tie as tie
+
+returns : tie.Need-returns
+returns c =
+    let t = c .before in
+    c .kept .ensures ∙ end-not (addingOf (t .before .before .before .args .self)) (sym (t .before .is-adding .ensures) ∙ not-true _ (t .if1 .taken))
+
+returns-2 : tie.Need-returns-2
+returns-2 c =
+    let e = c .before .before .before in
+    let a = e .before .before .before .args .self in
+    c .close .ensures ∙ ap (closing (reportOf (a .before))) (c .before .so-far .ensures)
+    ∙ end-done (addingOf a) (sym (e .before .is-adding .ensures) ∙ not-false _ (e .if1 .left))
+
+pub end-spec : {M : Type 1} → statement M
+end-spec =
+    tie.close
+    (tie.spec
+    (λ c κs. search needs)
+    (λ c κs. search needs)
+    returns
+    (λ c κs. search needs)
+    (λ c κs. search needs)
+    returns-2)

@@ -1,0 +1,22 @@
+-- `report::Adding::start` meets its contract. Assumes nothing.
+use borrow.Author.Needs.{needs}
+use mathlib.Core.Path.{ap}
+use mathlib.Core.Bool.{false}
+use Rattle.archive_model.specs.Buffer.{Scan}
+use Rattle.report_model.specs.Pieces.{adding}
+use Rattle.report.specs.Lines.{linesOf}
+use Rattle.report.specs.Report.{reportOf}
+use Rattle.report.proofs.Adding.start.Statement.{statement}
+use Rattle.report.proofs.Adding.start.Tie as tie
+
+returns : tie.Need-returns
+returns c =
+    let s = c .before .before .args .report in
+    ap (λ (scan : Scan). adding (reportOf s) (record { lines = linesOf (s .lines) (s .count); kept = s .kept; loose = s .loose; over = false; scan = scan })) (c .before .start .ensures)
+
+pub start-spec : {M : Type 1} → statement M
+start-spec =
+    tie.close
+    (tie.spec
+    (λ c κs. search needs)
+    returns)

@@ -1,0 +1,320 @@
+-- An archive in pieces: what pieces give, and that they are the whole.
+--     rows-after, blocks-after, sound-facts, used-few, counted-length, scanned-next     what a scan of one block tells
+--     Going, going                   the parts of `isAdding`
+--     adding-next, adding-blocks     it holds after blocks more
+--     pieces-blocks                  the blocks of two pieces
+--     Reached, reached-next          after the pieces that make a buffer
+--     pieces-are-whole               the claim
+-- Assumes nothing.
+use Prim.Native.Nat.{ℕ, zero, suc, _+_, _*_, _/_, _%_, _≤_, _<_}
+use native.Mathlib.Nat.{zero-add, add-zero, add-suc}
+use native.Mathlib.Omega.{arith}
+use mathlib.Core.Path.{_≡_, refl, sym, ap, ap₂, _∙_}
+use mathlib.Core.Bool.{Bool, true, false, cond, _||_}
+use mathlib.Core.List.{List, [], _∷_, _++_, map, flatten, append-assoc, append-nil, map-append}
+use lib.Dec.{ltb, leb, eqb}
+use lib.ListN.{length, length-append, length-map}
+use borrow.Author.Tests.{ltb-false, le-leb, leb-true, eq-eqb, eqb-true, ne-eqb}
+use Rattle.lists.specs.Lists.{all, upFrom}
+use Rattle.lists.proofs.Choice.{both, neither}
+use Rattle.lists.proofs.Tests.{and-true, by-test}
+use Rattle.lists.proofs.UpFrom.{upFrom-add, length-upFrom}
+use Rattle.refusal.specs.Number.{numberOf}
+use Rattle.refusal.specs.declared.Refusal.{Refusal}
+use Rattle.refusal.specs.declared.Refusal.the-variants.{NotAccepted, Size}
+use Rattle.refusal.proofs.Numbers.{refused-number}
+use Rattle.layout.specs.Buffer.{part}
+use Rattle.layout.specs.Block.{cellsPerBlock, blockLength}
+use Rattle.layout.proofs.Segments.{left, right}
+use Rattle.archive_model.specs.Row.{Row, rowCount, rowsOf, isRow, isSound}
+use Rattle.archive_model.specs.Buffer.{maxBlocks, isWhole, blocksIn, Scan, scanBlock}
+use Rattle.archive_model.specs.Append.{isScan}
+use Rattle.archive_model.proofs.Buffers.{map-same}
+use Rattle.archive_model.proofs.Pieces.{rows-count}
+use Rattle.report_model.specs.Report.{Line, Report, maxLines, lineOf, addRows, keptIn, looseIn, isLine, isRising, sumOf, isTally, isReport, addOf}
+use Rattle.report_model.specs.Pieces.{Tally, startTally, countedRows, counted, addBlock, addBlocks, closing, Adding, adding, startAdding, rowsSoFar, isAdding, isPiece, fed, feedOf, endOf}
+use Rattle.report_model.specs.Claims.{areBytes, feedAll, fedPieces, PiecesAreWhole}
+use Rattle.report_model.proofs.Lines.{all-added, rising-added, kept-added, loose-added, kinds}
+use Rattle.report_model.proofs.Additions.{facts, report-tally, line-joined}
+use Rattle.report_model.proofs.Bytes.{blocks-bytes, cell-lines}
+use Rattle.report_model.proofs.Pieces.{closing-is}
+
+-- ---- a block
+
+module _ (block : List ℕ) where
+  pub rows-after : (s : Scan) → scanBlock s block .rows ≡ s .rows + cond (isSound block) (rowCount block) 0
+  unfolding scanBlock
+  rows-after s = refl
+
+  pub blocks-after : (s : Scan) → scanBlock s block .blocks ≡ s .blocks + 1
+  unfolding scanBlock
+  blocks-after s = refl
+
+  pub sound-facts : isSound block ≡ true → (rowCount block ≤ cellsPerBlock) × (all isRow (rowsOf block) ≡ true)
+  unfolding isSound
+  sound-facts h =
+      let a = both (leb 1 (rowCount block)) _ h in
+      let b = both (leb (rowCount block) cellsPerBlock) _ (a .1) in
+      let c = both (all isRow (rowsOf block)) _ (b .1) in
+      (leb-true (rowCount block) cellsPerBlock (b .0), c .0)
+
+  pub used-few : (used : ℕ) → used ≡ cond (isSound block) (rowCount block) 0 → used ≤ cellsPerBlock
+  used-few used e = by-test {X = used ≤ cellsPerBlock} (isSound block) (λ t. rw (e, t) (sound-facts t .0)) (λ f. rw (e, f) (omega arith))
+
+  pub counted-length : length (countedRows block) ≡ cond (isSound block) (rowCount block) 0
+  counted-length = by-test {X = length (countedRows block) ≡ cond (isSound block) (rowCount block) 0} (isSound block) (λ t. rw t (rows-count block)) (λ f. rw f)
+
+  pub scanned-next : (s : Scan) → isScan s ≡ true → s .blocks < maxBlocks → isScan (scanBlock s block) ≡ true
+  scanned-next s t h =
+      let next = scanBlock s block in
+      let w = both (leb (s .blocks) maxBlocks) _ t in
+      let dense : s .rows ≤ cellsPerBlock * s .blocks = leb-true (s .rows) (cellsPerBlock * s .blocks) (w .1) in
+      let few : cond (isSound block) (rowCount block) 0 ≤ cellsPerBlock = used-few (cond (isSound block) (rowCount block) 0) refl in
+      and-true (le-leb (next .blocks) maxBlocks (omega (arith, blocks-after s)))
+      (le-leb (next .rows) (cellsPerBlock * next .blocks) (omega (arith, blocks-after s, rows-after s)))
+
+  counted-lines : areBytes block ≡ true → all (λ r. isLine (lineOf r)) (countedRows block) ≡ true
+  counted-lines t =
+      by-test {X = all (λ (r : Row). isLine (lineOf r)) (countedRows block) ≡ true} (isSound block) (λ s. rw s (cell-lines block t)) (λ f. rw f)
+
+pub tally-facts : (lines : List Line) (kept loose : ℕ) → isTally lines kept loose ≡ true
+    → (isRising lines ≡ true) × (kept ≡ sumOf (λ l. l .kept) lines) × (loose ≡ sumOf (λ l. l .loose) lines)
+unfolding isTally
+tally-facts lines kept loose t =
+    let b = both (isRising lines) _ (both (all isLine lines) _ t .1) in
+    let c = both (eqb kept (sumOf (λ l. l .kept) lines)) _ (b .1) in
+    (b .0, eqb-true kept (sumOf (λ l. l .kept) lines) (c .0), eqb-true loose (sumOf (λ l. l .loose) lines) (c .1))
+
+tally-added : (lines : List Line) (kept loose : ℕ) (rows : List Row) → all (λ r. isLine (lineOf r)) rows ≡ true → isTally lines kept loose ≡ true
+    → isTally (addRows rows lines) (kept + keptIn rows) (loose + looseIn rows) ≡ true
+unfolding isTally
+tally-added lines kept loose rows h t =
+    let f = tally-facts lines kept loose t in
+    and-true (all-added lines isLine rows h line-joined (both (all isLine lines) _ t .0))
+    (and-true (rising-added lines rows (f .0))
+    (and-true (eq-eqb (kept + keptIn rows) (sumOf (λ l. l .kept) (addRows rows lines)) (omega (arith, f .1, kept-added lines rows)))
+    (eq-eqb (loose + looseIn rows) (sumOf (λ l. l .loose) (addRows rows lines)) (omega (arith, f .2, loose-added lines rows)))))
+
+-- ---- an adding
+
+pub record Going (a : Adding) : Type 0 where
+  pub report : isReport (a .report) ≡ true
+  pub scanned : isScan (a .tally .scan) ≡ true
+  pub few : length (a .tally .lines) ≤ maxLines
+  pub rows : a .tally .kept + a .tally .loose ≡ rowsSoFar a
+  pub sums : isTally (a .tally .lines) (a .tally .kept) (a .tally .loose) ≡ true
+
+pub going : (a : Adding) → isAdding a ≡ true → Going a
+unfolding isAdding
+going a h =
+    let b = both (isReport (a .report)) _ h in
+    let c = both (isScan (a .tally .scan)) _ (b .1) in
+    let d = both (leb (length (a .tally .lines)) maxLines) _ (c .1) in
+    let e = both (eqb (a .tally .kept + a .tally .loose) (rowsSoFar a)) _ (d .1) in
+    record {
+      report = b .0;
+      scanned = c .0;
+      few = leb-true (length (a .tally .lines)) maxLines (d .0);
+      rows = eqb-true (a .tally .kept + a .tally .loose) (rowsSoFar a) (e .0);
+      sums = e .1;
+    }
+
+is-going : (a : Adding) → Going a → isAdding a ≡ true
+unfolding isAdding
+is-going a g =
+    and-true (g .report)
+    (and-true (g .scanned)
+    (and-true (le-leb (length (a .tally .lines)) maxLines (g .few))
+    (and-true (eq-eqb (a .tally .kept + a .tally .loose) (rowsSoFar a) (g .rows)) (g .sums))))
+
+start-going : (s : Report) → isReport s ≡ true → isAdding (startAdding s) ≡ true
+start-going s h = is-going (startAdding s) (record { report = h; scanned = refl; few = facts s h .few; rows = omega arith; sums = report-tally s h })
+
+no-tally : isTally [] 0 0 ≡ true
+unfolding isTally
+no-tally = refl
+
+adding-next : (s : Report) (t : Tally) (block : List ℕ) → isAdding (adding s t) ≡ true → t .scan .blocks < maxBlocks → areBytes block ≡ true → isAdding (adding s (addBlock t block)) ≡ true
+unfolding addBlock
+adding-next s t block h m bytes =
+    let g = going (adding s t) h in
+    let rows = countedRows block in
+    let next = scanBlock (t .scan) block in
+    let scanned = scanned-next block (t .scan) (g .scanned) m in
+    let grown : next .rows ≡ t .scan .rows + length rows = rows-after block (t .scan) ∙ omega (arith, counted-length block) in
+    by-test {X = isAdding (adding s (counted t rows next)) ≡ true} (t .over || ltb maxLines (length (addRows rows (t .lines))))
+    (λ o. rw o (is-going (adding s (record { lines = []; kept = 0; loose = 0; over = true; scan = next }))
+    (record { report = g .report; scanned = scanned; few = omega arith; rows = refl; sums = no-tally })))
+    (λ o.
+    let n = neither (t .over) (ltb maxLines (length (addRows rows (t .lines)))) o in
+    let before : t .kept + t .loose ≡ s .kept + s .loose + t .scan .rows = g .rows ∙ ap (λ (b : Bool). cond b 0 (s .kept + s .loose + t .scan .rows)) (n .0) in
+    rw o (is-going (adding s (record { lines = addRows rows (t .lines); kept = t .kept + keptIn rows; loose = t .loose + looseIn rows; over = false; scan = next }))
+    (record {
+      report = g .report;
+      scanned = scanned;
+      few = ltb-false maxLines (length (addRows rows (t .lines))) (n .1);
+      rows = omega (arith, kinds rows);
+      sums = tally-added (t .lines) (t .kept) (t .loose) rows (counted-lines block bytes) (g .sums);
+    })))
+
+pub blocks-one : (t : Tally) (block : List ℕ) → addBlock t block .scan .blocks ≡ t .scan .blocks + 1
+unfolding addBlock
+blocks-one t block =
+    by-test {X = counted t (countedRows block) (scanBlock (t .scan) block) .scan .blocks ≡ t .scan .blocks + 1} (t .over || ltb maxLines (length (addRows (countedRows block) (t .lines))))
+    (λ h. rw h (blocks-after block (t .scan)))
+    (λ h. rw h (blocks-after block (t .scan)))
+
+adding-blocks : (s : Report) (bs : List (List ℕ)) (t : Tally) → isAdding (adding s t) ≡ true → t .scan .blocks + length bs ≤ maxBlocks → all areBytes bs ≡ true
+    → (isAdding (adding s (addBlocks t bs)) ≡ true) × (addBlocks t bs .scan .blocks ≡ t .scan .blocks + length bs)
+unfolding addBlocks
+adding-blocks s [] t h m bytes = (h, omega arith)
+adding-blocks s (b ∷ bs) t h m bytes =
+    let w = both (areBytes b) (all areBytes bs) bytes in
+    let more = adding-blocks s bs (addBlock t b) (adding-next s t b h (omega arith) (w .0)) (omega (arith, blocks-one t b)) (w .1) in
+    (more .0, more .1 ∙ omega (arith, blocks-one t b))
+
+blocks-both : (xs ys : List (List ℕ)) (t : Tally) → addBlocks t (xs ++ ys) ≡ addBlocks (addBlocks t xs) ys
+unfolding addBlocks
+blocks-both [] ys t = refl
+blocks-both (b ∷ xs) ys t = blocks-both xs ys (addBlock t b)
+
+-- ---- the blocks of two pieces
+
+shifted : {A : Type 0} (f : ℕ → A) (n a m : ℕ) → map f (upFrom (n + a) m) ≡ map (λ j. f (n + j)) (upFrom a m)
+unfolding upFrom
+shifted f n a zero = refl
+shifted f n a (suc m) = ap (λ (l : List _). f (n + a) ∷ l) (ap (λ (i : ℕ). map f (upFrom i m)) (sym (add-suc n a)) ∙ shifted f n (suc a) m)
+
+blocks-count : (xs : List ℕ) → length (blocksIn xs) ≡ length xs / blockLength
+unfolding blocksIn
+blocks-count xs = length-map (upFrom 0 (length xs / blockLength)) (λ k. part (blockLength * k) blockLength xs) ∙ length-upFrom 0 (length xs / blockLength)
+
+module _ (xs ys : List ℕ) (e : length xs % blockLength ≡ 0) where
+  abbrev n : ℕ
+  n = length xs / blockLength
+
+  abbrev m : ℕ
+  m = length ys / blockLength
+
+  abbrev at : ℕ → List ℕ
+  at k = part (blockLength * k) blockLength (xs ++ ys)
+
+  pieces-blocks : blocksIn (xs ++ ys) ≡ blocksIn xs ++ blocksIn ys
+  unfolding blocksIn
+  pieces-blocks =
+      let count : length (xs ++ ys) / blockLength ≡ n + m = omega (arith, length-append xs ys) in
+      ap (λ (c : ℕ). map at (upFrom 0 c)) count
+      ∙ ap (map at) (upFrom-add 0 n m ∙ ap (λ (c : ℕ). upFrom 0 n ++ upFrom c m) (zero-add n ∙ sym (add-zero n))) ∙ map-append at (upFrom 0 n) (upFrom (n + 0) m)
+      ∙ ap₂ _++_
+      (map-same at (λ k. part (blockLength * k) blockLength xs) 0 n (λ k l h. left xs ys (length xs) (blockLength * k) blockLength refl (omega arith)))
+      (shifted at n 0 m
+      ∙ map-same (λ k. at (n + k)) (λ k. part (blockLength * k) blockLength ys) 0 m
+      (λ k l h.
+      let d : blockLength * (n + k) ≡ length xs + blockLength * k = omega arith in
+      ap (λ (a : ℕ). part a blockLength (xs ++ ys)) d ∙ right xs ys (length xs) (blockLength * k) blockLength refl))
+
+whole-blocks : (n : ℕ) → isWhole n ≡ true → (n % blockLength ≡ 0) × (n / blockLength ≤ maxBlocks)
+unfolding isWhole
+whole-blocks n h =
+    let b = both (eqb (n % blockLength) 0) _ h in
+    (eqb-true (n % blockLength) 0 (b .0), leb-true (n / blockLength) maxBlocks (b .1))
+
+-- ---- what pieces give
+
+-- after the pieces that make `done`
+record Reached (s : Report) (done : List ℕ) (a : Adding) : Type 0 where
+  is : a ≡ adding s (addBlocks (startTally s) (blocksIn done))
+  goes : isAdding a ≡ true
+  whole : isWhole (length done) ≡ true
+  blocks : blockLength * a .tally .scan .blocks ≡ length done
+
+-- a piece that is taken, and one that is not
+fed-one : (a b : Adding) (p : List ℕ) (ps : List (List ℕ)) → feedOf a p ≡ fed 0 b → (feedAll a (p ∷ ps) ≡ feedAll b ps) × (fedPieces a (p ∷ ps) ≡ p ∷ fedPieces b ps)
+fed-one a b p ps e = (rw e, rw e)
+
+fed-none : (a : Adding) (why : Refusal) (p : List ℕ) (ps : List (List ℕ)) → feedOf a p ≡ fed (numberOf why) a → (feedAll a (p ∷ ps) ≡ feedAll a ps) × (fedPieces a (p ∷ ps) ≡ fedPieces a ps)
+fed-none a why p ps e = (rw e, rw (e, ne-eqb (numberOf why) 0 (refused-number why)))
+
+module _ (s : Report) (yes : isReport s ≡ true) where
+  reached-first : Reached s [] (startAdding s)
+  unfolding isWhole blocksIn addBlocks upFrom
+  reached-first = record { is = refl; goes = start-going s yes; whole = refl; blocks = refl }
+
+  module _ (done : List ℕ) (a : Adding) (r : Reached s done a) where
+    reached-end : endOf a ≡ addOf s done
+    unfolding endOf
+    reached-end = rw (r .goes) (ap (λ (b : Adding). closing (b .report) (b .tally)) (r .is) ∙ closing-is s done yes (r .whole))
+
+    module _ (p : List ℕ) where
+      abbrev after : Adding
+      after = adding (a .report) (addBlocks (a .tally) (blocksIn p))
+
+      reached-next : areBytes p ≡ true → isPiece (a .tally .scan) p ≡ true → Reached s (done ++ p) after
+      reached-next bytes h =
+          let w = whole-blocks (blockLength * a .tally .scan .blocks + length p) h in
+          let d = whole-blocks (length done) (r .whole) in
+          let more = adding-blocks (a .report) (blocksIn p) (a .tally) (r .goes) (omega (arith, blocks-count p)) (blocks-bytes p bytes) in
+          let long : length (done ++ p) ≡ blockLength * a .tally .scan .blocks + length p = omega (arith, length-append done p, r .blocks) in
+          record {
+            is =
+                ap (λ (b : Adding). adding (b .report) (addBlocks (b .tally) (blocksIn p))) (r .is)
+                ∙ ap (adding s) (sym (blocks-both (blocksIn done) (blocksIn p) (startTally s)) ∙ ap (addBlocks (startTally s)) (sym (pieces-blocks done p (d .0))));
+            goes = more .0;
+            whole = ap isWhole long ∙ h;
+            blocks = omega (arith, more .1, blocks-count p);
+          }
+
+      fed-next : isPiece (a .tally .scan) p ≡ true → feedOf a p ≡ fed 0 after
+      unfolding feedOf
+      fed-next h = rw (r .goes, h)
+
+      fed-not : isPiece (a .tally .scan) p ≡ false → feedOf a p ≡ fed (numberOf Size) a
+      unfolding feedOf
+      fed-not h = rw (r .goes, h)
+
+  pieces-from : (pieces : List (List ℕ)) (done : List ℕ) (a : Adding) → Reached s done a → all areBytes pieces ≡ true
+      → (isAdding (feedAll a pieces) ≡ true) × (endOf (feedAll a pieces) ≡ addOf s (done ++ flatten (fedPieces a pieces)))
+  unfolding flatten
+  pieces-from [] done a r bytes = (r .goes, reached-end done a r ∙ ap (addOf s) (sym (append-nil done)))
+  pieces-from (p ∷ ps) done a r bytes =
+      let w = both (areBytes p) (all areBytes ps) bytes in
+      by-test {X = (isAdding (feedAll a (p ∷ ps)) ≡ true) × (endOf (feedAll a (p ∷ ps)) ≡ addOf s (done ++ flatten (fedPieces a (p ∷ ps))))} (isPiece (a .tally .scan) p)
+      (λ t.
+      let b = adding (a .report) (addBlocks (a .tally) (blocksIn p)) in
+      let one = fed-one a b p ps (fed-next done a r p t) in
+      let more = pieces-from ps (done ++ p) b (reached-next done a r p (w .0) t) (w .1) in (
+        ap isAdding (one .0) ∙ more .0,
+        ap endOf (one .0) ∙ more .1 ∙ ap (addOf s) (append-assoc done p (flatten (fedPieces b ps))) ∙ ap (λ (l : List (List ℕ)). addOf s (done ++ flatten l)) (sym (one .1)),
+      ))
+      (λ f.
+      let none = fed-none a Size p ps (fed-not done a r p f) in
+      let more = pieces-from ps done a r (w .1) in
+      (ap isAdding (none .0) ∙ more .0, ap endOf (none .0) ∙ more .1 ∙ ap (λ (l : List (List ℕ)). addOf s (done ++ flatten l)) (sym (none .1))))
+
+-- ---- a report that no archives give
+
+stuck : (pieces : List (List ℕ)) (a : Adding) → isAdding a ≡ false → (feedAll a pieces ≡ a) × (fedPieces a pieces ≡ [])
+unfolding feedOf
+stuck [] a f = (refl, refl)
+stuck (p ∷ ps) a f =
+    let none = fed-none a NotAccepted p ps (rw f) in
+    let more = stuck ps a f in
+    (none .0 ∙ more .0, none .1 ∙ more .1)
+
+start-not : (s : Report) → isReport s ≡ false → isAdding (startAdding s) ≡ false
+unfolding isAdding
+start-not s f = rw f
+
+end-not : (s : Report) (buffer : List ℕ) → isReport s ≡ false → endOf (startAdding s) ≡ addOf s buffer
+unfolding endOf addOf
+end-not s buffer f = rw (start-not s f, f)
+
+pub pieces-are-whole : PiecesAreWhole
+pieces-are-whole s pieces bytes =
+    by-test {X = (isAdding (feedAll (startAdding s) pieces) ≡ isReport s) × (endOf (feedAll (startAdding s) pieces) ≡ addOf s (flatten (fedPieces (startAdding s) pieces)))} (isReport s)
+    (λ t.
+    let r = pieces-from s t pieces [] (startAdding s) (reached-first s t) bytes in
+    (r .0 ∙ sym t, r .1))
+    (λ f.
+    let k = stuck pieces (startAdding s) (start-not s f) in
+    (ap isAdding (k .0) ∙ start-not s f ∙ sym f, ap endOf (k .0) ∙ end-not s (flatten (fedPieces (startAdding s) pieces)) f))
