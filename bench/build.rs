@@ -1,9 +1,8 @@
-// Links the archives that `rt staticlib` wrote.
+// Links the archives that `rt staticlib` wrote: `bench/run` makes them first.
 use std::path::PathBuf;
 
 fn main() {
-    let root = PathBuf::from(std::env::var("CARGO_MANIFEST_DIR").unwrap()).join("..");
-    let dir = root.join("target/staticlib").canonicalize().expect("bench/run makes the archives first");
+    let dir = PathBuf::from(std::env::var("CARGO_MANIFEST_DIR").unwrap()).join("../target/staticlib");
     println!("cargo:rustc-link-search=native={}", dir.display());
     for name in ["archive_bench", "burst_bench", "erp2_bench", "mooringeye", "repack_bench", "report_bench", "take_bench"] {
         println!("cargo:rustc-link-lib=static={name}");

@@ -1,7 +1,8 @@
 //! Receptions in bursts: the proved call, which tests its state once and copies it in and out once, against a hand-written walk over a slice
 //! of the same records, which writes the same replies and trusts its state. Both start each burst from the same state.
-use crate::collector::{cells, repeat, Answer, Collector, CELL};
+use crate::collector::{cells, CELL};
 use crate::{report, time};
+use collect_rust::collector::{repeat, Answer, Collector};
 use std::hint::black_box;
 
 // A slice passes as a pointer and a length. Nothing checks this line against the Rattle source.
@@ -41,19 +42,30 @@ fn records(cells: &[u8]) -> Vec<Record> {
         .collect()
 }
 
+/// What a repeater sends for a valid telegram, zero filled, and its length.
+fn sent_for(setting: u8, bytes: &[u8], sent: &mut [u8; 21]) -> usize {
+    let n = bytes.len();
+    sent[..n].copy_from_slice(bytes);
+    if repeat(setting, &mut sent[..n]) {
+        return n;
+    }
+    *sent = [0; 21];
+    0
+}
+
 #[inline(never)]
 fn walk(collector: &mut Collector, setting: u8, records: &[Record], replies: &mut [Reply]) {
     for (record, reply) in records.iter().zip(replies) {
         let mut sent = [0; 21];
         let bytes = record.bytes.get(..usize::from(record.len)).unwrap_or(&[]);
-        let (answer, len) = match collector.take(bytes, record.time) {
+        let (answer, len) = match collector.take(record.time, bytes) {
             Answer::Kept => {
-                let len = repeat(setting, bytes, &mut sent);
+                let len = sent_for(setting, bytes, &mut sent);
                 (1 + len as u64 * 65_536, len)
             }
             Answer::Copy => (1 << 32, 0),
             Answer::Loose => (1 << 48, 0),
-            Answer::Refused => (0, 0),
+            Answer::Refused(_) => (0, 0),
         };
         *reply = Reply { answer, sent, len };
     }
@@ -71,7 +83,7 @@ fn by_hand(cells: &[u8], size: usize, rounds: usize) -> u64 {
         walk(&mut collector, black_box(1), black_box(&all[MOST..MOST + size]), &mut replies[..size]);
         let reply = &black_box(&replies)[i % MOST];
         black_box((&reply.sent, reply.len));
-        figure = figure.wrapping_add(collector.totals[1]).wrapping_add(reply.answer);
+        figure = figure.wrapping_add(collector.totals.kept).wrapping_add(reply.answer);
     }
     figure
 }

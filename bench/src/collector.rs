@@ -1,6 +1,7 @@
 //! Receptions taken one after the other and classified, nothing sent: the proved collector, by value and with the test of its state at each call (`take`), and in
-//! place with none (`admit`), against a hand-written one that is changed in place and trusts its state.
+//! place with none (`admit`), against a hand-written one of the same job each time.
 use crate::{report, time, Random};
+use collect_rust::collector::{Answer, Collector};
 use collect_rust::hash::{hash, sum};
 use std::hint::black_box;
 
@@ -27,109 +28,50 @@ fn tests(cells: &[u8], rounds: u64) -> u64 {
     unsafe { bench_test(cells.as_ptr(), cells.len(), rounds) }
 }
 
-/// The same job by hand: the state in place, entries in opening order.
-#[derive(Clone)]
-pub struct Collector {
-    times: [u64; 64],
-    lens: [u8; 64],
-    bytes: [[u8; 21]; 64],
-    count: usize,
-    latest: u64,
-    pub totals: [u64; 6],
+/// The receptions of these cells, each with its time.
+fn receptions(cells: &[u8]) -> impl Iterator<Item = (u64, &[u8])> {
+    cells.chunks_exact(CELL).map(|cell| {
+        let time = u64::from_be_bytes(cell[..8].try_into().unwrap());
+        (time, &cell[9..9 + usize::from(cell[8]).min(21)])
+    })
 }
 
-pub enum Answer {
-    Kept,
-    Copy,
-    Loose,
-    Refused,
-}
-
-fn is_valid(s: &[u8]) -> bool {
-    let n = s.len();
-    (8..=21).contains(&n) && s[n - 1] == hash(&s[..n - 1]) && (s[0] != 0xA6 || (n >= 13 && s[1] != 0xA6))
-}
-
-impl Collector {
-    pub fn new() -> Collector {
-        Collector { times: [0; 64], lens: [0; 64], bytes: [[0; 21]; 64], count: 0, latest: 0, totals: [0; 6] }
-    }
-
-    fn holds(&self, i: usize, s: &[u8]) -> bool {
-        let n = s.len();
-        usize::from(self.lens[i]) == n
-            && self.bytes[i][n - 2] >> 4 == s[n - 2] >> 4
-            && self.bytes[i][..n - 2].iter().rev().eq(s[..n - 2].iter().rev())
-    }
-
-    fn close(&mut self, time: u64) {
-        let gone = self.times[..self.count].iter().take_while(|t| time - **t > 100).count();
-        if gone > 0 {
-            self.times.copy_within(gone..self.count, 0);
-            self.lens.copy_within(gone..self.count, 0);
-            self.bytes.copy_within(gone..self.count, 0);
-            self.count -= gone;
-        }
-    }
-
-    pub fn take(&mut self, s: &[u8], time: u64) -> Answer {
-        self.totals[0] += 1;
-        if !is_valid(s) {
-            self.totals[4] += 1;
-            return Answer::Refused;
-        }
-        if time < self.latest {
-            self.totals[5] += 1;
-            return Answer::Refused;
-        }
-        self.latest = time;
-        self.close(time);
-        // An original more than 40 ms after an opening is none of its copies.
-        let original = s[s.len() - 2] & 0x0F == 0;
-        if (0..self.count).any(|i| self.holds(i, s) && (!original || time - self.times[i] <= 40)) {
-            self.totals[2] += 1;
-            return Answer::Copy;
-        }
-        if self.count == 64 {
-            self.totals[3] += 1;
-            return Answer::Loose;
-        }
-        let (i, n) = (self.count, s.len());
-        self.times[i] = time;
-        self.lens[i] = n as u8;
-        self.bytes[i][..n].copy_from_slice(s);
-        self.count += 1;
-        self.totals[1] += 1;
-        Answer::Kept
+fn weight(answer: Answer) -> u64 {
+    match answer {
+        Answer::Kept => 1,
+        Answer::Copy => 1 << 32,
+        Answer::Loose => 1 << 48,
+        Answer::Refused(_) => 0,
     }
 }
 
-/// What a repeater sends for a valid telegram, and its length.
-pub fn repeat(setting: u8, s: &[u8], sent: &mut [u8; 21]) -> usize {
-    let n = s.len();
-    if s[n - 2] & 0x0F >= setting.min(2) {
-        return 0;
+fn by_hand_in_place(cells: &[u8]) -> u64 {
+    let mut collector = Collector::new();
+    let mut figure = 0u64;
+    for (time, bytes) in receptions(cells) {
+        figure = figure.wrapping_add(weight(collector.take(time, bytes)));
     }
-    sent[..n].copy_from_slice(s);
-    sent[n - 2] += 1;
-    sent[n - 1] = hash(&sent[..n - 1]);
-    n
+    figure
 }
 
 fn by_hand(cells: &[u8]) -> u64 {
     let mut collector = Collector::new();
-    let mut total = 0u64;
-    for cell in cells.chunks_exact(CELL) {
-        let time = u64::from_be_bytes(cell[..8].try_into().unwrap());
-        let n = usize::from(cell[8]).min(21);
-        total = total.wrapping_add(match collector.take(&cell[9..9 + n], time) {
-            Answer::Kept => 1,
-            Answer::Copy => 1 << 32,
-            Answer::Loose => 1 << 48,
-            Answer::Refused => 0,
-        });
+    let mut figure = 0u64;
+    for (time, bytes) in receptions(cells) {
+        let (next, answer) = black_box(collector).taken(time, bytes);
+        collector = next;
+        figure = figure.wrapping_add(weight(answer));
     }
-    total
+    figure
+}
+
+/// The state that these receptions leave behind, tested so many times, each second time with the last entry left out.
+fn tests_by_hand(cells: &[u8], rounds: u64) -> u64 {
+    let mut collector = Collector::new();
+    for (time, bytes) in receptions(cells) {
+        collector.take(time, bytes);
+    }
+    (0..rounds).map(|_| u64::from(black_box(&collector).is_acceptable())).sum()
 }
 
 /// Different telegrams so far apart that `open` of them are open at any time; each second one is heard again through a repeater.
@@ -184,28 +126,34 @@ pub fn bench() {
     for open in [4, 16, 64] {
         let cells = cells(open);
         let wanted = by_hand(&cells);
-        assert_eq!(proved(&cells), wanted, "{open} open");
-        assert_eq!(proved_in_place(&cells), wanted, "{open} open");
+        for take in [proved, proved_in_place, by_hand_in_place] {
+            assert_eq!(take(&cells), wanted, "{open} open");
+        }
         let run = |take: fn(&[u8]) -> u64| {
             time(RECEPTIONS, || {
                 black_box(take(black_box(&cells)));
             })
         };
-        let (take, admit, hand) = (run(proved), run(proved_in_place), run(by_hand));
-        report(&format!("a reception, {open} open, half of them copies, in place"), admit, hand);
-        report("  by value, its state tested", take, hand);
-        let test = test_time(&cells[..2 * open * CELL]);
-        println!("  of which the test of the state {test:.0} ns");
+        report(
+            &format!("a reception, {open} open, half of them copies, in place"),
+            run(proved_in_place),
+            run(by_hand_in_place),
+        );
+        report("  by value, its state tested", run(proved), run(by_hand));
+        report_test("  of which the test of the state", &cells[..2 * open * CELL]);
     }
     let cells = openings();
     assert_eq!(proved(&cells), by_hand(&cells));
-    println!("the test of a state with 21 telegrams opened three times each: {:.0} ns", test_time(&cells));
+    report_test("the test of a state with 21 telegrams opened three times each", &cells);
 }
 
-/// Nanoseconds for the test of the state that these receptions leave behind.
-fn test_time(cells: &[u8]) -> f64 {
-    assert_eq!(tests(cells, 2), 2);
-    time(RECEPTIONS, || {
-        black_box(tests(black_box(cells), black_box(RECEPTIONS as u64)));
-    })
+/// The test of the state that these receptions leave behind.
+fn report_test(what: &str, cells: &[u8]) {
+    let run = |tests: fn(&[u8], u64) -> u64| {
+        assert_eq!(tests(cells, 2), 2);
+        time(RECEPTIONS, || {
+            black_box(tests(black_box(cells), black_box(RECEPTIONS as u64)));
+        })
+    };
+    report(what, run(tests), run(tests_by_hand));
 }

@@ -1,5 +1,5 @@
-//! The collector (document 01, "Merging" and "Repeater step"; document 02, A3 and A6), its state
-//! changed in place.
+//! The collector (document 01, "Merging" and "Repeater step"; document 02, A3, A6, A7 and A8), its
+//! state changed in place.
 
 use crate::hash::{hash, renew};
 
@@ -19,18 +19,18 @@ const SUM: u8 = 2;
 const NESTED: u8 = 3;
 const CLOCK: u8 = 7;
 const FULL: u8 = 8;
+const NOT_ACCEPTED: u8 = 11;
 const CRC: u8 = 13;
 
+#[derive(Clone, Copy)]
 pub enum Answer {
-    /// Kept, and the reception's bytes are now those to send.
-    Send,
     Kept,
     Copy,
     Loose,
     Refused(u8),
 }
 
-#[derive(Default)]
+#[derive(Clone, Default)]
 pub struct Totals {
     pub received: u64,
     pub kept: u64,
@@ -44,31 +44,43 @@ pub struct Totals {
 /// HASH with the level cleared, zero filled, and the length.
 type Key = [u8; 24];
 
+#[derive(Clone)]
 pub struct Collector {
     pub totals: Totals,
-    setting: u8,
     latest: u64,
     /// The open telegrams, in order of time, are the `count` from `first` on, going round.
     first: usize,
     count: usize,
     times: [u64; CAPACITY],
     keys: [Key; CAPACITY],
+    /// STATUS and HASH as first received.
+    ends: [[u8; 2]; CAPACITY],
+    /// How often each was heard again.
+    copies: [u16; CAPACITY],
+}
+
+impl Default for Collector {
+    fn default() -> Collector {
+        Collector::new()
+    }
 }
 
 impl Collector {
-    pub fn new(setting: u8) -> Collector {
+    pub fn new() -> Collector {
         Collector {
             totals: Totals::default(),
-            setting,
             latest: 0,
             first: 0,
             count: 0,
             times: [0; CAPACITY],
             keys: [[0; 24]; CAPACITY],
+            ends: [[0; 2]; CAPACITY],
+            copies: [0; CAPACITY],
         }
     }
 
-    pub fn take(&mut self, time: u64, bytes: &mut [u8]) -> Answer {
+    /// Takes a reception and classifies it; what is sent for one that is kept is `repeat`.
+    pub fn take(&mut self, time: u64, bytes: &[u8]) -> Answer {
         if self.totals.received == u64::MAX {
             return Answer::Refused(FULL);
         }
@@ -85,7 +97,8 @@ impl Collector {
         self.expire();
         let key = key(bytes);
         let original = bytes[bytes.len() - 2] & 0x0F == 0;
-        if self.is_copy(&key, original) {
+        if let Some(at) = self.copied(&key, original) {
+            self.copies[at] = self.copies[at].saturating_add(1);
             self.totals.copies += 1;
             return Answer::Copy;
         }
@@ -94,12 +107,8 @@ impl Collector {
             return Answer::Loose;
         }
         self.totals.kept += 1;
-        self.open(time, key);
-        if repeat(self.setting, bytes) {
-            Answer::Send
-        } else {
-            Answer::Kept
-        }
+        self.open(time, key, [bytes[bytes.len() - 2], bytes[bytes.len() - 1]]);
+        Answer::Kept
     }
 
     /// Drops those that are no longer open: the oldest stand first.
@@ -110,10 +119,10 @@ impl Collector {
         }
     }
 
-    /// Of the open telegrams that are the same the latest decides.
-    fn is_copy(&self, key: &Key, original: bool) -> bool {
+    /// Of the open telegrams that are the same the latest decides: where it stands, for a copy.
+    fn copied(&self, key: &Key, original: bool) -> Option<usize> {
         self.last(key)
-            .is_some_and(|at| !original || self.latest - self.times[at] <= TX_MATURITY)
+            .filter(|&at| !original || self.latest - self.times[at] <= TX_MATURITY)
     }
 
     /// Where the latest open telegram with this key stands.
@@ -130,11 +139,93 @@ impl Collector {
         }
     }
 
-    fn open(&mut self, time: u64, key: Key) {
+    fn open(&mut self, time: u64, key: Key, end: [u8; 2]) {
         let at = (self.first + self.count) % CAPACITY;
         self.times[at] = time;
         self.keys[at] = key;
+        self.ends[at] = end;
+        self.copies[at] = 0;
         self.count += 1;
+    }
+}
+
+/// The test of a state (document 01, "Parked collector"): whether an image could be written of it.
+impl Collector {
+    pub fn is_acceptable(&self) -> bool {
+        self.count <= CAPACITY
+            && self.first < CAPACITY
+            && self.are_timely()
+            && self.are_telegrams()
+            && self.totals.are_summed()
+            && self.count as u64 <= self.totals.kept
+    }
+
+    /// Takes a reception into a state of which nothing is known, and hands the next one back.
+    pub fn taken(mut self, time: u64, bytes: &[u8]) -> (Collector, Answer) {
+        if !self.is_acceptable() {
+            return (self, Answer::Refused(NOT_ACCEPTED));
+        }
+        let answer = self.take(time, bytes);
+        (self, answer)
+    }
+
+    fn places(&self) -> impl Iterator<Item = usize> + '_ {
+        (0..self.count).map(|i| (self.first + i) % CAPACITY)
+    }
+
+    /// In order of time, open at the latest, and none later than it.
+    fn are_timely(&self) -> bool {
+        let mut earliest = self.latest.saturating_sub(MATURITY);
+        for at in self.places() {
+            if self.times[at] < earliest {
+                return false;
+            }
+            earliest = self.times[at];
+        }
+        earliest <= self.latest
+    }
+
+    /// Valid, and none a copy of one before it: only where a mark was seen are those searched.
+    fn are_telegrams(&self) -> bool {
+        let mut seen = [false; 1024];
+        for (i, at) in self.places().enumerate() {
+            let key = &self.keys[at];
+            let n = usize::from(key[23]);
+            if !(MIN_LEN..=MAX_LEN).contains(&n) {
+                return false;
+            }
+            let mut bytes = [0; 24];
+            bytes[..n - 2].copy_from_slice(&key[..n - 2]);
+            bytes[n - 2..n].copy_from_slice(&self.ends[at]);
+            if refusal(&bytes[..n]).is_some() {
+                return false;
+            }
+            let mark = (4 * usize::from(key[n - 3]) + 67 * usize::from(key[n - 4])) % 1024;
+            if seen[mark] && self.is_repeated(i, at) {
+                return false;
+            }
+            seen[mark] = true;
+        }
+        true
+    }
+
+    /// Whether the entry is a copy of one of the first `i`.
+    fn is_repeated(&self, i: usize, at: usize) -> bool {
+        let original = self.ends[at][0] & 0x0F == 0;
+        self.places().take(i).any(|earlier| {
+            self.keys[earlier] == self.keys[at]
+                && (!original || self.times[at] - self.times[earlier] <= TX_MATURITY)
+        })
+    }
+}
+
+impl Totals {
+    /// Received is the sum of the others, without wrapping.
+    fn are_summed(&self) -> bool {
+        [self.copies, self.loose, self.damaged, self.late]
+            .iter()
+            .try_fold(self.kept, |sum, &n| sum.checked_add(n))
+            == Some(self.received)
     }
 }
 
@@ -166,8 +257,9 @@ fn key(bytes: &[u8]) -> Key {
     key
 }
 
-/// Makes the bytes those that the setting sends on, if any.
-fn repeat(setting: u8, bytes: &mut [u8]) -> bool {
+/// Makes the bytes of a valid telegram those that the setting sends on, if any.
+#[inline]
+pub fn repeat(setting: u8, bytes: &mut [u8]) -> bool {
     let status = bytes.len() - 2;
     let repeats = bytes[status] & 0x0F < setting;
     if repeats {

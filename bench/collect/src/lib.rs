@@ -5,7 +5,7 @@ pub mod collector;
 pub mod hash;
 pub mod text;
 
-use collector::Collector;
+use collector::{repeat, Answer, Collector};
 use std::io::{self, ErrorKind, Read, Write};
 use text::{MAX_BYTES, MAX_LINE};
 
@@ -17,11 +17,17 @@ pub enum Failure {
     Output(io::Error),
 }
 
+/// A collector, and the setting of the first line.
+struct Run {
+    setting: u8,
+    collector: Collector,
+}
+
 /// Where the run stands.
 enum Stage {
     /// Before the first line.
     Start,
-    Lines(Box<Collector>),
+    Lines(Box<Run>),
     /// After a bad first line.
     Ended,
 }
@@ -59,7 +65,7 @@ pub fn run(mut input: impl Read, mut output: impl Write) -> Result<(), Failure> 
     }
     match stage {
         Stage::Start => text::bad(&mut rows),
-        Stage::Lines(collector) => text::totals(&mut rows, &collector.totals),
+        Stage::Lines(run) => text::totals(&mut rows, &run.collector.totals),
         Stage::Ended => {}
     }
     output.write_all(&rows).map_err(Failure::Output)?;
@@ -68,13 +74,16 @@ pub fn run(mut input: impl Read, mut output: impl Write) -> Result<(), Failure> 
 
 /// Takes whole lines.
 fn lines(stage: Stage, mut text: &[u8], rows: &mut Vec<u8>) -> Stage {
-    let mut collector = match stage {
-        Stage::Lines(collector) => collector,
+    let mut run = match stage {
+        Stage::Lines(run) => run,
         Stage::Start if !text.is_empty() => {
             let (line, rest) = split_line(text);
             text = rest;
             match text::setting(line) {
-                Some(setting) => Box::new(Collector::new(setting)),
+                Some(setting) => Box::new(Run {
+                    setting,
+                    collector: Collector::new(),
+                }),
                 None => {
                     text::bad(rows);
                     return Stage::Ended;
@@ -88,8 +97,9 @@ fn lines(stage: Stage, mut text: &[u8], rows: &mut Vec<u8>) -> Stage {
         match text::reception(text, &mut bytes) {
             Some(line) => {
                 let bytes = &mut bytes[..line.count];
-                let answer = collector.take(line.time, bytes);
-                text::row(rows, line.time, &answer, bytes);
+                let answer = run.collector.take(line.time, bytes);
+                let sent = matches!(answer, Answer::Kept) && repeat(run.setting, bytes);
+                text::row(rows, line.time, answer, sent.then_some(bytes));
                 text = &text[line.used..];
             }
             None => {
@@ -98,7 +108,7 @@ fn lines(stage: Stage, mut text: &[u8], rows: &mut Vec<u8>) -> Stage {
             }
         }
     }
-    Stage::Lines(collector)
+    Stage::Lines(run)
 }
 
 /// The first line without its newline, and what follows it.

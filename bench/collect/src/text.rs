@@ -88,23 +88,25 @@ fn time(text: &[u8]) -> Option<(u64, usize)> {
     (width == 1 || width > 1 && text[0] != b'0').then_some((value, width))
 }
 
-/// The row of a reception; `bytes` are those to send, if any.
-pub fn row(out: &mut Vec<u8>, time: u64, answer: &Answer, bytes: &[u8]) {
+/// The row of a reception, with the bytes that are sent for it, if any.
+pub fn row(out: &mut Vec<u8>, time: u64, answer: Answer, sent: Option<&mut [u8]>) {
     number(out, time);
     match answer {
-        Answer::Send => {
-            out.extend_from_slice(b" KEPT SEND ");
-            for &byte in bytes {
-                out.extend_from_slice(&HEX[usize::from(byte)]);
+        Answer::Kept => {
+            out.extend_from_slice(b" KEPT");
+            if let Some(bytes) = sent {
+                out.extend_from_slice(b" SEND ");
+                for &byte in bytes.iter() {
+                    out.extend_from_slice(&HEX[usize::from(byte)]);
+                }
             }
             out.push(b'\n');
         }
-        Answer::Kept => out.extend_from_slice(b" KEPT\n"),
         Answer::Copy => out.extend_from_slice(b" COPY\n"),
         Answer::Loose => out.extend_from_slice(b" LOOSE\n"),
         Answer::Refused(refusal) => {
             out.extend_from_slice(b" REFUSED ");
-            number(out, u64::from(*refusal));
+            number(out, u64::from(refusal));
             out.push(b'\n');
         }
     }

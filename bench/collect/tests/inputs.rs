@@ -2,7 +2,7 @@
 
 use std::fs;
 use std::io::Read;
-use std::path::{Path, PathBuf};
+use std::path::Path;
 
 /// Hands out at most so many bytes at once.
 struct Pieces<'a>(&'a [u8], usize);
@@ -16,38 +16,42 @@ impl Read for Pieces<'_> {
     }
 }
 
-fn check(input: &Path, expected: &Path) {
-    let text = fs::read(input).unwrap();
-    let expected = fs::read(expected).unwrap();
+fn check(name: &str, text: &[u8], expected: &[u8]) {
     for size in [1, 7, 100, 4096, usize::MAX] {
         let mut output = Vec::new();
-        assert!(collect_rust::run(Pieces(&text, size), &mut output).is_ok());
-        assert!(
-            output == expected,
-            "{} in pieces of {size}",
-            input.display()
-        );
+        assert!(collect_rust::run(Pieces(text, size), &mut output).is_ok());
+        assert!(output == expected, "{name} in pieces of {size}");
     }
 }
 
-#[test]
-fn stored_inputs() {
+fn read(path: &str) -> Vec<u8> {
     let root = Path::new(env!("CARGO_MANIFEST_DIR")).join("../..");
+    fs::read(root.join(path)).unwrap()
+}
+
+#[test]
+fn the_sample_and_the_scope() {
     check(
-        &root.join("samples/plant.txt"),
-        &root.join("samples/plant.expected"),
+        "sample",
+        &read("samples/plant.txt"),
+        &read("samples/plant.expected"),
     );
-    let mut folders: Vec<PathBuf> = fs::read_dir(root.join("crates"))
-        .unwrap()
-        .map(|entry| entry.unwrap().path())
-        .filter(|path| {
-            let name = path.file_name().unwrap().to_str().unwrap();
-            name.starts_with("collect") && path.join("stdin").exists()
-        })
-        .collect();
-    folders.sort();
-    assert!(folders.len() >= 8);
-    for folder in folders {
-        check(&folder.join("stdin"), &folder.join("stdout"));
+    check(
+        "scope",
+        &read("crates/collect/stdin"),
+        &read("crates/collect/stdout"),
+    );
+}
+
+/// The rows of each input stand under a line with its name; no row begins like that line.
+#[test]
+fn further_inputs() {
+    let stored = String::from_utf8(read("crates/collect_runs/stdout")).unwrap();
+    let parts: Vec<&str> = stored.split("== ").skip(1).collect();
+    assert!(parts.len() >= 8);
+    for part in parts {
+        let (name, expected) = part.split_once('\n').unwrap();
+        let text = read(&format!("crates/collect_runs/data/{name}"));
+        check(name, &text, expected.as_bytes());
     }
 }

@@ -9,6 +9,7 @@ use line_input::Setting;
 use line_output::Row;
 use model::Answer;
 pub use program::run;
+pub use program::run_on;
 ghost use mathlib.Core.Path.{_≡_};
 ghost use mathlib.Core.List.{List};
 ghost use Prim.Native.Nat.{ℕ, _+_, _≤_};

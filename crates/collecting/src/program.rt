@@ -39,20 +39,25 @@ pub(crate) struct Drain {
 
 // Runs `collect` on standard input and output.
 pub fn run() {
+    run_on(STDIN_FILENO);
+}
+
+// Runs `collect` on what is read from a descriptor.
+pub fn run_on(input: i32) {
     let mut buffer = io::large_buffer();
     let mut out = io::large_buffer();
-    read_chunks(&mut buffer, &mut out);
+    read_chunks(input, &mut buffer, &mut out);
 }
 
 // A proved loop has to end, and nothing says that the input does: `left` falls from a number that no run uses up.
-fn read_chunks(buffer: &mut [u8], out: &mut [u8])
+fn read_chunks(input: i32, buffer: &mut [u8], out: &mut [u8])
     requires { ⌜ (length (now buffer) ≡ 65536) × (length (now out) ≡ 65536) ⌝ }
 {
     let mut s = Session::start();
     let mut kept = 0;
     let mut left = u64::MAX;
     while 0 < left {
-        let t = read_chunk(s, kept, buffer, out);
+        let t = read_chunk(input, s, kept, buffer, out);
         let next = t.next;
         if !is_read(next) {
             end(t, buffer, out);
@@ -75,12 +80,12 @@ fn is_read(next: Next) -> bool
 }
 
 // Reads once behind what is kept of a line, and takes the chunk.
-fn read_chunk(s: Session, kept: usize, buffer: &mut [u8], out: &mut [u8]) -> Turn
+fn read_chunk(input: i32, s: Session, kept: usize, buffer: &mut [u8], out: &mut [u8]) -> Turn
     requires { ⌜ Kept kept (now buffer) × (longestFinish ≤ length (now out)) ⌝ }
     ensures { λ r. ⌜ (isSound (r .next) ≡ true → Kept (r .kept) (now (buffer .exit))) ⌝ }
 {
     let part = &mut buffer[kept..];
-    let got = libc::read(STDIN_FILENO, part);
+    let got = libc::read(input, part);
     let n = io::count(got, part);
     if got < 0 {
         return Turn {

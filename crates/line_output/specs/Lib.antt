@@ -1,3 +1,3 @@
-pub mod Letters
+pub mod Codes
 pub mod Text
 pub mod Printed

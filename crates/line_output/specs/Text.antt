@@ -4,7 +4,7 @@ use mathlib.Core.Bool.{cond}
 use mathlib.Core.List.{List, [], _∷_, _++_}
 use lib.Dec.{ltb}
 use Rattle.line_input.specs.Ascii.{newline, space, digit0, upperA}
-use Rattle.line_output.specs.Letters.{A, B, C, D, E, F, G, I, K, L, M, N, O, P, R, S, T, U, «V», Y}
+use Rattle.line_output.specs.Codes.{codes}
 use Rattle.line_output.specs.declared.Row.{Row}
 
 -- n in decimal, in at most k digits: a number below ten is a digit, any other has the digits of its tenth and then its last one
@@ -26,19 +26,19 @@ hexText [] = []
 hexText (b ∷ bs) = hexDigitOf (b / 16) ∷ hexDigitOf (b % 16) ∷ hexText bs
 
 abbrev pub keptWord : List ℕ
-keptWord = K ∷ E ∷ P ∷ T ∷ []
+keptWord = codes "KEPT"
 
 abbrev pub sendWord : List ℕ
-sendWord = S ∷ E ∷ N ∷ D ∷ []
+sendWord = codes "SEND"
 
 abbrev pub copyWord : List ℕ
-copyWord = C ∷ O ∷ P ∷ Y ∷ []
+copyWord = codes "COPY"
 
 abbrev pub looseWord : List ℕ
-looseWord = L ∷ O ∷ O ∷ S ∷ E ∷ []
+looseWord = codes "LOOSE"
 
 abbrev pub refusedWord : List ℕ
-refusedWord = R ∷ E ∷ F ∷ U ∷ S ∷ E ∷ D ∷ []
+refusedWord = codes "REFUSED"
 
 -- ` SEND ` and the bytes to send, where there are any
 abbrev pub sendText : List ℕ → List ℕ
@@ -62,7 +62,7 @@ rowText time row sent = rowBehind (decimalText time) row sent
 
 -- the row of a line that is BAD
 abbrev pub badText : List ℕ
-badText = B ∷ A ∷ D ∷ newline ∷ []
+badText = codes "BAD\n"
 
 -- a total after its name
 abbrev pub counted : List ℕ → ℕ → List ℕ
@@ -71,10 +71,10 @@ counted name n = name ++ decimalText n
 -- the totals, in this order
 unfoldable pub totalsText : (received kept copies loose damaged late : ℕ) → List ℕ
 totalsText received kept copies loose damaged late =
-    counted (R ∷ E ∷ C ∷ E ∷ I ∷ «V» ∷ E ∷ D ∷ space ∷ []) received
-    ++ counted (space ∷ K ∷ E ∷ P ∷ T ∷ space ∷ []) kept
-    ++ counted (space ∷ C ∷ O ∷ P ∷ I ∷ E ∷ S ∷ space ∷ []) copies
-    ++ counted (space ∷ L ∷ O ∷ O ∷ S ∷ E ∷ space ∷ []) loose
-    ++ counted (space ∷ D ∷ A ∷ M ∷ A ∷ G ∷ E ∷ D ∷ space ∷ []) damaged
-    ++ counted (space ∷ L ∷ A ∷ T ∷ E ∷ space ∷ []) late
+    counted (codes "RECEIVED ") received
+    ++ counted (codes " KEPT ") kept
+    ++ counted (codes " COPIES ") copies
+    ++ counted (codes " LOOSE ") loose
+    ++ counted (codes " DAMAGED ") damaged
+    ++ counted (codes " LATE ") late
     ++ (newline ∷ [])

@@ -1,7 +1,8 @@
-//! Inputs of `collect` (document 01, "Cases", the program's text), one for each program crate
-//! collect_NAME: first lines and last lines, lines of every BAD kind beside right ones,
+//! Inputs of `collect` (document 01, "Cases", the program's text), a file each in the data of the
+//! crate collect_runs: first lines and last lines, lines of every BAD kind beside right ones,
 //! lines longer than any chunk, garbage, the sample, and a long random run.
 
+use crate::collect;
 use crate::hex::hex;
 use crate::random::Random;
 use crate::sample;
@@ -40,6 +41,14 @@ pub fn stdin(name: &str) -> Option<Vec<u8>> {
         "random" => random(),
         _ => return None,
     })
+}
+
+/// What `collect` prints for each of them, under a line with its name.
+pub fn stdout() -> String {
+    NAMES
+        .iter()
+        .map(|name| format!("== {name}\n{}", collect::run(&stdin(name).expect(name))))
+        .collect()
 }
 
 /// Lines, each with the row that it gets at setting 2. `%` stands for the right telegram.

@@ -63,10 +63,8 @@ fn main() {
         }
         ["sample", "stdout"] => sample::plant().into_bytes(),
         ["inputs", name, "stdin"] => inputs::stdin(name).unwrap_or_else(usage),
-        ["inputs", name, "stdout"] => {
-            let input = inputs::stdin(name).unwrap_or_else(usage);
-            collect::run(&input).into_bytes()
-        }
+        ["inputs", "names"] => (inputs::NAMES.join("\n") + "\n").into_bytes(),
+        ["inputs", "stdout"] => inputs::stdout().into_bytes(),
         ["erp2", "stdin"] => erp2_records::stdin().into_bytes(),
         ["erp2", "stdout"] => erp2_records::stdout().into_bytes(),
         ["archive", "stdin"] => (archive_calls::stdin() + &report_calls::stdin()).into_bytes(),
@@ -85,8 +83,9 @@ fn main() {
 fn usage<T>() -> T {
     eprintln!("reference archive|codec|erp2|history|long|site stdin|stdout,");
     eprintln!("reference slots|rules|collect|sample stdout,");
+    eprintln!("reference inputs names|stdout,");
     eprintln!(
-        "reference inputs NAME stdin|stdout, NAME one of {}",
+        "reference inputs NAME stdin, NAME one of {}",
         inputs::NAMES.join(", ")
     );
     std::process::exit(2);

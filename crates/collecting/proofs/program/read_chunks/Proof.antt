@@ -11,11 +11,11 @@ use Rattle.collecting.proofs.program.read_chunks.Statement.{statement}
 use Rattle.collecting.proofs.program.read_chunks.Tie as tie
 
 abbrev Inv-loop : tie.InvT-loop
-Inv-loop buffer₀ out₀ s₀ kept₀ left₀ buffer out s kept left =
+Inv-loop input buffer₀ out₀ s₀ kept₀ left₀ buffer out s kept left =
     (length buffer ≡ length buffer₀) × (length out ≡ length out₀) × Kept kept buffer
 
 abbrev μ-loop : tie.MeasureT-loop
-μ-loop buffer₀ out₀ s₀ kept₀ left₀ buffer out s kept left = left
+μ-loop input buffer₀ out₀ s₀ kept₀ left₀ buffer out s kept left = left
 
 loop-holds : tie.Need-loop-holds Inv-loop μ-loop
 unfolding isOpen
@@ -29,12 +29,12 @@ read-chunk-requires c κs = (c .before .before .before .loop .inv .2, omega (ari
 end-requires : tie.Need-end-requires Inv-loop μ-loop
 end-requires c κs =
     let r = c .before .before .before .before .before .before .before .before in
-    (r .read-chunk .ensures, omega (arith, r .read-chunk .kept .1 .1 .1 .0))
+    (r .read-chunk .ensures, omega (arith, r .read-chunk .kept .1 .1 .1 .1 .0))
 
 loop-again : tie.Need-loop-again Inv-loop μ-loop
 loop-again c =
     let r = c .before .before .before .before .before .before .before in
-    (omega (arith, r .read-chunk .kept .1 .1 .0), omega (arith, r .read-chunk .kept .1 .1 .1 .0), r .read-chunk .ensures (c .before .before .is-read .ensures (not-false _ (c .before .if1 .left))))
+    (omega (arith, r .read-chunk .kept .1 .1 .1 .0), omega (arith, r .read-chunk .kept .1 .1 .1 .1 .0), r .read-chunk .ensures (c .before .before .is-read .ensures (not-false _ (c .before .if1 .left))))
 
 pub read-chunks-spec : {M : Type 1} → statement M
 read-chunks-spec =
