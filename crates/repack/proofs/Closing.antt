@@ -116,7 +116,7 @@ others-none : (rows : List Row) → others [] rows ≡ rows
 others-none [] = refl
 others-none (r ∷ rows) = ap (λ (l : List Row). r ∷ l) (others-none rows)
 
-kept-long : (identities piece : List ℕ) → length (keptCells identities piece) ≡ cellLength * length (others identities (soundRows piece))
+pub kept-long : (identities piece : List ℕ) → length (keptCells identities piece) ≡ cellLength * length (others identities (soundRows piece))
 unfolding keptCells
 kept-long identities piece =
     cells-length (others identities (soundRows piece)) (fits-keep (λ r. not (isListed identities r)) (soundRows piece) (sound-rows-fit piece))
