@@ -55,17 +55,24 @@ module _ (buffer identities : List ℕ) (v : verdict buffer .number ≡ 0) (bloc
   unfolding bufferOf
   rest-behind =
       let archive = archiveOf rest in
-      let long : length (archive ++ replicate (end - length archive) 0) ≡ end = buffer-length rest blocks (rest-fits buffer identities v) (omega (arith, rest-short)) in
+      let long : length (archive ++ replicate (end - length archive) 0) ≡ end =
+      buffer-length rest blocks (rest-fits buffer identities v) (omega (arith, rest-short)) in
       let low : length archive ≤ end = omega (arith, length-append archive (replicate (end - length archive) 0)) in
       let sum : end - length archive + (length buffer - end) ≡ length buffer - length archive = omega (arith, low, in-use-few buffer v blocks used) in
       ap (λ (l : List ℕ). archive ++ replicate (end - length archive) 0 ++ l) zeros-behind
       ∙ append-assoc archive (replicate (end - length archive) 0) (replicate (length buffer - end) 0)
-      ∙ ap (λ (l : List ℕ). archive ++ l) (replicate-append-replicate (end - length archive) (length buffer - end) 0 ∙ ap (λ (k : ℕ). replicate k 0) sum)
+      ∙ ap (λ (l : List ℕ). archive ++ l) (replicate-append-replicate (end - length archive) (length buffer - end) 0
+      ∙ ap (λ (k : ℕ). replicate k 0) sum)
 
   module _ (next waits : ℕ) (pending : List ℕ) (l : length pending ≡ pendingLength) (few : waits < cellsPerBlock)
       (is : packing next waits pending ≡ pushed startPacking (keptCells identities buffer)) where
     pub removed-rows : cellsPerBlock * next + waits ≡ length rest
-    removed-rows = omega (arith, counted identities buffer next waits pending l few is, kept-long identities buffer, ap (λ (x : List Row). length (others identities x)) (intact-rows buffer v))
+    removed-rows = omega (
+      arith,
+      counted identities buffer next waits pending l few is,
+      kept-long identities buffer,
+      ap (λ (x : List Row). length (others identities x)) (intact-rows buffer v),
+    )
 
     pub removed-few : cellsPerBlock * next + waits ≤ length rows
     removed-few = omega (arith, removed-rows, rest-short)
@@ -78,7 +85,8 @@ module _ (buffer identities : List ℕ) (v : verdict buffer .number ≡ 0) (bloc
     remove-done out1 out2 listed long put out-is after e =
         let freed : blocks - after ≡ blocksFor (length rows) - blocksFor (length rest) = omega (arith, used, e, removed-rows) in
         let is-rest : out2 ≡ bufferOf (length buffer) rest =
-        out-is ∙ closed-archive identities buffer next waits pending l few is end buffer out1 (omega (arith, long)) (omega (arith, long, removed-few)) put
+        out-is ∙ closed-archive identities buffer next waits pending l few is end buffer out1 (omega (arith, long))
+        (omega (arith, long, removed-few)) put
         ∙ ap (λ (x : List Row). bufferOf end (others identities x) ++ drop end buffer) (intact-rows buffer v) ∙ rest-behind in
         (λ j. record { number = 0; position = 0; freed = freed j; buffer = is-rest j }) ∙ sym (removed-is buffer identities v listed)
 
@@ -90,7 +98,8 @@ module _ (buffer identities : List ℕ) where
   unfolding removeOf
   remove-many v h = rw (v, lt-ltb maxIdentities (length identities) h)
 
-  pub remove-not : (number position : ℕ) → (number ≡ verdict buffer .number) × (position ≡ verdict buffer .position) × (eqb (verdict buffer .number) 0 ≡ false)
+  pub remove-not : (number position : ℕ) → (number ≡ verdict buffer .number) × (position ≡ verdict buffer .position)
+      × (eqb (verdict buffer .number) 0 ≡ false)
       → asItWas number position ≡ removeOf buffer identities
   unfolding removeOf
   remove-not number position v = rw (v .2) (ap₂ asItWas (v .0) (v .1))

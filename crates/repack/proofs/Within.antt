@@ -28,7 +28,8 @@ use Rattle.repack_model.proofs.Rows.{intact-rows}
 use Rattle.repack.specs.Calls.{Flushed}
 
 -- the first block is block 0
-pub flushed-next : {put total rest : ℕ} {before after full full2 : List ℕ} → Flushed put total before after full full2 rest → Flushed (0 + put) total before after full full2 rest
+pub flushed-next : {put total rest : ℕ} {before after full full2 : List ℕ} → Flushed put total before after full full2 rest
+    → Flushed (0 + put) total before after full full2 rest
 flushed-next {put} f = rw (zero-add put) f
 
 module _ (buffer : List ℕ) (v : verdict buffer .number ≡ 0) (blocks : ℕ) (used : blocks ≡ blocksFor (length (rowsIn buffer))) where
@@ -81,7 +82,8 @@ module _ (buffer : List ℕ) (v : verdict buffer .number ≡ 0) (blocks : ℕ) (
       let fit = rows-fit buffer v in
       let few : length rows ≤ cellsPerBlock * blocks = omega arith in
       let low : blocks ≤ maxBlocks = omega (arith, blocks-of buffer v .1, in-use-few) in
-      ap model.soundRows in-use-is ∙ intact-rows (bufferOf (blockLength * blocks) rows) (written-verdict rows blocks fit few low) ∙ rows-in rows blocks fit few
+      ap model.soundRows in-use-is ∙ intact-rows (bufferOf (blockLength * blocks) rows) (written-verdict rows blocks fit few low)
+      ∙ rows-in rows blocks fit few
 
   pub in-use-cells : (identities : List ℕ) → keptCells identities inUse ≡ keptCells identities buffer
   unfolding keptCells

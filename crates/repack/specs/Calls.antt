@@ -24,7 +24,14 @@ use Rattle.repack.specs.declared.Walk.{Walk}
 -- ---- what the calls show
 
 abbrev pub salvageResult : Salvaged → List ℕ → List ℕ → model.Salvaged
-salvageResult r output positions = record { number = takenNumber (r .answer); count = r .dropped; rows = r .rows; output = output; positions = positions }
+salvageResult r output positions = record {
+  number = takenNumber (r .answer);
+  count = r .dropped;
+  rows = r .rows;
+  output = output;
+  positions =
+      positions;
+}
 
 -- the number, the position beside 12, the blocks freed, and every byte of the buffer at exit
 abbrev pub removeResult : Removed → List ℕ → model.Removed

@@ -23,7 +23,8 @@ ghost use Rattle.archive.specs.Archive.{soundRows};
 ghost use Rattle.repack_model.specs.Repack as model;
 ghost use Rattle.repack_model.specs.Packer as packer;
 ghost use Rattle.repack_model.specs.Packer.{pendingLength, packing};
-ghost use Rattle.repack.specs.Calls.{salvageResult, removeResult, packResult, finishResult, areRows, keptCell, keptFrom, Waits, Flushed, HasRoom, Listed, Walked, closed, NotSalvaged, NotPacked};
+ghost use Rattle.repack.specs.Calls.{salvageResult, removeResult, packResult, finishResult};
+ghost use Rattle.repack.specs.Calls.{areRows, keptCell, keptFrom, Waits, Flushed, HasRoom, Listed, Walked, closed, NotSalvaged, NotPacked};
 
 // The most identities of one removal.
 pub const MAX_IDENTITIES: usize = 32;
@@ -99,8 +100,10 @@ fn is_listed(identity: u64, identities: &[u32]) -> bool
 
 // A cell goes behind `at` others, unless its transmitter is listed.
 fn push_cell(pending: &mut [u8], at: usize, cell: &[u8], identities: &[u32]) -> usize
-    requires { ⌜ (length (now pending) ≡ pendingLength) × (at < cellsPerBlock + cellsPerBlock) × (length (now cell) ≡ cellLength) × (isRow (rowIn (now cell)) ≡ true) ⌝ }
-    ensures { λ r. ⌜ Waits (take (cellLength * at) (now (pending .entry))) (keptCell (now (identities .entry)) (now (cell .entry))) (now (pending .exit)) (at + 1) r ⌝ }
+    requires { ⌜ (length (now pending) ≡ pendingLength) × (at < cellsPerBlock + cellsPerBlock) × (length (now cell) ≡ cellLength)
+        × (isRow (rowIn (now cell)) ≡ true) ⌝ }
+    ensures { λ r. ⌜ Waits (take (cellLength * at) (now (pending .entry))) (keptCell (now (identities .entry)) (now (cell .entry)))
+        (now (pending .exit)) (at + 1) r ⌝ }
 {
     if is_listed(identity_of(cell), identities) {
         return at;
@@ -120,8 +123,10 @@ fn push_cells(
     rows: usize,
     identities: &[u32],
 ) -> usize
-    requires { ⌜ (length (now pending) ≡ pendingLength) × (used < cellsPerBlock) × (length (now source) ≡ blockLength) × (rows ≤ cellsPerBlock) × (areRows (now source) rows ≡ true) ⌝ }
-    ensures { λ r. ⌜ Waits (take (cellLength * used) (now (pending .entry))) (keptFrom (now (identities .entry)) (now (source .entry)) 0 rows) (now (pending .exit)) (used + rows) r ⌝ }
+    requires { ⌜ (length (now pending) ≡ pendingLength) × (used < cellsPerBlock) × (length (now source) ≡ blockLength) × (rows ≤ cellsPerBlock)
+        × (areRows (now source) rows ≡ true) ⌝ }
+    ensures { λ r. ⌜ Waits (take (cellLength * used) (now (pending .entry))) (keptFrom (now (identities .entry)) (now (source .entry)) 0 rows)
+        (now (pending .exit)) (used + rows) r ⌝ }
 {
     let mut at = used;
     for i in 0..rows {
@@ -198,9 +203,12 @@ fn pack_blocks(
     out: &mut [u8],
     positions: &mut [u64],
 ) -> Walk
-    requires { ⌜ (length (now pending) ≡ pendingLength) × (used < cellsPerBlock) × (next + length (now piece) / blockLength < 2 ^ 64) × (length (now piece) ≤ length (now out)) × (length (model.dropped (now piece)) ≤ length (now positions)) ⌝ }
-    ensures { λ r. ⌜ Walked (packing next used (now (pending .entry))) (packer.keptCells (now (identities .entry)) (now (piece .entry))) r (now (pending .exit)) (now (out .entry)) (now (out .exit)) ⌝ }
-    ensures { λ r. ⌜ (r .dropped ≡ length (model.dropped (now (piece .entry)))) × (now (positions .exit) ≡ model.fronted (model.dropped (now (piece .entry))) (now (positions .entry))) ⌝ }
+    requires { ⌜ (length (now pending) ≡ pendingLength) × (used < cellsPerBlock) × (next + length (now piece) / blockLength < 2 ^ 64)
+        × (length (now piece) ≤ length (now out)) × (length (model.dropped (now piece)) ≤ length (now positions)) ⌝ }
+    ensures { λ r. ⌜ Walked (packing next used (now (pending .entry))) (packer.keptCells (now (identities .entry)) (now (piece .entry))) r
+        (now (pending .exit)) (now (out .entry)) (now (out .exit)) ⌝ }
+    ensures { λ r. ⌜ (r .dropped ≡ length (model.dropped (now (piece .entry))))
+        × (now (positions .exit) ≡ model.fronted (model.dropped (now (piece .entry))) (now (positions .entry))) ⌝ }
 {
     let mut waits = used;
     let mut put = 0;
@@ -227,7 +235,8 @@ fn pack_blocks(
 
 // The last block, where cells wait, into its place, and zeros behind it up to `end`.
 fn close(out: &mut [u8], pending: &[u8], used: usize, next: usize, end: usize)
-    requires { ⌜ (length (now pending) ≡ pendingLength) × (used < cellsPerBlock) × (cellsPerBlock * next + used ≤ cellsPerBlock * (end / blockLength)) × (end ≤ length (now out)) ⌝ }
+    requires { ⌜ (length (now pending) ≡ pendingLength) × (used < cellsPerBlock)
+        × (cellsPerBlock * next + used ≤ cellsPerBlock * (end / blockLength)) × (end ≤ length (now out)) ⌝ }
     ensures { λ _. ⌜ now (out .exit) ≡ closed (packing next used (now (pending .entry))) end (now (out .entry)) ⌝ }
 {
     let at = BLOCK_LENGTH * next;
@@ -282,7 +291,8 @@ fn is_listable(buffer: &[u8], len: usize) -> bool
 // The rows of the sound blocks of a damaged archive as an archive in the front of `out`, zeros up to the buffer's length, and the positions of the
 // blocks dropped in the front of the list. Refused: 16, 6 for an output shorter than the buffer or a list too short; then both are as they were.
 pub fn salvage(buffer: &[u8], out: &mut [u8], positions: &mut [u64]) -> Salvaged
-    ensures { λ r. ⌜ salvageResult r (now (out .exit)) (now (positions .exit)) ≡ model.salvageOf (now (buffer .entry)) (now (out .entry)) (now (positions .entry)) ⌝ }
+    ensures { λ r. ⌜ salvageResult r (now (out .exit)) (now (positions .exit))
+        ≡ model.salvageOf (now (buffer .entry)) (now (out .entry)) (now (positions .entry)) ⌝ }
 {
     if !archive::is_whole(buffer.len()) {
         return not_salvaged(Refusal::Size);
@@ -329,7 +339,8 @@ fn blocks_for(rows: usize) -> usize
 // and the others wait. A block is written only after it was read, since no more blocks are put than were passed.
 fn pack_within(buffer: &mut [u8], blocks: usize, identities: &[u32], pending: &mut [u8]) -> Walk
     requires { ⌜ (verdict (now buffer) .number ≡ 0) × (blocks ≡ blocksFor (length (rowsIn (now buffer)))) × (length (now pending) ≡ pendingLength) ⌝ }
-    ensures { λ r. ⌜ Walked packer.startPacking (packer.keptCells (now (identities .entry)) (now (buffer .entry))) r (now (pending .exit)) (now (buffer .entry)) (now (buffer .exit)) ⌝ }
+    ensures { λ r. ⌜ Walked packer.startPacking (packer.keptCells (now (identities .entry)) (now (buffer .entry))) r (now (pending .exit))
+        (now (buffer .entry)) (now (buffer .exit)) ⌝ }
 {
     let mut waits = 0;
     let mut put = 0;
@@ -408,7 +419,8 @@ pub fn pack(
     out: &mut [u8],
     positions: &mut [u64],
 ) -> Repacked
-    ensures { λ r. ⌜ packResult r (now (pending .exit)) (now (out .exit)) (now (positions .exit)) ≡ packer.packOf next used (now (pending .entry)) (now (piece .entry)) (now (identities .entry)) (now (out .entry)) (now (positions .entry)) ⌝ }
+    ensures { λ r. ⌜ packResult r (now (pending .exit)) (now (out .exit)) (now (positions .exit))
+        ≡ packer.packOf next used (now (pending .entry)) (now (piece .entry)) (now (identities .entry)) (now (out .entry)) (now (positions .entry)) ⌝ }
 {
     if !is_packing(pending, used, next) {
         return not_packed(used, next, Refusal::NotAccepted);

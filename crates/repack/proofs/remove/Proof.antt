@@ -15,7 +15,8 @@ remove-from-requires : tie.Need-remove-from-requires
 remove-from-requires c κs =
     let k = c .before .before in
     let o = k .before .before in
-    opened-rows (now (o .before .before .before .before .args .buffer)) (k .rows .given .0 .0) (sym (ap openResult (k .rows .given .1)) ∙ o .«open» .ensures)
+    let a = o .before .before .before .before .args in
+    opened-rows (now (a .buffer)) (k .rows .given .0 .0) (sym (ap openResult (k .rows .given .1)) ∙ o .«open» .ensures)
 
 damaged : tie.Need-returns-2
 damaged c =
