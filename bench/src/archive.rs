@@ -22,7 +22,7 @@ fn proved_crc(bytes: &[u8]) -> u8 {
     unsafe { archive_bench_crc(bytes.as_ptr(), bytes.len()) }
 }
 
-fn proved_open(buffer: &[u8]) -> u64 {
+pub fn proved_open(buffer: &[u8]) -> u64 {
     unsafe { archive_bench_open(buffer.as_ptr(), buffer.len()) }
 }
 

@@ -167,26 +167,46 @@ module _ (buffer : List ℕ) (i : ℕ) where
     unfolding rowAtOf
     row-in h = rw (whole, lt-ltb (i / cellsPerBlock) (length buffer / blockLength) h)
 
+-- ---- what `open` told
+
+module _ (buffer : List ℕ) where
+  pub opened-rows : (n : ℕ) → openResult (opened.Rows n) ≡ openOf buffer → (verdict buffer .number ≡ 0) × (n ≡ length (rowsIn buffer))
+  unfolding openOf
+  opened-rows n e =
+      let v : verdict buffer .number ≡ 0 = sym (ap (λ (o : Opening). o .number) e) in
+      (v, ap (λ (o : Opening). o .rows) e ∙ (rw (eq-eqb (verdict buffer .number) 0 v)))
+
+  opened-not : (number position : ℕ) → (number ≡ 0 → ⊥) → record { number = number; position = position; rows = 0 } ≡ openOf buffer
+      → (number ≡ verdict buffer .number) × (position ≡ verdict buffer .position) × (eqb (verdict buffer .number) 0 ≡ false)
+  unfolding openOf
+  opened-not number position h e =
+      let n : number ≡ verdict buffer .number = ap (λ (o : Opening). o .number) e in
+      (n, ap (λ (o : Opening). o .position) e, ne-eqb (verdict buffer .number) 0 (λ z. h (n ∙ z)))
+
+  pub opened-refused : (why : Refusal) → openResult (opened.Refused why) ≡ openOf buffer
+      → (numberOf why ≡ verdict buffer .number) × (0 ≡ verdict buffer .position) × (eqb (verdict buffer .number) 0 ≡ false)
+  opened-refused why e = opened-not (numberOf why) 0 (refused-number why) e
+
+  pub opened-damaged : (k : ℕ) → openResult (opened.Damaged k) ≡ openOf buffer
+      → (numberOf Mismatch ≡ verdict buffer .number) × (k ≡ verdict buffer .position) × (eqb (verdict buffer .number) 0 ≡ false)
+  opened-damaged k e = opened-not (numberOf Mismatch) k (refused-number Mismatch) e
+
 -- ---- a row appended to an archive that was opened
 
 module _ (buffer : List ℕ) (r : Row) where
   -- what is refused by the verdict
-  append-not : (number position rows : ℕ) → (number ≡ 0 → ⊥) → record { number = number; position = position; rows = rows } ≡ openOf buffer → refused number position buffer ≡ appendOf buffer r
-  unfolding openOf appendOf
-  append-not number position rows h e =
-      let n : number ≡ verdict buffer .number = ap (λ (o : Opening). o .number) e in
-      let p : position ≡ verdict buffer .position = ap (λ (o : Opening). o .position) e in
-      rw (ne-eqb (verdict buffer .number) 0 (λ z. h (n ∙ z))) (ap₂ (λ (x y : ℕ). refused x y buffer) n p)
+  append-not : (number position : ℕ) → (number ≡ verdict buffer .number) × (position ≡ verdict buffer .position) × (eqb (verdict buffer .number) 0 ≡ false)
+      → refused number position buffer ≡ appendOf buffer r
+  unfolding appendOf
+  append-not number position v = rw (v .2) (ap₂ (λ (x y : ℕ). refused x y buffer) (v .0) (v .1))
 
   pub append-refused : (why : Refusal) → openResult (opened.Refused why) ≡ openOf buffer → refused (numberOf why) 0 buffer ≡ appendOf buffer r
-  append-refused why e = append-not (numberOf why) 0 0 (refused-number why) e
+  append-refused why e = append-not (numberOf why) 0 (opened-refused buffer why e)
 
   pub append-damaged : (k : ℕ) → openResult (opened.Damaged k) ≡ openOf buffer → refused (numberOf Mismatch) k buffer ≡ appendOf buffer r
-  append-damaged k e = append-not (numberOf Mismatch) k 0 (refused-number Mismatch) e
+  append-damaged k e = append-not (numberOf Mismatch) k (opened-damaged buffer k e)
 
   pub append-rows : (n : ℕ) → openResult (opened.Rows n) ≡ openOf buffer → r .time < 2 ^ 64 → appendAtOf buffer n r ≡ appendOf buffer r
-  unfolding openOf
   append-rows n e t =
-      let v : verdict buffer .number ≡ 0 = sym (ap (λ (o : Opening). o .number) e) in
-      let rows : n ≡ length (rowsIn buffer) = ap (λ (o : Opening). o .rows) e ∙ (rw (eq-eqb (verdict buffer .number) 0 v)) in
-      ap (λ (i : ℕ). appendAtOf buffer i r) rows ∙ cursor buffer v r t
+      let o = opened-rows buffer n e in
+      ap (λ (i : ℕ). appendAtOf buffer i r) (o .1) ∙ cursor buffer (o .0) r t

@@ -9,6 +9,7 @@ use archive::RowAt;
 use archive::Scan;
 use archive::Stage;
 use archive::Taken;
+use repack::Removed;
 use report::Report;
 ghost use mathlib.Core.Path.{_≡_};
 ghost use Prim.Native.Nat.{_≤_, _<_, min};
@@ -21,6 +22,9 @@ const BLOCK: usize = layout::BLOCK_LENGTH;
 
 // The most positions of the list that salvage writes.
 const POSITIONS: usize = 64;
+
+// The most identities of a record.
+const IDENTITIES: usize = 70;
 
 fn main() {
     let mut buffer = [0u8; CAPACITY];
@@ -138,6 +142,7 @@ fn call(buffer: &mut [u8], r: &[u8])
         6 => row(buffer, layout::read_number(&r[1..9])),
         7 => block(buffer, layout::read_number(&r[1..5])),
         8 => scan(buffer, layout::read_number(&r[1..5])),
+        12 => remove(buffer, r),
         _ => test_io::text(b"?\n"),
     }
 }
@@ -337,6 +342,36 @@ fn put_list(list: &[u64]) {
         put_number(list[i]);
     }
     test_io::text(b"\n");
+}
+
+// ---- removal
+
+fn remove(buffer: &mut [u8], r: &[u8])
+    requires { ⌜ length (now r) ≡ 320 ⌝ }
+{
+    let mut identities = [0u32; IDENTITIES];
+    read_identities(&mut identities, r);
+    let count = least(wide(r[1]), IDENTITIES);
+    let answer = repack::remove(buffer, &identities[0..count]);
+    test_io::text(b"REMOVE ");
+    match answer {
+        Removed::Done(freed) => put_three(0, 0, freed),
+        Removed::Damaged(k) => put_three(12, k, 0),
+        Removed::Refused(why) => put_three(refusal::number(why), 0, 0),
+    }
+}
+
+fn read_identities(identities: &mut [u32], r: &[u8])
+    requires { ⌜ (length (now identities) ≡ 70) × (length (now r) ≡ 320) ⌝ }
+{
+    for i in 0..identities.len() {
+        identities[i] = four_bytes(layout::read_number(&r[4 + 4 * i..4 + 4 * i + 4]));
+    }
+}
+
+// The last four bytes of a number.
+fn four_bytes(n: u64) -> u32 {
+    (n % 4294967296) as u32
 }
 
 // ---- what is printed of them

@@ -9,7 +9,7 @@
 --     Begun                                   a list that is written from the front: the first a elements are `front`, the rest is as it was
 --     begin, store, lend, lend-sized, wipe    the start; an element stored; a part lent to a callee, one whose length alone it looks at, one that it clears
 --     skip                                    a part that stays as it was
---     named, so-far, done                     the front by another name; what is written; the end
+--     named, so-far, begun-after, done        the front by another name; what is written; what stands behind it; the end
 --     fill, turn, turned                      a turn of a loop that fills, or lends a segment at a time; where that loop ends
 --     begun-length, within, lent              what the needs about lengths ask on the way
 --     Writing, packed                         the same with its lists packed up, for a place where they are long to write
@@ -202,6 +202,14 @@ module _ {A : Type 0} where
     -- what is written
     pub so-far : take a xs ≡ front
     so-far = rw (b .is) (take-at front (drop a orig) a (b .long))
+
+    -- what stands behind it is still as it was
+    pub begun-after : (k : ℕ) → a ≤ k → drop k xs ≡ drop k orig
+    begun-after k h =
+        let e : length front + (k - a) ≡ k = omega (arith, b .long) in
+        let f : a + (k - a) ≡ k = omega arith in
+        ap (drop k) (b .is) ∙ ap (λ (n : ℕ). drop n (front ++ drop a orig)) (sym e) ∙ drop-append-add front (drop a orig) (k - a)
+        ∙ drop-drop (k - a) a orig ∙ ap (λ (n : ℕ). drop n orig) f
 
     -- the whole is written
     pub done : length orig ≡ a → xs ≡ front

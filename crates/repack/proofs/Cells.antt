@@ -58,8 +58,10 @@ identity-shown cell used l v e =
     let short : length (part (9 + used - 6) 4 cell) ≤ 8 = omega (arith, part-length (9 + used - 6) 4 cell (omega (arith, e, b .1, b .0))) in
     let field : length (cellField cell) ≡ cellCapacity = part-length 9 cellCapacity cell (omega arith) in
     let shown : part (used - 6) 4 (resized used (cellField cell)) ≡ part (9 + used - 6) 4 cell =
-    ap (part (used - 6) 4) (resized-cut used (cellField cell) (omega (arith, field, e, b .1))) ∙ part-take (used - 6) 4 used (cellField cell) (omega (arith, e, b .0))
-    ∙ part-take (used - 6) 4 cellCapacity (drop 9 cell) (omega (arith, e, b .0, b .1)) ∙ ap (take 4) (drop-drop (used - 6) 9 cell) ∙ ap (λ (a : ℕ). part a 4 cell) (sym at) in
+    ap (part (used - 6) 4) (resized-cut used (cellField cell) (omega (arith, field, e, b .1)))
+    ∙ part-take (used - 6) 4 used (cellField cell) (omega (arith, e, b .0))
+    ∙ part-take (used - 6) 4 cellCapacity (drop 9 cell) (omega (arith, e, b .0, b .1)) ∙ ap (take 4) (drop-drop (used - 6) 9 cell)
+    ∙ ap (λ (a : ℕ). part a 4 cell) (sym at) in
     let long : length (resized (cellUsed cell) (cellField cell)) ≡ used = resized-length (cellUsed cell) (cellField cell) ∙ sym e in
     ap (λ (n : ℕ). unbe (take 8 (part (9 + used - 6) n cell))) four ∙ ap unbe (take-all 8 (part (9 + used - 6) 4 cell) short ∙ sym shown)
     ∙ ap₂ (λ (n u : ℕ). unbe (part (n - 6) 4 (resized u (cellField cell)))) (sym long) e
@@ -75,14 +77,16 @@ module _ (identities block : List ℕ) where
   row-at n i ok h =
       let cells = map at (upFrom 0 n) in
       let long : length cells ≡ n = length-map (upFrom 0 n) at ∙ length-upFrom 0 n in
-      ap (λ (c : List ℕ). isRow (rowIn c)) (sym (getD-upFrom at 0 n i [] h ∙ ap at (zero-add i))) ∙ all-getD (λ c. isRow (rowIn c)) cells i [] ok (omega (arith, long))
+      ap (λ (c : List ℕ). isRow (rowIn c)) (sym (getD-upFrom at 0 n i [] h ∙ ap at (zero-add i)))
+      ∙ all-getD (λ c. isRow (rowIn c)) cells i [] ok (omega (arith, long))
 
   pub kept-first : (n : ℕ) → keptFrom identities block 0 (n - 0) ≡ keptFrom identities block 0 n
   kept-first n =
       let e : n - 0 ≡ n = omega arith in
       rw e
 
-  pub kept-turn : (n i : ℕ) → i < n → keptFrom identities block i (n - i) ≡ keptCell identities (at i) ++ keptFrom identities block (i + 1) (n - (i + 1))
+  pub kept-turn : (n i : ℕ) → i < n → keptFrom identities block i (n - i) ≡ keptCell identities (at i)
+      ++ keptFrom identities block (i + 1) (n - (i + 1))
   unfolding keptFrom cellsFrom upFrom flatten
   kept-turn n i h =
       let e : n - i ≡ suc (n - (i + 1)) = omega arith in

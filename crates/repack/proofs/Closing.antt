@@ -58,14 +58,17 @@ module _ (next used : ℕ) (pending : List ℕ) (l : length pending ≡ pendingL
     pub closed-none : used ≡ 0 → Begun out (take at out ++ replicate (end - at) 0) end xs → xs ≡ closed (packing next used pending) end out
     closed-none z b =
         let n : end - at - 0 ≡ end - at = omega arith in
-        b .is ∙ ap (λ (m : ℕ). take at out ++ replicate m 0 ++ drop end out) (sym n) ∙ ap (λ (x : List ℕ). take at out ++ padded (end - at) x ++ drop end out) (sym (last-none z))
+        b .is ∙ ap (λ (m : ℕ). take at out ++ replicate m 0 ++ drop end out) (sym n)
+        ∙ ap (λ (x : List ℕ). take at out ++ padded (end - at) x ++ drop end out) (sym (last-none z))
 
-    pub closed-last : (used ≡ 0 → ⊥) → Begun out (take at out ++ cellsBlock next (take (cellLength * used) pending) ++ replicate (end - (at + blockLength)) 0) end xs
+    pub closed-last : (used ≡ 0 → ⊥) → Begun out
+        (take at out ++ cellsBlock next (take (cellLength * used) pending) ++ replicate (end - (at + blockLength)) 0) end xs
         → xs ≡ closed (packing next used pending) end out
     closed-last z b =
         let block = cellsBlock next (take (cellLength * used) pending) in
         let n : end - (at + blockLength) ≡ end - at - length block = omega (arith, last-long) in
-        b .is ∙ ap (λ (x : List ℕ). x ++ drop end out) (append-assoc (take at out) block (replicate (end - (at + blockLength)) 0) ∙ ap (λ (m : ℕ). take at out ++ (block ++ replicate m 0)) n)
+        b .is ∙ ap (λ (x : List ℕ). x ++ drop end out) (append-assoc (take at out) block (replicate (end - (at + blockLength)) 0)
+        ∙ ap (λ (m : ℕ). take at out ++ (block ++ replicate m 0)) n)
         ∙ ap (λ (x : List ℕ). take at out ++ padded (end - at) x ++ drop end out) (sym (last-some z))
 
     pub last-fits : cellsPerBlock * next + used ≤ cellsPerBlock * (end / blockLength) → length (lastBlock (packing next used pending)) ≤ end - at
@@ -92,22 +95,28 @@ module _ (identities piece : List ℕ) (next used : ℕ) (pending : List ℕ) (l
       ap (λ (p : Packing). length (p .waiting)) is ∙ length-drop (fullLength * (length cells / fullLength)) cells in
       omega (arith, w, waiting-long next used pending l few, next-is)
 
-  pub closed-archive : (end : ℕ) (out out1 : List ℕ) → length (pushedBlocks startPacking cells) ≡ blockLength * next → length (pushedBlocks startPacking cells) ≤ end
-      → out1 ≡ fronted (pushedBlocks startPacking cells) out → closed (packing next used pending) end out1 ≡ bufferOf end (others identities (soundRows piece)) ++ drop end out
+  pub closed-archive : (end : ℕ) (out out1 : List ℕ) → length (pushedBlocks startPacking cells) ≡ blockLength * next
+      → length (pushedBlocks startPacking cells) ≤ end
+      → out1 ≡ fronted (pushedBlocks startPacking cells) out
+      → closed (packing next used pending) end out1 ≡ bufferOf end (others identities (soundRows piece)) ++ drop end out
   unfolding bufferOf
   closed-archive end out out1 long fits put =
       let front = pushedBlocks startPacking cells in
       let last = lastBlock (packing next used pending) in
       let e : out1 ≡ front ++ drop (length front) out = put in
-      let first : take (blockLength * next) out1 ≡ front = ap (take (blockLength * next)) e ∙ take-at front (drop (length front) out) (blockLength * next) long in
+      let first : take (blockLength * next) out1 ≡ front = ap (take (blockLength * next)) e
+      ∙ take-at front (drop (length front) out) (blockLength * next) long in
       let d : length front + (end - length front) ≡ end = omega arith in
       let past : drop end out1 ≡ drop end out =
-      ap (drop end) e ∙ ap (λ (m : ℕ). drop m (front ++ drop (length front) out)) (sym d) ∙ drop-append-add front (drop (length front) out) (end - length front)
+      ap (drop end) e ∙ ap (λ (m : ℕ). drop m (front ++ drop (length front) out)) (sym d)
+      ∙ drop-append-add front (drop (length front) out) (end - length front)
       ∙ drop-drop (end - length front) (length front) out ∙ ap (λ (m : ℕ). drop m out) d in
-      let archive : front ++ last ≡ archiveOf (others identities (soundRows piece)) = ap (λ (p : Packing). front ++ lastBlock p) is ∙ packed-archive identities piece in
+      let archive : front ++ last ≡ archiveOf (others identities (soundRows piece)) = ap (λ (p : Packing). front ++ lastBlock p) is
+      ∙ packed-archive identities piece in
       let n : end - blockLength * next - length last ≡ end - length (front ++ last) = omega (arith, length-append front last, long) in
       ap₂ (λ (x y : List ℕ). x ++ padded (end - blockLength * next) last ++ y) first past
-      ∙ ap (λ (x : List ℕ). x ++ drop end out) (sym (append-assoc front last (replicate (end - blockLength * next - length last) 0)) ∙ ap (λ (m : ℕ). front ++ last ++ replicate m 0) n)
+      ∙ ap (λ (x : List ℕ). x ++ drop end out) (sym (append-assoc front last (replicate (end - blockLength * next - length last) 0))
+      ∙ ap (λ (m : ℕ). front ++ last ++ replicate m 0) n)
       ∙ ap (λ (x : List ℕ). padded end x ++ drop end out) archive
 
 -- ---- salvage
@@ -116,7 +125,7 @@ others-none : (rows : List Row) → others [] rows ≡ rows
 others-none [] = refl
 others-none (r ∷ rows) = ap (λ (l : List Row). r ∷ l) (others-none rows)
 
-kept-long : (identities piece : List ℕ) → length (keptCells identities piece) ≡ cellLength * length (others identities (soundRows piece))
+pub kept-long : (identities piece : List ℕ) → length (keptCells identities piece) ≡ cellLength * length (others identities (soundRows piece))
 unfolding keptCells
 kept-long identities piece =
     cells-length (others identities (soundRows piece)) (fits-keep (λ r. not (isListed identities r)) (soundRows piece) (sound-rows-fit piece))
@@ -129,14 +138,19 @@ module _ (buffer : List ℕ) (next used : ℕ) (pending : List ℕ) (l : length 
   pub salvaged-few : cellsPerBlock * next + used ≤ cellsPerBlock * (length buffer / blockLength)
   salvaged-few = omega (arith, salvaged-rows, sound-rows-few buffer)
 
-  pub salvage-done : (output positions out1 out2 positions2 : List ℕ) → isWhole (length buffer) ≡ true → length buffer ≤ length output → length (dropped buffer) ≤ length positions
-      → blockLength * 0 + length (pushedBlocks startPacking (keptCells [] buffer)) ≡ blockLength * next → out1 ≡ fronted (pushedBlocks startPacking (keptCells [] buffer)) output
-      → out2 ≡ closed (packing next used pending) (length buffer) out1 → positions2 ≡ fronted (dropped buffer) positions → (gone : ℕ) → gone ≡ length (dropped buffer)
-      → record { number = 0; count = gone; rows = cellsPerBlock * next + used; output = out2; positions = positions2 } ≡ salvageOf buffer output positions
+  pub salvage-done : (output positions out1 out2 positions2 : List ℕ) → isWhole (length buffer) ≡ true → length buffer ≤ length output
+      → length (dropped buffer) ≤ length positions
+      → blockLength * 0 + length (pushedBlocks startPacking (keptCells [] buffer)) ≡ blockLength * next
+      → out1 ≡ fronted (pushedBlocks startPacking (keptCells [] buffer)) output
+      → out2 ≡ closed (packing next used pending) (length buffer) out1 → positions2 ≡ fronted (dropped buffer) positions → (gone : ℕ)
+      → gone ≡ length (dropped buffer)
+      → record { number = 0; count = gone; rows = cellsPerBlock * next + used; output = out2; positions = positions2 }
+      ≡ salvageOf buffer output positions
   unfolding salvageOf
   salvage-done output positions out1 out2 positions2 w fits listable long put out-is list gone count =
       let done : out2 ≡ fronted (bufferOf (length buffer) (soundRows buffer)) output =
-      out-is ∙ closed-archive [] buffer next used pending l few is (length buffer) output out1 (omega (arith, long)) (omega (arith, long, salvaged-few)) put
+      out-is ∙ closed-archive [] buffer next used pending l few is (length buffer) output out1 (omega (arith, long))
+      (omega (arith, long, salvaged-few)) put
       ∙ ap (λ (rows : List Row). bufferOf (length buffer) rows ++ drop (length buffer) output) (others-none (soundRows buffer))
       ∙ ap (λ (n : ℕ). bufferOf (length buffer) (soundRows buffer) ++ drop n output) (sym (salvaged-length buffer w)) in
       rw (w, le-ltb (length output) (length buffer) fits, le-ltb (length positions) (length (dropped buffer)) listable)
@@ -150,10 +164,16 @@ module _ (buffer output positions : List ℕ) where
   unfolding salvageOf
   salvage-size w = rw w
 
-  pub salvage-short : isWhole (length buffer) ≡ true → length output < length buffer → refused (numberOf ShortOutput) ≡ salvageOf buffer output positions
+  pub salvage-short : isWhole (length buffer) ≡ true → length output < length buffer
+      → refused (numberOf ShortOutput) ≡ salvageOf buffer output positions
   unfolding salvageOf
   salvage-short w h = rw (w, lt-ltb (length output) (length buffer) h)
 
-  pub salvage-list : isWhole (length buffer) ≡ true → length buffer ≤ length output → leb (length (dropped buffer)) (length positions) ≡ false → refused (numberOf ShortOutput) ≡ salvageOf buffer output positions
+  pub salvage-list : isWhole (length buffer) ≡ true → length buffer ≤ length output → leb (length (dropped buffer)) (length positions) ≡ false
+      → refused (numberOf ShortOutput) ≡ salvageOf buffer output positions
   unfolding salvageOf
-  salvage-list w h f = rw (w, le-ltb (length output) (length buffer) h, lt-ltb (length positions) (length (dropped buffer)) (leb-false (length (dropped buffer)) (length positions) f))
+  salvage-list w h f = rw (
+    w,
+    le-ltb (length output) (length buffer) h,
+    lt-ltb (length positions) (length (dropped buffer)) (leb-false (length (dropped buffer)) (length positions) f),
+  )

@@ -34,8 +34,10 @@ module _ (k total : ℕ) (before : List ℕ) where
         put = rw (few-blocks k cells long);
       }
 
-  module _ (after full full2 : List ℕ) (l : length before ≡ pendingLength) (some : cellsPerBlock ≤ total) (few : total < cellsPerBlock + cellsPerBlock) where
-    pub flush-full : length full ≡ blockLength → full2 ≡ cellsBlock k (part 0 fullLength before) → after ≡ drop fullLength before ++ drop fullLength before
+  module _ (after full full2 : List ℕ) (l : length before ≡ pendingLength) (some : cellsPerBlock ≤ total)
+      (few : total < cellsPerBlock + cellsPerBlock) where
+    pub flush-full : length full ≡ blockLength → full2 ≡ cellsBlock k (part 0 fullLength before)
+        → after ≡ drop fullLength before ++ drop fullLength before
         → Flushed k total before after full full2 (total - cellsPerBlock)
     flush-full f put moved =
         let long : length cells ≡ cellLength * total = length-take (cellLength * total) before ∙ omega arith in
@@ -44,15 +46,19 @@ module _ (k total : ℕ) (before : List ℕ) where
         let first : take fullLength cells ≡ take fullLength before = take-take fullLength (cellLength * total) before (omega arith) in
         let block : fullBlocks k cells ≡ cellsBlock k (take fullLength before) =
         one-block k cells (omega (arith, long)) (omega (arith, long)) ∙ ap (cellsBlock k) first in
-        let size : length (cellsBlock k (take fullLength before)) ≡ blockLength = cells-block-length k (take fullLength before) (omega (arith, length-take fullLength before)) in
+        let size : length (cellsBlock k (take fullLength before)) ≡ blockLength =
+        cells-block-length k (take fullLength before) (omega (arith, length-take fullLength before)) in
         let past : length full ≤ length (cellsBlock k (take fullLength before)) = omega (arith, f, size) in
         record {
           rest = omega arith;
           are =
               ap (take (cellLength * (total - cellsPerBlock))) moved
-              ∙ take-append-le (cellLength * (total - cellsPerBlock)) (drop fullLength before) (drop fullLength before) (omega (arith, length-drop fullLength before))
-              ∙ sym (ap₂ (λ (a b : ℕ). drop (fullLength * a) (take b before)) one split ∙ drop-take fullLength (cellLength * (total - cellsPerBlock)) before);
+              ∙ take-append-le (cellLength * (total - cellsPerBlock)) (drop fullLength before) (drop fullLength before)
+              (omega (arith, length-drop fullLength before))
+              ∙ sym (ap₂ (λ (a b : ℕ). drop (fullLength * a) (take b before)) one split
+              ∙ drop-take fullLength (cellLength * (total - cellsPerBlock)) before);
           put =
               put ∙ sym (append-nil (cellsBlock k (take fullLength before)))
-              ∙ sym (ap (λ (b : List ℕ). b ++ drop (length b) full) block ∙ ap (λ (t : List ℕ). cellsBlock k (take fullLength before) ++ t) (drop-of-length-le full past));
+              ∙ sym (ap (λ (b : List ℕ). b ++ drop (length b) full) block
+              ∙ ap (λ (t : List ℕ). cellsBlock k (take fullLength before) ++ t) (drop-of-length-le full past));
         }

@@ -3,3 +3,5 @@ pub mod Flushes
 pub mod Walks
 pub mod Closing
 pub mod Packs
+pub mod Within
+pub mod Removal

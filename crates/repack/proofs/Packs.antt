@@ -65,13 +65,24 @@ module _ (next used : ℕ) (pending : List ℕ) where
         module _ (near : next + length piece / blockLength ≤ maxBlocks) where
           pub pack-identities : maxIdentities < length identities → kept (numberOf Argument) ≡ answer
           unfolding packOf
-          pack-identities h = rw (p, eq-eqb (length piece % blockLength) 0 even, le-leb (next + length piece / blockLength) maxBlocks near, lt-ltb maxIdentities (length identities) h)
+          pack-identities h = rw (
+            p,
+            eq-eqb (length piece % blockLength) 0 even,
+            le-leb (next + length piece / blockLength) maxBlocks near,
+            lt-ltb maxIdentities (length identities) h,
+          )
 
           module _ (few : length identities ≤ maxIdentities) where
             pub pack-short : length output < length piece → kept (numberOf ShortOutput) ≡ answer
             unfolding packOf
             pack-short h =
-                rw (p, eq-eqb (length piece % blockLength) 0 even, le-leb (next + length piece / blockLength) maxBlocks near, le-ltb maxIdentities (length identities) few, lt-ltb (length output) (length piece) h)
+                rw (
+                  p,
+                  eq-eqb (length piece % blockLength) 0 even,
+                  le-leb (next + length piece / blockLength) maxBlocks near,
+                  le-ltb maxIdentities (length identities) few,
+                  lt-ltb (length output) (length piece) h,
+                )
 
             module _ (fits : length piece ≤ length output) where
               pub pack-list : leb (length (dropped piece)) (length positions) ≡ false → kept (numberOf ShortOutput) ≡ answer
@@ -87,7 +98,16 @@ module _ (next used : ℕ) (pending : List ℕ) where
                   )
 
               pub pack-done : length (dropped piece) ≤ length positions
-                  → record { number = 0; count = length (dropped piece); next = pushed (packing next used pending) (keptCells identities piece); output = fronted (pushedBlocks (packing next used pending) (keptCells identities piece)) output; positions = fronted (dropped piece) positions } ≡ answer
+                  → record {
+                    number = 0;
+                    count = length (dropped piece);
+                    next =
+                        pushed (packing next used pending) (keptCells identities piece);
+                    output =
+                        fronted (pushedBlocks (packing next used pending) (keptCells identities piece)) output;
+                    positions =
+                        fronted (dropped piece) positions;
+                  } ≡ answer
               unfolding packOf
               pack-done h =
                   rw (
@@ -100,7 +120,8 @@ module _ (next used : ℕ) (pending : List ℕ) where
                   )
 
   module _ (output : List ℕ) where
-    pub finish-no : isPacking next used pending ≡ false → record { number = numberOf NotAccepted; length = 0; output = output } ≡ finishOf next used pending output
+    pub finish-no : isPacking next used pending ≡ false
+        → record { number = numberOf NotAccepted; length = 0; output = output } ≡ finishOf next used pending output
     unfolding finishOf
     finish-no p = rw p
 
@@ -119,17 +140,20 @@ module _ (next used : ℕ) (pending : List ℕ) where
         long : length (lastBlock (packing next used pending)) ≡ blockLength
         long = ap length (last-some next used pending (facts .0) (facts .1) some) ∙ last-long next used pending (facts .0) (facts .1)
 
-        pub finish-short : length output < blockLength → record { number = numberOf ShortOutput; length = 0; output = output } ≡ finishOf next used pending output
+        pub finish-short : length output < blockLength
+            → record { number = numberOf ShortOutput; length = 0; output = output } ≡ finishOf next used pending output
         unfolding finishOf
         finish-short h =
             let low : length output < length (lastBlock (packing next used pending)) = omega (arith, long) in
             rw (p, lt-ltb (length output) (length (lastBlock (packing next used pending))) low)
 
-        pub finish-last : blockLength ≤ length output → (out2 : List ℕ) → out2 ≡ cellsBlock next (take (cellLength * used) pending) ++ drop blockLength output
+        pub finish-last : blockLength ≤ length output → (out2 : List ℕ)
+            → out2 ≡ cellsBlock next (take (cellLength * used) pending) ++ drop blockLength output
             → record { number = 0; length = blockLength; output = out2 } ≡ finishOf next used pending output
         unfolding finishOf
         finish-last h out2 e =
             let low : length (lastBlock (packing next used pending)) ≤ length output = omega (arith, long) in
             let is : out2 ≡ fronted (lastBlock (packing next used pending)) output =
             e ∙ ap₂ (λ (b : List ℕ) (n : ℕ). b ++ drop n output) (sym (last-some next used pending (facts .0) (facts .1) some)) (sym long) in
-            rw (p, le-ltb (length output) (length (lastBlock (packing next used pending))) low) (λ j. record { number = 0; length = sym long j; output = is j })
+            rw (p, le-ltb (length output) (length (lastBlock (packing next used pending))) low)
+            (λ j. record { number = 0; length = sym long j; output = is j })

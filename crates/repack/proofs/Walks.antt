@@ -40,7 +40,8 @@ use Rattle.repack.specs.Calls.{areRows, keptCell, keptFrom, Waits, Flush
 
 module _ (identities : List ℕ) where
   -- cells that are written of their rows
-  kept-written : (cells : List (List ℕ)) → all isWritten cells ≡ true → flatten (map (keptCell identities) cells) ≡ cellsOf (others identities (map rowIn cells))
+  kept-written : (cells : List (List ℕ)) → all isWritten cells ≡ true
+      → flatten (map (keptCell identities) cells) ≡ cellsOf (others identities (map rowIn cells))
   unfolding flatten keptCell
   kept-written [] ok = refl
   kept-written (c ∷ cells) ok =
@@ -49,7 +50,8 @@ module _ (identities : List ℕ) where
       go (isListed identities (rowIn c)) same (kept-written cells (b .1))
     where
       go : (b : Bool) → rowCell (rowIn c) ≡ c → flatten (map (keptCell identities) cells) ≡ cellsOf (others identities (map rowIn cells))
-          → cond b [] c ++ flatten (map (keptCell identities) cells) ≡ cellsOf (cond (not b) (rowIn c ∷ others identities (map rowIn cells)) (others identities (map rowIn cells)))
+          → cond b [] c ++ flatten (map (keptCell identities) cells)
+          ≡ cellsOf (cond (not b) (rowIn c ∷ others identities (map rowIn cells)) (others identities (map rowIn cells)))
       go true same e = e
       go false same e = ap₂ _++_ (sym same) e
 
@@ -60,7 +62,8 @@ module _ (identities : List ℕ) where
   kept-sound : (b : List ℕ) → isSound b ≡ true → keptFrom identities b 0 (rowCount b) ≡ keptIn identities (b ∷ [])
   unfolding keptFrom keptIn flatten
   kept-sound b s =
-      kept-written (cellsFrom b 0 (rowCount b)) (sound-cells b s) ∙ ap (λ (l : List Row). cellsOf (others identities l)) (rows-cells b ∙ sym (append-nil (rowsOf b)))
+      kept-written (cellsFrom b 0 (rowCount b)) (sound-cells b s)
+      ∙ ap (λ (l : List Row). cellsOf (others identities l)) (rows-cells b ∙ sym (append-nil (rowsOf b)))
       ∙ (rw s)
 
   kept-other : (b : List ℕ) → isSound b ≡ false → keptFrom identities b 0 0 ≡ keptIn identities (b ∷ [])
@@ -97,7 +100,8 @@ put-same : (a k : ℕ) (xs : List ℕ) → take a xs ++ (take k (drop a xs) ++ d
 put-same a k xs = ap (λ (x : List ℕ). take a xs ++ x) (take-append-drop k (drop a xs)) ∙ take-append-drop a xs
 
 begun-same : {old front : List ℕ} {a : ℕ} {xs : List ℕ} → Begun old front a xs → (b : ℕ) (ys : List ℕ) → a ≡ b → xs ≡ ys → Begun old front b ys
-begun-same {old} {front} {a} {xs} w b ys e f = record { is = sym f ∙ w .is ∙ ap (λ (n : ℕ). front ++ drop n old) e; long = w .long ∙ e; bound = omega (arith, e, w .bound) }
+begun-same {old} {front} {a} {xs} w b ys e f =
+    record { is = sym f ∙ w .is ∙ ap (λ (n : ℕ). front ++ drop n old) e; long = w .long ∙ e; bound = omega (arith, e, w .bound) }
 
 pub record Walking (p : Packing) (identities piece old : List ℕ) (most n k put waits : ℕ) (pending out : List ℕ) : Type 0 where
   pub front : List ℕ
@@ -105,11 +109,14 @@ pub record Walking (p : Packing) (identities piece old : List ℕ) (most n k put
   pub long : length pending ≡ pendingLength
   pub few : waits < cellsPerBlock
   pub room : cellsPerBlock * put + waits ≤ most + cellsPerBlock * k
-  pub blocks : front ++ pushedBlocks (packing (p .next + put) waits pending) (keptIn identities (blocksFrom piece k (n - k))) ≡ pushedBlocks p (keptIn identities (blocksIn piece))
-  pub left : pushed (packing (p .next + put) waits pending) (keptIn identities (blocksFrom piece k (n - k))) ≡ pushed p (keptIn identities (blocksIn piece))
+  pub blocks : front ++ pushedBlocks (packing (p .next + put) waits pending) (keptIn identities (blocksFrom piece k (n - k)))
+      ≡ pushedBlocks p (keptIn identities (blocksIn piece))
+  pub left : pushed (packing (p .next + put) waits pending) (keptIn identities (blocksFrom piece k (n - k)))
+      ≡ pushed p (keptIn identities (blocksIn piece))
 
 module _ (identities piece : List ℕ) where
-  pub rest-turn : (n k : ℕ) → k < n → keptIn identities (blocksFrom piece k (n - k)) ≡ keptIn identities (blockAt k piece ∷ []) ++ keptIn identities (blocksFrom piece (k + 1) (n - (k + 1)))
+  pub rest-turn : (n k : ℕ) → k < n → keptIn identities (blocksFrom piece k (n - k)) ≡ keptIn identities (blockAt k piece ∷ [])
+      ++ keptIn identities (blocksFrom piece (k + 1) (n - (k + 1)))
   unfolding blocksFrom upFrom
   rest-turn n k h =
       let e : n - k ≡ suc (n - (k + 1)) = omega arith in
@@ -122,7 +129,8 @@ module _ (identities piece : List ℕ) where
       rw e (kept-none identities)
 
 -- one block pushed: the packing after it, and what is put
-module _ (next waits total rest : ℕ) (pending pending1 pending2 cells full full2 : List ℕ) (l : length pending1 ≡ pendingLength) (most : ℕ) (few : total < cellsPerBlock + cellsPerBlock)
+module _ (next waits total rest : ℕ) (pending pending1 pending2 cells full full2 : List ℕ) (l : length pending1 ≡ pendingLength) (most : ℕ)
+    (few : total < cellsPerBlock + cellsPerBlock)
     (w : Waits (take (cellLength * waits) pending) cells pending1 most total) (f : Flushed next total pending1 pending2 full full2 rest) where
   abbrev p : Packing
   p = packing next waits pending
@@ -139,9 +147,11 @@ module _ (next waits total rest : ℕ) (pending pending1 pending2 cells full ful
   pub step-packing : pushed p cells ≡ packing (next + total / cellsPerBlock) rest pending2
   unfolding pushed
   step-packing =
-      let c : length (take (cellLength * waits) pending ++ cells) / fullLength ≡ total / cellsPerBlock = ap (λ (x : List ℕ). length x / fullLength) (sym (w .are)) ∙ omega (arith, cells-long) in
+      let c : length (take (cellLength * waits) pending ++ cells) / fullLength ≡ total / cellsPerBlock =
+      ap (λ (x : List ℕ). length x / fullLength) (sym (w .are)) ∙ omega (arith, cells-long) in
       let n : next + length (take (cellLength * waits) pending ++ cells) / fullLength ≡ next + total / cellsPerBlock = ap (λ (x : ℕ). next + x) c in
-      let d : drop (fullLength * (length (take (cellLength * waits) pending ++ cells) / fullLength)) (take (cellLength * waits) pending ++ cells) ≡ take (cellLength * rest) pending2 =
+      let d : drop (fullLength * (length (take (cellLength * waits) pending ++ cells) / fullLength)) (take (cellLength * waits) pending ++ cells)
+      ≡ take (cellLength * rest) pending2 =
       ap₂ (λ (x : ℕ) (y : List ℕ). drop (fullLength * x) y) c (sym (w .are)) ∙ sym (f .are) in
       λ j. record { next = n j; waiting = d j }
 
@@ -158,12 +168,15 @@ module _ (next waits total rest : ℕ) (pending pending1 pending2 cells full ful
       let past : length full ≤ length (fullBlocks next all-cells) = omega (arith, e, block) in
       f .put ∙ ap (λ (x : List ℕ). fullBlocks next all-cells ++ x) (drop-of-length-le full past) ∙ append-nil (fullBlocks next all-cells)
     where
-      cellsBlock-length : fullLength ≤ length all-cells → length all-cells < fullLength + fullLength → length (fullBlocks next all-cells) ≡ blockLength
+      cellsBlock-length : fullLength ≤ length all-cells → length all-cells < fullLength + fullLength
+          → length (fullBlocks next all-cells) ≡ blockLength
       cellsBlock-length a b =
-          ap length (one-block next all-cells a b) ∙ cells-block-length next (take fullLength all-cells) (omega (arith, length-take fullLength all-cells))
+          ap length (one-block next all-cells a b)
+          ∙ cells-block-length next (take fullLength all-cells) (omega (arith, length-take fullLength all-cells))
 
 module _ (p : Packing) (identities piece old : List ℕ) (most n : ℕ) where
-  pub walk-start : (waits : ℕ) (pending : List ℕ) → length pending ≡ pendingLength → waits < cellsPerBlock → waits ≤ most → n ≡ length piece / blockLength
+  pub walk-start : (waits : ℕ) (pending : List ℕ) → length pending ≡ pendingLength → waits < cellsPerBlock → waits ≤ most
+      → n ≡ length piece / blockLength
       → p ≡ packing (p .next) waits pending → Walking p identities piece old most n 0 0 waits pending old
   walk-start waits pending l few room e is =
       let q : packing (p .next + 0) waits pending ≡ p = ap (λ (x : ℕ). packing x waits pending) (add-zero (p .next)) ∙ sym is in
@@ -181,8 +194,10 @@ module _ (p : Packing) (identities piece old : List ℕ) (most n : ℕ) where
   -- the next block
   module _ (k put waits : ℕ) (pending out : List ℕ) (at : Walking p identities piece old most n k put waits pending out) (below : k < n)
       (rows total waits2 : ℕ) (pending1 pending2 full2 : List ℕ) (sound : rows ≡ soundRows (blockAt k piece))
-      (pushes : Waits (take (cellLength * waits) pending) (keptFrom identities (blockAt k piece) 0 rows) pending1 (waits + rows) total) (l1 : length pending1 ≡ pendingLength)
-      (flushes : Flushed (p .next + put) total pending1 pending2 (part (blockLength * put) (blockLength * put + blockLength - blockLength * put) out) full2 waits2)
+      (pushes : Waits (take (cellLength * waits) pending) (keptFrom identities (blockAt k piece) 0 rows) pending1 (waits + rows) total)
+      (l1 : length pending1 ≡ pendingLength)
+      (flushes : Flushed (p .next + put) total pending1 pending2
+      (part (blockLength * put) (blockLength * put + blockLength - blockLength * put) out) full2 waits2)
       (l2 : length pending2 ≡ pendingLength)
       (same : length full2 ≡ length (part (blockLength * put) (blockLength * put + blockLength - blockLength * put) out))
       (fits : blockLength * put + blockLength ≤ length old) where
@@ -211,7 +226,8 @@ module _ (p : Packing) (identities piece old : List ℕ) (most n : ℕ) where
     next-is =
         let e : N + total / cellsPerBlock ≡ p .next + (put + total / cellsPerBlock) = omega arith in
         ap (pushed q) (sym (kept-block identities (blockAt k piece) rows sound))
-        ∙ step-packing N waits total waits2 pending pending1 pending2 (keptFrom identities (blockAt k piece) 0 rows) full full2 l1 (waits + rows) total-few pushes flushes
+        ∙ step-packing N waits total waits2 pending pending1 pending2 (keptFrom identities (blockAt k piece) 0 rows) full full2 l1
+        (waits + rows) total-few pushes flushes
         ∙ ap (λ (x : ℕ). packing x waits2 pending2) e
 
     put-blocks : List ℕ
@@ -221,17 +237,21 @@ module _ (p : Packing) (identities piece old : List ℕ) (most n : ℕ) where
     unfolding put-blocks
     blocks-are =
         ap (pushedBlocks q) (sym (kept-block identities (blockAt k piece) rows sound))
-        ∙ step-blocks N waits total waits2 pending pending1 pending2 (keptFrom identities (blockAt k piece) 0 rows) full full2 l1 (waits + rows) total-few pushes flushes
+        ∙ step-blocks N waits total waits2 pending pending1 pending2 (keptFrom identities (blockAt k piece) 0 rows) full full2 l1
+        (waits + rows) total-few pushes flushes
 
-    all-blocks : at .front ++ put-blocks ++ pushedBlocks (packing (p .next + (put + total / cellsPerBlock)) waits2 pending2) later ≡ pushedBlocks p (keptIn identities (blocksIn piece))
+    all-blocks : at .front ++ put-blocks ++ pushedBlocks (packing (p .next + (put + total / cellsPerBlock)) waits2 pending2) later
+        ≡ pushedBlocks p (keptIn identities (blocksIn piece))
     all-blocks =
         append-assoc (at .front) put-blocks (pushedBlocks (packing (p .next + (put + total / cellsPerBlock)) waits2 pending2) later)
-        ∙ ap (λ (x : List ℕ). at .front ++ x) (ap₂ (λ (x : List ℕ) (r : Packing). x ++ pushedBlocks r later) (sym blocks-are) (sym next-is) ∙ sym (blocks-append q cells later)
+        ∙ ap (λ (x : List ℕ). at .front ++ x) (ap₂ (λ (x : List ℕ) (r : Packing). x ++ pushedBlocks r later) (sym blocks-are) (sym next-is)
+        ∙ sym (blocks-append q cells later)
         ∙ ap (pushedBlocks q) (sym (rest-turn identities piece n k below)))
         ∙ at .blocks
 
     all-left : pushed (packing (p .next + (put + total / cellsPerBlock)) waits2 pending2) later ≡ pushed p (keptIn identities (blocksIn piece))
-    all-left = ap (λ (r : Packing). pushed r later) (sym next-is) ∙ sym (push-append q cells later) ∙ ap (pushed q) (sym (rest-turn identities piece n k below)) ∙ at .left
+    all-left = ap (λ (r : Packing). pushed r later) (sym next-is) ∙ sym (push-append q cells later)
+        ∙ ap (pushed q) (sym (rest-turn identities piece n k below)) ∙ at .left
 
     abbrev out2 : List ℕ
     out2 = take (blockLength * put) out ++ (full2 ++ drop (blockLength * put + blockLength - blockLength * put) (drop (blockLength * put) out))
@@ -240,17 +260,22 @@ module _ (p : Packing) (identities piece old : List ℕ) (most n : ℕ) where
     unfolding put-blocks
     front-after = elim (decLt total cellsPerBlock) [
       | yes h ↦
-          (let none = put-none N waits total waits2 pending pending1 pending2 (keptFrom identities (blockAt k piece) 0 rows) full full2 l1 (waits + rows) total-few pushes flushes h in
+          (let none = put-none N waits total waits2 pending pending1 pending2 (keptFrom identities (blockAt k piece) 0 rows) full full2 l1
+          (waits + rows) total-few pushes flushes h in
           let z : blockLength * put ≡ blockLength * (put + total / cellsPerBlock) = omega arith in
-          let out-is : out ≡ out2 = sym (ap (λ (x : List ℕ). take (blockLength * put) out ++ (x ++ drop (blockLength * put + blockLength - blockLength * put) (drop (blockLength * put) out))) (none .0)
+          let out-is : out ≡ out2 = sym (ap (λ (x : List ℕ). take (blockLength * put) out
+          ++ (x ++ drop (blockLength * put + blockLength - blockLength * put) (drop (blockLength * put) out))) (none .0)
           ∙ put-same (blockLength * put) (blockLength * put + blockLength - blockLength * put) out) in
-          begun-same (named (at .begun) (at .front ++ fullBlocks N (take (cellLength * total) pending1)) (sym (append-nil (at .front)) ∙ ap (λ (x : List ℕ). at .front ++ x) (sym (none .1))))
+          begun-same (named (at .begun) (at .front ++ fullBlocks N (take (cellLength * total) pending1)) (sym (append-nil (at .front))
+          ∙ ap (λ (x : List ℕ). at .front ++ x) (sym (none .1))))
           (blockLength * (put + total / cellsPerBlock)) out2 z out-is)
       | no h ↦
           (let long : length full ≡ blockLength = lent (at .begun) blockLength (blockLength * put + blockLength) refl fits in
-          let one = put-one N waits total waits2 pending pending1 pending2 (keptFrom identities (blockAt k piece) 0 rows) full full2 l1 (waits + rows) total-few pushes flushes (omega arith) long in
+          let one = put-one N waits total waits2 pending pending1 pending2 (keptFrom identities (blockAt k piece) 0 rows) full full2 l1
+          (waits + rows) total-few pushes flushes (omega arith) long in
           let z : blockLength * put + blockLength ≡ blockLength * (put + total / cellsPerBlock) = omega (arith, total-few) in
-          begun-same (lend (at .begun) full2 (fullBlocks N (take (cellLength * total) pending1)) (blockLength * put + blockLength) one same (omega arith) fits)
+          begun-same (lend (at .begun) full2 (fullBlocks N (take (cellLength * total) pending1)) (blockLength * put + blockLength) one same
+          (omega arith) fits)
           (blockLength * (put + total / cellsPerBlock)) out2 z refl)
     ]
 
@@ -278,7 +303,8 @@ module _ (p : Packing) (identities piece old : List ℕ) (most n : ℕ) where
 
     front-is : at .front ≡ pushedBlocks p (keptCells identities piece)
     front-is =
-        sym (append-nil (at .front)) ∙ ap (λ (x : List ℕ). at .front ++ x) (sym (ap (pushedBlocks q-end) none-left ∙ push-none q-end few-waiting .0)) ∙ at .blocks
+        sym (append-nil (at .front)) ∙ ap (λ (x : List ℕ). at .front ++ x) (sym (ap (pushedBlocks q-end) none-left ∙ push-none q-end few-waiting .0))
+        ∙ at .blocks
         ∙ ap (pushedBlocks p) (sym (kept-is identities piece))
 
     pub walk-packed : packing (p .next + put) waits pending ≡ pushed p (keptCells identities piece)
@@ -322,7 +348,9 @@ module _ (piece old : List ℕ) (n : ℕ) where
 
   module _ (k gone : ℕ) (positions : List ℕ) (at : Listing piece old n k gone positions) where
     -- where the next one is dropped it has room
-    split : k < n → (b : Bool) → isDropped (blockAt k piece) ≡ b → at .front ++ cond b (k ∷ keep (λ j. isDropped (blockAt j piece)) (upFrom (k + 1) (n - (k + 1)))) (keep (λ j. isDropped (blockAt j piece)) (upFrom (k + 1) (n - (k + 1)))) ≡ dropped piece
+    split : k < n → (b : Bool) → isDropped (blockAt k piece) ≡ b
+        → at .front ++ cond b (k ∷ keep (λ j. isDropped (blockAt j piece)) (upFrom (k + 1) (n - (k + 1))))
+        (keep (λ j. isDropped (blockAt j piece)) (upFrom (k + 1) (n - (k + 1)))) ≡ dropped piece
     unfolding upFrom
     split h b e =
         let z : n - k ≡ suc (n - suc k) = omega arith in
@@ -333,7 +361,8 @@ module _ (piece old : List ℕ) (n : ℕ) where
         let rest = keep (λ j. isDropped (blockAt j piece)) (upFrom (k + 1) (n - (k + 1))) in
         omega (arith, sym (ap length (split h true d)) ∙ length-append (at .front) (k ∷ rest), at .begun .long, begun-length (at .begun), few)
 
-    pub list-turn : k < n → length (dropped piece) ≤ length old → (after : List ℕ) (r : ℕ) → Listed (isDropped (blockAt k piece)) gone k positions after r → Listing piece old n (k + 1) r after
+    pub list-turn : k < n → length (dropped piece) ≤ length old → (after : List ℕ) (r : ℕ)
+        → Listed (isDropped (blockAt k piece)) gone k positions after r → Listing piece old n (k + 1) r after
     list-turn h few after r l =
         by-test {X = Listing piece old n (k + 1) r after} (isDropped (blockAt k piece))
         (λ t.
@@ -341,7 +370,12 @@ module _ (piece old : List ℕ) (n : ℕ) where
         let room : gone < length old = omega (arith, has-room h few t, begun-length (at .begun)) in
         let is : after ≡ set positions gone k = rw t at (l .list) in
         let count : r ≡ gone + 1 = rw t at (l .count) in
-        rw (is, count) (record { front = at .front ++ (k ∷ []); begun = store (at .begun) k room; whole = append-assoc (at .front) (k ∷ []) rest ∙ split h true t }))
+        rw (is, count) (record {
+          front = at .front ++ (k ∷ []);
+          begun = store (at .begun) k room;
+          whole = append-assoc (at .front) (k ∷ []) rest
+              ∙ split h true t;
+        }))
         (λ f.
         let is : after ≡ positions = rw f at (l .list) in
         let count : r ≡ gone = rw f at (l .count) in
@@ -351,7 +385,8 @@ module _ (piece old : List ℕ) (n : ℕ) where
     unfolding upFrom
     list-end h =
         let z : n - k ≡ 0 = omega arith in
-        let e : at .front ≡ dropped piece = sym (append-nil (at .front)) ∙ ap (λ (x : ℕ). at .front ++ keep (λ j. isDropped (blockAt j piece)) (upFrom k x)) (sym z) ∙ at .whole in
+        let e : at .front ≡ dropped piece = sym (append-nil (at .front))
+        ∙ ap (λ (x : ℕ). at .front ++ keep (λ j. isDropped (blockAt j piece)) (upFrom k x)) (sym z) ∙ at .whole in
         (sym (at .begun .long) ∙ ap length e, at .begun .is ∙ ap₂ (λ (x : List ℕ) (a : ℕ). x ++ drop a old) e (sym (at .begun .long) ∙ ap length e))
 
 -- ---- how many blocks are dropped
@@ -365,15 +400,18 @@ module _ (buffer : List ℕ) where
   unfolding droppedFrom dropped
   from-first n e =
       let z : n - 0 ≡ length buffer / blockLength = omega arith in
-      zero-add (length (keep (λ j. isDropped (blockAt j buffer)) (upFrom 0 (n - 0)))) ∙ ap (λ (x : ℕ). length (keep (λ j. isDropped (blockAt j buffer)) (upFrom 0 x))) z
+      zero-add (length (keep (λ j. isDropped (blockAt j buffer)) (upFrom 0 (n - 0))))
+      ∙ ap (λ (x : ℕ). length (keep (λ j. isDropped (blockAt j buffer)) (upFrom 0 x))) z
 
-  pub from-turn : (n k : ℕ) → k < n → droppedFrom buffer k (n - k) ≡ cond (isDropped (blockAt k buffer)) 1 0 + droppedFrom buffer (k + 1) (n - (k + 1))
+  pub from-turn : (n k : ℕ) → k < n → droppedFrom buffer k (n - k)
+      ≡ cond (isDropped (blockAt k buffer)) 1 0 + droppedFrom buffer (k + 1) (n - (k + 1))
   unfolding droppedFrom upFrom
   from-turn n k h =
       let z : n - k ≡ suc (n - suc k) = omega arith in
       rw (z, add-one) (go (isDropped (blockAt k buffer)))
     where
-      go : (b : Bool) → length (cond b (k ∷ keep (λ j. isDropped (blockAt j buffer)) (upFrom (suc k) (n - suc k))) (keep (λ j. isDropped (blockAt j buffer)) (upFrom (suc k) (n - suc k))))
+      go : (b : Bool) → length (cond b (k ∷ keep (λ j. isDropped (blockAt j buffer)) (upFrom (suc k) (n - suc k)))
+          (keep (λ j. isDropped (blockAt j buffer)) (upFrom (suc k) (n - suc k))))
           ≡ cond b 1 0 + length (keep (λ j. isDropped (blockAt j buffer)) (upFrom (suc k) (n - suc k)))
       go true = omega arith
       go false = omega arith
@@ -386,4 +424,8 @@ module _ (buffer : List ℕ) where
 
   pub dropped-few : length (dropped buffer) ≤ length buffer / blockLength
   unfolding dropped
-  dropped-few = omega (arith, length-keep (λ j. isDropped (blockAt j buffer)) (upFrom 0 (length buffer / blockLength)), length-upFrom 0 (length buffer / blockLength))
+  dropped-few = omega (
+    arith,
+    length-keep (λ j. isDropped (blockAt j buffer)) (upFrom 0 (length buffer / blockLength)),
+    length-upFrom 0 (length buffer / blockLength),
+  )

@@ -15,6 +15,8 @@ use Rattle.archive.specs.Archive.{takenNumber, cellsFrom}
 use Rattle.repack_model.specs.Repack as model
 use Rattle.repack_model.specs.Packer.{Packing, Packed, Finished, packing, keptAs, fullLength, fullBlocks, pushedBlocks, pushed, lastBlock}
 use Rattle.repack.specs.declared.Salvaged.{Salvaged}
+use Rattle.repack.specs.declared.Removed.{Removed}
+use Rattle.repack.specs.declared.Removed.the-variants as removed
 use Rattle.repack.specs.declared.Repacked.{Repacked}
 use Rattle.repack.specs.declared.Ended.{Ended}
 use Rattle.repack.specs.declared.Walk.{Walk}
@@ -22,7 +24,20 @@ use Rattle.repack.specs.declared.Walk.{Walk}
 -- ---- what the calls show
 
 abbrev pub salvageResult : Salvaged → List ℕ → List ℕ → model.Salvaged
-salvageResult r output positions = record { number = takenNumber (r .answer); count = r .dropped; rows = r .rows; output = output; positions = positions }
+salvageResult r output positions = record {
+  number = takenNumber (r .answer);
+  count = r .dropped;
+  rows = r .rows;
+  output = output;
+  positions =
+      positions;
+}
+
+-- the number, the position beside 12, the blocks freed, and every byte of the buffer at exit
+abbrev pub removeResult : Removed → List ℕ → model.Removed
+removeResult (removed.Done n) after = record { number = 0; position = 0; freed = n; buffer = after }
+removeResult (removed.Damaged k) after = record { number = numberOf Mismatch; position = k; freed = 0; buffer = after }
+removeResult (removed.Refused why) after = record { number = numberOf why; position = 0; freed = 0; buffer = after }
 
 abbrev pub packResult : Repacked → List ℕ → List ℕ → List ℕ → Packed
 packResult r pending output positions = record {

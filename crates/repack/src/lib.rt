@@ -1,4 +1,5 @@
 // Archives packed anew (document 02, A9 and A11): a damaged one is salvaged, and the rows of sensors that left are removed. One packer serves both.
+use archive::Opened;
 use archive::Taken;
 use layout::BLOCK_LENGTH;
 use layout::CELL_LENGTH;
@@ -15,13 +16,15 @@ ghost use Rattle.lists.specs.Lists as lists;
 ghost use Rattle.layout.specs.Cell.{cellLength};
 ghost use Rattle.layout.specs.Block.{cellsPerBlock, blockLength};
 ghost use Rattle.archive_model.specs.Row.{rowIn, isRow};
-ghost use Rattle.archive_model.specs.Append.{blockAt};
+ghost use Rattle.archive_model.specs.Buffer.{blocksFor, rowsIn, maxRows};
+ghost use Rattle.archive_model.specs.Append.{verdict, blockAt};
 ghost use Rattle.archive_model.specs.Identity.{identityOf};
 ghost use Rattle.archive.specs.Archive.{soundRows};
 ghost use Rattle.repack_model.specs.Repack as model;
 ghost use Rattle.repack_model.specs.Packer as packer;
 ghost use Rattle.repack_model.specs.Packer.{pendingLength, packing};
-ghost use Rattle.repack.specs.Calls.{salvageResult, packResult, finishResult, areRows, keptCell, keptFrom, Waits, Flushed, HasRoom, Listed, Walked, closed, NotSalvaged, NotPacked};
+ghost use Rattle.repack.specs.Calls.{salvageResult, removeResult, packResult, finishResult};
+ghost use Rattle.repack.specs.Calls.{areRows, keptCell, keptFrom, Waits, Flushed, HasRoom, Listed, Walked, closed, NotSalvaged, NotPacked};
 
 // The most identities of one removal.
 pub const MAX_IDENTITIES: usize = 32;
@@ -42,6 +45,13 @@ pub struct Salvaged {
     pub answer: Taken,
     pub dropped: usize,
     pub rows: usize,
+}
+
+// How many blocks were freed, or the position of the first block that does not match.
+pub enum Removed {
+    Done(usize),
+    Damaged(usize),
+    Refused(Refusal),
 }
 
 // What a piece brought a packer to: how many cells wait, the number of the next block, and how many blocks of the piece were dropped.
@@ -90,8 +100,10 @@ fn is_listed(identity: u64, identities: &[u32]) -> bool
 
 // A cell goes behind `at` others, unless its transmitter is listed.
 fn push_cell(pending: &mut [u8], at: usize, cell: &[u8], identities: &[u32]) -> usize
-    requires { ⌜ (length (now pending) ≡ pendingLength) × (at < cellsPerBlock + cellsPerBlock) × (length (now cell) ≡ cellLength) × (isRow (rowIn (now cell)) ≡ true) ⌝ }
-    ensures { λ r. ⌜ Waits (take (cellLength * at) (now (pending .entry))) (keptCell (now (identities .entry)) (now (cell .entry))) (now (pending .exit)) (at + 1) r ⌝ }
+    requires { ⌜ (length (now pending) ≡ pendingLength) × (at < cellsPerBlock + cellsPerBlock) × (length (now cell) ≡ cellLength)
+        × (isRow (rowIn (now cell)) ≡ true) ⌝ }
+    ensures { λ r. ⌜ Waits (take (cellLength * at) (now (pending .entry))) (keptCell (now (identities .entry)) (now (cell .entry)))
+        (now (pending .exit)) (at + 1) r ⌝ }
 {
     if is_listed(identity_of(cell), identities) {
         return at;
@@ -111,8 +123,10 @@ fn push_cells(
     rows: usize,
     identities: &[u32],
 ) -> usize
-    requires { ⌜ (length (now pending) ≡ pendingLength) × (used < cellsPerBlock) × (length (now source) ≡ blockLength) × (rows ≤ cellsPerBlock) × (areRows (now source) rows ≡ true) ⌝ }
-    ensures { λ r. ⌜ Waits (take (cellLength * used) (now (pending .entry))) (keptFrom (now (identities .entry)) (now (source .entry)) 0 rows) (now (pending .exit)) (used + rows) r ⌝ }
+    requires { ⌜ (length (now pending) ≡ pendingLength) × (used < cellsPerBlock) × (length (now source) ≡ blockLength) × (rows ≤ cellsPerBlock)
+        × (areRows (now source) rows ≡ true) ⌝ }
+    ensures { λ r. ⌜ Waits (take (cellLength * used) (now (pending .entry))) (keptFrom (now (identities .entry)) (now (source .entry)) 0 rows)
+        (now (pending .exit)) (used + rows) r ⌝ }
 {
     let mut at = used;
     for i in 0..rows {
@@ -189,9 +203,12 @@ fn pack_blocks(
     out: &mut [u8],
     positions: &mut [u64],
 ) -> Walk
-    requires { ⌜ (length (now pending) ≡ pendingLength) × (used < cellsPerBlock) × (next + length (now piece) / blockLength < 2 ^ 64) × (length (now piece) ≤ length (now out)) × (length (model.dropped (now piece)) ≤ length (now positions)) ⌝ }
-    ensures { λ r. ⌜ Walked (packing next used (now (pending .entry))) (packer.keptCells (now (identities .entry)) (now (piece .entry))) r (now (pending .exit)) (now (out .entry)) (now (out .exit)) ⌝ }
-    ensures { λ r. ⌜ (r .dropped ≡ length (model.dropped (now (piece .entry)))) × (now (positions .exit) ≡ model.fronted (model.dropped (now (piece .entry))) (now (positions .entry))) ⌝ }
+    requires { ⌜ (length (now pending) ≡ pendingLength) × (used < cellsPerBlock) × (next + length (now piece) / blockLength < 2 ^ 64)
+        × (length (now piece) ≤ length (now out)) × (length (model.dropped (now piece)) ≤ length (now positions)) ⌝ }
+    ensures { λ r. ⌜ Walked (packing next used (now (pending .entry))) (packer.keptCells (now (identities .entry)) (now (piece .entry))) r
+        (now (pending .exit)) (now (out .entry)) (now (out .exit)) ⌝ }
+    ensures { λ r. ⌜ (r .dropped ≡ length (model.dropped (now (piece .entry))))
+        × (now (positions .exit) ≡ model.fronted (model.dropped (now (piece .entry))) (now (positions .entry))) ⌝ }
 {
     let mut waits = used;
     let mut put = 0;
@@ -218,7 +235,8 @@ fn pack_blocks(
 
 // The last block, where cells wait, into its place, and zeros behind it up to `end`.
 fn close(out: &mut [u8], pending: &[u8], used: usize, next: usize, end: usize)
-    requires { ⌜ (length (now pending) ≡ pendingLength) × (used < cellsPerBlock) × (cellsPerBlock * next + used ≤ cellsPerBlock * (end / blockLength)) × (end ≤ length (now out)) ⌝ }
+    requires { ⌜ (length (now pending) ≡ pendingLength) × (used < cellsPerBlock)
+        × (cellsPerBlock * next + used ≤ cellsPerBlock * (end / blockLength)) × (end ≤ length (now out)) ⌝ }
     ensures { λ _. ⌜ now (out .exit) ≡ closed (packing next used (now (pending .entry))) end (now (out .entry)) ⌝ }
 {
     let at = BLOCK_LENGTH * next;
@@ -273,7 +291,8 @@ fn is_listable(buffer: &[u8], len: usize) -> bool
 // The rows of the sound blocks of a damaged archive as an archive in the front of `out`, zeros up to the buffer's length, and the positions of the
 // blocks dropped in the front of the list. Refused: 16, 6 for an output shorter than the buffer or a list too short; then both are as they were.
 pub fn salvage(buffer: &[u8], out: &mut [u8], positions: &mut [u64]) -> Salvaged
-    ensures { λ r. ⌜ salvageResult r (now (out .exit)) (now (positions .exit)) ≡ model.salvageOf (now (buffer .entry)) (now (out .entry)) (now (positions .entry)) ⌝ }
+    ensures { λ r. ⌜ salvageResult r (now (out .exit)) (now (positions .exit))
+        ≡ model.salvageOf (now (buffer .entry)) (now (out .entry)) (now (positions .entry)) ⌝ }
 {
     if !archive::is_whole(buffer.len()) {
         return not_salvaged(Refusal::Size);
@@ -306,6 +325,73 @@ fn not_salvaged(why: Refusal) -> Salvaged
     }
 }
 
+// ---- removal
+
+// How many blocks `rows` rows take.
+fn blocks_for(rows: usize) -> usize
+    requires { ⌜ rows ≤ maxRows ⌝ }
+    ensures { λ r. ⌜ r ≡ blocksFor rows ⌝ }
+{
+    (rows + (CELLS_PER_BLOCK - 1)) / CELLS_PER_BLOCK
+}
+
+// The rows that stay of the first `blocks` blocks of an archive, which are those in use, go into its front from left to right: every 15 into a block,
+// and the others wait. A block is written only after it was read, since no more blocks are put than were passed.
+fn pack_within(buffer: &mut [u8], blocks: usize, identities: &[u32], pending: &mut [u8]) -> Walk
+    requires { ⌜ (verdict (now buffer) .number ≡ 0) × (blocks ≡ blocksFor (length (rowsIn (now buffer)))) × (length (now pending) ≡ pendingLength) ⌝ }
+    ensures { λ r. ⌜ Walked packer.startPacking (packer.keptCells (now (identities .entry)) (now (buffer .entry))) r (now (pending .exit))
+        (now (buffer .entry)) (now (buffer .exit)) ⌝ }
+{
+    let mut waits = 0;
+    let mut put = 0;
+    for k in 0..blocks {
+        let block = &buffer[BLOCK_LENGTH * k..BLOCK_LENGTH * k + BLOCK_LENGTH];
+        let rows = layout::byte_at(block, 4) as usize;
+        let total = push_cells(pending, waits, block, rows, identities);
+        waits = flush(
+            pending,
+            total,
+            put,
+            &mut buffer[BLOCK_LENGTH * put..BLOCK_LENGTH * put + BLOCK_LENGTH],
+        );
+        put = put + total / CELLS_PER_BLOCK;
+    }
+    Walk {
+        used: waits,
+        next: put,
+        dropped: 0,
+    }
+}
+
+// The rows of transmitters that are listed leave the archive, whose other rows are packed anew in its own buffer; blocks that are no longer needed
+// are zero. Refused: 16, 12 with the position, 10 for more than 32 identities; then the buffer is as it was.
+pub fn remove(buffer: &mut [u8], identities: &[u32]) -> Removed
+    ensures { λ r. ⌜ removeResult r (now (buffer .exit)) ≡ model.removeOf (now (buffer .entry)) (now (identities .entry)) ⌝ }
+{
+    let rows = archive::open(buffer);
+    match rows {
+        Opened::Rows(n) => remove_from(buffer, n, identities),
+        Opened::Damaged(k) => Removed::Damaged(k),
+        Opened::Refused(why) => Removed::Refused(why),
+    }
+}
+
+// The same from an archive of `n` rows.
+fn remove_from(buffer: &mut [u8], n: usize, identities: &[u32]) -> Removed
+    requires { ⌜ (verdict (now buffer) .number ≡ 0) × (n ≡ length (rowsIn (now buffer))) ⌝ }
+    ensures { λ r. ⌜ removeResult r (now (buffer .exit)) ≡ model.removeOf (now (buffer .entry)) (now (identities .entry)) ⌝ }
+{
+    if MAX_IDENTITIES < identities.len() {
+        return Removed::Refused(Refusal::Argument);
+    }
+    let blocks = blocks_for(n);
+    let mut pending = [0u8; PENDING_LENGTH];
+    let end = pack_within(buffer, blocks, identities, &mut pending);
+    close(buffer, &pending, end.used, end.next, BLOCK_LENGTH * blocks);
+    let after = blocks_for(CELLS_PER_BLOCK * end.next + end.used);
+    Removed::Done(blocks - after)
+}
+
 // ---- in pieces
 
 // Whether a packer is lent 960 bytes, fewer than 15 cells wait, and at most 2^32 blocks were packed.
@@ -333,7 +419,8 @@ pub fn pack(
     out: &mut [u8],
     positions: &mut [u64],
 ) -> Repacked
-    ensures { λ r. ⌜ packResult r (now (pending .exit)) (now (out .exit)) (now (positions .exit)) ≡ packer.packOf next used (now (pending .entry)) (now (piece .entry)) (now (identities .entry)) (now (out .entry)) (now (positions .entry)) ⌝ }
+    ensures { λ r. ⌜ packResult r (now (pending .exit)) (now (out .exit)) (now (positions .exit))
+        ≡ packer.packOf next used (now (pending .entry)) (now (piece .entry)) (now (identities .entry)) (now (out .entry)) (now (positions .entry)) ⌝ }
 {
     if !is_packing(pending, used, next) {
         return not_packed(used, next, Refusal::NotAccepted);

@@ -21,6 +21,12 @@ pub struct Row {
     pub loose: bool,
 }
 
+/// The transmitter of a row: the four bytes before STATUS and HASH.
+pub fn identity(row: &Row) -> u32 {
+    let n = row.bytes.len();
+    u32::from_be_bytes(row.bytes[n - 6..n - 2].try_into().unwrap())
+}
+
 /// "Rows laid out as parked entries, except that byte 30 of a row is 0 for KEPT and 1 for
 /// LOOSE."
 fn cell(row: &Row) -> [u8; CELL] {

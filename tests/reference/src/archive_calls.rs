@@ -23,7 +23,7 @@ pub enum Call {
     Block(u32),
     /// The room read in pieces of so many blocks.
     Scan(u32),
-    /// Salvage.
+    /// Salvage and removal.
     Repack(Repack),
     Unknown(u8),
 }
@@ -111,7 +111,7 @@ pub fn show(calls: &[Call], archive: &impl Archive, repacker: &impl Repacker) ->
             }
             // In pieces or whole, the answer is the same.
             Call::Scan(_) => format!("SCAN {}", opened(archive.open(&room))),
-            Call::Repack(call) => lent.show(call, &room, repacker),
+            Call::Repack(call) => lent.show(call, &mut room, repacker),
             Call::Unknown(_) => "?".to_string(),
         };
         writeln!(out, "{line}").unwrap();

@@ -1,8 +1,8 @@
-//! Salvage of a damaged archive (document 02, A9), over lists of rows: what stays is written as a
-//! new archive.
+//! Salvage of a damaged archive (document 02, A9) and the removal of sensors that left (A11), over
+//! lists of rows: what stays is written as a new archive.
 
-use crate::archive::{is_whole, room, rows_of, Row, BLOCK, SIZE};
-use crate::subtelegram::{Refusal, OUTPUT_SHORT};
+use crate::archive::{identity, is_whole, read, room, rows_of, Row, BLOCK, ROWS, SIZE};
+use crate::subtelegram::{Refusal, OUTPUT_SHORT, OUT_OF_RANGE};
 
 /// What salvage answers, with 0: the positions dropped and how many rows remain.
 pub type Salvaged = (Vec<u64>, usize);
@@ -32,4 +32,20 @@ pub fn salvage(from: &[u8], out: &mut [u8], list: &mut [u64]) -> Result<Salvaged
     out[..from.len()].copy_from_slice(&room(from.len(), &rows));
     list[..dropped.len()].copy_from_slice(&dropped);
     Ok((dropped, rows.len()))
+}
+
+/// "Up to 32 transmitter identities."
+const IDENTITIES: usize = 32;
+
+/// The archive "rewritten in its own room without their rows: the others in order, packed,
+/// renumbered"; how many blocks are no longer needed.
+pub fn remove(from: &mut Vec<u8>, identities: &[u32]) -> Result<usize, (Refusal, usize)> {
+    let mut rows = read(from)?;
+    if identities.len() > IDENTITIES {
+        return Err((OUT_OF_RANGE, 0));
+    }
+    let before = rows.len().div_ceil(ROWS);
+    rows.retain(|row| !identities.contains(&identity(row)));
+    *from = room(from.len(), &rows);
+    Ok(before - rows.len().div_ceil(ROWS))
 }

@@ -1,11 +1,12 @@
-//! Calls of salvage, and what is shown of each (document 02, A9), on the room of archive_calls. The records and the lines are in README.md.
+//! Calls of salvage and of removal, and what is shown of each (document 02, A9 and A11), on the room of archive_calls. The records and the lines
+//! are in README.md.
 
-use crate::archive::{block, seal, BLOCK, ROWS};
-use crate::archive_calls::{put_block, random_rows, Call, MOST};
+use crate::archive::{block, room, seal, Row, BLOCK, ROWS};
+use crate::archive_calls::{put_block, random_row, random_rows, Call, MOST};
 use crate::hex::hex_or_dash;
 use crate::random::Random;
-use crate::repack::{salvage, Salvaged};
-use crate::subtelegram::{renew_hash, Refusal};
+use crate::repack::{remove, salvage, Salvaged};
+use crate::subtelegram::{renew_hash, Refusal, ADDRESSED};
 
 #[derive(Debug, Clone, PartialEq)]
 pub enum Repack {
@@ -14,11 +15,18 @@ pub enum Repack {
     /// A block of the output.
     Out(u32),
     List,
+    /// The rows of these transmitters removed.
+    Remove(Vec<u32>),
 }
+
+/// The most identities of a record.
+const MOST_LISTED: usize = 70;
 
 /// What the calls are put to: the rules here, others in the tests.
 pub trait Repacker {
     fn salvage(&self, room: &[u8], out: &mut [u8], list: &mut [u64]) -> Result<Salvaged, Refusal>;
+    /// How many blocks are no longer needed.
+    fn remove(&self, room: &mut Vec<u8>, identities: &[u32]) -> Result<usize, (Refusal, usize)>;
 }
 
 /// Document 02.
@@ -27,6 +35,10 @@ pub struct Rules;
 impl Repacker for Rules {
     fn salvage(&self, room: &[u8], out: &mut [u8], list: &mut [u64]) -> Result<Salvaged, Refusal> {
         salvage(room, out, list)
+    }
+
+    fn remove(&self, room: &mut Vec<u8>, identities: &[u32]) -> Result<usize, (Refusal, usize)> {
+        remove(room, identities)
     }
 }
 
@@ -43,7 +55,7 @@ impl Lent {
     }
 
     /// The line for a call.
-    pub fn show(&mut self, call: &Repack, room: &[u8], by: &impl Repacker) -> String {
+    pub fn show(&mut self, call: &Repack, room: &mut Vec<u8>, by: &impl Repacker) -> String {
         match call {
             Repack::Salvage(end, len) => {
                 self.out.fill(0xEE);
@@ -63,6 +75,13 @@ impl Lent {
                 let numbers = self.list.iter().map(|n| format!(" {n}"));
                 format!("LIST{}", numbers.collect::<String>())
             }
+            Repack::Remove(identities) => {
+                let identities = &identities[..identities.len().min(MOST_LISTED)];
+                match by.remove(room, identities) {
+                    Ok(freed) => format!("REMOVE 0 0 {freed}"),
+                    Err((number, position)) => format!("REMOVE {number} {position} 0"),
+                }
+            }
         }
     }
 }
@@ -81,6 +100,13 @@ pub fn record(call: &Repack) -> [u8; 320] {
             record[1..5].copy_from_slice(&k.to_be_bytes());
         }
         Repack::List => record[0] = 11,
+        Repack::Remove(identities) => {
+            record[0] = 12;
+            record[1] = identities.len() as u8;
+            for (i, identity) in identities.iter().take(MOST_LISTED).enumerate() {
+                record[4 + 4 * i..][..4].copy_from_slice(&identity.to_be_bytes());
+            }
+        }
     }
     record
 }
@@ -92,6 +118,10 @@ pub fn calls(calls: &mut Vec<Call>) {
     salvage_lengths(calls);
     salvage_blocks(calls);
     salvage_changed(calls);
+    remove_lengths(calls);
+    remove_rows(calls);
+    remove_blocks(calls);
+    remove_damaged(calls);
 }
 
 /// What is asked of a salvage into this output and list: all that was written.
@@ -202,4 +232,139 @@ fn salvage_changed(calls: &mut Vec<Call>) {
             salvages(calls, 1536, 3);
         }
     }
+}
+
+// Removal.
+
+/// Transmitters of the rows; the last one only ever is a DESTID.
+const SENDERS: [u32; 5] = [0, 1, 0x0102_0304, 0x0403_0201, u32::MAX];
+const DESTID: u32 = 0x0505_0505;
+
+/// A row of this transmitter; an addressed one is for another.
+fn row_of(random: &mut Random, identity: u32) -> Row {
+    let mut row = random_row(random);
+    let n = row.bytes.len();
+    row.bytes[n - 6..n - 2].copy_from_slice(&identity.to_be_bytes());
+    if row.bytes[0] == ADDRESSED {
+        let to = random.pick(&[SENDERS[1], SENDERS[2], DESTID]);
+        row.bytes[n - 10..n - 6].copy_from_slice(&to.to_be_bytes());
+    }
+    renew_hash(&mut row.bytes);
+    row
+}
+
+fn rows_of_senders(random: &mut Random, n: usize) -> Vec<Row> {
+    let mut rows = Vec::new();
+    for _ in 0..n {
+        let identity = random.pick(&SENDERS);
+        rows.push(row_of(random, identity));
+    }
+    rows
+}
+
+/// An archive of these rows in a room of so many blocks.
+fn put_rows(calls: &mut Vec<Call>, blocks: usize, rows: &[Row]) {
+    calls.push(Call::New((BLOCK * blocks) as u32));
+    let used = rows.len().div_ceil(ROWS);
+    let whole = room(BLOCK * used, rows);
+    for (k, block) in whole.chunks(BLOCK).enumerate() {
+        put_block(calls, k, block);
+    }
+}
+
+/// A removal, and all that it leaves.
+fn removes(calls: &mut Vec<Call>, blocks: usize, identities: &[u32]) {
+    calls.push(Call::Repack(Repack::Remove(identities.to_vec())));
+    calls.extend((0..blocks as u32).map(Call::Block));
+    calls.push(Call::Open);
+}
+
+/// Rooms of every odd length with lists of every length.
+fn remove_lengths(calls: &mut Vec<Call>) {
+    for n in [0u32, 1, 511, 512, 513, 24_576] {
+        calls.push(Call::New(n));
+        for count in [0, 1, 31, 32, 33, 70, 71, 200] {
+            calls.push(Call::Repack(Repack::Remove(vec![7; count])));
+        }
+        calls.push(Call::Open);
+    }
+}
+
+/// Archives of every number of rows at an edge, with room behind them and without: none, some and
+/// all rows removed, twice each, and then appended to until 6.
+fn remove_rows(calls: &mut Vec<Call>) {
+    let mut random = Random::new(34);
+    for (n, blocks) in [
+        (0, 1),
+        (1, 1),
+        (14, 2),
+        (15, 1),
+        (16, 2),
+        (30, 3),
+        (31, 3),
+        (45, 3),
+    ] {
+        let rows = rows_of_senders(&mut random, n);
+        for list in [
+            &[][..],
+            &[0x0101_0101],
+            &[DESTID],
+            &SENDERS[..1],
+            &SENDERS[2..3],
+            &[SENDERS[4], SENDERS[4], 9, SENDERS[1]],
+            &SENDERS[..4],
+            &SENDERS,
+        ] {
+            put_rows(calls, blocks, &rows);
+            removes(calls, blocks, list);
+            calls.push(Call::Repack(Repack::Remove(list.to_vec())));
+            calls.extend((0..blocks as u32).map(Call::Block));
+        }
+        // Of four senders one is left: the freed blocks are used again.
+        put_rows(calls, blocks, &rows);
+        removes(calls, blocks, &SENDERS[1..]);
+        for _ in 0..=ROWS * blocks {
+            calls.push(Call::Append(row_of(&mut random, SENDERS[0])));
+        }
+        removes(calls, blocks, &SENDERS[1..2]);
+    }
+}
+
+/// Whole blocks of one sender, first, in the middle and last, and rows that leave in turn; lists of
+/// 32, in which the last one counts.
+fn remove_blocks(calls: &mut Vec<Call>) {
+    let mut random = Random::new(35);
+    let senders = |k: usize, i: usize| [k as u32, (i % 2) as u32, (i % 15) as u32];
+    for by in 0..3 {
+        let mut rows = Vec::new();
+        for k in 0..5 {
+            for i in 0..ROWS {
+                rows.push(row_of(&mut random, senders(k, i)[by]));
+            }
+        }
+        for gone in [0, 1, 2, 4] {
+            put_rows(calls, 6, &rows);
+            removes(calls, 6, &[gone]);
+            let mut list = vec![0x7777_7777; 32];
+            list[31] = gone ^ 1;
+            removes(calls, 6, &list);
+            list.push(3);
+            removes(calls, 6, &list);
+        }
+    }
+}
+
+/// A damaged archive and too many identities: 12 first; bytes of rooms that are refused stay.
+fn remove_damaged(calls: &mut Vec<Call>) {
+    let mut random = Random::new(36);
+    let rows = rows_of_senders(&mut random, 20);
+    for at in [40, 512 + 4, 512 + 511, 1024] {
+        put_rows(calls, 3, &rows);
+        calls.push(Call::Put(at, vec![0xAA]));
+        removes(calls, 3, &SENDERS);
+        removes(calls, 3, &[9; 33]);
+    }
+    put_rows(calls, 3, &rows);
+    removes(calls, 3, &[SENDERS[0]; 33]);
+    removes(calls, 3, &[SENDERS[0]; 32]);
 }

@@ -1,12 +1,12 @@
-//! What the calls of salvage must show: everything that can occur, and the faults a
+//! What the calls of salvage and of removal must show: everything that can occur, and the faults a
 //! program could have. Each fault is put into a program of its own, which copies cells, and its
 //! lines must differ from the rules'.
 
-use crate::archive::{is_whole, rows_of, seal, BLOCK, ROWS, SIZE};
+use crate::archive::{is_whole, read, rows_of, seal, BLOCK, ROWS, SIZE};
 use crate::archive_calls::{self, calls, show, stdout};
 use crate::repack::Salvaged;
 use crate::repack_calls::Repacker;
-use crate::subtelegram::{Refusal, OUTPUT_SHORT};
+use crate::subtelegram::{Refusal, ADDRESSED, OUTPUT_SHORT, OUT_OF_RANGE};
 use std::collections::BTreeSet;
 
 struct Cells {
@@ -115,6 +115,70 @@ impl Repacker for Cells {
         }
         Ok((gone, cells.len()))
     }
+
+    fn remove(&self, room: &mut Vec<u8>, identities: &[u32]) -> Result<usize, (Refusal, usize)> {
+        let mut different = identities.to_vec();
+        different.dedup();
+        let listed = match self.fault {
+            "32 identities refused" => identities.len() + 1,
+            "33 identities accepted" => identities.len().saturating_sub(1),
+            "equal identities counted once" => different.len(),
+            _ => identities.len(),
+        };
+        if self.has("10 before 12") && listed > 32 {
+            return Err((OUT_OF_RANGE, 0));
+        }
+        let rows = read(room)?.len();
+        if listed > 32 {
+            return Err((OUT_OF_RANGE, 0));
+        }
+        let used = &room[..BLOCK * rows.div_ceil(ROWS)];
+        let cells: Vec<[u8; 32]> = used.chunks(BLOCK).flat_map(cells_of).collect();
+        let stay = |cell: &&[u8; 32]| !self.leaves(*cell, identities);
+        let mut rest: Vec<[u8; 32]> = cells.iter().filter(stay).copied().collect();
+        if self.has("the last row forgotten") && rest.len() < cells.len() {
+            rest.pop();
+        }
+        let numbers: Vec<[u8; 4]> = (0..=rows as u32).map(|k| (k + 1).to_be_bytes()).collect();
+        let how = match self.fault {
+            "numbers not kept from 0" => "numbers not renewed",
+            "freed blocks left as they were" => "no zeros behind the rows",
+            _ => "",
+        };
+        let packed = Cells { fault: how }.pack(&rest, room.len(), &numbers);
+        room[..packed.len()].copy_from_slice(&packed);
+        let (before, after) = (rows.div_ceil(ROWS), rest.len().div_ceil(ROWS));
+        Ok(match self.fault {
+            "all free blocks reported" => room.len() / BLOCK - after,
+            "blocks of removed rows reported" => (rows - rest.len()) / ROWS,
+            "rows reported" => rows - rest.len(),
+            _ => before - after,
+        })
+    }
+}
+
+fn cells_of(block: &[u8]) -> Vec<[u8; 32]> {
+    let cells = block[24..504].chunks(32).take(block[4].into());
+    cells.map(|cell| cell.try_into().unwrap()).collect()
+}
+
+impl Cells {
+    /// Whether a row leaves.
+    fn leaves(&self, cell: &[u8; 32], identities: &[u32]) -> bool {
+        let n = usize::from(cell[8]);
+        let at = match self.fault {
+            "DESTID for TXID" if cell[9] == ADDRESSED => 9 + n - 10,
+            "STATUS for the last byte" => 9 + n - 5,
+            _ => 9 + n - 6,
+        };
+        let identity = u32::from_be_bytes(cell[at..at + 4].try_into().unwrap());
+        let list = match self.fault {
+            "the first identity alone" => &identities[..identities.len().min(1)],
+            "the last identity forgotten" => &identities[..identities.len().saturating_sub(1)],
+            _ => identities,
+        };
+        list.contains(&identity)
+    }
 }
 
 fn agrees(fault: &'static str) -> bool {
@@ -148,14 +212,42 @@ fn faults_of_salvage_are_seen() {
     }
 }
 
+#[test]
+fn faults_of_removal_are_seen() {
+    for fault in [
+        "32 identities refused",
+        "33 identities accepted",
+        "equal identities counted once",
+        "10 before 12",
+        "the last row forgotten",
+        "numbers not kept from 0",
+        "freed blocks left as they were",
+        "all free blocks reported",
+        "blocks of removed rows reported",
+        "rows reported",
+        "DESTID for TXID",
+        "STATUS for the last byte",
+        "the first identity alone",
+        "the last identity forgotten",
+    ] {
+        assert!(!agrees(fault), "{fault}");
+    }
+}
+
+/// The numbers that a call answers.
+fn numbers(lines: &str, call: &str) -> Vec<String> {
+    let seen: BTreeSet<&str> = lines
+        .lines()
+        .filter(|line| line.starts_with(call))
+        .map(|line| line.split(' ').nth(1).unwrap())
+        .collect();
+    seen.into_iter().map(String::from).collect()
+}
+
 /// Every answer occurs.
 #[test]
 fn every_answer_occurs() {
     let lines = stdout();
-    let seen: BTreeSet<&str> = lines
-        .lines()
-        .filter(|line| line.starts_with("SALVAGE"))
-        .map(|line| line.split(' ').nth(1).unwrap())
-        .collect();
-    assert_eq!(seen.into_iter().collect::<Vec<_>>(), ["0", "16", "6"]);
+    assert_eq!(numbers(&lines, "SALVAGE"), ["0", "16", "6"]);
+    assert_eq!(numbers(&lines, "REMOVE"), ["0", "10", "12", "16"]);
 }

@@ -1,7 +1,7 @@
 //! The yearly sheet (document 02, A12): rows are kept in groups by transmitter, and a sheet
 //! handed in is judged by what archives could give.
 
-use crate::archive::{read, Row};
+use crate::archive::{identity, read, Row};
 use crate::subtelegram::{Refusal, NOT_ACCEPTED, OUT_OF_RANGE};
 use std::collections::BTreeMap;
 
@@ -28,13 +28,6 @@ pub struct Sheet {
     pub lines: Vec<Line>,
     pub kept: u64,
     pub loose: u64,
-}
-
-/// "Transmitter": the four bytes before STATUS and HASH.
-pub fn identity(row: &Row) -> u64 {
-    let n = row.bytes.len();
-    let id: [u8; 4] = row.bytes[n - 6..n - 2].try_into().unwrap();
-    u32::from_be_bytes(id).into()
 }
 
 fn rows(line: &Line) -> u128 {
@@ -71,8 +64,9 @@ fn grouped(lines: &[Line], rows: &[Row]) -> Vec<Line> {
         groups.entry(line.identity).or_default().push(*line);
     }
     for row in rows {
-        groups.entry(identity(row)).or_default().push(Line {
-            identity: identity(row),
+        let identity = u64::from(identity(row));
+        groups.entry(identity).or_default().push(Line {
+            identity,
             kept: u64::from(!row.loose),
             loose: u64::from(row.loose),
             earliest: row.time,

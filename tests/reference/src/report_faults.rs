@@ -1,6 +1,6 @@
 //! Wrong sheets that the stored calls must show (document 02, A12).
 
-use crate::archive::{read, Row};
+use crate::archive::{self, read, Row};
 use crate::report::{self, add, line, share, Line, Sheet};
 use crate::report_calls::{calls, show, Rules, Sheets};
 use crate::subtelegram::{Refusal, NOT_ACCEPTED, OUT_OF_RANGE};
@@ -56,7 +56,7 @@ struct Wrong(Fault);
 fn by_destid(rows: &[Row]) -> Vec<u64> {
     let identity = |row: &Row| match row.bytes[0] {
         0xA6 => u32::from_be_bytes(row.bytes[3..7].try_into().unwrap()).into(),
-        _ => report::identity(row),
+        _ => archive::identity(row).into(),
     };
     rows.iter().map(identity).collect()
 }

@@ -23,7 +23,8 @@ before out at h =
 abbrev cleared : (c : tie.After-clear) → Writing (c .before .before .before .before .before .args .end)
 cleared c =
     let a = c .before .before .before .before .before .args in
-    packed (lend-sized (before (now (a .out)) (blockLength * a .next) (omega arith)) _ (λ n. replicate n 0) (a .end) (c .clear .ensures) (c .clear .kept .0) (omega arith) (omega arith))
+    packed (lend-sized (before (now (a .out)) (blockLength * a .next) (omega arith)) _ (λ n. replicate n 0) (a .end) (c .clear .ensures)
+    (c .clear .kept .0) (omega arith) (omega arith))
 
 none : tie.Need-returns
 none c =
@@ -37,12 +38,15 @@ put c =
     let a = c .before .before .before .before .before .before .args in
     let z : cellLength * a .used - 0 ≡ cellLength * a .used = omega arith in
     packed
-    (lend (before (now (a .out)) (blockLength * a .next) (omega arith)) _ (cellsBlock (a .next) (take (cellLength * a .used) (now (a .pending)))) (blockLength * a .next + blockLength)
+    (lend (before (now (a .out)) (blockLength * a .next) (omega arith)) _ (cellsBlock (a .next) (take (cellLength * a .used) (now (a .pending))))
+    (blockLength * a .next + blockLength)
     (c .put-block .ensures ∙ ap (λ (n : ℕ). cellsBlock (a .next) (take n (now (a .pending)))) z) (c .put-block .kept .0) (omega arith) (omega arith))
 
 abbrev cleared2 : (c : tie.After-clear2) → Writing (c .before .before .before .before .before .before .before .before .before .before .args .end)
 cleared2 c =
-    packed (lend-sized (put (c .before .before .before .before) .begun) _ (λ n. replicate n 0) (c .before .before .before .before .before .before .before .before .before .before .args .end) (c .clear2 .ensures) (c .clear2 .kept .0) (omega arith) (omega arith))
+    packed (lend-sized (put (c .before .before .before .before) .begun) _ (λ n. replicate n 0)
+    (c .before .before .before .before .before .before .before .before .before .before .args .end) (c .clear2 .ensures) (c .clear2 .kept .0)
+    (omega arith) (omega arith))
 
 last : tie.Need-returns-2
 last c =

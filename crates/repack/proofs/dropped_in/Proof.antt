@@ -26,10 +26,13 @@ one-low : (b : Bool) → cond b 1 0 ≤ 1
 one-low true = omega arith
 one-low false = omega arith
 
-told : (c : tie.After-dropped-one Inv-loop μ-loop) → c .dropped-one .result ≡ cond (isDropped (blockAt (c .before .before .before .loop .k) (now (c .before .before .before .before .before .args .buffer)))) 1 0
+told : (c : tie.After-dropped-one Inv-loop μ-loop)
+    → c .dropped-one .result ≡ cond (isDropped
+    (blockAt (c .before .before .before .loop .k) (now (c .before .before .before .before .before .args .buffer)))) 1 0
 told c =
     let at = c .before .before .before in
-    c .dropped-one .ensures ∙ ap (λ (b : List ℕ). cond (isDropped b) 1 0) (part-ends (blockLength * at .loop .k) blockLength (now (at .before .before .args .buffer)))
+    c .dropped-one .ensures ∙ ap (λ (b : List ℕ). cond (isDropped b) 1 0)
+    (part-ends (blockLength * at .loop .k) blockLength (now (at .before .before .args .buffer)))
 
 loop-again : tie.Need-loop-again Inv-loop μ-loop
 loop-again c =
@@ -62,7 +65,12 @@ dropped-in-spec =
     (λ c. omega arith)
     (λ c. omega arith)
     (λ c κs. search needs)
-    (λ c. omega (arith, told c, one-low (isDropped (blockAt (c .before .before .before .loop .k) (now (c .before .before .before .before .before .args .buffer))))))
+    (λ c. omega (
+      arith,
+      told c,
+      one-low (isDropped
+          (blockAt (c .before .before .before .loop .k) (now (c .before .before .before .before .before .args .buffer)))),
+    ))
     (λ c. omega arith)
     (λ c. omega arith)
     loop-again

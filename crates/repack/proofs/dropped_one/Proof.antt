@@ -15,12 +15,14 @@ kept c =
 blank : tie.Need-returns-2
 blank c =
     let so = c .before .before .before in
-    rw (blank-not-dropped (now (so .before .before .args .block)) (so .sound .result) (so .sound .ensures) (sym (c .before .is-blank .ensures) ∙ c .if2 .taken))
+    rw (blank-not-dropped (now (so .before .before .args .block)) (so .sound .result) (so .sound .ensures) (sym (c .before .is-blank .ensures)
+    ∙ c .if2 .taken))
 
 dropped : tie.Need-returns-3
 dropped c =
     let so = c .before .before .before in
-    rw (is-dropped (now (so .before .before .args .block)) (so .sound .result) (so .sound .ensures) (omega arith) (sym (c .before .is-blank .ensures) ∙ c .if2 .left))
+    rw (is-dropped (now (so .before .before .args .block)) (so .sound .result) (so .sound .ensures) (omega arith) (sym (c .before .is-blank .ensures)
+    ∙ c .if2 .left))
 
 pub dropped-one-spec : {M : Type 1} → statement M
 dropped-one-spec =

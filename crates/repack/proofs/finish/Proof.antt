@@ -16,10 +16,12 @@ use Rattle.repack.proofs.Packs.{packing-facts, finish-no, finish-none, 
 use Rattle.repack.proofs.finish.Statement.{statement}
 use Rattle.repack.proofs.finish.Tie as tie
 
-told : (c : tie.Else1) → isPacking (c .before .before .before .before .args .next) (c .before .before .before .before .args .used) (now (c .before .before .before .before .args .pending)) ≡ true
+told : (c : tie.Else1) → isPacking (c .before .before .before .before .args .next) (c .before .before .before .before .args .used)
+    (now (c .before .before .before .before .args .pending)) ≡ true
 told c = sym (c .before .is-packing .ensures) ∙ not-false _ (c .if1 .left)
 
-facts : (c : tie.Else1) → (length (now (c .before .before .before .before .args .pending)) ≡ pendingLength) × (c .before .before .before .before .args .used < cellsPerBlock) × (c .before .before .before .before .args .next ≤ maxBlocks)
+facts : (c : tie.Else1) → (length (now (c .before .before .before .before .args .pending)) ≡ pendingLength)
+    × (c .before .before .before .before .args .used < cellsPerBlock) × (c .before .before .before .before .args .next ≤ maxBlocks)
 facts c = packing-facts _ _ _ (told c)
 
 no : tie.Need-returns
@@ -43,7 +45,8 @@ last c =
     let a = e .before .before .before .before .before .before .args in
     let z : cellLength * a .used - 0 ≡ cellLength * a .used = omega arith in
     finish-last (a .next) (a .used) (now (a .pending)) (now (a .out)) (told (e .before .before)) (e .before .if2 .left) (omega arith) _
-    (ap (λ (b : List ℕ). b ++ drop blockLength (now (a .out))) (c .before .before .put-block .ensures ∙ ap (λ (n : ℕ). cellsBlock (a .next) (take n (now (a .pending)))) z))
+    (ap (λ (b : List ℕ). b ++ drop blockLength (now (a .out))) (c .before .before .put-block .ensures
+    ∙ ap (λ (n : ℕ). cellsBlock (a .next) (take n (now (a .pending)))) z))
 
 pub finish-spec : {M : Type 1} → statement M
 finish-spec =
@@ -60,6 +63,15 @@ finish-spec =
     (λ c. search needs)
     (λ c. search needs)
     (λ c. omega (arith, facts (c .before .before .before)))
-    (λ c κs. (length-take 512 (now (c .before .before .before .before .before .before .before .before .args .out)) ∙ omega arith, omega (arith, length-take (cellLength * c .before .before .before .before .before .before .before .before .args .used - 0) (now (c .before .before .before .before .before .before .before .before .args .pending)), facts (c .before .before .before .before))))
+    (λ c κs. (
+      length-take 512 (now (c .before .before .before .before .before .before .before .before .args .out))
+          ∙ omega arith,
+      omega (
+        arith,
+        length-take (cellLength * c .before .before .before .before .before .before .before .before .args .used - 0)
+            (now (c .before .before .before .before .before .before .before .before .args .pending)),
+        facts (c .before .before .before .before),
+      ),
+    ))
     (λ c. search needs)
     last)

@@ -16,7 +16,8 @@ returns-2 : tie.Need-returns-2
 returns-2 c =
     let s = c .before .before .before .before .before .before .before .before .before .before .before .before .before in
     let put = c .before .before .before .before .before .before in
-    flush-full (s .args .k) (s .args .total) (now (s .args .pending)) _ (now (s .args .full)) _ (s .pre .0) (omega arith) (omega arith) (s .pre .2) (put .put-block .ensures) (c .before .before .move-front .ensures)
+    flush-full (s .args .k) (s .args .total) (now (s .args .pending)) _ (now (s .args .full)) _ (s .pre .0) (omega arith) (omega arith) (s .pre .2)
+    (put .put-block .ensures) (c .before .before .move-front .ensures)
 
 pub flush-spec : {M : Type 1} → statement M
 flush-spec =

@@ -12,7 +12,8 @@ use Rattle.repack.proofs.is_listed.Statement.{statement}
 use Rattle.repack.proofs.is_listed.Tie as tie
 
 abbrev Inv-loop : tie.InvT-loop
-Inv-loop identity identities i₀ i-end i = (i ≤ i-end) × (i-end ≡ length identities) × (any (eqb identity) (drop i identities) ≡ any (eqb identity) identities)
+Inv-loop identity identities i₀ i-end i = (i ≤ i-end) × (i-end ≡ length identities)
+    × (any (eqb identity) (drop i identities) ≡ any (eqb identity) identities)
 
 abbrev μ-loop : tie.MeasureT-loop
 μ-loop identity identities i₀ i-end i = i-end - i

@@ -28,7 +28,8 @@ told c =
     let s = c .before .before .before .before .before in
     is-dropped (now (s .args .block)) (s .args .rows) (s .pre .0) (omega arith) (sym (c .before .is-blank .ensures) ∙ c .if2 .left)
 
-room : (c : tie.Else2) → c .before .before .before .before .before .args .gone < length (now (c .before .before .before .before .before .args .positions))
+room : (c : tie.Else2) → c .before .before .before .before .before .args .gone < length
+    (now (c .before .before .before .before .before .args .positions))
 room c = c .before .before .before .before .before .pre .1 (told c)
 
 listed : tie.Need-returns-3

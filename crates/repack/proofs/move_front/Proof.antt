@@ -19,8 +19,12 @@ returns c =
     let first = second .before .before .before .before in
     let pending = now (second .before .before .before .before .before .before .before .before .before .args .pending) in
     let l : length (drop fullLength pending) ≤ fullLength = omega (arith, length-drop fullLength pending) in
-    let later : first .copy .last .1 .0 ≡ drop fullLength pending = copied _ _ _ (part-length fullLength fullLength pending (omega arith)) (first .copy .ensures .1) ∙ take-all fullLength (drop fullLength pending) l in
-    ap (λ (front : List ℕ). front ++ drop fullLength pending) (copied _ _ _ (ap length later ∙ omega (arith, length-drop fullLength pending, part-length 0 fullLength pending (omega arith))) (second .copy2 .ensures .1) ∙ later)
+    let later : first .copy .last .1 .0 ≡ drop fullLength pending =
+    copied _ _ _ (part-length fullLength fullLength pending (omega arith)) (first .copy .ensures .1)
+    ∙ take-all fullLength (drop fullLength pending) l in
+    ap (λ (front : List ℕ). front ++ drop fullLength pending)
+    (copied _ _ _ (ap length later ∙ omega (arith, length-drop fullLength pending, part-length 0 fullLength pending (omega arith)))
+    (second .copy2 .ensures .1) ∙ later)
 
 pub move-front-spec : {M : Type 1} → statement M
 move-front-spec =

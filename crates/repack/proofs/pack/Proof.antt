@@ -16,43 +16,63 @@ use Rattle.repack.proofs.Packs.{packing-facts, pack-no, pack-odd, pack-
 use Rattle.repack.proofs.pack.Statement.{statement}
 use Rattle.repack.proofs.pack.Tie as tie
 
-told : (c : tie.Else1) → isPacking (c .before .before .before .before .before .before .before .before .args .next) (c .before .before .before .before .before .before .before .before .args .used) (now (c .before .before .before .before .before .before .before .before .args .pending)) ≡ true
+told : (c : tie.Else1) → isPacking (c .before .before .before .before .before .before .before .before .args .next)
+    (c .before .before .before .before .before .before .before .before .args .used)
+    (now (c .before .before .before .before .before .before .before .before .args .pending)) ≡ true
 told c = sym (c .before .is-packing .ensures) ∙ not-false _ (c .if1 .left)
 
-facts : (c : tie.Else1) → (length (now (c .before .before .before .before .before .before .before .before .args .pending)) ≡ pendingLength) × (c .before .before .before .before .before .before .before .before .args .used < cellsPerBlock) × (c .before .before .before .before .before .before .before .before .args .next ≤ maxBlocks)
+facts : (c : tie.Else1) → (length (now (c .before .before .before .before .before .before .before .before .args .pending)) ≡ pendingLength)
+    × (c .before .before .before .before .before .before .before .before .args .used < cellsPerBlock)
+    × (c .before .before .before .before .before .before .before .before .args .next ≤ maxBlocks)
 facts c = packing-facts _ _ _ (told c)
 
 no : tie.Need-returns
 no c =
     let a = c .before .before .before .before .before .before .before .before .before .args in
-    c .not-packed .ensures (now (a .pending)) (now (a .out)) (now (a .positions)) ∙ pack-no (a .next) (a .used) (now (a .pending)) (now (a .piece)) (now (a .identities)) (now (a .out)) (now (a .positions)) (sym (c .before .before .is-packing .ensures) ∙ not-true _ (c .before .if1 .taken))
+    c .not-packed .ensures (now (a .pending)) (now (a .out)) (now (a .positions))
+    ∙ pack-no (a .next) (a .used) (now (a .pending)) (now (a .piece)) (now (a .identities)) (now (a .out)) (now (a .positions))
+    (sym (c .before .before .is-packing .ensures) ∙ not-true _ (c .before .if1 .taken))
 
 odd : tie.Need-returns-2
 odd c =
     let a = c .before .before .before .before .before .before .before .before .before .before .args in
-    c .not-packed2 .ensures (now (a .pending)) (now (a .out)) (now (a .positions)) ∙ pack-odd (a .next) (a .used) (now (a .pending)) (now (a .piece)) (now (a .identities)) (now (a .out)) (now (a .positions)) (told (c .before .before)) (c .before .if2 .taken)
+    c .not-packed2 .ensures (now (a .pending)) (now (a .out)) (now (a .positions))
+    ∙ pack-odd (a .next) (a .used) (now (a .pending)) (now (a .piece)) (now (a .identities)) (now (a .out)) (now (a .positions))
+    (told (c .before .before)) (c .before .if2 .taken)
 
 far : tie.Need-returns-3
 far c =
     let a = c .before .before .before .before .before .before .before .before .before .before .before .args in
-    c .not-packed3 .ensures (now (a .pending)) (now (a .out)) (now (a .positions)) ∙ pack-far (a .next) (a .used) (now (a .pending)) (now (a .piece)) (now (a .identities)) (now (a .out)) (now (a .positions)) (told (c .before .before .before)) (c .before .before .if2 .left) (c .before .if3 .taken)
+    c .not-packed3 .ensures (now (a .pending)) (now (a .out)) (now (a .positions))
+    ∙ pack-far (a .next) (a .used) (now (a .pending)) (now (a .piece)) (now (a .identities)) (now (a .out)) (now (a .positions))
+    (told (c .before .before .before)) (c .before .before .if2 .left) (c .before .if3 .taken)
 
 many : tie.Need-returns-4
 many c =
     let a = c .before .before .before .before .before .before .before .before .before .before .before .before .args in
-    c .not-packed4 .ensures (now (a .pending)) (now (a .out)) (now (a .positions)) ∙ pack-identities (a .next) (a .used) (now (a .pending)) (now (a .piece)) (now (a .identities)) (now (a .out)) (now (a .positions)) (told (c .before .before .before .before)) (c .before .before .before .if2 .left) (omega arith) (c .before .if4 .taken)
+    c .not-packed4 .ensures (now (a .pending)) (now (a .out)) (now (a .positions))
+    ∙ pack-identities (a .next) (a .used) (now (a .pending)) (now (a .piece)) (now (a .identities)) (now (a .out)) (now (a .positions))
+    (told (c .before .before .before .before)) (c .before .before .before .if2 .left) (omega arith) (c .before .if4 .taken)
 
 short : tie.Need-returns-5
 short c =
     let a = c .before .before .before .before .before .before .before .before .before .before .before .before .before .args in
-    c .not-packed5 .ensures (now (a .pending)) (now (a .out)) (now (a .positions)) ∙ pack-short (a .next) (a .used) (now (a .pending)) (now (a .piece)) (now (a .identities)) (now (a .out)) (now (a .positions)) (told (c .before .before .before .before .before)) (c .before .before .before .before .if2 .left) (omega arith) (omega arith) (c .before .if5 .taken)
+    c .not-packed5 .ensures (now (a .pending)) (now (a .out)) (now (a .positions))
+    ∙ pack-short (a .next) (a .used) (now (a .pending)) (now (a .piece)) (now (a .identities)) (now (a .out)) (now (a .positions))
+    (told (c .before .before .before .before .before)) (c .before .before .before .before .if2 .left) (omega arith) (omega arith)
+    (c .before .if5 .taken)
 
 list : tie.Need-returns-6
 list c =
     let a = c .before .before .before .before .before .before .before .before .before .before .before .before .before .before .before .args in
-    c .not-packed6 .ensures (now (a .pending)) (now (a .out)) (now (a .positions)) ∙ pack-list (a .next) (a .used) (now (a .pending)) (now (a .piece)) (now (a .identities)) (now (a .out)) (now (a .positions)) (told (c .before .before .before .before .before .before .before)) (c .before .before .before .before .before .before .if2 .left) (omega arith) (omega arith) (omega arith) (sym (c .before .before .is-listable .ensures) ∙ not-true _ (c .before .if6 .taken))
+    c .not-packed6 .ensures (now (a .pending)) (now (a .out)) (now (a .positions))
+    ∙ pack-list (a .next) (a .used) (now (a .pending)) (now (a .piece)) (now (a .identities)) (now (a .out)) (now (a .positions))
+    (told (c .before .before .before .before .before .before .before)) (c .before .before .before .before .before .before .if2 .left)
+    (omega arith) (omega arith) (omega arith) (sym (c .before .before .is-listable .ensures) ∙ not-true _ (c .before .if6 .taken))
 
-listable : (c : tie.Else6) → length (dropped (now (c .before .before .before .before .before .before .before .before .before .before .before .before .before .before .args .piece))) ≤ length (now (c .before .before .before .before .before .before .before .before .before .before .before .before .before .before .args .positions))
+listable : (c : tie.Else6) → length (dropped
+    (now (c .before .before .before .before .before .before .before .before .before .before .before .before .before .before .args .piece))) ≤ length
+    (now (c .before .before .before .before .before .before .before .before .before .before .before .before .before .before .args .positions))
 listable c = leb-true _ _ (sym (c .before .is-listable .ensures) ∙ not-false _ (c .if6 .left))
 
 pack-blocks-requires : tie.Need-pack-blocks-requires
@@ -68,7 +88,9 @@ done c =
     let w = walk .pack-blocks .ensures .0 in
     let l = walk .pack-blocks .ensures .1 in
     (λ j. record { number = 0; count = l .0 j; next = w .packed j; output = w .put j; positions = l .1 j })
-    ∙ pack-done (a .next) (a .used) (now (a .pending)) (now (a .piece)) (now (a .identities)) (now (a .out)) (now (a .positions)) (told (e .before .before .before .before .before .before)) (e .before .before .before .before .before .if2 .left) (omega arith) (omega arith) (omega arith) (listable e)
+    ∙ pack-done (a .next) (a .used) (now (a .pending)) (now (a .piece)) (now (a .identities)) (now (a .out)) (now (a .positions))
+    (told (e .before .before .before .before .before .before)) (e .before .before .before .before .before .if2 .left) (omega arith) (omega arith)
+    (omega arith) (listable e)
 
 pub pack-spec : {M : Type 1} → statement M
 pack-spec =

@@ -33,7 +33,8 @@ loop-holds c =
     let a = s .args in (
       omega arith,
       refl,
-      walk-start (packing (a .next) (a .used) (now (a .pending))) (now (a .identities)) (now (a .piece)) (now (a .out)) (a .used) _ (a .used) (now (a .pending)) (s .pre .0) (s .pre .1) (omega arith) refl refl,
+      walk-start (packing (a .next) (a .used) (now (a .pending))) (now (a .identities)) (now (a .piece)) (now (a .out)) (a .used) _ (a .used)
+          (now (a .pending)) (s .pre .0) (s .pre .1) (omega arith) refl refl,
       list-start (now (a .piece)) (now (a .positions)) _ refl,
     )
 
@@ -41,7 +42,10 @@ loop-holds c =
 behind : (at : tie.At-loop Inv-loop μ-loop) → at .loop .put ≤ at .loop .k
 behind at = omega (arith, at .loop .inv .2 .room, at .before .before .before .before .before .before .pre .1)
 
-shown : (at : tie.At-loop Inv-loop μ-loop) → part (blockLength * at .loop .k) (blockLength * at .loop .k + blockLength - blockLength * at .loop .k) (now (at .before .before .before .before .before .before .args .piece)) ≡ blockAt (at .loop .k) (now (at .before .before .before .before .before .before .args .piece))
+shown : (at : tie.At-loop Inv-loop μ-loop)
+    → part (blockLength * at .loop .k) (blockLength * at .loop .k + blockLength - blockLength * at .loop .k)
+    (now (at .before .before .before .before .before .before .args .piece))
+    ≡ blockAt (at .loop .k) (now (at .before .before .before .before .before .before .args .piece))
 shown at = part-ends (blockLength * at .loop .k) blockLength (now (at .before .before .before .before .before .before .args .piece))
 
 list-block-requires : tie.Need-list-block-requires Inv-loop μ-loop
@@ -50,7 +54,8 @@ list-block-requires c κs =
     let s = at .before .before .before .before .before .before in
     let a = s .args in (
       c .before .sound .ensures,
-      λ d. has-room (now (a .piece)) (now (a .positions)) _ (at .loop .k) (at .loop .gone) (at .loop .positions) (at .loop .inv .3) (omega arith) (s .pre .4) (ap isDropped (sym (shown at)) ∙ d),
+      λ d. has-room (now (a .piece)) (now (a .positions)) _ (at .loop .k) (at .loop .gone) (at .loop .positions) (at .loop .inv .3) (omega arith)
+          (s .pre .4) (ap isDropped (sym (shown at)) ∙ d),
     )
 
 push-cells-requires : tie.Need-push-cells-requires Inv-loop μ-loop
@@ -61,7 +66,12 @@ push-cells-requires c κs =
       at .loop .inv .2 .long,
       at .loop .inv .2 .few,
       ap length (shown at) ∙ part-length (blockLength * at .loop .k) blockLength (now (a .piece)) (omega arith),
-      omega (arith, so .sound .ensures, sound-le (part (blockLength * at .loop .k) (blockLength * at .loop .k + blockLength - blockLength * at .loop .k) (now (a .piece)))),
+      omega (
+        arith,
+        so .sound .ensures,
+        sound-le
+            (part (blockLength * at .loop .k) (blockLength * at .loop .k + blockLength - blockLength * at .loop .k) (now (a .piece))),
+      ),
       block-rows _ (so .sound .result) (so .sound .ensures),
     )
 
@@ -72,7 +82,13 @@ flush-requires c κs =
     let so = push .before .before .before .before .before .before in
     let a = at .before .before .before .before .before .before .args in (
       push .push-cells .kept .0 ∙ at .loop .inv .2 .long,
-      omega (arith, push .push-cells .ensures .few, at .loop .inv .2 .few, so .sound .ensures, sound-le (part (blockLength * at .loop .k) (blockLength * at .loop .k + blockLength - blockLength * at .loop .k) (now (a .piece)))),
+      omega (
+        arith,
+        push .push-cells .ensures .few,
+        at .loop .inv .2 .few,
+        so .sound .ensures,
+        sound-le (part (blockLength * at .loop .k) (blockLength * at .loop .k + blockLength - blockLength * at .loop .k) (now (a .piece))),
+      ),
       lent (at .loop .inv .2 .begun) blockLength _ refl (omega (arith, behind at)),
     )
 
@@ -89,10 +105,14 @@ loop-again c =
     let sound = so .sound .ensures ∙ ap soundRows (shown at) in (
       omega arith,
       refl,
-      walk-turn (packing (a .next) (a .used) (now (a .pending))) (now (a .identities)) piece (now (a .out)) (a .used) _ (at .loop .k) (at .loop .put) (at .loop .waits) (at .loop .pending) (at .loop .out) (at .loop .inv .2)
-          (omega arith) (so .sound .result) (push .push-cells .result) (fl .flush .result) _ _ _ sound (rw (shown at) at (push .push-cells .ensures)) (push .push-cells .kept .0 ∙ at .loop .inv .2 .long)
-          (fl .flush .ensures) (fl .flush .kept .0 ∙ push .push-cells .kept .0 ∙ at .loop .inv .2 .long) (fl .flush .kept .1 .1 .1 .0) (omega (arith, behind at)),
-      list-turn piece (now (a .positions)) _ (at .loop .k) (at .loop .gone) (at .loop .positions) (at .loop .inv .3) (omega arith) (s .pre .4) _ _ (rw (shown at) at (li .list-block .ensures)),
+      walk-turn (packing (a .next) (a .used) (now (a .pending))) (now (a .identities)) piece (now (a .out)) (a .used) _ (at .loop .k) (at .loop .put)
+          (at .loop .waits) (at .loop .pending) (at .loop .out) (at .loop .inv .2)
+          (omega arith) (so .sound .result) (push .push-cells .result) (fl .flush .result) _ _ _ sound (rw (shown at) at (push .push-cells .ensures))
+          (push .push-cells .kept .0 ∙ at .loop .inv .2 .long)
+          (fl .flush .ensures) (fl .flush .kept .0 ∙ push .push-cells .kept .0 ∙ at .loop .inv .2 .long) (fl .flush .kept .1 .1 .1 .0)
+          (omega (arith, behind at)),
+      list-turn piece (now (a .positions)) _ (at .loop .k) (at .loop .gone) (at .loop .positions) (at .loop .inv .3) (omega arith) (s .pre .4) _ _
+          (rw (shown at) at (li .list-block .ensures)),
     )
 
 returns : tie.Need-returns Inv-loop μ-loop
@@ -103,9 +123,12 @@ returns c =
     let w = at .loop .inv .2 in (
       record {
         waits = w .few;
-        packed = walk-packed p (now (a .identities)) (now (a .piece)) (now (a .out)) (a .used) _ (at .loop .k) (at .loop .put) (at .loop .waits) (at .loop .pending) (at .loop .out) w (omega arith);
-        put = walk-put p (now (a .identities)) (now (a .piece)) (now (a .out)) (a .used) _ (at .loop .k) (at .loop .put) (at .loop .waits) (at .loop .pending) (at .loop .out) w (omega arith);
-        long = walk-long p (now (a .identities)) (now (a .piece)) (now (a .out)) (a .used) _ (at .loop .k) (at .loop .put) (at .loop .waits) (at .loop .pending) (at .loop .out) w (omega arith);
+        packed = walk-packed p (now (a .identities)) (now (a .piece)) (now (a .out)) (a .used) _ (at .loop .k) (at .loop .put) (at .loop .waits)
+            (at .loop .pending) (at .loop .out) w (omega arith);
+        put = walk-put p (now (a .identities)) (now (a .piece)) (now (a .out)) (a .used) _ (at .loop .k) (at .loop .put) (at .loop .waits)
+            (at .loop .pending) (at .loop .out) w (omega arith);
+        long = walk-long p (now (a .identities)) (now (a .piece)) (now (a .out)) (a .used) _ (at .loop .k) (at .loop .put) (at .loop .waits)
+            (at .loop .pending) (at .loop .out) w (omega arith);
       },
       list-end (now (a .piece)) (now (a .positions)) _ (at .loop .k) (at .loop .gone) (at .loop .positions) (at .loop .inv .3) (omega arith),
     )
@@ -126,15 +149,28 @@ pack-blocks-spec =
     (λ c κs. search needs)
     list-block-requires
     push-cells-requires
-    (λ c. omega (arith, behind (c .before .before .before .before .before .before .before .before .before .before .before .before), c .before .before .before .before .before .before .before .before .before .before .before .before .before .before .before .before .before .before .pre .2))
+    (λ c. omega (
+      arith,
+      behind (c .before .before .before .before .before .before .before .before .before .before .before .before),
+      c .before .before .before .before .before .before .before .before .before .before .before .before .before .before .before .before .before .before .pre .2,
+    ))
     (λ c. omega (arith, behind (c .before .before .before .before .before .before .before .before .before .before .before .before)))
     (λ c. omega (arith, behind (c .before .before .before .before .before .before .before .before .before .before .before .before)))
     (λ c. omega (arith, behind (c .before .before .before .before .before .before .before .before .before .before .before .before)))
     (λ c. omega arith)
     (λ c. omega arith)
-    (λ c. within (c .before .before .before .before .before .before .before .before .before .before .before .before .loop .inv .2 .begun) _ (omega (arith, behind (c .before .before .before .before .before .before .before .before .before .before .before .before))))
+    (λ c. within (c .before .before .before .before .before .before .before .before .before .before .before .before .loop .inv .2 .begun) _
+    (omega (arith, behind (c .before .before .before .before .before .before .before .before .before .before .before .before))))
     flush-requires
-    (λ c. omega (arith, behind (c .before .before .before .before .before .before .before .before .before .before .before .before .before .before .before .before .before .before), (c .before .before .before .before .before .before .before .before .before) .push-cells .ensures .few, (c .before .before .before .before .before .before .before .before .before .before .before .before .before .before .before .before .before .before) .loop .inv .2 .few, (c .before .before .before .before .before .before .before .before .before .before .before .before .before .before .before) .sound .ensures, sound-le (part (blockLength * (c .before .before .before .before .before .before .before .before .before .before .before .before .before .before .before .before .before .before) .loop .k) (blockLength * (c .before .before .before .before .before .before .before .before .before .before .before .before .before .before .before .before .before .before) .loop .k + blockLength - blockLength * (c .before .before .before .before .before .before .before .before .before .before .before .before .before .before .before .before .before .before) .loop .k) (now ((c .before .before .before .before .before .before .before .before .before .before .before .before .before .before .before .before .before .before .before .before .before .before .before .before) .args .piece)))))
+    (λ c. omega (
+      arith,
+      behind
+          (c .before .before .before .before .before .before .before .before .before .before .before .before .before .before .before .before .before .before),
+      (c .before .before .before .before .before .before .before .before .before) .push-cells .ensures .few,
+      (c .before .before .before .before .before .before .before .before .before .before .before .before .before .before .before .before .before .before) .loop .inv .2 .few,
+      (c .before .before .before .before .before .before .before .before .before .before .before .before .before .before .before) .sound .ensures,
+      sound-le (part (blockLength * (c .before .before .before .before .before .before .before .before .before .before .before .before .before .before .before .before .before .before) .loop .k) (blockLength * (c .before .before .before .before .before .before .before .before .before .before .before .before .before .before .before .before .before .before) .loop .k + blockLength - blockLength * (c .before .before .before .before .before .before .before .before .before .before .before .before .before .before .before .before .before .before) .loop .k) (now ((c .before .before .before .before .before .before .before .before .before .before .before .before .before .before .before .before .before .before .before .before .before .before .before .before) .args .piece))),
+    ))
     (λ c. omega arith)
     (λ c. omega arith)
     loop-again

@@ -40,7 +40,8 @@ begun c =
     (ap (λ (n : ℕ). take n (now (a .pending))) none) in
     packed
     (lend start _ (now (a .cell)) (cellLength * a .at + cellLength)
-    (copied (now (a .cell)) _ _ (s .pre .2 ∙ sym (lent start cellLength (cellLength * a .at + cellLength) refl (omega arith))) (c .copy .ensures .1)) (c .copy .kept .1 .0) (omega arith) (omega arith))
+    (copied (now (a .cell)) _ _ (s .pre .2 ∙ sym (lent start cellLength (cellLength * a .at + cellLength) refl (omega arith))) (c .copy .ensures .1))
+    (c .copy .kept .1 .0) (omega arith) (omega arith))
 
 stays : tie.Need-returns-2
 stays c =
@@ -50,7 +51,8 @@ stays c =
     let more : cellLength * (a .at + 1) ≡ cellLength * a .at + cellLength = omega arith in
     record {
       few = omega arith;
-      are = ap (λ (n : ℕ). take n (begun put .xs)) more ∙ so-far (begun put .begun) ∙ ap (λ (l : List ℕ). take (cellLength * a .at) (now (a .pending)) ++ l) (sym (told (e .before) false (e .if1 .left)));
+      are = ap (λ (n : ℕ). take n (begun put .xs)) more ∙ so-far (begun put .begun)
+          ∙ ap (λ (l : List ℕ). take (cellLength * a .at) (now (a .pending)) ++ l) (sym (told (e .before) false (e .if1 .left)));
     }
 
 pub push-cell-spec : {M : Type 1} → statement M

@@ -21,7 +21,8 @@ use Rattle.repack.proofs.push_cells.Tie as tie
 abbrev Inv-loop : tie.InvT-loop
 Inv-loop pending₀ used source rows identities at₀ i₀ pending at i =
     (i ≤ rows) × (at ≤ used + i) × (length pending ≡ pendingLength)
-    × (take (cellLength * at) pending ++ keptFrom identities source i (rows - i) ≡ take (cellLength * used) pending₀ ++ keptFrom identities source 0 rows)
+    × (take (cellLength * at) pending ++ keptFrom identities source i (rows - i) ≡ take (cellLength * used) pending₀
+    ++ keptFrom identities source 0 rows)
 
 abbrev μ-loop : tie.MeasureT-loop
 μ-loop pending₀ used source rows identities at₀ i₀ pending at i = rows - i
@@ -29,8 +30,13 @@ abbrev μ-loop : tie.MeasureT-loop
 loop-holds : tie.Need-loop-holds Inv-loop μ-loop
 loop-holds c =
     let s = c .before .before .before in
-    let a = s .args in
-    (omega arith, omega arith, s .pre .0, ap (λ (l : List ℕ). take (cellLength * a .used) (now (a .pending)) ++ l) (kept-first (now (a .identities)) (now (a .source)) (a .rows)))
+    let a = s .args in (
+      omega arith,
+      omega arith,
+      s .pre .0,
+      ap (λ (l : List ℕ). take (cellLength * a .used) (now (a .pending)) ++ l)
+          (kept-first (now (a .identities)) (now (a .source)) (a .rows)),
+    )
 
 push-cell-requires : tie.Need-push-cell-requires Inv-loop μ-loop
 push-cell-requires c κs =
@@ -60,7 +66,8 @@ loop-again c =
       omega arith,
       omega (arith, w .few),
       push .push-cell .kept .0 ∙ at .loop .inv .2,
-      ap (λ (l : List ℕ). l ++ rest) (w .are ∙ ap (λ (l : List ℕ). front ++ keptCell ids l) cell) ∙ append-assoc front (keptCell ids (blockCell i source)) rest
+      ap (λ (l : List ℕ). l ++ rest) (w .are ∙ ap (λ (l : List ℕ). front ++ keptCell ids l) cell)
+          ∙ append-assoc front (keptCell ids (blockCell i source)) rest
           ∙ ap (λ (l : List ℕ). front ++ l) (sym (kept-turn ids source (s .args .rows) i (omega arith))) ∙ at .loop .inv .3,
     )
 
@@ -71,7 +78,8 @@ returns c =
     let front = take (cellLength * at .loop .at) (at .loop .pending) in
     record {
       few = omega arith;
-      are = sym (append-nil front) ∙ ap (λ (l : List ℕ). front ++ l) (sym (kept-end (now (a .identities)) (now (a .source)) (a .rows) (at .loop .i) (omega arith))) ∙ at .loop .inv .3;
+      are = sym (append-nil front) ∙ ap (λ (l : List ℕ). front ++ l)
+          (sym (kept-end (now (a .identities)) (now (a .source)) (a .rows) (at .loop .i) (omega arith))) ∙ at .loop .inv .3;
     }
 
 pub push-cells-spec : {M : Type 1} → statement M

@@ -28,7 +28,8 @@ numbered c =
 
 abbrev headed : tie.After-clear → Writing headerLength
 headed c =
-    packed (lend-sized (numbered (c .before .before .before .before) .begun) _ (λ w. replicate w 0) headerLength (c .clear .ensures) (c .clear .kept .0) (omega arith) (omega arith))
+    packed (lend-sized (numbered (c .before .before .before .before) .begun) _ (λ w. replicate w 0) headerLength (c .clear .ensures)
+    (c .clear .kept .0) (omega arith) (omega arith))
 
 abbrev cells-of : tie.After-copy → List ℕ
 cells-of c = now (c .before .before .before .before .before .before .before .before .before .before .before .before .args .cells)
@@ -38,17 +39,20 @@ filled c =
     let h = headed (c .before .before .before .before) .begun in
     let n = length (cells-of c) in
     packed
-    (lend h _ (cells-of c) (headerLength + n) (copied (cells-of c) _ _ (sym (lent h n (headerLength + n) refl (omega arith))) (c .copy .ensures .1)) (c .copy .kept .1 .0) (omega arith) (omega arith))
+    (lend h _ (cells-of c) (headerLength + n) (copied (cells-of c) _ _ (sym (lent h n (headerLength + n) refl (omega arith))) (c .copy .ensures .1))
+    (c .copy .kept .1 .0) (omega arith) (omega arith))
 
 abbrev whole : tie.After-clear2 → Writing bodyLength
-whole c = packed (wipe (filled (c .before .before .before .before) .begun) _ bodyLength (c .clear2 .ensures) (c .clear2 .kept .0) (omega arith) (omega arith))
+whole c = packed (wipe (filled (c .before .before .before .before) .begun) _ bodyLength (c .clear2 .ensures) (c .clear2 .kept .0) (omega arith)
+    (omega arith))
 
 returns : tie.Need-returns
 unfolding cellsBlock
 returns c =
     let s = c .before .before in
     let w = s .before .before .before .before in
-    s .seal .ensures ∙ seal-front _ (whole w .begun) (w .before .before .before .before .before .before .before .before .before .before .before .before .before .before .before .before .pre .0)
+    s .seal .ensures ∙ seal-front _ (whole w .begun)
+    (w .before .before .before .before .before .before .before .before .before .before .before .before .before .before .before .before .pre .0)
 
 pub put-block-spec : {M : Type 1} → statement M
 put-block-spec =

@@ -23,7 +23,8 @@ size : tie.Need-returns
 size c =
     let a = c .before .before .before .before .before .before .args in
     c .not-salvaged .ensures (now (a .out)) (now (a .positions))
-    ∙ salvage-size (now (a .buffer)) (now (a .out)) (now (a .positions)) (sym (c .before .before .is-whole .ensures) ∙ not-true _ (c .before .if1 .taken))
+    ∙ salvage-size (now (a .buffer)) (now (a .out)) (now (a .positions)) (sym (c .before .before .is-whole .ensures)
+    ∙ not-true _ (c .before .if1 .taken))
 
 short : tie.Need-returns-2
 short c =
@@ -38,11 +39,14 @@ list c =
     ∙ salvage-list (now (a .buffer)) (now (a .out)) (now (a .positions)) (whole (c .before .before .before .before)) (omega arith)
     (sym (c .before .before .is-listable .ensures) ∙ not-true _ (c .before .if3 .taken))
 
-listable : (c : tie.Else3) → length (dropped (now (c .before .before .before .before .before .before .before .before .args .buffer))) ≤ length (now (c .before .before .before .before .before .before .before .before .args .positions))
+listable : (c : tie.Else3) → length (dropped (now (c .before .before .before .before .before .before .before .before .args .buffer))) ≤ length
+    (now (c .before .before .before .before .before .before .before .before .args .positions))
 listable c = leb-true _ _ (sym (c .before .is-listable .ensures) ∙ not-false _ (c .if3 .left))
 
 -- how many rows there are
-rows : (c : tie.After-pack-blocks) → cellsPerBlock * c .pack-blocks .result .next + c .pack-blocks .result .used ≤ cellsPerBlock * (length (now (c .before .before .before .before .before .before .before .before .before .before .before .before .before .before .args .buffer)) / blockLength)
+rows : (c : tie.After-pack-blocks) → cellsPerBlock * c .pack-blocks .result .next + c .pack-blocks .result .used ≤ cellsPerBlock *
+    (length (now (c .before .before .before .before .before .before .before .before .before .before .before .before .before .before .args .buffer)) /
+    blockLength)
 rows c =
     let w = c .pack-blocks .ensures .0 in
     salvaged-few (now (c .before .before .before .before .before .before .before .before .before .before .before .before .before .before .args .buffer)) (c .pack-blocks .result .next) (c .pack-blocks .result .used) _ (c .pack-blocks .kept .0) (w .waits) (w .packed)
@@ -54,8 +58,10 @@ done c =
     let a = e .before .before .before .before .before .before .before .before .args in
     let w = walk .pack-blocks .ensures .0 in
     let l = walk .pack-blocks .ensures .1 in
-    salvage-done (now (a .buffer)) (walk .pack-blocks .result .next) (walk .pack-blocks .result .used) _ (walk .pack-blocks .kept .0) (w .waits) (w .packed) (now (a .out)) (now (a .positions)) _ _ _
-    (whole (e .before .before .before)) (omega arith) (listable e) (w .long) (w .put) (c .before .before .before .before .close .ensures) (l .1) (walk .pack-blocks .result .dropped) (l .0)
+    salvage-done (now (a .buffer)) (walk .pack-blocks .result .next) (walk .pack-blocks .result .used) _ (walk .pack-blocks .kept .0) (w .waits)
+    (w .packed) (now (a .out)) (now (a .positions)) _ _ _
+    (whole (e .before .before .before)) (omega arith) (listable e) (w .long) (w .put) (c .before .before .before .before .close .ensures) (l .1)
+    (walk .pack-blocks .result .dropped) (l .0)
 
 pub salvage-spec : {M : Type 1} → statement M
 salvage-spec =
@@ -75,9 +81,15 @@ salvage-spec =
     (λ c. search needs)
     (λ c κs. (refl, omega arith, omega arith, omega arith, listable (c .before .before .before .before .before)))
     (λ c. search needs)
-    (λ c κs. (c .before .before .before .before .before .before .before .pack-blocks .kept .0, c .before .before .before .before .before .before .before .pack-blocks .ensures .0 .waits, rows (c .before .before .before .before .before .before .before), omega (arith, c .before .before .before .before .before .before .before .pack-blocks .kept .1 .1 .1 .1 .1 .0)))
+    (λ c κs. (
+      c .before .before .before .before .before .before .before .pack-blocks .kept .0,
+      c .before .before .before .before .before .before .before .pack-blocks .ensures .0 .waits,
+      rows (c .before .before .before .before .before .before .before),
+      omega (arith, c .before .before .before .before .before .before .before .pack-blocks .kept .1 .1 .1 .1 .1 .0),
+    ))
     (λ c. omega (arith, rows (c .before .before .before .before .before .before .before .before .before .before .before)))
     (λ c. omega (arith, rows (c .before .before .before .before .before .before .before .before .before .before .before .before)))
-    (λ c. c .before .before .before .before .close .kept .0 ∙ c .before .before .before .before .before .before .before .before .before .before .before .before .pack-blocks .kept .1 .1 .1 .1 .1 .0)
+    (λ c. c .before .before .before .before .close .kept .0
+    ∙ c .before .before .before .before .before .before .before .before .before .before .before .before .pack-blocks .kept .1 .1 .1 .1 .1 .0)
     (λ c. c .before .before .before .before .before .before .before .before .before .before .before .before .pack-blocks .kept .1 .1 .1 .1 .1 .1 .0)
     done)
