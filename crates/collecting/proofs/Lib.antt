@@ -2,4 +2,4 @@ pub mod Taking
 pub mod Draining
 pub mod Chunk
 pub mod Finishing
-pub mod Whole
+pub mod Printed

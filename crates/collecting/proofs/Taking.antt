@@ -38,7 +38,8 @@ use Rattle.streams.proofs.Limit.{bounded}
 use Rattle.streams.proofs.Takes.{found, fed-none, fed-next}
 use Rattle.collecting.specs.declared.Session.{Session}
 use Rattle.collecting.specs.declared.Progress.{Progress}
-use Rattle.collecting.specs.Session.{Receiver, merging, taken, rowOf, sentBytes, phaseOf, longestLine, Ran}
+use Rattle.collecting.specs.Printed.{rowOf, sentBytes}
+use Rattle.collecting.specs.Session.{Receiver, merging, taken, phaseOf, longestLine, Ran}
 
 -- ---- none
 

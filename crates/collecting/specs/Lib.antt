@@ -1,2 +1,4 @@
+pub mod Printed
 pub mod Session
 pub mod Program
+pub mod Claims

@@ -5,41 +5,22 @@ use mathlib.Core.Bool.{true}
 use mathlib.Core.List.{List}
 use lib.ListN.{length, take}
 use Rattle.erp1.specs.Subtelegram.{maxLength}
-use Rattle.telegram.specs.declared.frame.Frame.{Frame}
-use Rattle.model.specs.declared.Totals.{Totals}
-use Rattle.model.specs.Answer as answer
 use Rattle.model.specs.View.{View, fresh}
 use Rattle.model.specs.Step.{Outcome, step, sentFor}
 use Rattle.collector.specs.Collector.{viewOf}
-use Rattle.line_output.specs.declared.Row.{Row}
-use Rattle.line_output.specs.Text.{totalsText}
 use Rattle.line_output.specs.Printed.{longestTime, longestRow, longestTotals}
 use Rattle.streams.specs.Collect.{Collector, Phase, starting, running, over, collect}
 use Rattle.streams.specs.Buffer.{isOpen, Fed}
 use Rattle.collecting.specs.declared.Stage.{Stage}
 use Rattle.collecting.specs.declared.Session.{Session}
 use Rattle.collecting.specs.declared.Progress.{Progress}
+use Rattle.collecting.specs.Printed.{rowOf, sentBytes, totalsLine, receptionAt}
 
 -- ---- the model's collector
 
--- what a row says: KEPT, COPY, LOOSE, or a refusal by its number
-abbrev pub rowOf : answer.Shown → Row
-rowOf answer.Kept = Row.Kept
-rowOf answer.Copy = Row.Copy
-rowOf answer.Loose = Row.Loose
-rowOf (answer.Refused n) = Row.Refused n
-
--- the bytes to send, without the zero fill
-abbrev pub sentBytes : Frame → List ℕ
-sentBytes f = take (f .len) (f .bytes)
-
 -- one reception
 abbrev pub taken : View → ℕ → List ℕ → Outcome
-taken v time bytes = step v (record { bytes = bytes; time = time })
-
--- the line of totals
-abbrev pub totalsLine : Totals → List ℕ
-totalsLine n = totalsText (n .received) (n .kept) (n .copies) (n .loose) (n .damaged) (n .late)
+taken v time bytes = step v (receptionAt time bytes)
 
 -- the collector, with the setting that its caller keeps (document 02, A7)
 pub record Receiver : Type 0 where
@@ -51,7 +32,7 @@ merging = record {
   fresh = λ setting. record { setting = setting; view = fresh };
   next = λ c time bytes. record { setting = c .setting; view = taken (c .view) time bytes .next };
   answer = λ c time bytes. rowOf (taken (c .view) time bytes .answer);
-  sent = λ c time bytes. sentBytes (sentFor (c .setting) (taken (c .view) time bytes .answer) (record { bytes = bytes; time = time }));
+  sent = λ c time bytes. sentBytes (sentFor (c .setting) (taken (c .view) time bytes .answer) (receptionAt time bytes));
   totals = λ c. totalsLine (c .view .totals);
 }
 

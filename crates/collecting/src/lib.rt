@@ -21,7 +21,8 @@ ghost use Rattle.collector.specs.Admission.{viewIn, Tested};
 ghost use Rattle.line_output.specs.Text.{rowBehind};
 ghost use Rattle.line_output.specs.Printed.{longestTime, Printed, PrintedIfFits};
 ghost use Rattle.streams.specs.Collect.{starting, running, over, afterFirst, firstText, endOf};
-ghost use Rattle.collecting.specs.Session.{merging, phaseOf, rowOf, longestLine, longestEnd, RanTo, Ran};
+ghost use Rattle.collecting.specs.Printed.{rowOf};
+ghost use Rattle.collecting.specs.Session.{merging, phaseOf, longestLine, longestEnd, RanTo, Ran};
 
 // Where a run stands: before its first line, past a right one, or ended by a wrong one.
 pub enum Stage {

@@ -1,1 +1,1 @@
-pub mod Division
+pub mod Divided

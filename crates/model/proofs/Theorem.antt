@@ -161,7 +161,7 @@ uncut-history (Cut output ∷ h) ok = uncut-history h (ok .1)
 uncut-history (Burst setting rs places ∷ h) ok = (ok .0, uncut-history h (ok .1))
 uncut-history (Look ∷ h) ok = uncut-history h ok
 
-fresh-model : fresh ≡ modelView []
+pub fresh-model : fresh ≡ modelView []
 unfolding fresh modelView totalsOf
 fresh-model = refl
 

@@ -1,12 +1,12 @@
 -- Repeaters read from bytes one after the other into an array. Assumes nothing.
 use mathlib.Core.Path.{_≡_, refl, sym, ap, ap₂, _∙_}
 use mathlib.Core.List.{List, [], _∷_, _++_, map, map-append}
-use Prim.Native.Nat.{ℕ, _+_, _-_, _*_, _/_, _≤_, _<_, min}
+use Prim.Native.Nat.{ℕ, suc, _+_, _-_, _*_, _/_, _≤_, _<_, min}
 use native.Mathlib.Nat.{zero-add}
 use native.Mathlib.Numerals.{add-one}
 use native.Mathlib.Omega.{arith}
-use lib.ListN.{length, getD, take, drop, set, length-set, length-map}
-use lib.Seq.{take-suc, take-all, take-set-le, getD-set-same}
+use lib.ListN.{length, getD, take, drop, set, replicate, length-set, length-map, length-replicate, take-append-drop}
+use lib.Seq.{take-suc, take-all, take-set-le, getD-set-same, drop-set-lt, drop-drop, take-append-seam}
 use borrow.Author.Tests.{lt-ltb}
 use native.Mathlib.Decide.{decLt}
 use lib.Dec.{ltb}
@@ -17,7 +17,7 @@ use Rattle.lists.specs.Lists.{all, firstOf, upFrom}
 use Rattle.lists.proofs.UpFrom.{upFrom-add, length-upFrom}
 use Rattle.site.specs.declared.Assignment.{Assignment}
 use Rattle.site.specs.Site.{maxRepeaters, isInRange, hasLawfulPlan, noAssignment, answer, pairOf, siteOf}
-use Rattle.site.specs.Bytes.{size, assignmentOf, assignmentAt, countIn, assignmentsIn}
+use Rattle.site.specs.Bytes.{size, assignmentOf, assignmentAt, countIn, assignmentsIn, repeatersIn}
 
 -- the first i are read
 pub record Filled (s : List ℕ) (count : ℕ) (all : List Assignment) (i : ℕ) : Type 0 where
@@ -26,11 +26,13 @@ pub record Filled (s : List ℕ) (count : ℕ) (all : List Assignment) (i : ℕ)
   pub few : count ≤ 32
   pub whole : 9 * count ≤ length s
   pub long : length all ≡ 32
+  pub rest : drop i all ≡ replicate (32 - i) noAssignment
   pub read : take i all ≡ map (assignmentAt s) (upFrom 0 i)
 
-pub filled-start : (s : List ℕ) (count : ℕ) (all : List Assignment) → count ≡ countIn s → length all ≡ 32 → Filled s count all 0
+pub filled-start : (s : List ℕ) (count : ℕ) (all : List Assignment) → count ≡ countIn s → all ≡ replicate 32 noAssignment → Filled s count all 0
 unfolding upFrom
-filled-start s count all e h = record { counted = e; least = omega arith; few = omega arith; whole = omega arith; long = h; read = refl }
+filled-start s count all e h =
+    record { counted = e; least = omega arith; few = omega arith; whole = omega arith; long = ap length h ∙ length-replicate 32 noAssignment; rest = h; read = refl }
 
 module _ (s : List ℕ) (count : ℕ) (all : List Assignment) (i : ℕ) (f : Filled s count all i) where
   next-number : upFrom 0 (i + 1) ≡ upFrom 0 i ++ (i ∷ [])
@@ -40,6 +42,7 @@ module _ (s : List ℕ) (count : ℕ) (all : List Assignment) (i : ℕ) (f : Fil
   pub filled-next : i < count → (x : Assignment) → x ≡ assignmentOf (take (9 * i + 9 - 9 * i) (drop (9 * i) s)) → Filled s count (set all i x) (i + 1)
   filled-next h x e =
       let nine : 9 * i + 9 - 9 * i ≡ 9 = omega arith in
+      let less : 32 - i ≡ suc (32 - (i + 1)) = omega (arith, f .few) in
       let inside : i < length all = omega (arith, f .few, f .long) in
       let within : i < length (set all i x) = rw (length-set all i x) inside in
       let first : take (i + 1) (set all i x) ≡ take i (set all i x) ++ (getD (set all i x) i noAssignment ∷ [])
@@ -54,13 +57,15 @@ module _ (s : List ℕ) (count : ℕ) (all : List Assignment) (i : ℕ) (f : Fil
         few = f .few;
         whole = f .whole;
         long = length-set all i x ∙ f .long;
+        rest = drop-set-lt (i + 1) all i x (omega arith) ∙ sym (drop-drop 1 i all) ∙ ap (drop 1) (f .rest ∙ ap (λ (n : ℕ). replicate n noAssignment) less);
         read = first ∙ same ∙ sym (ap (map (assignmentAt s)) next-number ∙ map-append (assignmentAt s) (upFrom 0 i) (i ∷ []));
       }
 
-  pub filled-end : count ≤ i → take (countIn s) all ≡ assignmentsIn s
+  pub filled-end : count ≤ i → all ≡ repeatersIn s
   filled-end h =
       let e : i ≡ countIn s = omega (arith, f .least, f .counted) in
-      sym (ap (λ (n : ℕ). take n all) e) ∙ f .read ∙ ap (λ (n : ℕ). map (assignmentAt s) (upFrom 0 n)) e
+      sym (take-append-drop i all) ∙ ap₂ _++_ (f .read) (f .rest)
+      ∙ ap (λ (n : ℕ). map (assignmentAt s) (upFrom 0 n) ++ replicate (32 - n) noAssignment) e
 
 -- ---- the check looks at what was read alone
 
@@ -76,13 +81,13 @@ too-many : (n : ℕ) (a b : List Assignment) → maxRepeaters < n → siteOf n a
 unfolding siteOf
 too-many n a b h = rw (lt-ltb maxRepeaters n h)
 
-pub same-site : (s : List ℕ) (repeaters : List Assignment) → take (countIn s) repeaters ≡ assignmentsIn s
-    → siteOf (length s / size) repeaters ≡ siteOf (length s / size) (assignmentsIn s)
-same-site s repeaters e = elim (decLt maxRepeaters (length s / size)) [
-  | yes h ↦ too-many (length s / size) repeaters (assignmentsIn s) h
+pub same-site : (s : List ℕ) → siteOf (length s / size) (repeatersIn s) ≡ siteOf (length s / size) (assignmentsIn s)
+same-site s = elim (decLt maxRepeaters (length s / size)) [
+  | yes h ↦ too-many (length s / size) (repeatersIn s) (assignmentsIn s) h
   | no h ↦
-      let n : countIn s ≡ length s / size = omega arith in
       let long : length (assignmentsIn s) ≡ countIn s = length-map (upFrom 0 (countIn s)) (assignmentAt s) ∙ length-upFrom 0 (countIn s) in
-      site-take (length s / size) repeaters (assignmentsIn s)
-      (sym (ap (λ (m : ℕ). take m repeaters) n) ∙ e ∙ sym (take-all (length s / size) (assignmentsIn s) (omega (arith, long))))
+      let n : length (assignmentsIn s) ≡ length s / size = omega (arith, long) in
+      site-take (length s / size) (repeatersIn s) (assignmentsIn s)
+      (ap (λ (m : ℕ). take m (repeatersIn s)) (sym n) ∙ take-append-seam (assignmentsIn s) (replicate (maxRepeaters - countIn s) noAssignment)
+      ∙ sym (take-all (length s / size) (assignmentsIn s) (omega (arith, n))))
 ]

@@ -1,16 +1,16 @@
 -- The repeaters of a site as bytes, nine for each: rule, level, duration in four from the highest, first, second and third slot. A layout of
 -- this house, for callers in C. Assumes nothing.
 use mathlib.Core.Bool.{cond}
-use mathlib.Core.List.{List, map}
-use Prim.Native.Nat.{ℕ, _+_, _*_, _/_, _%_, min}
+use mathlib.Core.List.{List, map, _++_}
+use Prim.Native.Nat.{ℕ, _+_, _-_, _*_, _/_, _%_, min}
 use lib.Dec.{eqb}
-use lib.ListN.{length, getD, take, drop}
+use lib.ListN.{length, getD, take, drop, replicate}
 use Rattle.lists.specs.Lists.{upFrom}
 use Rattle.refusal.specs.Number.{numberOf}
 use Rattle.refusal.specs.declared.Refusal.the-variants.{Argument}
 use Rattle.slots.specs.Plan.{plan}
 use Rattle.site.specs.declared.Assignment.{Assignment}
-use Rattle.site.specs.Site.{maxRepeaters, Answer, answer, siteOf}
+use Rattle.site.specs.Site.{maxRepeaters, noAssignment, Answer, answer, siteOf}
 
 -- the bytes of one repeater
 abbrev pub size : ℕ
@@ -34,6 +34,10 @@ countIn s = min (length s / size) maxRepeaters
 
 abbrev pub assignmentsIn : List ℕ → List Assignment
 assignmentsIn s = map (assignmentAt s) (upFrom 0 (countIn s))
+
+-- the same in an array for 32, all zero behind them
+abbrev pub repeatersIn : List ℕ → List Assignment
+repeatersIn s = assignmentsIn s ++ replicate (maxRepeaters - countIn s) noAssignment
 
 -- 10 also where the bytes are no whole repeaters
 abbrev pub siteIn : List ℕ → Answer

@@ -3,9 +3,9 @@ use slots::SlotPlan;
 ghost use mathlib.Core.Path.{_≡_};
 ghost use mathlib.Core.Bool.{not};
 ghost use Prim.Native.Nat.{_+_, _≤_, _<_, min};
-ghost use lib.ListN.{length, getD, take, drop};
+ghost use lib.ListN.{length, getD, take, drop, replicate};
 ghost use Rattle.lists.specs.Lists.{all, any, firstOf};
-ghost use Rattle.site.specs.Bytes.{countIn, assignmentOf, assignmentsIn, siteIn};
+ghost use Rattle.site.specs.Bytes.{assignmentOf, repeatersIn, siteIn};
 ghost use Rattle.site.specs.Site.{isInRange, hasLawfulPlan, transmission, sentBy, overlap, clash, noAssignment, verdictOf, pairOf, siteOf};
 
 // The most repeaters of a site.
@@ -164,7 +164,7 @@ pub fn check_bytes(bytes: &[u8]) -> Verdict
 
 // The repeaters that bytes say, nine bytes each: at most 32. What stands past them is all zero.
 pub fn decode(bytes: &[u8]) -> [Assignment; MAX_REPEATERS]
-    ensures { λ r. ⌜ take (countIn (now (bytes .entry))) r ≡ assignmentsIn (now (bytes .entry)) ⌝ }
+    ensures { λ r. ⌜ r ≡ repeatersIn (now (bytes .entry)) ⌝ }
 {
     let count = smaller(bytes.len() / SIZE, MAX_REPEATERS);
     let mut all = nothing();
@@ -180,7 +180,9 @@ fn smaller(x: usize, y: usize) -> usize
     if x < y { x } else { y }
 }
 
-fn nothing() -> [Assignment; MAX_REPEATERS] {
+fn nothing() -> [Assignment; MAX_REPEATERS]
+    ensures { λ r. ⌜ r ≡ replicate 32 noAssignment ⌝ }
+{
     [Assignment {
         rule: 0,
         level: 0,

@@ -14,8 +14,8 @@ use Rattle.refusal.specs.declared.Refusal.the-variants.{NoPlan}
 use Rattle.refusal.proofs.Numbers.{refused-number}
 use Rattle.slots.specs.declared.Rule.{Rule}
 use Rattle.slots.specs.declared.SlotPlan.{SlotPlan}
-use Rattle.slots.specs.Plan.{lawful, plan, plans, Answer, planned, drawn}
-use Rattle.slots.specs.Claims.{Listed, Chosen, one, none}
+use Rattle.slots.specs.Plan.{standardRule, lawful, plan, plans, Answer, planned, drawn, planOf}
+use Rattle.slots.specs.Claims.{Listed, Chosen, one, none, DrawnChosen, LawfulDrawn, PlanChosen}
 use Rattle.slots.proofs.Listed.{plans-listed}
 
 not-lawful : (t : Bool) → (t ≡ true → ⊥) → t ≡ false
@@ -29,8 +29,13 @@ from-list r d (p ∷ ps) draw l =
     rw (eqb·suc-zero (length ps))
     (one (l .only (getD-in (p ∷ ps) (draw % suc (length ps)) (plan 0 0 0) (mod-lt draw {m = suc (length ps)} (omega arith)))))
 
-pub drawn-chosen : (r : Rule) (d draw : ℕ) → Chosen r d (drawn (plans r d) draw)
+pub drawn-chosen : DrawnChosen
 drawn-chosen r d draw = from-list r d (plans r d) draw (plans-listed r d)
+
+-- and so does a call
+pub plan-chosen : PlanChosen
+unfolding planOf
+plan-chosen level d draw = record { argument = λ e. rw e; chosen = λ e. rw e (drawn-chosen (standardRule level) d draw) }
 
 -- an answer that is a plan is a lawful one
 pub chosen-lawful : (r : Rule) (d : ℕ) {a : Answer} → Chosen r d a → (p : SlotPlan) → a ≡ planned p → lawful r d p ≡ true
@@ -38,8 +43,8 @@ chosen-lawful r d (one l) p e = subst (λ (q : SlotPlan). lawful r d q ≡ true)
 chosen-lawful r d (none h) p e = absurd (refused-number NoPlan (ap (λ (a : Answer). a .number) e))
 
 -- every lawful plan is picked by some draw: by its index
-pub lawful-drawn : (r : Rule) (d : ℕ) {p : SlotPlan} → lawful r d p ≡ true → (draw : ℕ) × (drawn (plans r d) draw ≡ planned p)
+pub lawful-drawn : LawfulDrawn
 unfolding drawn
-lawful-drawn r d l =
+lawful-drawn r d p l =
     let w = in-getD (plan 0 0 0) (plans-listed r d .every l) in
     (w .0, rw (ne-eqb (length (plans r d)) 0 (λ z. omega (arith, w .1)), mod-eq-of-lt (w .1), w .2))

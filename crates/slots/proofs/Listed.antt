@@ -15,7 +15,7 @@ use Rattle.slots.specs.declared.Rule.{Rule}
 use Rattle.slots.specs.declared.SlotRange.{SlotRange}
 use Rattle.slots.specs.declared.SlotPlan.{SlotPlan}
 use Rattle.slots.specs.Plan.{plan, plans, candidates, lawful, thirdFollows, within, empty, noSlot, rangeAt, slotsIn, thirdSlots}
-use Rattle.slots.specs.Claims.{precedes, Lexicographic, Listed}
+use Rattle.slots.specs.Claims.{precedes, Lexicographic, PlansListed}
 use Rattle.slots.proofs.Parts.{parts, no-third, third-after}
 
 -- ── every lawful plan is a candidate ──
@@ -95,7 +95,7 @@ module _ (r : Rule) where
 
 -- ── the theorem ──
 
-pub plans-listed : (r : Rule) (d : ℕ) → Listed r d (plans r d)
+pub plans-listed : PlansListed
 unfolding plans
 plans-listed r d =
     record {

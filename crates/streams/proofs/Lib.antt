@@ -1,5 +1,6 @@
 pub mod Pieces
 pub mod Segments
 pub mod Limit
+pub mod Ended
 pub mod Moves
 pub mod Takes

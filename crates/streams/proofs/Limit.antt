@@ -1,13 +1,14 @@
 -- `collect` can tell a line by its first `lineLimit` characters, so the theorem on pieces holds of it. Assumes nothing.
 use mathlib.Core.Path.{_≡_, refl}
-use mathlib.Core.List.{List, _++_}
+use mathlib.Core.List.{List}
 use Prim.Native.Nat.{ℕ}
 use lib.Dec.{lit<}
 use lib.ListN.{take}
 use Rattle.line_input.specs.Reading.{lineLimit}
 use Rattle.line_input.proofs.Long.{reading-front, setting-front}
-use Rattle.streams.specs.Chunks.{Bounded, fresh, feedAll, feedAllText, endText, joined}
+use Rattle.streams.specs.Chunks.{Bounded}
 use Rattle.streams.specs.Collect.{Collector, Phase, starting, running, over, nextPhase, phaseText, collect, collected}
+use Rattle.streams.specs.Claims.{CollectedInPieces}
 use Rattle.streams.proofs.Pieces.{in-pieces}
 
 module _ {C : Type 0} (m : Collector C) where
@@ -24,8 +25,6 @@ module _ {C : Type 0} (m : Collector C) where
   pub bounded : Bounded (collect m) lineLimit
   bounded = record { next = next-front; text = text-front }
 
-  -- cut into pieces anywhere, the input gives the same output
-  pub collected-in-pieces : (xs : List (List ℕ))
-      → feedAllText (collect m) lineLimit (fresh starting) xs ++ endText (collect m) (feedAll (collect m) lineLimit (fresh starting) xs) ≡ collected m (joined xs)
-  unfolding collected
-  collected-in-pieces xs = in-pieces (collect m) lineLimit (lit< tt) bounded starting xs
+pub collected-in-pieces : {C : Type 0} (m : Collector C) → CollectedInPieces m
+unfolding collected
+collected-in-pieces m xs = in-pieces (collect m) lineLimit (lit< tt) (bounded m) starting xs

@@ -9,6 +9,7 @@ use lib.ListN.{take}
 use Rattle.line_input.specs.Ascii.{newline}
 use Rattle.streams.specs.Lines.{prepend, linesOf, Program, after, written, outputOf}
 use Rattle.streams.specs.Chunks.{Position, Bounded, fresh, fed, fedText, feed, feedText, feedAll, feedAllText, lastText, endText, joined, within}
+use Rattle.streams.specs.Claims.{InPieces}
 
 -- ---- the lines of a text behind a part of a line
 
@@ -122,8 +123,6 @@ module _ {S : Type 0} (p : Program S) (n : ℕ) (b : Bounded p (suc n)) where
   unfolding outputOf fromPosition forLines
   one-piece s input = whole input [] s ∙ rw (lines-from input [], glued-none (linesOf input))
 
--- The theorem: what is written for the pieces, and then at the end, is what the program writes for the whole text.
-pub in-pieces : {S : Type 0} (p : Program S) (limit : ℕ) → 0 < limit → Bounded p limit → (s : S) (xs : List (List ℕ))
-    → feedAllText p limit (fresh s) xs ++ endText p (feedAll p limit (fresh s) xs) ≡ outputOf p s (joined xs)
+pub in-pieces : {S : Type 0} (p : Program S) (limit : ℕ) → InPieces p limit
 in-pieces p zero h b s xs = absurd (omega arith)
 in-pieces p (suc n) h b s xs = rw (text-joined p (suc n) xs (fresh s), feed-joined p (suc n) xs (fresh s)) (one-piece p n b s (joined xs))

@@ -1,4 +1,4 @@
--- The laws that callers cite: each codec undoes the other, as whole answers, and what a repeater sends. Assumes nothing.
+-- The claims of specs/Claims.antt: each codec undoes the other, as whole answers, and what a repeater sends. Assumes nothing.
 use mathlib.Core.Path.{_≡_, refl, sym, ap, _∙_}
 use mathlib.Core.Bool.{Bool, true, false}
 use mathlib.Core.List.{List, []}
@@ -16,6 +16,7 @@ use Rattle.telegram.specs.Fields.{fieldsOf, Read, readOf, bytesOf, isUnb
 use Rattle.telegram.specs.Addressing.{addressedTo, unaddressed, encapsulated, decapsulated, encapsulateOf, decapsulateOf}
 use Rattle.telegram.specs.Frame.{frameOf}
 use Rattle.telegram.specs.Repeater.{levelOf, maxSetting, repeats, repeatOf, repeatResult, RaisedFrom}
+use Rattle.telegram.specs.Claims.{ReadBuilt, BuildRead, DecapsulateEncapsulated, EncapsulateDecapsulated, SentRaised, CallSends}
 use Rattle.telegram.proofs.Frames.{put-facts, put-written}
 use Rattle.telegram.proofs.Reading.{fields-fit}
 use Rattle.telegram.proofs.Building.{build-facts, build-fields, buildable-fields}
@@ -37,8 +38,7 @@ written-bytes : (xs out : List ℕ) → resultBytes (written xs out) ≡ xs
 written-bytes xs out = take-append-seam xs _
 
 -- what is built reads back
-pub read-built : (t : Telegram) → Shaped t → (out : List ℕ) → buildOf t out .number ≡ 0
-    → readOf (resultBytes (buildOf t out)) ≡ record { number = 0; telegram = normalOf t }
+pub read-built : ReadBuilt
 read-built t shape out e =
     let f = build-facts t out e in
     let p = put-facts (bytesOf t) out (f .1) in
@@ -48,7 +48,7 @@ read-built t shape out e =
     ∙ read-fields (bytesOf t) (built-valid t shape b) ∙ ap (λ (u : Telegram). record { number = 0; telegram = u }) (built-reads t shape b)
 
 -- what is read builds the same bytes
-pub build-read : (s out : List ℕ) → readOf s .number ≡ 0 → length s ≤ length out → buildOf (readOf s .telegram) out ≡ written s out
+pub build-read : BuildRead
 build-read s out e h =
     let v = check-facts s (read-number s e) in
     let same = read-builds s v in
@@ -70,8 +70,7 @@ module _ (t : Telegram) (shape : Shaped t) (b : Buildable t) (s last : List ℕ)
       ∙ ap (λ (xs : List ℕ). putOf xs last) (built-encapsulated t shape b to ∙ e) ∙ put-written s last high h
 
 -- removal gives back what was encapsulated
-pub decapsulate-encapsulated : (s to out last : List ℕ) → length to ≡ 4 → encapsulateOf s to out .number ≡ 0 → length s ≤ length last
-    → decapsulateOf (resultBytes (encapsulateOf s to out)) last ≡ written s last
+pub decapsulate-encapsulated : DecapsulateEncapsulated
 unfolding isUnbuildable
 decapsulate-encapsulated s to out last four e h =
     let f = encapsulate-facts s out to e in
@@ -85,8 +84,7 @@ decapsulate-encapsulated s to out last four e h =
     ∙ removed (addressedTo (fieldsOf s) to) shape b s last (v .high) h refl (plain-itself s v (f .1))
 
 -- and encapsulating for the same DESTID gives back what was removed from
-pub encapsulate-decapsulated : (s out last : List ℕ) → decapsulateOf s out .number ≡ 0 → length s ≤ length last
-    → encapsulateOf (resultBytes (decapsulateOf s out)) (fieldsOf s .destid) last ≡ written s last
+pub encapsulate-decapsulated : EncapsulateDecapsulated
 unfolding isUnbuildable
 encapsulate-decapsulated s out last e h =
     let f = decapsulate-facts s out e in
@@ -103,7 +101,7 @@ encapsulate-decapsulated s out last e h =
 -- ---- what a repeater sends
 
 -- a telegram that is sent is valid, as long as the one received, the same telegram, and one level higher
-pub repeated : (setting : ℕ) (s : List ℕ) → statusOf s < 256 → (repeatOf setting s ≡ [] → ⊥) → RaisedFrom s (repeatOf setting s)
+pub repeated : SentRaised
 repeated setting s byte some = go (isValid s) (repeats setting (levelOf s)) refl refl
   where
     go : (a b : Bool) → isValid s ≡ a → repeats setting (levelOf s) ≡ b → RaisedFrom s (repeatOf setting s)
@@ -116,7 +114,7 @@ repeated setting s byte some = go (isValid s) (repeats setting (levelOf s)) refl
     go false b v r = absurd (some (repeat-invalid setting s v))
 
 -- the call sends what the formula says, whatever the setting and the bytes
-pub repeat-sent : (setting : ℕ) (s : List ℕ) → repeatResult setting s .sent ≡ frameOf (repeatOf setting s)
+pub repeat-sent : CallSends
 unfolding repeatResult repeatOf
 repeat-sent setting s =
     by-test (ltb maxSetting setting)

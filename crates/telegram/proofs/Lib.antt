@@ -6,4 +6,3 @@ pub mod Parts
 pub mod RoundTrip
 pub mod Repeating
 pub mod Laws
-pub mod Sameness

@@ -3,4 +3,4 @@ pub mod Output
 pub mod Fields
 pub mod Addressing
 pub mod Repeater
-pub mod Sameness
+pub mod Claims

@@ -80,5 +80,6 @@ pub(crate) fn emit(f: Frame, out: &mut [u8]) -> Built
     if out.len() < n {
         return Built::Refused(Refusal::ShortOutput);
     }
-    Built::Done(bytes::copy(&bytes[..n], out))
+    bytes::copy(&bytes[..n], out);
+    Built::Done(n)
 }

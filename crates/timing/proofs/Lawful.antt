@@ -129,5 +129,5 @@ lawful-picked rule level d p t e =
     let n = transmissionsOf p in
     let u = both (isKnown rule level) (isOffered rule level n && lawful (ruleOf rule level n) d p) e in
     let v = both (isOffered rule level n) (lawful (ruleOf rule level n) d p) (u .1) in
-    let w = lawful-drawn (ruleOf rule level n) d (v .1) in
+    let w = lawful-drawn (ruleOf rule level n) d p (v .1) in
     (w .0, rw (and-true t (and-true (u .0) (v .0))) (w .1))

@@ -1,7 +1,8 @@
 -- `site::check_bytes` meets its contract: what is read is checked, and nothing else is looked at. Assumes nothing.
-use mathlib.Core.Path.{_∙_}
+use mathlib.Core.Path.{ap, _∙_}
 use borrow.Author.Needs.{needs}
 use borrow.Author.Tests.{eq-eqb, ne-eqb}
+use Rattle.site.specs.Site.{siteOf}
 use Rattle.site.proofs.Fill.{same-site}
 use Rattle.site.proofs.check_bytes.Statement.{statement}
 use Rattle.site.proofs.check_bytes.Tie as tie
@@ -12,7 +13,7 @@ returns c = simp (ne-eqb _ _ (c .if1 .taken))
 returns-2 : tie.Need-returns-2
 returns-2 c =
     simp (eq-eqb _ _ (c .before .before .if1 .left))
-    (c .check .ensures ∙ same-site (c .before .before .before .before .args .bytes .now) (c .before .decode .result) (c .before .decode .ensures))
+    (c .check .ensures ∙ ap (siteOf _) (c .before .decode .ensures) ∙ same-site (c .before .before .before .before .args .bytes .now))
 
 pub check-bytes-spec : {M : Type 1} → statement M
 check-bytes-spec = tie.close (tie.spec returns (λ c κs. search needs) (λ c κs. search needs) returns-2)

@@ -17,9 +17,7 @@ abbrev μ-loop : tie.MeasureT-loop
 μ-loop bytes count all₀ i₀ all i = count - i
 
 loop-holds : tie.Need-loop-holds Inv-loop μ-loop
-loop-holds c =
-    let h : length (c .nothing .result) ≡ 32 = search needs in
-    filled-start _ _ _ (c .before .smaller .ensures) h
+loop-holds c = filled-start _ _ _ (c .before .smaller .ensures) (c .nothing .ensures)
 
 loop-again : tie.Need-loop-again Inv-loop μ-loop
 loop-again c =

@@ -23,7 +23,10 @@ slice-aggregate-copy c =
 returns-2 : tie.Need-returns-2
 returns-2 c xs e =
     let a = c .before .before in
-    put-all xs _ (omega (arith, frame-len _ xs e)) _ _ _ (frame-take _ xs e) (simp length-take (omega arith)) (a .copy .ensures .0) (a .copy .ensures .1)
+    let f = a .before .before .before .before .before .before .args .f in
+    let h : length (f .bytes) ≡ 21 = search needs in
+    put-all xs _ (omega (arith, frame-len _ xs e)) _ _ (f .len) (frame-take _ xs e) (simp length-take (omega arith)) (simp length-take (omega arith))
+    (a .copy .ensures .1)
 
 pub emit-spec : {M : Type 1} → statement M
 emit-spec =

@@ -16,13 +16,13 @@ use Rattle.erp1.specs.Status.{upperOf}
 use Rattle.erp1.specs.Subtelegram.{hashOf, bodyOf, statusOf, sealedOf, isAddressed, isValid}
 use Rattle.erp1.specs.Same.{isSame}
 use Rattle.erp1.proofs.Checks.{Sound, check-facts}
 use Rattle.telegram.specs.declared.fields.Telegram.{Telegram}
 use Rattle.telegram.specs.Fields.{plainFields, addressedFields, fieldsOf, dataOf, headOf, idsOf, bytesOf, isUnbuildable, Buildable, Shaped, normalOf}
-use Rattle.telegram.specs.Sameness.{isSameAddress, isSameData, isSameTelegram, SameByFields}
+use Rattle.sameness.specs.Sameness.{isSameAddress, isSameData, isSameTelegram, SameByFields}
 use Rattle.telegram.proofs.Parts.{body-more}
 use Rattle.telegram.proofs.Reading.{fields-fit}
 use Rattle.telegram.proofs.Building.{buildable-fields}
 use Rattle.telegram.proofs.RoundTrip.{built-reads, read-builds, read-shaped, normal-data}
 
 -- ---- all before STATUS
 
