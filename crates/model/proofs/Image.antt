@@ -28,7 +28,7 @@ use Rattle.layout.proofs.Segments.{part-at, Each, flatten-length, flatten-part}
 use Rattle.layout.proofs.Cell.{cell-length, cell-time, cell-bytes}
 use Rattle.layout.proofs.Header.{header-length, header-used, header-first, header-second}
 use Rattle.layout.proofs.Block.{block-length, block-header, block-cell}
-use Rattle.model.specs.View.{Reception, View}
+use Rattle.model.specs.View.{Entry, View}
 use Rattle.model.specs.Acceptable.{isEntry, acceptable}
 use Rattle.model.specs.Image.{imageLength, entryCell, entriesOf, blockAt, blocksOf, imageWith, blockIn, usedIn, firstIn, secondIn, settingIn, countIn, cellEntry, entryIn, totalsIn, parse, accepts}
 use Rattle.model.specs.Exact.{Exact}
@@ -36,7 +36,7 @@ use Rattle.model.proofs.Check.{valid-length}
 use Rattle.model.proofs.Invariant.{Good, good-acceptable, good-of, entry-valid, entry-before}
 
 -- stands for an entry past the end
-abbrev none : Reception
+abbrev none : Entry
 none = record { bytes = []; time = 0 }
 
 -- fifteen more of n
@@ -49,7 +49,7 @@ module _ (setting : ℕ) (v : View) (g : Good v) where
   abbrev count : ℕ
   count = length (v .entries)
 
-  abbrev entryAt : ℕ → Reception
+  abbrev entryAt : ℕ → Entry
   entryAt i = getD (v .entries) i none
 
   is-entry : (i : ℕ) → i < count → isEntry (v .latest) (entryAt i) ≡ true

@@ -17,7 +17,7 @@ use Rattle.refusal.specs.declared.Refusal.the-variants as refusal
 use Rattle.erp1.specs.Subtelegram.{isValid}
 use Rattle.model.specs.declared.Totals.{Totals}
 use Rattle.model.specs.Answer.{Shown, Kept, Copy, Loose, Refused, isAccepted}
-use Rattle.model.specs.View.{Reception, View, maturity, capacity, isOpen, stillOpen, fresh}
+use Rattle.model.specs.View.{Reception, Entry, View, opened, maturity, capacity, isOpen, stillOpen, fresh}
 use Rattle.model.specs.Acceptable.{isCopyOf, isEntry, mayFollow, isSummed, acceptable}
 use Rattle.model.specs.Exact.{Fits}
 use Rattle.model.specs.Step.{maxCount, isKnown, isCrowded, classify, advance}
@@ -30,7 +30,7 @@ pub record GoodTotals (n : Totals) (used : ℕ) : Type 0 where
   pub fits : n .received < 2 ^ 64
 
 -- entries at that latest time
-pub record GoodEntries (latest : ℕ) (l : List Reception) : Type 0 where
+pub record GoodEntries (latest : ℕ) (l : List Entry) : Type 0 where
   pub each : all (isEntry latest) l ≡ true
   pub order : pairwise mayFollow l ≡ true
   pub few : length l ≤ capacity
@@ -70,20 +70,20 @@ good-fresh = record {
 
 -- ---- entries
 
-entry : (latest : ℕ) (e : Reception) → isValid (e .bytes) ≡ true → e .time ≤ latest → isOpen latest e ≡ true → isEntry latest e ≡ true
+entry : (latest : ℕ) (e : Entry) → isValid (e .bytes) ≡ true → e .time ≤ latest → isOpen latest e ≡ true → isEntry latest e ≡ true
 entry latest e p q o = and-true p (and-true (le-leb (e .time) latest q) o)
 
 -- what is known of one
-pub entry-valid : (latest : ℕ) (e : Reception) → isEntry latest e ≡ true → isValid (e .bytes) ≡ true
+pub entry-valid : (latest : ℕ) (e : Entry) → isEntry latest e ≡ true → isValid (e .bytes) ≡ true
 entry-valid latest e p = both (isValid (e .bytes)) (leb (e .time) latest && isOpen latest e) p .0
 
-pub entry-before : (latest : ℕ) (e : Reception) → isEntry latest e ≡ true → e .time ≤ latest
+pub entry-before : (latest : ℕ) (e : Entry) → isEntry latest e ≡ true → e .time ≤ latest
 entry-before latest e p =
     leb-true (e .time) latest (both (leb (e .time) latest) (isOpen latest e) (both (isValid (e .bytes)) (leb (e .time) latest && isOpen latest e) p .1) .0)
 
 -- at a later time t the entries no longer open are gone
-module _ {latest t : ℕ} {l : List Reception} (g : GoodEntries latest l) (h : latest ≤ t) (fits : t < 2 ^ 64) where
-  still-entry : (e : Reception) → isEntry latest e ≡ true → isOpen t e ≡ true → isEntry t e ≡ true
+module _ {latest t : ℕ} {l : List Entry} (g : GoodEntries latest l) (h : latest ≤ t) (fits : t < 2 ^ 64) where
+  still-entry : (e : Entry) → isEntry latest e ≡ true → isOpen t e ≡ true → isEntry t e ≡ true
   still-entry e p o = entry t e (entry-valid latest e p) (omega (arith, entry-before latest e p)) o
 
   good-still : GoodEntries t (keep (isOpen t) l)
@@ -95,17 +95,17 @@ module _ {latest t : ℕ} {l : List Reception} (g : GoodEntries latest l) (h : l
   }
 
 -- at the end there is room for another telegram
-module _ {l : List Reception} (r : Reception) (g : GoodEntries (r .time) l) where
-  follow : (e : Reception) → isEntry (r .time) e ≡ true → not (isCopyOf e r) ≡ true → mayFollow e r ≡ true
+module _ {l : List Entry} (r : Reception) (g : GoodEntries (r .time) l) where
+  follow : (e : Entry) → isEntry (r .time) e ≡ true → not (isCopyOf e r) ≡ true → mayFollow e (opened r) ≡ true
   follow e p q = and-true (le-leb (e .time) (r .time) (entry-before (r .time) e p)) q
 
-  good-add : isValid (r .bytes) ≡ true → any (λ e. isCopyOf e r) l ≡ false → length l < capacity → GoodEntries (r .time) (l ++ (r ∷ []))
+  good-add : isValid (r .bytes) ≡ true → any (λ e. isCopyOf e r) l ≡ false → length l < capacity → GoodEntries (r .time) (l ++ (opened r ∷ []))
   good-add valid new room = record {
-    each = all-last (isEntry (r .time)) l r (g .each) (entry (r .time) r valid (omega arith) (le-leb (r .time - r .time) maturity (omega arith)));
+    each = all-last (isEntry (r .time)) l (opened r) (g .each) (entry (r .time) (opened r) valid (omega arith) (le-leb (r .time - r .time) maturity (omega arith)));
     order =
-        pairwise-last mayFollow l r (g .order)
-        (all-both (isEntry (r .time)) (λ e. not (isCopyOf e r)) (λ e. mayFollow e r) follow l (g .each) (none (λ e. isCopyOf e r) l new));
-    few = omega (arith, length-append l (r ∷ []));
+        pairwise-last mayFollow l (opened r) (g .order)
+        (all-both (isEntry (r .time)) (λ e. not (isCopyOf e r)) (λ e. mayFollow e (opened r)) follow l (g .each) (none (λ e. isCopyOf e r) l new));
+    few = omega (arith, length-append l (opened r ∷ []));
     fits = g .fits;
   }
 
@@ -163,5 +163,5 @@ module _ (v : View) (r : Reception) where
     }
     good-advance (kept m t w c l) = record {
       entries = good-add r (good-still (g .entries) t small) w c (leb-false capacity (length (stillOpen (r .time) v)) l);
-      totals = omega (arith, length-keep (isOpen (r .time)) (v .entries), length-append (stillOpen (r .time) v) (r ∷ []));
+      totals = omega (arith, length-keep (isOpen (r .time)) (v .entries), length-append (stillOpen (r .time) v) (opened r ∷ []));
     }

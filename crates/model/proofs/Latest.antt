@@ -17,19 +17,19 @@ use Rattle.erp1.specs.Subtelegram.{checkOf, isValid}
 use Rattle.erp1.specs.Same.{isSame}
 use Rattle.telegram.specs.Repeater.{levelOf}
 use Rattle.model.specs.Answer.{Shown, Kept, Copy, Loose, Refused, isKept, isReceived, isAccepted}
-use Rattle.model.specs.View.{Reception, txMaturity, capacity, isOpen}
+use Rattle.model.specs.View.{Reception, Entry, opened, txMaturity, capacity, isOpen}
 use Rattle.model.specs.Acceptable.{isEcho, isCopyOf}
 use Rattle.model.specs.Step.{maxCount, addIf}
 use Rattle.model.specs.Reference.{Logged, answers, keptOf, openAt, isBehind, latestOf, answerTo, logOf}
 use Rattle.model.specs.Latest.{lastOf, latestSame, LatestDecides}
 use Rattle.model.proofs.Simulation.{behind-latest}
 
-abbrev inTime : Reception → Reception → Bool
+abbrev inTime : Entry → Entry → Bool
 inTime e later = leb (e .time) (later .time)
 
 -- ---- a list in order
 
-any-and : (p q : Reception → Bool) (l : List Reception) → any (λ e. p e && q e) l ≡ any q (keep p l)
+any-and : (p q : Entry → Bool) (l : List Entry) → any (λ e. p e && q e) l ≡ any q (keep p l)
 any-and p q [] = refl
 any-and p q (x ∷ l) = go (p x) (any-and p q l)
   where
@@ -38,8 +38,8 @@ any-and p q (x ∷ l) = go (p x) (any-and p q l)
     go false ih = ih
 
 -- a test that a later one passes with an earlier one is settled by the last
-any-last : (q : Reception → Bool) → ((e later : Reception) → inTime e later ≡ true → q e ≡ true → q later ≡ true)
-    → (l : List Reception) → pairwise inTime l ≡ true → any q l ≡ any q (lastOf l)
+any-last : (q : Entry → Bool) → ((e later : Entry) → inTime e later ≡ true → q e ≡ true → q later ≡ true)
+    → (l : List Entry) → pairwise inTime l ≡ true → any q l ≡ any q (lastOf l)
 any-last q up [] s = refl
 any-last q up (x ∷ []) s = refl
 any-last q up (x ∷ y ∷ l) s =
@@ -51,14 +51,14 @@ any-last q up (x ∷ y ∷ l) s =
     go true false k ih = absurd (false≢true (k refl))
     go false c k ih = ih
 
-later-echo : (r e later : Reception) → inTime e later ≡ true → isEcho e r ≡ true → isEcho later r ≡ true
+later-echo : (r : Reception) (e later : Entry) → inTime e later ≡ true → isEcho e r ≡ true → isEcho later r ≡ true
 later-echo r e later h = go (not (eqb (levelOf (r .bytes)) 0))
   where
     go : (b : Bool) → (b || leb (r .time - e .time) txMaturity) ≡ true → (b || leb (r .time - later .time) txMaturity) ≡ true
     go true k = refl
     go false k = le-leb (r .time - later .time) txMaturity (omega (arith, leb-true (r .time - e .time) txMaturity k, leb-true (e .time) (later .time) h))
 
-by-the-latest : (r : Reception) (l : List Reception) → pairwise inTime l ≡ true → any (λ e. isCopyOf e r) l ≡ any (λ e. isEcho e r) (latestSame l r)
+by-the-latest : (r : Reception) (l : List Entry) → pairwise inTime l ≡ true → any (λ e. isCopyOf e r) l ≡ any (λ e. isEcho e r) (latestSame l r)
 unfolding isCopyOf
 by-the-latest r l s =
     any-and (λ e. isSame (e .bytes) (r .bytes)) (λ e. isEcho e r) l
@@ -79,7 +79,7 @@ pub record Ordered (log : List Logged) : Type 0 where
   pub order : pairwise inTime (keptOf log) ≡ true
   pub low : all (λ e. leb (e .time) (latestOf log)) (keptOf log) ≡ true
 
-wider : {m n : ℕ} (l : List Reception) → m ≤ n → all (λ e. leb (e .time) m) l ≡ true → all (λ e. leb (e .time) n) l ≡ true
+wider : {m n : ℕ} (l : List Entry) → m ≤ n → all (λ e. leb (e .time) m) l ≡ true → all (λ e. leb (e .time) n) l ≡ true
 wider {m} {n} l h a = all-both (λ e. leb (e .time) m) (λ e. leb (e .time) m) (λ e. leb (e .time) n) (λ e p _. le-leb (e .time) n (omega (arith, leb-true (e .time) m p))) l a a
 
 up : (log : List Logged) (r : Reception) → latestOf log ≤ max (r .time) (latestOf log)
@@ -89,8 +89,8 @@ ordered-more : (log : List Logged) (r : Reception) (a : Shown) → (isKept a ≡
 ordered-more log r Kept h o =
     let m = h refl in
     record {
-      order = pairwise-last inTime (keptOf log) r (o .order) (wider (keptOf log) m (o .low));
-      low = all-last (λ e. leb (e .time) (max (r .time) (latestOf log))) (keptOf log) r (wider (keptOf log) (up log r) (o .low)) (le-leb (r .time) (max (r .time) (latestOf log)) (omega arith));
+      order = pairwise-last inTime (keptOf log) (opened r) (o .order) (wider (keptOf log) m (o .low));
+      low = all-last (λ e. leb (e .time) (max (r .time) (latestOf log))) (keptOf log) (opened r) (wider (keptOf log) (up log r) (o .low)) (le-leb (r .time) (max (r .time) (latestOf log)) (omega arith));
     }
 ordered-more log r Copy h o = record { order = o .order; low = wider (keptOf log) (up log r) (o .low) }
 ordered-more log r Loose h o = record { order = o .order; low = wider (keptOf log) (up log r) (o .low) }

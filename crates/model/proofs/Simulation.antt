@@ -11,17 +11,17 @@ use borrow.Author.Tests.{le-leb, leb-true, ltb-true, ltb-false, lt-ltb, le-ltb}
 use Rattle.lists.specs.Lists.{keep}
 use Rattle.lists.proofs.Tests.{by-test, keep-keep, keep-last}
 use Rattle.model.specs.Answer.{Shown, Kept, Copy, Loose, Refused, isAccepted}
-use Rattle.model.specs.View.{Reception, View, maturity, isOpen}
+use Rattle.model.specs.View.{Reception, Entry, View, opened, maturity, isOpen}
 use Rattle.model.specs.Acceptable.{acceptable}
 use Rattle.model.specs.Step.{classify, advance, sentFor, step}
 use Rattle.model.specs.Reference.{Logged, totalsOf, latestOf, keptOf, openAt, isBehind, modelView, answerTo, sentWith}
 use Rattle.model.proofs.Invariant.{Good, good-acceptable, good-advance, accepted-time, classified}
 
 -- a later time leaves open only what was open before
-open-before : {t u : ℕ} → t ≤ u → (e : Reception) → isOpen u e ≡ true → isOpen t e ≡ true
+open-before : {t u : ℕ} → t ≤ u → (e : Entry) → isOpen u e ≡ true → isOpen t e ≡ true
 open-before {t} {u} h e o = le-leb (t - e .time) maturity (omega (arith, leb-true (u - e .time) maturity o))
 
-open-now : (e : Reception) → isOpen (e .time) e ≡ true
+open-now : (e : Entry) → isOpen (e .time) e ≡ true
 open-now e = le-leb (e .time - e .time) maturity (omega arith)
 
 still-open : {t u : ℕ} → t ≤ u → (log : List Logged) → keep (isOpen u) (openAt t log) ≡ openAt u log
@@ -62,7 +62,7 @@ module _ (log : List Logged) (r : Reception) where
   same-view : (a : Shown) → (isAccepted a ≡ true → latestOf log ≤ r .time)
       → advance (modelView log) r a ≡ modelView (record { reception = r; answer = a } ∷ log)
   unfolding advance modelView totalsOf
-  same-view Kept h = rw (max-eq-left (h refl), keep-last (isOpen (r .time)) (keptOf log) r (open-now r), ← (still-open (h refl) log))
+  same-view Kept h = rw (max-eq-left (h refl), keep-last (isOpen (r .time)) (keptOf log) (opened r) (open-now (opened r)), ← (still-open (h refl) log))
   same-view Copy h = rw (max-eq-left (h refl), ← (still-open (h refl) log))
   same-view Loose h = rw (max-eq-left (h refl), ← (still-open (h refl) log))
   same-view (Refused n) h = refl

@@ -5,7 +5,7 @@ use mathlib.Core.Bool.{Bool}
 use mathlib.Core.List.{List, [], _∷_}
 use Rattle.lists.specs.Lists.{keep, any}
 use Rattle.erp1.specs.Same.{isSame}
-use Rattle.model.specs.View.{Reception}
+use Rattle.model.specs.View.{Reception, Entry}
 use Rattle.model.specs.Acceptable.{isEcho, isCopyOf}
 use Rattle.model.specs.Reference.{openAt, logOf}
 
@@ -16,7 +16,7 @@ lastOf (x ∷ []) = x ∷ []
 lastOf (x ∷ y ∷ l) = lastOf (y ∷ l)
 
 -- of open telegrams in opening order, the latest that is the same as r
-abbrev pub latestSame : List Reception → Reception → List Reception
+abbrev pub latestSame : List Entry → Reception → List Entry
 latestSame l r = lastOf (keep (λ e. isSame (e .bytes) (r .bytes)) l)
 
 -- THE CLAIM: whatever came before, r is a copy of an open telegram just where there is a latest open same one and r is an echo of it, and so

@@ -15,7 +15,7 @@ use Rattle.telegram.specs.Frame.{frameOf}
 use Rattle.telegram.specs.Repeater.{repeatOf}
 use Rattle.model.specs.declared.Totals.{Totals}
 use Rattle.model.specs.Answer.{Shown, Kept, Copy, Loose, Refused, isKept, isCopy, isLoose, isDamaged, isLate, isReceived, isAccepted}
-use Rattle.model.specs.View.{Reception, View, capacity, isOpen}
+use Rattle.model.specs.View.{Reception, Entry, View, opened, capacity, isOpen}
 use Rattle.model.specs.Acceptable.{isCopyOf}
 use Rattle.model.specs.Step.{addIf, maxCount}
 use Rattle.model.specs.Burst.{Replied}
@@ -41,12 +41,12 @@ totalsOf log = record {
 }
 
 -- the receptions answered Kept, in the order handed over
-abbrev pub keptOf : List Logged → List Reception
+abbrev pub keptOf : List Logged → List Entry
 keptOf [] = []
-keptOf (e ∷ log) = addIf (isKept (e .answer)) (e .reception) (keptOf log)
+keptOf (e ∷ log) = addIf (isKept (e .answer)) (opened (e .reception)) (keptOf log)
 
 -- of these, the ones with t - f <= 100
-abbrev pub openAt : ℕ → List Logged → List Reception
+abbrev pub openAt : ℕ → List Logged → List Entry
 openAt t log = keep (isOpen t) (keptOf log)
 
 -- "one before it that he answered KEPT, COPY or LOOSE has a time above t"

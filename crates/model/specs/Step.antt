@@ -14,7 +14,7 @@ use Rattle.telegram.specs.Frame.{frameOf}
 use Rattle.telegram.specs.Repeater.{repeatOf}
 use Rattle.model.specs.declared.Totals.{Totals}
 use Rattle.model.specs.Answer.{Shown, Kept, Copy, Loose, Refused, isKept, isCopy, isLoose, isDamaged, isLate, isReceived, isAccepted}
-use Rattle.model.specs.View.{Reception, View, capacity, stillOpen}
+use Rattle.model.specs.View.{Reception, View, opened, capacity, stillOpen}
 use Rattle.model.specs.Acceptable.{isCopyOf, acceptable}
 
 -- "received is 2^64 - 1": the most that a total holds
@@ -64,7 +64,7 @@ unfoldable pub advance : View → Reception → Shown → View
 advance v r a = record {
   latest = cond (isAccepted a) (r .time) (v .latest);
   totals = tally a (v .totals);
-  entries = cond (isAccepted a) (addIf (isKept a) r (stillOpen (r .time) v)) (v .entries);
+  entries = cond (isAccepted a) (addIf (isKept a) (opened r) (stillOpen (r .time) v)) (v .entries);
 }
 
 pub record Outcome : Type 0 where

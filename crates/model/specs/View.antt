@@ -6,16 +6,29 @@ use lib.Dec.{leb}
 use Rattle.lists.specs.Lists.{keep}
 use Rattle.model.specs.declared.Totals.{Totals}
 
--- "A reception is bytes and the moment they were complete, in ms"; an open telegram is the reception that opened it
+-- "A reception is bytes and the moment they were complete, in ms"
 pub record Reception : Type 0 where
   pub bytes : List ℕ
   pub time : ℕ
+
+-- an open telegram: what the reception that opened it was
+pub record Entry : Type 0 where
+  pub bytes : List ℕ
+  pub time : ℕ
+
+-- "A KEPT reception opens a telegram at its time"
+abbrev pub opened : Reception → Entry
+opened r = record { bytes = r .bytes; time = r .time }
+
+-- the reception that opened it
+abbrev pub openedBy : Entry → Reception
+openedBy e = record { bytes = e .bytes; time = e .time }
 
 -- the latest accepted time, the totals, and the open telegrams in opening order
 pub record View : Type 0 where
   pub latest : ℕ
   pub totals : Totals
-  pub entries : List Reception
+  pub entries : List Entry
 
 -- ---- the collector's limits: 100 ms, 64 telegrams
 
@@ -30,11 +43,11 @@ abbrev pub capacity : ℕ
 capacity = 64
 
 -- "at time t it is open while t - f <= 100 (RX maturity, 001 Table 1)"
-abbrev pub isOpen : ℕ → Reception → Bool
+abbrev pub isOpen : ℕ → Entry → Bool
 isOpen t e = leb (t - e .time) maturity
 
 -- of the open telegrams, those that are open at t
-abbrev pub stillOpen : ℕ → View → List Reception
+abbrev pub stillOpen : ℕ → View → List Entry
 stillOpen t v = keep (isOpen t) (v .entries)
 
 -- ---- a collector started fresh
