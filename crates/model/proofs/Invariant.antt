@@ -3,7 +3,7 @@
 use Prim.Native.Nat.{ℕ, _+_, _-_, _^_, _≤_, _<_}
 use native.Mathlib.Omega.{arith}
 use mathlib.Core.Path.{_≡_, refl}
-use mathlib.Core.Bool.{true, false, not, _&&_, false≢true}
+use mathlib.Core.Bool.{Bool, true, false, not, _&&_, false≢true}
 use mathlib.Core.List.{List, [], _∷_, _++_}
 use lib.ListN.{length, length-append}
 use lib.Dec.{leb, ltb}
@@ -17,11 +17,12 @@ use Rattle.refusal.specs.declared.Refusal.the-variants as refusal
 use Rattle.erp1.specs.Subtelegram.{isValid}
 use Rattle.model.specs.declared.Totals.{Totals}
 use Rattle.model.specs.Answer.{Shown, Kept, Copy, Loose, Refused, isAccepted}
-use Rattle.model.specs.View.{Reception, Entry, View, opened, maturity, capacity, isOpen, stillOpen, fresh}
+use Rattle.model.specs.View.{Reception, Entry, View, opened, recount, maturity, capacity, ceiling, capped, isOpen, stillOpen, fresh}
 use Rattle.model.specs.Acceptable.{isCopyOf, isEntry, mayFollow, isSummed, acceptable}
 use Rattle.model.specs.Exact.{Fits}
-use Rattle.model.specs.Step.{maxCount, isKnown, isCrowded, classify, advance}
+use Rattle.model.specs.Step.{maxCount, isKnown, isCrowded, classify, credit, advance}
 use Rattle.model.proofs.Check.{Failed, length-wrong, sum-wrong, crc-wrong, nested, check-failed}
+use Rattle.model.proofs.Copies.{length-credit, all-credit, pairwise-credit}
 
 -- totals over that many entries
 pub record GoodTotals (n : Totals) (used : ℕ) : Type 0 where
@@ -34,6 +35,7 @@ pub record GoodEntries (latest : ℕ) (l : List Entry) : Type 0 where
   pub each : all (isEntry latest) l ≡ true
   pub order : pairwise mayFollow l ≡ true
   pub few : length l ≤ capacity
+  pub copies : all (λ e. leb (e .copies) ceiling) l ≡ true
   pub fits : latest < 2 ^ 64
 
 pub record Good (v : View) : Type 0 where
@@ -57,14 +59,14 @@ good-of v e f =
     let d = both (pairwise mayFollow (v .entries)) _ (c .1) in
     let k = both (isSummed (v .totals)) _ (d .1) in
     record {
-      entries = record { each = c .0; order = d .0; few = leb-true _ _ (b .0); fits = f .latest };
+      entries = record { each = c .0; order = d .0; few = leb-true _ _ (b .0); copies = f .copies; fits = f .latest };
       totals = record { sum = eqb-true _ _ (k .0); enough = leb-true _ _ (k .1); fits = f .received };
     }
 
 pub good-fresh : Good fresh
 unfolding fresh
 good-fresh = record {
-  entries = record { each = refl; order = refl; few = omega arith; fits = omega arith };
+  entries = record { each = refl; order = refl; few = omega arith; copies = refl; fits = omega arith };
   totals = omega arith;
 }
 
@@ -91,6 +93,7 @@ module _ {latest t : ℕ} {l : List Entry} (g : GoodEntries latest l) (h : lates
     each = all-keep (isEntry latest) (isOpen t) (isEntry t) still-entry l (g .each);
     order = pairwise-keep mayFollow (isOpen t) l (g .order);
     few = omega (arith, length-keep (isOpen t) l);
+    copies = all-keep (λ e. leb (e .copies) ceiling) (isOpen t) (λ e. leb (e .copies) ceiling) (λ e p _. p) l (g .copies);
     fits = fits;
   }
 
@@ -106,6 +109,28 @@ module _ {l : List Entry} (r : Reception) (g : GoodEntries (r .time) l) where
         pairwise-last mayFollow l (opened r) (g .order)
         (all-both (isEntry (r .time)) (λ e. not (isCopyOf e r)) (λ e. mayFollow e (opened r)) follow l (g .each) (none (λ e. isCopyOf e r) l new));
     few = omega (arith, length-append l (opened r ∷ []));
+    copies = all-last (λ e. leb (e .copies) ceiling) l (opened r) (g .copies) refl;
+    fits = g .fits;
+  }
+
+-- one more copy for one of them
+abbrev more : ℕ → ℕ
+more n = capped (n + 1)
+
+follows-left : (f : ℕ → ℕ) (e later : Entry) → mayFollow e later ≡ true → mayFollow (recount f e) later ≡ true
+unfolding isCopyOf
+follows-left f e later h = h
+
+follows-right : (f : ℕ → ℕ) (e later : Entry) → mayFollow e later ≡ true → mayFollow e (recount f later) ≡ true
+follows-right f e later h = h
+
+module _ {latest : ℕ} {l : List Entry} (q : Entry → Bool) (g : GoodEntries latest l) where
+  good-credit : GoodEntries latest (credit more q l)
+  good-credit = record {
+    each = all-credit more q (isEntry latest) (λ e h. h) l (g .each);
+    order = pairwise-credit more q mayFollow (follows-left more) (follows-right more) l (g .order);
+    few = omega (arith, length-credit more q l);
+    copies = all-credit more q (λ e. leb (e .copies) ceiling) (λ e _. le-leb (more (e .copies)) ceiling (omega arith)) l (g .copies);
     fits = g .fits;
   }
 
@@ -154,8 +179,8 @@ module _ (v : View) (r : Reception) where
     good-advance (damaged nested m) = record { entries = g .entries; totals = omega arith }
     good-advance (late m) = record { entries = g .entries; totals = omega arith }
     good-advance (copy m t) = record {
-      entries = good-still (g .entries) t small;
-      totals = omega (arith, length-keep (isOpen (r .time)) (v .entries));
+      entries = good-credit (λ e. isCopyOf e r) (good-still (g .entries) t small);
+      totals = omega (arith, length-credit more (λ e. isCopyOf e r) (stillOpen (r .time) v), length-keep (isOpen (r .time)) (v .entries));
     }
     good-advance (loose m t) = record {
       entries = good-still (g .entries) t small;

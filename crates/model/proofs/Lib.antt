@@ -1,4 +1,5 @@
 pub mod Check
+pub mod Copies
 pub mod Invariant
 pub mod Image
 pub mod Simulation

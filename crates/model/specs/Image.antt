@@ -9,7 +9,7 @@ use Rattle.refusal.specs.Number.{numberOf}
 use Rattle.refusal.specs.declared.Refusal.the-variants.{ShortOutput, NotAccepted}
 use Rattle.telegram.specs.Repeater.{maxSetting}
 use Rattle.layout.specs.Buffer.{part}
-use Rattle.layout.specs.Cell.{cellOf, cellTime, cellBytes}
+use Rattle.layout.specs.Cell.{cellOf, cellTime, cellBytes, cellLast}
 use Rattle.layout.specs.Header.{headerOf, headerUsed, headerFirst, headerSecond}
 use Rattle.layout.specs.Block.{cellsPerBlock, blockLength, blockOf, blockHeader, blockCell}
 use Rattle.model.specs.declared.Totals.{Totals}
@@ -22,9 +22,9 @@ use Rattle.model.specs.Acceptable.{acceptable}
 abbrev pub imageLength : ℕ
 imageLength = 2560
 
--- the last two bytes of an entry are zero
+-- "The last two bytes of a parked entry hold" the number of copies (document 02, A8)
 abbrev pub entryCell : Entry → List ℕ
-entryCell e = cellOf (e .time) (e .bytes) 0
+entryCell e = cellOf (e .time) (e .bytes) (e .copies)
 
 -- "in opening order, each block filled before the next": the entries of block k
 abbrev pub entriesOf : ℕ → View → List Entry
@@ -75,8 +75,9 @@ settingIn image = secondIn 3 image
 abbrev pub countIn : List ℕ → ℕ
 countIn image = usedIn 0 image + usedIn 1 image + usedIn 2 image + usedIn 3 image + usedIn 4 image
 
+-- "any value there accepted"
 abbrev pub cellEntry : List ℕ → Entry
-cellEntry cell = record { bytes = cellBytes cell; time = cellTime cell }
+cellEntry cell = record { bytes = cellBytes cell; time = cellTime cell; copies = cellLast cell }
 
 -- entry i, counted over all blocks
 unfoldable pub entryIn : List ℕ → ℕ → Entry
