@@ -8,3 +8,4 @@ pub mod Division
 pub mod States
 pub mod Returns
 pub mod Latest
+pub mod Counting

@@ -24,7 +24,7 @@ openingOf log r = lastIndex (λ e. isOpen (r .time) e && isCopyOf e r) (keptOf l
 -- "the COPY answers for that opening in the history"
 abbrev pub copyAnswers : ℕ → List Logged → ℕ
 copyAnswers n [] = 0
-copyAnswers n (e ∷ log) = plusIf (isCopy (e .answer) && eqb (openingOf log (e .reception)) n) (copyAnswers n log)
+copyAnswers n (e ∷ log) = plusIf (isCopy (e .answer) && eqb n (openingOf log (e .reception))) (copyAnswers n log)
 
 -- of every telegram ever opened, closed ones too
 abbrev pub NumbersAreAnswers : Type 0
