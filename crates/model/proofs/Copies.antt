@@ -1,6 +1,6 @@
 -- Laws of the numbers of copies.
 --     length-credit, all-credit, pairwise-credit     what a credit leaves as it is
---     keep-credit, credit-and                        the telegram that is credited is one of those that are kept
+--     keep-credit, credit-and, keep-other            the telegram that is credited is one of those that are kept, or is not
 --     credit-at                                      the entry at each index after a credit
 --     credit-cap, small-cap, cap-small               the ceiling
 -- Assumes nothing.
@@ -62,14 +62,15 @@ module _ (more : ℕ → ℕ) (q : Entry → Bool) where
   -- ---- kept entries
 
   -- where what passes is kept, and a count does not matter for it, the credit is the same before and after
-  pub keep-credit : (p : Entry → Bool) → ((e : Entry) → p (recount more e) ≡ p e) → (r : Entry → Bool) → ((e : Entry) → r e ≡ true → q e ≡ true → p e ≡ true)
-      → (l : List Entry) → all r l ≡ true → keep p (credit more q l) ≡ credit more q (keep p l)
+  pub keep-credit : (p : Entry → Bool) → ((e : Entry) → p (recount more e) ≡ p e) → (r : Entry → Bool)
+      → ((e : Entry) → r e ≡ true → q e ≡ true → p e ≡ true) → (l : List Entry) → all r l ≡ true → keep p (credit more q l) ≡ credit more q (keep p l)
   keep-credit p still r h [] a = refl
   keep-credit p still r h (x ∷ l) a =
       let w = both (r x) (all r l) a in
       go (any q l) (q x) refl (p x) refl (h x (w .0)) (any-keep q p r h l (w .1)) (keep-credit p still r h l (w .1))
     where
-      go : (c d : Bool) → q x ≡ d → (b : Bool) → p x ≡ b → (d ≡ true → b ≡ true) → any q (keep p l) ≡ c → keep p (credit more q l) ≡ credit more q (keep p l)
+      go : (c d : Bool) → q x ≡ d → (b : Bool) → p x ≡ b → (d ≡ true → b ≡ true) → any q (keep p l) ≡ c
+          → keep p (credit more q l) ≡ credit more q (keep p l)
           → keep p (cond c (x ∷ credit more q l) (cond d (recount more x ∷ l) (x ∷ l))) ≡ credit more q (cond b (x ∷ keep p l) (keep p l))
       go true d e true f k al ih = rw (f, al, ih)
       go true d e false f k al ih = rw (f, ih)
@@ -77,6 +78,20 @@ module _ (more : ℕ → ℕ) (q : Entry → Bool) where
       go false true e false f k al ih = absurd (false≢true (k refl))
       go false false e true f k al ih = rw (f, al, e)
       go false false e false f k al ih = rw f (sym (credit-none (keep p l) al))
+
+  -- where what passes is not kept, what is kept stays as it is
+  pub keep-other : (p : Entry → Bool) → ((e : Entry) → p (recount more e) ≡ p e) → (r : Entry → Bool)
+      → ((e : Entry) → r e ≡ true → q e ≡ true → p e ≡ false) → (l : List Entry) → all r l ≡ true → keep p (credit more q l) ≡ keep p l
+  keep-other p still r h [] a = refl
+  keep-other p still r h (x ∷ l) a =
+      let w = both (r x) (all r l) a in
+      go (any q l) (q x) (h x (w .0)) (keep-other p still r h l (w .1))
+    where
+      go : (c d : Bool) → (d ≡ true → p x ≡ false) → keep p (credit more q l) ≡ keep p l
+          → keep p (cond c (x ∷ credit more q l) (cond d (recount more x ∷ l) (x ∷ l))) ≡ cond (p x) (x ∷ keep p l) (keep p l)
+      go true d k ih = rw ih
+      go false true k ih = rw (still x, k refl)
+      go false false k ih = refl
 
   -- ---- by index
 

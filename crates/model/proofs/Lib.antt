@@ -9,3 +9,4 @@ pub mod States
 pub mod Returns
 pub mod Latest
 pub mod Counting
+pub mod Isolation

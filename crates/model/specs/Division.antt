@@ -6,6 +6,7 @@ use mathlib.Core.List.{List, [], _∷_, _++_, map}
 use lib.ListN.{length, take, drop}
 use Rattle.model.specs.View.{Reception, fresh}
 use Rattle.model.specs.Burst.{Replied}
+use Rattle.model.specs.Reference.{pastAfter}
 use Rattle.model.specs.History.{Call, Receive, Checkpoint, Restore, Cut, Burst, Ask, Look, IsHistory, Seen, Answered, Wrote, Restored, Delivered, Heard, Looked, run, burstTaken}
 
 -- a reception, and the setting that its call named
@@ -29,6 +30,10 @@ standsFor Look = []
 abbrev pub receptionsOf : List Call → List Given
 receptionsOf [] = []
 receptionsOf (c ∷ h) = standsFor c ++ receptionsOf h
+
+-- these alone, newest first, as the reference model keeps them
+abbrev pub pastOf : List Call → List Reception
+pastOf h = pastAfter [] (map (λ g. g .reception) (receptionsOf h))
 
 -- how many things are seen of a call
 abbrev pub seens : Call → ℕ

@@ -12,3 +12,4 @@ pub mod Division
 pub mod States
 pub mod Latest
 pub mod Copies
+pub mod Isolation
