@@ -13,7 +13,7 @@ use Rattle.model.specs.Division.{Given, givenAt, receptionsOf, repliesIn
 use Rattle.model.proofs.Theorem.{fresh-run}
 
 -- its replies to receptions, each at the setting that it was handed over with
-abbrev repliesAt : List Reception → List Given → List Replied
+abbrev pub repliesAt : List Reception → List Given → List Replied
 repliesAt past [] = []
 repliesAt past (g ∷ gs) =
     let a = answerTo (logOf past) (g .reception) in
@@ -30,7 +30,7 @@ replies-joined setting past [] more = refl
 replies-joined setting past (r ∷ rs) more = ap₂ _∷_ refl (replies-joined setting (r ∷ past) rs more)
 
 -- the replies in what is expected are the reference model's to the receptions alone
-expected-replies : (past : List Reception) (h : List Call) → repliesIn h (expected past h) ≡ repliesAt past (receptionsOf h)
+pub expected-replies : (past : List Reception) (h : List Call) → repliesIn h (expected past h) ≡ repliesAt past (receptionsOf h)
 expected-replies past [] = refl
 expected-replies past (Receive setting r ∷ h) = ap₂ _∷_ refl (expected-replies (r ∷ past) h)
 expected-replies past (Checkpoint output ∷ h) = expected-replies past h

@@ -10,3 +10,4 @@ pub mod Returns
 pub mod Latest
 pub mod Counting
 pub mod Isolation
+pub mod Struck

@@ -27,26 +27,26 @@ use Rattle.model.proofs.Simulation.{same-sent, same-step, good-after, s
 -- ---- one call at a good view
 
 -- the restore of a view's image goes on with the view
-restore-image : {v : View} → Good v → restoreOf fresh (imageOf v) ≡ record { number = 0; next = v }
+pub restore-image : {v : View} → Good v → restoreOf fresh (imageOf v) ≡ record { number = 0; next = v }
 unfolding restoreOf
 restore-image {v} g = rw (good-acceptable good-fresh, accepts-image 0 v (good-layout g) (omega arith) (good-acceptable g), parse-image 0 v (good-layout g))
 
-restore-refused : {v : View} (image : List ℕ) → Good v → accepts image ≡ false → restoreOf v image ≡ record { number = numberOf NotAccepted; next = v }
+pub restore-refused : {v : View} (image : List ℕ) → Good v → accepts image ≡ false → restoreOf v image ≡ record { number = numberOf NotAccepted; next = v }
 unfolding restoreOf
 restore-refused image g e = rw (good-acceptable g, e)
 
 module _ (log : List Logged) (output : List ℕ) where
-  same-checkpoint : Good (modelView log) → checkpointOf (modelView log) output ≡ savedBy log output
+  pub same-checkpoint : Good (modelView log) → checkpointOf (modelView log) output ≡ savedBy log output
   unfolding checkpointOf savedBy
   same-checkpoint g = rw (good-acceptable g)
 
   -- into room
-  saved : imageLength ≤ length output → savedBy log output ≡ record { number = 0; output = imageOf (modelView log) ++ drop imageLength output }
+  pub saved : imageLength ≤ length output → savedBy log output ≡ record { number = 0; output = imageOf (modelView log) ++ drop imageLength output }
   unfolding savedBy
   saved room = rw (le-ltb (length output) imageLength room)
 
   -- the bytes it wrote
-  front : Good (modelView log) → take imageLength (imageOf (modelView log) ++ drop imageLength output) ≡ imageOf (modelView log)
+  pub front : Good (modelView log) → take imageLength (imageOf (modelView log) ++ drop imageLength output) ≡ imageOf (modelView log)
   front g = take-at (imageOf (modelView log)) (drop imageLength output) imageLength (image-length 0 (modelView log) (good-layout g))
 
 -- ---- receptions one by one, from the reference model's view
@@ -67,7 +67,7 @@ burst-replies setting past (r ∷ rs) g t =
     ∙ ap₂ _∷_ (ap (λ (f : Frame). record { answer = answerTo (logOf past) r; sent = f }) (same-sent setting (answerTo (logOf past) r) r))
     (burst-replies setting (r ∷ past) rs (good-after (logOf past) r g (t .0)) (t .1))
 
-burst-good : (past rs : List Reception) → Good (modelView (logOf past)) → Timely rs → Good (modelView (logOf (pastAfter past rs)))
+pub burst-good : (past rs : List Reception) → Good (modelView (logOf past)) → Timely rs → Good (modelView (logOf (pastAfter past rs)))
 burst-good past [] g t = g
 burst-good past (r ∷ rs) g t = burst-good (r ∷ past) rs (good-after (logOf past) r g (t .0)) (t .1)
 
@@ -83,9 +83,12 @@ not-refused setting n m =
     (λ b. rw (a, b, le-ltb m n (leb-true n m a), lt-ltb maxBurst n (leb-false n maxBurst b))))
     (λ a. rw (a, lt-ltb m n (leb-false n m a)))
 
-taken-timely : (b : Bool) (rs : List Reception) → Timely rs → Timely (cond b rs [])
-taken-timely true rs t = t
-taken-timely false rs t = tt
+timely-if : (b : Bool) (rs : List Reception) → Timely rs → Timely (cond b rs [])
+timely-if true rs t = t
+timely-if false rs t = tt
+
+pub taken-timely : (setting : ℕ) (rs : List Reception) (places : List Replied) → Timely rs → Timely (burstTaken setting rs places)
+taken-timely setting rs places t = timely-if (leb (length rs) (length places) && (leb (length rs) maxBurst && leb setting maxSetting)) rs t
 
 module _ (setting : ℕ) (past rs : List Reception) (places : List Replied) (g : Good (modelView (logOf past))) (t : Timely rs) where
   abbrev v : View
@@ -95,7 +98,7 @@ module _ (setting : ℕ) (past rs : List Reception) (places : List Replied) (g :
   whole = burstTaken setting rs places
 
   whole-timely : Timely whole
-  whole-timely = taken-timely (leb (length rs) (length places) && (leb (length rs) maxBurst && leb setting maxSetting)) rs t
+  whole-timely = taken-timely setting rs places t
 
   same-number : burstNumber setting v (length rs) (length places) ≡ callNumber setting (length rs) (length places)
   unfolding burstNumber
@@ -107,7 +110,7 @@ module _ (setting : ℕ) (past rs : List Reception) (places : List Replied) (g :
   abbrev resultOf : ℕ → List Reception → BurstResult
   resultOf n l = record { number = n; replies = repliesTo setting v l ++ drop (length l) places; next = afterAll v l }
 
-  same-burst : burstOf setting v rs places ≡ record {
+  pub same-burst : burstOf setting v rs places ≡ record {
     number = callNumber setting (length rs) (length places);
     replies = repliesBy setting past whole ++ drop (length whole) places;
     next = modelView (logOf (pastAfter past whole));
@@ -139,7 +142,7 @@ same-run past (Cut output ∷ h) g ok =
 same-run past (Burst setting rs places ∷ h) g ok =
     ap (λ (b : BurstResult). Delivered (b .number) (b .replies) (b .next .totals) ∷ run (b .next) h) (same-burst setting past rs places g (ok .0))
     ∙ ap₂ _∷_ refl (same-run (pastAfter past (burstTaken setting rs places)) h
-    (burst-good past (burstTaken setting rs places) g (whole-timely setting past rs places g (ok .0))) (ok .1))
+    (burst-good past (burstTaken setting rs places) g (taken-timely setting rs places (ok .0))) (ok .1))
 same-run past (Ask k ∷ h) g ok = rw (same-heard (logOf past) k g) (ap₂ _∷_ refl (same-run past h g ok))
 same-run past (Look ∷ h) g ok = ap₂ _∷_ refl (same-run past h g ok)
 
@@ -164,7 +167,7 @@ uncut-history (Burst setting rs places ∷ h) ok = (ok .0, uncut-history h (ok .
 uncut-history (Ask k ∷ h) ok = uncut-history h ok
 uncut-history (Look ∷ h) ok = uncut-history h ok
 
-fresh-model : fresh ≡ modelView []
+pub fresh-model : fresh ≡ modelView []
 unfolding fresh modelView totalsOf
 fresh-model = refl
 
