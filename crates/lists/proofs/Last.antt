@@ -1,7 +1,7 @@
 -- `lastIndex`: that it names the last element that passes, and the length where none does. Assumes nothing.
 use Prim.Native.Nat.{ℕ, zero, suc, _<_, zero-le, suc-le-suc}
 use native.Mathlib.Nat.{not-suc-le-zero, le-of-suc-le-suc}
-use mathlib.Core.Path.{_≡_, refl, sym, ap}
+use mathlib.Core.Path.{_≡_, refl, ap}
 use mathlib.Core.Bool.{Bool, true, false, cond, _||_, false≢true}
 use mathlib.Core.List.{List, [], _∷_}
 use lib.ListN.{length, getD}
@@ -18,7 +18,8 @@ module _ {A : Type 0} (p : A → Bool) where
   last-low [] e = absurd (false≢true e)
   last-low (x ∷ l) e = go (p x) (any p l) e (last-low l)
     where
-      go : (b c : Bool) → (b || c) ≡ true → (c ≡ true → lastIndex p l < length l) → cond c (suc (lastIndex p l)) (cond b 0 (suc (length l))) < suc (length l)
+      go : (b c : Bool) → (b || c) ≡ true → (c ≡ true → lastIndex p l < length l)
+          → cond c (suc (lastIndex p l)) (cond b 0 (suc (length l))) < suc (length l)
       go b true f ih = suc-le-suc (ih refl)
       go true false f ih = suc-le-suc zero-le
       go false false f ih = absurd (false≢true f)

@@ -99,7 +99,8 @@ module _ {A : Type 0} where
   any-and p q [] = refl
   any-and p q (x ∷ l) = go (p x) (any-and p q l)
     where
-      go : (b : Bool) → any (λ y. p y && q y) l ≡ any q (keep p l) → ((b && q x) || any (λ y. p y && q y) l) ≡ any q (cond b (x ∷ keep p l) (keep p l))
+      go : (b : Bool) → any (λ y. p y && q y) l ≡ any q (keep p l)
+          → ((b && q x) || any (λ y. p y && q y) l) ≡ any q (cond b (x ∷ keep p l) (keep p l))
       go true ih = ap (λ z. q x || z) ih
       go false ih = ih
 

@@ -1,20 +1,20 @@
 -- Laws of the numbers of copies.
+--     credit-at                                      the entry at each index after a credit: the last that passes has it
 --     length-credit, all-credit, pairwise-credit     what a credit leaves as it is
 --     keep-credit, credit-and, keep-other            the telegram that is credited is one of those that are kept, or is not
---     credit-at                                      the entry at each index after a credit
 --     credit-cap, small-cap, cap-small               the ceiling
 -- Assumes nothing.
 use Prim.Native.Nat.{ℕ, zero, suc, _+_, _<_}
 use native.Mathlib.Nat.{not-suc-le-zero, le-of-suc-le-suc, suc-inj}
 use native.Mathlib.Omega.{arith}
 use mathlib.Core.Path.{_≡_, refl, sym, _∙_, ap, ap₂}
-use mathlib.Core.Bool.{Bool, true, false, cond, _&&_, _||_, false≢true}
+use mathlib.Core.Bool.{Bool, true, false, cond, _&&_, false≢true}
 use mathlib.Core.List.{List, [], _∷_, map}
 use lib.Dec.{leb, eqb}
 use lib.ListN.{length, getD}
 use borrow.Author.Tests.{le-leb, leb-true, eq-eqb, ne-eqb, eqb-true, eqb-false}
 use Rattle.lists.specs.Lists.{keep, any, all, pairwise, lastIndex}
-use Rattle.lists.proofs.Choice.{both}
+use Rattle.lists.proofs.Choice.{both, neither}
 use Rattle.lists.proofs.Tests.{and-true, branch, by-test, all-both, any-keep, any-map}
 use Rattle.model.specs.View.{Entry, recount, ceiling, capped}
 use Rattle.model.specs.Step.{credit}
@@ -24,16 +24,33 @@ eqb-suc m n = by-test (eqb m n) (λ e. e ∙ sym (eq-eqb (suc m) (suc n) (ap suc
     (λ e. e ∙ sym (ne-eqb (suc m) (suc n) (λ f. eqb-false m n e (suc-inj f))))
 
 module _ (more : ℕ → ℕ) (q : Entry → Bool) where
-  credit-none : (l : List Entry) → any q l ≡ false → credit more q l ≡ l
-  credit-none [] e = refl
-  credit-none (x ∷ l) e = go (q x) (any q l) e
+  -- ---- by index
+
+  -- the entry at each index: the last that passes is credited, and no other
+  pub credit-at : (d : Entry) (l : List Entry) (k : ℕ) → k < length l
+      → getD (credit more q l) k d ≡ cond (eqb k (lastIndex q l)) (recount more (getD l k d)) (getD l k d)
+  credit-at d [] k h = absurd (not-suc-le-zero h)
+  credit-at d (x ∷ l) zero h = go (any q l) (q x)
     where
-      go : (b c : Bool) → (b || c) ≡ false → cond c (x ∷ credit more q l) (cond b (recount more x ∷ l) (x ∷ l)) ≡ x ∷ l
-      go true c h = absurd (false≢true (sym h))
-      go false true h = absurd (false≢true (sym h))
-      go false false h = refl
+      go : (c b : Bool) → getD (cond c (x ∷ credit more q l) (cond b (recount more x ∷ l) (x ∷ l))) 0 d
+          ≡ cond (eqb 0 (cond c (suc (lastIndex q l)) (cond b 0 (suc (length l))))) (recount more x) x
+      go true b = rw (ne-eqb 0 (suc (lastIndex q l)) (λ e. absurd (omega arith)))
+      go false true = refl
+      go false false = rw (ne-eqb 0 (suc (length l)) (λ e. absurd (omega arith)))
+  credit-at d (x ∷ l) (suc k) h = go (any q l) (q x) (credit-at d l k (le-of-suc-le-suc h))
+    where
+      go : (c b : Bool) → getD (credit more q l) k d ≡ cond (eqb k (lastIndex q l)) (recount more (getD l k d)) (getD l k d)
+          → getD (cond c (x ∷ credit more q l) (cond b (recount more x ∷ l) (x ∷ l))) (suc k) d
+          ≡ cond (eqb (suc k) (cond c (suc (lastIndex q l)) (cond b 0 (suc (length l))))) (recount more (getD l k d)) (getD l k d)
+      go true b ih = ih ∙ ap (λ (t : Bool). cond t (recount more (getD l k d)) (getD l k d)) (eqb-suc k (lastIndex q l))
+      go false true ih = rw (ne-eqb (suc k) 0 (λ e. absurd (omega arith)))
+      go false false ih = rw (ne-eqb (suc k) (suc (length l)) (λ e. absurd (omega arith)))
 
   -- ---- what it leaves as it is
+
+  credit-none : (l : List Entry) → any q l ≡ false → credit more q l ≡ l
+  credit-none [] e = refl
+  credit-none (x ∷ l) e = let w = neither (q x) (any q l) e in rw (w .0, w .1)
 
   pub length-credit : (l : List Entry) → length (credit more q l) ≡ length l
   length-credit [] = refl
@@ -92,28 +109,6 @@ module _ (more : ℕ → ℕ) (q : Entry → Bool) where
       go true d k ih = rw ih
       go false true k ih = rw (still x, k refl)
       go false false k ih = refl
-
-  -- ---- by index
-
-  -- the entry at each index: the last that passes is credited, and no other
-  pub credit-at : (d : Entry) (l : List Entry) (k : ℕ) → k < length l
-      → getD (credit more q l) k d ≡ cond (eqb k (lastIndex q l)) (recount more (getD l k d)) (getD l k d)
-  credit-at d [] k h = absurd (not-suc-le-zero h)
-  credit-at d (x ∷ l) zero h = go (any q l) (q x)
-    where
-      go : (c b : Bool) → getD (cond c (x ∷ credit more q l) (cond b (recount more x ∷ l) (x ∷ l))) 0 d
-          ≡ cond (eqb 0 (cond c (suc (lastIndex q l)) (cond b 0 (suc (length l))))) (recount more x) x
-      go true b = rw (ne-eqb 0 (suc (lastIndex q l)) (λ e. absurd (omega arith)))
-      go false true = refl
-      go false false = rw (ne-eqb 0 (suc (length l)) (λ e. absurd (omega arith)))
-  credit-at d (x ∷ l) (suc k) h = go (any q l) (q x) (credit-at d l k (le-of-suc-le-suc h))
-    where
-      go : (c b : Bool) → getD (credit more q l) k d ≡ cond (eqb k (lastIndex q l)) (recount more (getD l k d)) (getD l k d)
-          → getD (cond c (x ∷ credit more q l) (cond b (recount more x ∷ l) (x ∷ l))) (suc k) d
-          ≡ cond (eqb (suc k) (cond c (suc (lastIndex q l)) (cond b 0 (suc (length l))))) (recount more (getD l k d)) (getD l k d)
-      go true b ih = ih ∙ ap (λ (t : Bool). cond t (recount more (getD l k d)) (getD l k d)) (eqb-suc k (lastIndex q l))
-      go false true ih = rw (ne-eqb (suc k) 0 (λ e. absurd (omega arith)))
-      go false false ih = rw (ne-eqb (suc k) (suc (length l)) (λ e. absurd (omega arith)))
 
 -- among those that pass p, p need not be asked again
 pub credit-and : (more : ℕ → ℕ) (p q : Entry → Bool) (l : List Entry) → credit more (λ e. p e && q e) (keep p l) ≡ credit more q (keep p l)

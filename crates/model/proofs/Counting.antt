@@ -5,27 +5,25 @@ use native.Mathlib.Nat.{zero-add}
 use native.Mathlib.Decide.{decLt}
 use native.Mathlib.Omega.{arith}
 use mathlib.Core.Path.{_≡_, refl, sym, _∙_, ap}
-use mathlib.Core.Bool.{Bool, true, false, cond, not, _&&_, _||_, false≢true}
+use mathlib.Core.Bool.{Bool, true, false, cond, not, _||_, false≢true}
 use mathlib.Core.List.{List, [], _∷_, _++_, map, map-append}
-use lib.Dec.{leb, ltb, eqb}
+use lib.Dec.{leb, eqb}
 use lib.ListN.{length, getD, length-append, length-map, List·getD-append}
 use lib.Seq.{ext-getD, getD-at}
 use borrow.Author.Tests.{ne-eqb}
-use Rattle.lists.specs.Lists.{keep, any, all, pairwise, upFrom, lastIndex}
+use Rattle.lists.specs.Lists.{any, all, pairwise, upFrom, lastIndex}
 use Rattle.lists.proofs.Choice.{cond-ap}
 use Rattle.lists.proofs.Last.{last-low}
 use Rattle.lists.proofs.Tests.{branch, any-and, all-map, pairwise-mapped, getD-map}
 use Rattle.lists.proofs.UpFrom.{length-upFrom, getD-upFrom}
-use Rattle.refusal.specs.Number.{numberOf}
-use Rattle.refusal.specs.declared.Refusal.the-variants as refusal
-use Rattle.erp1.specs.Subtelegram.{sumOf, checkOf, isValid}
+use Rattle.erp1.specs.Subtelegram.{sumOf, isValid}
 use Rattle.model.specs.Answer.{Shown, Kept, Copy, Loose, Refused, isCopy, isReceived}
-use Rattle.model.specs.View.{Reception, Entry, View, opened, openedBy, recount, capacity, isOpen}
-use Rattle.model.specs.Acceptable.{isCopyOf, isEntry, mayFollow, isSummed, acceptable}
+use Rattle.model.specs.View.{Reception, Entry, opened, openedBy, recount, capacity, isOpen}
+use Rattle.model.specs.Acceptable.{isCopyOf, isEntry, mayFollow, acceptable}
 use Rattle.model.specs.Step.{maxCount, credit}
 use Rattle.model.specs.Heard.{copiesIn}
-use Rattle.model.specs.Reference.{Logged, answers, totalsOf, keptOf, openAt, isBehind, latestOf, answerTo, logOf, modelView}
-use Rattle.model.specs.Copies.{openingOf, copyAnswers, NumbersAreAnswers, EachCountedOnce, BelowCeiling, AnyNumber}
+use Rattle.model.specs.Reference.{Logged, answers, totalsOf, isOpenCopy, keptOf, openAt, isBehind, latestOf, answerTo, logOf, modelView}
+use Rattle.model.specs.Copies.{copyAnswers, NumbersAreAnswers, EachCountedOnce, BelowCeiling, AnyNumber}
 use Rattle.model.proofs.Copies.{length-credit, credit-at, cap-small}
 
 -- stands for an entry past the end
@@ -66,7 +64,7 @@ sum-opened (x ∷ l) r = ap (λ (n : ℕ). x .copies + n) (sum-opened l r)
 -- ---- the log
 
 -- a Copy answer is given where an open telegram passes
-copy-found : (log : List Logged) (r : Reception) → isCopy (answerTo log r) ≡ true → any (λ e. isOpen (r .time) e && isCopyOf e r) (keptOf log) ≡ true
+copy-found : (log : List Logged) (r : Reception) → isCopy (answerTo log r) ≡ true → any (isOpenCopy r) (keptOf log) ≡ true
 unfolding answerTo
 copy-found log r h =
     let P : Shown → Type 0 = λ a. isCopy a ≡ true → any (λ e. isCopyOf e r) (openAt (r .time) log) ≡ true in
@@ -83,7 +81,7 @@ record Counted (log : List Logged) : Type 0 where
   sum : sumOf (copiesIn (keptOf log)) ≡ answers isCopy log
 
 counted-more : (log : List Logged) (r : Reception) (a : Shown)
-    → (isCopy a ≡ true → any (λ e. isOpen (r .time) e && isCopyOf e r) (keptOf log) ≡ true)
+    → (isCopy a ≡ true → any (isOpenCopy r) (keptOf log) ≡ true)
     → Counted log → Counted (record { reception = r; answer = a } ∷ log)
 counted-more log r Kept h o =
     let l = keptOf log in
@@ -102,14 +100,15 @@ counted-more log r Kept h o =
     }
 counted-more log r Copy h o =
     let l = keptOf log in
-    let q : Entry → Bool = λ e. isOpen (r .time) e && isCopyOf e r in
+    let q = isOpenCopy r in
     let found : any q l ≡ true = h refl in
     record {
       numbers = λ n k.
           let low : n < length l = omega (arith, length-credit oneMore q l) in
           credited-at q l n low ∙ ap (λ (c : ℕ). cond (eqb n (lastIndex q l)) (c + 1) c) (o .numbers n low);
       past = λ n k.
-          rw (ne-eqb n (lastIndex q l) (λ e. absurd (omega (arith, last-low q l found, length-credit oneMore q l)))) (o .past n (omega (arith, length-credit oneMore q l)));
+          let other : n ≡ lastIndex q l → ⊥ = λ e. absurd (omega (arith, last-low q l found, length-credit oneMore q l)) in
+          rw (ne-eqb n (lastIndex q l) other) (o .past n (omega (arith, length-credit oneMore q l)));
       sum = sum-credit q l found ∙ ap oneMore (o .sum);
     }
 counted-more log r Loose h o = record { numbers = o .numbers; past = o .past; sum = o .sum }

@@ -229,7 +229,9 @@ module _ (setting : ℕ) (v : View) (f : HasLayout v) where
 
   refuses-image : acceptable v ≡ false → accepts (imageWith setting v) ≡ false
   unfolding accepts
-  refuses-image bad = rw (eq-eqb (length (imageWith setting v)) imageLength image-length, parse-image, bad) (and-false (leb (settingIn (imageWith setting v)) maxSetting))
+  refuses-image bad =
+      let low = leb (settingIn (imageWith setting v)) maxSetting in
+      rw (eq-eqb (length (imageWith setting v)) imageLength image-length, parse-image, bad) (and-false low)
 
 -- what an image says that is accepted
 pub record Accepted (image : List ℕ) : Type 0 where

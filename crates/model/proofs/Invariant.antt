@@ -104,7 +104,9 @@ module _ {l : List Entry} (r : Reception) (g : GoodEntries (r .time) l) where
 
   good-add : isValid (r .bytes) ≡ true → any (λ e. isCopyOf e r) l ≡ false → length l < capacity → GoodEntries (r .time) (l ++ (opened r ∷ []))
   good-add valid new room = record {
-    each = all-last (isEntry (r .time)) l (opened r) (g .each) (entry (r .time) (opened r) valid (omega arith) (le-leb (r .time - r .time) maturity (omega arith)));
+    each =
+        all-last (isEntry (r .time)) l (opened r) (g .each)
+        (entry (r .time) (opened r) valid (omega arith) (le-leb (r .time - r .time) maturity (omega arith)));
     order =
         pairwise-last mayFollow l (opened r) (g .order)
         (all-both (isEntry (r .time)) (λ e. not (isCopyOf e r)) (λ e. mayFollow e (opened r)) follow l (g .each) (none (λ e. isCopyOf e r) l new));

@@ -4,30 +4,34 @@
 --     same-answer        a reception of X is answered alike
 --     answers-isolated, entries-isolated     the claims
 -- Assumes nothing.
-use Prim.Native.Nat.{ℕ, suc, _+_, _^_, _≤_, _<_, zero-le, max}
+use Prim.Native.Nat.{ℕ, suc, _+_, _≤_, _<_, zero-le, max}
 use native.Mathlib.Omega.{arith}
 use native.Mathlib.Nat.{max-eq-left}
 use mathlib.Core.Path.{_≡_, refl, sym, _∙_, ap, ap₂}
 use mathlib.Core.Bool.{Bool, true, false, cond, not, _&&_, _||_, false≢true}
-use mathlib.Core.List.{List, [], _∷_, _++_, map, append-nil}
+use mathlib.Core.List.{List, [], _∷_, map, append-nil}
 use lib.ListN.{length}
 use lib.Dec.{leb, ltb}
 use borrow.Author.Tests.{le-leb, lt-leb, leb-true, le-ltb, not-true, not-false}
 use Rattle.lists.specs.Lists.{keep, any, all, pairwise, equal}
 use Rattle.lists.proofs.Choice.{both}
 use Rattle.lists.proofs.Keep.{keep-append, keep-map}
-use Rattle.lists.proofs.Tests.{and-true, branch, length-keep, all-keep, all-last, keep-last, keep-swap, any-keep, count-length}
+use Rattle.lists.proofs.Tests.{branch, length-keep, all-keep, all-last, keep-last, keep-swap, any-keep, count-length}
 use Rattle.erp1.specs.Subtelegram.{isValid}
 use Rattle.erp1.specs.Same.{isSame}
 use Rattle.telegram.specs.Fields.{fieldsOf}
 use Rattle.telegram.proofs.Sameness.{same-by-fields, same-txid}
 use Rattle.model.specs.Answer.{Shown, Kept, Copy, Loose, Refused, isLoose, isAccepted, isReceived}
-use Rattle.model.specs.View.{Reception, Entry, opened, openedBy, recount, capacity, capped, isOpen}
+use Rattle.model.specs.View.{Reception, Entry, opened, recount, capacity, capped, isOpen}
 use Rattle.model.specs.Acceptable.{isEcho, isCopyOf}
-use Rattle.model.specs.Step.{maxCount, credit}
-use Rattle.model.specs.Reference.{Logged, answers, keptAfter, keptOf, openAt, isBehind, latestOf, answerTo, logOf, modelView}
+use Rattle.model.specs.Step.{maxCount}
+use Rattle.model.specs.Reference.{Logged, answers, isOpenCopy, keptAfter, keptOf, openAt, isBehind, latestOf, answerTo, logOf, modelView}
 use Rattle.model.specs.Isolation.{isOf, isEntryOf, Quiet, AnswersIsolated, EntriesIsolated}
 use Rattle.model.proofs.Copies.{all-credit, keep-credit, keep-other}
+
+-- the log's entries of X
+abbrev loggedOf : List ℕ → List Reception → List Logged
+loggedOf x past = keep (λ e. isOf x (e .reception)) (logOf past)
 
 -- ---- what the answers tell
 
@@ -54,7 +58,8 @@ not-late t (r ∷ past) h =
     go false p ih = ih
 
 -- the rules that are left where few are received and nothing is late
-quiet-answer : (past : List Reception) (r : Reception) → length past < maxCount → isValid (r .bytes) ≡ true → all (λ e. leb (e .time) (r .time)) past ≡ true
+quiet-answer : (past : List Reception) (r : Reception) → length past < maxCount → isValid (r .bytes) ≡ true
+    → all (λ e. leb (e .time) (r .time)) past ≡ true
     → answerTo (logOf past) r
     ≡ cond (any (λ e. isCopyOf e r) (openAt (r .time) (logOf past))) Copy (cond (leb capacity (length (openAt (r .time) (logOf past)))) Loose Kept)
 unfolding answerTo
@@ -79,7 +84,7 @@ all-valid (r ∷ past) = go (answerTo (logOf past) r) (accepted-valid (logOf pas
         → all (λ e. isValid (e .bytes)) (keptAfter (keptOf (logOf past)) r a) ≡ true
     go Kept h ih = all-last (λ e. isValid (e .bytes)) (keptOf (logOf past)) (opened r) ih (h refl)
     go Copy h ih =
-        all-credit (λ n. n + 1) (λ e. isOpen (r .time) e && isCopyOf e r) (λ e. isValid (e .bytes)) (λ e v. v) (keptOf (logOf past)) ih
+        all-credit (λ n. n + 1) (isOpenCopy r) (λ e. isValid (e .bytes)) (λ e v. v) (keptOf (logOf past)) ih
     go Loose h ih = ih
     go (Refused n) h ih = ih
 
@@ -99,18 +104,16 @@ module _ (x : List ℕ) where
   -- ---- the telegrams opened by x
 
   module _ (r : Reception) (l : List Entry) (valid : all (λ e. isValid (e .bytes)) l ≡ true) where
-    abbrev found : Entry → Bool
-    found e = isOpen (r .time) e && isCopyOf e r
-
     -- a telegram that is found has the owner of the reception
-    owner : isValid (r .bytes) ≡ true → (b : Bool) → isOf x r ≡ b → (e : Entry) → isValid (e .bytes) ≡ true → found e ≡ true → isEntryOf x e ≡ b
+    owner : isValid (r .bytes) ≡ true → (b : Bool) → isOf x r ≡ b
+        → (e : Entry) → isValid (e .bytes) ≡ true → isOpenCopy r e ≡ true → isEntryOf x e ≡ b
     owner vr b is e ve f = copy-owner e r ve vr (both (isOpen (r .time) e) (isCopyOf e r) f .1) ∙ is
 
     kept-mine : (a : Shown) → (isAccepted a ≡ true → isValid (r .bytes) ≡ true) → isOf x r ≡ true
         → keep (isEntryOf x) (keptAfter l r a) ≡ keptAfter (keep (isEntryOf x) l) r a
     kept-mine Kept h is = keep-last (isEntryOf x) l (opened r) is
     kept-mine Copy h is =
-        keep-credit (λ n. n + 1) found (isEntryOf x) (λ e. refl) (λ e. isValid (e .bytes)) (owner (h refl) true is) l valid
+        keep-credit (λ n. n + 1) (isOpenCopy r) (isEntryOf x) (λ e. refl) (λ e. isValid (e .bytes)) (owner (h refl) true is) l valid
     kept-mine Loose h is = refl
     kept-mine (Refused n) h is = refl
 
@@ -118,19 +121,16 @@ module _ (x : List ℕ) where
         → keep (isEntryOf x) (keptAfter l r a) ≡ keep (isEntryOf x) l
     kept-other Kept h is = rw (keep-append (isEntryOf x) l (opened r ∷ []), is) (append-nil (keep (isEntryOf x) l))
     kept-other Copy h is =
-        keep-other (λ n. n + 1) found (isEntryOf x) (λ e. refl) (λ e. isValid (e .bytes)) (owner (h refl) false is) l valid
+        keep-other (λ n. n + 1) (isOpenCopy r) (isEntryOf x) (λ e. refl) (λ e. isValid (e .bytes)) (owner (h refl) false is) l valid
     kept-other Loose h is = refl
     kept-other (Refused n) h is = refl
 
-  kept-of : (past : List Reception) → keptOf (keep (λ e. isOf x (e .reception)) (logOf past)) ≡ keep (isEntryOf x) (keptOf (logOf past))
+  kept-of : (past : List Reception) → keptOf (loggedOf x past) ≡ keep (isEntryOf x) (keptOf (logOf past))
   kept-of [] = refl
   kept-of (r ∷ past) = go (isOf x r) refl (kept-of past)
     where
-      a : Shown
-      a = answerTo (logOf past) r
-
-      go : (b : Bool) → isOf x r ≡ b → keptOf (keep (λ e. isOf x (e .reception)) (logOf past)) ≡ keep (isEntryOf x) (keptOf (logOf past))
-          → keptOf (cond b (record { reception = r; answer = answerTo (logOf past) r } ∷ keep (λ e. isOf x (e .reception)) (logOf past)) (keep (λ e. isOf x (e .reception)) (logOf past)))
+      go : (b : Bool) → isOf x r ≡ b → keptOf (loggedOf x past) ≡ keep (isEntryOf x) (keptOf (logOf past))
+          → keptOf (cond b (record { reception = r; answer = answerTo (logOf past) r } ∷ loggedOf x past) (loggedOf x past))
           ≡ keep (isEntryOf x) (keptAfter (keptOf (logOf past)) r (answerTo (logOf past) r))
       go true is ih =
           ap (λ (l : List Entry). keptAfter l r (answerTo (logOf past) r)) ih
@@ -149,7 +149,7 @@ module _ (x : List ℕ) where
   earlier-mine r past h = all-keep (λ e. leb (e .time) (r .time)) (isOf x) (λ e. leb (e .time) (r .time)) (λ e p q. p) past (earlier r past h)
 
   module _ (r : Reception) (past : List Reception) (h : Quiet (r ∷ past)) (mine : isOf x r ≡ true)
-      (ih : keep (λ e. isOf x (e .reception)) (logOf past) ≡ logOf (keep (isOf x) past)) where
+      (ih : loggedOf x past ≡ logOf (keep (isOf x) past)) where
     abbrev opens : List Entry
     opens = openAt (r .time) (logOf past)
 
@@ -168,11 +168,13 @@ module _ (x : List ℕ) where
     same-answer : answerTo (logOf past) r ≡ answerTo (logOf (keep (isOf x) past)) r
     same-answer =
         let all-past = quiet-answer past r (omega (arith, h .few)) (valid-of r mine) (earlier r past h) in
-        let x-past = quiet-answer (keep (isOf x) past) r (omega (arith, h .few, length-keep (isOf x) past)) (valid-of r mine) (earlier-mine r past h) in
-        let quiet : isLoose (answerTo (logOf past) r) ≡ false
-        = not-true (isLoose (answerTo (logOf past) r)) (both (not (isLoose (answerTo (logOf past) r))) (all (λ e. not (isLoose (e .answer))) (logOf past)) (h .room) .0) in
+        let few : length (keep (isOf x) past) < maxCount = omega (arith, h .few, length-keep (isOf x) past) in
+        let x-past = quiet-answer (keep (isOf x) past) r few (valid-of r mine) (earlier-mine r past h) in
+        let loose = isLoose (answerTo (logOf past) r) in
+        let quiet : loose ≡ false = not-true loose (both (not loose) (all (λ e. not (isLoose (e .answer))) (logOf past)) (h .room) .0) in
         rw (all-past, x-past, opens-of, same-copy)
-        (no-loose (any (λ e. isCopyOf e r) opens) (leb capacity (length opens)) (leb capacity (length (keep (isEntryOf x) opens))) (rw all-past at quiet) crowded)
+        (no-loose (any (λ e. isCopyOf e r) opens) (leb capacity (length opens)) (leb capacity (length (keep (isEntryOf x) opens)))
+        (rw all-past at quiet) crowded)
 
 -- ---- the whole history
 
@@ -187,8 +189,8 @@ pub answers-isolated : AnswersIsolated
 answers-isolated x [] h = refl
 answers-isolated x (r ∷ past) h = go (isOf x r) refl (answers-isolated x past (quiet-tail r past h))
   where
-    go : (b : Bool) → isOf x r ≡ b → keep (λ e. isOf x (e .reception)) (logOf past) ≡ logOf (keep (isOf x) past)
-        → cond b (record { reception = r; answer = answerTo (logOf past) r } ∷ keep (λ e. isOf x (e .reception)) (logOf past)) (keep (λ e. isOf x (e .reception)) (logOf past))
+    go : (b : Bool) → isOf x r ≡ b → loggedOf x past ≡ logOf (keep (isOf x) past)
+        → cond b (record { reception = r; answer = answerTo (logOf past) r } ∷ loggedOf x past) (loggedOf x past)
         ≡ logOf (cond b (r ∷ keep (isOf x) past) (keep (isOf x) past))
     go true mine ih = ap₂ (λ a l. record { reception = r; answer = a } ∷ l) (same-answer x r past h mine ih) ih
     go false e ih = ih
@@ -211,10 +213,11 @@ latest-low t (r ∷ past) h =
     go false p ih = ih
 
 -- a valid reception where times never go back is accepted, and is the latest
-latest-now : (past : List Reception) (r : Reception) → length past < maxCount → isValid (r .bytes) ≡ true → all (λ e. leb (e .time) (r .time)) past ≡ true
-    → latestOf (logOf (r ∷ past)) ≡ r .time
+latest-now : (past : List Reception) (r : Reception) → length past < maxCount → isValid (r .bytes) ≡ true
+    → all (λ e. leb (e .time) (r .time)) past ≡ true → latestOf (logOf (r ∷ past)) ≡ r .time
 latest-now past r few w h =
-    rw (quiet-answer past r few w h, accepted (any (λ e. isCopyOf e r) (openAt (r .time) (logOf past))) (leb capacity (length (openAt (r .time) (logOf past)))))
+    let opens = openAt (r .time) (logOf past) in
+    rw (quiet-answer past r few w h, accepted (any (λ e. isCopyOf e r) opens) (leb capacity (length opens)))
     (max-eq-left (latest-low (r .time) past h))
   where
     accepted : (k l : Bool) → isAccepted (cond k Copy (cond l Loose Kept)) ≡ true

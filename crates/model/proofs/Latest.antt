@@ -3,24 +3,22 @@
 use Prim.Native.Nat.{ℕ, _+_, _-_, _≤_, max}
 use native.Mathlib.Omega.{arith}
 use mathlib.Core.Path.{_≡_, refl, sym, _∙_, ap}
-use mathlib.Core.Bool.{Bool, true, false, cond, not, _&&_, _||_, false≢true, or-false}
-use mathlib.Core.List.{List, [], _∷_, _++_, nil≢cons}
-use lib.Dec.{leb, ltb, eqb}
+use mathlib.Core.Bool.{Bool, true, false, not, _&&_, _||_, false≢true, or-false}
+use mathlib.Core.List.{List, [], _∷_, nil≢cons}
+use lib.Dec.{leb, eqb}
 use borrow.Author.Tests.{le-leb, leb-true, ltb-false}
 use Rattle.lists.specs.Lists.{keep, any, all, pairwise}
 use Rattle.lists.proofs.Choice.{both, neither}
 use Rattle.lists.proofs.Pairwise.{pairwise-keep}
 use Rattle.lists.proofs.Tests.{branch, by-test, all-both, all-last, pairwise-last, any-and}
-use Rattle.refusal.specs.Number.{numberOf}
-use Rattle.refusal.specs.declared.Refusal.the-variants as refusal
-use Rattle.erp1.specs.Subtelegram.{checkOf, isValid}
+use Rattle.erp1.specs.Subtelegram.{isValid}
 use Rattle.erp1.specs.Same.{isSame}
 use Rattle.telegram.specs.Repeater.{levelOf}
-use Rattle.model.specs.Answer.{Shown, Kept, Copy, Loose, Refused, isKept, isReceived, isAccepted}
-use Rattle.model.specs.View.{Reception, Entry, opened, recount, txMaturity, capacity, isOpen}
+use Rattle.model.specs.Answer.{Shown, Kept, Copy, Loose, Refused, isKept, isReceived}
+use Rattle.model.specs.View.{Reception, Entry, opened, txMaturity, isOpen}
 use Rattle.model.specs.Acceptable.{isEcho, isCopyOf}
-use Rattle.model.specs.Step.{maxCount, credit}
-use Rattle.model.specs.Reference.{Logged, answers, keptOf, openAt, isBehind, latestOf, answerTo, logOf}
+use Rattle.model.specs.Step.{maxCount}
+use Rattle.model.specs.Reference.{Logged, answers, isOpenCopy, keptOf, openAt, isBehind, latestOf, answerTo, logOf}
 use Rattle.model.specs.Latest.{lastOf, latestSame, LatestDecides, CreditsLatest, LatestCredited}
 use Rattle.model.proofs.Copies.{all-credit, pairwise-credit}
 use Rattle.model.proofs.Simulation.{behind-latest}
@@ -85,7 +83,8 @@ none-kept : (p : Entry → Bool) (l : List Entry) → any p l ≡ false → keep
 none-kept p [] e = refl
 none-kept p (x ∷ l) e = let w = neither (p x) (any p l) e in rw (w .0) (none-kept p l (w .1))
 
-credits-latest : (more : ℕ → ℕ) (r : Reception) (l : List Entry) → pairwise inTime l ≡ true → any (λ e. isCopyOf e r) l ≡ true → CreditsLatest more r l
+credits-latest : (more : ℕ → ℕ) (r : Reception) (l : List Entry) → pairwise inTime l ≡ true → any (λ e. isCopyOf e r) l ≡ true
+    → CreditsLatest more r l
 credits-latest more r [] s e = absurd (false≢true e)
 credits-latest more r (x ∷ l) s e =
     let same : Entry → Bool = λ y. isSame (y .bytes) (r .bytes) in
@@ -142,14 +141,15 @@ ordered-more log r Kept h o =
     let m = h refl in
     record {
       order = pairwise-last inTime (keptOf log) (opened r) (o .order) (wider (keptOf log) m (o .low));
-      low = all-last (λ e. leb (e .time) (max (r .time) (latestOf log))) (keptOf log) (opened r) (wider (keptOf log) (up log r) (o .low)) (le-leb (r .time) (max (r .time) (latestOf log)) (omega arith));
+      low =
+          all-last (λ e. leb (e .time) (max (r .time) (latestOf log))) (keptOf log) (opened r) (wider (keptOf log) (up log r) (o .low))
+          (le-leb (r .time) (max (r .time) (latestOf log)) (omega arith));
     }
 ordered-more log r Copy h o =
-    let q : Entry → Bool = λ e. isOpen (r .time) e && isCopyOf e r in
     let below : Entry → Bool = λ e. leb (e .time) (max (r .time) (latestOf log)) in
     record {
-      order = pairwise-credit (λ n. n + 1) q inTime (λ x y k. k) (λ x y k. k) (keptOf log) (o .order);
-      low = all-credit (λ n. n + 1) q below (λ e k. k) (keptOf log) (wider (keptOf log) (up log r) (o .low));
+      order = pairwise-credit (λ n. n + 1) (isOpenCopy r) inTime (λ x y k. k) (λ x y k. k) (keptOf log) (o .order);
+      low = all-credit (λ n. n + 1) (isOpenCopy r) below (λ e k. k) (keptOf log) (wider (keptOf log) (up log r) (o .low));
     }
 ordered-more log r Loose h o = record { order = o .order; low = wider (keptOf log) (up log r) (o .low) }
 ordered-more log r (Refused n) h o = record { order = o .order; low = o .low }

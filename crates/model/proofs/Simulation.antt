@@ -5,7 +5,7 @@ use native.Mathlib.Omega.{arith}
 use native.Mathlib.Nat.{max-eq-left}
 use mathlib.Core.Path.{_≡_, refl, sym, _∙_, ap}
 use mathlib.Core.Bool.{Bool, true, false, cond, _&&_, _||_}
-use mathlib.Core.List.{List, [], _∷_, _++_, map, map-append}
+use mathlib.Core.List.{List, [], _∷_, map, map-append}
 use lib.Dec.{leb, ltb}
 use lib.ListN.{length, getD, length-map}
 use borrow.Author.Tests.{le-leb, leb-true, leb-false, ltb-true, ltb-false, lt-ltb, le-ltb}
@@ -19,7 +19,7 @@ use Rattle.model.specs.View.{Reception, Entry, View, opened, recount, ca
 use Rattle.model.specs.Acceptable.{isCopyOf, acceptable}
 use Rattle.model.specs.Step.{classify, credit, advance, sentFor, step}
 use Rattle.model.specs.Heard.{copiesIn, copiesOf}
-use Rattle.model.specs.Reference.{Logged, totalsOf, latestOf, keptOf, openAt, isBehind, modelView, heardBy, answerTo, sentWith}
+use Rattle.model.specs.Reference.{Logged, totalsOf, latestOf, isOpenCopy, keptOf, openAt, isBehind, modelView, heardBy, answerTo, sentWith}
 use Rattle.model.proofs.Copies.{keep-credit, credit-and, credit-cap}
 use Rattle.model.proofs.Invariant.{Good, good-acceptable, good-advance, accepted-time, classified}
 
@@ -71,10 +71,10 @@ still-capped {t} {u} h log = keep-map (isOpen u) (recount capped) (openAt t log)
 
 -- of the telegrams still open, a copy is one of the last of which it is a copy
 credit-open : (r : Reception) (l : List Entry)
-    → keep (isOpen (r .time)) (credit (λ n. n + 1) (λ e. isOpen (r .time) e && isCopyOf e r) l)
+    → keep (isOpen (r .time)) (credit (λ n. n + 1) (isOpenCopy r) l)
     ≡ credit (λ n. n + 1) (λ e. isCopyOf e r) (keep (isOpen (r .time)) l)
 credit-open r l =
-    keep-credit (λ n. n + 1) (λ e. isOpen (r .time) e && isCopyOf e r) (isOpen (r .time)) (λ e. refl)
+    keep-credit (λ n. n + 1) (isOpenCopy r) (isOpen (r .time)) (λ e. refl)
     (λ e. true) (λ e _ h. both (isOpen (r .time) e) (isCopyOf e r) h .0) l (all-of (λ e. true) l (λ e m. refl))
     ∙ credit-and (λ n. n + 1) (isOpen (r .time)) (λ e. isCopyOf e r) l
 
@@ -83,7 +83,10 @@ module _ (log : List Logged) (r : Reception) where
   unfolding classify answerTo modelView totalsOf
   same-answer ok =
       by-test (ltb (r .time) (latestOf log)) (λ e. rw (ok, behind-latest (r .time) log, e))
-      (λ e. rw (ok, behind-latest (r .time) log, e, still-capped (ltb-false (r .time) (latestOf log) e) log, any-capped r (openAt (r .time) log), length-map (openAt (r .time) log) (recount capped)))
+      (λ e.
+      let l = openAt (r .time) log in
+      let later : latestOf log ≤ r .time = ltb-false (r .time) (latestOf log) e in
+      rw (ok, behind-latest (r .time) log, e, still-capped later log, any-capped r l, length-map l (recount capped)))
 
   same-view : (a : Shown) → (isAccepted a ≡ true → latestOf log ≤ r .time)
       → advance (modelView log) r a ≡ modelView (record { reception = r; answer = a } ∷ log)
@@ -139,4 +142,5 @@ same-heard log k g =
     (λ e. rw (good-acceptable g, open-length, count-length, e, le-ltb k (length l) (leb-true (length l) k e)))
     (λ e.
     let low : k < length l = leb-false (length l) k e in
-    rw (good-acceptable g, open-length, count-length, e, lt-ltb k (length l) low, counts-capped l, getD-map capped (copiesIn l) k 0 0 (omega (arith, count-length))))
+    let at : getD (map capped (copiesIn l)) k 0 ≡ capped (getD (copiesIn l) k 0) = getD-map capped (copiesIn l) k 0 0 (omega (arith, count-length)) in
+    rw (good-acceptable g, open-length, count-length, e, lt-ltb k (length l) low, counts-capped l, at))

@@ -1,12 +1,12 @@
 -- A history and X's receptions alone, in the states of an implementation: the replies and the entries are the reference model's, in which X is
 -- isolated. Assumes nothing.
-use Prim.Native.Nat.{ℕ, _^_, _<_}
+use Prim.Native.Nat.{ℕ}
 use mathlib.Core.Path.{_≡_, refl, sym, _∙_, ap, ap₂}
 use mathlib.Core.Bool.{Bool, true, false, cond, false≢true}
 use mathlib.Core.List.{List, [], _∷_, _++_, map}
 use Rattle.lists.specs.Lists.{keep}
 use Rattle.model.specs.Answer.{Shown}
-use Rattle.model.specs.View.{Reception, Entry, View, fresh}
+use Rattle.model.specs.View.{Reception, View, fresh}
 use Rattle.model.specs.Burst.{Replied}
 use Rattle.model.specs.Reference.{answerTo, sentWith, logOf, pastAfter, modelView}
 use Rattle.model.specs.History.{Call, Receive, Checkpoint, Restore, Cut, Burst, Ask, Look, Timely, IsHistory, Seen, burstTaken}
@@ -18,6 +18,9 @@ use Rattle.model.proofs.Division.{repliesAt, expected-replies}
 use Rattle.model.proofs.States.{fresh-shows, states-left}
 use Rattle.model.proofs.Isolation.{quiet-tail, answer-isolated, entries-isolated}
 
+abbrev bare : List Given → List Reception
+bare gs = map (λ g. g .reception) gs
+
 -- ---- receptions handed over one by one
 
 abbrev oneByOne : List Given → List Call
@@ -28,7 +31,7 @@ receptions-one-by-one [] = refl
 receptions-one-by-one (g ∷ gs) = ap (λ (l : List Given). g ∷ l) (receptions-one-by-one gs)
 
 abbrev AllTimely : List Given → Type 0
-AllTimely gs = Timely (map (λ g. g .reception) gs)
+AllTimely gs = Timely (bare gs)
 
 burst-timely : (setting : ℕ) (rs : List Reception) (gs : List Given) → Timely rs → AllTimely gs → AllTimely (map (givenAt setting) rs ++ gs)
 burst-timely setting [] gs t u = u
@@ -61,20 +64,20 @@ module _ (x : List ℕ) where
   struck-history h ok = kept-history (receptionsOf h) (history-timely h ok)
 
   past-kept : (past : List Reception) (gs : List Given)
-      → pastAfter (keep (isOf x) past) (map (λ g. g .reception) (keep mine gs)) ≡ keep (isOf x) (pastAfter past (map (λ g. g .reception) gs))
+      → pastAfter (keep (isOf x) past) (bare (keep mine gs)) ≡ keep (isOf x) (pastAfter past (bare gs))
   past-kept past [] = refl
   past-kept past (g ∷ gs) = go (mine g) refl (past-kept (g .reception ∷ past) gs)
     where
       go : (b : Bool) → mine g ≡ b
-          → pastAfter (keep (isOf x) (g .reception ∷ past)) (map (λ k. k .reception) (keep mine gs)) ≡ keep (isOf x) (pastAfter (g .reception ∷ past) (map (λ k. k .reception) gs))
-          → pastAfter (keep (isOf x) past) (map (λ k. k .reception) (cond b (g ∷ keep mine gs) (keep mine gs)))
-          ≡ keep (isOf x) (pastAfter (g .reception ∷ past) (map (λ k. k .reception) gs))
+          → pastAfter (keep (isOf x) (g .reception ∷ past)) (bare (keep mine gs)) ≡ keep (isOf x) (pastAfter (g .reception ∷ past) (bare gs))
+          → pastAfter (keep (isOf x) past) (bare (cond b (g ∷ keep mine gs) (keep mine gs)))
+          ≡ keep (isOf x) (pastAfter (g .reception ∷ past) (bare gs))
       go true e ih = rw e at ih
       go false e ih = rw e at ih
 
   struck-past : (h : List Call) → pastOf (struck x h) ≡ keep (isOf x) (pastOf h)
   struck-past h =
-      ap (λ (gs : List Given). pastAfter [] (map (λ g. g .reception) gs)) (receptions-one-by-one (keep mine (receptionsOf h)))
+      ap (λ (gs : List Given). pastAfter [] (bare gs)) (receptions-one-by-one (keep mine (receptionsOf h)))
       ∙ past-kept [] (receptionsOf h)
 
   -- ---- replies
@@ -83,18 +86,19 @@ module _ (x : List ℕ) where
   quiet-before past [] q = q
   quiet-before past (r ∷ rs) q = quiet-tail r past (quiet-before (r ∷ past) rs q)
 
-  replies-isolated : (past : List Reception) (gs : List Given) → Quiet (pastAfter past (map (λ g. g .reception) gs))
+  replies-isolated : (past : List Reception) (gs : List Given) → Quiet (pastAfter past (bare gs))
       → repliesOf x gs (repliesAt past gs) ≡ repliesAt (keep (isOf x) past) (keep mine gs)
   replies-isolated past [] q = refl
   replies-isolated past (g ∷ gs) q =
-      go (mine g) refl (quiet-before (g .reception ∷ past) (map (λ k. k .reception) gs) q) (replies-isolated (g .reception ∷ past) gs q)
+      go (mine g) refl (quiet-before (g .reception ∷ past) (bare gs) q) (replies-isolated (g .reception ∷ past) gs q)
     where
       reply : Shown → Replied
       reply a = record { answer = a; sent = sentWith (g .setting) a (g .reception) }
 
       go : (b : Bool) → mine g ≡ b → Quiet (g .reception ∷ past)
           → repliesOf x gs (repliesAt (g .reception ∷ past) gs) ≡ repliesAt (keep (isOf x) (g .reception ∷ past)) (keep mine gs)
-          → cond b (reply (answerTo (logOf past) (g .reception)) ∷ repliesOf x gs (repliesAt (g .reception ∷ past) gs)) (repliesOf x gs (repliesAt (g .reception ∷ past) gs))
+          → cond b (reply (answerTo (logOf past) (g .reception)) ∷ repliesOf x gs (repliesAt (g .reception ∷ past) gs))
+          (repliesOf x gs (repliesAt (g .reception ∷ past) gs))
           ≡ repliesAt (keep (isOf x) past) (cond b (g ∷ keep mine gs) (keep mine gs))
       go true e q ih = ap₂ (λ (a : Shown) (l : List Replied). reply a ∷ l) (answer-isolated x (g .reception) past q e) (rw e at ih)
       go false e q ih = rw e at ih

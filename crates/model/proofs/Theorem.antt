@@ -29,9 +29,12 @@ use Rattle.model.proofs.Simulation.{same-sent, same-step, good-after, s
 -- the restore of a view's image goes on with the view
 pub restore-image : {v : View} → Good v → restoreOf fresh (imageOf v) ≡ record { number = 0; next = v }
 unfolding restoreOf
-restore-image {v} g = rw (good-acceptable good-fresh, accepts-image 0 v (good-layout g) (omega arith) (good-acceptable g), parse-image 0 v (good-layout g))
+restore-image {v} g =
+    let f = good-layout g in
+    rw (good-acceptable good-fresh, accepts-image 0 v f (omega arith) (good-acceptable g), parse-image 0 v f)
 
-pub restore-refused : {v : View} (image : List ℕ) → Good v → accepts image ≡ false → restoreOf v image ≡ record { number = numberOf NotAccepted; next = v }
+pub restore-refused : {v : View} (image : List ℕ) → Good v → accepts image ≡ false
+    → restoreOf v image ≡ record { number = numberOf NotAccepted; next = v }
 unfolding restoreOf
 restore-refused image g e = rw (good-acceptable g, e)
 

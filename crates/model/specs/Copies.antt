@@ -1,25 +1,24 @@
 -- What the numbers of copies say (document 02, A8). Assumes nothing.
 use Prim.Native.Nat.{ℕ}
 use mathlib.Core.Path.{_≡_}
-use mathlib.Core.Bool.{Bool, true, _&&_}
+use mathlib.Core.Bool.{true, _&&_}
 use mathlib.Core.List.{List, [], _∷_, map}
 use lib.Dec.{leb, eqb}
 use lib.ListN.{length}
 use Rattle.lists.specs.Lists.{all, upFrom, lastIndex}
 use Rattle.erp1.specs.Subtelegram.{sumOf}
-use Rattle.model.specs.declared.Totals.{Totals}
 use Rattle.model.specs.Answer.{isCopy}
-use Rattle.model.specs.View.{Reception, Entry, View, openedBy, ceiling, isOpen}
-use Rattle.model.specs.Acceptable.{isCopyOf, acceptable}
+use Rattle.model.specs.View.{Reception, Entry, View, openedBy, ceiling}
+use Rattle.model.specs.Acceptable.{acceptable}
 use Rattle.model.specs.Step.{plusIf}
 use Rattle.model.specs.Heard.{copiesIn}
-use Rattle.model.specs.Reference.{Logged, keptOf, latestOf, openAt, logOf, totalsOf, modelView}
+use Rattle.model.specs.Reference.{Logged, isOpenCopy, keptOf, latestOf, openAt, logOf, totalsOf, modelView}
 
 -- ---- the reference model's numbers are counts of its answers
 
 -- which opening a reception is a copy of: the last open telegram of which it is one, by its index among all ever opened
 abbrev pub openingOf : List Logged → Reception → ℕ
-openingOf log r = lastIndex (λ e. isOpen (r .time) e && isCopyOf e r) (keptOf log)
+openingOf log r = lastIndex (isOpenCopy r) (keptOf log)
 
 -- "the COPY answers for that opening in the history"
 abbrev pub copyAnswers : ℕ → List Logged → ℕ

@@ -11,7 +11,7 @@ use Rattle.telegram.specs.Fields.{fieldsOf}
 use Rattle.model.specs.Answer.{isLoose}
 use Rattle.model.specs.View.{Reception, Entry, View, openedBy, fresh}
 use Rattle.model.specs.Burst.{Replied}
-use Rattle.model.specs.Reference.{Logged, logOf, modelView}
+use Rattle.model.specs.Reference.{logOf, modelView}
 use Rattle.model.specs.History.{Call, Receive, IsHistory, Seen}
 use Rattle.model.specs.Division.{Given, receptionsOf, pastOf, repliesIn}
 use Rattle.model.specs.States.{Shows, leftBy}

@@ -3,7 +3,7 @@
 -- it is a copy; in the order in which they are opened they agree with the latest same one. Assumes nothing.
 use mathlib.Core.Path.{_≡_}
 use Prim.Native.Nat.{ℕ}
-use mathlib.Core.Bool.{Bool, true, false}
+use mathlib.Core.Bool.{true, false}
 use mathlib.Core.List.{List, [], _∷_, _++_}
 use Rattle.lists.specs.Lists.{keep, any}
 use Rattle.erp1.specs.Same.{isSame}

@@ -41,11 +41,15 @@ totalsOf log = record {
   late = answers isLate log;
 }
 
--- of the telegrams opened so far, each with the number of Copy answers for it, what they are after one more answer: a Copy is one of the last that
--- is open and of which it is a copy (document 02, A8: "the number of his own COPY answers for that opening")
+-- "one that he answered KEPT is the same telegram and has a time f with t - f <= 100"
+abbrev pub isOpenCopy : Reception → Entry → Bool
+isOpenCopy r e = isOpen (r .time) e && isCopyOf e r
+
+-- the telegrams opened so far, each with "the number of his own COPY answers for that opening" (document 02, A8), after one more answer: a Copy
+-- counts for the last of which it is a copy
 abbrev pub keptAfter : List Entry → Reception → Shown → List Entry
 keptAfter l r Kept = l ++ (opened r ∷ [])
-keptAfter l r Copy = credit (λ n. n + 1) (λ e. isOpen (r .time) e && isCopyOf e r) l
+keptAfter l r Copy = credit (λ n. n + 1) (isOpenCopy r) l
 keptAfter l r Loose = l
 keptAfter l r (Refused n) = l
 
