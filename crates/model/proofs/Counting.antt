@@ -1,6 +1,6 @@
 -- What the numbers of copies say: of each telegram ever opened the number is that of its Copy answers, since each Copy answer is given where an open
 -- telegram passes, and the last of these is credited. Assumes nothing.
-use Prim.Native.Nat.{ℕ, _+_, _≤_, _<_}
+use Prim.Native.Nat.{ℕ, suc, _+_, _-_, _≤_, _<_}
 use native.Mathlib.Nat.{zero-add}
 use native.Mathlib.Decide.{decLt}
 use native.Mathlib.Omega.{arith}
@@ -8,23 +8,24 @@ use mathlib.Core.Path.{_≡_, refl, sym, _∙_, ap}
 use mathlib.Core.Bool.{Bool, true, false, cond, not, _||_, false≢true}
 use mathlib.Core.List.{List, [], _∷_, _++_, map, map-append}
 use lib.Dec.{leb, eqb}
-use lib.ListN.{length, getD, length-append, length-map, List·getD-append}
-use lib.Seq.{ext-getD, getD-at}
-use borrow.Author.Tests.{ne-eqb}
-use Rattle.lists.specs.Lists.{any, all, pairwise, upFrom, lastIndex}
-use Rattle.lists.proofs.Choice.{cond-ap}
+use lib.ListN.{length, drop, getD, length-append, length-map, List·getD-append}
+use lib.Seq.{ext-getD, getD-at, getD-drop}
+use borrow.Author.Tests.{le-leb, leb-true, lt-ltb, ne-eqb}
+use Rattle.lists.specs.Lists.{keep, any, all, pairwise, upFrom, lastIndex}
+use Rattle.lists.proofs.Choice.{both, cond-ap}
 use Rattle.lists.proofs.Last.{last-low}
-use Rattle.lists.proofs.Tests.{branch, any-and, all-map, pairwise-mapped, getD-map}
+use Rattle.lists.proofs.Tests.{branch, by-test, length-keep, all-both, any-and, all-map, pairwise-mapped, getD-map}
 use Rattle.lists.proofs.UpFrom.{length-upFrom, getD-upFrom}
 use Rattle.erp1.specs.Subtelegram.{sumOf, isValid}
 use Rattle.model.specs.Answer.{Shown, Kept, Copy, Loose, Refused, isCopy, isReceived}
-use Rattle.model.specs.View.{Reception, Entry, opened, openedBy, recount, capacity, isOpen}
+use Rattle.model.specs.View.{Reception, Entry, opened, openedBy, recount, maturity, capacity, isOpen}
 use Rattle.model.specs.Acceptable.{isCopyOf, isEntry, mayFollow, acceptable}
 use Rattle.model.specs.Step.{maxCount, credit}
 use Rattle.model.specs.Heard.{copiesIn}
-use Rattle.model.specs.Reference.{Logged, answers, totalsOf, isOpenCopy, keptOf, openAt, isBehind, latestOf, answerTo, logOf, modelView}
-use Rattle.model.specs.Copies.{copyAnswers, NumbersAreAnswers, EachCountedOnce, BelowCeiling, AnyNumber}
+use Rattle.model.specs.Reference.{Logged, answers, totalsOf, isOpenCopy, keptOf, openAt, isBehind, latestOf, answerTo, logOf, modelView, heardBy}
+use Rattle.model.specs.Copies.{copyAnswers, NumbersAreAnswers, EachCountedOnce, closedOf, HeardIsAnswers, BelowCeiling, AnyNumber}
 use Rattle.model.proofs.Copies.{length-credit, credit-at, cap-small}
+use Rattle.model.proofs.Latest.{inTime, ordered}
 
 -- stands for an entry past the end
 abbrev none : Entry
@@ -130,6 +131,46 @@ numbers-are-answers past =
     (λ k h.
     let low : k < n = omega (arith, long) in
     counted past .numbers k low ∙ sym (getD-upFrom f 0 n k 0 low ∙ ap f (zero-add k)))
+
+-- ---- those that are open are the last
+
+-- of a list in order, a test that passes on to later ones keeps an end of it
+keep-end : (p : Entry → Bool) → ((e later : Entry) → inTime e later ≡ true → p e ≡ true → p later ≡ true)
+    → (l : List Entry) → pairwise inTime l ≡ true → keep p l ≡ drop (length l - length (keep p l)) l
+keep-end p up [] s = refl
+keep-end p up (x ∷ l) s =
+    let w = both (all (inTime x) l) (pairwise inTime l) s in
+    by-test (p x)
+    (λ e.
+    let rest : keep p l ≡ l = all-kept l (all-both (inTime x) (inTime x) p (λ y t _. up x y t e) l (w .0) (w .0)) in
+    let none-left : suc (length l) - suc (length l) ≡ 0 = omega arith in
+    rw (e, rest, none-left))
+    (λ e.
+    let more : suc (length l) - length (keep p l) ≡ suc (length l - length (keep p l)) = omega (arith, length-keep p l) in
+    rw (e, more) (keep-end p up l (w .1)))
+  where
+    all-kept : (l : List Entry) → all p l ≡ true → keep p l ≡ l
+    all-kept [] e = refl
+    all-kept (y ∷ l) e = let w = both (p y) (all p l) e in rw (w .0) (ap (λ (m : List Entry). y ∷ m) (all-kept l (w .1)))
+
+open-later : (t : ℕ) (e later : Entry) → inTime e later ≡ true → isOpen t e ≡ true → isOpen t later ≡ true
+open-later t e later h o =
+    le-leb (t - later .time) maturity (omega (arith, leb-true (t - e .time) maturity o, leb-true (e .time) (later .time) h))
+
+pub heard-is-answers : HeardIsAnswers
+unfolding heardBy
+heard-is-answers past k h =
+    let log = logOf past in
+    let l = keptOf log in
+    let opens = openAt (latestOf log) log in
+    let long : length (copiesIn opens) ≡ length opens = length-map opens (λ e. e .copies) in
+    let end : opens ≡ drop (closedOf log) l = keep-end (isOpen (latestOf log)) (open-later (latestOf log)) l (ordered past .order) in
+    let few : length opens ≤ length l = length-keep (isOpen (latestOf log)) l in
+    let counts : getD (copiesIn opens) k 0 ≡ copyAnswers (closedOf log + k) log =
+    count-at opens k h ∙ ap (λ (m : List Entry). getD m k none .copies) end ∙ ap (λ (e : Entry). e .copies) (getD-drop (closedOf log) l k none)
+    ∙ sym (count-at l (closedOf log + k) (omega arith)) ∙ counted past .numbers (closedOf log + k) (omega arith)
+    in
+    rw (lt-ltb k (length (copiesIn opens)) (omega (arith, long)), counts)
 
 pub each-counted-once : EachCountedOnce
 unfolding totalsOf

@@ -30,7 +30,7 @@ use Rattle.layout.proofs.Block.{block-length, block-header, block-cell}
 use Rattle.model.specs.View.{Entry, View, ceiling}
 use Rattle.model.specs.Acceptable.{isEntry, acceptable}
 use Rattle.model.specs.Image.{imageLength, entryCell, entriesOf, blockAt, blocksOf, imageWith, blockIn, usedIn, firstIn, secondIn, settingIn, countIn, cellEntry, entryIn, totalsIn, parse, accepts}
-use Rattle.model.specs.Exact.{hasRoom, HasLayout, Exact}
+use Rattle.model.specs.Exact.{fitsCell, FitsLayout, Exact}
 use Rattle.model.proofs.Check.{valid-length}
 use Rattle.model.proofs.Invariant.{Good, good-of, entry-valid, entry-before}
 
@@ -43,13 +43,13 @@ more : (m n : ℕ) → min m n + min 15 (n - m) ≡ min (m + 15) n
 more m n = omega arith
 
 -- an acceptable view has it
-has-room : (latest : ℕ) (e : Entry) → latest < 2 ^ 64 → isEntry latest e ≡ true → leb (e .copies) ceiling ≡ true → hasRoom e ≡ true
-has-room latest e fits is small =
+fits-cell : (latest : ℕ) (e : Entry) → latest < 2 ^ 64 → isEntry latest e ≡ true → leb (e .copies) ceiling ≡ true → fitsCell e ≡ true
+fits-cell latest e fits is small =
     and-true (lt-ltb (e .time) (2 ^ 64) (omega (arith, entry-before latest e is)))
     (and-true (le-leb (length (e .bytes)) cellCapacity (valid-length (e .bytes) (entry-valid latest e is))) small)
 
-pub good-layout : {v : View} → Good v → HasLayout v
-good-layout {v} g = record {
+pub fits-layout : {v : View} → Good v → FitsLayout v
+fits-layout {v} g = record {
   latest = g .entries .fits;
   received = g .totals .fits;
   kept = omega (arith, g .totals .sum, g .totals .fits);
@@ -59,11 +59,11 @@ good-layout {v} g = record {
   late = omega (arith, g .totals .sum, g .totals .fits);
   few = omega (arith, g .entries .few);
   entries =
-      all-both (isEntry (v .latest)) (λ e. leb (e .copies) ceiling) hasRoom (λ e. has-room (v .latest) e (g .entries .fits)) (v .entries)
+      all-both (isEntry (v .latest)) (λ e. leb (e .copies) ceiling) fitsCell (λ e. fits-cell (v .latest) e (g .entries .fits)) (v .entries)
       (g .entries .each) (g .entries .copies);
 }
 
-module _ (setting : ℕ) (v : View) (f : HasLayout v) where
+module _ (setting : ℕ) (v : View) (f : FitsLayout v) where
   -- ---- entries
 
   abbrev count : ℕ
@@ -72,8 +72,8 @@ module _ (setting : ℕ) (v : View) (f : HasLayout v) where
   abbrev entryAt : ℕ → Entry
   entryAt i = getD (v .entries) i none
 
-  room : (i : ℕ) → i < count → hasRoom (entryAt i) ≡ true
-  room i h = all-getD hasRoom (v .entries) i none (f .entries) h
+  room : (i : ℕ) → i < count → fitsCell (entryAt i) ≡ true
+  room i h = all-getD fitsCell (v .entries) i none (f .entries) h
 
   timed : (i : ℕ) → i < count → entryAt i .time < 2 ^ 64
   timed i h = ltb-true (entryAt i .time) (2 ^ 64) (both (ltb (entryAt i .time) (2 ^ 64)) _ (room i h) .0)
@@ -249,8 +249,8 @@ accepted-says image e =
 
 pub exact : Exact
 exact = record {
-  accepted = λ s low v e f. accepts-image s v (good-layout (good-of v e f)) low e;
-  readBack = λ s low v e f. parse-image s v (good-layout (good-of v e f));
+  accepted = λ s low v e f. accepts-image s v (fits-layout (good-of v e f)) low e;
+  readBack = λ s low v e f. parse-image s v (fits-layout (good-of v e f));
   refused = λ s v e f. refuses-image s v f e;
   notSaid = λ v e image a p. true≢false (sym (accepted-says image a .view) ∙ ap acceptable p ∙ e);
   smallSetting = λ image e. accepted-says image e .small;

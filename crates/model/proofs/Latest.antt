@@ -23,7 +23,7 @@ use Rattle.model.specs.Latest.{lastOf, latestSame, LatestDecides, Credit
 use Rattle.model.proofs.Copies.{all-credit, pairwise-credit}
 use Rattle.model.proofs.Simulation.{behind-latest}
 
-abbrev inTime : Entry → Entry → Bool
+abbrev pub inTime : Entry → Entry → Bool
 inTime e later = leb (e .time) (later .time)
 
 -- ---- a list in order
@@ -154,7 +154,7 @@ ordered-more log r Copy h o =
 ordered-more log r Loose h o = record { order = o .order; low = wider (keptOf log) (up log r) (o .low) }
 ordered-more log r (Refused n) h o = record { order = o .order; low = o .low }
 
-ordered : (past : List Reception) → Ordered (logOf past)
+pub ordered : (past : List Reception) → Ordered (logOf past)
 ordered [] = record { order = refl; low = refl }
 ordered (r ∷ past) = ordered-more (logOf past) r (answerTo (logOf past) r) (kept-latest (logOf past) r) (ordered past)
 

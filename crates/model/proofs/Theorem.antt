@@ -21,7 +21,7 @@ use Rattle.model.specs.Reference.{Logged, totalsOf, answerTo, modelView,
 use Rattle.model.specs.Burst.{Replied, maxBurst, replyWith, afterAll, repliesTo, callNumber, burstNumber, taken, BurstResult, burstOf}
 use Rattle.model.specs.History.{Call, Receive, Checkpoint, Restore, Cut, Burst, Ask, Look, Timely, IsHistory, Delivered, run, burstTaken, expected, uncut, common, WholeHistory}
 use Rattle.model.proofs.Invariant.{Good, good-acceptable, good-fresh}
-use Rattle.model.proofs.Image.{good-layout, image-length, parse-image, accepts-image}
+use Rattle.model.proofs.Image.{fits-layout, image-length, parse-image, accepts-image}
 use Rattle.model.proofs.Simulation.{same-sent, same-step, good-after, same-heard}
 
 -- ---- one call at a good view
@@ -30,7 +30,7 @@ use Rattle.model.proofs.Simulation.{same-sent, same-step, good-after, s
 pub restore-image : {v : View} → Good v → restoreOf fresh (imageOf v) ≡ record { number = 0; next = v }
 unfolding restoreOf
 restore-image {v} g =
-    let f = good-layout g in
+    let f = fits-layout g in
     rw (good-acceptable good-fresh, accepts-image 0 v f (omega arith) (good-acceptable g), parse-image 0 v f)
 
 pub restore-refused : {v : View} (image : List ℕ) → Good v → accepts image ≡ false
@@ -50,7 +50,7 @@ module _ (log : List Logged) (output : List ℕ) where
 
   -- the bytes it wrote
   pub front : Good (modelView log) → take imageLength (imageOf (modelView log) ++ drop imageLength output) ≡ imageOf (modelView log)
-  front g = take-at (imageOf (modelView log)) (drop imageLength output) imageLength (image-length 0 (modelView log) (good-layout g))
+  front g = take-at (imageOf (modelView log)) (drop imageLength output) imageLength (image-length 0 (modelView log) (fits-layout g))
 
 -- ---- receptions one by one, from the reference model's view
 

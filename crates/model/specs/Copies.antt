@@ -1,5 +1,5 @@
 -- What the numbers of copies say (document 02, A8). Assumes nothing.
-use Prim.Native.Nat.{ℕ}
+use Prim.Native.Nat.{ℕ, _+_, _-_, _<_}
 use mathlib.Core.Path.{_≡_}
 use mathlib.Core.Bool.{true, _&&_}
 use mathlib.Core.List.{List, [], _∷_, map}
@@ -8,11 +8,11 @@ use lib.ListN.{length}
 use Rattle.lists.specs.Lists.{all, upFrom, lastIndex}
 use Rattle.erp1.specs.Subtelegram.{sumOf}
 use Rattle.model.specs.Answer.{isCopy}
-use Rattle.model.specs.View.{Reception, Entry, View, openedBy, ceiling}
+use Rattle.model.specs.View.{Reception, Entry, View, openedBy, ceiling, capped}
 use Rattle.model.specs.Acceptable.{acceptable}
 use Rattle.model.specs.Step.{plusIf}
 use Rattle.model.specs.Heard.{copiesIn}
-use Rattle.model.specs.Reference.{Logged, isOpenCopy, keptOf, latestOf, openAt, logOf, totalsOf, modelView}
+use Rattle.model.specs.Reference.{Logged, isOpenCopy, keptOf, latestOf, openAt, logOf, totalsOf, modelView, heardBy}
 
 -- ---- the reference model's numbers are counts of its answers
 
@@ -35,7 +35,17 @@ NumbersAreAnswers =
 abbrev pub EachCountedOnce : Type 0
 EachCountedOnce = (past : List Reception) → sumOf (copiesIn (keptOf (logOf past))) ≡ totalsOf (logOf past) .copies
 
--- "with no telegram reaching the ceiling, each number equals the COPY answers": then nothing is cut off
+-- of these, how many are closed: those open at the latest time were opened after them
+abbrev pub closedOf : List Logged → ℕ
+closedOf log = length (keptOf log) - length (openAt (latestOf log) log)
+
+-- so what is answered for telegram k of the open ones is the number of the Copy answers for it, to the ceiling
+abbrev pub HeardIsAnswers : Type 0
+HeardIsAnswers =
+    (past : List Reception) (k : ℕ) → k < length (openAt (latestOf (logOf past)) (logOf past))
+    → heardBy (logOf past) k ≡ record { number = 0; copies = capped (copyAnswers (closedOf (logOf past) + k) (logOf past)) }
+
+-- "with no telegram reaching the ceiling": then nothing is cut off
 abbrev pub BelowCeiling : Type 0
 BelowCeiling =
     (past : List Reception)

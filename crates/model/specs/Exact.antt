@@ -20,11 +20,11 @@ pub record Fits (v : View) : Type 0 where
   pub received : v .totals .received < 2 ^ 64
   pub copies : all (λ e. leb (e .copies) ceiling) (v .entries) ≡ true
 
--- acceptable or not, a view that the layout has room for: numbers of 64 bits, and no more entries, bytes and copies than it holds
-abbrev pub hasRoom : Entry → Bool
-hasRoom e = ltb (e .time) (2 ^ 64) && (leb (length (e .bytes)) cellCapacity && leb (e .copies) ceiling)
+-- a view that the layout holds, acceptable or not: numbers of 64 bits, and no more entries, bytes and copies than it has room for
+abbrev pub fitsCell : Entry → Bool
+fitsCell e = ltb (e .time) (2 ^ 64) && (leb (length (e .bytes)) cellCapacity && leb (e .copies) ceiling)
 
-pub record HasLayout (v : View) : Type 0 where
+pub record FitsLayout (v : View) : Type 0 where
   pub latest : v .latest < 2 ^ 64
   pub received : v .totals .received < 2 ^ 64
   pub kept : v .totals .kept < 2 ^ 64
@@ -33,7 +33,7 @@ pub record HasLayout (v : View) : Type 0 where
   pub damaged : v .totals .damaged < 2 ^ 64
   pub late : v .totals .late < 2 ^ 64
   pub few : length (v .entries) ≤ 5 * cellsPerBlock
-  pub entries : all hasRoom (v .entries) ≡ true
+  pub entries : all fitsCell (v .entries) ≡ true
 
 pub record Exact : Type 0 where
   -- the image of every acceptable view, with 0, 1 or 2 in the setting's place, is accepted, and read back
@@ -41,8 +41,8 @@ pub record Exact : Type 0 where
   pub readBack : (setting : ℕ) → setting ≤ maxSetting → (v : View) → acceptable v ≡ true → Fits v → parse (imageWith setting v) ≡ v
   -- the image of a view that is not acceptable is refused, whatever stands in the setting's place: from it "no image that reload accepts could be
   -- parked"
-  pub refused : (setting : ℕ) (v : View) → acceptable v ≡ false → HasLayout v → accepts (imageWith setting v) ≡ false
-  -- nor does any image that is accepted say such a view, be there room for it or not
+  pub refused : (setting : ℕ) (v : View) → acceptable v ≡ false → FitsLayout v → accepts (imageWith setting v) ≡ false
+  -- nor does any image that is accepted say such a view, whether the layout holds it or not
   pub notSaid : (v : View) → acceptable v ≡ false → (image : List ℕ) → accepts image ≡ true → parse image ≡ v → ⊥
   -- and an image that is accepted is that of an acceptable view, with such a number there
   pub smallSetting : (image : List ℕ) → accepts image ≡ true → settingIn image ≤ maxSetting

@@ -41,7 +41,7 @@ totalsOf log = record {
   late = answers isLate log;
 }
 
--- "one that he answered KEPT is the same telegram and has a time f with t - f <= 100"
+-- "one that he answered KEPT is the same telegram and has a time f with t - f <= 100", where r is no original too late for it (document 02, A6)
 abbrev pub isOpenCopy : Reception → Entry → Bool
 isOpenCopy r e = isOpen (r .time) e && isCopyOf e r
 
