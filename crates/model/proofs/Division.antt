@@ -8,12 +8,12 @@ use lib.Seq.{take-at}
 use Rattle.model.specs.View.{Reception}
 use Rattle.model.specs.Burst.{Replied}
 use Rattle.model.specs.Reference.{answerTo, sentWith, logOf, pastAfter, repliesBy}
-use Rattle.model.specs.History.{Call, Receive, Checkpoint, Restore, Cut, Burst, Look, burstTaken, expected}
+use Rattle.model.specs.History.{Call, Receive, Checkpoint, Restore, Cut, Burst, Ask, Look, burstTaken, expected}
 use Rattle.model.specs.Division.{Given, givenAt, receptionsOf, repliesIn, AnyDivision}
 use Rattle.model.proofs.Theorem.{fresh-run}
 
 -- its replies to receptions, each at the setting that it was handed over with
-abbrev repliesAt : List Reception → List Given → List Replied
+abbrev pub repliesAt : List Reception → List Given → List Replied
 repliesAt past [] = []
 repliesAt past (g ∷ gs) =
     let a = answerTo (logOf past) (g .reception) in
@@ -30,7 +30,7 @@ replies-joined setting past [] more = refl
 replies-joined setting past (r ∷ rs) more = ap₂ _∷_ refl (replies-joined setting (r ∷ past) rs more)
 
 -- the replies in what is expected are the reference model's to the receptions alone
-expected-replies : (past : List Reception) (h : List Call) → repliesIn h (expected past h) ≡ repliesAt past (receptionsOf h)
+pub expected-replies : (past : List Reception) (h : List Call) → repliesIn h (expected past h) ≡ repliesAt past (receptionsOf h)
 expected-replies past [] = refl
 expected-replies past (Receive setting r ∷ h) = ap₂ _∷_ refl (expected-replies (r ∷ past) h)
 expected-replies past (Checkpoint output ∷ h) = expected-replies past h
@@ -47,6 +47,7 @@ expected-replies past (Burst setting rs places ∷ h) =
     ap (λ (l : List Replied). l ++ repliesIn h (expected (pastAfter past t) h)) shown
     ∙ ap (λ (l : List Replied). mine ++ l) (expected-replies (pastAfter past t) h)
     ∙ sym (replies-joined setting past t (receptionsOf h))
+expected-replies past (Ask k ∷ h) = expected-replies past h
 expected-replies past (Look ∷ h) = expected-replies past h
 
 pub any-division : AnyDivision

@@ -19,35 +19,38 @@ use Rattle.model.specs.Step.{Outcome}
 use Rattle.model.specs.Image.{imageLength, imageOf, accepts, checkpointOf, restoreOf}
 use Rattle.model.specs.Reference.{Logged, totalsOf, answerTo, modelView, savedBy, logOf, pastAfter, repliesBy}
 use Rattle.model.specs.Burst.{Replied, maxBurst, replyWith, afterAll, repliesTo, callNumber, burstNumber, taken, BurstResult, burstOf}
-use Rattle.model.specs.History.{Call, Receive, Checkpoint, Restore, Cut, Burst, Look, Timely, IsHistory, Delivered, run, burstTaken, expected, uncut, common, WholeHistory}
+use Rattle.model.specs.History.{Call, Receive, Checkpoint, Restore, Cut, Burst, Ask, Look, Timely, IsHistory, Delivered, run, burstTaken, expected, uncut, common, WholeHistory}
 use Rattle.model.proofs.Invariant.{Good, good-acceptable, good-fresh}
-use Rattle.model.proofs.Image.{image-length, parse-image, accepts-image}
-use Rattle.model.proofs.Simulation.{same-sent, same-step, good-after}
+use Rattle.model.proofs.Image.{fits-layout, image-length, parse-image, accepts-image}
+use Rattle.model.proofs.Simulation.{same-sent, same-step, good-after, same-heard}
 
 -- ---- one call at a good view
 
 -- the restore of a view's image goes on with the view
-restore-image : {v : View} → Good v → restoreOf fresh (imageOf v) ≡ record { number = 0; next = v }
+pub restore-image : {v : View} → Good v → restoreOf fresh (imageOf v) ≡ record { number = 0; next = v }
 unfolding restoreOf
-restore-image {v} g = rw (good-acceptable good-fresh, accepts-image 0 v g (omega arith), parse-image 0 v g)
+restore-image {v} g =
+    let f = fits-layout g in
+    rw (good-acceptable good-fresh, accepts-image 0 v f (omega arith) (good-acceptable g), parse-image 0 v f)
 
-restore-refused : {v : View} (image : List ℕ) → Good v → accepts image ≡ false → restoreOf v image ≡ record { number = numberOf NotAccepted; next = v }
+pub restore-refused : {v : View} (image : List ℕ) → Good v → accepts image ≡ false
+    → restoreOf v image ≡ record { number = numberOf NotAccepted; next = v }
 unfolding restoreOf
 restore-refused image g e = rw (good-acceptable g, e)
 
 module _ (log : List Logged) (output : List ℕ) where
-  same-checkpoint : Good (modelView log) → checkpointOf (modelView log) output ≡ savedBy log output
+  pub same-checkpoint : Good (modelView log) → checkpointOf (modelView log) output ≡ savedBy log output
   unfolding checkpointOf savedBy
   same-checkpoint g = rw (good-acceptable g)
 
   -- into room
-  saved : imageLength ≤ length output → savedBy log output ≡ record { number = 0; output = imageOf (modelView log) ++ drop imageLength output }
+  pub saved : imageLength ≤ length output → savedBy log output ≡ record { number = 0; output = imageOf (modelView log) ++ drop imageLength output }
   unfolding savedBy
   saved room = rw (le-ltb (length output) imageLength room)
 
   -- the bytes it wrote
-  front : Good (modelView log) → take imageLength (imageOf (modelView log) ++ drop imageLength output) ≡ imageOf (modelView log)
-  front g = take-at (imageOf (modelView log)) (drop imageLength output) imageLength (image-length 0 (modelView log) g)
+  pub front : Good (modelView log) → take imageLength (imageOf (modelView log) ++ drop imageLength output) ≡ imageOf (modelView log)
+  front g = take-at (imageOf (modelView log)) (drop imageLength output) imageLength (image-length 0 (modelView log) (fits-layout g))
 
 -- ---- receptions one by one, from the reference model's view
 
@@ -67,7 +70,7 @@ burst-replies setting past (r ∷ rs) g t =
     ∙ ap₂ _∷_ (ap (λ (f : Frame). record { answer = answerTo (logOf past) r; sent = f }) (same-sent setting (answerTo (logOf past) r) r))
     (burst-replies setting (r ∷ past) rs (good-after (logOf past) r g (t .0)) (t .1))
 
-burst-good : (past rs : List Reception) → Good (modelView (logOf past)) → Timely rs → Good (modelView (logOf (pastAfter past rs)))
+pub burst-good : (past rs : List Reception) → Good (modelView (logOf past)) → Timely rs → Good (modelView (logOf (pastAfter past rs)))
 burst-good past [] g t = g
 burst-good past (r ∷ rs) g t = burst-good (r ∷ past) rs (good-after (logOf past) r g (t .0)) (t .1)
 
@@ -83,9 +86,12 @@ not-refused setting n m =
     (λ b. rw (a, b, le-ltb m n (leb-true n m a), lt-ltb maxBurst n (leb-false n maxBurst b))))
     (λ a. rw (a, lt-ltb m n (leb-false n m a)))
 
-taken-timely : (b : Bool) (rs : List Reception) → Timely rs → Timely (cond b rs [])
-taken-timely true rs t = t
-taken-timely false rs t = tt
+timely-if : (b : Bool) (rs : List Reception) → Timely rs → Timely (cond b rs [])
+timely-if true rs t = t
+timely-if false rs t = tt
+
+pub taken-timely : (setting : ℕ) (rs : List Reception) (places : List Replied) → Timely rs → Timely (burstTaken setting rs places)
+taken-timely setting rs places t = timely-if (leb (length rs) (length places) && (leb (length rs) maxBurst && leb setting maxSetting)) rs t
 
 module _ (setting : ℕ) (past rs : List Reception) (places : List Replied) (g : Good (modelView (logOf past))) (t : Timely rs) where
   abbrev v : View
@@ -95,7 +101,7 @@ module _ (setting : ℕ) (past rs : List Reception) (places : List Replied) (g :
   whole = burstTaken setting rs places
 
   whole-timely : Timely whole
-  whole-timely = taken-timely (leb (length rs) (length places) && (leb (length rs) maxBurst && leb setting maxSetting)) rs t
+  whole-timely = taken-timely setting rs places t
 
   same-number : burstNumber setting v (length rs) (length places) ≡ callNumber setting (length rs) (length places)
   unfolding burstNumber
@@ -107,7 +113,7 @@ module _ (setting : ℕ) (past rs : List Reception) (places : List Replied) (g :
   abbrev resultOf : ℕ → List Reception → BurstResult
   resultOf n l = record { number = n; replies = repliesTo setting v l ++ drop (length l) places; next = afterAll v l }
 
-  same-burst : burstOf setting v rs places ≡ record {
+  pub same-burst : burstOf setting v rs places ≡ record {
     number = callNumber setting (length rs) (length places);
     replies = repliesBy setting past whole ++ drop (length whole) places;
     next = modelView (logOf (pastAfter past whole));
@@ -139,7 +145,8 @@ same-run past (Cut output ∷ h) g ok =
 same-run past (Burst setting rs places ∷ h) g ok =
     ap (λ (b : BurstResult). Delivered (b .number) (b .replies) (b .next .totals) ∷ run (b .next) h) (same-burst setting past rs places g (ok .0))
     ∙ ap₂ _∷_ refl (same-run (pastAfter past (burstTaken setting rs places)) h
-    (burst-good past (burstTaken setting rs places) g (whole-timely setting past rs places g (ok .0))) (ok .1))
+    (burst-good past (burstTaken setting rs places) g (taken-timely setting rs places (ok .0))) (ok .1))
+same-run past (Ask k ∷ h) g ok = rw (same-heard (logOf past) k g) (ap₂ _∷_ refl (same-run past h g ok))
 same-run past (Look ∷ h) g ok = ap₂ _∷_ refl (same-run past h g ok)
 
 -- and says the same of the uncut run
@@ -150,6 +157,7 @@ same-uncut past (Checkpoint output ∷ h) ok = ap₂ _∷_ refl (same-uncut past
 same-uncut past (Restore image ∷ h) ok = ap₂ _∷_ refl (same-uncut past h (ok .1))
 same-uncut past (Cut output ∷ h) ok = rw (saved (logOf past) output (ok .0)) (ap₂ _∷_ refl (ap₂ _∷_ refl (same-uncut past h (ok .1))))
 same-uncut past (Burst setting rs places ∷ h) ok = ap₂ _∷_ refl (same-uncut (pastAfter past (burstTaken setting rs places)) h (ok .1))
+same-uncut past (Ask k ∷ h) ok = ap₂ _∷_ refl (same-uncut past h ok)
 same-uncut past (Look ∷ h) ok = ap₂ _∷_ refl (same-uncut past h ok)
 
 uncut-history : (h : List Call) → IsHistory h → IsHistory (uncut h)
@@ -159,6 +167,7 @@ uncut-history (Checkpoint output ∷ h) ok = uncut-history h ok
 uncut-history (Restore image ∷ h) ok = uncut-history h (ok .1)
 uncut-history (Cut output ∷ h) ok = uncut-history h (ok .1)
 uncut-history (Burst setting rs places ∷ h) ok = (ok .0, uncut-history h (ok .1))
+uncut-history (Ask k ∷ h) ok = uncut-history h ok
 uncut-history (Look ∷ h) ok = uncut-history h ok
 
 pub fresh-model : fresh ≡ modelView []

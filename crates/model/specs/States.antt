@@ -10,8 +10,10 @@ use Rattle.model.specs.View.{Reception, View, fresh}
 use Rattle.model.specs.Step.{step, sentFor}
 use Rattle.model.specs.Image.{imageLength, checkpointOf, restoreOf}
 use Rattle.model.specs.Burst.{Replied, burstOf}
-use Rattle.model.specs.History.{Call, Receive, Checkpoint, Restore, Cut, Burst, Look, IsHistory, Seen, Answered, Wrote, Restored, Delivered, Looked, expected, uncut, common}
-use Rattle.model.specs.Division.{receptionsOf, repliesIn}
+use Rattle.model.specs.Heard.{copiesOf}
+use Rattle.model.specs.History.{Call, Receive, Checkpoint, Restore, Cut, Burst, Ask, Look, IsHistory, Seen, Answered, Wrote, Restored, Delivered, Heard, Looked, expected, uncut, common}
+use Rattle.model.specs.Reference.{logOf, modelView}
+use Rattle.model.specs.Division.{receptionsOf, pastOf, repliesIn}
 
 module _ {State : Type 0} (view : State → View) where
   -- from the state c the calls show the list: each premise is what the contract of the call ensures
@@ -37,7 +39,21 @@ module _ {State : Type 0} (view : State → View) where
     delivered : {c c′ : State} {setting : ℕ} {rs : List Reception} {places after : List Replied} {n : ℕ} {h : List Call} {l : List Seen}
         → record { number = n; replies = after; next = view c′ } ≡ burstOf setting (view c) rs places
         → Shows c′ h l → Shows c (Burst setting rs places ∷ h) (Delivered n after (view c′ .totals) ∷ l)
+    asked : {c : State} {k n copies : ℕ} {h : List Call} {l : List Seen}
+        → record { number = n; copies = copies } ≡ copiesOf (view c) k
+        → Shows c h l → Shows c (Ask k ∷ h) (Heard n copies (view c .totals) ∷ l)
     looked : {c : State} {h : List Call} {l : List Seen} → Shows c h l → Shows c (Look ∷ h) (Looked (view c .totals) ∷ l)
+
+  -- the state after the calls
+  abbrev pub leftBy : {c : State} {h : List Call} {l : List Seen} → Shows c h l → State
+  leftBy (ended {c}) = c
+  leftBy (received e s t) = leftBy t
+  leftBy (saved e t) = leftBy t
+  leftBy (restored e t) = leftBy t
+  leftBy (resumed e d f t) = leftBy t
+  leftBy (delivered e t) = leftBy t
+  leftBy (asked e t) = leftBy t
+  leftBy (looked t) = leftBy t
 
   -- what states show that started fresh is what the reference model says, and what states show in the uncut run
   abbrev pub StatesAgree : Type 0
@@ -53,3 +69,9 @@ module _ {State : Type 0} (view : State → View) where
       (h h′ : List Call) → IsHistory h → IsHistory h′ → receptionsOf h ≡ receptionsOf h′
       → (c d : State) → view c ≡ fresh → view d ≡ fresh
       → (l m : List Seen) → Shows c h l → Shows d h′ m → repliesIn h l ≡ repliesIn h′ m
+
+  -- a state that started fresh is left as the reference model is after the receptions: its latest time, totals and open telegrams with their copies
+  abbrev pub StatesLeft : Type 0
+  StatesLeft =
+      (h : List Call) → IsHistory h → (c : State) → view c ≡ fresh
+      → (l : List Seen) (t : Shows c h l) → view (leftBy t) ≡ modelView (logOf (pastOf h))
