@@ -19,12 +19,12 @@ use Rattle.model.specs.View.{Reception, View, capacity}
 use Rattle.model.specs.Acceptable.{isSummed}
 use Rattle.model.specs.Step.{maxCount, tally, plusIf, addIf}
 use Rattle.collector.specs.declared.Collector.{Collector}
-use Rattle.collector.specs.Collector.{entriesAt, viewOf}
+use Rattle.collector.specs.Collector.{Columns, columnsOf, entriesAt, viewOf}
 use Rattle.collector.specs.Acceptable.{hasCopy}
-use Rattle.collector.specs.Merging.{receptionCheck, answerFor, Countable, Expired, Moved, PutIf}
+use Rattle.collector.specs.Merging.{receptionCheck, answerFor, Countable, Expired}
 use Rattle.collector.specs.Admission.{isSafe, numberOn, latestAfter, leftAfter, answerOn, admitted, notAdmitted, admission}
 use Rattle.collector.proofs.Arrays.{entries-length}
-use Rattle.collector.proofs.Moving.{moved-entries, put-entries, expired-open}
+use Rattle.collector.proofs.Moving.{MovedColumns, moved-entries, PutColumns, put-entries, expired-open}
 
 -- ---- any view
 
@@ -70,18 +70,16 @@ pub record Fit (fit : Bool) (s : Collector) : Type 0 where
   pub summed : isSummed (s .totals) ≡ true
 
 -- what the code's steps tell up to there
-pub record Closed (s : Collector) (r : Reception) (n time gone : ℕ) (times lens bytes : List ℕ) : Type 0 where
+pub record Closed (s : Collector) (r : Reception) (n time gone : ℕ) (a : Columns) : Type 0 where
   pub checked : n ≡ receptionCheck (s .totals .received) (s .latest) r
   pub latest : time ≡ cond (eqb n 0) (r .time) (s .latest)
   pub expired : Expired (s .times) (s .count) time gone
-  pub movedTimes : Moved gone (s .count - gone) (s .times) times
-  pub movedLens : Moved gone (s .count - gone) (s .lens) lens
-  pub movedBytes : Moved (maxLength * gone) (maxLength * (s .count - gone)) (s .bytes) bytes
+  pub moved : MovedColumns gone (s .count - gone) (columnsOf s) a
 
 module _ (fit : Bool) (s : Collector) where
   safe-by : isSafe (viewOf s) ≡ (leb (s .count) capacity && isSummed (s .totals))
   unfolding viewOf
-  safe-by = rw (entries-length (s .times) (s .lens) (s .bytes) (s .count))
+  safe-by = rw (entries-length (columnsOf s) (s .count))
 
   pub fit-says : fit && (leb (s .count) capacity && isSummed (s .totals)) ≡ true → Fit fit s
   fit-says e =
@@ -97,43 +95,41 @@ module _ (fit : Bool) (s : Collector) where
   unfolding admission
   is-taken r f = rw (safe-by, f .found, le-leb _ _ (f .few), f .summed)
 
-module _ {s : Collector} {r : Reception} {n time gone : ℕ} {times lens bytes : List ℕ} (k : Closed s r n time gone times lens bytes) where
+module _ {s : Collector} {r : Reception} {n time gone : ℕ} {a : Columns} (k : Closed s r n time gone a) where
   abbrev left : ℕ
   left = s .count - gone
 
-  left-open : entriesAt times lens bytes left ≡ leftAfter (viewOf s) r
+  left-open : entriesAt a left ≡ leftAfter (viewOf s) r
   unfolding viewOf
   left-open =
       rw (← k .checked, ← k .latest)
-      (moved-entries gone left (s .times) (s .lens) (s .bytes) times lens bytes (k .movedTimes) (k .movedLens) (k .movedBytes)
-      ∙ sym (expired-open (s .times) (s .lens) (s .bytes) (s .count) time gone (k .expired)))
+      (moved-entries gone left (columnsOf s) a (k .moved) ∙ sym (expired-open (columnsOf s) (s .count) time gone (k .expired)))
 
   left-length : length (leftAfter (viewOf s) r) ≡ left
-  left-length = sym (ap length left-open) ∙ entries-length times lens bytes left
+  left-length = sym (ap length left-open) ∙ entries-length a left
 
   latest-is : time ≡ latestAfter (viewOf s) r
   unfolding viewOf
   latest-is = k .latest ∙ rw (k .checked)
 
-  pub answer-said : (a : Shown) → a ≡ answerFor n (hasCopy (entriesAt times lens bytes left) r) (leb capacity left) → a ≡ answerOn (viewOf s) r
+  pub answer-said : (said : Shown) → said ≡ answerFor n (hasCopy (entriesAt a left) r) (leb capacity left) → said ≡ answerOn (viewOf s) r
   unfolding viewOf
-  answer-said a e = e ∙ rw (k .checked, left-open, ← left-length)
+  answer-said said e = e ∙ rw (k .checked, left-open, ← left-length)
 
   -- a reception that is kept, and the next state
-  module _ {a : Shown} {kept : Bool} (said : a ≡ answerOn (viewOf s) r) (keeps : kept ≡ isKept a) where
+  module _ {shown : Shown} {kept : Bool} (said : shown ≡ answerOn (viewOf s) r) (keeps : kept ≡ isKept shown) where
     pub room : kept ≡ true → (left < capacity) × (isValid (r .bytes) ≡ true)
     room e =
         let w = kept-room (viewOf s) r (ap isKept (sym said) ∙ sym keeps ∙ e) in
         (omega (arith, w .0, left-length), w .1)
 
-    module _ {times' lens' bytes' : List ℕ} (t : PutIf kept left (r .time ∷ []) times times') (l : PutIf kept left (length (r .bytes) ∷ []) lens lens')
-        (b : PutIf kept (maxLength * left) (r .bytes) bytes bytes') where
-      entries-after : entriesAt times' lens' bytes' (plusIf kept left) ≡ addIf (isKept a) r (leftAfter (viewOf s) r)
+    module _ {a' : Columns} (put : PutColumns kept left r a a') where
+      entries-after : entriesAt a' (plusIf kept left) ≡ addIf (isKept shown) r (leftAfter (viewOf s) r)
       entries-after =
-          put-entries kept left times lens bytes times' lens' bytes' r (λ e. valid-fits (r .bytes) (room e .1) .1) t l b
+          put-entries kept left r a a' (λ e. valid-fits (r .bytes) (room e .1) .1) put
           ∙ rw (keeps, left-open)
 
-      pub taken : (count : ℕ) (totals : Totals) → count ≡ plusIf kept left → totals ≡ tally a (s .totals)
-          → record { answer = a; next = record { latest = time; totals = totals; entries = entriesAt times' lens' bytes' count } } ≡ admitted (viewOf s) r
+      pub taken : (count : ℕ) (totals : Totals) → count ≡ plusIf kept left → totals ≡ tally shown (s .totals)
+          → record { answer = shown; next = record { latest = time; totals = totals; entries = entriesAt a' count } } ≡ admitted (viewOf s) r
       unfolding viewOf admitted
       taken count totals e f = rw (e, f, latest-is, entries-after, said)

@@ -17,7 +17,7 @@ use Rattle.layout.proofs.Buffer.{resized-cut}
 use Rattle.layout.proofs.Segments.{part-at, part-take}
 use Rattle.model.specs.View.{Reception, isOpen}
 use Rattle.model.specs.Step.{plusIf, addIf}
-use Rattle.collector.specs.Collector.{entryAt, entriesAt}
+use Rattle.collector.specs.Collector.{Columns, entryAt, entriesAt}
 use Rattle.collector.specs.Merging.{Expired, Moved, PutIf}
 use Rattle.collector.specs.Admission.{openFrom}
 use Rattle.collector.proofs.Arrays.{entries-more}
@@ -75,17 +75,22 @@ map-same f g a b (suc n) h =
     ap₂ _∷_ (rw (add-zero, add-zero) at (h 0 (omega arith)))
     (map-same f g (suc a) (suc b) n (λ i k. rw (suc-add, suc-add, ← add-suc, ← add-suc) (h (suc i) (omega arith))))
 
-pub moved-entries : (gone n : ℕ) (times lens bytes times' lens' bytes' : List ℕ) → Moved gone n times times' → Moved gone n lens lens'
-    → Moved (maxLength * gone) (maxLength * n) bytes bytes' → entriesAt times' lens' bytes' n ≡ map (entryAt times lens bytes) (upFrom gone n)
+-- n entries after the first `gone` stand at the front, column by column
+pub record MovedColumns (gone n : ℕ) (a a' : Columns) : Type 0 where
+  pub times : Moved gone n (a .times) (a' .times)
+  pub lens : Moved gone n (a .lens) (a' .lens)
+  pub bytes : Moved (maxLength * gone) (maxLength * n) (a .bytes) (a' .bytes)
+
+pub moved-entries : (gone n : ℕ) (a a' : Columns) → MovedColumns gone n a a' → entriesAt a' n ≡ map (entryAt a) (upFrom gone n)
 unfolding entriesAt
-moved-entries gone n times lens bytes times' lens' bytes' t l b =
-    map-same (entryAt times' lens' bytes') (entryAt times lens bytes) 0 gone n
+moved-entries gone n a a' m =
+    map-same (entryAt a') (entryAt a) 0 gone n
     (λ i h. rw (zero-add) (same i h))
   where
-    same : (i : ℕ) → i < n → entryAt times' lens' bytes' i ≡ entryAt times lens bytes (gone + i)
+    same : (i : ℕ) → i < n → entryAt a' i ≡ entryAt a (gone + i)
     same i h =
         let e : maxLength * gone + maxLength * i ≡ maxLength * (gone + i) = omega arith in
-        rw (moved-at t i h, moved-at l i h, moved-part b (maxLength * i) maxLength (omega arith), e)
+        rw (moved-at (m .times) i h, moved-at (m .lens) i h, moved-part (m .bytes) (maxLength * i) maxLength (omega arith), e)
 
 -- ---- what is put
 
@@ -116,27 +121,35 @@ resized-part n xs ys h long e =
     let k : n ≤ length xs = omega (arith, length-take n xs, ap length e) in
     resized-cut n (take maxLength xs) (simp length-take (omega arith)) ∙ take-take n maxLength xs h ∙ e
 
-module _ (kept : Bool) (n : ℕ) (times lens bytes times' lens' bytes' : List ℕ) (r : Reception) (short : kept ≡ true → length (r .bytes) ≤ maxLength)
-    (t : PutIf kept n (r .time ∷ []) times times') (l : PutIf kept n (length (r .bytes) ∷ []) lens lens')
-    (b : PutIf kept (maxLength * n) (r .bytes) bytes bytes') where
-  same-before : entriesAt times' lens' bytes' n ≡ entriesAt times lens bytes n
+-- a reception that is kept stands at entry n, column by column
+pub record PutColumns (kept : Bool) (n : ℕ) (r : Reception) (a a' : Columns) : Type 0 where
+  pub times : PutIf kept n (r .time ∷ []) (a .times) (a' .times)
+  pub lens : PutIf kept n (length (r .bytes) ∷ []) (a .lens) (a' .lens)
+  pub bytes : PutIf kept (maxLength * n) (r .bytes) (a .bytes) (a' .bytes)
+
+module _ (kept : Bool) (n : ℕ) (r : Reception) (a a' : Columns) (short : kept ≡ true → length (r .bytes) ≤ maxLength) (p : PutColumns kept n r a a') where
+  same-before : entriesAt a' n ≡ entriesAt a n
   unfolding entriesAt
   same-before =
-      moved-entries 0 n times lens bytes times' lens' bytes' (record { front = t .before }) (record { front = l .before }) (record { front = b .before })
+      moved-entries 0 n a a' (record {
+        times = record { front = p .times .before };
+        lens = record { front = p .lens .before };
+        bytes = record { front = p .bytes .before };
+      })
 
   one-at : (x : ℕ) (xs : List ℕ) → part n 1 xs ≡ x ∷ [] → getD xs n 0 ≡ x
   one-at x xs e = sym (part-at n 1 xs 0 0 (omega arith) ∙ ap (λ (i : ℕ). getD xs i 0) (add-zero n)) ∙ ap (λ (y : List ℕ). getD y 0 0) e
 
-  put-entry : kept ≡ true → entryAt times' lens' bytes' n ≡ r
+  put-entry : kept ≡ true → entryAt a' n ≡ r
   put-entry k =
       rw (
-        one-at (r .time) times' (t .stored k),
-        one-at (length (r .bytes)) lens' (l .stored k),
-        resized-part (length (r .bytes)) (drop (maxLength * n) bytes') (r .bytes) (short k) refl (b .stored k),
+        one-at (r .time) (a' .times) (p .times .stored k),
+        one-at (length (r .bytes)) (a' .lens) (p .lens .stored k),
+        resized-part (length (r .bytes)) (drop (maxLength * n) (a' .bytes)) (r .bytes) (short k) refl (p .bytes .stored k),
       )
 
-  pub put-entries : entriesAt times' lens' bytes' (plusIf kept n) ≡ addIf kept r (entriesAt times lens bytes n)
-  put-entries = by-test kept (λ k. rw (k, entries-more times' lens' bytes' n, same-before, put-entry k)) (λ k. rw (k, same-before))
+  pub put-entries : entriesAt a' (plusIf kept n) ≡ addIf kept r (entriesAt a n)
+  put-entries = by-test kept (λ k. rw (k, entries-more a' n, same-before, put-entry k)) (λ k. rw (k, same-before))
 
 -- ---- which are no longer open
 
@@ -150,12 +163,12 @@ open-after f t a (suc n) m closed first =
     rw (suc-add n, add-suc, ← (suc-add a), closed a (omega arith) (omega arith))
     (open-after f t (suc a) n m (λ i h k. closed i (omega arith) (omega arith)) (λ h. rw (suc-add a, ← add-suc) (first h)))
 
-pub expired-open : (times lens bytes : List ℕ) (count time gone : ℕ) → Expired times count time gone
-    → openFrom time (entriesAt times lens bytes count) ≡ map (entryAt times lens bytes) (upFrom gone (count - gone))
+pub expired-open : (a : Columns) (count time gone : ℕ) → Expired (a .times) count time gone
+    → openFrom time (entriesAt a count) ≡ map (entryAt a) (upFrom gone (count - gone))
 unfolding entriesAt
-expired-open times lens bytes count time gone e =
+expired-open a count time gone e =
     let few = e .few in
     let size : gone + (count - gone) ≡ count = omega arith in
     rw (size, zero-add) at
-    (open-after (entryAt times lens bytes) time 0 gone (count - gone) (λ i _ h. e .closed i (omega arith))
+    (open-after (entryAt a) time 0 gone (count - gone) (λ i _ h. e .closed i (omega arith))
     (λ h. rw zero-add (e .first (omega arith))))

@@ -14,7 +14,7 @@ use Rattle.lists.specs.Lists.{all, pairwise, upFrom}
 use Rattle.lists.proofs.Choice.{both}
 use Rattle.lists.proofs.Tests.{and-true, all-both}
 use Rattle.model.specs.View.{Reception, maturity, isOpen}
-use Rattle.collector.specs.Collector.{entryAt, entriesAt}
+use Rattle.collector.specs.Collector.{Columns, entryAt, entriesAt}
 use Rattle.collector.specs.Acceptable.{areTimely}
 use Rattle.collector.proofs.Inside.{same-test}
 
@@ -76,10 +76,10 @@ times-from times a zero h = refl
 times-from times a (suc n) h =
     rw (drop-cons times a 0 (omega arith)) (ap (λ (l : List ℕ). getD times a 0 ∷ l) (times-from times (suc a) n (omega arith)))
 
-times-of : (times lens bytes : List ℕ) (count : ℕ) → count ≤ length times → map timeOf (entriesAt times lens bytes count) ≡ take count times
+times-of : (a : Columns) (count : ℕ) → count ≤ length (a .times) → map timeOf (entriesAt a count) ≡ take count (a .times)
 unfolding entriesAt
-times-of times lens bytes count h =
-    map-map timeOf (entryAt times lens bytes) (upFrom 0 count) ∙ times-from times 0 count (omega arith)
+times-of a count h =
+    map-map timeOf (entryAt a) (upFrom 0 count) ∙ times-from (a .times) 0 count (omega arith)
 
 -- an entry is open at the latest time where it is no earlier than the maturity before it
 open-says : (latest t : ℕ) → leb (latest - maturity) t ≡ leb (latest - t) maturity
@@ -103,9 +103,9 @@ timely-rising latest l =
     open-same : all (isBetween (latest - maturity) latest) l ≡ all (λ e. leb (e .time) latest && isOpen latest e) l
     open-same = all-same _ _ (λ e. ap (λ (b : Bool). leb (e .time) latest && b) (open-says latest (e .time))) l
 
-pub timely-by : (times lens bytes : List ℕ) (count latest : ℕ) → count ≤ length times
-    → rising (latest - maturity) latest (take count times) ≡ areTimely latest (entriesAt times lens bytes count)
-timely-by times lens bytes count latest h = rw (← times-of times lens bytes count h) (timely-rising latest (entriesAt times lens bytes count))
+pub timely-by : (a : Columns) (count latest : ℕ) → count ≤ length (a .times)
+    → rising (latest - maturity) latest (take count (a .times)) ≡ areTimely latest (entriesAt a count)
+timely-by a count latest h = rw (← times-of a count h) (timely-rising latest (entriesAt a count))
 
 -- a turn of the loop over the times
 module _ (times : List ℕ) (i count lo hi : ℕ) (h : i < count) (k : count ≤ length times) where

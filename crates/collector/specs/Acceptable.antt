@@ -11,6 +11,7 @@ use Rattle.erp1.specs.Subtelegram.{maxLength, isValid}
 use Rattle.layout.specs.Buffer.{part, resized}
 use Rattle.model.specs.View.{Reception, isOpen}
 use Rattle.model.specs.Acceptable.{isCopyOf}
+use Rattle.collector.specs.Collector.{Columns, entryAt, entriesAt}
 
 -- "in order of time (equal times allowed), open at the latest time, none later than it"
 unfoldable pub areTimely : ℕ → List Reception → Bool
@@ -23,6 +24,10 @@ areTelegrams l = all (λ e. isValid (e .bytes)) l && pairwise (λ e later. not (
 -- one of the entries is the same telegram as r
 unfoldable pub hasCopy : List Reception → Reception → Bool
 hasCopy l r = any (λ e. isCopyOf e r) l
+
+-- entry i is a copy of one before it
+abbrev pub isRepeatedAt : Columns → ℕ → Bool
+isRepeatedAt a i = hasCopy (entriesAt a i) (entryAt a i)
 
 -- the bytes that entry i shows
 abbrev pub shownAt : List ℕ → List ℕ → ℕ → List ℕ

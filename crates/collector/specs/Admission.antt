@@ -15,17 +15,17 @@ use Rattle.model.specs.Exact.{Fits}
 use Rattle.model.specs.Step.{Outcome, tally, addIf}
 use Rattle.collector.specs.declared.merging.Summary.{Summary}
 use Rattle.collector.specs.declared.merging.Admitted.{Admitted}
-use Rattle.collector.specs.Collector.{viewAt}
+use Rattle.collector.specs.Collector.{Columns, viewAt}
 use Rattle.collector.specs.Acceptable.{hasCopy}
 use Rattle.collector.specs.Merging.{receptionCheck, answerFor}
 
 -- what the entries' arrays and the fields beside them say
-abbrev pub viewIn : List ℕ → List ℕ → List ℕ → Summary → View
-viewIn times lens bytes s = viewAt times lens bytes (s .count) (s .latest) (s .totals)
+abbrev pub viewIn : Columns → Summary → View
+viewIn a s = viewAt a (s .count) (s .latest) (s .totals)
 
 -- the answer and the next state
-abbrev pub admittedOf : List ℕ → List ℕ → List ℕ → Admitted → Outcome
-admittedOf times lens bytes r = record { answer = shownOf (r .answer); next = viewIn times lens bytes (r .summary) }
+abbrev pub admittedOf : Columns → Admitted → Outcome
+admittedOf a r = record { answer = shownOf (r .answer); next = viewIn a (r .summary) }
 
 -- what a step itself needs of any state: entries that the arrays hold, and totals that add up
 abbrev pub isSafe : View → Bool

@@ -13,7 +13,7 @@ ghost use Rattle.layout.specs.Buffer.{part, resized};
 ghost use Rattle.erp1.specs.Same.{isSame};
 ghost use Rattle.telegram.specs.Repeater.{levelOf};
 ghost use Rattle.model.specs.View.{capacity, txMaturity};
-ghost use Rattle.collector.specs.Collector.{entriesAt};
+ghost use Rattle.collector.specs.Collector.{columns, entriesAt};
 ghost use Rattle.collector.specs.Acceptable.{hasCopy, shownAt};
 ghost use Rattle.collector.specs.Merging.{Expired, Moved, PutIf};
 
@@ -27,7 +27,8 @@ pub(crate) fn find<'a>(
     time: u64,
 ) -> bool
     requires { ⌜ (count ≤ capacity) × (minLength ≤ length (now received)) × (length (now received) ≤ maxLength) ⌝ }
-    ensures { λ r. ⌜ r ≡ hasCopy (entriesAt (now (times .entry)) (now (lens .entry)) (now (bytes .entry)) count) (record { bytes = now (received .entry); time = time }) ⌝ }
+    ensures { λ r. ⌜ r ≡ hasCopy (entriesAt (columns (now (times .entry)) (now (lens .entry)) (now (bytes .entry))) count)
+        (record { bytes = now (received .entry); time = time }) ⌝ }
 {
     let original = is_original(received);
     let mut i = count;

@@ -18,7 +18,7 @@ ghost use Rattle.model.specs.Answer.{shownOf, shownNumber, isKept, isCopy, isLo
 ghost use Rattle.model.specs.View.{capacity};
 ghost use Rattle.model.specs.Acceptable.{isSummed};
 ghost use Rattle.model.specs.Step.{maxCount, plusIf, tally};
-ghost use Rattle.collector.specs.Collector.{entriesAt};
+ghost use Rattle.collector.specs.Collector.{Columns, columns, entriesAt};
 ghost use Rattle.collector.specs.Acceptable.{hasCopy};
 ghost use Rattle.collector.specs.Merging.{relayedFor, receptionCheck, answerFor, Countable};
 ghost use Rattle.collector.specs.Admission.{viewIn, admittedOf, notAdmitted, admission};
@@ -48,7 +48,9 @@ pub fn admit<'a>(
     received: &'a [u8],
     time: u64,
 ) -> Admitted
-    ensures { λ r. ⌜ admittedOf (now (times .exit)) (now (lens .exit)) (now (bytes .exit)) r ≡ admission fit (viewIn (now (times .entry)) (now (lens .entry)) (now (bytes .entry)) summary) (record { bytes = now (received .entry); time = time }) ⌝ }
+    ensures { λ r. ⌜ admittedOf (columns (now (times .exit)) (now (lens .exit)) (now (bytes .exit))) r
+        ≡ admission fit (viewIn (columns (now (times .entry)) (now (lens .entry)) (now (bytes .entry))) summary)
+        (record { bytes = now (received .entry); time = time }) ⌝ }
 {
     let count = summary.count;
     let totals = summary.totals;
@@ -104,7 +106,7 @@ fn is_safe(fit: bool, count: usize, totals: Totals) -> bool
 
 // 11, and nothing is changed.
 fn refused(summary: Summary) -> Admitted
-    ensures { λ r. ⌜ ((times lens bytes : List ℕ) → admittedOf times lens bytes r ≡ notAdmitted (viewIn times lens bytes summary)) ⌝ }
+    ensures { λ r. ⌜ ((a : Columns) → admittedOf a r ≡ notAdmitted (viewIn a summary)) ⌝ }
 {
     Admitted {
         summary: summary,
@@ -150,7 +152,9 @@ fn classify<'a>(
     time: u64,
 ) -> Answer
     requires { ⌜ (count ≤ capacity) × (checkedNumber checked ≡ 0 → (minLength ≤ length (now received)) × (length (now received) ≤ maxLength)) ⌝ }
-    ensures { λ r. ⌜ shownOf r ≡ answerFor (checkedNumber checked) (hasCopy (entriesAt (now (times .entry)) (now (lens .entry)) (now (bytes .entry)) count) (record { bytes = now (received .entry); time = time })) (leb capacity count) ⌝ }
+    ensures { λ r. ⌜ shownOf r ≡ answerFor (checkedNumber checked)
+        (hasCopy (entriesAt (columns (now (times .entry)) (now (lens .entry)) (now (bytes .entry))) count) (record { bytes = now (received .entry); time = time }))
+        (leb capacity count) ⌝ }
 {
     match checked {
         Checked::Refused(why) => Answer::Refused(why),

@@ -14,7 +14,7 @@ use Rattle.layout.specs.Block.{cellsPerBlock, bodyLength, blockCell}
 use Rattle.model.specs.View.{Reception, View, capacity, noTotals}
 use Rattle.model.specs.Acceptable.{acceptable}
 use Rattle.model.specs.Image.{CheckpointResult, RestoreResult, imageLength, imageWith, blockAt, blockIn, settingIn, countIn, entryIn}
-use Rattle.collector.specs.Collector.{entryAt, viewOf}
+use Rattle.collector.specs.Collector.{Columns, entryAt, viewOf}
 use Rattle.image.specs.declared.Saved.{Saved}
 use Rattle.image.specs.declared.Saved.the-variants as saved
 use Rattle.image.specs.declared.Loaded.{Loaded}
@@ -53,8 +53,8 @@ abbrev pub cellsLength : ℕ
 cellsLength = bodyLength - headerLength
 
 -- n entries from `first` on
-unfoldable pub entriesFrom : List ℕ → List ℕ → List ℕ → ℕ → ℕ → List Reception
-entriesFrom times lens bytes first n = map (entryAt times lens bytes) (upFrom first n)
+unfoldable pub entriesFrom : Columns → ℕ → ℕ → List Reception
+entriesFrom a first n = map (entryAt a) (upFrom first n)
 
 -- block k of an image, which looks at the entries alone
 abbrev pub blockWith : ℕ → ℕ → ℕ → List Reception → List ℕ

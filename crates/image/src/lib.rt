@@ -18,7 +18,7 @@ ghost use Rattle.erp1.specs.Subtelegram.{maxLength};
 ghost use Rattle.model.specs.View.{capacity};
 ghost use Rattle.model.specs.Image as model;
 ghost use Rattle.model.specs.Image.{imageLength, entryCell, imageWith, blockIn, usedIn, firstIn, secondIn, countIn, totalsIn, checkpointOf, restoreOf};
-ghost use Rattle.collector.specs.Collector.{entriesAt, viewAt, viewOf};
+ghost use Rattle.collector.specs.Collector.{columns, entriesAt, viewAt, viewOf};
 ghost use Rattle.image.specs.Checkpoint.{checkpointResult, restoreResult, refusedWith, blockCount, cellsLength, entriesFrom, blockWith, Writable, isImageOf, isReadable, cellIn, entriesIn};
 
 // How many blocks an image has.
@@ -129,7 +129,7 @@ fn put_image<'a>(
 )
     requires { ⌜ (imageLength ≤ length (now out)) × Writable (now lens) 0 count ⌝ }
     ensures { λ _. ⌜ now (out .exit)
-        ≡ imageWith setting (viewAt (now (times .entry)) (now (lens .entry)) (now (bytes .entry)) count latest totals) ++ drop imageLength (now (out .entry)) ⌝ }
+        ≡ imageWith setting (viewAt (columns (now (times .entry)) (now (lens .entry)) (now (bytes .entry))) count latest totals) ++ drop imageLength (now (out .entry)) ⌝ }
 {
     let firsts = [latest, totals.kept, totals.loose, totals.late, 0];
     let seconds = [totals.received, totals.copies, totals.damaged, setting, 0];
@@ -159,7 +159,7 @@ fn put_block<'a>(
     count: usize,
 )
     requires { ⌜ (length (now out) ≡ blockLength) × (k < blockCount) × Writable (now lens) 0 count ⌝ }
-    ensures { λ _. ⌜ now (out .exit) ≡ blockWith k a b (entriesAt (now (times .entry)) (now (lens .entry)) (now (bytes .entry)) count) ⌝ }
+    ensures { λ _. ⌜ now (out .exit) ≡ blockWith k a b (entriesAt (columns (now (times .entry)) (now (lens .entry)) (now (bytes .entry))) count) ⌝ }
 {
     let first = CELLS_PER_BLOCK * k;
     let used = used_from(count, first);
@@ -185,7 +185,8 @@ fn put_cells<'a>(
     used: usize,
 )
     requires { ⌜ (length (now out) ≡ cellsLength) × (length (now bytes) ≡ capacity * maxLength) × (used ≤ cellsPerBlock) × Writable (now lens) first used ⌝ }
-    ensures { λ _. ⌜ now (out .exit) ≡ padded cellsLength (flatten (map entryCell (entriesFrom (now (times .entry)) (now (lens .entry)) (now (bytes .entry)) first used))) ⌝ }
+    ensures { λ _. ⌜ now (out .exit)
+        ≡ padded cellsLength (flatten (map entryCell (entriesFrom (columns (now (times .entry)) (now (lens .entry)) (now (bytes .entry))) first used))) ⌝ }
 {
     for i in 0..used {
         let e = first + i;
@@ -212,7 +213,7 @@ fn is_image_of<'a>(
     setting: u64,
     totals: Totals,
 ) -> bool
-    ensures { λ r. ⌜ r ≡ isImageOf setting (viewAt (now (times .entry)) (now (lens .entry)) (now (bytes .entry)) count latest totals) (now (image .entry)) ⌝ }
+    ensures { λ r. ⌜ r ≡ isImageOf setting (viewAt (columns (now (times .entry)) (now (lens .entry)) (now (bytes .entry))) count latest totals) (now (image .entry)) ⌝ }
 {
     if !acceptable::is_acceptable(times, lens, bytes, count, latest, totals) {
         return false;
@@ -282,8 +283,9 @@ fn parse(image: &[u8]) -> Collector
 
 // The first `count` entries of an image, into the flat arrays of a state.
 fn read_entries(times: &mut [u64], lens: &mut [u8], bytes: &mut [u8], image: &[u8], count: usize)
-    requires { ⌜ (length (now times) ≡ capacity) × (length (now lens) ≡ capacity) × (length (now bytes) ≡ capacity * maxLength) × (length (now image) ≡ imageLength) × (count ≤ capacity) ⌝ }
-    ensures { λ _. ⌜ entriesAt (now (times .exit)) (now (lens .exit)) (now (bytes .exit)) count ≡ entriesIn (now (image .entry)) count ⌝ }
+    requires { ⌜ (length (now times) ≡ capacity) × (length (now lens) ≡ capacity) × (length (now bytes) ≡ capacity * maxLength)
+        × (length (now image) ≡ imageLength) × (count ≤ capacity) ⌝ }
+    ensures { λ _. ⌜ entriesAt (columns (now (times .exit)) (now (lens .exit)) (now (bytes .exit))) count ≡ entriesIn (now (image .entry)) count ⌝ }
 {
     for i in 0..count {
         let cell = cell_in(image, i);

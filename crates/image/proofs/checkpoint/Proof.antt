@@ -34,7 +34,7 @@ room c = c .before .before .before .before .before .before
 
 put-image-requires : tie.Need-put-image-requires
 unfolding viewOf
-put-image-requires c κs = (room c .if2 .left, writable-state _ _ _ _ _ _ (passed (room c .before)))
+put-image-requires c κs = (room c .if2 .left, writable-state _ _ _ _ (passed (room c .before)))
 
 returns-3 : tie.Need-returns-3
 unfolding viewOf

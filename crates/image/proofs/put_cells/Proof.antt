@@ -15,21 +15,22 @@ use Rattle.layout.proofs.Buffer.{resized-length}
 use Rattle.layout.proofs.Cell.{put-fits}
 use Rattle.model.specs.Image.{entryCell}
 use Rattle.image.specs.Checkpoint.{cellsLength, entriesFrom}
+use Rattle.collector.specs.Collector.{Columns, columns}
 use Rattle.collector.proofs.Arrays.{bytes-shown}
 use Rattle.image.proofs.Writing.{entries-length, cell-read}
 use Rattle.image.proofs.put_cells.Statement.{statement}
 use Rattle.image.proofs.put_cells.Tie as tie
 
-cells : List ℕ → List ℕ → List ℕ → ℕ → ℕ → List (List ℕ)
-cells times lens bytes first used = map entryCell (entriesFrom times lens bytes first used)
+cells : Columns → ℕ → ℕ → List (List ℕ)
+cells a first used = map entryCell (entriesFrom a first used)
 
-cells-length : (times lens bytes : List ℕ) (first used : ℕ) → length (cells times lens bytes first used) ≡ used
+cells-length : (a : Columns) (first used : ℕ) → length (cells a first used) ≡ used
 unfolding cells
-cells-length times lens bytes first used = length-map (entriesFrom times lens bytes first used) entryCell ∙ entries-length times lens bytes first used
+cells-length a first used = length-map (entriesFrom a first used) entryCell ∙ entries-length a first used
 
 abbrev Inv-loop : tie.InvT-loop
 Inv-loop out₀ times lens bytes first used i₀ out i =
-    (i ≤ used) × Begun out₀ (flatten (take i (cells times lens bytes first used))) (cellLength * i) out
+    (i ≤ used) × Begun out₀ (flatten (take i (cells (columns times lens bytes) first used))) (cellLength * i) out
 
 abbrev μ-loop : tie.MeasureT-loop
 μ-loop out₀ times lens bytes first used i₀ out i = used - i
@@ -64,14 +65,14 @@ loop-again c =
     let w =
     put .put-cell .ensures ∙ put-fits time shown 0 _ l (lent (at .loop .inv .1) cellLength _ refl (omega arith))
     ∙ ap (λ (b : List ℕ). cellOf time b 0) is
-    ∙ sym (cell-read (now (a .times)) (now (a .lens)) (now (a .bytes)) (a .first) (a .used) (at .loop .i) (omega arith)) in
+    ∙ sym (cell-read (columns (now (a .times)) (now (a .lens)) (now (a .bytes))) (a .first) (a .used) (at .loop .i) (omega arith)) in
     (omega arith, turn _ _ cellLength (at .loop .i) _ _ (at .loop .inv .1) (rw cells-length (omega arith)) w (put .put-cell .kept .0) (omega arith))
 
 -- what is written, after the clearing
 abbrev all : tie.After-clear Inv-loop μ-loop → Writing cellsLength
 all c =
     let at = c .before .before .before in
-    packed (wipe (turned _ _ cellLength _ (at .loop .i) _ (at .loop .inv .1) (omega arith) (cells-length _ _ _ _ _)) _ cellsLength (c .clear .ensures) (c .clear .kept .0) (omega arith) (omega arith))
+    packed (wipe (turned _ _ cellLength _ (at .loop .i) _ (at .loop .inv .1) (omega arith) (cells-length _ _ _)) _ cellsLength (c .clear .ensures) (c .clear .kept .0) (omega arith) (omega arith))
 
 returns : tie.Need-returns Inv-loop μ-loop
 unfolding cells

@@ -10,7 +10,7 @@ use Rattle.layout.specs.Block.{blockLength}
 use Rattle.layout.proofs.Segments.{Begun, begin, begun-length, within, lent, turn, turned}
 use Rattle.model.specs.View.{Reception}
 use Rattle.model.specs.Image.{blockAt, imageWith}
-use Rattle.collector.specs.Collector.{entriesAt}
+use Rattle.collector.specs.Collector.{columns, entriesAt}
 use Rattle.image.specs.Checkpoint.{blockWith}
 use Rattle.image.proofs.put_image.Statement.{statement}
 use Rattle.image.proofs.put_image.Tie as tie
@@ -46,7 +46,7 @@ one-more firsts seconds l k ys b h p q room =
 
 abbrev Inv-loop : tie.InvT-loop
 Inv-loop out₀ times lens bytes count latest setting firsts seconds k₀ out k =
-    (k ≤ 5) × Begun out₀ (flatten (take k (blocks firsts seconds (entriesAt times lens bytes count)))) (blockLength * k) out
+    (k ≤ 5) × Begun out₀ (flatten (take k (blocks firsts seconds (entriesAt (columns times lens bytes) count)))) (blockLength * k) out
 
 abbrev μ-loop : tie.MeasureT-loop
 μ-loop out₀ times lens bytes count latest setting firsts seconds k₀ out k = 5 - k

@@ -7,7 +7,7 @@ use borrow.Author.Needs.{needs}
 use denote.Ref.{now}
 use Rattle.model.specs.View.{Reception}
 use Rattle.model.specs.Acceptable.{isCopyOf}
-use Rattle.collector.specs.Collector.{entryAt, entriesAt}
+use Rattle.collector.specs.Collector.{Columns, columns, entryAt, entriesAt}
 use Rattle.collector.specs.Acceptable.{hasCopy}
 use Rattle.collector.proofs.Arrays.{not-same, same-echo, echo-said, has-none, has-skip, has-inside}
 use Rattle.collector.proofs.entries.find.Statement.{statement}
@@ -16,7 +16,8 @@ use Rattle.collector.proofs.entries.find.Tie as tie
 abbrev Inv-loop : tie.InvT-loop
 Inv-loop times lens bytes count received time original i₀ i =
     (i ≤ count)
-    × (hasCopy (entriesAt times lens bytes count) (record { bytes = received; time = time }) ≡ hasCopy (entriesAt times lens bytes i) (record { bytes = received; time = time }))
+    × (hasCopy (entriesAt (columns times lens bytes) count) (record { bytes = received; time = time })
+    ≡ hasCopy (entriesAt (columns times lens bytes) i) (record { bytes = received; time = time }))
 
 abbrev μ-loop : tie.MeasureT-loop
 μ-loop times lens bytes count received time original i₀ i = i
@@ -31,6 +32,9 @@ known l = l .before
 abbrev start : tie.At-loop Inv-loop μ-loop → tie.Start Inv-loop μ-loop
 start l = known l .before .before
 
+abbrev table : tie.At-loop Inv-loop μ-loop → Columns
+table l = columns (now (start l .args .times)) (now (start l .args .lens)) (now (start l .args .bytes))
+
 abbrev reception : tie.At-loop Inv-loop μ-loop → Reception
 reception l = record { bytes = now (start l .args .received); time = start l .args .time }
 
@@ -40,39 +44,34 @@ held c = c .before .before
 
 copies : (c : tie.After-is-echo Inv-loop μ-loop) →
     let l = turn (held c .before) in
-    let a = start l .args in
-    isCopyOf (entryAt (now (a .times)) (now (a .lens)) (now (a .bytes)) (l .loop .i - 1)) (reception l) ≡ c .is-echo .result
+    isCopyOf (entryAt (table l) (l .loop .i - 1)) (reception l) ≡ c .is-echo .result
 copies c =
     let h = held c in
     let l = turn (h .before) in
-    let a = start l .args in
-    same-echo (now (a .times)) (now (a .lens)) (now (a .bytes)) (l .loop .i - 1) (reception l) (sym (h .before .holds .ensures) ∙ h .if1 .taken)
-    ∙ echo-said (now (a .times)) (now (a .lens)) (now (a .bytes)) (l .loop .i - 1) (reception l) _ _ _ (known l .is-original .ensures) refl (c .is-echo .ensures)
+    same-echo (table l) (l .loop .i - 1) (reception l) (sym (h .before .holds .ensures) ∙ h .if1 .taken)
+    ∙ echo-said (table l) (l .loop .i - 1) (reception l) _ _ _ (known l .is-original .ensures) refl (c .is-echo .ensures)
 
 returns : tie.Need-returns Inv-loop μ-loop
 returns c =
     let l = turn (held (c .before) .before) in
-    let a = start l .args in
-    sym (has-inside (now (a .times)) (now (a .lens)) (now (a .bytes)) (l .loop .i - 1) (reception l) (a .count) (omega arith) (copies (c .before) ∙ c .if2 .taken))
+    sym (has-inside (table l) (l .loop .i - 1) (reception l) (start l .args .count) (omega arith) (copies (c .before) ∙ c .if2 .taken))
 
 loop-again : tie.Need-loop-again Inv-loop μ-loop
 loop-again c =
     let l = turn (held (c .before) .before) in
-    let a = start l .args in
-    (omega arith, l .loop .inv .1 ∙ has-skip (now (a .times)) (now (a .lens)) (now (a .bytes)) (l .loop .i) (reception l) (omega arith) (copies (c .before) ∙ c .if2 .left))
+    (omega arith, l .loop .inv .1 ∙ has-skip (table l) (l .loop .i) (reception l) (omega arith) (copies (c .before) ∙ c .if2 .left))
 
 loop-again-2 : tie.Need-loop-again-2 Inv-loop μ-loop
 loop-again-2 c =
     let l = turn (c .before) in
-    let a = start l .args in
-    let other = not-same (now (a .times)) (now (a .lens)) (now (a .bytes)) (l .loop .i - 1) (reception l) (sym (c .before .holds .ensures) ∙ c .if1 .left) in
-    (omega arith, l .loop .inv .1 ∙ has-skip (now (a .times)) (now (a .lens)) (now (a .bytes)) (l .loop .i) (reception l) (omega arith) other)
+    let other = not-same (table l) (l .loop .i - 1) (reception l) (sym (c .before .holds .ensures) ∙ c .if1 .left) in
+    (omega arith, l .loop .inv .1 ∙ has-skip (table l) (l .loop .i) (reception l) (omega arith) other)
 
 returns-2 : tie.Need-returns-2 Inv-loop μ-loop
 returns-2 c =
     let l = c .before in
     let e : l .loop .i ≡ 0 = omega arith in
-    sym (l .loop .inv .1 ∙ rw e (has-none _ _ _ _))
+    sym (l .loop .inv .1 ∙ rw e (has-none _ _))
 
 pub find-spec : {M : Type 1} → statement M
 find-spec =

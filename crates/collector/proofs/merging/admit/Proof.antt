@@ -10,7 +10,7 @@ use Rattle.erp1.specs.Subtelegram.{checkedNumber, isValid}
 use Rattle.model.specs.Answer.{shownOf}
 use Rattle.model.specs.View.{Reception, View, capacity}
 use Rattle.collector.specs.declared.Collector.{Collector}
-use Rattle.collector.specs.Collector.{viewOf}
+use Rattle.collector.specs.Collector.{columns, viewOf}
 use Rattle.collector.specs.Admission.{answerOn}
 use Rattle.collector.proofs.Admitting.{Fit, Closed, passed-valid, valid-fits, countable, fit-says, not-taken, is-taken, answer-said, room, taken}
 use Rattle.collector.proofs.merging.admit.Statement.{statement}
@@ -52,14 +52,17 @@ start c = whole (checking c .before)
 
 closed : (c : tie.After-close-bytes)
     → Closed (self (start c)) (reception (start c)) (checkedNumber (checking c .check-reception .result)) (expiring c .before .before .latest-after .result)
-    (expiring c .expired .result) (c .before .before .before .before .close-times .last .0) (c .before .before .close-lens .last .0) (c .close-bytes .last .0)
+    (expiring c .expired .result)
+    (columns (c .before .before .before .before .close-times .last .0) (c .before .before .close-lens .last .0) (c .close-bytes .last .0))
 closed c = record {
   checked = checking c .check-reception .ensures;
   latest = expiring c .before .before .latest-after .ensures;
   expired = expiring c .expired .ensures;
-  movedTimes = c .before .before .before .before .close-times .ensures;
-  movedLens = c .before .before .close-lens .ensures;
-  movedBytes = c .close-bytes .ensures;
+  moved = record {
+    times = c .before .before .before .before .close-times .ensures;
+    lens = c .before .before .close-lens .ensures;
+    bytes = c .close-bytes .ensures;
+  };
 }
 
 -- the answer
@@ -79,7 +82,7 @@ returns : tie.Need-returns
 unfolding viewOf
 returns c =
     let s = c .before .before .before .before .before in
-    c .refused .ensures _ _ _
+    c .refused .ensures _
     ∙ not-taken (s .args .fit) (self s) (reception s) (sym (c .before .before .is-safe .ensures) ∙ not-true _ (c .before .if1 .taken))
 
 classify-requires : tie.Need-classify-requires
@@ -114,9 +117,11 @@ returns-2 c =
     let k = c .before .before .before .before .before .before .before .before in
     let a = k .before in
     let s = start (gone a) in
-    taken (closed (gone a)) (said a) (k .is-kept .ensures) (c .before .before .before .before .before .before .put-time .ensures)
-    (c .before .before .before .before .put-len .ensures) (c .before .before .put-bytes .ensures) _ _
-    (c .before .count-after .ensures) (c .counted .ensures)
+    taken (closed (gone a)) (said a) (k .is-kept .ensures) (record {
+      times = c .before .before .before .before .before .before .put-time .ensures;
+      lens = c .before .before .before .before .put-len .ensures;
+      bytes = c .before .before .put-bytes .ensures;
+    }) _ _ (c .before .count-after .ensures) (c .counted .ensures)
     ∙ is-taken (s .args .fit) (self s) (reception s) (fit (checking (gone a) .before))
 
 pub admit-spec : {M : Type 1} → statement M
