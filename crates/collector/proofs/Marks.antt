@@ -16,6 +16,7 @@ use Rattle.erp1.specs.Same.{isSame}
 use Rattle.erp1.proofs.Checks.{check-facts}
 use Rattle.layout.specs.Buffer.{part}
 use Rattle.layout.proofs.Buffer.{resized-length}
+use Rattle.model.specs.View.{openedBy}
 use Rattle.model.specs.Acceptable.{isCopyOf}
 use Rattle.model.proofs.Check.{valid-length}
 use Rattle.collector.specs.Collector.{Columns, entryAt, entriesAt}
@@ -64,8 +65,8 @@ module _ (a : Columns) (i : ℕ) (seen : List ℕ) (m : Marked (a .lens) (a .byt
   low : minLength ≤ length (entryAt a i .bytes)
   low = check-facts (entryAt a i .bytes) (eqb-true _ 0 valid) .low
 
-  no-copy-before : (j : ℕ) → j < i → isCopyOf (entryAt a j) (entryAt a i) ≡ false
-  no-copy-before j h = not-same a j (entryAt a i) (fails (isSame (entryAt a j .bytes) (entryAt a i .bytes)) seen-twice)
+  no-copy-before : (j : ℕ) → j < i → isCopyOf (entryAt a j) (openedBy (entryAt a i)) ≡ false
+  no-copy-before j h = not-same a j (openedBy (entryAt a i)) (fails (isSame (entryAt a j .bytes) (entryAt a i .bytes)) seen-twice)
     where
       seen-twice : isSame (entryAt a j .bytes) (entryAt a i .bytes) ≡ true → ⊥
       seen-twice e =
@@ -74,9 +75,9 @@ module _ (a : Columns) (i : ℕ) (seen : List ℕ) (m : Marked (a .lens) (a .byt
           let one : _≡_ {A = ℕ} 1 0 = sym (m .each j h) ∙ ap (λ (n : ℕ). getD seen n 0) (same-mark (entryAt a j .bytes) (entryAt a i .bytes) e (omega arith)) ∙ unseen in
           omega arith
 
-  up-to : (k : ℕ) → k ≤ i → hasCopy (entriesAt a k) (entryAt a i) ≡ false
-  up-to zero h = has-none a (entryAt a i)
-  up-to (suc k) h = rw (← add-one) (has-more a k (entryAt a i) (up-to k (omega arith)) (no-copy-before k (omega arith)))
+  up-to : (k : ℕ) → k ≤ i → hasCopy (entriesAt a k) (openedBy (entryAt a i)) ≡ false
+  up-to zero h = has-none a (openedBy (entryAt a i))
+  up-to (suc k) h = rw (← add-one) (has-more a k (openedBy (entryAt a i)) (up-to k (omega arith)) (no-copy-before k (omega arith)))
 
   pub new-mark : isRepeatedAt a i ≡ false
   new-mark = up-to i (omega arith)

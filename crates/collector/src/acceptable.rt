@@ -16,7 +16,7 @@ ghost use Rattle.collector.specs.Acceptable.{areTimely, areTelegrams, is
 // The size of the table of marks.
 const MARKS: usize = 1024;
 
-// Whether the state with these parts is acceptable, whatever they are.
+// Whether the state with these parts is acceptable, whatever they and its numbers of copies are.
 pub fn is_acceptable<'a>(
     times: &'a [u64; Collector::CAPACITY],
     lens: &'a [u8; Collector::CAPACITY],
@@ -25,7 +25,8 @@ pub fn is_acceptable<'a>(
     latest: u64,
     totals: Totals,
 ) -> bool
-    ensures { λ r. ⌜ r ≡ acceptable (viewAt (columns (now (times .entry)) (now (lens .entry)) (now (bytes .entry))) count latest totals) ⌝ }
+    ensures { λ r. ⌜ ((copies : List ℕ) → r
+        ≡ acceptable (viewAt (columns (now (times .entry)) (now (lens .entry)) (now (bytes .entry)) copies) count latest totals)) ⌝ }
 {
     if Collector::CAPACITY < count {
         return false;
@@ -67,7 +68,8 @@ fn are_telegrams<'a>(
     count: usize,
 ) -> bool
     requires { ⌜ count ≤ capacity ⌝ }
-    ensures { λ r. ⌜ r ≡ areTelegrams (entriesAt (columns (now (times .entry)) (now (lens .entry)) (now (bytes .entry))) count) ⌝ }
+    ensures { λ r. ⌜ ((copies : List ℕ) → r
+        ≡ areTelegrams (entriesAt (columns (now (times .entry)) (now (lens .entry)) (now (bytes .entry)) copies) count)) ⌝ }
 {
     let mut seen = no_marks();
     for i in 0..count {
@@ -132,14 +134,15 @@ fn is_repeated<'a>(
     seen: u8,
 ) -> bool
     requires { ⌜ (i < capacity) × (minLength ≤ getD (now lens) i 0) × (getD (now lens) i 0 ≤ maxLength) ⌝ }
-    ensures { λ r. ⌜ Repeated seen (isRepeatedAt (columns (now (times .entry)) (now (lens .entry)) (now (bytes .entry))) i) r ⌝ }
+    ensures { λ r. ⌜ ((copies : List ℕ) → Repeated seen
+        (isRepeatedAt (columns (now (times .entry)) (now (lens .entry)) (now (bytes .entry)) copies) i) r) ⌝ }
 {
     if seen == 0 {
         return false;
     }
     let len = entries::wide(lens[i]);
     let telegram = entries::telegram(bytes, i, len);
-    entries::find(times, lens, bytes, i, telegram, times[i])
+    entries::find(times, lens, bytes, i, telegram, times[i]) < i
 }
 
 // Whether received is the sum of the others, which no sum here can wrap.
