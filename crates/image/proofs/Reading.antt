@@ -16,14 +16,15 @@ use Rattle.lists.specs.Lists.{upFrom}
 use Rattle.lists.proofs.UpFrom.{length-upFrom, getD-upFrom}
 use Rattle.erp1.specs.Subtelegram.{maxLength}
 use Rattle.layout.specs.Buffer.{part, resized}
-use Rattle.layout.specs.Cell.{cellLength, cellTime, cellUsed, cellField, cellBytes}
+use Rattle.layout.specs.Cell.{cellLength, cellTime, cellUsed, cellField, cellBytes, cellLast}
 use Rattle.layout.specs.Header.{headerLength}
 use Rattle.layout.specs.Block.{blockLength}
 use Rattle.layout.proofs.Segments.{part-length, left, Each, flatten-length, flatten-part, Begun, begin, named, store, lent, turn, turned}
 use Rattle.layout.proofs.Buffer.{resized-whole}
-use Rattle.model.specs.View.{Reception, capacity}
+use Rattle.model.specs.View.{capacity}
 use Rattle.model.specs.Image.{imageLength, blockIn, entryIn}
 use Rattle.collector.specs.Collector.{Columns, entryAt, entriesAt}
+use Rattle.collector.proofs.Arrays.{noEntry}
 use Rattle.image.specs.Checkpoint.{blockCount, cellIn, entriesIn}
 
 pub block-long : (image : List ℕ) (k : ℕ) → length image ≡ imageLength → k < blockCount → length (blockIn k image) ≡ blockLength
@@ -64,6 +65,9 @@ module _ (image : List ℕ) where
   abbrev len-of : ℕ → ℕ
   len-of i = cellUsed (cellIn image i)
 
+  abbrev count-of : ℕ → ℕ
+  count-of i = cellLast (cellIn image i)
+
   abbrev field-of : ℕ → List ℕ
   field-of i = cellField (cellIn image i)
 
@@ -74,6 +78,9 @@ module _ (image : List ℕ) where
   pub lens-of : ℕ → List ℕ
   lens-of n = row len-of n
 
+  pub counts-of : ℕ → List ℕ
+  counts-of n = row count-of n
+
   pub fields-of : ℕ → List (List ℕ)
   fields-of n = row field-of n
 
@@ -82,6 +89,7 @@ pub record Reading (image : List ℕ) (count : ℕ) (a₀ : Columns) (i : ℕ) (
   pub times : Begun (a₀ .times) (take i (times-of image count)) i (a .times)
   pub lens : Begun (a₀ .lens) (take i (lens-of image count)) i (a .lens)
   pub bytes : Begun (a₀ .bytes) (flatten (take i (fields-of image count))) (maxLength * i) (a .bytes)
+  pub copies : Begun (a₀ .copies) (take i (counts-of image count)) i (a .copies)
 
 module _ (image : List ℕ) (count : ℕ) (long : length image ≡ imageLength) (few : count ≤ capacity) where
   field-long : (i : ℕ) → i < capacity → length (field-of image i) ≡ maxLength
@@ -92,27 +100,29 @@ module _ (image : List ℕ) (count : ℕ) (long : length image ≡ imageLength) 
   module _ (a₀ : Columns) where
     pub reading-none : Reading image count a₀ 0 a₀
     unfolding flatten
-    reading-none = record { times = begin (a₀ .times); lens = begin (a₀ .lens); bytes = begin (a₀ .bytes) }
+    reading-none = record { times = begin (a₀ .times); lens = begin (a₀ .lens); bytes = begin (a₀ .bytes); copies = begin (a₀ .copies) }
 
     module _ (i : ℕ) (a : Columns) (r : Reading image count a₀ i a) where
       -- what is read of the cell, and what is kept, the part's length
-      pub reading-more : (t n : ℕ) (ys : List ℕ) → t ≡ cellTime (cellIn image i) → n ≡ cellUsed (cellIn image i)
+      pub reading-more : (t n m : ℕ) (ys : List ℕ) → t ≡ cellTime (cellIn image i) → n ≡ cellUsed (cellIn image i) → m ≡ cellLast (cellIn image i)
           → ys ≡ resized (length (part (maxLength * i) (maxLength * i + maxLength - maxLength * i) (a .bytes))) (cellField (cellIn image i))
           → length ys ≡ length (part (maxLength * i) (maxLength * i + maxLength - maxLength * i) (a .bytes))
-          → i < count → length (a₀ .times) ≡ capacity → length (a₀ .lens) ≡ capacity → length (a₀ .bytes) ≡ capacity * maxLength
+          → i < count → length (a₀ .times) ≡ capacity → length (a₀ .lens) ≡ capacity → length (a₀ .bytes) ≡ capacity * maxLength → length (a₀ .copies) ≡ capacity
           → Reading image count a₀ (i + 1) (record {
             times = set (a .times) i t;
             lens = set (a .lens) i n;
             bytes = take (maxLength * i) (a .bytes) ++ (ys ++ drop (maxLength * i + maxLength - maxLength * i) (drop (maxLength * i) (a .bytes)));
+            copies = set (a .copies) i m;
           })
-      unfolding times-of lens-of fields-of
-      reading-more t n ys p q s k h lt ll lb =
+      unfolding times-of lens-of counts-of fields-of
+      reading-more t n m ys p q u s k h lt ll lb lc =
           let field = field-of image i in
           let size = lent (r .bytes) maxLength (maxLength * i + maxLength) refl (omega arith) in
           let whole : ys ≡ field = s ∙ ap (λ (m : ℕ). resized m field) size ∙ resized-whole maxLength field (field-long i (omega arith)) in
           record {
             times = stored (a₀ .times) (times-of image count) i (a .times) t 0 (r .times) (rw row-length h) (omega arith) (p ∙ sym (row-at (time-of image) count i 0 h));
             lens = stored (a₀ .lens) (lens-of image count) i (a .lens) n 0 (r .lens) (rw row-length h) (omega arith) (q ∙ sym (row-at (len-of image) count i 0 h));
+            copies = stored (a₀ .copies) (counts-of image count) i (a .copies) m 0 (r .copies) (rw row-length h) (omega arith) (u ∙ sym (row-at (count-of image) count i 0 h));
             bytes = turn (a₀ .bytes) (fields-of image count) maxLength i (a .bytes) ys (r .bytes) (rw row-length h) (whole ∙ sym (row-at (field-of image) count i [] h)) k (omega arith);
           }
 
@@ -135,21 +145,21 @@ module _ (image : List ℕ) (count : ℕ) (long : length image ≡ imageLength) 
           ∙ row-at (field-of image) count i [] h
 
       entry-at : (i : ℕ) → i < count → entryAt a i ≡ entryIn image i
-      unfolding entryIn cellBytes times-of lens-of
+      unfolding entryIn cellBytes times-of lens-of counts-of
       entry-at i h =
           let time = stored-at (a₀ .times) (times-of image count) count (a .times) i 0 (r .times) (row-length _ count) h ∙ row-at (time-of image) count i 0 h in
           let len = stored-at (a₀ .lens) (lens-of image count) count (a .lens) i 0 (r .lens) (row-length _ count) h ∙ row-at (len-of image) count i 0 h in
-          λ j. record { bytes = ap₂ resized len (field-at i h) j; time = time j }
+          let copies = stored-at (a₀ .copies) (counts-of image count) count (a .copies) i 0 (r .copies) (row-length _ count) h ∙ row-at (count-of image) count i 0 h in
+          λ j. record { bytes = ap₂ resized len (field-at i h) j; time = time j; copies = copies j }
 
       entries-read : entriesAt a count ≡ entriesIn image count
       unfolding entriesAt row
       entries-read =
-          let none : Reception = record { bytes = []; time = 0 } in
           let f = entryAt a in
-          ext-getD none (row f count) (row (entryIn image) count) (row-length f count ∙ sym (row-length (entryIn image) count))
+          ext-getD noEntry (row f count) (row (entryIn image) count) (row-length f count ∙ sym (row-length (entryIn image) count))
           (λ i h.
           let l : i < count = rw (row-length f count) at h in
-          row-at f count i none l ∙ entry-at i l ∙ sym (row-at (entryIn image) count i none l))
+          row-at f count i noEntry l ∙ entry-at i l ∙ sym (row-at (entryIn image) count i noEntry l))
 
     pub reading-all : (i : ℕ) (a : Columns) → Reading image count a₀ i a → i ≡ count → entriesAt a count ≡ entriesIn image count
     reading-all i a r e = entries-read a (rw e at r)

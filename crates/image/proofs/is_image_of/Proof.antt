@@ -20,13 +20,16 @@ use Rattle.image.proofs.is_image_of.Tie as tie
 abbrev said : tie.After-is-acceptable → View
 said c =
     let a = c .before .before .args in
-    viewAt (columns (now (a .times)) (now (a .lens)) (now (a .bytes))) (a .count) (a .latest) (a .totals)
+    viewAt (columns (now (a .times)) (now (a .lens)) (now (a .bytes)) (now (a .copies))) (a .count) (a .latest) (a .totals)
+
+tested : (c : tie.After-is-acceptable) → c .is-acceptable .result ≡ acceptable (said c)
+tested c = c .is-acceptable .ensures _
 
 passed : (c : tie.Else1) → acceptable (said (c .before)) ≡ true
-passed c = sym (c .before .is-acceptable .ensures) ∙ not-false _ (c .if1 .left)
+passed c = sym (tested (c .before)) ∙ not-false _ (c .if1 .left)
 
 returns : tie.Need-returns
-returns c = rw (sym (c .before .is-acceptable .ensures) ∙ not-true _ (c .if1 .taken))
+returns c = rw (sym (tested (c .before)) ∙ not-true _ (c .if1 .taken))
 
 put-image-requires : tie.Need-put-image-requires
 put-image-requires c κs = (omega arith, writable-state _ _ _ _ (passed (c .before)))

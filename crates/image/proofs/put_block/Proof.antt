@@ -23,7 +23,7 @@ abbrev start : tie.After-used-from → tie.Start
 start c = c .before .before
 
 abbrev table : tie.Start → Columns
-table s = columns (now (s .args .times)) (now (s .args .lens)) (now (s .args .bytes))
+table s = columns (now (s .args .times)) (now (s .args .lens)) (now (s .args .bytes)) (now (s .args .copies))
 
 put-cells-requires : tie.Need-put-cells-requires
 put-cells-requires c κs =

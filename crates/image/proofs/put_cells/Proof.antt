@@ -29,11 +29,11 @@ unfolding cells
 cells-length a first used = length-map (entriesFrom a first used) entryCell ∙ entries-length a first used
 
 abbrev Inv-loop : tie.InvT-loop
-Inv-loop out₀ times lens bytes first used i₀ out i =
-    (i ≤ used) × Begun out₀ (flatten (take i (cells (columns times lens bytes) first used))) (cellLength * i) out
+Inv-loop out₀ times lens bytes copies first used i₀ out i =
+    (i ≤ used) × Begun out₀ (flatten (take i (cells (columns times lens bytes copies) first used))) (cellLength * i) out
 
 abbrev μ-loop : tie.MeasureT-loop
-μ-loop out₀ times lens bytes first used i₀ out i = used - i
+μ-loop out₀ times lens bytes copies first used i₀ out i = used - i
 
 loop-holds : tie.Need-loop-holds Inv-loop μ-loop
 unfolding flatten
@@ -53,19 +53,20 @@ loop-again : tie.Need-loop-again Inv-loop μ-loop
 unfolding cells
 loop-again c =
     let put = c .before .before in
-    let seen = put .before .before .before .before in
+    let seen = put .before .before .before .before .before in
     let at = turn-of seen in
     let a = start seen .args in
     let e = a .first + at .loop .i in
     let time = getD (now (a .times)) e 0 in
     let len = getD (now (a .lens)) e 0 in
+    let count = getD (now (a .copies)) e 0 in
     let shown = part (maxLength * e) (maxLength * e + len - maxLength * e) (now (a .bytes)) in
     let is = bytes-shown (now (a .bytes)) e len (short seen) (omega arith) in
     let l : length shown ≤ maxLength = rw (is, resized-length) (short seen) in
     let w =
-    put .put-cell .ensures ∙ put-fits time shown 0 _ l (lent (at .loop .inv .1) cellLength _ refl (omega arith))
-    ∙ ap (λ (b : List ℕ). cellOf time b 0) is
-    ∙ sym (cell-read (columns (now (a .times)) (now (a .lens)) (now (a .bytes))) (a .first) (a .used) (at .loop .i) (omega arith)) in
+    put .put-cell .ensures ∙ put-fits time shown count _ l (lent (at .loop .inv .1) cellLength _ refl (omega arith))
+    ∙ ap (λ (b : List ℕ). cellOf time b count) is
+    ∙ sym (cell-read (columns (now (a .times)) (now (a .lens)) (now (a .bytes)) (now (a .copies))) (a .first) (a .used) (at .loop .i) (omega arith)) in
     (omega arith, turn _ _ cellLength (at .loop .i) _ _ (at .loop .inv .1) (rw cells-length (omega arith)) w (put .put-cell .kept .0) (omega arith))
 
 -- what is written, after the clearing
@@ -101,6 +102,8 @@ put-cells-spec =
     (λ c. omega (arith, short (c .before .before)))
     (λ c. omega (arith, short (c .before .before)))
     (λ c. omega (arith, short (c .before .before)))
+    (λ c. omega arith)
+    (λ c. omega arith)
     (λ c κs. search needs)
     (λ c. omega arith)
     (λ c. omega arith)
