@@ -112,7 +112,7 @@ fn saved_into(session: Session, out: &mut [u8]) -> Session {
     let collector = session.collector;
     let answer = image::checkpoint(collector, out);
     test_io::text(b"P ");
-    put_saved(answer);
+    test_io::decimal(saved_number(answer));
     put_digest(out);
     put_totals(collector.totals);
     let shown = put_image(session.shown, answer, out);
@@ -124,7 +124,7 @@ fn cut(session: Session) -> Session {
     let mut bytes = [0xEEu8; IMAGE];
     let answer = image::checkpoint(session.collector, &mut bytes);
     test_io::text(b"C ");
-    put_saved(answer);
+    test_io::decimal(saved_number(answer));
     restored(session, Collector::fresh(), b" ", &bytes)
 }
 
@@ -163,7 +163,7 @@ fn restored<'a>(
     let next = restored.next;
     let loaded = restored.answer;
     test_io::text(word);
-    put_loaded(loaded);
+    test_io::decimal(loaded_number(loaded));
     put_totals(next.totals);
     after(session, next, shown)
 }
@@ -178,7 +178,7 @@ fn burst_of(session: Session, setting: u8, n: usize, m: usize) -> Session
     let next = done.next;
     let replies = lists.replies;
     test_io::text(b"B ");
-    bursts::put_handed(answer);
+    test_io::decimal(bursts::handed_number(answer));
     put_totals(next.totals);
     bursts::put_replies(replies, m);
     after(session, next, session.shown)
@@ -219,17 +219,17 @@ pub(crate) fn put_sent(sent: Frame) {
     test_io::hex(&bytes[0..n]);
 }
 
-fn put_saved(answer: Saved) {
+fn saved_number(answer: Saved) -> u64 {
     match answer {
-        Saved::Done => test_io::text(b"0"),
-        Saved::Refused(why) => test_io::decimal(refusal::number(why) as u64),
+        Saved::Done => 0,
+        Saved::Refused(why) => refusal::number(why) as u64,
     }
 }
 
-fn put_loaded(answer: Loaded) {
+fn loaded_number(answer: Loaded) -> u64 {
     match answer {
-        Loaded::Done => test_io::text(b"0"),
-        Loaded::Refused(why) => test_io::decimal(refusal::number(why) as u64),
+        Loaded::Done => 0,
+        Loaded::Refused(why) => refusal::number(why) as u64,
     }
 }
 
