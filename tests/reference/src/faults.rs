@@ -636,7 +636,15 @@ impl Model for Window {
                 0
             }
             Err(_) if self.fault == "3 accepted" && image.get(SETTING_AT) == Some(&3) => 0,
-            Err(number) => number,
+            Err(number) => {
+                if self.fault == "copies of a refused image" && image.len() == IMAGE {
+                    for (i, entry) in self.state.entries.iter_mut().enumerate() {
+                        let at = i / 15 * 512 + 24 + i % 15 * 32 + 30;
+                        entry.copies = u16::from_be_bytes([image[at], image[at + 1]]);
+                    }
+                }
+                number
+            }
         }
     }
 }
@@ -665,6 +673,7 @@ fn faults_of_the_ask_are_seen() {
         "low byte parked",
         "copies stay when telegrams close",
         "copies of an image lost",
+        "copies of a refused image",
         "bytes swapped on restore",
         "copies refused",
         "the ceiling refused",

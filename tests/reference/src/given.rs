@@ -450,6 +450,11 @@ impl Maker {
         self.heard(1061, &at_level(&given.entries[0].bytes, 1));
         self.ask_each(EDGES.len() as u64);
         self.calls.push(Call::Park(IMAGE));
+        // An image that is refused for one bit of a number, its check left as it was: all stays.
+        let mut image = given.image();
+        image[24 + 31] ^= 1;
+        self.refused(image);
+        self.ask_each(EDGES.len() as u64);
         self.older(&pool);
         self.of_one_telegram(&pool[0], &pool[1]);
         self.of_all_64(&pool);
