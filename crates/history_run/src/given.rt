@@ -29,7 +29,5 @@ pub(crate) fn next_bytes(n: usize) -> [u8; BUFFER]
 fn put_part<'a>(out: &'a mut [u8], at: usize, r: &'a [u8])
     requires { ⌜ (length (now out) ≡ 3054) × (at ≤ 3000) × (length (now r) ≡ 64) ⌝ }
 {
-    for i in 0..PART {
-        out[at + i] = r[10 + i];
-    }
+    layout::put_bytes(&mut out[at..at + PART], &r[10..64]);
 }

@@ -19,12 +19,11 @@ const LONGEST: usize = 3000;
 // Of each history the images of so many checkpoints are printed.
 const SHOWN: u8 = 3;
 
-// A history under way: its collector, the setting that its caller keeps, how many images it has printed, and whether there may be more calls.
+// A history under way: its collector, the setting that its caller keeps, and how many images it has printed.
 struct Session {
     collector: Collector,
     setting: u8,
     shown: u8,
-    more: bool,
 }
 
 fn main() {
@@ -37,21 +36,14 @@ fn calls(most: u64) {
     let mut left = most;
     while 0 < left {
         left -= 1;
-        session = call(session);
-        if !session.more {
+        let next = test_io::next_record();
+        if next.more {
+            let r = next.bytes;
+            session = made(session, &r);
+        } else {
             left = 0;
         }
     }
-}
-
-// The next call, if there is one.
-fn call(session: Session) -> Session {
-    let next = test_io::next_record();
-    if !next.more {
-        return ended(session);
-    }
-    let r = next.bytes;
-    made(session, &r)
 }
 
 fn made(session: Session, r: &[u8]) -> Session
@@ -120,7 +112,7 @@ fn saved_into(session: Session, out: &mut [u8]) -> Session {
     let collector = session.collector;
     let answer = image::checkpoint(collector, out);
     test_io::text(b"P ");
-    put_saved(answer);
+    test_io::decimal(saved_number(answer));
     put_digest(out);
     put_totals(collector.totals);
     let shown = put_image(session.shown, answer, out);
@@ -129,18 +121,11 @@ fn saved_into(session: Session, out: &mut [u8]) -> Session {
 
 // A cut: a checkpoint, and its restore into another collector.
 fn cut(session: Session) -> Session {
-    let collector = session.collector;
     let mut bytes = [0xEEu8; IMAGE];
-    let answer = image::checkpoint(collector, &mut bytes);
+    let answer = image::checkpoint(session.collector, &mut bytes);
     test_io::text(b"C ");
-    put_saved(answer);
-    test_io::text(b" ");
-    let restored = image::restore(Collector::fresh(), &bytes);
-    let next = restored.next;
-    let loaded = restored.answer;
-    put_loaded(loaded);
-    put_totals(next.totals);
-    after(session, next, session.shown)
+    test_io::decimal(saved_number(answer));
+    restored(session, Collector::fresh(), b" ", &bytes)
 }
 
 // The restore of the present image with byte k changed, or for 2,560 without its last byte.
@@ -152,9 +137,9 @@ fn spoiled(session: Session, k: usize) -> Session
     let _ = image::checkpoint(collector, &mut bytes);
     if k < IMAGE {
         bytes[k] = bytes[k] ^ 1;
-        return restored(session, b"X ", &bytes);
+        return restored(session, collector, b"X ", &bytes);
     }
-    restored(session, b"X ", &bytes[0..IMAGE - 1])
+    restored(session, collector, b"X ", &bytes[0..IMAGE - 1])
 }
 
 // The restore of an image of n bytes that the input gives.
@@ -162,17 +147,23 @@ fn given_image(session: Session, n: usize) -> Session
     requires { ⌜ n ≤ 3000 ⌝ }
 {
     let bytes = given::next_bytes(n);
-    restored(session, b"W ", &bytes[0..n])
+    let collector = session.collector;
+    restored(session, collector, b"W ", &bytes[0..n])
 }
 
-// The restore of these bytes; a word says which call it is.
-fn restored<'a>(session: Session, word: &'a [u8], bytes: &'a [u8]) -> Session {
+// The restore of these bytes into a collector; what stands before its number says which call it is.
+fn restored<'a>(
+    session: Session,
+    collector: Collector,
+    word: &'a [u8],
+    bytes: &'a [u8],
+) -> Session {
     let shown = session.shown;
-    let restored = image::restore(session.collector, bytes);
+    let restored = image::restore(collector, bytes);
     let next = restored.next;
     let loaded = restored.answer;
     test_io::text(word);
-    put_loaded(loaded);
+    test_io::decimal(loaded_number(loaded));
     put_totals(next.totals);
     after(session, next, shown)
 }
@@ -187,19 +178,18 @@ fn burst_of(session: Session, setting: u8, n: usize, m: usize) -> Session
     let next = done.next;
     let replies = lists.replies;
     test_io::text(b"B ");
-    bursts::put_handed(answer);
+    test_io::decimal(bursts::handed_number(answer));
     put_totals(next.totals);
     bursts::put_replies(replies, m);
     after(session, next, session.shown)
 }
 
-// A history at its start, and after a call; and the end of all.
+// A history at its start, and after a call.
 fn begun(setting: u8) -> Session {
     Session {
         collector: Collector::fresh(),
         setting: setting,
         shown: 0,
-        more: true,
     }
 }
 
@@ -208,17 +198,6 @@ fn after(session: Session, next: Collector, shown: u8) -> Session {
         collector: next,
         setting: session.setting,
         shown: shown,
-        more: true,
-    }
-}
-
-fn ended(session: Session) -> Session {
-    let collector = session.collector;
-    Session {
-        collector: collector,
-        setting: session.setting,
-        shown: 0,
-        more: false,
     }
 }
 
@@ -240,17 +219,17 @@ pub(crate) fn put_sent(sent: Frame) {
     test_io::hex(&bytes[0..n]);
 }
 
-fn put_saved(answer: Saved) {
+fn saved_number(answer: Saved) -> u64 {
     match answer {
-        Saved::Done => test_io::text(b"0"),
-        Saved::Refused(why) => test_io::decimal(refusal::number(why) as u64),
+        Saved::Done => 0,
+        Saved::Refused(why) => refusal::number(why) as u64,
     }
 }
 
-fn put_loaded(answer: Loaded) {
+fn loaded_number(answer: Loaded) -> u64 {
     match answer {
-        Loaded::Done => test_io::text(b"0"),
-        Loaded::Refused(why) => test_io::decimal(refusal::number(why) as u64),
+        Loaded::Done => 0,
+        Loaded::Refused(why) => refusal::number(why) as u64,
     }
 }
 
@@ -270,10 +249,9 @@ fn mixed(figure: u64, byte: u8) -> u64 {
 
 // The low 32 bits, in eight digits.
 fn put_word(n: u64) {
-    test_io::byte((n / 16_777_216 % 256) as u8);
-    test_io::byte((n / 65_536 % 256) as u8);
-    test_io::byte((n / 256 % 256) as u8);
-    test_io::byte((n % 256) as u8);
+    let mut word = [0u8; 4];
+    layout::put_number(&mut word, n);
+    test_io::hex(&word);
 }
 
 // The image of one of the first checkpoints; how many are printed then.

@@ -214,6 +214,37 @@ pub fn full_count(random: &mut Random) -> Vec<Call> {
     ]
 }
 
+/// One telegram heard nearly 300 times in two bursts, another now and then among them; asked for after each,
+/// and after a burst that is refused and counts nothing.
+pub fn often(random: &mut Random) -> Vec<Call> {
+    let (one, other) = (valid(random), valid(random));
+    let burst = |from: usize, n: usize, places: usize| {
+        let record = |i: usize| {
+            let bytes = if i % 50 == 20 { &other } else { &one };
+            Record::of(400 + i as u64 / 4, &at_level(bytes, 1))
+        };
+        Call::Burst(Burst {
+            setting: 1,
+            records: (from..from + n).map(record).collect(),
+            places,
+        })
+    };
+    let mut calls = vec![Call::Start(1)];
+    for call in [
+        burst(0, MOST, MOST),
+        burst(MOST, 45, 44),
+        burst(MOST, 45, 45),
+    ] {
+        calls.push(call);
+        let asks = (0..3).map(Call::Ask);
+        calls.extend(asks.clone());
+        calls.push(Call::Cut(0));
+        calls.extend(asks);
+        calls.push(Call::Park(2560));
+    }
+    calls
+}
+
 /// The same histories with their receptions in bursts, refused bursts among them. Other calls
 /// stand between the bursts.
 pub fn divided(calls: Vec<Call>, random: &mut Random) -> Vec<Call> {
@@ -234,6 +265,7 @@ pub fn divided(calls: Vec<Call>, random: &mut Random) -> Vec<Call> {
                 setting = kept;
                 out.push(call);
             }
+            Call::Ask(_) => others.push(call),
             _ => {
                 others.push(call);
                 if random.chance(60) {
@@ -287,6 +319,7 @@ mod tests {
     use crate::clerk::Clerk;
     use crate::history::{show, stdout};
     use crate::scenarios::calls;
+    use crate::subtelegram::Refusal;
     use crate::telegrams::Kind;
     use std::collections::BTreeMap;
 
@@ -309,6 +342,10 @@ mod tests {
 
         fn totals(&self) -> Totals {
             self.clerk.totals()
+        }
+
+        fn copies(&mut self, place: u64) -> (Refusal, u16) {
+            Model::copies(&mut self.clerk, place)
         }
 
         fn image(&self) -> Vec<u8> {
@@ -353,6 +390,9 @@ mod tests {
                     _ => record.handed(),
                 };
                 let answer = self.clerk.take(record.time, &bytes);
+                if fault == "copies in a burst count nowhere" {
+                    self.clerk.noted.last_mut().unwrap().opening = None;
+                }
                 let setting = match fault {
                     "setting of the history" => self.setting,
                     _ => burst.setting,
@@ -407,6 +447,7 @@ mod tests {
             "setting not tested",
             "10 for the setting before 6",
             "setting of the history",
+            "copies in a burst count nowhere",
         ] {
             assert!(shown(fault) != expected, "{fault}");
         }

@@ -1,7 +1,7 @@
 //! The clerk (document 01, "One history, and the clerk who writes it down").
 
 use crate::image;
-use crate::subtelegram::{check, level, same, Refusal, CLOCK_BACK, FULL_COUNT};
+use crate::subtelegram::{check, level, same, Refusal, CLOCK_BACK, FULL_COUNT, OUT_OF_RANGE};
 
 /// RX maturity: a telegram kept at f is open at t while t - f is at most this.
 pub const OPEN_FOR: u64 = 100;
@@ -9,6 +9,8 @@ pub const OPEN_FOR: u64 = 100;
 pub const SENT_WITHIN: u64 = 40;
 /// So many telegrams can be open at once.
 pub const PLACES: usize = 64;
+/// The number of copies of a telegram goes up to this and stays there (document 02, A8).
+pub const CEILING: u16 = 65_535;
 
 #[derive(Debug, Clone, Copy, PartialEq)]
 pub enum Answer {
@@ -30,6 +32,8 @@ pub struct Noted {
     pub time: u64,
     pub bytes: Vec<u8>,
     pub answer: Answer,
+    /// Of a COPY, where in `noted` the opening stands that it belongs to.
+    pub opening: Option<usize>,
 }
 
 #[derive(Debug, Clone, Copy, PartialEq, Default)]
@@ -79,13 +83,16 @@ impl Totals {
 /// a look at all receptions gives: the greatest accepted time is that of the last accepted
 /// one; and, looking back over the KEPT ones, the first with t - f above 100 ends the search,
 /// since all before it are as old or older.
+#[derive(Clone)]
 pub struct Clerk {
     pub noted: Vec<Noted>,
     accepted: Vec<usize>,
     kept: Vec<usize>,
-    /// Of an image that he goes on from: its totals without the entries, and its latest time.
+    /// Of an image that he goes on from: its totals without the entries, its latest time, and the
+    /// copies of each entry, which are the first in `noted`.
     earlier: Totals,
     earlier_latest: u64,
+    earlier_copies: Vec<u16>,
 }
 
 impl Clerk {
@@ -96,6 +103,7 @@ impl Clerk {
             kept: Vec::new(),
             earlier: Totals::default(),
             earlier_latest: 0,
+            earlier_copies: Vec::new(),
         }
     }
 
@@ -106,10 +114,12 @@ impl Clerk {
         for (at, entry) in image.entries.into_iter().enumerate() {
             clerk.accepted.push(at);
             clerk.kept.push(at);
+            clerk.earlier_copies.push(entry.copies);
             clerk.noted.push(Noted {
                 time: entry.time,
                 bytes: entry.bytes,
                 answer: Answer::Kept,
+                opening: None,
             });
         }
         clerk.earlier = image.totals.without_kept(clerk.noted.len() as u64);
@@ -119,7 +129,7 @@ impl Clerk {
 
     /// Takes one reception: his answer.
     pub fn take(&mut self, time: u64, bytes: &[u8]) -> Answer {
-        let answer = self.answer(time, bytes);
+        let (answer, opening) = self.answer(time, bytes);
         if answer.accepted() {
             self.accepted.push(self.noted.len());
         }
@@ -130,31 +140,34 @@ impl Clerk {
             time,
             bytes: bytes.to_vec(),
             answer,
+            opening,
         });
         answer
     }
 
-    /// The first that fits.
-    fn answer(&self, time: u64, bytes: &[u8]) -> Answer {
+    /// The first that fits; and of a COPY the opening that it belongs to.
+    fn answer(&self, time: u64, bytes: &[u8]) -> (Answer, Option<usize>) {
         if self.counted_full() {
-            return Answer::Refused(FULL_COUNT);
+            return (Answer::Refused(FULL_COUNT), None);
         }
         if let Err(number) = check(bytes) {
-            return Answer::Refused(number);
+            return (Answer::Refused(number), None);
         }
         if self.latest() > time {
-            return Answer::Refused(CLOCK_BACK);
+            return (Answer::Refused(CLOCK_BACK), None);
         }
         let open = self.open_at(time);
-        // "the latest open same telegram"
-        let latest = open.iter().find(|noted| same(&noted.bytes, bytes));
-        if latest.is_some_and(|noted| !is_second_event(noted.time, time, bytes)) {
-            return Answer::Copy;
+        // "the latest open same telegram"; "every COPY .. belongs to the latest opening"
+        let latest = open.iter().find(|&&at| same(&self.noted[at].bytes, bytes));
+        if let Some(&at) = latest {
+            if !is_second_event(self.noted[at].time, time, bytes) {
+                return (Answer::Copy, Some(at));
+            }
         }
         if open.len() >= PLACES {
-            return Answer::Loose;
+            return (Answer::Loose, None);
         }
-        Answer::Kept
+        (Answer::Kept, None)
     }
 
     /// Whether 2^64 - 1 have another answer than 8. With fewer receptions in all there is
@@ -164,13 +177,12 @@ impl Clerk {
         self.noted.len() as u64 >= left && self.totals().received == u64::MAX
     }
 
-    /// The KEPT ones with time - f <= 100, the latest first. The time is no accepted one's past.
-    fn open_at(&self, time: u64) -> Vec<&Noted> {
-        self.kept
-            .iter()
-            .rev()
-            .map(|&at| &self.noted[at])
-            .take_while(|noted| time - noted.time <= OPEN_FOR)
+    /// Where the KEPT ones with time - f <= 100 stand, the latest first. The time is no accepted
+    /// one's past.
+    fn open_at(&self, time: u64) -> Vec<usize> {
+        let latest_first = self.kept.iter().rev().copied();
+        latest_first
+            .take_while(|&at| time - self.noted[at].time <= OPEN_FOR)
             .collect()
     }
 
@@ -180,11 +192,39 @@ impl Clerk {
         noted.max(self.earlier_latest)
     }
 
-    /// The KEPT ones with latest - f <= 100, in the order handed over.
-    pub fn entries(&self) -> Vec<&Noted> {
-        let mut entries = self.open_at(self.latest());
-        entries.reverse();
-        entries
+    /// Where the KEPT ones with latest - f <= 100 stand, in the order handed over.
+    fn places(&self) -> Vec<usize> {
+        let mut places = self.open_at(self.latest());
+        places.reverse();
+        places
+    }
+
+    /// "the number of his own COPY answers for that opening, to the same ceiling" (document 02, A8);
+    /// in an image that he goes on from, some are counted already.
+    fn copies_of(&self, opening: usize) -> u16 {
+        let earlier = self.earlier_copies.get(opening).copied().unwrap_or(0);
+        let answers = self.noted[opening..].iter();
+        let own = answers.filter(|noted| noted.opening == Some(opening));
+        let all = usize::from(earlier) + own.count();
+        all.min(usize::from(CEILING)) as u16
+    }
+
+    /// The copies of the telegram at a place, in opening order and from 0 on (document 02, A8).
+    pub fn copies(&self, place: u64) -> Result<u16, Refusal> {
+        let places = self.places();
+        let place = usize::try_from(place).map_err(|_| OUT_OF_RANGE)?;
+        let opening = places.get(place).ok_or(OUT_OF_RANGE)?;
+        Ok(self.copies_of(*opening))
+    }
+
+    /// The open telegrams at the latest time, in opening order, each with its copies.
+    pub fn entries(&self) -> Vec<image::Entry> {
+        let entry = |at: usize| image::Entry {
+            time: self.noted[at].time,
+            bytes: self.noted[at].bytes.clone(),
+            copies: self.copies_of(at),
+        };
+        self.places().into_iter().map(entry).collect()
     }
 
     /// His totals count his own answers.
@@ -194,15 +234,7 @@ impl Clerk {
 
     /// His image, with zero in the setting's place (document 02, A7).
     pub fn image(&self) -> Vec<u8> {
-        let entries: Vec<image::Entry> = self
-            .entries()
-            .iter()
-            .map(|noted| image::Entry {
-                time: noted.time,
-                bytes: noted.bytes.clone(),
-            })
-            .collect();
-        image::write(self.latest(), &self.totals(), 0, &entries)
+        image::write(self.latest(), &self.totals(), 0, &self.entries())
     }
 }
 

@@ -24,7 +24,7 @@ fn time(text: &[u8]) -> Option<u64> {
 }
 
 /// Time, one space, 0 to 64 bytes.
-fn reception(line: &[u8]) -> Option<(u64, Vec<u8>)> {
+pub fn reception(line: &[u8]) -> Option<(u64, Vec<u8>)> {
     let space = line.iter().position(|&c| c == b' ')?;
     let time = time(&line[..space])?;
     let bytes = unhex(&line[space + 1..])?;

@@ -6,21 +6,24 @@ use crate::clerk::{totals_of, Answer, Clerk, Noted, Totals};
 use crate::history::{show, spoil, stdin, stdout, word, Call, Model, SHOWN};
 use crate::image::{self, reload, IMAGE};
 use crate::repeater::sent_for;
-use crate::scenarios::{calls, ROOMS};
+use crate::scenarios::{calls, histories, ROOMS};
 use crate::subtelegram::{check, level, same, Refusal, CRC_WRONG, SUM_WRONG};
 use crate::telegrams::at_level;
 use std::collections::BTreeMap;
+use std::sync::OnceLock;
 
 /// The last byte of the setting's place.
 const SETTING_AT: usize = 3 * 512 + 23;
 
 /// The clerk word for word: every look goes over all receptions. One fault can be set.
 #[derive(Default)]
-struct PlainClerk {
+pub struct PlainClerk {
     noted: Vec<Noted>,
-    /// Of an image that is gone on from: its totals without the entries, and its latest time.
+    /// Of an image that is gone on from: its totals without the entries, its latest time, and the
+    /// copies of its entries.
     earlier: Totals,
     earlier_latest: u64,
+    earlier_copies: Vec<u16>,
     fault: &'static str,
 }
 
@@ -71,6 +74,7 @@ impl PlainClerk {
             "TXID alone" => a[n - 6..n - 2] == b[b.len() - 6..b.len() - 2],
             "level and HASH compared" => a == b,
             "STATUS left out" => n == b.len() && a[..n - 2] == b[..n - 2],
+            "TXID left out" => n == b.len() && a[..n - 6] == b[..n - 6],
             "HASH compared" => same(a, b) && a[n - 1] == b[n - 1],
             _ => same(a, b),
         }
@@ -158,6 +162,69 @@ impl PlainClerk {
         }
         Answer::Kept
     }
+
+    fn latest(&self) -> u64 {
+        let accepted = self.noted.iter().filter(|n| n.answer.accepted());
+        let latest = accepted.map(|n| n.time).max().unwrap_or(0);
+        latest.max(self.earlier_latest)
+    }
+
+    /// Where the KEPT ones with latest - f <= 100 stand, in the order handed over.
+    fn places(&self) -> Vec<usize> {
+        let latest = self.latest();
+        let all = self.noted.iter().enumerate();
+        let open = |(_, n): &(usize, &Noted)| n.answer == Answer::Kept && latest - n.time <= 100;
+        all.filter(open).map(|(at, _)| at).take(75).collect()
+    }
+
+    /// Whether a reception with this answer counts for the opening that it belongs to.
+    fn counts(&self, heard: &Noted) -> bool {
+        match (self.fault, heard.answer) {
+            ("counted for LOOSE", Answer::Loose) => true,
+            ("late ones counted", Answer::Refused(7)) => true,
+            ("no count at level 0", Answer::Copy) => level(&heard.bytes) > 0,
+            ("no count at level 1", Answer::Copy) => level(&heard.bytes) != 1,
+            (_, answer) => answer == Answer::Copy,
+        }
+    }
+
+    /// Whether the reception at `at` belongs to the opening: it is the same telegram, open then,
+    /// and no later opening is. Its own answer is not looked at.
+    fn belongs(&self, at: usize, opening: usize) -> bool {
+        let heard = &self.noted[at];
+        let is_open = |n: &Noted| {
+            n.answer == Answer::Kept && n.time <= heard.time && heard.time - n.time <= 100
+        };
+        let fits = |n: &Noted| match self.fault {
+            "credited by TXID" => {
+                let txid = |b: &[u8]| b[b.len() - 6..b.len() - 2].to_vec();
+                is_open(n) && txid(&n.bytes) == txid(&heard.bytes)
+            }
+            "the latest of all credited" | "the first of all credited" => is_open(n),
+            _ => is_open(n) && same(&n.bytes, &heard.bytes),
+        };
+        let others = match self.fault {
+            "first opening credited" | "the first of all credited" => 0..opening,
+            "all openings credited" => 0..0,
+            _ => opening + 1..at,
+        };
+        fits(&self.noted[opening]) && !self.noted[others].iter().any(fits)
+    }
+
+    fn copies_of(&self, opening: usize) -> u16 {
+        let earlier = self.earlier_copies.get(opening).copied().unwrap_or(0);
+        let later = opening + 1..self.noted.len();
+        let heard = later.filter(|&at| self.counts(&self.noted[at]) && self.belongs(at, opening));
+        let one = usize::from(self.fault == "kept counts as one" && earlier == 0);
+        let all = usize::from(earlier) + heard.count() + one;
+        match self.fault {
+            "wraps at 65,536" => all as u16,
+            "wraps at 256" => usize::from(all as u8) as u16,
+            "ceiling 255" => all.min(255) as u16,
+            "ceiling 65,534" => all.min(65_534) as u16,
+            _ => all.min(65_535) as u16,
+        }
+    }
 }
 
 impl Model for PlainClerk {
@@ -174,6 +241,7 @@ impl Model for PlainClerk {
             time,
             bytes: bytes.to_vec(),
             answer,
+            opening: None,
         });
         answer
     }
@@ -196,21 +264,20 @@ impl Model for PlainClerk {
         totals
     }
 
+    fn copies(&mut self, place: u64) -> (Refusal, u16) {
+        let places = self.places();
+        let opening = usize::try_from(place).ok().and_then(|at| places.get(at));
+        opening.map_or((10, 0), |&at| (0, self.copies_of(at)))
+    }
+
     fn image(&self) -> Vec<u8> {
-        let accepted = self.noted.iter().filter(|n| n.answer.accepted());
-        let latest = accepted.map(|n| n.time).max().unwrap_or(0);
-        let latest = latest.max(self.earlier_latest);
-        let entries: Vec<image::Entry> = self
-            .noted
-            .iter()
-            .filter(|n| n.answer == Answer::Kept && latest - n.time <= 100)
-            .take(75)
-            .map(|n| image::Entry {
-                time: n.time,
-                bytes: n.bytes.clone(),
-            })
-            .collect();
-        image::write(latest, &self.totals(), 0, &entries)
+        let entry = |at: usize| image::Entry {
+            time: self.noted[at].time,
+            bytes: self.noted[at].bytes.clone(),
+            copies: self.copies_of(at),
+        };
+        let entries: Vec<image::Entry> = self.places().into_iter().map(entry).collect();
+        image::write(self.latest(), &self.totals(), 0, &entries)
     }
 
     fn restore(&mut self, _image: &[u8], _number: u8) -> u8 {
@@ -224,32 +291,91 @@ impl Model for PlainClerk {
         let entries = state.entries;
         self.earlier = state.totals.without_kept(entries.len() as u64);
         self.earlier_latest = state.latest;
+        self.earlier_copies = entries.iter().map(|entry| entry.copies).collect();
         self.noted = entries
             .into_iter()
             .map(|entry| Noted {
                 time: entry.time,
                 bytes: entry.bytes,
                 answer: Answer::Kept,
+                opening: None,
             })
             .collect();
         0
     }
 }
 
-/// Whether the plain clerk with this fault shows what the clerk shows.
-fn agrees(fault: &'static str) -> bool {
-    show(
-        &calls(),
-        &mut PlainClerk {
+impl PlainClerk {
+    pub fn new(fault: &'static str) -> PlainClerk {
+        PlainClerk {
             fault,
             ..PlainClerk::default()
-        },
-    ) == stdout()
+        }
+    }
+}
+
+/// The stored histories, each with the lines that the clerk shows.
+fn stored() -> &'static [(Vec<Call>, String)] {
+    static STORED: OnceLock<Vec<(Vec<Call>, String)>> = OnceLock::new();
+    STORED.get_or_init(|| {
+        let shown = |history: Vec<Call>| {
+            let lines = show(&history, &mut Clerk::new());
+            (history, lines)
+        };
+        histories(calls()).into_iter().map(shown).collect()
+    })
+}
+
+/// Whether a model shows what the clerk shows.
+fn agrees(model: &mut impl Model) -> bool {
+    stored()
+        .iter()
+        .all(|(history, lines)| show(history, model) == *lines)
+}
+
+/// Whether it answers what he answers where the copies are asked for.
+fn agrees_where_asked(model: &mut impl Model) -> bool {
+    let asks = |lines: &str| -> Vec<String> {
+        let asks = lines.lines().filter(|line| line.starts_with("A "));
+        asks.map(str::to_string).collect()
+    };
+    stored()
+        .iter()
+        .all(|(history, lines)| asks(&show(history, model)) == asks(lines))
+}
+
+#[test]
+fn the_stored_lines_are_those_of_the_histories() {
+    let lines: String = stored().iter().map(|(_, lines)| lines.as_str()).collect();
+    assert!(lines == stdout());
 }
 
 #[test]
 fn the_short_look_back_is_the_long_one() {
-    assert!(agrees(""));
+    assert!(agrees(&mut PlainClerk::new("")));
+}
+
+/// Faults in which opening a COPY belongs to and what counts (document 02, A8): some ask shows each.
+#[test]
+fn faults_of_the_copies_are_seen() {
+    for fault in [
+        "first opening credited",
+        "all openings credited",
+        "the latest of all credited",
+        "the first of all credited",
+        "credited by TXID",
+        "counted for LOOSE",
+        "late ones counted",
+        "no count at level 0",
+        "no count at level 1",
+        "kept counts as one",
+        "wraps at 65,536",
+        "wraps at 256",
+        "ceiling 255",
+        "ceiling 65,534",
+    ] {
+        assert!(!agrees_where_asked(&mut PlainClerk::new(fault)), "{fault}");
+    }
 }
 
 #[test]
@@ -261,6 +387,7 @@ fn faults_are_seen() {
         "level and HASH compared",
         "HASH compared",
         "STATUS left out",
+        "TXID left out",
         "copies move no clock",
         "loose moves no clock",
         "damage moves the clock",
@@ -286,7 +413,7 @@ fn faults_are_seen() {
         "13 for every hash",
         "a wrong CRC is not damage",
     ] {
-        assert!(!agrees(fault), "{fault}");
+        assert!(!agrees(&mut PlainClerk::new(fault)), "{fault}");
     }
 }
 
@@ -344,7 +471,12 @@ impl Model for Window {
         *latest = time;
         let places_stay = fault == "parked by place";
         if !places_stay {
+            let before: Vec<u16> = entries.iter().map(|e| e.copies).collect();
             entries.retain(|e| time - e.time <= 100);
+            if fault == "copies stay when telegrams close" {
+                let stayed = entries.iter_mut().zip(before);
+                stayed.for_each(|(e, copies)| e.copies = copies);
+            }
         }
         let open = entries.iter().filter(|e| time - e.time <= 100).count();
         let copied = entries
@@ -354,6 +486,7 @@ impl Model for Window {
             .filter(|e| level(bytes) > 0 || time - e.time <= 40);
         if let Some(entry) = copied {
             totals.copies += 1;
+            entry.copies = entry.copies.saturating_add(1);
             if fault == "last copy parked" {
                 entry.bytes = bytes.to_vec();
             }
@@ -367,6 +500,7 @@ impl Model for Window {
         let opened = image::Entry {
             time,
             bytes: bytes.to_vec(),
+            copies: 0,
         };
         match entries.iter().position(|e| time - e.time > 100) {
             Some(at) => entries[at] = opened,
@@ -379,6 +513,37 @@ impl Model for Window {
         self.state.totals
     }
 
+    fn copies(&mut self, place: u64) -> (Refusal, u16) {
+        let entries = &mut self.state.entries;
+        let last = (entries.len() as u64).wrapping_sub(1);
+        let place = match self.fault {
+            "places from 1" => place.wrapping_sub(1),
+            "the latest is place 0" => last.wrapping_sub(place),
+            "one byte of the place" => place % 256,
+            "four bytes of the place" => place % (1 << 32),
+            "the last for all past it" => place.min(last),
+            _ => place,
+        };
+        let asked = usize::try_from(place).ok();
+        let Some(entry) = asked.and_then(|at| entries.get_mut(at)) else {
+            return match self.fault {
+                "no refusal" => (0, 0),
+                "copies beside a refusal" => (10, entries.last().map_or(0, |e| e.copies)),
+                "11 in place of 10" => (11, 0),
+                _ => (10, 0),
+            };
+        };
+        let copies = entry.copies;
+        match self.fault {
+            "the ask clears" => entry.copies = 0,
+            "the ask counts" => entry.copies = copies.saturating_add(1),
+            "the ask is received" => self.state.totals.received += 1,
+            "the ask closes" => drop(entries.remove(place as usize)),
+            _ => {}
+        }
+        (0, copies)
+    }
+
     fn image(&self) -> Vec<u8> {
         let image::Reloaded {
             latest,
@@ -388,7 +553,15 @@ impl Model for Window {
         let open: Vec<image::Entry> = entries
             .iter()
             .filter(|e| latest - e.time <= 100)
-            .cloned()
+            .map(|e| image::Entry {
+                copies: match self.fault {
+                    "zeros parked" => 0,
+                    "bytes swapped" => e.copies.swap_bytes(),
+                    "low byte parked" => e.copies & 0xFF,
+                    _ => e.copies,
+                },
+                ..e.clone()
+            })
             .collect();
         let parked = match self.fault {
             "setting parked" => self.setting,
@@ -431,6 +604,13 @@ impl Model for Window {
                     .for_each(|e| e.bytes = at_level(&e.bytes, 0));
             }
             "restore refused" => return 11,
+            "lost at a cut" => state.entries.iter_mut().for_each(|e| e.copies = 0),
+            "zeros parked" | "bytes swapped" => {
+                // As if a cut were right by itself.
+                let kept = self.state.entries.iter().map(|e| e.copies);
+                let entries = state.entries.iter_mut().zip(kept);
+                entries.for_each(|(e, copies)| e.copies = copies);
+            }
             _ => {}
         }
         self.state = state;
@@ -440,7 +620,15 @@ impl Model for Window {
     fn restore_given(&mut self, image: &[u8]) -> u8 {
         match reload(image) {
             Ok(_) if self.fault == "older image refused" && image[SETTING_AT] > 0 => 11,
-            Ok(state) => {
+            Ok(state) if self.refuses_copies(&state) => 11,
+            Ok(mut state) => {
+                for entry in &mut state.entries {
+                    entry.copies = match self.fault {
+                        "copies of an image lost" => 0,
+                        "bytes swapped on restore" => entry.copies.swap_bytes(),
+                        _ => entry.copies,
+                    };
+                }
                 self.state = state;
                 if self.fault == "setting of the image" {
                     self.other = Some(image[SETTING_AT]);
@@ -448,16 +636,68 @@ impl Model for Window {
                 0
             }
             Err(_) if self.fault == "3 accepted" && image.get(SETTING_AT) == Some(&3) => 0,
-            Err(number) => number,
+            Err(number) => {
+                if self.fault == "copies of a refused image" && image.len() == IMAGE {
+                    for (i, entry) in self.state.entries.iter_mut().enumerate() {
+                        let at = i / 15 * 512 + 24 + i % 15 * 32 + 30;
+                        entry.copies = u16::from_be_bytes([image[at], image[at + 1]]);
+                    }
+                }
+                number
+            }
         }
+    }
+}
+
+impl Window {
+    /// Refuses an accepted image for the copies in it.
+    fn refuses_copies(&self, state: &image::Reloaded) -> bool {
+        let some = |f: fn(u64) -> bool| state.entries.iter().any(|e| f(u64::from(e.copies)));
+        match self.fault {
+            "copies refused" => some(|n| n > 0),
+            "the ceiling refused" => some(|n| n == 65_535),
+            "more copies than the total refused" => {
+                let sum: u64 = state.entries.iter().map(|e| u64::from(e.copies)).sum();
+                sum > state.totals.copies
+            }
+            _ => false,
+        }
+    }
+}
+
+/// Faults in keeping the copies and in the ask (document 02, A8): some ask shows each.
+#[test]
+fn faults_of_the_ask_are_seen() {
+    for fault in [
+        "lost at a cut",
+        "low byte parked",
+        "copies stay when telegrams close",
+        "copies of an image lost",
+        "copies of a refused image",
+        "bytes swapped on restore",
+        "copies refused",
+        "the ceiling refused",
+        "more copies than the total refused",
+        "places from 1",
+        "the latest is place 0",
+        "one byte of the place",
+        "four bytes of the place",
+        "the last for all past it",
+        "no refusal",
+        "copies beside a refusal",
+        "11 in place of 10",
+        "the ask clears",
+        "the ask counts",
+        "the ask is received",
+        "the ask closes",
+    ] {
+        assert!(!agrees_where_asked(&mut Window::new(fault)), "{fault}");
     }
 }
 
 #[test]
 fn a_cut_run_is_the_clerks() {
-    let expected = stdout();
-    let calls = calls();
-    assert!(show(&calls, &mut Window::new("")) == expected);
+    assert!(agrees(&mut Window::new("")));
     for fault in [
         "setting of the cut",
         "setting parked",
@@ -475,8 +715,10 @@ fn a_cut_run_is_the_clerks() {
         "restore refused",
         "parked by place",
         "last copy parked",
+        "zeros parked",
+        "bytes swapped",
     ] {
-        assert!(show(&calls, &mut Window::new(fault)) != expected, "{fault}");
+        assert!(!agrees(&mut Window::new(fault)), "{fault}");
     }
 }
 
@@ -542,6 +784,25 @@ fn everything_occurs() {
                     &mut vec![bursts::untouched(); burst.places],
                 );
             }
+            Call::Ask(place) => match clerk.copies(*place) {
+                Ok(copies) => {
+                    count("asked".to_string());
+                    count(format!("asked, copies {}", copies.min(10)));
+                    if copies > 255 {
+                        count("asked, copies over 255".to_string());
+                    }
+                    if copies == 65_535 {
+                        count("asked, the ceiling".to_string());
+                    }
+                    if *place == 63 {
+                        count("asked at 63".to_string());
+                    }
+                    if matches!(calls.get(i - 1), Some(Call::Cut(_))) {
+                        count("asked after a cut".to_string());
+                    }
+                }
+                Err(number) => count(format!("asked, answered {number}")),
+            },
         }
     }
     assert!(rooms_first.iter().all(|&n| n >= IMAGE));
@@ -575,6 +836,15 @@ fn everything_occurs() {
     least("given, answered 0", 30);
     least("given, answered 11", 60);
     least("8", 5);
+    least("asked", 1500);
+    least("asked, answered 10", 200);
+    for copies in 0..=6 {
+        least(&format!("asked, copies {copies}"), 5);
+    }
+    least("asked, copies over 255", 100);
+    least("asked, the ceiling", 20);
+    least("asked at 63", 5);
+    least("asked after a cut", 100);
     least("entries cut 0", 1);
     least("entries cut 64", 10);
     least("entries parked 64", 10);

@@ -1,5 +1,5 @@
 //! Images that the input gives, to be restored: each condition of a reload (document 01, "Parked
-//! collector"; document 02, A6) at its edge and one past it, with right checks around wrong
+//! collector"; document 02, A6 and A8) at its edge and one past it, with right checks around wrong
 //! fields. An accepted one starts a history of its own.
 
 use crate::clerk::Totals;
@@ -39,10 +39,20 @@ impl State {
     }
 }
 
+/// Bytes past 21, which no entry of a collector has, go on where the copies stand.
 fn entry(time: u64, bytes: &[u8]) -> Entry {
+    let past = |at: usize| bytes.get(at).copied().unwrap_or(0);
     Entry {
         time,
         bytes: bytes.to_vec(),
+        copies: u16::from_be_bytes([past(LONGEST), past(LONGEST + 1)]),
+    }
+}
+
+fn heard_again(time: u64, bytes: &[u8], copies: u16) -> Entry {
+    Entry {
+        copies,
+        ..entry(time, bytes)
     }
 }
 
@@ -357,11 +367,13 @@ impl Maker {
             (7, 0x80),
             (504, 1),
             (510, 1),
-            // Past the bytes of an entry, its last two bytes, and entries that are not used.
+            // Past the bytes of an entry, and entries that are not used, their last two bytes too.
             (24 + 9 + length.min(20), if length < 21 { 1 } else { 0 }),
-            (24 + 30, 1),
-            (24 + 31, 1),
             (BLOCK + 24 + 32, 1),
+            (BLOCK + 24 + 32 + 30, 1),
+            (BLOCK + 24 + 32 + 31, 1),
+            (2 * BLOCK + 24 + 30, 255),
+            (2 * BLOCK + 24 + 31, 255),
             (BLOCK + 503, 1),
             (4 * BLOCK + 24 + 7, 1),
             // The numbers of the last block are zero.
@@ -392,6 +404,125 @@ impl Maker {
     }
 }
 
+/// Histories around the copies that an image says (document 02, A8): any value is accepted, and goes
+/// on from there.
+impl Maker {
+    fn ask_each(&mut self, open: u64) {
+        self.calls.extend((0..=open).map(Call::Ask));
+        self.calls.push(Call::Ask(u64::MAX));
+    }
+
+    /// An image that must be accepted, all its entries asked for; a cut, and all again.
+    fn accepted_and_asked(&mut self, state: &State) {
+        let image = state.image();
+        assert!(reload(&image).is_ok(), "an image that is refused");
+        self.calls.push(Call::Given(image));
+        let open = state.entries.len() as u64;
+        self.ask_each(open);
+        self.calls.push(Call::Cut(1));
+        self.ask_each(open);
+    }
+
+    /// Each number and two copies more, asked for after each: 65,534 says 65,535 twice.
+    fn copies(&mut self) {
+        self.start(1);
+        let pool = self.telegrams(64);
+        let entries = pool.iter().zip(EDGES);
+        let given = state(1000, entries.map(|(b, n)| heard_again(960, b, n)).collect());
+        self.accepted_and_asked(&given);
+        for time in [1000, 1001] {
+            for (place, entry) in given.entries.iter().enumerate() {
+                self.heard(time, &at_level(&entry.bytes, 1));
+                self.calls.push(Call::Ask(place as u64));
+            }
+            self.calls.push(Call::Cut(0));
+            self.ask_each(EDGES.len() as u64);
+            self.calls.push(Call::Park(IMAGE));
+        }
+        // Another opening of each starts from 0, and the first ones keep theirs until they close.
+        for (i, entry) in given.entries.iter().enumerate() {
+            let time = 1010 + 5 * i as u64;
+            self.heard(time, &at_level(&entry.bytes, 0));
+            self.heard(time, &at_level(&entry.bytes, 2));
+            self.calls.push(Call::Ask(i as u64));
+            self.calls.push(Call::Ask((EDGES.len() + i) as u64));
+        }
+        self.heard(1061, &at_level(&given.entries[0].bytes, 1));
+        self.ask_each(EDGES.len() as u64);
+        self.calls.push(Call::Park(IMAGE));
+        // An image that is refused for one bit of a number, its check left as it was: all stays.
+        let mut image = given.image();
+        image[24 + 31] ^= 1;
+        self.refused(image);
+        self.ask_each(EDGES.len() as u64);
+        self.older(&pool);
+        self.of_one_telegram(&pool[0], &pool[1]);
+        self.of_all_64(&pool);
+        self.end();
+    }
+
+    /// An older image has zeros there; and one says more copies than its total has.
+    fn older(&mut self, pool: &[Vec<u8>]) {
+        for copies in [0, 65_535] {
+            let entries = pool[..3].iter().map(|b| heard_again(490, b, copies));
+            let mut given = state(500, entries.collect());
+            given.totals.received -= given.totals.copies;
+            given.totals.copies = 0;
+            given.setting = 2;
+            self.accepted_and_asked(&given);
+            self.heard(501, &at_level(&pool[1], 3));
+            self.ask_each(3);
+        }
+    }
+
+    /// Three openings of one telegram, another between: a copy belongs to the latest, and those that
+    /// stay open move up with their numbers.
+    fn of_one_telegram(&mut self, one: &[u8], other: &[u8]) {
+        let given = state(
+            1090,
+            vec![
+                heard_again(1000, one, 700),
+                heard_again(1000, other, 256),
+                heard_again(1041, one, 513),
+                heard_again(1082, one, 65_533),
+            ],
+        );
+        self.accepted_and_asked(&given);
+        for (time, bytes) in [
+            (1090, one),
+            (1100, other),
+            (1100, one),
+            (1101, one),
+            (1142, one),
+            (1143, other),
+        ] {
+            self.heard(time, &at_level(bytes, 1));
+            self.ask_each(4);
+        }
+    }
+
+    /// Any number at each of 64, a copy of each, and some that close.
+    fn of_all_64(&mut self, pool: &[Vec<u8>]) {
+        let mut entries = Vec::new();
+        for (i, bytes) in pool.iter().enumerate() {
+            let copies = self.random.next() as u16;
+            entries.push(heard_again(2000 + i as u64, bytes, copies));
+        }
+        let given = state(2070, entries);
+        self.accepted_and_asked(&given);
+        for bytes in pool {
+            self.heard(2070, &at_level(bytes, 15));
+        }
+        self.calls.push(Call::Park(IMAGE));
+        self.heard(2133, &at_level(&pool[60], 1));
+        self.ask_each(31);
+        self.calls.push(Call::Park(IMAGE));
+    }
+}
+
+/// Numbers of copies at the edges of their two bytes, and of the ceiling.
+const EDGES: [u16; 9] = [0, 1, 254, 255, 256, 32_767, 65_533, 65_534, 65_535];
+
 /// Histories around images that the input gives.
 pub fn calls() -> Vec<Call> {
     let mut maker = Maker {
@@ -403,5 +534,6 @@ pub fn calls() -> Vec<Call> {
     maker.entries();
     maker.totals();
     maker.layout();
+    maker.copies();
     maker.calls
 }

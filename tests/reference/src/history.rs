@@ -6,10 +6,12 @@ use crate::bursts::{self, Burst, Place};
 use crate::clerk::{Answer, Clerk, Totals};
 use crate::given;
 use crate::hex::{hex, hex_or_dash};
+#[cfg(test)]
+use crate::image::Entry;
 use crate::image::{reload, IMAGE};
 use crate::repeater::sent_for;
 use crate::scenarios::calls;
-use crate::subtelegram::OUTPUT_SHORT;
+use crate::subtelegram::{Refusal, OUTPUT_SHORT};
 use std::fmt::Write;
 
 #[derive(Debug, Clone, PartialEq)]
@@ -29,6 +31,8 @@ pub enum Call {
     Given(Vec<u8>),
     /// A burst.
     Burst(Burst),
+    /// The copies of the telegram at this place are asked for.
+    Ask(u64),
 }
 
 // What must be shown.
@@ -48,7 +52,14 @@ pub trait Model {
         sent_for(setting, answer, bytes)
     }
     fn totals(&self) -> Totals;
+    /// The number of the answer, and the copies of the telegram at this place, 0 beside a refusal.
+    fn copies(&mut self, place: u64) -> (Refusal, u16);
     fn image(&self) -> Vec<u8>;
+    /// The open telegrams, as the image has them.
+    #[cfg(test)]
+    fn opened(&self) -> Vec<Entry> {
+        reload(&self.image()).map_or(Vec::new(), |state| state.entries)
+    }
     /// The restore of this image into a collector started fresh, with which the history goes on;
     /// the number says nothing.
     fn restore(&mut self, image: &[u8], number: u8) -> u8;
@@ -77,8 +88,17 @@ impl Model for Clerk {
         Clerk::totals(self)
     }
 
+    fn copies(&mut self, place: u64) -> (Refusal, u16) {
+        Clerk::copies(self, place).map_or_else(|number| (number, 0), |copies| (0, copies))
+    }
+
     fn image(&self) -> Vec<u8> {
         Clerk::image(self)
+    }
+
+    #[cfg(test)]
+    fn opened(&self) -> Vec<Entry> {
+        self.entries()
     }
 
     /// The clerk stays as he was: he is fed the receptions and nothing else. The number is that
@@ -177,6 +197,10 @@ pub fn show(calls: &[Call], model: &mut impl Model) -> String {
                 writeln!(out, "W {number} {}", model.totals().text()).unwrap();
             }
             Call::Burst(burst) => out += &bursts::show(burst, model),
+            Call::Ask(place) => {
+                let (number, copies) = model.copies(*place);
+                writeln!(out, "A {number} {copies} {}", model.totals().text()).unwrap();
+            }
         }
     }
     out
@@ -206,6 +230,7 @@ pub fn record(call: &Call) -> [u8; 64] {
         Call::Cut(any) => (4, u64::from(*any), &[]),
         Call::Spoiled(k) => (5, *k as u64, &[]),
         Call::Burst(burst) => (6, burst.records.len() as u64, &places),
+        Call::Ask(place) => (7, *place, &[]),
         Call::Given(image) => (8, image.len() as u64, &[]),
     };
     let mut record = [0; 64];

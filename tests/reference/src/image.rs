@@ -12,18 +12,23 @@ const ENTRY: usize = 32;
 const ENTRIES_AT: usize = 24;
 const CHECK_AT: usize = 511;
 
+const COPIES_AT: usize = 30;
+
 #[derive(Debug, Clone, PartialEq)]
 pub struct Entry {
     pub time: u64,
     pub bytes: Vec<u8>,
+    pub copies: u16,
 }
 
-/// Time opened (8), length (1), bytes as first received (21, zero filled), two zeros.
+/// Time opened (8), length (1), bytes as first received (21, zero filled), and in "the last two
+/// bytes" the number of copies (document 02, A8).
 fn write_entry(entry: &Entry) -> Vec<u8> {
     let mut out = entry.time.to_be_bytes().to_vec();
     out.push(entry.bytes.len() as u8);
-    out.extend(&entry.bytes);
-    out.resize(ENTRY, 0);
+    out.extend(entry.bytes.iter().take(LONGEST));
+    out.resize(COPIES_AT, 0);
+    out.extend(entry.copies.to_be_bytes());
     out
 }
 
@@ -101,6 +106,8 @@ fn accept(image: &[u8]) -> Option<Reloaded> {
             entries.push(Entry {
                 time: number(entry),
                 bytes: entry[9..9 + length].to_vec(),
+                // "any value there accepted on reload"
+                copies: u16::from_be_bytes([entry[COPIES_AT], entry[COPIES_AT + 1]]),
             });
         }
     }
@@ -257,10 +264,12 @@ mod tests {
         let a = Entry {
             time: 50,
             bytes: valid(&mut random),
+            copies: 0,
         };
         let b = Entry {
             time: 60,
             bytes: valid(&mut random),
+            copies: 0,
         };
         let totals = Totals {
             received: 3,
@@ -290,6 +299,7 @@ mod tests {
                 .map(|&(time, level)| Entry {
                     time,
                     bytes: at_level(&b.bytes, level),
+                    copies: 0,
                 })
                 .collect();
             let kept = entries.len() as u64;
@@ -336,5 +346,53 @@ mod tests {
             ..totals
         };
         assert!(!good(60, &wrapping, 0, &[a, b]));
+    }
+
+    /// Document 02, A8: "any value there accepted on reload", in each entry, and it is written again.
+    #[test]
+    fn every_number_of_copies_is_accepted() {
+        let clerk = full_clerk();
+        let mut image = clerk.image();
+        for copies in 0..=u16::MAX {
+            let place = usize::from(copies) % PLACES;
+            let block = place / IN_A_BLOCK * BLOCK;
+            let at = block + ENTRIES_AT + ENTRY * (place % IN_A_BLOCK) + COPIES_AT;
+            image[at..at + 2].copy_from_slice(&copies.to_be_bytes());
+            image[block + CHECK_AT] = crc(&image[block..block + CHECK_AT]);
+            let reloaded = reload(&image).unwrap();
+            assert_eq!(reloaded.entries[place].copies, copies);
+            if copies % 97 == 0 {
+                let again = Clerk::going_on(reloaded);
+                assert_eq!(again.copies(place as u64), Ok(copies));
+                assert_eq!(again.image(), image);
+            }
+        }
+    }
+
+    /// By hand: "up to 65,535 and then staying there"; each other entry keeps its own.
+    #[test]
+    fn the_ceiling() {
+        let mut random = Random::new(7);
+        let entries: Vec<Entry> = [65_534, 0, 65_535]
+            .map(|copies| Entry {
+                time: 10,
+                bytes: valid(&mut random),
+                copies,
+            })
+            .to_vec();
+        let totals = Totals {
+            received: 3,
+            kept: 3,
+            ..Totals::default()
+        };
+        let image = write(10, &totals, 0, &entries);
+        let mut clerk = Clerk::going_on(reload(&image).unwrap());
+        for copies in [65_535, 65_535] {
+            clerk.take(11, &at_level(&entries[0].bytes, 1));
+            let asked: Vec<_> = (0..4).map(|place| clerk.copies(place)).collect();
+            assert_eq!(asked, [Ok(copies), Ok(0), Ok(65_535), Err(10)]);
+        }
+        assert_eq!(clerk.image()[24 + 30..24 + 32], [0xFF, 0xFF]);
+        assert_eq!(clerk.copies(u64::MAX), Err(10));
     }
 }

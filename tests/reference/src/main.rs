@@ -36,6 +36,8 @@ mod cases;
 #[cfg(test)]
 mod faults;
 #[cfg(test)]
+mod isolation;
+#[cfg(test)]
 mod repack_faults;
 #[cfg(test)]
 mod report_faults;

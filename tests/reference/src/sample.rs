@@ -263,6 +263,7 @@ pub fn plant() -> String {
 #[cfg(test)]
 mod tests {
     use super::*;
+    use crate::clerk::Clerk;
     use crate::collect;
 
     #[test]
@@ -306,5 +307,28 @@ mod tests {
         assert!((300..400).contains(&text.lines().count()));
         // A row for each line but the first, and the totals.
         assert_eq!(rows.lines().count(), text.lines().count());
+    }
+
+    /// The figures that README shows: the copies of each open telegram (document 02, A8), asked for
+    /// after the receptions up to a time.
+    #[test]
+    fn copies_of_the_readme() {
+        let text = plant();
+        let asked_after = |end: u64| -> Vec<u16> {
+            let mut clerk = Clerk::new();
+            let heard = text
+                .lines()
+                .filter_map(|l| collect::reception(l.as_bytes()));
+            for (time, bytes) in heard.take_while(|(time, _)| *time <= end) {
+                clerk.take(time, &bytes);
+            }
+            let places = (0..).map(|place| clerk.copies(place));
+            places.map_while(Result::ok).collect()
+        };
+        assert_eq!(asked_after(1_524), [2]);
+        assert_eq!(asked_after(10_034), [4]);
+        let lamps: Vec<u16> = (0..64).map(|lamp| u16::from(lamp % 8 == 4)).collect();
+        assert_eq!(asked_after(47_680), lamps);
+        assert_eq!(lamps.iter().filter(|&&copies| copies == 0).count(), 56);
     }
 }

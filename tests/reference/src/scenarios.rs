@@ -16,9 +16,26 @@ const LEVELS: [u8; 8] = [0, 0, 0, 1, 1, 2, 3, 15];
 pub const ROOMS: [usize; 6] = [0, 100, 2559, 2560, 2561, 3000];
 const ROOMS_ENOUGH: [usize; 3] = [2560, 2561, 3000];
 
+/// Places past every end, and such as look open where some of their bytes are lost.
+const FAR_PLACES: [u64; 9] = [
+    64,
+    65,
+    255,
+    256,
+    65_536,
+    1 << 32,
+    (1 << 32) + 1,
+    1 << 63,
+    u64::MAX,
+];
+/// Of more open telegrams than this, some are asked for in place of all.
+const FEW: usize = 8;
+
 /// Writes calls, with a clerk at hand to aim at what is open.
 struct Maker {
     random: Random,
+    /// Decides what is asked for, so that other calls do not hang on it.
+    asking: Random,
     clerk: Clerk,
     now: u64,
     parked: usize,
@@ -29,6 +46,7 @@ impl Maker {
     fn new(seed: u64) -> Maker {
         Maker {
             random: Random::new(seed),
+            asking: Random::new(seed ^ 0x4138),
             clerk: Clerk::new(),
             now: 0,
             parked: 0,
@@ -59,7 +77,66 @@ impl Maker {
             9 => self.several(),
             _ => {}
         }
+        match self.asking.below(100) {
+            0..=5 => self.ask_one(),
+            6 => self.ask_around_a_cut(),
+            7 => self.ask_far(),
+            _ => {}
+        }
         answer
+    }
+
+    fn ask(&mut self, place: usize) {
+        self.calls.push(Call::Ask(place as u64));
+    }
+
+    /// Asks at a place that is open, or at the first that is not; or for the one heard most often.
+    fn ask_one(&mut self) {
+        let entries = self.clerk.entries();
+        let most = (0..entries.len()).max_by_key(|&place| entries[place].copies);
+        let place = match most {
+            Some(place) if self.asking.chance(50) => place,
+            _ => self.asking.range(0, entries.len()),
+        };
+        self.ask(place);
+    }
+
+    /// Asks at a place past the end.
+    fn ask_far(&mut self) {
+        let open = self.clerk.entries().len() as u64;
+        let far = self.asking.pick(&FAR_PLACES);
+        let place = self.asking.pick(&[open, open + 1, far, far]);
+        self.calls.push(Call::Ask(place));
+    }
+
+    /// Asks at every open place, of many at some: around the ends of blocks, and any.
+    fn ask_each(&mut self) {
+        let open = self.clerk.entries().len();
+        for place in self.some_places(open) {
+            self.ask(place);
+        }
+    }
+
+    fn some_places(&mut self, open: usize) -> Vec<usize> {
+        if open <= FEW {
+            return (0..open).collect();
+        }
+        let mut places = vec![0, 14, 15, 59, 60, open - 1];
+        places.retain(|&place| place < open);
+        while places.len() < FEW {
+            places.push(self.asking.below(open));
+        }
+        places
+    }
+
+    /// "A cut keeps every count": asks, a cut, and the same asks again.
+    fn ask_around_a_cut(&mut self) {
+        let open = self.clerk.entries().len();
+        let places = self.some_places(open);
+        places.iter().for_each(|&place| self.ask(place));
+        let any = self.asking.below(3) as u8;
+        self.calls.push(Call::Cut(any));
+        places.iter().for_each(|&place| self.ask(place));
     }
 
     /// The first three of a history have room enough.
@@ -110,6 +187,9 @@ impl Maker {
         }
         self.cut();
         self.park();
+        self.ask_each();
+        self.ask(self.clerk.entries().len());
+        self.ask_far();
     }
 
     fn pass(&mut self, gap: u64) {
@@ -536,6 +616,89 @@ impl Maker {
         self.end();
     }
 
+    /// One telegram heard 301 times within 100 ms (document 02, A8), a few others beside it; then it
+    /// closes, those opened after it move up, and it opens anew.
+    fn often(&mut self, setting: u8) {
+        self.start(setting, 7_000);
+        let pool = self.pool(3);
+        let (often, before, after) = (&pool[0], &pool[1], &pool[2]);
+        self.reception_alone(7_000, &at_level(before, 1));
+        self.reception_alone(7_000, &at_level(often, 1));
+        for i in 1..=300 {
+            let level = self.random.pick(&[1, 2, 3, 15]);
+            self.reception_alone(7_000 + i / 3, &at_level(often, level));
+            if i % 40 == 0 {
+                self.reception_alone(7_000 + i / 3, &at_level(after, 1));
+            }
+            if [1, 2, 127, 128, 254, 255, 256, 257, 300].contains(&i) {
+                self.ask_around_a_cut();
+            }
+            if [255, 256, 300].contains(&i) {
+                self.park();
+            }
+        }
+        // 7,101: the first two are gone; the third, opened at 7,013, stands at place 0.
+        self.reception_alone(7_101, &at_level(often, 1));
+        self.ask_around_a_cut();
+        self.ask(2);
+        self.reception_alone(7_101, &at_level(often, 2));
+        self.reception_alone(7_113, &at_level(after, 2));
+        self.ask_each();
+        self.reception_alone(7_114, &at_level(often, 3));
+        self.ask_each();
+    }
+
+    /// Openings of one telegram 41 ms apart, with copies of each; another telegram between; 64 open and
+    /// originals that are LOOSE, which count nowhere.
+    fn credited(&mut self, setting: u8) {
+        self.start(setting, 900);
+        let pool = self.pool(PLACES);
+        let (one, rest) = (&pool[0], &pool[1..]);
+        for (time, level) in [
+            (900, 0),
+            (905, 0),
+            (941, 0),
+            (942, 0),
+            (943, 1),
+            (981, 0),
+            (982, 0),
+            (983, 2),
+            (984, 1),
+        ] {
+            self.reception_alone(time, &at_level(one, level));
+            self.ask_each();
+        }
+        for (i, bytes) in rest[..61].iter().enumerate() {
+            self.reception_alone(985 + i as u64 / 20, &at_level(bytes, 0));
+        }
+        // 64 are open: late originals are LOOSE, copies stay copies.
+        self.reception_alone(990, &at_level(&rest[61], 0));
+        self.reception_alone(1_000, &at_level(one, 1));
+        self.ask_around_a_cut();
+        for bytes in &rest[..3] {
+            self.reception_alone(1_000, &at_level(bytes, 1));
+            self.reception_alone(999, &at_level(bytes, 1));
+        }
+        self.reception_alone(1_000, &at_level(&rest[62], 0));
+        (0..=PLACES).for_each(|place| self.ask(place));
+        self.cut();
+        (0..=PLACES).for_each(|place| self.ask(place));
+        // The first opening closes, and one place is free; late originals take it, then none.
+        for (time, bytes) in [(1_027, &rest[0]), (1_027, &rest[1]), (1_028, &rest[2])] {
+            self.reception_alone(time, &at_level(bytes, 0));
+            self.ask_around_a_cut();
+            self.reception_alone(time, &at_level(bytes, 1));
+            self.ask(PLACES - 1);
+            self.ask(3);
+        }
+        self.reception_alone(1_042, &at_level(one, 1));
+        self.ask_each();
+        self.reception_alone(1_082, &at_level(one, 1));
+        self.ask_each();
+        self.reception_alone(1_083, &at_level(one, 1));
+        self.ask_around_a_cut();
+    }
+
     /// Document 01's cases that are run and not proved: first heard at level 2 and the original 5 ms
     /// later, which is a copy with nothing to send; and lengths 7 and 22. Then the two hashes (document 02,
     /// A3): a telegram by each with one bit of HASH changed, and one whose STATUS names the other hash.
@@ -567,6 +730,19 @@ pub fn calls() -> Vec<Call> {
     calls
 }
 
+/// A list of calls divided into its histories: each begins with a start.
+#[cfg(test)]
+pub fn histories(calls: Vec<Call>) -> Vec<Vec<Call>> {
+    let mut all: Vec<Vec<Call>> = Vec::new();
+    for call in calls {
+        match (&call, all.last_mut()) {
+            (Call::Start(_), _) | (_, None) => all.push(vec![call]),
+            (_, Some(history)) => history.push(call),
+        }
+    }
+    all
+}
+
 /// Histories with bursts: of every size, and the receptions of other histories divided.
 fn in_bursts() -> Vec<Call> {
     let mut maker = Maker::new(0x4131_4D6F_6F72_696E);
@@ -582,6 +758,7 @@ fn in_bursts() -> Vec<Call> {
     let mut calls = bursts::sizes(1, &mut random);
     calls.extend(bursts::full_count(&mut random));
     calls.extend(bursts::divided(maker.calls, &mut random));
+    calls.extend(bursts::often(&mut random));
     calls
 }
 
@@ -611,8 +788,19 @@ fn one_by_one() -> Vec<Call> {
     several(&[0, 1, 2, 1], 130, Maker::originals);
     several(&[1, 2], 200, Maker::crowded_originals);
     let mut all = maker.calls;
+    all.extend(asked_for());
     all.extend(given::calls());
     all
+}
+
+/// Histories around the number of copies.
+fn asked_for() -> Vec<Call> {
+    let mut maker = Maker::new(0x4138_4D6F_6F72_696E);
+    maker.often(1);
+    maker.end();
+    maker.credited(2);
+    maker.end();
+    maker.calls
 }
 
 /// More than 10^5 receptions with gaps around 40 and 100 ms, full tables and cuts, too long to be

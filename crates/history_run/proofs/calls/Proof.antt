@@ -20,6 +20,8 @@ calls-spec =
     (λ c. tt)
     (λ c. search needs)
     (λ c κs. search needs)
+    (λ c. search needs)
+    (λ c κs. search needs)
     (λ c. omega arith)
     (λ c. tt)
     (λ c. omega arith)
