@@ -91,7 +91,8 @@ map-replicate p (suc n) = ap (λ (l : List Replied). repliedOf p ∷ l) (map-rep
 pub places-are : (r : List ℕ) (all : List Reply) (p : Reply) (m : ℕ) → m ≤ listed → all ≡ replicate listed p → repliedOf p ≡ placeIn r
     → map repliedOf (take m all) ≡ replicate m (placeIn r)
 places-are r all p m h e is =
-    ap (λ (l : List Reply). map repliedOf (take m l)) e ∙ ap (map repliedOf) (part-replicate 0 m listed p (omega arith)) ∙ map-replicate p m ∙ ap (replicate m) is
+    ap (λ (l : List Reply). map repliedOf (take m l)) e ∙ ap (map repliedOf) (part-replicate 0 m listed p (omega arith)) ∙ map-replicate p m
+    ∙ ap (replicate m) is
 
 -- ---- the first m places, as they are written
 

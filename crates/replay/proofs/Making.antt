@@ -76,7 +76,8 @@ module _ (v : View) (entry ys : List ℕ) (fill number : ℕ) (room : 58 ≤ len
       ∙ ap (λ (l : List ℕ). ys ++ l) (drop-drop (58 + rest - 58) 58 entry ∙ drop-of-length-le entry k) ∙ append-nil ys
 
   pub saved-output : record { number = number; output = ys } ≡ checkpointOf v (replicate (length (part 58 (58 + rest - 58) entry)) fill)
-      → length ys ≡ length (part 58 (58 + rest - 58) entry) → (exit : List ℕ) → Begun lent-output (headOf saving number (v .totals) ++ be 8 rest) 58 exit
+      → length ys ≡ length (part 58 (58 + rest - 58) entry) → (exit : List ℕ)
+      → Begun lent-output (headOf saving number (v .totals) ++ be 8 rest) 58 exit
       → exit ≡ bytesOf (wroteOf v (replicate rest fill))
   unfolding bytesOf
   saved-output e q exit b =

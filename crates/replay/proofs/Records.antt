@@ -160,7 +160,8 @@ sizes-more calls i size h e =
     ap sizeOfAll (calls-more [] calls i h) ∙ size-append (take i (callsIn [] calls)) (k ∷ [])
     ∙ rw (e, lent-record calls i) (omega arith)
 
-sizes-same : (lent calls xs : List ℕ) → sizeOfAll (map (λ (i : ℕ). callIn lent (recordAt calls i)) xs) ≡ sizeOfAll (map (λ (i : ℕ). callIn [] (recordAt calls i)) xs)
+sizes-same : (lent calls xs : List ℕ) → sizeOfAll (map (λ (i : ℕ). callIn lent (recordAt calls i)) xs) ≡ sizeOfAll (map (λ (i : ℕ). callIn []
+    (recordAt calls i)) xs)
 sizes-same lent calls [] = refl
 sizes-same lent calls (i ∷ xs) = ap₂ _+_ (size-lent lent (recordAt calls i)) (sizes-same lent calls xs)
 

@@ -70,7 +70,8 @@ module _ (lent calls : List ℕ) where
       let l = callsIn lent calls in
       let k = callIn lent (recordAt calls i) in
       let is : size ≡ sizeOf k = e ∙ ap (λ (r : List ℕ). sizeOf (callIn [] r)) (lent-record calls i) ∙ sym (size-lent lent (recordAt calls i)) in
-      let one : sizeOfAll (take (i + 1) l) ≡ sizeOfAll (take i l) + (sizeOf k + 0) = ap sizeOfAll (calls-more lent calls i h) ∙ size-append (take i l) (k ∷ []) in
+      let one : sizeOfAll (take (i + 1) l) ≡ sizeOfAll (take i l) + (sizeOf k + 0) = ap sizeOfAll (calls-more lent calls i h)
+      ∙ size-append (take i l) (k ∷ []) in
       omega (arith, b .begun .long, sized v (take i l), size-part (i + 1) l, sizes-lent lent calls)
 
 -- ---- the end
@@ -97,7 +98,8 @@ module _ {v : View} {h : List Call} {entry exit : List ℕ} where
     next = e;
   }
 
-pub replays : {h : List Call} {entry exit : List ℕ} (c : Collector) (r : Replayed) → viewOf c ≡ fresh → Resumes (viewOf c) h entry exit r → Replays h entry exit r
+pub replays : {h : List Call} {entry exit : List ℕ} (c : Collector) (r : Replayed) → viewOf c ≡ fresh → Resumes (viewOf c) h entry exit r
+    → Replays h entry exit r
 replays {h} {entry} {exit} c r e b =
     let m : Resumes fresh h entry exit r = rw e at b in
     record {

@@ -102,7 +102,8 @@ pub(crate) fn delivered<'a>(
     out: &'a mut [u8],
 ) -> Collector
     requires { ⌜ (length (now r) ≡ callLength) × (length (now out) ≡ headLength + countLength + replyLength * min (numberAt 17 (now r)) listed) ⌝ }
-    ensures { λ d. ⌜ Called (viewOf c) (Burst (settingIn (now (r .entry))) (receptionsIn (lentIn (now (lent .entry)) (now (r .entry)))) (placesIn (now (r .entry))))
+    ensures { λ d. ⌜ Called (viewOf c)
+        (Burst (settingIn (now (r .entry))) (receptionsIn (lentIn (now (lent .entry)) (now (r .entry)))) (placesIn (now (r .entry))))
         (now (out .exit)) d ⌝ }
 {
     let m = reading::place_count(r);

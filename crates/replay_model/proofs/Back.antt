@@ -45,7 +45,8 @@ module _ (operation number : ℕ) (n : Totals) (x : List ℕ) where
   -- its segments
   abbrev segments : List (List ℕ)
   segments =
-      (operation ∷ number ∷ []) ∷ be 8 (n .received) ∷ be 8 (n .kept) ∷ be 8 (n .copies) ∷ be 8 (n .loose) ∷ be 8 (n .damaged) ∷ be 8 (n .late) ∷ x ∷ []
+      (operation ∷ number ∷ []) ∷ be 8 (n .received) ∷ be 8 (n .kept) ∷ be 8 (n .copies) ∷ be 8 (n .loose) ∷ be 8 (n .damaged) ∷ be 8
+      (n .late) ∷ x ∷ []
 
   head-segments : headOf operation number n ++ x ≡ flatten segments
   unfolding headOf flatten
@@ -133,7 +134,13 @@ replies-back : (l : List Replied) (x : List ℕ) → WholeReplies l → repliesI
 unfolding repliesIn flatten
 replies-back [] x w = refl
 replies-back (r ∷ l) x w =
-    rw (append-assoc (replyOf r) (flatten (map replyOf l)) x, reply-past r (flatten (map replyOf l) ++ x), reply-back r (flatten (map replyOf l) ++ x) (w .0), replies-back l x (w .1))
+    rw (
+      append-assoc (replyOf r) (flatten (map replyOf l)) x,
+      reply-past r (flatten (map replyOf l) ++ x),
+      reply-back r (flatten
+          (map replyOf l) ++ x) (w .0),
+      replies-back l x (w .1),
+    )
 
 replies-past : (l : List Replied) (x : List ℕ) → pastReplies (length l) (flatten (map replyOf l) ++ x) ≡ x
 unfolding pastReplies flatten
@@ -183,7 +190,13 @@ seen-back : (s : Seen) (x : List ℕ) → Whole s → seenIn (bytesOf s ++ x) �
 unfolding bytesOf bodyIn
 seen-back (Answered a sent n) x w =
     let r : Replied = record { answer = a; sent = sent } in
-    rw (append-assoc (headOf receiving (shownNumber a) n) (replyOf r) x, head-back receiving (shownNumber a) n (replyOf r ++ x) (w .1), reply-back r x (w .0), reply-past r x)
+    rw (
+      append-assoc (headOf receiving (shownNumber a) n) (replyOf r) x,
+      head-back receiving (shownNumber a) n (replyOf r ++ x)
+          (w .1),
+      reply-back r x (w .0),
+      reply-past r x,
+    )
 seen-back (Wrote number output n) x w =
     let y = output ++ x in
     rw (

@@ -82,7 +82,12 @@ module _ (v : View) (ok : acceptable v ≡ true) where
   block-long : (k a b : ℕ) → length (blockAt k a b v) ≡ blockLength
   unfolding blockAt
   block-long k a b =
-      block-length _ _ (header-length k (length (entriesOf k v)) a b) (cells-long k) (omega (arith, length-map (entriesOf k v) entryCell, group-length k))
+      block-length _ _ (header-length k (length (entriesOf k v)) a b) (cells-long k) (omega (
+        arith,
+        length-map
+            (entriesOf k v) entryCell,
+        group-length k,
+      ))
 
   image-length : (setting : ℕ) → length (imageWith setting v) ≡ imageLength
   unfolding imageWith flatten
@@ -113,7 +118,8 @@ taken-few setting v rs m =
     by-test (ltb m (length rs)) (λ h. rw (burst-refused setting v (length rs) m h) (omega arith))
     (λ h. by-test (eqb (burstNumber setting v (length rs) m) 0) (λ t. rw t (ltb-false m (length rs) h)) (λ t. rw t (omega arith)))
 
-pub burst-length : (setting : ℕ) (v : View) (rs : List Reception) (places : List Replied) → length (burstOf setting v rs places .replies) ≡ length places
+pub burst-length : (setting : ℕ) (v : View) (rs : List Reception) (places : List Replied)
+    → length (burstOf setting v rs places .replies) ≡ length places
 burst-length setting v rs places =
     let t = taken (burstNumber setting v (length rs) (length places)) rs in
     simp (length-append, length-drop, replies-to-length) (omega (arith, taken-few setting v rs (length places)))

@@ -61,5 +61,6 @@ size-append (k ∷ h) g = rw (size-append h g) (omega arith)
 
 pub size-part : (n : ℕ) (h : List Call) → sizeOfAll (take n h) ≤ sizeOfAll h
 size-part n h =
-    let e : sizeOfAll h ≡ sizeOfAll (take n h) + sizeOfAll (drop n h) = ap sizeOfAll (sym (take-append-drop n h)) ∙ size-append (take n h) (drop n h) in
+    let e : sizeOfAll h ≡ sizeOfAll (take n h) + sizeOfAll (drop n h) = ap sizeOfAll (sym (take-append-drop n h))
+    ∙ size-append (take n h) (drop n h) in
     omega arith

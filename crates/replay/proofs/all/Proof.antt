@@ -35,7 +35,8 @@ room : (c : tie.After-size-in Inv-loop μ-loop) → turned c .before .loop .at +
 room c =
     let t = turned c in
     let s = start (t .before) in
-    enough (now (s .args .lent)) (now (s .args .calls)) (t .before .loop .i) (c .size-in .result) (omega arith) (t .before .loop .inv .2) (c .size-in .ensures) (s .pre)
+    enough (now (s .args .lent)) (now (s .args .calls)) (t .before .loop .i) (c .size-in .result) (omega arith) (t .before .loop .inv .2)
+    (c .size-in .ensures) (s .pre)
 
 room-now : (c : tie.After-size-in Inv-loop μ-loop) → turned c .before .loop .at + c .size-in .result ≤ length (turned c .before .loop .out)
 room-now c = within (turned c .before .loop .inv .2 .begun) _ (room c)

@@ -52,7 +52,8 @@ loop-again c =
 returns-2 : tie.Need-returns-2 Inv-loop μ-loop
 returns-2 c =
     let calls = now (start (c .before) .args .calls) in
-    sym (le-leb (sizeOfAll (callsIn [] calls)) _ (rw (← calls-all [] calls (c .before .loop .i) (omega arith)) (omega (arith, c .before .loop .inv .2))))
+    sym (le-leb (sizeOfAll (callsIn [] calls)) _ (rw (← calls-all [] calls (c .before .loop .i) (omega arith)) (omega
+    (arith, c .before .loop .inv .2))))
 
 pub fits-spec : {M : Type 1} → statement M
 fits-spec =

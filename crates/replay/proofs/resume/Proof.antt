@@ -19,7 +19,12 @@ returns c =
     let test = c .before in
     let a = test .before .before .before .before .args in
     let short : length (now (a .out)) < sizeOfAll (callsIn (now (a .lent)) (now (a .calls))) =
-    omega (arith, sizes-lent (now (a .lent)) (now (a .calls)), leb-false (sizeOfAll (callsIn [] (now (a .calls)))) (length (now (a .out))) (sym (test .fits2 .ensures) ∙ not-true _ (c .if1 .taken)))
+    omega (
+      arith,
+      sizes-lent (now (a .lent)) (now (a .calls)),
+      leb-false (sizeOfAll (callsIn [] (now (a .calls)))) (length (now (a .out))) (sym
+          (test .fits2 .ensures) ∙ not-true _ (c .if1 .taken)),
+    )
     in
     refused (a .c) refl short refl
 

@@ -53,7 +53,8 @@ first c =
     let v = viewOf (start at .args .c) in
     packed
     (lend (begin out) _ (bytesOf (wroteOf v (output at))) (end at)
-    (c .put-wrote .ensures ∙ ap (λ (o : List ℕ). bytesOf (wroteOf v o)) (output-is (now (start at .args .r)) (part 0 (end at - 0) out) (first-room at ∙ omega (arith, output-length at))))
+    (c .put-wrote .ensures ∙ ap (λ (o : List ℕ). bytesOf (wroteOf v o)) (output-is (now (start at .args .r)) (part 0 (end at - 0) out)
+    (first-room at ∙ omega (arith, output-length at))))
     (c .put-wrote .kept .0) (omega arith) (omega arith))
 
 abbrev put : tie.After-restore → tie.After-put-wrote
@@ -79,7 +80,8 @@ returns c =
     let at = lengths (put t) in
     let h = room at in
     let v = viewOf (start at .args .c) in
-    let both = lend (first (put t) .begun) _ (bytesOf (Restored (loadedNumber (t .restore .result .answer)) (t .restore .result .next .totals))) (end at + 50)
+    let both = lend (first (put t) .begun) _ (bytesOf (Restored (loadedNumber (t .restore .result .answer)) (t .restore .result .next .totals)))
+    (end at + 50)
     (second .put-restored .ensures) (second .put-restored .kept .0) (omega arith) (omega arith) in
     record {
       bytes = done both h ∙ cut-made v (output at) (restoreResult (t .restore .result)) (restored t);
@@ -102,7 +104,12 @@ cut-spec =
     (λ c κs. search needs)
     (λ c. search needs)
     (λ c. search needs)
-    (λ c. within (first (c .before .before .before .before .before) .begun) _ (omega (arith, room (lengths (c .before .before .before .before .before)), c .before .before .least .ensures)))
+    (λ c. within (first (c .before .before .before .before .before) .begun) _ (omega (
+      arith,
+      room (lengths
+          (c .before .before .before .before .before)),
+      c .before .before .least .ensures,
+    )))
     (λ c κs. search needs)
     (λ c. omega (arith, lengths (put (c .before)) .output-length .ensures .1))
     (λ c. omega arith)

@@ -15,12 +15,15 @@ abbrev start : tie.After-burst-in → tie.Start
 start c = c .before .before .before .before .before .before
 
 -- what `burst_within` ensures, of the receptions and places that the record says
-taken : (c : tie.After-burst-in) → burstedOf (c .burst-in .result .bursted) (take (c .before .before .place-count .result) (c .burst-in .result .replies))
-    ≡ burstOf (settingIn (now (start c .args .r))) (viewOf (start c .args .c)) (receptionsIn (lentIn (now (start c .args .lent)) (now (start c .args .r)))) (placesIn (now (start c .args .r)))
+taken : (c : tie.After-burst-in) → burstedOf (c .burst-in .result .bursted) (take (c .before .before .place-count .result)
+    (c .burst-in .result .replies))
+    ≡ burstOf (settingIn (now (start c .args .r))) (viewOf (start c .args .c)) (receptionsIn (lentIn (now (start c .args .lent)) (now
+    (start c .args .r)))) (placesIn (now (start c .args .r)))
 taken c =
     let r = now (start c .args .r) in
     c .burst-in .ensures .result
-    ∙ λ i. burstOf (settingIn r) (viewOf (start c .args .c)) (receptionsIn (c .before .lent-in .ensures i)) (replicate (c .before .before .place-count .ensures .0 i) (placeIn r))
+    ∙ λ i. burstOf (settingIn r) (viewOf (start c .args .c)) (receptionsIn (c .before .lent-in .ensures i)) (replicate
+    (c .before .before .place-count .ensures .0 i) (placeIn r))
 
 put-delivered-requires : tie.Need-put-delivered-requires
 put-delivered-requires c κs =
@@ -36,7 +39,8 @@ returns c =
     let a = start b .args in
     let r = now (a .r) in
     record {
-      bytes = put .put-delivered .ensures ∙ delivered (viewOf (a .c)) (settingIn r) (receptionsIn (lentIn (now (a .lent)) r)) (placesIn r) _ (taken b);
+      bytes = put .put-delivered .ensures ∙ delivered (viewOf (a .c)) (settingIn r) (receptionsIn (lentIn (now (a .lent)) r)) (placesIn r) _
+          (taken b);
       next = ap (λ (q : BurstResult). q .next) (taken b);
     }
 

@@ -26,16 +26,19 @@ start c = least c .before .before .before .before .before .before
 
 -- the bytes that are lent are those that the record says
 lent-bytes : (c : tie.After-take) → part 10 (10 + least c .least .result - 10) (now (start c .args .r)) ≡ receptionIn (now (start c .args .r)) .bytes
-lent-bytes c = bytes-lent (now (start c .args .r)) _ (least c .least .result) (least c .least .ensures ∙ ap₂ min (least c .before .wide .ensures) refl)
+lent-bytes c = bytes-lent (now (start c .args .r)) _ (least c .least .result) (least c .least .ensures
+    ∙ ap₂ min (least c .before .wide .ensures) refl)
 
 -- what `take` ensures, of the reception that the record says
 taken : (c : tie.After-take) → outcomeOf (c .take .result) ≡ step (viewOf (start c .args .c)) (receptionIn (now (start c .args .r)))
 taken c =
-    c .take .ensures ∙ λ i. step (viewOf (start c .args .c)) (record { bytes = lent-bytes c i; time = least c .before .before .before .number-at .ensures i })
+    c .take .ensures ∙ λ i. step (viewOf (start c .args .c))
+    (record { bytes = lent-bytes c i; time = least c .before .before .before .number-at .ensures i })
 
 -- and `sent_for` of its answer
 sent : (c : tie.After-sent-for) → c .sent-for .result
-    ≡ sentFor (settingIn (now (start (c .before .before .before) .args .r))) (shownOf (c .before .before .before .take .result .answer)) (receptionIn (now (start (c .before .before .before) .args .r)))
+    ≡ sentFor (settingIn (now (start (c .before .before .before) .args .r))) (shownOf (c .before .before .before .take .result .answer))
+    (receptionIn (now (start (c .before .before .before) .args .r)))
 unfolding sentFor
 sent c =
     let t = c .before .before .before in
@@ -50,7 +53,8 @@ returns c =
     let t = s .before .before .before in
     let a = start t .args in
     record {
-      bytes = put .put-answered .ensures ∙ answered (viewOf (a .c)) (settingIn (now (a .r))) (receptionIn (now (a .r))) (outcomeOf (t .take .result)) _ (taken t) (sent s);
+      bytes = put .put-answered .ensures ∙ answered (viewOf (a .c)) (settingIn (now (a .r))) (receptionIn (now (a .r))) (outcomeOf
+          (t .take .result)) _ (taken t) (sent s);
       next = ap (λ (o : Outcome). o .next) (taken t);
     }
 

@@ -14,7 +14,8 @@ abbrev start : tie.After-restore → tie.Start
 start c = c .before .before .before .before .before
 
 -- what `restore` ensures, of the image that the record says
-taken : (c : tie.After-restore) → restoreResult (c .restore .result) ≡ restoreOf (viewOf (start c .args .c)) (lentIn (now (start c .args .lent)) (now (start c .args .r)))
+taken : (c : tie.After-restore) → restoreResult (c .restore .result) ≡ restoreOf (viewOf (start c .args .c)) (lentIn (now (start c .args .lent))
+    (now (start c .args .r)))
 taken c = c .restore .ensures ∙ ap (restoreOf (viewOf (start c .args .c))) (c .before .lent-in .ensures)
 
 returns : tie.Need-returns
@@ -24,7 +25,8 @@ returns c =
     let t = put .before .before .before in
     let a = start t .args in
     record {
-      bytes = put .put-restored .ensures ∙ loaded (viewOf (a .c)) (lentIn (now (a .lent)) (now (a .r))) (restoreResult (t .restore .result)) (taken t);
+      bytes = put .put-restored .ensures ∙ loaded (viewOf (a .c)) (lentIn (now (a .lent)) (now (a .r))) (restoreResult (t .restore .result))
+          (taken t);
       next = ap (λ (q : RestoreResult). q .next) (taken t);
     }
 

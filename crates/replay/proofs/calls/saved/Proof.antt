@@ -18,7 +18,8 @@ returns c =
     let a = start .args in
     let v = viewOf (a .c) in
     record {
-      bytes = put .put-wrote .ensures ∙ ap (λ (output : List _). bytesOf (wroteOf v output)) (output-is (now (a .r)) (now (a .out)) (start .pre .1)) ∙ saved v (outputIn (now (a .r)));
+      bytes = put .put-wrote .ensures ∙ ap (λ (output : List _). bytesOf (wroteOf v output)) (output-is (now (a .r)) (now (a .out))
+          (start .pre .1)) ∙ saved v (outputIn (now (a .r)));
       next = refl;
     }
 

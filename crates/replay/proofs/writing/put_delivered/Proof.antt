@@ -32,7 +32,8 @@ abbrev step2 : tie.After-put-number → Writing 58
 step2 c =
     let at = c .before .before .before .before in
     let room = start at .pre .1 in
-    packed (lend-sized (step1 at .begun) _ (λ w. be w (start at .args .m)) 58 (c .put-number .ensures) (c .put-number .kept .0) (omega arith) (omega arith))
+    packed (lend-sized (step1 at .begun) _ (λ w. be w (start at .args .m)) 58 (c .put-number .ensures) (c .put-number .kept .0) (omega arith)
+    (omega arith))
 
 abbrev head : tie.After-put-replies → tie.After-put-head
 head c = c .before .before .before .before .before .before .before .before
@@ -42,7 +43,8 @@ step3 c =
     let number = c .before .before .before .before in
     let room = start (head c) .pre .1 in
     packed
-    (lend (step2 number .begun) _ _ (58 + 31 * start (head c) .args .m) (c .put-replies .ensures) (c .put-replies .kept .0) (omega arith) (omega arith))
+    (lend (step2 number .begun) _ _ (58 + 31 * start (head c) .args .m) (c .put-replies .ensures) (c .put-replies .kept .0) (omega arith)
+    (omega arith))
 
 replies-requires : tie.Need-put-replies-requires
 replies-requires c κs =

@@ -52,7 +52,8 @@ returns : tie.Need-returns Inv-loop μ-loop
 returns c =
     let a = start (c .before) .args in
     let h = places (c .before) in
-    done (turned (now (a .out)) (cells (a .m) (a .t2)) 31 (a .m) (c .before .loop .i) _ (c .before .loop .inv .1) (omega arith) (cells-length (a .m) (a .t2) h))
+    done (turned (now (a .out)) (cells (a .m) (a .t2)) 31 (a .m) (c .before .loop .i) _ (c .before .loop .inv .1) (omega arith) (cells-length
+    (a .m) (a .t2) h))
     (start (c .before) .pre .1)
 
 pub put-replies-spec : {M : Type 1} → statement M

@@ -22,13 +22,15 @@ step0 c = packed (store (store (begin (now (start c .args .out))) (c .before .fo
 abbrev step1 : tie.After-put-number → Writing 10
 step1 c =
     let at = c .before .before in
-    packed (lend-sized (step0 at .begun) _ (λ w. be w (start at .args .sent .len)) 10 (c .put-number .ensures) (c .put-number .kept .0) (omega arith) (omega arith))
+    packed (lend-sized (step0 at .begun) _ (λ w. be w (start at .args .sent .len)) 10 (c .put-number .ensures) (c .put-number .kept .0)
+    (omega arith) (omega arith))
 
 abbrev step2 : tie.After-put-bytes → Writing 31
 step2 c =
     let at = c .before .before .before .before .before in
     packed
-    (lend-sized (step1 at .begun) _ (λ w. resized w (start (at .before .before) .args .sent .bytes)) 31 (c .put-bytes .ensures) (c .put-bytes .kept .0)
+    (lend-sized (step1 at .begun) _ (λ w. resized w (start (at .before .before) .args .sent .bytes)) 31 (c .put-bytes .ensures)
+    (c .put-bytes .kept .0)
     (omega arith) (omega arith))
 
 returns : tie.Need-returns

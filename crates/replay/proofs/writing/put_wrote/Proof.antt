@@ -33,7 +33,8 @@ returns c =
     (lend (begin _) _ (headOf saving (savedNumber r) (a .c .totals)) 50
     (head .put-head .ensures ∙ λ i. headOf saving (answer .saved-number .ensures i) (a .c .totals)) (head .put-head .kept .0)
     (omega arith) (omega (arith, l)))
-    _ (λ w. be w (rest (viewOf (a .c)) entry ys (a .fill) (savedNumber r) (start save .pre))) 58 (number .put-number .ensures) (number .put-number .kept .0)
+    _ (λ w. be w (rest (viewOf (a .c)) entry ys (a .fill) (savedNumber r) (start save .pre))) 58 (number .put-number .ensures)
+    (number .put-number .kept .0)
     (omega arith) (omega (arith, l)))
 
 pub put-wrote-spec : {M : Type 1} → statement M
