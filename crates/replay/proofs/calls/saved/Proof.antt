@@ -1,0 +1,33 @@
+-- `replay::calls::saved` meets its contract: by what `checkpoint` ensures. Assumes nothing.
+use mathlib.Core.Path.{refl, ap, _∙_}
+use mathlib.Core.List.{List}
+use borrow.Author.Needs.{needs}
+use denote.Ref.{now}
+use Rattle.collector.specs.Collector.{viewOf}
+use Rattle.replay_model.specs.Record.{bytesOf}
+use Rattle.replay.specs.Calls.{outputIn}
+use Rattle.replay.specs.Replay.{wroteOf}
+use Rattle.replay.proofs.Making.{output-is, saved}
+use Rattle.replay.proofs.calls.saved.Statement.{statement}
+use Rattle.replay.proofs.calls.saved.Tie as tie
+
+returns : tie.Need-returns
+returns c =
+    let put = c .before .before in
+    let start = put .before .before .before .before .before in
+    let a = start .args in
+    let v = viewOf (a .c) in
+    record {
+      bytes = put .put-wrote .ensures ∙ ap (λ (output : List _). bytesOf (wroteOf v output)) (output-is (now (a .r)) (now (a .out))
+          (start .pre .1)) ∙ saved v (outputIn (now (a .r)));
+      next = refl;
+    }
+
+pub saved-spec : {M : Type 1} → statement M
+saved-spec =
+    tie.close
+    (tie.spec
+    (λ c. search needs)
+    (λ c κs. search needs)
+    (λ c. search needs)
+    returns)

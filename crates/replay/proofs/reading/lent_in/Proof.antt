@@ -1,0 +1,22 @@
+-- `replay::reading::lent_in` meets its contract. Assumes nothing.
+use mathlib.Core.Path.{_∙_}
+use borrow.Author.Needs.{needs}
+use denote.Ref.{now}
+use Rattle.layout.specs.Buffer.{part}
+use Rattle.replay.proofs.reading.lent_in.Statement.{statement}
+use Rattle.replay.proofs.reading.lent_in.Tie as tie
+
+returns : tie.Need-returns
+returns c =
+    let second = c .before in
+    let first = second .before in
+    c .window .ensures ∙ λ i. part (first .number-at .ensures i) (second .number-at2 .ensures i) (now (first .before .before .before .args .lent))
+
+pub lent-in-spec : {M : Type 1} → statement M
+lent-in-spec =
+    tie.close
+    (tie.spec
+    (λ c κs. search needs)
+    (λ c κs. search needs)
+    (λ c κs. search needs)
+    returns)

@@ -1,0 +1,79 @@
+-- `replay::writing::put_replies` meets its contract. The invariant: the first i places are written; the measure: the places left. Assumes nothing.
+use mathlib.Core.Path.{_≡_, sym, _∙_}
+use mathlib.Core.List.{map, flatten}
+use Prim.Native.Nat.{_-_, _*_, _+_, _≤_}
+use native.Mathlib.Omega.{arith}
+use borrow.Author.Needs.{needs}
+use denote.Ref.{now}
+use lib.ListN.{length, take}
+use Rattle.layout.proofs.Segments.{Begun, begin, begun-length, within, turn, turned, done}
+use Rattle.replay_model.specs.Record.{replyOf}
+use Rattle.burst.specs.Records.{repliedOf}
+use Rattle.replay.proofs.Filling.{cells, cells-length, cell-at}
+use Rattle.replay.proofs.writing.put_replies.Statement.{statement}
+use Rattle.replay.proofs.writing.put_replies.Tie as tie
+
+abbrev Inv-loop : tie.InvT-loop
+Inv-loop out₀ m replies i₀ out i = (i ≤ m) × Begun out₀ (flatten (take i (cells m replies))) (31 * i) out
+
+abbrev μ-loop : tie.MeasureT-loop
+μ-loop out₀ m replies i₀ out i = m - i
+
+abbrev start : tie.At-loop Inv-loop μ-loop → tie.Start Inv-loop μ-loop
+start c = c .before .before
+
+-- the list by value has all its places
+places : (c : tie.At-loop Inv-loop μ-loop) → start c .args .m ≤ length (start c .args .t2)
+places c =
+    let h : length (start c .args .t2) ≡ 259 = search needs in
+    omega (arith, start c .pre .0)
+
+-- there is room for one more
+room : (c : tie.In-loop Inv-loop μ-loop) → 31 * c .before .loop .i + 31 ≤ length (now (start (c .before) .args .out))
+room c = omega (arith, start (c .before) .pre .1)
+
+loop-holds : tie.Need-loop-holds Inv-loop μ-loop
+unfolding flatten
+loop-holds c = (omega arith, begin _)
+
+loop-again : tie.Need-loop-again Inv-loop μ-loop
+loop-again c =
+    let put = c .before .before in
+    let t = put .before .before .before .before in
+    let a = start (t .before) .args in
+    let h = places (t .before) in
+    let i = t .before .loop .i in (
+      omega arith,
+      turn (now (a .out)) (cells (a .m) (a .t2)) 31 i _ _ (t .before .loop .inv .1) (omega (arith, cells-length (a .m) (a .t2) h))
+          (put .put-reply .ensures ∙ sym (cell-at (a .m) (a .t2) h i _ (omega arith))) (put .put-reply .kept .0) (room t),
+    )
+
+returns : tie.Need-returns Inv-loop μ-loop
+returns c =
+    let a = start (c .before) .args in
+    let h = places (c .before) in
+    done (turned (now (a .out)) (cells (a .m) (a .t2)) 31 (a .m) (c .before .loop .i) _ (c .before .loop .inv .1) (omega arith) (cells-length
+    (a .m) (a .t2) h))
+    (start (c .before) .pre .1)
+
+pub put-replies-spec : {M : Type 1} → statement M
+put-replies-spec =
+    tie.close
+    (tie.spec
+    Inv-loop
+    μ-loop
+    loop-holds
+    (λ c. search needs)
+    (λ c. omega (arith, places (c .before)))
+    (λ c. search needs)
+    (λ c. search needs)
+    (λ c. search needs)
+    (λ c. search needs)
+    (λ c. search needs)
+    (λ c. within (c .before .before .before .loop .inv .1) _ (room (c .before .before)))
+    (λ c κs. search needs)
+    (λ c. omega arith)
+    (λ c. omega arith)
+    loop-again
+    (λ c. begun-length (c .before .loop .inv .1))
+    returns)

@@ -1,0 +1,57 @@
+-- What a replay of calls ensures: the record that it writes is that of what a collector shows, and so the reference model's (document 01, "One
+-- history, and the clerk who writes it down"). Assumes nothing.
+use Prim.Native.Nat.{ℕ}
+use mathlib.Core.Path.{_≡_}
+use mathlib.Core.List.{List, [], _∷_}
+use lib.ListN.{take, replicate}
+use Rattle.refusal.specs.Number.{numberOf}
+use Rattle.telegram.specs.Output.{Result}
+use Rattle.model.specs.View.{View, fresh}
+use Rattle.model.specs.Image.{checkpointOf}
+use Rattle.model.specs.Burst.{burstOf}
+use Rattle.model.specs.History.{Call, IsHistory, Seen, Wrote, run, expected, uncut, common}
+use Rattle.collector.specs.declared.Collector.{Collector}
+use Rattle.collector.specs.Collector.{viewOf}
+use Rattle.burst.specs.declared.Within.{Within}
+use Rattle.burst.specs.Records.{burstedOf}
+use Rattle.replay_model.specs.Record.{recordOf}
+use Rattle.replay_model.specs.Replay.{after, afterCalls, putRecord, madeBy}
+use Rattle.replay.specs.declared.Ran.{Ran}
+use Rattle.replay.specs.declared.Ran.the-variants.{Done, Refused}
+use Rattle.replay.specs.declared.Replayed.{Replayed}
+use Rattle.replay.specs.Calls.{settingIn, receptionsIn, placeIn}
+
+abbrev pub ranNumber : Ran → ℕ
+ranNumber Done = 0
+ranNumber (Refused why) = numberOf why
+
+-- the number, how many bytes are written, and every byte of the output at exit
+abbrev pub replayedOf : Replayed → List ℕ → Result
+replayedOf r output = record { number = ranNumber (r .answer); len = r .written; output = output }
+
+-- calls from any state: the record of what a collector shows, and the state after them
+pub record Resumes (v : View) (h : List Call) (entry exit : List ℕ) (r : Replayed) : Type 0 where
+  pub result : replayedOf r exit ≡ putRecord (recordOf (run v h)) entry
+  pub next : viewOf (r .next) ≡ afterCalls v (madeBy (ranNumber (r .answer)) h)
+
+-- THE CLAIM on the code: from a collector started fresh it writes what a collector shows, whatever the calls; of a history that is what the reference
+-- model says; and of the uncut list of a history too, where the number of each restore is left out
+pub record Replays (h : List Call) (entry exit : List ℕ) (r : Replayed) : Type 0 where
+  pub shown : Resumes fresh h entry exit r
+  pub reference : IsHistory h → replayedOf r exit ≡ putRecord (recordOf (expected [] h)) entry
+  pub uncutRun : (g : List Call) → IsHistory g → h ≡ uncut g → replayedOf r exit ≡ putRecord (recordOf (common (expected [] g))) entry
+
+-- ---- what private functions say
+
+-- one call: its part of the record fills the output, and the state after it
+pub record Called (v : View) (k : Call) (exit : List ℕ) (c : Collector) : Type 0 where
+  pub bytes : exit ≡ recordOf (run v (k ∷ []))
+  pub next : viewOf c ≡ after v k
+
+-- what is seen of a checkpoint
+abbrev pub wroteOf : View → List ℕ → Seen
+wroteOf v output = Wrote (checkpointOf v output .number) (checkpointOf v output .output) (v .totals)
+
+-- a burst of the receptions that bytes say, with the first m places that a record says
+pub record BurstMade (c : Collector) (r bytes : List ℕ) (m : ℕ) (w : Within) : Type 0 where
+  pub result : burstedOf (w .bursted) (take m (w .replies)) ≡ burstOf (settingIn r) (viewOf c) (receptionsIn bytes) (replicate m (placeIn r))

@@ -1,0 +1,173 @@
+// What a record says.
+use burst::LISTED;
+use burst::Reception;
+use burst::Reply;
+use collector::Collector;
+use model::Answer;
+use telegram::frame::Frame;
+ghost use mathlib.Core.Path.{_≡_};
+ghost use mathlib.Core.List.{[], map};
+ghost use Prim.Native.Nat.{_+_, _*_, _/_, _≤_, min};
+ghost use lib.ListN.{length, getD, take, replicate};
+ghost use Rattle.lists.specs.Lists.{upFrom};
+ghost use Rattle.layout.specs.Buffer.{part};
+ghost use Rattle.model.specs.Answer.{shownOf};
+ghost use Rattle.burst.specs.Records.{receptionOf, repliedOf, listed};
+ghost use Rattle.replay_model.specs.Replay.{sizeOf};
+ghost use Rattle.replay.specs.Calls.{callLength, recordAt, numberAt, maxOutput, lentIn, burstReceptionIn, formIn, placeIn, callIn};
+
+// How many bytes are written of the call that a record says.
+pub(crate) fn size_in(r: &[u8]) -> usize
+    requires { ⌜ length (now r) ≡ callLength ⌝ }
+    ensures { λ n. ⌜ n ≡ sizeOf (callIn [] (now (r .entry))) ⌝ }
+{
+    let operation = r[0];
+    if operation == crate::RECEIVING {
+        return crate::writing::ANSWERED;
+    }
+    if operation == crate::SAVING {
+        return crate::writing::BODY + output_length(r);
+    }
+    if operation == crate::CUTTING {
+        return crate::writing::BODY + output_length(r) + crate::writing::HEAD;
+    }
+    if operation == crate::RESTORING {
+        return crate::writing::HEAD;
+    }
+    if operation == crate::DELIVERING {
+        return crate::writing::BODY + crate::writing::REPLY * place_count(r);
+    }
+    crate::writing::HEAD
+}
+
+// The number that the eight bytes from `at` on spell.
+pub(crate) fn number_at(r: &[u8], at: usize) -> u64
+    requires { ⌜ (length (now r) ≡ callLength) × (at + 8 ≤ callLength) ⌝ }
+    ensures { λ n. ⌜ n ≡ numberAt at (now (r .entry)) ⌝ }
+{
+    layout::read_number(&r[at..at + 8])
+}
+
+// How long the output of a checkpoint is.
+pub(crate) fn output_length(r: &[u8]) -> usize
+    requires { ⌜ length (now r) ≡ callLength ⌝ }
+    ensures { λ n. ⌜ (n ≡ min (numberAt 1 (now (r .entry))) maxOutput) × (n ≤ maxOutput) ⌝ }
+{
+    least(number_at(r, 1) as usize, crate::MAX_OUTPUT)
+}
+
+// How many places the second list of a burst has.
+pub(crate) fn place_count(r: &[u8]) -> usize
+    requires { ⌜ length (now r) ≡ callLength ⌝ }
+    ensures { λ n. ⌜ (n ≡ min (numberAt 17 (now (r .entry))) listed) × (n ≤ listed) ⌝ }
+{
+    least(number_at(r, 17) as usize, LISTED)
+}
+
+// The bytes lent beside the calls that a record names, or as many as there are.
+pub(crate) fn lent_in<'a>(lent: &'a [u8], r: &'a [u8]) -> &'a [u8]
+    requires { ⌜ length (now r) ≡ callLength ⌝ }
+    ensures { λ s. ⌜ now s ≡ lentIn (now (lent .entry)) (now (r .entry)) ⌝ }
+{
+    let a = number_at(r, 1);
+    let n = number_at(r, 9);
+    window(lent, a, n)
+}
+
+// The n bytes from a on, or as many as there are.
+fn window(s: &[u8], a: u64, n: u64) -> &[u8]
+    ensures { λ r. ⌜ now r ≡ part a n (now (s .entry)) ⌝ }
+{
+    let start = least(a as usize, s.len());
+    let rest = &s[start..];
+    let end = least(n as usize, rest.len());
+    &rest[0..end]
+}
+
+// The receptions of a burst: the first n records.
+pub(crate) fn receptions_in(bytes: &[u8], n: usize) -> [Reception; LISTED]
+    requires { ⌜ (n ≤ listed) × (callLength * n ≤ length (now bytes)) ⌝ }
+    ensures { λ rs. ⌜ map receptionOf (take n rs) ≡ map (λ i. burstReceptionIn (recordAt (now (bytes .entry)) i)) (upFrom 0 n) ⌝ }
+{
+    let mut all = no_receptions();
+    for i in 0..n {
+        all[i] = reception_in(
+            &bytes[crate::CALL_LENGTH * i..crate::CALL_LENGTH * i + crate::CALL_LENGTH],
+        );
+    }
+    all
+}
+
+fn no_receptions() -> [Reception; LISTED] {
+    let none = Reception {
+        bytes: [0; Collector::MAX_LEN],
+        len: 0,
+        time: 0,
+    };
+    [none; LISTED]
+}
+
+fn reception_in(r: &[u8]) -> Reception
+    requires { ⌜ length (now r) ≡ callLength ⌝ }
+    ensures { λ s. ⌜ receptionOf s ≡ burstReceptionIn (now (r .entry)) ⌝ }
+{
+    let mut bytes = [0u8; Collector::MAX_LEN];
+    layout::put_bytes(&mut bytes, &r[10..31]);
+    let time = number_at(r, 1);
+    Reception {
+        bytes: bytes,
+        len: r[9],
+        time: time,
+    }
+}
+
+// What each place of the second list holds before the burst.
+pub(crate) fn place_in(r: &[u8]) -> Reply
+    requires { ⌜ length (now r) ≡ callLength ⌝ }
+    ensures { λ p. ⌜ repliedOf p ≡ placeIn (now (r .entry)) ⌝ }
+{
+    let mut bytes = [0u8; Collector::MAX_LEN];
+    layout::put_bytes(&mut bytes, &r[27..48]);
+    let len = wide(r[26]);
+    let answer = form_in(r[25]);
+    Reply {
+        answer: answer,
+        sent: Frame {
+            len: len,
+            bytes: bytes,
+        },
+    }
+}
+
+fn form_in(form: u8) -> Answer
+    ensures { λ a. ⌜ shownOf a ≡ formIn form ⌝ }
+{
+    if form == 0 {
+        return Answer::Kept;
+    }
+    if form == 1 {
+        return Answer::Copy;
+    }
+    Answer::Loose
+}
+
+pub(crate) fn places(place: Reply) -> [Reply; LISTED]
+    ensures { λ r. ⌜ r ≡ replicate listed place ⌝ }
+{
+    [place; LISTED]
+}
+
+pub(crate) fn least(a: usize, b: usize) -> usize
+    ensures { λ r. ⌜ r ≡ min a b ⌝ }
+{
+    if a < b {
+        return a;
+    }
+    b
+}
+
+pub(crate) fn wide(x: u8) -> usize
+    ensures { λ r. ⌜ r ≡ x ⌝ }
+{
+    x as usize
+}

@@ -1,0 +1,125 @@
+-- How long the parts of a record are, and what calls show: a checkpoint leaves an output its length, and a burst a list its places.
+-- Assumes nothing.
+use Prim.Native.Nat.{ℕ, zero, suc, _+_, _-_, _*_, _≤_, _<_}
+use native.Mathlib.Nat.{mul-suc, mul-zero}
+use native.Mathlib.Omega.{arith}
+use mathlib.Core.Path.{_≡_, refl, sym, ap, _∙_}
+use mathlib.Core.Bool.{Bool, true, false, cond, not, _&&_}
+use mathlib.Core.List.{List, [], _∷_, _++_, map, flatten}
+use lib.Dec.{leb, ltb, eqb}
+use lib.ListN.{length, getD, take, drop, length-append, length-map, length-take, length-drop}
+use borrow.Author.Tests.{ltb-true, ltb-false}
+use Rattle.lists.specs.Lists.{all, pairwise}
+use Rattle.lists.proofs.Choice.{both}
+use Rattle.lists.proofs.Tests.{all-getD, getD-map, by-test}
+use Rattle.refusal.specs.Number.{numberOf}
+use Rattle.refusal.specs.declared.Refusal.the-variants.{ShortOutput, NotAccepted}
+use Rattle.erp1.specs.Subtelegram.{maxLength, isValid}
+use Rattle.layout.specs.Cell.{cellLength}
+use Rattle.layout.specs.Block.{cellsPerBlock, blockLength}
+use Rattle.layout.proofs.BigEndian.{be-length}
+use Rattle.layout.proofs.Buffer.{resized-length}
+use Rattle.layout.proofs.Segments.{part-at, Each, flatten-length}
+use Rattle.layout.proofs.Cell.{cell-length}
+use Rattle.layout.proofs.Header.{header-length}
+use Rattle.layout.proofs.Block.{block-length}
+use Rattle.model.specs.declared.Totals.{Totals}
+use Rattle.model.specs.View.{Reception, View, capacity}
+use Rattle.model.specs.Acceptable.{isEntry, acceptable}
+use Rattle.model.specs.Step.{step}
+use Rattle.model.specs.Image.{imageLength, entryCell, entriesOf, blockAt, blocksOf, imageWith, checkpointOf}
+use Rattle.model.specs.Burst.{Replied, repliesTo, callNumber, burstNumber, taken, burstOf}
+use Rattle.model.proofs.Check.{valid-length}
+use Rattle.model.proofs.Invariant.{entry-valid}
+use Rattle.replay_model.specs.Record.{headOf, replyOf}
+
+-- ---- the parts of a cell
+
+pub head-length : (operation number : ℕ) (n : Totals) → length (headOf operation number n) ≡ 50
+unfolding headOf
+head-length operation number n = simp (length-append, be-length)
+
+pub reply-length : (r : Replied) → length (replyOf r) ≡ 31
+unfolding replyOf
+reply-length r = simp (length-append, be-length, resized-length)
+
+pub replies-length : (l : List Replied) → length (flatten (map replyOf l)) ≡ 31 * length l
+unfolding flatten
+replies-length [] = refl
+replies-length (r ∷ l) = simp (length-append, mul-suc, reply-length r, replies-length l) (omega arith)
+
+-- ---- the image of an acceptable view
+
+-- stands for an entry past the end
+abbrev none : Reception
+none = record { bytes = []; time = 0 }
+
+module _ (v : View) (ok : acceptable v ≡ true) where
+  each-entry : all (isEntry (v .latest)) (v .entries) ≡ true
+  unfolding acceptable
+  each-entry = both (all (isEntry (v .latest)) (v .entries)) _ (both (leb (length (v .entries)) capacity) _ ok .1) .0
+
+  short : (i : ℕ) → i < length (v .entries) → length (getD (v .entries) i none .bytes) ≤ maxLength
+  short i h =
+      let e = getD (v .entries) i none in
+      valid-length (e .bytes) (entry-valid (v .latest) e (all-getD (isEntry (v .latest)) (v .entries) i none each-entry h))
+
+  group-length : (k : ℕ) → length (entriesOf k v) ≤ cellsPerBlock
+  group-length k = omega (arith, length-take cellsPerBlock (drop (cellsPerBlock * k) (v .entries)))
+
+  cells-long : (k : ℕ) → Each cellLength (map entryCell (entriesOf k v))
+  cells-long k i h =
+      let l : i < length (entriesOf k v) = rw (length-map (entriesOf k v) entryCell) at h in
+      let e = getD (v .entries) (cellsPerBlock * k + i) none in
+      let inside : cellsPerBlock * k + i < length (v .entries) =
+      omega (arith, length-take cellsPerBlock (drop (cellsPerBlock * k) (v .entries)), length-drop (cellsPerBlock * k) (v .entries))
+      in
+      ap length
+      (getD-map entryCell (entriesOf k v) i none [] l
+      ∙ ap entryCell (part-at (cellsPerBlock * k) cellsPerBlock (v .entries) i none (omega (arith, group-length k))))
+      ∙ cell-length (e .time) (e .bytes) 0 (short (cellsPerBlock * k + i) inside)
+
+  block-long : (k a b : ℕ) → length (blockAt k a b v) ≡ blockLength
+  unfolding blockAt
+  block-long k a b =
+      block-length _ _ (header-length k (length (entriesOf k v)) a b) (cells-long k) (omega (
+        arith,
+        length-map
+            (entriesOf k v) entryCell,
+        group-length k,
+      ))
+
+  image-length : (setting : ℕ) → length (imageWith setting v) ≡ imageLength
+  unfolding imageWith flatten
+  image-length setting = simp (length-append, block-long)
+
+-- ---- what calls show
+
+pub checkpoint-length : (v : View) (output : List ℕ) → length (checkpointOf v output .output) ≡ length output
+unfolding checkpointOf
+checkpoint-length v output =
+    by-test (acceptable v)
+    (λ ok. by-test (ltb (length output) imageLength) (λ short. rw (ok, short))
+    (λ room. rw (ok, room) (simp (length-append, length-drop, image-length v ok 0) (omega (arith, ltb-false (length output) imageLength room)))))
+    (λ no. rw no)
+
+replies-to-length : (setting : ℕ) (v : View) (rs : List Reception) → length (repliesTo setting v rs) ≡ length rs
+unfolding repliesTo
+replies-to-length setting v [] = refl
+replies-to-length setting v (r ∷ rs) = ap suc (replies-to-length setting (step v r .next) rs)
+
+-- a burst that is taken has a place for each reception
+burst-refused : (setting : ℕ) (v : View) (n m : ℕ) → ltb m n ≡ true → eqb (burstNumber setting v n m) 0 ≡ false
+unfolding burstNumber callNumber
+burst-refused setting v n m h = by-test (acceptable v) (λ ok. rw (ok, h)) (λ no. rw no)
+
+taken-few : (setting : ℕ) (v : View) (rs : List Reception) (m : ℕ) → length (taken (burstNumber setting v (length rs) m) rs) ≤ m
+taken-few setting v rs m =
+    by-test (ltb m (length rs)) (λ h. rw (burst-refused setting v (length rs) m h) (omega arith))
+    (λ h. by-test (eqb (burstNumber setting v (length rs) m) 0) (λ t. rw t (ltb-false m (length rs) h)) (λ t. rw t (omega arith)))
+
+pub burst-length : (setting : ℕ) (v : View) (rs : List Reception) (places : List Replied)
+    → length (burstOf setting v rs places .replies) ≡ length places
+burst-length setting v rs places =
+    let t = taken (burstNumber setting v (length rs) (length places)) rs in
+    simp (length-append, length-drop, replies-to-length) (omega (arith, taken-few setting v rs (length places)))

@@ -1,0 +1,66 @@
+-- How long a record is, told by the calls alone.
+--     sized                       the record of any calls
+--     size-append, size-part      of calls in two parts, and of the first of them
+-- Assumes nothing.
+use Prim.Native.Nat.{ℕ, _+_, _*_, _≤_}
+use native.Mathlib.Omega.{arith}
+use mathlib.Core.Path.{_≡_, refl, sym, ap, _∙_}
+use mathlib.Core.List.{List, [], _∷_, _++_, flatten}
+use lib.ListN.{length, take, drop, length-append, take-append-drop}
+use Rattle.layout.proofs.BigEndian.{be-length}
+use Rattle.model.specs.View.{View, fresh}
+use Rattle.model.specs.Step.{step}
+use Rattle.model.specs.Image.{imageLength, checkpointOf, restoreOf}
+use Rattle.model.specs.Burst.{burstOf}
+use Rattle.model.specs.History.{Call, Receive, Checkpoint, Restore, Cut, Burst, Look, Seen, Answered, Wrote, Restored, Delivered, Looked, run}
+use Rattle.replay_model.specs.Record.{bytesOf, recordOf}
+use Rattle.replay_model.specs.Replay.{after, sizeOf, sizeOfAll}
+use Rattle.replay_model.specs.Claims.{Sized}
+use Rattle.replay_model.proofs.Lengths.{head-length, reply-length, replies-length, checkpoint-length, burst-length}
+
+-- ---- one thing seen
+
+abbrev seenLength : Seen → ℕ
+seenLength (Answered a sent n) = 81
+seenLength (Wrote number output n) = 58 + length output
+seenLength (Restored number n) = 50
+seenLength (Delivered number replies n) = 58 + 31 * length replies
+seenLength (Looked n) = 50
+
+pub seen-length : (s : Seen) → length (bytesOf s) ≡ seenLength s
+unfolding bytesOf
+seen-length (Answered a sent n) = simp (length-append, head-length, reply-length)
+seen-length (Wrote number output n) = simp (length-append, head-length, be-length)
+seen-length (Restored number n) = head-length _ _ _
+seen-length (Delivered number replies n) = simp (length-append, head-length, be-length, replies-length)
+seen-length (Looked n) = head-length _ _ _
+
+none : length (recordOf []) ≡ 0
+unfolding recordOf flatten
+none = refl
+
+more : (s : Seen) (l : List Seen) → length (recordOf (s ∷ l)) ≡ seenLength s + length (recordOf l)
+unfolding recordOf flatten
+more s l = simp (length-append, seen-length s)
+
+-- ---- all calls
+
+pub sized : Sized
+sized v [] = none
+sized v (Receive setting r ∷ h) = more _ _ ∙ ap (λ (n : ℕ). 81 + n) (sized (step v r .next) h)
+sized v (Checkpoint output ∷ h) = rw (more, checkpoint-length, sized v h)
+sized v (Restore image ∷ h) = more _ _ ∙ ap (λ (n : ℕ). 50 + n) (sized (restoreOf v image .next) h)
+sized v (Cut output ∷ h) =
+    rw (more, more, checkpoint-length, sized (restoreOf fresh (take imageLength (checkpointOf v output .output)) .next) h) (omega arith)
+sized v (Burst setting rs places ∷ h) = rw (more, burst-length, sized (burstOf setting v rs places .next) h)
+sized v (Look ∷ h) = more _ _ ∙ ap (λ (n : ℕ). 50 + n) (sized v h)
+
+pub size-append : (h g : List Call) → sizeOfAll (h ++ g) ≡ sizeOfAll h + sizeOfAll g
+size-append [] g = omega arith
+size-append (k ∷ h) g = rw (size-append h g) (omega arith)
+
+pub size-part : (n : ℕ) (h : List Call) → sizeOfAll (take n h) ≤ sizeOfAll h
+size-part n h =
+    let e : sizeOfAll h ≡ sizeOfAll (take n h) + sizeOfAll (drop n h) = ap sizeOfAll (sym (take-append-drop n h))
+    ∙ size-append (take n h) (drop n h) in
+    omega arith

@@ -1,0 +1,4 @@
+pub mod Operation
+pub mod Record
+pub mod Replay
+pub mod Claims

@@ -1,0 +1,51 @@
+-- A replay of calls: the record that it writes into an output, and the state that it comes to. Assumes nothing.
+use Prim.Native.Nat.{ℕ, _+_, _*_}
+use mathlib.Core.Bool.{cond}
+use mathlib.Core.List.{List, [], _∷_}
+use lib.Dec.{ltb, eqb}
+use lib.ListN.{length, take}
+use Rattle.refusal.specs.Number.{numberOf}
+use Rattle.refusal.specs.declared.Refusal.the-variants.{ShortOutput}
+use Rattle.telegram.specs.Output.{Result, refused, written}
+use Rattle.model.specs.View.{View, fresh}
+use Rattle.model.specs.Step.{step}
+use Rattle.model.specs.Image.{imageLength, checkpointOf, restoreOf}
+use Rattle.model.specs.Burst.{burstOf}
+use Rattle.model.specs.History.{Call, Receive, Checkpoint, Restore, Cut, Burst, Look}
+use Rattle.replay_model.specs.Record.{headLength, countLength, replyLength}
+
+-- what a collector says after a call: "each call gets the state that the one before returned"
+abbrev pub after : View → Call → View
+after v (Receive setting r) = step v r .next
+after v (Checkpoint output) = v
+after v (Restore image) = restoreOf v image .next
+after v (Cut output) = restoreOf fresh (take imageLength (checkpointOf v output .output)) .next
+after v (Burst setting rs places) = burstOf setting v rs places .next
+after v Look = v
+
+-- and after all
+abbrev pub afterCalls : View → List Call → View
+afterCalls v [] = v
+afterCalls v (c ∷ h) = afterCalls (after v c) h
+
+-- how many bytes are written of a call
+abbrev pub sizeOf : Call → ℕ
+sizeOf (Receive setting r) = headLength + replyLength
+sizeOf (Checkpoint output) = headLength + countLength + length output
+sizeOf (Restore image) = headLength
+sizeOf (Cut output) = headLength + countLength + length output + headLength
+sizeOf (Burst setting rs places) = headLength + countLength + replyLength * length places
+sizeOf Look = headLength
+
+-- and of all
+abbrev pub sizeOfAll : List Call → ℕ
+sizeOfAll [] = 0
+sizeOfAll (c ∷ h) = sizeOf c + sizeOfAll h
+
+-- a record is put into an output: 6, and nothing is written, where it is shorter; else what stood past the record stays
+unfoldable pub putRecord : List ℕ → List ℕ → Result
+putRecord bytes output = cond (ltb (length output) (length bytes)) (refused (numberOf ShortOutput) output) (written bytes output)
+
+-- the calls that a replay with this number made: a refused one made none
+abbrev pub madeBy : ℕ → List Call → List Call
+madeBy number h = cond (eqb number 0) h []

@@ -1,0 +1,1 @@
+// What a replay of calls writes: definitions and theorems, no code.
