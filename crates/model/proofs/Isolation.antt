@@ -20,7 +20,7 @@ use Rattle.lists.proofs.Tests.{branch, length-keep, all-keep, all-last, keep-la
 use Rattle.erp1.specs.Subtelegram.{isValid}
 use Rattle.erp1.specs.Same.{isSame}
 use Rattle.telegram.specs.Fields.{fieldsOf}
-use Rattle.telegram.proofs.Sameness.{same-by-fields, same-txid}
+use Rattle.sameness.proofs.ByFields.{same-by-fields, same-txid}
 use Rattle.model.specs.Answer.{Shown, Kept, Copy, Loose, Refused, isLoose, isAccepted, isReceived}
 use Rattle.model.specs.View.{Reception, Entry, opened, recount, capacity, capped, isOpen}
 use Rattle.model.specs.Acceptable.{isEcho, isCopyOf}
