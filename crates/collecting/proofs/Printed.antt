@@ -25,7 +25,8 @@ use Rattle.streams.specs.Lines.{linesOf, after, written, outputOf}
 use Rattle.streams.specs.Chunks.{joined}
 use Rattle.streams.specs.Collect.{Phase, starting, running, over, afterFirst, firstText, afterLine, lineText, endOf, collect, collected}
 use Rattle.streams.proofs.Limit.{collected-in-pieces}
-use Rattle.collecting.specs.Printed.{rowOf, sentBytes, totalsLine, receptionAt, rowAfter, pastAfterLine, rowsAfter, pastAfterLines, printedWith, printedFor, printedOf}
+use Rattle.collecting.specs.Printed.{rowOf, sentBytes, totalsLine, receptionAt, rowAfter, pastAfterLine, rowsAfter, pastAfterLines}
+use Rattle.collecting.specs.Printed.{printedWith, printedFor, printedOf}
 use Rattle.collecting.specs.Session.{Receiver, merging}
 use Rattle.collecting.specs.Claims.{CollectPrints}
 
@@ -85,7 +86,8 @@ module _ (setting : ℕ) where
       let w = took past l g a refl in
       let more = pastAfterLine past a in
       let row = rowAfter setting past a in
-      ap₂ (λ (x : List ℕ) (c : Receiver). (x ++ written (collect merging) (running c) ls) ++ endOf merging (after (collect merging) (running c) ls)) (w .row) (w .next)
+      ap₂ (λ (x : List ℕ) (c : Receiver). (x ++ written (collect merging) (running c) ls) ++ endOf merging (after (collect merging) (running c) ls))
+      (w .row) (w .next)
       ∙ append-assoc row (written (collect merging) (running (at more)) ls) (endOf merging (after (collect merging) (running (at more)) ls))
       ∙ ap (λ (x : List ℕ). row ++ x) (rows ls more (w .good))
       ∙ sym (append-assoc row (joined (rowsAfter setting more ls)) (totalsLine (totalsOf (logOf (pastAfterLines more ls)))))
@@ -98,7 +100,8 @@ over-silent [] = refl
 over-silent (l ∷ ls) = over-silent ls
 
 first-line : (s : Setting) (ls : List (List ℕ))
-    → (firstText merging s ++ written (collect merging) (afterFirst merging s) ls) ++ endOf merging (after (collect merging) (afterFirst merging s) ls)
+    → (firstText merging s ++ written (collect merging) (afterFirst merging s) ls)
+    ++ endOf merging (after (collect merging) (afterFirst merging s) ls)
     ≡ printedWith s ls
 first-line (Setting.Level n) ls =
     ap (λ (v : View). writtenFrom (running (record { setting = n; view = v })) ls) fresh-model ∙ rows n ls [] (rw fresh-model at good-fresh)

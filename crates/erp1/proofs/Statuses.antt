@@ -6,8 +6,9 @@ use native.Mathlib.Omega.{arith}
 use lib.Dec.{eqb}
 use borrow.Author.Tests.{eqb-true, eqb-false}
 use Rattle.erp1.specs.Status.{splitOf, joinOf}
+use Rattle.erp1.specs.Claims.{JoinSplit}
 
-pub join-split : (b : ℕ) → b < 256 → joinOf (splitOf b) ≡ b
+pub join-split : JoinSplit
 join-split b h = go (eqb (b / 128) 1) refl
   where
     go : (t : Bool) → eqb (b / 128) 1 ≡ t → joinOf (splitOf b) ≡ b

@@ -1,3 +1,4 @@
 pub mod Status
 pub mod Subtelegram
 pub mod Same
+pub mod Claims

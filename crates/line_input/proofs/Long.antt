@@ -15,6 +15,7 @@ use Rattle.line_input.specs.Ascii.{space, digit0}
 use Rattle.line_input.specs.Decimal.{isDigit, decimalOf, isNumber, isTime}
 use Rattle.line_input.specs.Hex.{isHex, bytesOf}
 use Rattle.line_input.specs.Reading.{reception, bad, readingOf, levelLine, settingOf, lineLimit}
+use Rattle.line_input.specs.Claims.{LongLines, FrontsTell}
 use Rattle.line_input.specs.declared.Setting.{Setting}
 use Rattle.line_input.proofs.Pairs.{too-long}
 
@@ -42,7 +43,7 @@ long-time (c ∷ d ∷ s) h = go (eqb c digit0) refl (leb digit0 c) refl
         let big = first-value c (d ∷ s) 20 (omega (arith, eqb-false c 48 p, leb-true 48 c q)) (omega arith) in
         rw (le-ltb (decimalOf (c ∷ d ∷ s)) (2 ^ 64) (omega (arith, big)), and-false (ltb c 58 && all isDigit (d ∷ s)), and-false (some && true))
 
-pub long-line : (l : List ℕ) → lineLimit ≤ length l → readingOf l ≡ bad
+long-line : (l : List ℕ) → lineLimit ≤ length l → readingOf l ≡ bad
 unfolding readingOf
 long-line l h = go (ltb k (length l)) refl (ltb k 21) refl
   where
@@ -66,7 +67,7 @@ other-length [] (y ∷ ys) n = refl
 other-length (x ∷ xs) [] n = refl
 other-length (x ∷ xs) (y ∷ ys) n = rw (other-length xs ys (λ e. n (ap suc e)), and-false (eqb x y))
 
-pub long-setting : (l : List ℕ) → lineLimit ≤ length l → settingOf l ≡ Setting.Bad
+long-setting : (l : List ℕ) → lineLimit ≤ length l → settingOf l ≡ Setting.Bad
 unfolding settingOf
 long-setting l h =
     rw (other-length l (levelLine 0) (λ e. omega arith), other-length l (levelLine 1) (λ e. omega arith), other-length l (levelLine 2) (λ e. omega arith))
@@ -81,8 +82,8 @@ front f v long l = go (ltb (length l) lineLimit) refl
         let h : lineLimit ≤ length l = ltb-false (length l) lineLimit e in
         long (take lineLimit l) (rw (length-take-le lineLimit l h) (le-refl lineLimit)) ∙ sym (long l h)
 
-pub reading-front : (l : List ℕ) → readingOf (take lineLimit l) ≡ readingOf l
-reading-front = front readingOf bad long-line
+pub long-lines : LongLines
+long-lines l h = record { reading = long-line l h; setting = long-setting l h }
 
-pub setting-front : (l : List ℕ) → settingOf (take lineLimit l) ≡ settingOf l
-setting-front = front settingOf Setting.Bad long-setting
+pub fronts-tell : FrontsTell
+fronts-tell l = record { reading = front readingOf bad long-line l; setting = front settingOf Setting.Bad long-setting l }

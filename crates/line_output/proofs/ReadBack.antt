@@ -13,14 +13,14 @@ use Rattle.lists.specs.Lists.{all}
 use Rattle.lists.proofs.Choice.{both, and-left, and-right}
 use Rattle.lists.proofs.Tests.{and-true, by-test, all-last, all-getD}
 use Rattle.lists.proofs.Table.{at}
-use Rattle.line_input.specs.Ascii.{space}
 use Rattle.line_input.specs.Decimal.{isDigit, decimalOf, hasLeadingZero, isNumber, isTime}
 use Rattle.line_input.specs.Hex.{nibbleOf, isHexDigit, isHex, bytesOf}
-use Rattle.line_input.specs.Reading.{reception, readingOf}
+use Rattle.line_input.specs.Reading.{reception}
 use Rattle.line_input.proofs.Digits.{leading-zero}
 use Rattle.line_input.proofs.Long.{first-value, long-time}
 use Rattle.line_input.proofs.Whole.{joined}
 use Rattle.line_output.specs.Text.{digitsOf, decimalText, hexDigitOf, hexText}
+use Rattle.line_output.specs.Claims.{areBytes, NumbersBack, TimesBack, BytesBack, LinesBack}
 use Rattle.line_output.proofs.Digits.{one-digit, several-digits}
 use Rattle.line_output.proofs.Stores.{hex-length}
 
@@ -89,15 +89,15 @@ no-leading-zero n s w = go (ltb n 10) refl
     go false p =
         rw (leading-zero s, ne-eqb (getD s 0 0) 48 (w .first (omega (arith, ltb-false n 10 p))), and-false (ltb 1 (length s)))
 
--- a printed number of 64 bits is a time, and says the number
-pub number-back : (n : ℕ) → n < 2 ^ 64 → (isTime (decimalText n) ≡ true) × (decimalOf (decimalText n) ≡ n)
+pub numbers-back : NumbersBack
 unfolding isTime isNumber
-number-back n h =
+numbers-back n h =
     let s = decimalText n in
-    let w = spelled 19 n (omega arith) in (
-      rw (lt-ltb 0 (length s) (w .some), no-leading-zero n s w, w .digits, w .value, lt-ltb n (2 ^ 64) h),
-      w .value,
-    )
+    let w = spelled 19 n (omega arith) in
+    record {
+      time = rw (lt-ltb 0 (length s) (w .some), no-leading-zero n s w, w .digits, w .value, lt-ltb n (2 ^ 64) h);
+      value = w .value;
+    }
 
 -- ---- and a time that was read is printed as it was written
 
@@ -135,7 +135,7 @@ module _ (f : ℕ) (r : List ℕ) (digits : all isDigit (f ∷ r) ≡ true) (fir
       ∙ several-digits (suc k) n (omega (arith, some))
       ∙ rw (tenth, last, spelled-front j k (omega arith) (omega arith), ← more)
 
-pub time-back : (s : List ℕ) → isTime s ≡ true → decimalText (decimalOf s) ≡ s
+pub time-back : TimesBack
 unfolding isTime isNumber
 time-back [] e = absurd (false≢true e)
 time-back (f ∷ r) e =
@@ -155,8 +155,9 @@ digit-back : (d : ℕ) → d < 16 → nibbleOf (hexDigitOf d) ≡ d
 unfolding nibbleOf hexDigitOf
 digit-back d h = eqb→eq _ _ (at {A = ℕ} (λ d x. eqb (nibbleOf (hexDigitOf d)) d) 0 (replicate 16 0) tt d h)
 
-abbrev areBytes : List ℕ → Bool
-areBytes bs = all (λ b. ltb b 256) bs
+told : (b : Bool) → b ≡ true → T b
+told true e = tt
+told false e = absurd (false≢true e)
 
 bytes-back : (bs : List ℕ) → T (areBytes bs) → bytesOf (hexText bs) ≡ bs
 unfolding bytesOf hexText
@@ -179,19 +180,17 @@ digits-hex (b ∷ bs) t =
     )
     (digits-hex bs (and-right (ltb b 256) (areBytes bs) t))
 
--- printed bytes, at most 64, are bytes in hexadecimal, and say the bytes
-pub hex-back : (bs : List ℕ) → T (areBytes bs) → length bs ≤ 64 → (isHex (hexText bs) ≡ true) × (bytesOf (hexText bs) ≡ bs)
+pub bytes-read : BytesBack
 unfolding isHex
-hex-back bs t h =
-    let n = length (hexText bs) in (
-      rw (le-leb n 128 (omega (arith, hex-length bs)), eq-eqb (n % 2) 0 (omega (arith, hex-length bs)), digits-hex bs t),
-      bytes-back bs t,
-    )
+bytes-read bs t h =
+    let n = length (hexText bs) in
+    record {
+      hex = rw (le-leb n 128 (omega (arith, hex-length bs)), eq-eqb (n % 2) 0 (omega (arith, hex-length bs)), digits-hex bs (told (areBytes bs) t));
+      value = bytes-back bs (told (areBytes bs) t);
+    }
 
--- the line of a time and bytes says the two
-pub line-back : (n : ℕ) (bs : List ℕ) → n < 2 ^ 64 → T (areBytes bs) → length bs ≤ 64
-    → readingOf (decimalText n ++ (space ∷ hexText bs)) ≡ reception n bs
-line-back n bs h t k =
-    let a = number-back n h in
-    let b = hex-back bs t k in
-    joined (decimalText n) (hexText bs) (a .0) (b .0) ∙ ap₂ reception (a .1) (b .1)
+pub lines-back : LinesBack
+lines-back n bs h t k =
+    let a = numbers-back n h in
+    let b = bytes-read bs t k in
+    joined (decimalText n) (hexText bs) (a .time) (b .hex) ∙ ap₂ reception (a .value) (b .value)

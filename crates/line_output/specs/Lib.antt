@@ -1,3 +1,4 @@
 pub mod Codes
 pub mod Text
 pub mod Printed
+pub mod Claims

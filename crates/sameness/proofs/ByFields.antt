@@ -48,7 +48,8 @@ module _ (s : List ℕ) (v : Sound s) where
   front-length =
       let t = fieldsOf s in
       let status = length-append (frontOf t) (t .status ∷ []) in
-      let whole : length (sealedOf (writtenOf t)) ≡ length (frontOf t) + 2 = length-append (writtenOf t) (hashOf (writtenOf t) ∷ []) ∙ omega (arith, status) in
+      let whole : length (sealedOf (writtenOf t)) ≡ length (frontOf t) + 2
+      = length-append (writtenOf t) (hashOf (writtenOf t) ∷ []) ∙ omega (arith, status) in
       sym whole ∙ ap length (read-builds s v)
 
   rebuilt : sealedOf (bodyOf (bodyOf s) ++ (fieldsOf s .status ∷ [])) ≡ s
@@ -168,7 +169,9 @@ module _ (a b : List ℕ) (va : Sound a) (vb : Sound b) where
 
   differ : equal (bodyOf (bodyOf a)) (bodyOf (bodyOf b)) ≡ false → isSame a b ≡ isSameTelegram (fieldsOf a) (fieldsOf b)
   unfolding isSame
-  differ e = rw (e, and-false (eqb (upperOf (statusOf a)) (upperOf (statusOf b))), and-false (eqb (length a) (length b))) (sym (go (isSameTelegram (fieldsOf a) (fieldsOf b)) refl))
+  differ e =
+      rw (e, and-false (eqb (upperOf (statusOf a)) (upperOf (statusOf b))), and-false (eqb (length a) (length b)))
+      (sym (go (isSameTelegram (fieldsOf a) (fieldsOf b)) refl))
     where
       go : (r : Bool) → isSameTelegram (fieldsOf a) (fieldsOf b) ≡ r → r ≡ false
       go true s =

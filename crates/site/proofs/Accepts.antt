@@ -22,7 +22,8 @@ use Rattle.slots.specs.Plan.{noSlot, startOf, endOf, rangeAt, empty, lawful}
 use Rattle.slots.proofs.Parts.{parts, no-third, third-after}
 use Rattle.timing.specs.Rules.{isKnown, isOffered, ruleOf, transmissionsOf, isLawfulBy}
 use Rattle.site.specs.declared.Assignment.{Assignment}
-use Rattle.site.specs.Site.{maxRepeaters, isInRange, hasLawfulPlan, Transmission, sentIn, sentBy, overlap, clash, Answer, answer, pairOf, siteOf}
+use Rattle.site.specs.Site.{maxRepeaters, isInRange, hasLawfulPlan, Transmission, sentIn, sentBy, overlap, clash, Answer, answer, pairOf}
+use Rattle.site.specs.Site.{siteOf}
 use Rattle.site.specs.Claims.{apart, Fits, AcceptsExactly}
 
 -- ---- one repeater: a lawful plan keeps its transmissions apart
@@ -58,7 +59,8 @@ own-apart : (a : Assignment) → hasLawfulPlan a ≡ true → pairwise apart (se
 unfolding isLawfulBy
 own-apart a e =
     let n = transmissionsOf (a .slots) in
-    let u = both (isKnown (a .rule) (a .level)) (isOffered (a .rule) (a .level) n && lawful (ruleOf (a .rule) (a .level) n) (a .duration) (a .slots)) e in
+    let u = both (isKnown (a .rule) (a .level)) (isOffered (a .rule) (a .level) n && lawful (ruleOf (a .rule) (a .level) n) (a .duration) (a .slots))
+    e in
     let v = both (isOffered (a .rule) (a .level) n) (lawful (ruleOf (a .rule) (a .level) n) (a .duration) (a .slots)) (u .1) in
     plan-apart (ruleOf (a .rule) (a .level) n) (a .duration) (a .slots) (v .1) (eqb (a .slots .third) noSlot) refl
 
@@ -77,7 +79,8 @@ across a b e t u m k =
     let y = not-true _ (all-at (λ t. not (any (overlap t) (sentBy b))) m w) in
     all-at (apart t) k (none (overlap t) (sentBy b) y)
 
-air-apart : (a : Assignment) (t : Transmission) → List·Memᴰ t (sentBy a) → (l : List Assignment) → all (peace a) l ≡ true → all (apart t) (air l) ≡ true
+air-apart : (a : Assignment) (t : Transmission) → List·Memᴰ t (sentBy a) → (l : List Assignment) → all (peace a) l ≡ true
+    → all (apart t) (air l) ≡ true
 unfolding flatMap
 air-apart a t m [] e = refl
 air-apart a t m (b ∷ l) e =

@@ -24,7 +24,8 @@ module _ (count : ℕ) (repeaters : List Assignment) where
     unfolding siteOf
     out-of-range e = simp (e, or-true)
 
-    module _ (known : all isInRange (take count repeaters) ≡ true) (long : length repeaters ≡ 32) (i : ℕ) (e : i ≡ firstOf (λ b. not (hasLawfulPlan b)) (take count repeaters)) where
+    module _ (known : all isInRange (take count repeaters) ≡ true) (long : length repeaters ≡ 32) (i : ℕ)
+        (e : i ≡ firstOf (λ b. not (hasLawfulPlan b)) (take count repeaters)) where
       known-length : length (take count repeaters) ≡ count
       known-length = length-take-le count repeaters (omega arith)
 
@@ -32,12 +33,14 @@ module _ (count : ℕ) (repeaters : List Assignment) where
       unfolding siteOf
       unlawful h =
           let some : not (all hasLawfulPlan (take count repeaters)) ≡ true
-          = not-all hasLawfulPlan (take count repeaters) ∙ any-first (λ b. not (hasLawfulPlan b)) (take count repeaters) ∙ lt-ltb (firstOf (λ b. not (hasLawfulPlan b)) (take count repeaters)) (length (take count repeaters)) (omega (arith, known-length)) in
+          = not-all hasLawfulPlan (take count repeaters) ∙ any-first (λ b. not (hasLawfulPlan b)) (take count repeaters)
+          ∙ lt-ltb (firstOf (λ b. not (hasLawfulPlan b)) (take count repeaters)) (length (take count repeaters)) (omega (arith, known-length)) in
           simp (le-ltb maxRepeaters count few, known, not-true (all hasLawfulPlan (take count repeaters)) some, e)
 
       pub lawful-pairs : count ≤ i → pairOf 0 (take count repeaters) ≡ siteOf count repeaters
       unfolding siteOf
       lawful-pairs h =
           let no : not (all hasLawfulPlan (take count repeaters)) ≡ false
-          = not-all hasLawfulPlan (take count repeaters) ∙ any-first (λ b. not (hasLawfulPlan b)) (take count repeaters) ∙ le-ltb (firstOf (λ b. not (hasLawfulPlan b)) (take count repeaters)) (length (take count repeaters)) (omega (arith, known-length)) in
+          = not-all hasLawfulPlan (take count repeaters) ∙ any-first (λ b. not (hasLawfulPlan b)) (take count repeaters)
+          ∙ le-ltb (firstOf (λ b. not (hasLawfulPlan b)) (take count repeaters)) (length (take count repeaters)) (omega (arith, known-length)) in
           simp (le-ltb maxRepeaters count few, known, not-false (all hasLawfulPlan (take count repeaters)) no)

@@ -32,7 +32,15 @@ pub record Filled (s : List ℕ) (count : ℕ) (all : List Assignment) (i : ℕ)
 pub filled-start : (s : List ℕ) (count : ℕ) (all : List Assignment) → count ≡ countIn s → all ≡ replicate 32 noAssignment → Filled s count all 0
 unfolding upFrom
 filled-start s count all e h =
-    record { counted = e; least = omega arith; few = omega arith; whole = omega arith; long = ap length h ∙ length-replicate 32 noAssignment; rest = h; read = refl }
+    record {
+      counted = e;
+      least = omega arith;
+      few = omega arith;
+      whole = omega arith;
+      long = ap length h ∙ length-replicate 32 noAssignment;
+      rest = h;
+      read = refl;
+    }
 
 module _ (s : List ℕ) (count : ℕ) (all : List Assignment) (i : ℕ) (f : Filled s count all i) where
   next-number : upFrom 0 (i + 1) ≡ upFrom 0 i ++ (i ∷ [])
@@ -57,7 +65,9 @@ module _ (s : List ℕ) (count : ℕ) (all : List Assignment) (i : ℕ) (f : Fil
         few = f .few;
         whole = f .whole;
         long = length-set all i x ∙ f .long;
-        rest = drop-set-lt (i + 1) all i x (omega arith) ∙ sym (drop-drop 1 i all) ∙ ap (drop 1) (f .rest ∙ ap (λ (n : ℕ). replicate n noAssignment) less);
+        rest =
+            drop-set-lt (i + 1) all i x (omega arith) ∙ sym (drop-drop 1 i all)
+            ∙ ap (drop 1) (f .rest ∙ ap (λ (n : ℕ). replicate n noAssignment) less);
         read = first ∙ same ∙ sym (ap (map (assignmentAt s)) next-number ∙ map-append (assignmentAt s) (upFrom 0 i) (i ∷ []));
       }
 

@@ -87,18 +87,21 @@ module _ (count : ℕ) (repeaters : List Assignment) (i : ℕ) (t : Paired count
     turn : pairOf i (drop i (take count repeaters)) ≡ pairOf i (one ∷ rest)
     turn =
         ap (pairOf i) (drop-cons (take count repeaters) i noAssignment (rw (length-take-le count repeaters (t .enough)) h)
-        ∙ ap (λ (l : List Assignment). getD (take count repeaters) i noAssignment ∷ l) (ap (λ (n : ℕ). drop n (take count repeaters)) (sym (add-one i)))
+        ∙ ap (λ (l : List Assignment). getD (take count repeaters) i noAssignment ∷ l)
+        (ap (λ (n : ℕ). drop n (take count repeaters)) (sym (add-one i)))
         ∙ ap (λ (b : Assignment). b ∷ rest) (getD-take count repeaters i noAssignment h))
 
     pub paired-stop : j < count → answer (numberOf refusal.Overlap) i j ≡ pairOf 0 (take count repeaters)
     paired-stop k =
-        let some : any (clash one) rest ≡ true = any-first (clash one) rest ∙ lt-ltb (firstOf (clash one) rest) (length rest) (omega (arith, rest-length)) in
+        let some : any (clash one) rest ≡ true
+        = any-first (clash one) rest ∙ lt-ltb (firstOf (clash one) rest) (length rest) (omega (arith, rest-length)) in
         let n : suc i + firstOf (clash one) rest ≡ j = omega arith in
         sym (t .whole ∙ turn ∙ rw (some, n))
 
     pub paired-next : count ≤ j → Paired count repeaters (i + 1)
     paired-next k =
-        let no : any (clash one) rest ≡ false = any-first (clash one) rest ∙ le-ltb (firstOf (clash one) rest) (length rest) (omega (arith, rest-length)) in
+        let no : any (clash one) rest ≡ false
+        = any-first (clash one) rest ∙ le-ltb (firstOf (clash one) rest) (length rest) (omega (arith, rest-length)) in
         record {
           enough = t .enough;
           least = omega arith;

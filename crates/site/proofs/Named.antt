@@ -93,7 +93,13 @@ pair-named s (a ∷ l) i j e = go (any (clash a) l) refl e (pair-named (suc s) l
         → (pairOf (suc s) l ≡ answer (numberOf refusal.Overlap) i j → PairFrom (suc s) l i j) → PairFrom s (a ∷ l) i j
     go true k f ih =
         let w = overlap-at f in
-        record { from = 0; to = suc (firstOf (clash a) l); first-from = omega (arith, w .0); second-from = omega (arith, w .1); pair = pair-here a l k }
+        record {
+          from = 0;
+          to = suc (firstOf (clash a) l);
+          first-from = omega (arith, w .0);
+          second-from = omega (arith, w .1);
+          pair = pair-here a l k;
+        }
     go false k f ih =
         let w = ih f in
         record {
@@ -111,7 +117,8 @@ named-pair s (a ∷ l) i zero p = absurd (not-suc-le-zero (p .order))
 named-pair s (a ∷ l) zero (suc j) p =
     let f = first-is (clash a) noAssignment l j (le-of-suc-le-suc (p .inside)) (p .clashes)
     (λ k h. p .no-smaller-second (suc k) (suc-le-suc zero-le) (suc-le-suc h)) in
-    let some : any (clash a) l ≡ true = any-first (clash a) l ∙ lt-ltb (firstOf (clash a) l) (length l) (omega (arith, le-of-suc-le-suc (p .inside))) in
+    let some : any (clash a) l ≡ true
+    = any-first (clash a) l ∙ lt-ltb (firstOf (clash a) l) (length l) (omega (arith, le-of-suc-le-suc (p .inside))) in
     rw (some, f) (ap₂ (answer (numberOf refusal.Overlap)) (omega arith) (omega arith))
 named-pair s (a ∷ l) (suc i) (suc j) p =
     let no : any (clash a) l ≡ false
@@ -130,7 +137,8 @@ pair-overlap : (s : ℕ) (l : List Assignment) (i j : ℕ) → pairOf s l ≡ an
 pair-overlap s [] i j e = other-number (λ h. omega arith) e
 pair-overlap s (a ∷ l) i j e = go (any (clash a) l) e (pair-overlap (suc s) l i j)
   where
-    go : (x : Bool) → cond x (answer (numberOf refusal.Overlap) s (suc s + firstOf (clash a) l)) (pairOf (suc s) l) ≡ answer (numberOf refusal.Unlawful) i j
+    go : (x : Bool)
+        → cond x (answer (numberOf refusal.Overlap) s (suc s + firstOf (clash a) l)) (pairOf (suc s) l) ≡ answer (numberOf refusal.Unlawful) i j
         → (pairOf (suc s) l ≡ answer (numberOf refusal.Unlawful) i j → ⊥) → ⊥
     go true f ih = other-number (λ h. omega arith) f
     go false f ih = ih f
@@ -166,7 +174,8 @@ module _ (count : ℕ) (repeaters : List Assignment) where
       record {
         in-range = ranged (u .0);
         inside = rw first at (ltb-true (firstOf unlawful site) (length site) (sym (any-first unlawful site) ∙ some));
-        unlawful = rw first at (not-true (hasLawfulPlan (getD site (firstOf unlawful site) noAssignment)) (first-passes unlawful noAssignment site some));
+        unlawful =
+            rw first at (not-true (hasLawfulPlan (getD site (firstOf unlawful site) noAssignment)) (first-passes unlawful noAssignment site some));
         before = λ k h. not-false _ (first-before unlawful noAssignment site k (rw first h));
       }
 

@@ -5,7 +5,7 @@ use Prim.Native.Nat.{ℕ}
 use lib.Dec.{lit<}
 use lib.ListN.{take}
 use Rattle.line_input.specs.Reading.{lineLimit}
-use Rattle.line_input.proofs.Long.{reading-front, setting-front}
+use Rattle.line_input.proofs.Long.{fronts-tell}
 use Rattle.streams.specs.Chunks.{Bounded}
 use Rattle.streams.specs.Collect.{Collector, Phase, starting, running, over, nextPhase, phaseText, collect, collected}
 use Rattle.streams.specs.Claims.{CollectedInPieces}
@@ -13,13 +13,13 @@ use Rattle.streams.proofs.Pieces.{in-pieces}
 
 module _ {C : Type 0} (m : Collector C) where
   next-front : (s : Phase C) (l : List ℕ) → nextPhase m s (take lineLimit l) ≡ nextPhase m s l
-  next-front starting l = rw (setting-front l)
-  next-front (running c) l = rw (reading-front l)
+  next-front starting l = rw (fronts-tell l .setting)
+  next-front (running c) l = rw (fronts-tell l .reading)
   next-front over l = refl
 
   text-front : (s : Phase C) (l : List ℕ) → phaseText m s (take lineLimit l) ≡ phaseText m s l
-  text-front starting l = rw (setting-front l)
-  text-front (running c) l = rw (reading-front l)
+  text-front starting l = rw (fronts-tell l .setting)
+  text-front (running c) l = rw (fronts-tell l .reading)
   text-front over l = refl
 
   pub bounded : Bounded (collect m) lineLimit

@@ -18,14 +18,16 @@ returns-3 : tie.Need-returns-3
 returns-3 c =
     let asked = c .before .before in
     let h : length (asked .before .before .before .args .repeaters) ≡ 32 = search needs in
-    unlawful _ _ (asked .before .before .if1 .left) (sym (asked .before .all-in-range .ensures) ∙ not-false _ (asked .if2 .left)) h _ (c .before .first-unlawful .ensures) (c .if3 .taken)
+    unlawful _ _ (asked .before .before .if1 .left) (sym (asked .before .all-in-range .ensures) ∙ not-false _ (asked .if2 .left)) h _
+    (c .before .first-unlawful .ensures) (c .if3 .taken)
 
 returns-4 : tie.Need-returns-4
 returns-4 c =
     let asked = c .before .before .before in
     let h : length (asked .before .before .before .args .repeaters) ≡ 32 = search needs in
     c .first-overlap .ensures
-    ∙ lawful-pairs _ _ (asked .before .before .if1 .left) (sym (asked .before .all-in-range .ensures) ∙ not-false _ (asked .if2 .left)) h _ (c .before .before .first-unlawful .ensures) (c .before .if3 .left)
+    ∙ lawful-pairs _ _ (asked .before .before .if1 .left) (sym (asked .before .all-in-range .ensures) ∙ not-false _ (asked .if2 .left)) h _
+    (c .before .before .first-unlawful .ensures) (c .before .if3 .left)
 
 pub check-spec : {M : Type 1} → statement M
 check-spec = tie.close (tie.spec returns (λ c κs. search needs) returns-2 (λ c κs. search needs) returns-3 (λ c κs. search needs) returns-4)

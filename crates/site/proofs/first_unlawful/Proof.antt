@@ -26,13 +26,15 @@ loop-holds c =
 returns : tie.Need-returns Inv-loop μ-loop
 returns c =
     let at = c .before .before .before .before in
-    let k = sought-stop (λ b. not (hasLawfulPlan b)) _ _ _ 0 (at .before .loop .inv) (at .loop-test .taken) (ap not (sym (c .before .is-lawful-by .ensures)) ∙ c .if1 .taken) in
+    let k = sought-stop (λ b. not (hasLawfulPlan b)) _ _ _ 0 (at .before .loop .inv) (at .loop-test .taken)
+    (ap not (sym (c .before .is-lawful-by .ensures)) ∙ c .if1 .taken) in
     omega (arith, k)
 
 loop-again : tie.Need-loop-again Inv-loop μ-loop
 loop-again c =
     let at = c .before .before .before .before in
-    sought-next (λ b. not (hasLawfulPlan b)) _ _ _ 0 (at .before .loop .inv) (at .loop-test .taken) (ap not (sym (c .before .is-lawful-by .ensures)) ∙ c .if1 .left)
+    sought-next (λ b. not (hasLawfulPlan b)) _ _ _ 0 (at .before .loop .inv) (at .loop-test .taken)
+    (ap not (sym (c .before .is-lawful-by .ensures)) ∙ c .if1 .left)
 
 returns-2 : tie.Need-returns-2 Inv-loop μ-loop
 returns-2 c =
