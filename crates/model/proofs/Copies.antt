@@ -2,7 +2,7 @@
 --     credit-at                                      the entry at each index after a credit: the last that passes has it
 --     length-credit, all-credit, pairwise-credit     what a credit leaves as it is
 --     keep-credit, credit-and, keep-other            the telegram that is credited is one of those that are kept, or is not
---     credit-cap, small-cap, cap-small               the ceiling
+--     credit-cap, cap-small                          the ceiling
 -- Assumes nothing.
 use Prim.Native.Nat.{ℕ, zero, suc, _+_, _<_}
 use native.Mathlib.Nat.{not-suc-le-zero, le-of-suc-le-suc, suc-inj}
@@ -12,12 +12,16 @@ use mathlib.Core.Bool.{Bool, true, false, cond, _&&_, false≢true}
 use mathlib.Core.List.{List, [], _∷_, map}
 use lib.Dec.{leb, eqb}
 use lib.ListN.{length, getD}
-use borrow.Author.Tests.{le-leb, leb-true, eq-eqb, ne-eqb, eqb-true, eqb-false}
+use borrow.Author.Tests.{leb-true, eq-eqb, ne-eqb, eqb-true, eqb-false}
 use Rattle.lists.specs.Lists.{keep, any, all, pairwise, lastIndex}
 use Rattle.lists.proofs.Choice.{both, neither}
 use Rattle.lists.proofs.Tests.{and-true, branch, by-test, all-both, any-keep, any-map}
 use Rattle.model.specs.View.{Entry, recount, ceiling, capped}
 use Rattle.model.specs.Step.{credit}
+
+-- stands for an entry past the end
+abbrev pub noEntry : Entry
+noEntry = record { bytes = []; time = 0; copies = 0 }
 
 eqb-suc : (m n : ℕ) → eqb m n ≡ eqb (suc m) (suc n)
 eqb-suc m n = by-test (eqb m n) (λ e. e ∙ sym (eq-eqb (suc m) (suc n) (ap suc (eqb-true m n e))))
@@ -146,10 +150,6 @@ credit-cap q still (x ∷ l) =
     go true b ih = ap (λ (m : List Entry). recount capped x ∷ m) ih
     go false true ih = ap (λ (n : ℕ). record { bytes = x .bytes; time = x .time; copies = n } ∷ map (recount capped) l) on
     go false false ih = refl
-
-pub small-cap : (l : List Entry) → all (λ e. leb (e .copies) ceiling) (map (recount capped) l) ≡ true
-small-cap [] = refl
-small-cap (x ∷ l) = and-true (le-leb (capped (x .copies)) ceiling (omega arith)) (small-cap l)
 
 pub cap-small : (l : List Entry) → all (λ e. leb (e .copies) ceiling) l ≡ true → map (recount capped) l ≡ l
 cap-small [] e = refl

@@ -24,12 +24,8 @@ use Rattle.model.specs.Step.{maxCount, credit}
 use Rattle.model.specs.Heard.{copiesIn}
 use Rattle.model.specs.Reference.{Logged, answers, totalsOf, isOpenCopy, keptOf, openAt, isBehind, latestOf, answerTo, logOf, modelView, heardBy}
 use Rattle.model.specs.Copies.{copyAnswers, NumbersAreAnswers, EachCountedOnce, closedOf, HeardIsAnswers, BelowCeiling, AnyNumber}
-use Rattle.model.proofs.Copies.{length-credit, credit-at, cap-small}
+use Rattle.model.proofs.Copies.{noEntry, length-credit, credit-at, cap-small}
 use Rattle.model.proofs.Latest.{inTime, ordered}
-
--- stands for an entry past the end
-abbrev none : Entry
-none = record { bytes = []; time = 0; copies = 0 }
 
 -- ---- a credit
 
@@ -37,15 +33,15 @@ abbrev oneMore : ℕ → ℕ
 oneMore n = n + 1
 
 -- the count at each index
-count-at : (l : List Entry) (n : ℕ) → n < length l → getD (copiesIn l) n 0 ≡ getD l n none .copies
-count-at l n h = getD-map (λ e. e .copies) l n none 0 h
+count-at : (l : List Entry) (n : ℕ) → n < length l → getD (copiesIn l) n 0 ≡ getD l n noEntry .copies
+count-at l n h = getD-map (λ e. e .copies) l n noEntry 0 h
 
 credited-at : (q : Entry → Bool) (l : List Entry) (n : ℕ) → n < length l
     → getD (copiesIn (credit oneMore q l)) n 0 ≡ cond (eqb n (lastIndex q l)) (getD (copiesIn l) n 0 + 1) (getD (copiesIn l) n 0)
 credited-at q l n h =
     let k : n < length (credit oneMore q l) = omega (arith, length-credit oneMore q l) in
-    let e = getD l n none in
-    rw (count-at (credit oneMore q l) n k, count-at l n h, credit-at oneMore q none l n h)
+    let e = getD l n noEntry in
+    rw (count-at (credit oneMore q l) n k, count-at l n h, credit-at oneMore q noEntry l n h)
     (cond-ap (λ (x : Entry). x .copies) (eqb n (lastIndex q l)) (recount oneMore e) e)
 
 sum-credit : (q : Entry → Bool) (l : List Entry) → any q l ≡ true → sumOf (copiesIn (credit oneMore q l)) ≡ sumOf (copiesIn l) + 1
@@ -167,7 +163,7 @@ heard-is-answers past k h =
     let end : opens ≡ drop (closedOf log) l = keep-end (isOpen (latestOf log)) (open-later (latestOf log)) l (ordered past .order) in
     let few : length opens ≤ length l = length-keep (isOpen (latestOf log)) l in
     let counts : getD (copiesIn opens) k 0 ≡ copyAnswers (closedOf log + k) log =
-    count-at opens k h ∙ ap (λ (m : List Entry). getD m k none .copies) end ∙ ap (λ (e : Entry). e .copies) (getD-drop (closedOf log) l k none)
+    count-at opens k h ∙ ap (λ (m : List Entry). getD m k noEntry .copies) end ∙ ap (λ (e : Entry). e .copies) (getD-drop (closedOf log) l k noEntry)
     ∙ sym (count-at l (closedOf log + k) (omega arith)) ∙ counted past .numbers (closedOf log + k) (omega arith)
     in
     rw (lt-ltb k (length (copiesIn opens)) (omega (arith, long)), counts)

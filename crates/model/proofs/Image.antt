@@ -32,11 +32,8 @@ use Rattle.model.specs.Acceptable.{isEntry, acceptable}
 use Rattle.model.specs.Image.{imageLength, entryCell, entriesOf, blockAt, blocksOf, imageWith, blockIn, usedIn, firstIn, secondIn, settingIn, countIn, cellEntry, entryIn, totalsIn, parse, accepts}
 use Rattle.model.specs.Exact.{fitsCell, FitsLayout, Exact}
 use Rattle.model.proofs.Check.{valid-length}
+use Rattle.model.proofs.Copies.{noEntry}
 use Rattle.model.proofs.Invariant.{Good, good-of, entry-valid, entry-before}
-
--- stands for an entry past the end
-abbrev none : Entry
-none = record { bytes = []; time = 0; copies = 0 }
 
 -- fifteen more of n
 more : (m n : ℕ) → min m n + min 15 (n - m) ≡ min (m + 15) n
@@ -70,10 +67,10 @@ module _ (setting : ℕ) (v : View) (f : FitsLayout v) where
   count = length (v .entries)
 
   abbrev entryAt : ℕ → Entry
-  entryAt i = getD (v .entries) i none
+  entryAt i = getD (v .entries) i noEntry
 
   room : (i : ℕ) → i < count → fitsCell (entryAt i) ≡ true
-  room i h = all-getD fitsCell (v .entries) i none (f .entries) h
+  room i h = all-getD fitsCell (v .entries) i noEntry (f .entries) h
 
   timed : (i : ℕ) → i < count → entryAt i .time < 2 ^ 64
   timed i h = ltb-true (entryAt i .time) (2 ^ 64) (both (ltb (entryAt i .time) (2 ^ 64)) _ (room i h) .0)
@@ -104,8 +101,8 @@ module _ (setting : ℕ) (v : View) (f : FitsLayout v) where
 
   cell-at : (k i : ℕ) → i < length (entriesOf k v) → getD (map entryCell (entriesOf k v)) i [] ≡ entryCell (entryAt (cellsPerBlock * k + i))
   cell-at k i h =
-      getD-map entryCell (entriesOf k v) i none [] h
-      ∙ ap entryCell (part-at (cellsPerBlock * k) cellsPerBlock (v .entries) i none (omega (arith, group-length k)))
+      getD-map entryCell (entriesOf k v) i noEntry [] h
+      ∙ ap entryCell (part-at (cellsPerBlock * k) cellsPerBlock (v .entries) i noEntry (omega (arith, group-length k)))
 
   pub cells-long : (k : ℕ) → Each cellLength (map entryCell (entriesOf k v))
   cells-long k i h =
@@ -190,10 +187,10 @@ module _ (setting : ℕ) (v : View) (f : FitsLayout v) where
   entries-in =
       let long : length (map (entryIn (imageWith setting v)) (upFrom 0 count)) ≡ count = length-map (upFrom 0 count) (entryIn (imageWith setting v)) ∙ length-upFrom 0 count in
       rw count-in
-      (ext-getD none (map (entryIn (imageWith setting v)) (upFrom 0 count)) (v .entries) long
+      (ext-getD noEntry (map (entryIn (imageWith setting v)) (upFrom 0 count)) (v .entries) long
       (λ i h.
       let low : i < count = omega arith in
-      getD-upFrom (entryIn (imageWith setting v)) 0 count i none low ∙ ap (entryIn (imageWith setting v)) (zero-add i) ∙ entry-in i low))
+      getD-upFrom (entryIn (imageWith setting v)) 0 count i noEntry low ∙ ap (entryIn (imageWith setting v)) (zero-add i) ∙ entry-in i low))
 
   pub parse-image : parse (imageWith setting v) ≡ v
   unfolding parse totalsIn
