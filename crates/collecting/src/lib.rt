@@ -185,6 +185,7 @@ fn later_lines(setting: u8, c: Collector, input: &[u8], out: &mut [u8]) -> Progr
     let mut times = c.times;
     let mut lens = c.lens;
     let mut entries = c.bytes;
+    let mut copies = c.copies;
     let fit = acceptable::is_acceptable(&times, &lens, &entries, c.count, c.latest, c.totals);
     let summary = c.summary();
     let done = merge_lines(
@@ -193,12 +194,13 @@ fn later_lines(setting: u8, c: Collector, input: &[u8], out: &mut [u8]) -> Progr
         &mut times,
         &mut lens,
         &mut entries,
+        &mut copies,
         summary,
         input,
         out,
     );
     let next = done.summary;
-    let last = Collector::from_parts(times, lens, entries, next);
+    let last = Collector::from_parts(times, lens, entries, copies, next);
     Progress {
         session: Session {
             stage: Stage::Running,
@@ -217,15 +219,17 @@ fn merge_lines<'a>(
     times: &'a mut [u64; Collector::CAPACITY],
     lens: &'a mut [u8; Collector::CAPACITY],
     entries: &'a mut [u8; Collector::CAPACITY * Collector::MAX_LEN],
+    copies: &'a mut [u16; Collector::CAPACITY],
     summary: Summary,
     input: &'a [u8],
     out: &'a mut [u8],
 ) -> Merged
-    requires { ⌜ Tested fit (viewIn (columns (now times) (now lens) (now entries)) summary) ⌝ }
+    requires { ⌜ Tested fit (viewIn (columns (now times) (now lens) (now entries) (now copies)) summary) ⌝ }
     ensures { λ r. ⌜ RanTo
-        (running (record { setting = setting; view = viewIn (columns (now (times .entry)) (now (lens .entry)) (now (entries .entry))) summary }))
+        (running (record { setting = setting; view = viewIn (columns (now (times .entry)) (now (lens .entry)) (now (entries .entry)) (now (copies .entry))) summary }))
         (now (input .entry)) (now (out .entry)) (now (out .exit))
-        (running (record { setting = setting; view = viewIn (columns (now (times .exit)) (now (lens .exit)) (now (entries .exit))) (r .summary) })) (r .used) (r .written) ⌝ }
+        (running (record { setting = setting; view = viewIn (columns (now (times .exit)) (now (lens .exit)) (now (entries .exit)) (now (copies .exit))) (r .summary) }))
+        (r .used) (r .written) ⌝ }
 {
     let mut summary = summary;
     let mut bytes = [0u8; line_input::MAX_BYTES];
@@ -246,7 +250,16 @@ fn merge_lines<'a>(
         // Behind the time stand a space, two digits for each byte, and the newline.
         let len = l.len;
         let end = at - (2 * len + 2);
-        let done = merging::admit(fit, times, lens, entries, summary, &bytes[0..len], l.time);
+        let done = merging::admit(
+            fit,
+            times,
+            lens,
+            entries,
+            copies,
+            summary,
+            &bytes[0..len],
+            l.time,
+        );
         summary = done.summary;
         let answer = done.answer;
         to = put_answer(out, to, &input[from..end], setting, answer, &bytes[0..len]);

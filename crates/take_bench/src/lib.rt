@@ -43,6 +43,7 @@ pub extern "C" fn bench_admit(cells: &[u8]) -> u64 {
     let mut times = c.times;
     let mut lens = c.lens;
     let mut entries = c.bytes;
+    let mut copies = c.copies;
     let mut summary = c.summary();
     let mut figure: u64 = 0;
     for i in 0..cells.len() / CELL {
@@ -54,6 +55,7 @@ pub extern "C" fn bench_admit(cells: &[u8]) -> u64 {
             &mut times,
             &mut lens,
             &mut entries,
+            &mut copies,
             summary,
             bytes,
             time,

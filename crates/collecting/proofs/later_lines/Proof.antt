@@ -2,26 +2,26 @@
 use borrow.Author.Needs.{needs}
 use Rattle.model.specs.Exact.{Fits}
 use Rattle.collector.specs.Collector.{viewOf}
+use Rattle.collector.proofs.Counts.{small, state-fits}
 use Rattle.collecting.proofs.later_lines.Statement.{statement}
 use Rattle.collecting.proofs.later_lines.Tie as tie
 
--- the numbers of a state have 64 bits by their types
+-- the numbers of a state have 64 bits by their types, and its counts 16
 numbers : (c : tie.Start) → Fits (viewOf (c .args .c))
-unfolding viewOf
-numbers c = record { latest = search needs; received = search needs }
+numbers c = state-fits (c .args .c) (search needs) (search needs) (small 64 (c .args .c .copies) _ (c .good .1 .0 .1 .1 .1 .1 .1 .0))
 
 merge-lines-requires : tie.Need-merge-lines-requires
 unfolding viewOf
 merge-lines-requires c κs =
-    let s = c .before .before .before .before in
+    let s = c .before .before .before .before .before in
     let a = s .before in
-    rw (s .summary .ensures) (record { said = a .is-acceptable .ensures; fits = numbers (a .before .before .before .before .before .before .before .before .before) })
+    rw (s .summary .ensures) (record { said = a .is-acceptable .ensures _; fits = numbers (a .before .before .before .before .before .before .before .before .before .before) })
 
 returns : tie.Need-returns
 unfolding viewOf
 returns c =
     let t = c .before .before .before .before in
-    rw (c .from-parts .ensures) (rw (t .before .before .before .before .before .summary .ensures) at (t .merge-lines .ensures))
+    rw (c .from-parts .ensures) (rw (t .before .before .before .before .before .before .summary .ensures) at (t .merge-lines .ensures))
 
 pub later-lines-spec : {M : Type 1} → statement M
 later-lines-spec =

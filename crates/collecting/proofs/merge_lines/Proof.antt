@@ -31,17 +31,17 @@ use Rattle.collecting.proofs.merge_lines.Statement.{statement}
 use Rattle.collecting.proofs.merge_lines.Tie as tie
 
 abbrev Inv-loop : tie.InvT-loop
-Inv-loop fit setting times₀ lens₀ entries₀ input out₀ summary₀ bytes₀ at₀ to₀ times lens entries out summary bytes at to =
+Inv-loop fit setting times₀ lens₀ entries₀ copies₀ input out₀ summary₀ bytes₀ at₀ to₀ times lens entries copies out summary bytes at to =
     (at ≤ length input)
     × (to ≤ length out)
     × (length out ≡ length out₀)
     × (to ≤ longestLine * at)
-    × Tested fit (viewIn (columns times lens entries) summary)
-    × Fed (collect merging) (running (record { setting = setting; view = viewIn (columns times₀ lens₀ entries₀) summary₀ })) (take at input) out₀
-    (running (record { setting = setting; view = viewIn (columns times lens entries) summary })) out to
+    × Tested fit (viewIn (columns times lens entries copies) summary)
+    × Fed (collect merging) (running (record { setting = setting; view = viewIn (columns times₀ lens₀ entries₀ copies₀) summary₀ })) (take at input) out₀
+    (running (record { setting = setting; view = viewIn (columns times lens entries copies) summary })) out to
 
 abbrev μ-loop : tie.MeasureT-loop
-μ-loop fit setting times₀ lens₀ entries₀ input out₀ summary₀ bytes₀ at₀ to₀ times lens entries out summary bytes at to = length input - at
+μ-loop fit setting times₀ lens₀ entries₀ copies₀ input out₀ summary₀ bytes₀ at₀ to₀ times lens entries copies out summary bytes at to = length input - at
 
 loop-holds : tie.Need-loop-holds Inv-loop μ-loop
 loop-holds c = (omega arith, omega arith, refl, omega arith, c .before .before .pre, fed-none (collect merging) (bounded merging) _ _)
@@ -141,12 +141,12 @@ sub-end c = omega (arith, spare c)
 
 part-admit-end : tie.Need-part-admit-end Inv-loop μ-loop
 part-admit-end c =
-    let i = c .before .before .before .before in
+    let i = c .before .before .before .before .before in
     omega (arith, len-fits _ (answer (parsed i)))
 
 -- the text of its time
 abbrev reading : tie.After-put-answer-arg Inv-loop μ-loop → tie.Else2 Inv-loop μ-loop
-reading c = c .before .before .before .before .before .before .before .before
+reading c = c .before .before .before .before .before .before .before .before .before
 
 time : (c : tie.After-put-answer-arg Inv-loop μ-loop)
     → take (here (reading c) .loop .at + parsed (reading c) .parse .result .used - (2 * parsed (reading c) .parse .result .len + 2) - here (reading c) .loop .at) (rest (reading c))
@@ -195,7 +195,7 @@ loop-again-2 c =
     let l = here i in
     let a = g .before .before in
     let z : parsed i .parse .result .len - 0 ≡ parsed i .parse .result .len = omega arith in
-    let o = rw z at (a .admit .ensures ∙ admission-fit _ _ _ (l .loop .inv .4 .said)) in
+    let o = rw z at (a .admit .ensures .outcome ∙ admission-fit _ _ _ (l .loop .inv .4 .said)) in
     let small : parsed i .parse .result .time < 2 ^ 64 = search needs in
     let w = rw z at (q .put-answer .ensures) in
     let same = same-length w in
@@ -206,8 +206,8 @@ loop-again-2 c =
       omega (arith, w .short, l .loop .inv .3, ended (passed i) .1),
       rw (← o) at (tested-next _ (record { bytes = bytes i; time = parsed i .parse .result .time }) (l .loop .inv .4) small),
       reception-line (input l) (l .loop .at) (parsed i .parse .result .used) (l .loop .inv .5) (ended (passed i)) (l .loop .inv .0) (omega (arith, w .short, same, spare-out, l .loop .inv .2))
-          (admittedOf (columns (a .admit .last .1 .0) (a .admit .last .1 .1 .0) (a .admit .last .1 .1 .1 .0)) (a .admit .result)) (says i) o (time g)
-          (relayed-bytes _ _ _ (record { bytes = bytes i; time = parsed i .parse .result .time }) _ (ap (λ (x : Outcome). x .answer) (rw z at (a .admit .ensures)))) w,
+          (admittedOf (columns (a .admit .last .1 .0) (a .admit .last .1 .1 .0) (a .admit .last .1 .1 .1 .0) (a .admit .last .1 .1 .1 .1 .0)) (a .admit .result)) (says i) o (time g)
+          (relayed-bytes _ _ _ (record { bytes = bytes i; time = parsed i .parse .result .time }) _ (ap (λ (x : Outcome). x .answer) (rw z at (a .admit .ensures .outcome)))) w,
     )
 
 returns : tie.Need-returns Inv-loop μ-loop

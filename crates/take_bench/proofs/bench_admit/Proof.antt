@@ -9,14 +9,14 @@ use Rattle.take_bench.proofs.bench_admit.Statement.{statement}
 use Rattle.take_bench.proofs.bench_admit.Tie as tie
 
 abbrev Inv-loop : tie.InvT-loop
-Inv-loop cells times₀ lens₀ entries₀ summary₀ figure₀ i₀ i-end times lens entries summary figure i = (i ≤ length cells / 32) × (i-end ≡ length cells / 32) × (length cells / 32 < 2 ^ 64)
+Inv-loop cells times₀ lens₀ entries₀ copies₀ summary₀ figure₀ i₀ i-end times lens entries copies summary figure i = (i ≤ length cells / 32) × (i-end ≡ length cells / 32) × (length cells / 32 < 2 ^ 64)
 
 abbrev μ-loop : tie.MeasureT-loop
-μ-loop cells times₀ lens₀ entries₀ summary₀ figure₀ i₀ i-end times lens entries summary figure i = length cells / 32 - i
+μ-loop cells times₀ lens₀ entries₀ copies₀ summary₀ figure₀ i₀ i-end times lens entries copies summary figure i = length cells / 32 - i
 
 -- in the turn that ends
 abbrev turn : tie.After-wrapping-add-u64 Inv-loop μ-loop → tie.In-loop Inv-loop μ-loop
-turn c = c .before .before .before .before .before .before .before .before .before .before
+turn c = c .before .before .before .before .before .before .before .before .before .before .before
 
 add-i : tie.Need-add-i Inv-loop μ-loop
 add-i c =
