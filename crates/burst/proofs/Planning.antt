@@ -9,7 +9,7 @@ use Rattle.telegram.specs.Repeater.{maxSetting}
 use Rattle.model.specs.Acceptable.{acceptable}
 use Rattle.model.specs.Exact.{Fits}
 use Rattle.collector.specs.declared.Collector.{Collector}
-use Rattle.collector.specs.Collector.{viewAt, viewOf}
+use Rattle.collector.specs.Collector.{columnsOf, viewAt, viewOf}
 use Rattle.collector.specs.Admission.{Tested}
 use Rattle.burst.specs.declared.Handed.{Handed}
 use Rattle.burst.specs.declared.Handed.the-variants.{Done, Refused}
@@ -17,8 +17,8 @@ use Rattle.burst.specs.declared.Plan.{Plan}
 use Rattle.model.specs.Burst.{maxBurst, callNumber, burstNumber}
 use Rattle.burst.specs.Records.{Planned}
 
-module _ (c : Collector) (setting n m : ℕ) (fit : Bool) (e : fit ≡ acceptable (viewAt (c .times) (c .lens) (c .bytes) (c .count) (c .latest) (c .totals)))
-    (fits : Fits (viewAt (c .times) (c .lens) (c .bytes) (c .count) (c .latest) (c .totals))) where
+module _ (c : Collector) (setting n m : ℕ) (fit : Bool) (e : fit ≡ acceptable (viewAt (columnsOf c) (c .count) (c .latest) (c .totals)))
+    (fits : Fits (viewAt (columnsOf c) (c .count) (c .latest) (c .totals))) where
   abbrev plan : ℕ → Handed → Plan
   plan count answer = record { fit = fit; count = count; summary = record { count = c .count; latest = c .latest; totals = c .totals }; answer = answer }
 

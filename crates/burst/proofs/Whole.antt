@@ -12,7 +12,7 @@ use Rattle.model.specs.View.{View}
 use Rattle.model.specs.Step.{Outcome, step}
 use Rattle.collector.specs.declared.Collector.{Collector}
 use Rattle.collector.specs.declared.merging.Summary.{Summary}
-use Rattle.collector.specs.Collector.{viewOf}
+use Rattle.collector.specs.Collector.{Columns, columnsOf, viewOf}
 use Rattle.collector.specs.Admission.{viewIn, Tested}
 use Rattle.collector.proofs.Stepping.{admission-fit, tested-next}
 use Rattle.burst.specs.declared.Reception.{Reception}
@@ -82,10 +82,10 @@ module _ (c : Collector) (setting : ℕ) (rs : List Reception) (ys : List Reply)
         go true = sym (length-map rs receptionOf)
         go false = refl
 
-  pub whole : {p : Plan} {ts ls es : List ℕ} {s : Summary} {zs : List Reply} (r : Bursted) → Planned c setting (length rs) (length ys) p
-      → Delivered setting (p .fit) (c .times) (c .lens) (c .bytes) (p .summary) (p .count) rs ys ts ls es s zs → Finished ts ls es s (p .answer) r
+  pub whole : {p : Plan} {a : Columns} {s : Summary} {zs : List Reply} (r : Bursted) → Planned c setting (length rs) (length ys) p
+      → Delivered setting (p .fit) (columnsOf c) (p .summary) (p .count) rs ys a s zs → Finished a s (p .answer) r
       → burstedOf r zs ≡ burstOf setting v given places
-  whole {p} {ts} {ls} {es} {s} {zs} r k d f = rw (number-is, replies-is, next-is)
+  whole {p} {a} {s} {zs} r k d f = rw (number-is, replies-is, next-is)
     where
       t : List Reception
       t = take (p .count) rs
@@ -93,7 +93,7 @@ module _ (c : Collector) (setting : ℕ) (rs : List Reception) (ys : List Reply)
       number-is : handedNumber (r .answer) ≡ burstNumber setting v (length given) (length places)
       number-is = ap handedNumber (f .same) ∙ k .answer ∙ sym same-number
 
-      here : viewIn (c .times) (c .lens) (c .bytes) (p .summary) ≡ v
+      here : viewIn (columnsOf c) (p .summary) ≡ v
       here = k .state
 
       replies-is : map repliedOf zs ≡ repliesTo setting v (taken (burstNumber setting v (length given) (length places)) given) ++ drop (length (taken (burstNumber setting v (length given) (length places)) given)) places

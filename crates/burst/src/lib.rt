@@ -11,7 +11,7 @@ ghost use mathlib.Core.Path.{_≡_};
 ghost use mathlib.Core.List.{map};
 ghost use Prim.Native.Nat.{_≤_, min};
 ghost use lib.ListN.{length};
-ghost use Rattle.collector.specs.Collector.{viewOf};
+ghost use Rattle.collector.specs.Collector.{columns, viewOf};
 ghost use Rattle.collector.specs.Admission.{viewIn};
 ghost use Rattle.model.specs.Burst.{burstOf};
 ghost use Rattle.burst.specs.Records.{receptionOf, repliedOf, burstedOf, steppedOf, admittedWith, sizeOf, Delivered, Planned, Finished, listed, WithinOf};
@@ -51,8 +51,8 @@ fn take_record<'a>(
     setting: u8,
     reception: Reception,
 ) -> Stepped
-    ensures { λ r. ⌜ steppedOf (now (times .exit)) (now (lens .exit)) (now (entries .exit)) r
-        ≡ admittedWith setting fit (viewIn (now (times .entry)) (now (lens .entry)) (now (entries .entry)) summary) (receptionOf reception) ⌝ }
+    ensures { λ r. ⌜ steppedOf (columns (now (times .exit)) (now (lens .exit)) (now (entries .exit))) r
+        ≡ admittedWith setting fit (viewIn (columns (now (times .entry)) (now (lens .entry)) (now (entries .entry))) summary) (receptionOf reception) ⌝ }
 {
     let bytes = reception.bytes;
     let n = size(reception.len);
@@ -112,8 +112,8 @@ fn deliver(
     replies: &mut [Reply],
 ) -> Summary
     requires { ⌜ (count ≤ length (now receptions)) × (count ≤ length (now replies)) ⌝ }
-    ensures { λ r. ⌜ Delivered setting fit (now (times .entry)) (now (lens .entry)) (now (entries .entry)) summary count
-        (now (receptions .entry)) (now (replies .entry)) (now (times .exit)) (now (lens .exit)) (now (entries .exit)) r (now (replies .exit)) ⌝ }
+    ensures { λ r. ⌜ Delivered setting fit (columns (now (times .entry)) (now (lens .entry)) (now (entries .entry))) summary count
+        (now (receptions .entry)) (now (replies .entry)) (columns (now (times .exit)) (now (lens .exit)) (now (entries .exit))) r (now (replies .exit)) ⌝ }
 {
     let mut s = summary;
     let mut i: usize = 0;
@@ -231,7 +231,7 @@ fn finish(
     summary: Summary,
     answer: Handed,
 ) -> Bursted
-    ensures { λ r. ⌜ Finished times lens entries summary answer r ⌝ }
+    ensures { λ r. ⌜ Finished (columns times lens entries) summary answer r ⌝ }
 {
     Bursted {
         next: Collector::from_parts(times, lens, entries, summary),

@@ -9,3 +9,4 @@ pub mod Classifying
 pub mod Admitting
 pub mod Stepping
 pub mod Sending
+pub mod Hearing

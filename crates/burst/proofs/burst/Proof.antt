@@ -49,7 +49,7 @@ use denote.Triple.Walked.{says, Stays, stay-none, stay-none-slice, gave-slice, w
 use denote.Exit.{yes}
 use Rattle.collector.specs.declared.Collector.{Collector}
 use Rattle.collector.specs.declared.merging.Summary.{Summary}
-use Rattle.collector.specs.Collector.{viewOf}
+use Rattle.collector.specs.Collector.{columns, columnsOf, viewOf}
 use Rattle.burst.specs.declared.Reception.{Reception}
 use Rattle.burst.specs.declared.Reply.{Reply}
 use Rattle.burst.specs.declared.Handed.{Handed}
@@ -214,8 +214,8 @@ module _ {M : Type 1} (𝓤 : URA M) (H : Heap 𝓤) (A : Atoms 𝓤) (mem : Mem
       owned ! Ls (Is Ls) (array-makes 𝓤 H A W u8 (uint-makes 𝓤 H A W w8) 64) ls _ il $ fjoin ! $
       owned ! Ts (Is Ts) (array-makes 𝓤 H A W u64 (uint-makes 𝓤 H A W w64) 64) ts _ it $ fjoin ! $ nothing ! $ join ! $ frame ! $ done !
 
-  finished-of : (ts ls es : List ℕ) (s : Summary) (h : Handed) (r : Bursted) → ent 𝓤 (ensured 𝓤 H A fin.ended (fin.clauses 𝓤 H A mem run) tt (ts, (ls, (es, (s, (h, tt))))) tt r) (fact 𝓤 (Finished ts ls es s h r))
-  finished-of ts ls es s h r = exE 𝓤 _ (λ ws. snd∗ 𝓤 (sem 𝓤 H A (lasts fin.ended tt (ts, (ls, (es, (s, (h, tt))))) ws)) (fact 𝓤 (Finished ts ls es s h r)))
+  finished-of : (ts ls es : List ℕ) (s : Summary) (h : Handed) (r : Bursted) → ent 𝓤 (ensured 𝓤 H A fin.ended (fin.clauses 𝓤 H A mem run) tt (ts, (ls, (es, (s, (h, tt))))) tt r) (fact 𝓤 (Finished (columns ts ls es) s h r))
+  finished-of ts ls es s h r = exE 𝓤 _ (λ ws. snd∗ 𝓤 (sem 𝓤 H A (lasts fin.ended tt (ts, (ls, (es, (s, (h, tt))))) ws)) (fact 𝓤 (Finished (columns ts ls es) s h r)))
 
   -- ---- `deliver`: the three arrays at lifetimes that are made for the call, the two lists at their own
   module _ (α₀ α₁ α₂ : ℕ) (κ₀ κ₁ : Lft) (q₀ q₁ : Share) (b₀ b₁ b₂ : ℕ) (δ₀ δ₁ δ₂ : GName) (ts ls es : List ℕ) (p : Plan) (setting : ℕ) (receptions : RefT (List Reception)) (replies : RefT (List Reply)) where
@@ -395,10 +395,10 @@ module _ {M : Type 1} (𝓤 : URA M) (H : Heap 𝓤) (A : Atoms 𝓤) (W : Given
         await ! tt $ pick ! (λ s.
         split ! $ move ! (1 ∷ []) $
         use1 W (some (λ (ws : Lasts). ‵ (lasts give.ended (α₀ ∷ [], (α₁ ∷ [], (α₂ ∷ [], (κ₀, (κ₁, tt))))) (passed 𝓤 H A mem run α₀ α₁ α₂ κ₀ κ₁ q₀ q₁ l₆ l₇ l₈ δ₀ δ₁ δ₂ (c .times) (c .lens) (c .bytes) p setting receptions replies) ws)
-        ⊛ raw (fact 𝓤 (Delivered setting (p .fit) (c .times) (c .lens) (c .bytes) (p .summary) (p .count) rs ys (ws .1 .0) (ws .1 .1 .0) (ws .1 .1 .1 .0) s (ws .1 .1 .1 .1 .1 .1 .1 .1 .0))))) (id⊢ 𝓤 _) $
+        ⊛ raw (fact 𝓤 (Delivered setting (p .fit) (columnsOf c) (p .summary) (p .count) rs ys (columns (ws .1 .0) (ws .1 .1 .0) (ws .1 .1 .1 .0)) s (ws .1 .1 .1 .1 .1 .1 .1 .1 .0))))) (id⊢ 𝓤 _) $
         pick ! (λ ws.
         split ! $ move ! (1 ∷ []) $
-        heard ! (Delivered setting (p .fit) (c .times) (c .lens) (c .bytes) (p .summary) (p .count) rs ys (ws .1 .0) (ws .1 .1 .0) (ws .1 .1 .1 .0) s (ws .1 .1 .1 .1 .1 .1 .1 .1 .0)) (λ delivered.
+        heard ! (Delivered setting (p .fit) (columnsOf c) (p .summary) (p .count) rs ys (columns (ws .1 .0) (ws .1 .1 .0) (ws .1 .1 .1 .0)) s (ws .1 .1 .1 .1 .1 .1 .1 .1 .0)) (λ delivered.
         fsplit ! $ drop ! $ fsplit ! $ move ! (1 ∷ []) $ fsplit ! $ move ! (1 ∷ []) $ fsplit ! $ move ! (1 ∷ []) $ fsplit ! $ drop ! $ fsplit ! $
         drop ! $ fsplit ! $ drop ! $ fsplit ! $ drop ! $ fsplit ! $ fsplit ! $ move ! (1 ∷ []) $ feqL ! (λ long.
         -- [the last second list; true; entries, lens, times at last; the tokens and the result; what is kept of entries, lens, times; the first list; the locals, at 10]
@@ -427,8 +427,8 @@ module _ {M : Type 1} (𝓤 : URA M) (H : Heap 𝓤) (A : Atoms 𝓤) (W : Given
         use1 W (later (some (λ (r : Bursted). (‵ ftrue ⊛ ‵ (B.the-row .own r (w₂ ∷ []))) ⊛ raw (ensured 𝓤 H A fin.ended (fin.clauses 𝓤 H A mem run) tt (ws .1 .0, (ws .1 .1 .0, (ws .1 .1 .1 .0, (s, (p .answer, tt))))) tt r)))) (id⊢ 𝓤 _) $
         await ! tt $ pick ! (λ r.
         split ! $ move ! (1 ∷ []) $
-        use1 W (raw (fact 𝓤 (Finished (ws .1 .0) (ws .1 .1 .0) (ws .1 .1 .1 .0) s (p .answer) r))) (finished-of 𝓤 H A mem run (ws .1 .0) (ws .1 .1 .0) (ws .1 .1 .1 .0) s (p .answer) r) $
-        heard ! (Finished (ws .1 .0) (ws .1 .1 .0) (ws .1 .1 .1 .0) s (p .answer) r) (λ finished.
+        use1 W (raw (fact 𝓤 (Finished (columns (ws .1 .0) (ws .1 .1 .0) (ws .1 .1 .1 .0)) s (p .answer) r))) (finished-of 𝓤 H A mem run (ws .1 .0) (ws .1 .1 .0) (ws .1 .1 .1 .0) s (p .answer) r) $
+        heard ! (Finished (columns (ws .1 .0) (ws .1 .1 .0) (ws .1 .1 .1 .0)) s (p .answer) r) (λ finished.
         split ! $ drop ! $ peeks ! B.the-row (Is B.the-row) (shows 𝓤 H A B.the-row) r (w₂ ∷ []) (λ ib.
         -- [the result; entries; the lists' tokens; lens; times; the last second list; true; the first list; the locals, at 8]
         land ! (from ! (stop !)) (init ! (low 8 0) refl (LL.lawful B.the-type B′.the-laws 𝓤 H A W .typed r _ ib .0)) $
