@@ -20,7 +20,7 @@ use Rattle.collector.specs.Admission.{viewIn}
 use Rattle.burst.specs.declared.Reception.{Reception}
 use Rattle.burst.specs.declared.Reply.{Reply}
 use Rattle.burst.specs.declared.Stepped.{Stepped}
-use Rattle.burst.specs.Records.{receptionOf, repliedOf, StepResult, steppedOf, admittedWith, after, replies}
+use Rattle.burst.specs.Records.{receptionOf, repliedOf, StepResult, steppedOf, admittedWith, after, replies, Delivered}
 use Rattle.model.specs.History.{Timely}
 use Rattle.model.specs.Burst.{Replied}
 
@@ -31,7 +31,10 @@ noReception = record { bytes = []; len = 0; time = 0 }
 pub noReply : Reply
 noReply = record { answer = Kept; sent = frameOf [] }
 
-module _ (setting : ℕ) (fit : Bool) (v : View) (rs : List Reception) (ys : List Reply) (n : ℕ) (in-rs : n ≤ length rs) (in-ys : n ≤ length ys) where
+module _ (setting : ℕ) (fit : Bool) (a₀ : Columns) (s₀ : Summary) (rs : List Reception) (ys : List Reply) (n : ℕ) (in-rs : n ≤ length rs) (in-ys : n ≤ length ys) where
+  abbrev v : View
+  v = viewIn a₀ s₀
+
   pub record Going (i : ℕ) (a : Columns) (s : Summary) (zs : List Reply) : Type 0 where
     pub within : i ≤ n
     pub long : length zs ≡ length ys
@@ -39,15 +42,10 @@ module _ (setting : ℕ) (fit : Bool) (v : View) (rs : List Reception) (ys : Lis
     pub replied : map repliedOf (take i zs) ++ (replies setting fit (viewIn a s) (drop i (take n rs)) ++ map repliedOf (drop n zs))
         ≡ replies setting fit v (take n rs) ++ map repliedOf (drop n ys)
     pub timely : Timely (map receptionOf (drop i (take n rs))) → Timely (map receptionOf (take n rs))
+    pub none : i ≡ 0 → (a ≡ a₀) × (s ≡ s₀)
 
-  pub starts : (a : Columns) (s : Summary) → viewIn a s ≡ v → Going 0 a s ys
-  starts a s e = record {
-    within = zero-le;
-    long = refl;
-    state = ap (λ (u : View). after fit u (take n rs)) e;
-    replied = ap (λ (u : View). replies setting fit u (take n rs) ++ map repliedOf (drop n ys)) e;
-    timely = λ t. t;
-  }
+  pub starts : Going 0 a₀ s₀ ys
+  starts = record { within = zero-le; long = refl; state = refl; replied = refl; timely = λ t. t; none = λ _. (refl, refl) }
 
   -- what is left of the receptions begins with the next one
   left : (i : ℕ) → i < n → drop i (take n rs) ≡ getD rs i noReception ∷ drop (i + 1) (take n rs)
@@ -75,6 +73,7 @@ module _ (setting : ℕ) (fit : Bool) (v : View) (rs : List Reception) (ys : Lis
           ∙ ap (λ (l : List Reception). map repliedOf (take i zs) ++ (replies setting fit here l ++ map repliedOf (drop n zs))) (sym (left i h))
           ∙ g .replied;
       timely = λ t. g .timely (subst (λ (l : List Reception). Timely (map receptionOf l)) (sym (left i h)) (small, t));
+      none = λ e. absurd (omega arith);
     }
       where
         here : View
@@ -95,18 +94,18 @@ module _ (setting : ℕ) (fit : Bool) (v : View) (rs : List Reception) (ys : Lis
         inside : i < length zs
         inside = omega (arith, g .long)
 
-    pub ends : n ≤ i → (viewIn a s ≡ after fit v (take n rs)) × ((map repliedOf zs ≡ replies setting fit v (take n rs) ++ map repliedOf (drop n ys)) × Timely (map receptionOf (take n rs)))
+    pub ends : n ≤ i → Delivered setting fit a₀ s₀ n rs ys a s zs
     unfolding after replies
-    ends h = (
-      ap (after fit (viewIn a s)) (sym none) ∙ g .state,
-      (
-        ap (map repliedOf) (sym (take-append-drop i zs)) ∙ map-append repliedOf (take i zs) (drop i zs)
-            ∙ ap (λ (k : ℕ). map repliedOf (take i zs) ++ map repliedOf (drop k zs)) all
-            ∙ ap (λ (l : List Reception). map repliedOf (take i zs) ++ (replies setting fit (viewIn a s) l ++ map repliedOf (drop n zs))) (sym none)
-            ∙ g .replied,
-        g .timely (subst (λ (l : List Reception). Timely (map receptionOf l)) (sym none) tt),
-      ),
-    )
+    ends h = record {
+      state = ap (after fit (viewIn a s)) (sym none) ∙ g .state;
+      replied =
+          ap (map repliedOf) (sym (take-append-drop i zs)) ∙ map-append repliedOf (take i zs) (drop i zs)
+          ∙ ap (λ (k : ℕ). map repliedOf (take i zs) ++ map repliedOf (drop k zs)) all
+          ∙ ap (λ (l : List Reception). map repliedOf (take i zs) ++ (replies setting fit (viewIn a s) l ++ map repliedOf (drop n zs))) (sym none)
+          ∙ g .replied;
+      timely = g .timely (subst (λ (l : List Reception). Timely (map receptionOf l)) (sym none) tt);
+      none = λ e. g .none (all ∙ e);
+    }
       where
         all : i ≡ n
         all = le-antisymm (g .within) h

@@ -10,3 +10,4 @@ pub mod Admitting
 pub mod Stepping
 pub mod Sending
 pub mod Hearing
+pub mod Counts
