@@ -3,6 +3,7 @@
 pub(crate) mod bursts;
 pub(crate) mod given;
 
+use collector::Asked;
 use collector::Collector;
 use image::Loaded;
 use image::Saved;
@@ -62,6 +63,7 @@ fn made(session: Session, r: &[u8]) -> Session
             least(number, burst::LISTED),
             bursts::places_in(r),
         ),
+        7 => asked(session, number as usize),
         8 => given_image(session, least(number, given::MOST)),
         _ => spoiled(session, least(number, 2560)),
     }
@@ -184,6 +186,18 @@ fn burst_of(session: Session, setting: u8, n: usize, m: usize) -> Session
     after(session, next, session.shown)
 }
 
+// The copies of the entry with this index.
+fn asked(session: Session, entry: usize) -> Session {
+    let collector = session.collector;
+    let heard = collector.copies(entry);
+    let answer = heard.answer;
+    test_io::text(b"A ");
+    test_io::decimal(asked_number(answer));
+    put_total(heard.copies as u64);
+    put_totals(collector.totals);
+    session
+}
+
 // A history at its start, and after a call.
 fn begun(setting: u8) -> Session {
     Session {
@@ -223,6 +237,13 @@ fn saved_number(answer: Saved) -> u64 {
     match answer {
         Saved::Done => 0,
         Saved::Refused(why) => refusal::number(why) as u64,
+    }
+}
+
+fn asked_number(answer: Asked) -> u64 {
+    match answer {
+        Asked::Done => 0,
+        Asked::Refused(why) => refusal::number(why) as u64,
     }
 }
 
