@@ -9,7 +9,7 @@ use Rattle.telegram.specs.Repeater.{maxSetting}
 use Rattle.model.specs.Acceptable.{acceptable}
 use Rattle.model.specs.Exact.{Fits}
 use Rattle.collector.specs.declared.Collector.{Collector}
-use Rattle.collector.specs.Collector.{viewAt, viewOf}
+use Rattle.collector.specs.Collector.{viewOf}
 use Rattle.collector.specs.Admission.{Tested}
 use Rattle.burst.specs.declared.Handed.{Handed}
 use Rattle.burst.specs.declared.Handed.the-variants.{Done, Refused}
@@ -17,25 +17,23 @@ use Rattle.burst.specs.declared.Plan.{Plan}
 use Rattle.model.specs.Burst.{maxBurst, callNumber, burstNumber}
 use Rattle.burst.specs.Records.{Planned}
 
-module _ (c : Collector) (setting n m : ℕ) (fit : Bool) (e : fit ≡ acceptable (viewAt (c .times) (c .lens) (c .bytes) (c .count) (c .latest) (c .totals)))
-    (fits : Fits (viewAt (c .times) (c .lens) (c .bytes) (c .count) (c .latest) (c .totals))) where
+module _ (c : Collector) (setting n m : ℕ) (fit : Bool) (e : fit ≡ acceptable (viewOf c)) (fits : Fits (viewOf c)) where
   abbrev plan : ℕ → Handed → Plan
   plan count answer = record { fit = fit; count = count; summary = record { count = c .count; latest = c .latest; totals = c .totals }; answer = answer }
 
   tested : Tested fit (viewOf c)
-  unfolding viewOf
   tested = record { said = e; fits = fits }
 
   pub not-accepted : fit ≡ false → Planned c setting n m (plan 0 (Refused NotAccepted))
-  unfolding viewOf burstNumber callNumber
+  unfolding burstNumber callNumber
   not-accepted f = record { tested = tested; state = refl; count = rw (sym e ∙ f); few = omega arith; placed = omega arith; answer = rw (sym e ∙ f) }
 
   pub no-room : fit ≡ true → m < n → Planned c setting n m (plan 0 (Refused ShortOutput))
-  unfolding viewOf burstNumber callNumber
+  unfolding burstNumber callNumber
   no-room f h = record { tested = tested; state = refl; count = rw (sym e ∙ f, lt-ltb m n h); few = omega arith; placed = omega arith; answer = rw (sym e ∙ f, lt-ltb m n h) }
 
   pub too-many : fit ≡ true → n ≤ m → maxBurst < n → Planned c setting n m (plan 0 (Refused Argument))
-  unfolding viewOf burstNumber callNumber
+  unfolding burstNumber callNumber
   too-many f h k = record {
     tested = tested;
     state = refl;
@@ -46,7 +44,7 @@ module _ (c : Collector) (setting n m : ℕ) (fit : Bool) (e : fit ≡ acceptabl
   }
 
   pub bad-setting : fit ≡ true → n ≤ m → n ≤ maxBurst → maxSetting < setting → Planned c setting n m (plan 0 (Refused Argument))
-  unfolding viewOf burstNumber callNumber
+  unfolding burstNumber callNumber
   bad-setting f h k l = record {
     tested = tested;
     state = refl;
@@ -57,7 +55,7 @@ module _ (c : Collector) (setting n m : ℕ) (fit : Bool) (e : fit ≡ acceptabl
   }
 
   pub all-right : fit ≡ true → n ≤ m → n ≤ maxBurst → setting ≤ maxSetting → Planned c setting n m (plan n Done)
-  unfolding viewOf burstNumber callNumber
+  unfolding burstNumber callNumber
   all-right f h k l = record {
     tested = tested;
     state = refl;

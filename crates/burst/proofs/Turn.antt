@@ -15,11 +15,12 @@ use Rattle.telegram.specs.Frame.{frameOf}
 use Rattle.model.specs.View.{View}
 use Rattle.model.specs.declared.Answer.the-variants.{Kept}
 use Rattle.collector.specs.declared.merging.Summary.{Summary}
+use Rattle.collector.specs.Collector.{Columns}
 use Rattle.collector.specs.Admission.{viewIn}
 use Rattle.burst.specs.declared.Reception.{Reception}
 use Rattle.burst.specs.declared.Reply.{Reply}
 use Rattle.burst.specs.declared.Stepped.{Stepped}
-use Rattle.burst.specs.Records.{receptionOf, repliedOf, StepResult, steppedOf, admittedWith, after, replies}
+use Rattle.burst.specs.Records.{receptionOf, repliedOf, StepResult, steppedOf, admittedWith, after, replies, Delivered}
 use Rattle.model.specs.History.{Timely}
 use Rattle.model.specs.Burst.{Replied}
 
@@ -30,23 +31,21 @@ noReception = record { bytes = []; len = 0; time = 0 }
 pub noReply : Reply
 noReply = record { answer = Kept; sent = frameOf [] }
 
-module _ (setting : ℕ) (fit : Bool) (v : View) (rs : List Reception) (ys : List Reply) (n : ℕ) (in-rs : n ≤ length rs) (in-ys : n ≤ length ys) where
-  pub record Going (i : ℕ) (times lens entries : List ℕ) (s : Summary) (zs : List Reply) : Type 0 where
+module _ (setting : ℕ) (fit : Bool) (a₀ : Columns) (s₀ : Summary) (rs : List Reception) (ys : List Reply) (n : ℕ) (in-rs : n ≤ length rs) (in-ys : n ≤ length ys) where
+  abbrev v : View
+  v = viewIn a₀ s₀
+
+  pub record Going (i : ℕ) (a : Columns) (s : Summary) (zs : List Reply) : Type 0 where
     pub within : i ≤ n
     pub long : length zs ≡ length ys
-    pub state : after fit (viewIn times lens entries s) (drop i (take n rs)) ≡ after fit v (take n rs)
-    pub replied : map repliedOf (take i zs) ++ (replies setting fit (viewIn times lens entries s) (drop i (take n rs)) ++ map repliedOf (drop n zs))
+    pub state : after fit (viewIn a s) (drop i (take n rs)) ≡ after fit v (take n rs)
+    pub replied : map repliedOf (take i zs) ++ (replies setting fit (viewIn a s) (drop i (take n rs)) ++ map repliedOf (drop n zs))
         ≡ replies setting fit v (take n rs) ++ map repliedOf (drop n ys)
     pub timely : Timely (map receptionOf (drop i (take n rs))) → Timely (map receptionOf (take n rs))
+    pub none : i ≡ 0 → (a ≡ a₀) × (s ≡ s₀)
 
-  pub starts : (times lens entries : List ℕ) (s : Summary) → viewIn times lens entries s ≡ v → Going 0 times lens entries s ys
-  starts times lens entries s e = record {
-    within = zero-le;
-    long = refl;
-    state = ap (λ (u : View). after fit u (take n rs)) e;
-    replied = ap (λ (u : View). replies setting fit u (take n rs) ++ map repliedOf (drop n ys)) e;
-    timely = λ t. t;
-  }
+  pub starts : Going 0 a₀ s₀ ys
+  starts = record { within = zero-le; long = refl; state = refl; replied = refl; timely = λ t. t; none = λ _. (refl, refl) }
 
   -- what is left of the receptions begins with the next one
   left : (i : ℕ) → i < n → drop i (take n rs) ≡ getD rs i noReception ∷ drop (i + 1) (take n rs)
@@ -54,30 +53,31 @@ module _ (setting : ℕ) (fit : Bool) (v : View) (rs : List Reception) (ys : Lis
       let inside : i < length (take n rs) = omega (arith, length-take-le n rs in-rs) in
       rw (add-one, drop-cons (take n rs) i noReception, getD-take n rs i noReception)
 
-  module _ {i : ℕ} {times lens entries : List ℕ} {s : Summary} {zs : List Reply} (g : Going i times lens entries s zs) where
-    pub turns : i < n → getD rs i noReception .time < 2 ^ 64 → (times' lens' entries' : List ℕ) (r : Stepped)
-        → steppedOf times' lens' entries' r ≡ admittedWith setting fit (viewIn times lens entries s) (receptionOf (getD rs i noReception))
-        → Going (i + 1) times' lens' entries' (r .summary) (set zs i (r .reply))
+  module _ {i : ℕ} {a : Columns} {s : Summary} {zs : List Reply} (g : Going i a s zs) where
+    pub turns : i < n → getD rs i noReception .time < 2 ^ 64 → (a' : Columns) (r : Stepped)
+        → steppedOf a' r ≡ admittedWith setting fit (viewIn a s) (receptionOf (getD rs i noReception))
+        → Going (i + 1) a' (r .summary) (set zs i (r .reply))
     unfolding after replies
-    turns h small times' lens' entries' r said = record {
+    turns h small a' r said = record {
       within = omega arith;
       long = length-set zs i (r .reply) ∙ g .long;
       state = ap (λ (u : View). after fit u rest) next ∙ ap (after fit here) (sym (left i h)) ∙ g .state;
       replied =
-          ap (λ (l : List Reply). map repliedOf l ++ (replies setting fit (viewIn times' lens' entries' (r .summary)) rest ++ map repliedOf (drop n (set zs i (r .reply)))))
+          ap (λ (l : List Reply). map repliedOf l ++ (replies setting fit (viewIn a' (r .summary)) rest ++ map repliedOf (drop n (set zs i (r .reply)))))
           (ap (λ (k : ℕ). take k (set zs i (r .reply))) (add-one i) ∙ take-suc-set zs i (r .reply) inside)
-          ∙ ap (λ (l : List Replied). l ++ (replies setting fit (viewIn times' lens' entries' (r .summary)) rest ++ map repliedOf (drop n (set zs i (r .reply))))) (map-append repliedOf (take i zs) (r .reply ∷ []))
-          ∙ ap (λ (l : List Reply). (map repliedOf (take i zs) ++ (repliedOf (r .reply) ∷ [])) ++ (replies setting fit (viewIn times' lens' entries' (r .summary)) rest ++ map repliedOf l)) (drop-set-lt n zs i (r .reply) h)
+          ∙ ap (λ (l : List Replied). l ++ (replies setting fit (viewIn a' (r .summary)) rest ++ map repliedOf (drop n (set zs i (r .reply))))) (map-append repliedOf (take i zs) (r .reply ∷ []))
+          ∙ ap (λ (l : List Reply). (map repliedOf (take i zs) ++ (repliedOf (r .reply) ∷ [])) ++ (replies setting fit (viewIn a' (r .summary)) rest ++ map repliedOf l)) (drop-set-lt n zs i (r .reply) h)
           ∙ ap (λ (u : View). (map repliedOf (take i zs) ++ (repliedOf (r .reply) ∷ [])) ++ (replies setting fit u rest ++ map repliedOf (drop n zs))) next
           ∙ append-assoc (map repliedOf (take i zs)) (repliedOf (r .reply) ∷ []) (replies setting fit (o .next) rest ++ map repliedOf (drop n zs))
           ∙ ap (λ (b : Replied). map repliedOf (take i zs) ++ (b ∷ (replies setting fit (o .next) rest ++ map repliedOf (drop n zs)))) answered
           ∙ ap (λ (l : List Reception). map repliedOf (take i zs) ++ (replies setting fit here l ++ map repliedOf (drop n zs))) (sym (left i h))
           ∙ g .replied;
       timely = λ t. g .timely (subst (λ (l : List Reception). Timely (map receptionOf l)) (sym (left i h)) (small, t));
+      none = λ e. absurd (omega arith);
     }
       where
         here : View
-        here = viewIn times lens entries s
+        here = viewIn a s
 
         o : StepResult
         o = admittedWith setting fit here (receptionOf (getD rs i noReception))
@@ -85,7 +85,7 @@ module _ (setting : ℕ) (fit : Bool) (v : View) (rs : List Reception) (ys : Lis
         rest : List Reception
         rest = drop (i + 1) (take n rs)
 
-        next : viewIn times' lens' entries' (r .summary) ≡ o .next
+        next : viewIn a' (r .summary) ≡ o .next
         next = ap (λ (x : StepResult). x .next) said
 
         answered : repliedOf (r .reply) ≡ o .reply
@@ -94,18 +94,18 @@ module _ (setting : ℕ) (fit : Bool) (v : View) (rs : List Reception) (ys : Lis
         inside : i < length zs
         inside = omega (arith, g .long)
 
-    pub ends : n ≤ i → (viewIn times lens entries s ≡ after fit v (take n rs)) × ((map repliedOf zs ≡ replies setting fit v (take n rs) ++ map repliedOf (drop n ys)) × Timely (map receptionOf (take n rs)))
+    pub ends : n ≤ i → Delivered setting fit a₀ s₀ n rs ys a s zs
     unfolding after replies
-    ends h = (
-      ap (after fit (viewIn times lens entries s)) (sym none) ∙ g .state,
-      (
-        ap (map repliedOf) (sym (take-append-drop i zs)) ∙ map-append repliedOf (take i zs) (drop i zs)
-            ∙ ap (λ (k : ℕ). map repliedOf (take i zs) ++ map repliedOf (drop k zs)) all
-            ∙ ap (λ (l : List Reception). map repliedOf (take i zs) ++ (replies setting fit (viewIn times lens entries s) l ++ map repliedOf (drop n zs))) (sym none)
-            ∙ g .replied,
-        g .timely (subst (λ (l : List Reception). Timely (map receptionOf l)) (sym none) tt),
-      ),
-    )
+    ends h = record {
+      state = ap (after fit (viewIn a s)) (sym none) ∙ g .state;
+      replied =
+          ap (map repliedOf) (sym (take-append-drop i zs)) ∙ map-append repliedOf (take i zs) (drop i zs)
+          ∙ ap (λ (k : ℕ). map repliedOf (take i zs) ++ map repliedOf (drop k zs)) all
+          ∙ ap (λ (l : List Reception). map repliedOf (take i zs) ++ (replies setting fit (viewIn a s) l ++ map repliedOf (drop n zs))) (sym none)
+          ∙ g .replied;
+      timely = g .timely (subst (λ (l : List Reception). Timely (map receptionOf l)) (sym none) tt);
+      none = λ e. g .none (all ∙ e);
+    }
       where
         all : i ≡ n
         all = le-antisymm (g .within) h

@@ -6,14 +6,15 @@ use mathlib.Core.List.{List, [], _∷_, _++_, map}
 use Prim.Native.Nat.{ℕ, zero, suc}
 use lib.Dec.{eqb}
 use lib.ListN.{length, take, drop, length-map}
+use borrow.Author.Tests.{ne-eqb}
 use lib.Seq.{take-length, take-append-seam, drop-append-seam}
 use Rattle.model.specs.View as view
 use Rattle.model.specs.View.{View}
 use Rattle.model.specs.Step.{Outcome, step}
 use Rattle.collector.specs.declared.Collector.{Collector}
 use Rattle.collector.specs.declared.merging.Summary.{Summary}
-use Rattle.collector.specs.Collector.{viewOf}
-use Rattle.collector.specs.Admission.{viewIn, Tested}
+use Rattle.collector.specs.Collector.{Columns, columnsOf, viewOf}
+use Rattle.collector.specs.Admission.{viewIn, collectorOf, Tested}
 use Rattle.collector.proofs.Stepping.{admission-fit, tested-next}
 use Rattle.burst.specs.declared.Reception.{Reception}
 use Rattle.burst.specs.declared.Reply.{Reply}
@@ -22,7 +23,7 @@ use Rattle.burst.specs.declared.Plan.{Plan}
 use Rattle.burst.specs.declared.Within.{Within}
 use Rattle.model.specs.History.{Timely}
 use Rattle.model.specs.Burst.{Replied, replyWith, afterAll, repliesTo, burstNumber, taken, burstOf}
-use Rattle.burst.specs.Records.{receptionOf, repliedOf, handedNumber, burstedOf, after, replies, Delivered, Planned, Finished, WithinOf}
+use Rattle.burst.specs.Records.{receptionOf, repliedOf, handedNumber, Bursts, after, replies, Delivered, Planned, Finished, WithinOf}
 
 -- ---- records one by one
 
@@ -82,10 +83,11 @@ module _ (c : Collector) (setting : ℕ) (rs : List Reception) (ys : List Reply)
         go true = sym (length-map rs receptionOf)
         go false = refl
 
-  pub whole : {p : Plan} {ts ls es : List ℕ} {s : Summary} {zs : List Reply} (r : Bursted) → Planned c setting (length rs) (length ys) p
-      → Delivered setting (p .fit) (c .times) (c .lens) (c .bytes) (p .summary) (p .count) rs ys ts ls es s zs → Finished ts ls es s (p .answer) r
-      → burstedOf r zs ≡ burstOf setting v given places
-  whole {p} {ts} {ls} {es} {s} {zs} r k d f = rw (number-is, replies-is, next-is)
+  pub whole : {p : Plan} {a : Columns} {s : Summary} {zs : List Reply} (r : Bursted) → Planned c setting (length rs) (length ys) p
+      → Delivered setting (p .fit) (columnsOf c) (p .summary) (p .count) rs ys a s zs → Finished a s (p .answer) r
+      → Bursts c setting rs ys r zs
+  unfolding viewOf
+  whole {p} {a} {s} {zs} r k d f = record { result = rw (number-is, replies-is, next-is); stays = stays }
     where
       t : List Reception
       t = take (p .count) rs
@@ -93,8 +95,8 @@ module _ (c : Collector) (setting : ℕ) (rs : List Reception) (ys : List Reply)
       number-is : handedNumber (r .answer) ≡ burstNumber setting v (length given) (length places)
       number-is = ap handedNumber (f .same) ∙ k .answer ∙ sym same-number
 
-      here : viewIn (c .times) (c .lens) (c .bytes) (p .summary) ≡ v
-      here = k .state
+      here : viewIn (columnsOf c) (p .summary) ≡ v
+      here = ap viewOf (k .state)
 
       replies-is : map repliedOf zs ≡ repliesTo setting v (taken (burstNumber setting v (length given) (length places)) given) ++ drop (length (taken (burstNumber setting v (length given) (length places)) given)) places
       replies-is =
@@ -105,19 +107,32 @@ module _ (c : Collector) (setting : ℕ) (rs : List Reception) (ys : List Reply)
           ∙ ap (λ (l : List Replied). repliesTo setting v (taken (burstNumber setting v (length given) (length places)) given) ++ l)
           (drop-map repliedOf (p .count) ys ∙ ap (λ (n : ℕ). drop n places) (long (p .count) (k .count)))
 
+      made : viewOf (r .next) ≡ viewIn a s
+      made = ap viewOf (f .next)
+
       next-is : viewOf (r .next) ≡ afterAll v (taken (burstNumber setting v (length given) (length places)) given)
       next-is =
-          f .next ∙ d .state ∙ ap (λ (u : View). after (p .fit) u t) here ∙ after-steps (p .fit) v t (k .tested) (d .timely)
+          made ∙ d .state ∙ ap (λ (u : View). after (p .fit) u t) here ∙ after-steps (p .fit) v t (k .tested) (d .timely)
           ∙ ap (afterAll v) (front (p .count) (k .count))
+
+      -- a refused burst takes none
+      taken-none : (handedNumber (r .answer) ≡ 0 → ⊥) → p .count ≡ 0
+      taken-none n = k .count ∙ rw (ne-eqb number 0 (λ z. n (ap handedNumber (f .same) ∙ k .answer ∙ z)))
+
+      stays : (handedNumber (r .answer) ≡ 0 → ⊥) → r .next ≡ c
+      stays n =
+          let same = d .none (taken-none n) in
+          f .next ∙ (λ i. collectorOf (same .0 i) (same .1 i)) ∙ k .state
 
 -- ---- the first places of lists that are held by value
 
 pub within : (c : Collector) (setting n m : ℕ) (records : List Reception) (places zs : List Reply) (b : Bursted) (r : Within) → length zs ≡ m
-    → burstedOf b zs ≡ burstOf setting (viewOf c) (map receptionOf (take n records)) (map repliedOf (take m places))
-    → (r .bursted ≡ b) × (r .replies ≡ zs ++ drop m places) → WithinOf c setting n m records places r
+    → Bursts c setting (take n records) (take m places) b zs → (r .bursted ≡ b) × (r .replies ≡ zs ++ drop m places) → WithinOf c setting n m records places r
 within c setting n m records places zs b r l said e = record {
-  result =
-      ap (λ (x : Bursted). burstedOf x (take m (r .replies))) (e .0)
-      ∙ ap (λ (x : List Reply). burstedOf b x) (ap (take m) (e .1) ∙ ap (λ (k : ℕ). take k (zs ++ drop m places)) (sym l) ∙ take-append-seam zs (drop m places)) ∙ said;
+  front =
+      let first : take m (r .replies) ≡ zs =
+      ap (take m) (e .1) ∙ ap (λ (k : ℕ). take k (zs ++ drop m places)) (sym l) ∙ take-append-seam zs (drop m places)
+      in
+      rw (first, e .0) said;
   past = ap (drop m) (e .1) ∙ ap (λ (k : ℕ). drop k (zs ++ drop m places)) (sym l) ∙ drop-append-seam zs (drop m places);
 }

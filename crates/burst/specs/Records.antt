@@ -13,8 +13,8 @@ use Rattle.model.specs.View as view
 use Rattle.model.specs.View.{View}
 use Rattle.collector.specs.declared.Collector.{Collector}
 use Rattle.collector.specs.declared.merging.Summary.{Summary}
-use Rattle.collector.specs.Collector.{viewOf}
-use Rattle.collector.specs.Admission.{viewIn, admission, Tested}
+use Rattle.collector.specs.Collector.{Columns, columnsOf, viewOf}
+use Rattle.collector.specs.Admission.{viewIn, collectorOf, admission, Tested}
 use Rattle.burst.specs.declared.Reception.{Reception}
 use Rattle.burst.specs.declared.Reply.{Reply}
 use Rattle.burst.specs.declared.Stepped.{Stepped}
@@ -42,13 +42,18 @@ handedNumber (Refused why) = numberOf why
 abbrev pub burstedOf : Bursted → List Reply → BurstResult
 burstedOf r replies = record { number = handedNumber (r .answer); replies = map repliedOf replies; next = viewOf (r .next) }
 
+-- what a burst gives, with the second list before and after it; beside a refusal the very state that was handed in
+pub record Bursts (c : Collector) (setting : ℕ) (rs : List Reception) (places : List Reply) (r : Bursted) (after : List Reply) : Type 0 where
+  pub result : burstedOf r after ≡ burstOf setting (viewOf c) (map receptionOf rs) (map repliedOf places)
+  pub stays : (handedNumber (r .answer) ≡ 0 → ⊥) → r .next ≡ c
+
 -- the places of a list that is held by value: enough for 10, and for places past its receptions
 abbrev pub listed : ℕ
 listed = maxBurst + 3
 
 -- a burst of the first n records and the first m places; what stands past these places stays
 pub record WithinOf (c : Collector) (setting n m : ℕ) (records : List Reception) (places : List Reply) (r : Within) : Type 0 where
-  pub result : burstedOf (r .bursted) (take m (r .replies)) ≡ burstOf setting (viewOf c) (map receptionOf (take n records)) (map repliedOf (take m places))
+  pub front : Bursts c setting (take n records) (take m places) (r .bursted) (take m (r .replies))
   pub past : drop m (r .replies) ≡ drop m places
 
 -- ---- what private functions say
@@ -62,8 +67,8 @@ pub record StepResult : Type 0 where
   pub reply : Replied
   pub next : View
 
-abbrev pub steppedOf : List ℕ → List ℕ → List ℕ → Stepped → StepResult
-steppedOf times lens entries r = record { reply = repliedOf (r .reply); next = viewIn times lens entries (r .summary) }
+abbrev pub steppedOf : Columns → Stepped → StepResult
+steppedOf a r = record { reply = repliedOf (r .reply); next = viewIn a (r .summary) }
 
 -- one reception at a state that was found acceptable or not, with what is sent for it at a setting
 abbrev pub admittedWith : ℕ → Bool → View → view.Reception → StepResult
@@ -83,22 +88,23 @@ replies setting fit v (r ∷ rs) =
     o .reply ∷ replies setting fit (o .next) rs
 
 -- the first n were taken: the state, and every place of the second list
-pub record Delivered (setting : ℕ) (fit : Bool) (times lens entries : List ℕ) (s : Summary) (n : ℕ) (rs : List Reception) (ys : List Reply)
-    (times' lens' entries' : List ℕ) (s' : Summary) (zs : List Reply) : Type 0 where
-  pub state : viewIn times' lens' entries' s' ≡ after fit (viewIn times lens entries s) (take n rs)
-  pub replied : map repliedOf zs ≡ replies setting fit (viewIn times lens entries s) (take n rs) ++ map repliedOf (drop n ys)
+pub record Delivered (setting : ℕ) (fit : Bool) (a : Columns) (s : Summary) (n : ℕ) (rs : List Reception) (ys : List Reply)
+    (a' : Columns) (s' : Summary) (zs : List Reply) : Type 0 where
+  pub state : viewIn a' s' ≡ after fit (viewIn a s) (take n rs)
+  pub replied : map repliedOf zs ≡ replies setting fit (viewIn a s) (take n rs) ++ map repliedOf (drop n ys)
   pub timely : Timely (map receptionOf (take n rs))
+  pub none : n ≡ 0 → (a' ≡ a) × (s' ≡ s)
 
 -- what is done with a burst at a setting, of so many receptions and places
 pub record Planned (c : Collector) (setting receptions places : ℕ) (r : Plan) : Type 0 where
   pub tested : Tested (r .fit) (viewOf c)
-  pub state : viewIn (c .times) (c .lens) (c .bytes) (r .summary) ≡ viewOf c
+  pub state : collectorOf (columnsOf c) (r .summary) ≡ c
   pub count : r .count ≡ cond (eqb (burstNumber setting (viewOf c) receptions places) 0) receptions 0
   pub few : r .count ≤ receptions
   pub placed : r .count ≤ places
   pub answer : handedNumber (r .answer) ≡ burstNumber setting (viewOf c) receptions places
 
 -- the next state of these parts, and the answer
-pub record Finished (times lens entries : List ℕ) (s : Summary) (answer : Handed) (r : Bursted) : Type 0 where
-  pub next : viewOf (r .next) ≡ viewIn times lens entries s
+pub record Finished (a : Columns) (s : Summary) (answer : Handed) (r : Bursted) : Type 0 where
+  pub next : r .next ≡ collectorOf a s
   pub same : r .answer ≡ answer

@@ -8,13 +8,11 @@ use refusal::Refusal;
 use telegram::frame::Frame;
 use telegram::repeater::MAX_SETTING;
 ghost use mathlib.Core.Path.{_≡_};
-ghost use mathlib.Core.List.{map};
 ghost use Prim.Native.Nat.{_≤_, min};
 ghost use lib.ListN.{length};
-ghost use Rattle.collector.specs.Collector.{viewOf};
+ghost use Rattle.collector.specs.Collector.{columns};
 ghost use Rattle.collector.specs.Admission.{viewIn};
-ghost use Rattle.model.specs.Burst.{burstOf};
-ghost use Rattle.burst.specs.Records.{receptionOf, repliedOf, burstedOf, steppedOf, admittedWith, sizeOf, Delivered, Planned, Finished, listed, WithinOf};
+ghost use Rattle.burst.specs.Records.{receptionOf, Bursts, steppedOf, admittedWith, sizeOf, Delivered, Planned, Finished, listed, WithinOf};
 
 // The most receptions of a burst.
 pub const MAX_BURST: usize = 256;
@@ -47,12 +45,13 @@ fn take_record<'a>(
     times: &'a mut [u64; Collector::CAPACITY],
     lens: &'a mut [u8; Collector::CAPACITY],
     entries: &'a mut [u8; Collector::CAPACITY * Collector::MAX_LEN],
+    copies: &'a mut [u16; Collector::CAPACITY],
     summary: Summary,
     setting: u8,
     reception: Reception,
 ) -> Stepped
-    ensures { λ r. ⌜ steppedOf (now (times .exit)) (now (lens .exit)) (now (entries .exit)) r
-        ≡ admittedWith setting fit (viewIn (now (times .entry)) (now (lens .entry)) (now (entries .entry)) summary) (receptionOf reception) ⌝ }
+    ensures { λ r. ⌜ steppedOf (columns (now (times .exit)) (now (lens .exit)) (now (entries .exit)) (now (copies .exit))) r
+        ≡ admittedWith setting fit (viewIn (columns (now (times .entry)) (now (lens .entry)) (now (entries .entry)) (now (copies .entry))) summary) (receptionOf reception) ⌝ }
 {
     let bytes = reception.bytes;
     let n = size(reception.len);
@@ -61,6 +60,7 @@ fn take_record<'a>(
         times,
         lens,
         entries,
+        copies,
         summary,
         &bytes[0..n],
         reception.time,
@@ -105,6 +105,7 @@ fn deliver(
     times: &mut [u64; Collector::CAPACITY],
     lens: &mut [u8; Collector::CAPACITY],
     entries: &mut [u8; Collector::CAPACITY * Collector::MAX_LEN],
+    copies: &mut [u16; Collector::CAPACITY],
     summary: Summary,
     setting: u8,
     count: usize,
@@ -112,13 +113,13 @@ fn deliver(
     replies: &mut [Reply],
 ) -> Summary
     requires { ⌜ (count ≤ length (now receptions)) × (count ≤ length (now replies)) ⌝ }
-    ensures { λ r. ⌜ Delivered setting fit (now (times .entry)) (now (lens .entry)) (now (entries .entry)) summary count
-        (now (receptions .entry)) (now (replies .entry)) (now (times .exit)) (now (lens .exit)) (now (entries .exit)) r (now (replies .exit)) ⌝ }
+    ensures { λ r. ⌜ Delivered setting fit (columns (now (times .entry)) (now (lens .entry)) (now (entries .entry)) (now (copies .entry))) summary count
+        (now (receptions .entry)) (now (replies .entry)) (columns (now (times .exit)) (now (lens .exit)) (now (entries .exit)) (now (copies .exit))) r (now (replies .exit)) ⌝ }
 {
     let mut s = summary;
     let mut i: usize = 0;
     while i < count {
-        let next = take_record(fit, times, lens, entries, s, setting, receptions[i]);
+        let next = take_record(fit, times, lens, entries, copies, s, setting, receptions[i]);
         replies[i] = next.reply;
         s = next.summary;
         i += 1;
@@ -149,25 +150,26 @@ pub struct Plan {
 // Takes the receptions one by one, the reply to each at its place in the second list; places past them stay. A burst that is
 // refused changes nothing: 11 where the state is not acceptable, 6 where a reply has no place, 10 over 256 receptions or a setting over 2.
 pub fn burst(c: Collector, setting: u8, receptions: &[Reception], replies: &mut [Reply]) -> Bursted
-    ensures { λ r. ⌜ burstedOf r (now (replies .exit))
-        ≡ burstOf setting (viewOf c) (map receptionOf (now (receptions .entry))) (map repliedOf (now (replies .entry))) ⌝ }
+    ensures { λ r. ⌜ Bursts c setting (now (receptions .entry)) (now (replies .entry)) r (now (replies .exit)) ⌝ }
 {
     let plan = prepare(c, setting, receptions.len(), replies.len());
     let mut times = c.times;
     let mut lens = c.lens;
     let mut entries = c.bytes;
+    let mut copies = c.copies;
     let summary = deliver(
         plan.fit,
         &mut times,
         &mut lens,
         &mut entries,
+        &mut copies,
         plan.summary,
         setting,
         plan.count,
         receptions,
         replies,
     );
-    finish(times, lens, entries, summary, plan.answer)
+    finish(times, lens, entries, copies, summary, plan.answer)
 }
 
 fn prepare(c: Collector, setting: u8, receptions: usize, places: usize) -> Plan
@@ -228,13 +230,14 @@ fn finish(
     times: [u64; Collector::CAPACITY],
     lens: [u8; Collector::CAPACITY],
     entries: [u8; Collector::CAPACITY * Collector::MAX_LEN],
+    copies: [u16; Collector::CAPACITY],
     summary: Summary,
     answer: Handed,
 ) -> Bursted
-    ensures { λ r. ⌜ Finished times lens entries summary answer r ⌝ }
+    ensures { λ r. ⌜ Finished (columns times lens entries copies) summary answer r ⌝ }
 {
     Bursted {
-        next: Collector::from_parts(times, lens, entries, summary),
+        next: Collector::from_parts(times, lens, entries, copies, summary),
         answer: answer,
     }
 }

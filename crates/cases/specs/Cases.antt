@@ -16,7 +16,7 @@ use Rattle.slots.specs.Plan.{plans, standardRule}
 use Rattle.timing.specs.Rules.{ruleOf}
 use Rattle.model.specs.Answer.{Shown, Kept, Copy, Loose, Refused}
 use Rattle.model.specs.View.{fresh}
-use Rattle.model.specs.History.{Call, Receive, Seen, Answered, Wrote, Restored, Delivered, Looked, run}
+use Rattle.model.specs.History.{Call, Receive, Seen, Answered, Wrote, Restored, Delivered, Heard, Looked, run}
 
 pub record Case : Type 0 where
   pub got : List ℕ
@@ -66,6 +66,7 @@ answersOf (Answered a sent n ∷ l) = shownAs a ∷ answersOf l
 answersOf (Wrote number output n ∷ l) = answersOf l
 answersOf (Restored number n ∷ l) = answersOf l
 answersOf (Delivered number replies n ∷ l) = answersOf l
+answersOf (Heard number copies n ∷ l) = answersOf l
 answersOf (Looked n ∷ l) = answersOf l
 
 abbrev pub received : List ℕ → ℕ → Call

@@ -14,7 +14,7 @@ ghost use mathlib.Core.List.{List};
 ghost use Prim.Native.Nat.{ℕ, _+_, _≤_};
 ghost use lib.ListN.{length};
 ghost use Rattle.model.specs.Answer.{shownOf};
-ghost use Rattle.collector.specs.Collector.{viewOf};
+ghost use Rattle.collector.specs.Collector.{columns, viewOf};
 ghost use Rattle.collector.specs.Merging.{relayedFor};
 ghost use Rattle.collector.specs.Admission.{viewIn, Tested};
 ghost use Rattle.line_output.specs.Text.{rowBehind};
@@ -219,10 +219,11 @@ fn merge_lines<'a>(
     input: &'a [u8],
     out: &'a mut [u8],
 ) -> Merged
-    requires { ⌜ Tested fit (viewIn (now times) (now lens) (now entries) summary) ⌝ }
-    ensures { λ r. ⌜ RanTo (running (record { setting = setting; view = viewIn (now (times .entry)) (now (lens .entry)) (now (entries .entry)) summary }))
+    requires { ⌜ Tested fit (viewIn (columns (now times) (now lens) (now entries)) summary) ⌝ }
+    ensures { λ r. ⌜ RanTo
+        (running (record { setting = setting; view = viewIn (columns (now (times .entry)) (now (lens .entry)) (now (entries .entry))) summary }))
         (now (input .entry)) (now (out .entry)) (now (out .exit))
-        (running (record { setting = setting; view = viewIn (now (times .exit)) (now (lens .exit)) (now (entries .exit)) (r .summary) })) (r .used) (r .written) ⌝ }
+        (running (record { setting = setting; view = viewIn (columns (now (times .exit)) (now (lens .exit)) (now (entries .exit))) (r .summary) })) (r .used) (r .written) ⌝ }
 {
     let mut summary = summary;
     let mut bytes = [0u8; line_input::MAX_BYTES];

@@ -13,10 +13,10 @@ use Rattle.lists.proofs.Choice.{both}
 use Rattle.lists.proofs.Tests.{and-true, all-last, none, pairwise-last}
 use Rattle.erp1.specs.Subtelegram.{isValid}
 use Rattle.model.specs.declared.Totals.{Totals}
-use Rattle.model.specs.View.{Reception, View, capacity, isOpen}
+use Rattle.model.specs.View.{Entry, View, openedBy, capacity, isOpen}
 use Rattle.model.specs.Acceptable.{isCopyOf, isEntry, mayFollow, isSummed, acceptable}
-use Rattle.collector.specs.Collector.{entryAt, entriesAt}
-use Rattle.collector.specs.Acceptable.{areTimely, areTelegrams, hasCopy, shownAt}
+use Rattle.collector.specs.Collector.{Columns, entryAt, entriesAt}
+use Rattle.collector.specs.Acceptable.{areTimely, areTelegrams, hasCopy, isRepeatedAt, shownAt}
 use Rattle.collector.proofs.Inside.{same-test, fails, all-inside, pairwise-inside, none-any}
 use Rattle.collector.proofs.Times.{isOrdered}
 use Rattle.collector.proofs.Arrays.{entries-none, entries-more, entries-inside}
@@ -24,51 +24,51 @@ use Rattle.collector.proofs.Arrays.{entries-none, entries-more, entries
 -- ---- the telegrams
 
 -- entry i is valid, and no entry before it is the same telegram
-unfoldable pub isNewAt : List ℕ → List ℕ → List ℕ → ℕ → Bool
-isNewAt times lens bytes i = isValid (shownAt lens bytes i) && not (hasCopy (entriesAt times lens bytes i) (entryAt times lens bytes i))
+unfoldable pub isNewAt : Columns → ℕ → Bool
+isNewAt a i = isValid (shownAt (a .lens) (a .bytes) i) && not (isRepeatedAt a i)
 
-pub telegrams-none : (times lens bytes : List ℕ) → areTelegrams (entriesAt times lens bytes 0) ≡ true
+pub telegrams-none : (a : Columns) → areTelegrams (entriesAt a 0) ≡ true
 unfolding areTelegrams
-telegrams-none times lens bytes = rw (entries-none times lens bytes)
+telegrams-none a = rw (entries-none a)
 
-module _ (times lens bytes : List ℕ) (i : ℕ) where
-  abbrev before : List Reception
-  before = entriesAt times lens bytes i
+module _ (a : Columns) (i : ℕ) where
+  abbrev before : List Entry
+  before = entriesAt a i
 
-  abbrev entry : Reception
-  entry = entryAt times lens bytes i
+  abbrev entry : Entry
+  entry = entryAt a i
 
-  pub telegrams-more : areTelegrams (entriesAt times lens bytes i) ≡ true → isNewAt times lens bytes i ≡ true → areTelegrams (entriesAt times lens bytes (i + 1)) ≡ true
+  pub telegrams-more : areTelegrams (entriesAt a i) ≡ true → isNewAt a i ≡ true → areTelegrams (entriesAt a (i + 1)) ≡ true
   unfolding areTelegrams isNewAt hasCopy
   telegrams-more h n =
-      let w = both (all (λ e. isValid (e .bytes)) before) (pairwise (λ e later. not (isCopyOf e later)) before) h in
-      let v = both (isValid (entry .bytes)) (not (any (λ e. isCopyOf e entry) before)) n in
-      rw (entries-more times lens bytes i)
+      let w = both (all (λ e. isValid (e .bytes)) before) (pairwise (λ e later. not (isCopyOf e (openedBy later))) before) h in
+      let v = both (isValid (entry .bytes)) (not (any (λ e. isCopyOf e (openedBy entry)) before)) n in
+      rw (entries-more a i)
       (and-true (all-last (λ e. isValid (e .bytes)) before entry (w .0) (v .0))
-      (pairwise-last (λ e later. not (isCopyOf e later)) before entry (w .1) (none (λ e. isCopyOf e entry) before (not-true _ (v .1)))))
+      (pairwise-last (λ e later. not (isCopyOf e (openedBy later))) before entry (w .1) (none (λ e. isCopyOf e (openedBy entry)) before (not-true _ (v .1)))))
 
-  pub telegrams-not : (count : ℕ) → i < count → isNewAt times lens bytes i ≡ false → areTelegrams (entriesAt times lens bytes count) ≡ false
+  pub telegrams-not : (count : ℕ) → i < count → isNewAt a i ≡ false → areTelegrams (entriesAt a count) ≡ false
   unfolding areTelegrams isNewAt hasCopy
-  telegrams-not count k n = fails _ (λ h. false≢true (sym n ∙ new (entries-inside times lens bytes i count k) h))
+  telegrams-not count k n = fails _ (λ h. false≢true (sym n ∙ new (entries-inside a i count k) h))
     where
-      new : (rest : List Reception) × (entriesAt times lens bytes count ≡ before ++ (entry ∷ rest)) → areTelegrams (entriesAt times lens bytes count) ≡ true → isNewAt times lens bytes i ≡ true
+      new : (rest : List Entry) × (entriesAt a count ≡ before ++ (entry ∷ rest)) → areTelegrams (entriesAt a count) ≡ true → isNewAt a i ≡ true
       new s h =
           let g = rw (s .1) at h in
           let l = before ++ (entry ∷ s .0) in
-          let w = both (all (λ e. isValid (e .bytes)) l) (pairwise (λ e later. not (isCopyOf e later)) l) g in
+          let w = both (all (λ e. isValid (e .bytes)) l) (pairwise (λ e later. not (isCopyOf e (openedBy later))) l) g in
           and-true (all-inside (λ e. isValid (e .bytes)) before entry (s .0) (w .0))
-          (ap not (none-any (λ e. isCopyOf e entry) before (pairwise-inside (λ e later. not (isCopyOf e later)) before entry (s .0) (w .1))))
+          (ap not (none-any (λ e. isCopyOf e (openedBy entry)) before (pairwise-inside (λ e later. not (isCopyOf e (openedBy later))) before entry (s .0) (w .1))))
 
   -- by its parts
-  pub new-not-valid : isValid (shownAt lens bytes i) ≡ false → isNewAt times lens bytes i ≡ false
+  pub new-not-valid : isValid (shownAt (a .lens) (a .bytes) i) ≡ false → isNewAt a i ≡ false
   unfolding isNewAt
   new-not-valid e = rw e
 
-  pub new-repeated : hasCopy (entriesAt times lens bytes i) entry ≡ true → isNewAt times lens bytes i ≡ false
+  pub new-repeated : isRepeatedAt a i ≡ true → isNewAt a i ≡ false
   unfolding isNewAt
-  new-repeated e = rw e (and-false (isValid (shownAt lens bytes i)))
+  new-repeated e = rw e (and-false (isValid (shownAt (a .lens) (a .bytes) i)))
 
-  pub new-both : isValid (shownAt lens bytes i) ≡ true → hasCopy (entriesAt times lens bytes i) entry ≡ false → isNewAt times lens bytes i ≡ true
+  pub new-both : isValid (shownAt (a .lens) (a .bytes) i) ≡ true → isRepeatedAt a i ≡ false → isNewAt a i ≡ true
   unfolding isNewAt
   new-both e f = rw (e, f)
 
@@ -107,10 +107,10 @@ acceptable-by v =
     ap (λ (b : Bool). leb (length (v .entries)) capacity && b)
     (rw (
       all-and (λ e. isValid (e .bytes)) (λ e. leb (e .time) (v .latest) && isOpen (v .latest) e) (v .entries),
-      pairwise-and isOrdered (λ e later. not (isCopyOf e later)) (v .entries),
+      pairwise-and isOrdered (λ e later. not (isCopyOf e (openedBy later))) (v .entries),
     )
     (arranged (all (λ e. isValid (e .bytes)) (v .entries)) (all (λ e. leb (e .time) (v .latest) && isOpen (v .latest) e) (v .entries))
-    (pairwise isOrdered (v .entries)) (pairwise (λ e later. not (isCopyOf e later)) (v .entries)) _))
+    (pairwise isOrdered (v .entries)) (pairwise (λ e later. not (isCopyOf e (openedBy later))) (v .entries)) _))
 
 -- each return of the test, in its order
 module _ (v : View) (count : ℕ) (long : length (v .entries) ≡ count) where

@@ -1,87 +1,127 @@
 -- One reception at any state whose entries and totals can be counted on, from what the code's steps tell: the answer, that there is room where it is
 -- kept, and the next state. Assumes nothing.
-use Prim.Native.Nat.{ℕ, _-_, _*_, _≤_, _<_}
+use Prim.Native.Nat.{ℕ, _-_, _≤_, _<_}
 use native.Mathlib.Omega.{arith}
 use mathlib.Core.Path.{_≡_, refl, sym, _∙_, ap}
 use mathlib.Core.Bool.{Bool, true, false, cond, not, _&&_, false≢true}
-use mathlib.Core.List.{List, [], _∷_}
+use mathlib.Core.List.{List}
 use lib.Dec.{leb, ltb, eqb}
 use lib.ListN.{length}
-use borrow.Author.Tests.{le-leb, leb-true, leb-false, eqb-true}
+use borrow.Author.Tests.{le-leb, lt-leb, leb-true, leb-false, ltb-true, eqb-true}
 use Rattle.lists.proofs.Choice.{both}
+use Rattle.lists.proofs.Tests.{by-test}
 use Rattle.refusal.specs.Number.{numberOf}
+use Rattle.refusal.specs.declared.Refusal.{Refusal}
 use Rattle.refusal.specs.declared.Refusal.the-variants as refusal
+use Rattle.refusal.specs.declared.Refusal.the-variants.{Full, NotAccepted}
 use Rattle.erp1.specs.Subtelegram.{minLength, maxLength, checkOf, isValid}
 use Rattle.erp1.proofs.Checks.{check-facts}
 use Rattle.model.specs.declared.Totals.{Totals}
-use Rattle.model.specs.Answer.{Shown, Kept, Copy, Loose, Refused, isKept}
-use Rattle.model.specs.View.{Reception, View, capacity}
+use Rattle.model.specs.Answer.{Shown, Kept, Copy, Loose, Refused, isKept, isCopy, isReceived, shownOf}
+use Rattle.model.specs.View.{Reception, Entry, View, opened, capacity}
 use Rattle.model.specs.Acceptable.{isSummed}
-use Rattle.model.specs.Step.{maxCount, tally, plusIf, addIf}
-use Rattle.collector.specs.declared.Collector.{Collector}
-use Rattle.collector.specs.Collector.{entriesAt, viewOf}
+use Rattle.model.specs.Step.{Outcome, maxCount, tally, plusIf}
+use Rattle.model.proofs.Check.{Failed, length-wrong, sum-wrong, crc-wrong, nested, check-failed}
+use Rattle.collector.specs.declared.merging.Summary.{Summary}
+use Rattle.collector.specs.declared.merging.Admitted.{Admitted}
+use Rattle.collector.specs.declared.merging.Judged.{Judged}
+use Rattle.collector.specs.Collector.{Columns, entriesAt}
 use Rattle.collector.specs.Acceptable.{hasCopy}
-use Rattle.collector.specs.Merging.{receptionCheck, answerFor, Countable, Expired, Moved, PutIf}
-use Rattle.collector.specs.Admission.{isSafe, numberOn, latestAfter, leftAfter, answerOn, admitted, notAdmitted, admission}
-use Rattle.collector.proofs.Arrays.{entries-length}
-use Rattle.collector.proofs.Moving.{moved-entries, put-entries, expired-open}
+use Rattle.collector.specs.Merging.{receptionCheck, answerFor, JudgedBy, Expired}
+use Rattle.collector.specs.Admission.{viewIn, admittedOf, isSafe, numberOn, latestAfter, leftAfter, answerOn, entriesWith, admitted, notAdmitted, admission, Admits}
+use Rattle.collector.proofs.Arrays.{entries-length, found-known}
+use Rattle.collector.proofs.Moving.{MovedColumns, moved-entries, creditIf, moreCopies, credited-entries, addIf, PutColumns, put-entries, expired-open}
 
 -- ---- any view
 
 -- what passes the tests is valid
 pub passed-valid : (v : View) (r : Reception) → numberOn v r ≡ 0 → isValid (r .bytes) ≡ true
 unfolding receptionCheck
-passed-valid v r = go (leb maxCount (v .totals .received)) (isValid (r .bytes)) refl
+passed-valid v r = go (isValid (r .bytes)) refl
   where
-    go : (a b : Bool) → isValid (r .bytes) ≡ b
-        → cond a (numberOf refusal.Full) (cond (not b) (checkOf (r .bytes)) (cond (ltb (r .time) (v .latest)) (numberOf refusal.Late) 0)) ≡ 0 → isValid (r .bytes) ≡ true
-    go true b h z = absurd (omega arith)
-    go false true h z = h
-    go false false h z = rw z
+    go : (b : Bool) → isValid (r .bytes) ≡ b
+        → cond (not b) (checkOf (r .bytes)) (cond (ltb (r .time) (v .latest)) (numberOf refusal.Late) 0) ≡ 0 → isValid (r .bytes) ≡ true
+    go true h z = h
+    go false h z = rw z
 
 -- and fits an entry
 pub valid-fits : (s : List ℕ) → isValid s ≡ true → (minLength ≤ length s) × (length s ≤ maxLength)
 valid-fits s e = let f = check-facts s (eqb-true _ 0 e) in (f .low, f .high)
 
-module _ (v : View) (r : Reception) where
-  -- only what passes them all, with room left, is kept
-  pub kept-room : isKept (answerOn v r) ≡ true → (length (leftAfter v r) < capacity) × (isValid (r .bytes) ≡ true)
-  unfolding answerFor
-  kept-room = go (eqb (numberOn v r) 0) (hasCopy (leftAfter v r) r) (leb capacity (length (leftAfter v r))) refl refl
-    where
-      go : (b k c : Bool) → eqb (numberOn v r) 0 ≡ b → leb capacity (length (leftAfter v r)) ≡ c
-          → isKept (cond b (cond k Copy (cond c Loose Kept)) (Refused (numberOn v r))) ≡ true → (length (leftAfter v r) < capacity) × (isValid (r .bytes) ≡ true)
-      go true true c p q h = absurd (false≢true h)
-      go true false true p q h = absurd (false≢true h)
-      go true false false p q h = (leb-false _ _ q, passed-valid v r (eqb-true (numberOn v r) 0 p))
-      go false k c p q h = absurd (false≢true h)
+-- only what passes them all, with room left, is kept
+pub kept-room : (v : View) (r : Reception) → isKept (answerOn v r) ≡ true → (length (leftAfter v r) < capacity) × (isValid (r .bytes) ≡ true)
+unfolding answerFor
+kept-room v r = go (eqb (numberOn v r) 0) (hasCopy (leftAfter v r) r) (leb capacity (length (leftAfter v r))) refl refl
+  where
+    go : (b k c : Bool) → eqb (numberOn v r) 0 ≡ b → leb capacity (length (leftAfter v r)) ≡ c
+        → isKept (cond b (cond k Copy (cond c Loose Kept)) (Refused (numberOn v r))) ≡ true → (length (leftAfter v r) < capacity) × (isValid (r .bytes) ≡ true)
+    go true true c p q h = absurd (false≢true h)
+    go true false true p q h = absurd (false≢true h)
+    go true false false p q h = (leb-false _ _ q, passed-valid v r (eqb-true (numberOn v r) 0 p))
+    go false k c p q h = absurd (false≢true h)
 
-  -- a total that is at its end is not counted
-  pub countable : isSummed (v .totals) ≡ true → Countable (v .totals) (answerOn v r)
-  unfolding answerFor receptionCheck
-  countable e = record { summed = e; full = λ h. rw (le-leb maxCount (v .totals .received) h) }
+-- only a copy of an open telegram is answered Copy
+pub copy-known : (number : ℕ) (known crowded : Bool) → isCopy (answerFor number known crowded) ≡ true → known ≡ true
+unfolding answerFor
+copy-known number known crowded = go (eqb number 0) known crowded
+  where
+    go : (b k c : Bool) → isCopy (cond b (cond k Copy (cond c Loose Kept)) (Refused number)) ≡ true → k ≡ true
+    go true true c h = refl
+    go true false true h = absurd (false≢true h)
+    go true false false h = absurd (false≢true h)
+    go false k c h = absurd (false≢true h)
 
--- ---- the state's arrays, where the telegrams that are no longer open are gone from them
+-- whatever passed 8 and 11 is received
+number-received : (v : View) (r : Reception) → isReceived (Refused (numberOn v r)) ≡ true
+unfolding receptionCheck
+number-received v r =
+    by-test (isValid (r .bytes)) (λ e. rw e (valid (ltb (r .time) (v .latest)))) (λ e. rw e (failed (check-failed (r .bytes) e)))
+  where
+    valid : (late : Bool) → isReceived (Refused (cond late (numberOf refusal.Late) 0)) ≡ true
+    valid true = refl
+    valid false = refl
+
+    failed : {n : ℕ} → Failed n → isReceived (Refused n) ≡ true
+    failed length-wrong = refl
+    failed sum-wrong = refl
+    failed crc-wrong = refl
+    failed nested = refl
+
+pub is-received : (v : View) (r : Reception) → isReceived (answerOn v r) ≡ true
+unfolding answerFor
+is-received v r = go (eqb (numberOn v r) 0) (hasCopy (leftAfter v r) r) (leb capacity (length (leftAfter v r)))
+  where
+    go : (b k c : Bool) → isReceived (cond b (cond k Copy (cond c Loose Kept)) (Refused (numberOn v r))) ≡ true
+    go true true c = refl
+    go true false true = refl
+    go true false false = refl
+    go false k c = number-received v r
+
+-- the entries after an answer, by what it says
+by-answer : (shown : Shown) (r : Reception) (l : List Entry) → addIf (isKept shown) (opened r) (creditIf (isCopy shown) r l) ≡ entriesWith shown r l
+by-answer Kept r l = refl
+by-answer Copy r l = refl
+by-answer Loose r l = refl
+by-answer (Refused n) r l = refl
+
+-- ---- the columns, where the telegrams that are no longer open are gone from them
 
 -- what the test of a state that may be taken says of its fields
-pub record Fit (fit : Bool) (s : Collector) : Type 0 where
+pub record Fit (fit : Bool) (s : Summary) : Type 0 where
   pub found : fit ≡ true
   pub few : s .count ≤ capacity
   pub summed : isSummed (s .totals) ≡ true
 
 -- what the code's steps tell up to there
-pub record Closed (s : Collector) (r : Reception) (n time gone : ℕ) (times lens bytes : List ℕ) : Type 0 where
-  pub checked : n ≡ receptionCheck (s .totals .received) (s .latest) r
+pub record Closed (a₀ : Columns) (s : Summary) (r : Reception) (n time gone : ℕ) (a : Columns) : Type 0 where
+  pub checked : n ≡ receptionCheck (s .latest) r
   pub latest : time ≡ cond (eqb n 0) (r .time) (s .latest)
-  pub expired : Expired (s .times) (s .count) time gone
-  pub movedTimes : Moved gone (s .count - gone) (s .times) times
-  pub movedLens : Moved gone (s .count - gone) (s .lens) lens
-  pub movedBytes : Moved (maxLength * gone) (maxLength * (s .count - gone)) (s .bytes) bytes
+  pub expired : Expired (a₀ .times) (s .count) time gone
+  pub moved : MovedColumns gone (s .count - gone) a₀ a
 
-module _ (fit : Bool) (s : Collector) where
-  safe-by : isSafe (viewOf s) ≡ (leb (s .count) capacity && isSummed (s .totals))
-  unfolding viewOf
-  safe-by = rw (entries-length (s .times) (s .lens) (s .bytes) (s .count))
+module _ (fit : Bool) (a : Columns) (s : Summary) (r : Reception) where
+  safe-by : isSafe (viewIn a s) ≡ (leb (s .count) capacity && isSummed (s .totals))
+  safe-by = rw (entries-length a (s .count))
 
   pub fit-says : fit && (leb (s .count) capacity && isSummed (s .totals)) ≡ true → Fit fit s
   fit-says e =
@@ -89,51 +129,77 @@ module _ (fit : Bool) (s : Collector) where
       let u = both (leb (s .count) capacity) (isSummed (s .totals)) (w .1) in
       record { found = w .0; few = leb-true _ _ (u .0); summed = u .1 }
 
-  pub not-taken : (r : Reception) → fit && (leb (s .count) capacity && isSummed (s .totals)) ≡ false → notAdmitted (viewOf s) ≡ admission fit (viewOf s) r
-  unfolding admission
-  not-taken r e = rw (safe-by, e)
+  -- the three ways out: nothing is changed at the first two
+  pub unchanged : (why : Refusal) (d : Admitted) → (d .summary ≡ s) × (shownOf (d .answer) ≡ Refused (numberOf why))
+      → notAdmitted why (viewIn a s) ≡ admission fit (viewIn a s) r → Admits fit a s r a d
+  unchanged why d k e = record {
+    outcome = (λ i. record { answer = k .1 i; next = viewIn a (k .0 i) }) ∙ e;
+    stays = λ _. (refl, k .0);
+  }
 
-  pub is-taken : (r : Reception) → Fit fit s → admitted (viewOf s) r ≡ admission fit (viewOf s) r
-  unfolding admission
-  is-taken r f = rw (safe-by, f .found, le-leb _ _ (f .few), f .summed)
+  pub changed : {a' : Columns} (d : Admitted) → admittedOf a' d ≡ admitted (viewIn a s) r → admitted (viewIn a s) r ≡ admission fit (viewIn a s) r → Admits fit a s r a' d
+  unfolding admitted
+  changed d k e = record {
+    outcome = k ∙ e;
+    stays = λ f. absurd (false≢true (sym f ∙ ap (λ (o : Outcome). isReceived (o .answer)) k ∙ is-received (viewIn a s) r));
+  }
 
-module _ {s : Collector} {r : Reception} {n time gone : ℕ} {times lens bytes : List ℕ} (k : Closed s r n time gone times lens bytes) where
+  pub not-accepted : fit && (leb (s .count) capacity && isSummed (s .totals)) ≡ false → notAdmitted NotAccepted (viewIn a s) ≡ admission fit (viewIn a s) r
+  unfolding admission
+  not-accepted e = rw (safe-by, e)
+
+  module _ (f : Fit fit s) where
+    pub all-full : maxCount ≤ s .totals .received → notAdmitted Full (viewIn a s) ≡ admission fit (viewIn a s) r
+    unfolding admission
+    all-full h = rw (safe-by, f .found, le-leb _ _ (f .few), f .summed, le-leb maxCount (s .totals .received) h)
+
+    pub is-taken : s .totals .received < maxCount → admitted (viewIn a s) r ≡ admission fit (viewIn a s) r
+    unfolding admission
+    is-taken h = rw (safe-by, f .found, le-leb _ _ (f .few), f .summed, lt-leb maxCount (s .totals .received) h)
+
+module _ {a₀ : Columns} {s : Summary} {r : Reception} {n time gone : ℕ} {a : Columns} (k : Closed a₀ s r n time gone a) where
+  abbrev view : View
+  view = viewIn a₀ s
+
   abbrev left : ℕ
   left = s .count - gone
 
-  left-open : entriesAt times lens bytes left ≡ leftAfter (viewOf s) r
-  unfolding viewOf
+  left-open : entriesAt a left ≡ leftAfter view r
   left-open =
       rw (← k .checked, ← k .latest)
-      (moved-entries gone left (s .times) (s .lens) (s .bytes) times lens bytes (k .movedTimes) (k .movedLens) (k .movedBytes)
-      ∙ sym (expired-open (s .times) (s .lens) (s .bytes) (s .count) time gone (k .expired)))
+      (moved-entries gone left a₀ a (k .moved) ∙ sym (expired-open a₀ (s .count) time gone (k .expired)))
 
-  left-length : length (leftAfter (viewOf s) r) ≡ left
-  left-length = sym (ap length left-open) ∙ entries-length times lens bytes left
+  left-length : length (leftAfter view r) ≡ left
+  left-length = sym (ap length left-open) ∙ entries-length a left
 
-  latest-is : time ≡ latestAfter (viewOf s) r
-  unfolding viewOf
+  latest-is : time ≡ latestAfter view r
   latest-is = k .latest ∙ rw (k .checked)
 
-  pub answer-said : (a : Shown) → a ≡ answerFor n (hasCopy (entriesAt times lens bytes left) r) (leb capacity left) → a ≡ answerOn (viewOf s) r
-  unfolding viewOf
-  answer-said a e = e ∙ rw (k .checked, left-open, ← left-length)
+  module _ {j : Judged} (by : JudgedBy n (entriesAt a left) r j) where
+    pub answer-said : shownOf (j .answer) ≡ answerOn view r
+    answer-said = by .answer ∙ rw (k .checked, left-open)
 
-  -- a reception that is kept, and the next state
-  module _ {a : Shown} {kept : Bool} (said : a ≡ answerOn (viewOf s) r) (keeps : kept ≡ isKept a) where
-    pub room : kept ≡ true → (left < capacity) × (isValid (r .bytes) ≡ true)
-    room e =
-        let w = kept-room (viewOf s) r (ap isKept (sym said) ∙ sym keeps ∙ e) in
-        (omega (arith, w .0, left-length), w .1)
+    -- a copy is one of an open telegram
+    pub inside : isCopy (shownOf (j .answer)) ≡ true → j .entry < left
+    inside e =
+        let known = copy-known _ _ _ (ap isCopy (sym (by .answer)) ∙ e) in
+        rw (by .entry e) (ltb-true _ left (found-known a left r ∙ known))
 
-    module _ {times' lens' bytes' : List ℕ} (t : PutIf kept left (r .time ∷ []) times times') (l : PutIf kept left (length (r .bytes) ∷ []) lens lens')
-        (b : PutIf kept (maxLength * left) (r .bytes) bytes bytes') where
-      entries-after : entriesAt times' lens' bytes' (plusIf kept left) ≡ addIf (isKept a) r (leftAfter (viewOf s) r)
-      entries-after =
-          put-entries kept left times lens bytes times' lens' bytes' r (λ e. valid-fits (r .bytes) (room e .1) .1) t l b
-          ∙ rw (keeps, left-open)
+    -- a reception that is kept, and the next state
+    module _ {heard kept : Bool} (hears : heard ≡ isCopy (shownOf (j .answer))) (keeps : kept ≡ isKept (shownOf (j .answer))) where
+      pub room : kept ≡ true → (left < capacity) × (isValid (r .bytes) ≡ true)
+      room e =
+          let w = kept-room view r (ap isKept (sym answer-said) ∙ sym keeps ∙ e) in
+          (omega (arith, w .0, left-length), w .1)
 
-      pub taken : (count : ℕ) (totals : Totals) → count ≡ plusIf kept left → totals ≡ tally a (s .totals)
-          → record { answer = a; next = record { latest = time; totals = totals; entries = entriesAt times' lens' bytes' count } } ≡ admitted (viewOf s) r
-      unfolding viewOf admitted
-      taken count totals e f = rw (e, f, latest-is, entries-after, said)
+      module _ {a' : Columns} (long : left ≤ length (a .copies)) (put : PutColumns kept left r (moreCopies heard (j .entry) a) a') where
+        entries-after : entriesAt a' (plusIf kept left) ≡ entriesWith (shownOf (j .answer)) r (leftAfter view r)
+        entries-after =
+            put-entries kept left r (moreCopies heard (j .entry) a) a' (λ e. valid-fits (r .bytes) (room e .1) .1) put
+            ∙ ap (addIf kept (opened r)) (credited-entries a (j .entry) left r long heard (λ e. by .entry (sym hears ∙ e)))
+            ∙ rw (keeps, hears, left-open) (by-answer (shownOf (j .answer)) r (leftAfter view r))
+
+        pub taken : (count : ℕ) (totals : Totals) → count ≡ plusIf kept left → totals ≡ tally (shownOf (j .answer)) (s .totals)
+            → record { answer = shownOf (j .answer); next = record { latest = time; totals = totals; entries = entriesAt a' count } } ≡ admitted view r
+        unfolding admitted
+        taken count totals e f = rw (e, f, latest-is, entries-after, answer-said)

@@ -1,41 +1,39 @@
 -- A reception's answer by the parts that the code finds it by, and the next state by that answer. Assumes nothing.
 use Prim.Native.Nat.{ℕ, _+_, _≤_, _<_}
-use native.Mathlib.Decide.{decLt}
-use native.Mathlib.Omega.{arith}
 use mathlib.Core.Path.{_≡_, sym, _∙_, ap}
 use mathlib.Core.Bool.{Bool, true, false, false≢true}
-use borrow.Author.Tests.{le-leb, lt-leb, lt-ltb, le-ltb, ne-eqb, eqb-true}
+use mathlib.Core.List.{List}
+use lib.Dec.{leb}
+use lib.ListN.{length}
+use borrow.Author.Tests.{lt-ltb, le-ltb, ne-eqb, eqb-true}
 use Rattle.refusal.specs.Number.{numberOf}
 use Rattle.refusal.specs.declared.Refusal.{Refusal}
 use Rattle.refusal.specs.declared.Refusal.the-variants as refusal
 use Rattle.refusal.proofs.Numbers.{refused-number}
 use Rattle.erp1.specs.Subtelegram.{checkOf, isValid}
 use Rattle.model.specs.declared.Totals.{Totals}
-use Rattle.model.specs.Answer.{Shown, Kept, Copy, Loose, Refused}
-use Rattle.model.specs.View.{Reception}
-use Rattle.model.specs.Step.{maxCount}
-use Rattle.collector.specs.Merging.{receptionCheck, answerFor, Countable}
+use Rattle.model.specs.declared.Answer.{Answer}
+use Rattle.model.specs.Answer.{Kept, Copy, Loose, Refused, isCopy, shownOf}
+use Rattle.model.specs.View.{Reception, Entry, capacity}
+use Rattle.collector.specs.declared.merging.Judged.{Judged}
+use Rattle.collector.specs.Acceptable.{hasCopy}
+use Rattle.collector.specs.Merging.{receptionCheck, answerFor, JudgedBy, Countable}
 
 -- ---- the tests before the open telegrams are looked at
 
-module _ (received latest : ℕ) (r : Reception) where
-  pub reception-full : maxCount ≤ received → numberOf refusal.Full ≡ receptionCheck received latest r
+module _ (latest : ℕ) (r : Reception) where
+  pub reception-damaged : isValid (r .bytes) ≡ false → checkOf (r .bytes) ≡ receptionCheck latest r
   unfolding receptionCheck
-  reception-full h = rw (le-leb maxCount received h)
+  reception-damaged e = rw e
 
-  module _ (room : received < maxCount) where
-    pub reception-damaged : isValid (r .bytes) ≡ false → checkOf (r .bytes) ≡ receptionCheck received latest r
+  module _ (valid : isValid (r .bytes) ≡ true) where
+    pub reception-late : r .time < latest → numberOf refusal.Late ≡ receptionCheck latest r
     unfolding receptionCheck
-    reception-damaged e = rw (lt-leb maxCount received room, e)
+    reception-late h = rw (valid, lt-ltb (r .time) latest h)
 
-    module _ (valid : isValid (r .bytes) ≡ true) where
-      pub reception-late : r .time < latest → numberOf refusal.Late ≡ receptionCheck received latest r
-      unfolding receptionCheck
-      reception-late h = rw (lt-leb maxCount received room, valid, lt-ltb (r .time) latest h)
-
-      pub reception-passed : latest ≤ r .time → 0 ≡ receptionCheck received latest r
-      unfolding receptionCheck
-      reception-passed h = rw (lt-leb maxCount received room, valid, le-ltb (r .time) latest h)
+    pub reception-passed : latest ≤ r .time → 0 ≡ receptionCheck latest r
+    unfolding receptionCheck
+    reception-passed h = rw (valid, le-ltb (r .time) latest h)
 
 -- ---- the answer
 
@@ -57,14 +55,12 @@ module _ (n : ℕ) (known crowded : Bool) (passed : n ≡ 0) where
     unfolding answerFor
     answer-kept c = rw (passed, new, c)
 
--- ---- the totals: an answer that a total counts leaves room for one more
+-- an answer that is no copy names no entry
+pub judged-other : {number : ℕ} {l : List Entry} {r : Reception} {j : Judged} (answer : Answer) → j .answer ≡ answer → isCopy (shownOf answer) ≡ false
+    → shownOf answer ≡ answerFor number (hasCopy l r) (leb capacity (length l)) → JudgedBy number l r j
+judged-other answer e other said = record { answer = ap shownOf e ∙ said; entry = λ c. absurd (false≢true (sym other ∙ sym (ap (λ (a : Answer). isCopy (shownOf a)) e) ∙ c)) }
 
-module _ {n : Totals} {a : Shown} (k : Countable n a) where
-  pub room : (f : Shown → Bool) → f (Refused (numberOf refusal.Full)) ≡ false → f a ≡ true → n .received < maxCount
-  room f e t = elim (decLt (n .received) maxCount) [
-    | yes h ↦ h
-    | no h ↦ absurd (false≢true (sym e ∙ sym (ap f (k .full (omega arith))) ∙ t))
-  ]
+-- ---- the totals
 
-  pub sum : n .received ≡ n .kept + n .copies + n .loose + n .damaged + n .late
-  sum = eqb-true _ _ (k .summed)
+pub sum : {n : Totals} → Countable n → n .received ≡ n .kept + n .copies + n .loose + n .damaged + n .late
+sum k = eqb-true _ _ (k .summed)

@@ -18,14 +18,6 @@ fails true n = absurd (n refl)
 fails false n = refl
 
 module _ {A : Type 0} where
-  pub any-inside : (p : A → Bool) (xs : List A) (x : A) (ys : List A) → p x ≡ true → any p (xs ++ (x ∷ ys)) ≡ true
-  any-inside p [] x ys e = rw e
-  any-inside p (y ∷ xs) x ys e = go (p y) (any-inside p xs x ys e)
-    where
-      go : (b : Bool) → any p (xs ++ (x ∷ ys)) ≡ true → (b || any p (xs ++ (x ∷ ys))) ≡ true
-      go true h = refl
-      go false h = h
-
   pub any-last : (p : A → Bool) (xs : List A) (x : A) → any p xs ≡ false → p x ≡ false → any p (xs ++ (x ∷ [])) ≡ false
   any-last p [] x e f = rw f
   any-last p (y ∷ xs) x e f = go (p y) e (λ h. any-last p xs x h f)
@@ -33,10 +25,6 @@ module _ {A : Type 0} where
       go : (b : Bool) → (b || any p xs) ≡ false → (any p xs ≡ false → any p (xs ++ (x ∷ [])) ≡ false) → (b || any p (xs ++ (x ∷ []))) ≡ false
       go true h k = h
       go false h k = k h
-
-  pub any-skip : (p : A → Bool) (xs : List A) (x : A) → p x ≡ false → any p (xs ++ (x ∷ [])) ≡ any p xs
-  any-skip p [] x e = rw e
-  any-skip p (y ∷ xs) x e = ap (λ (b : Bool). p y || b) (any-skip p xs x e)
 
   pub all-inside : (p : A → Bool) (xs : List A) (x : A) (ys : List A) → all p (xs ++ (x ∷ ys)) ≡ true → p x ≡ true
   all-inside p xs x ys e = all-at p (Memᴰ·append-right xs (List·Memᴰ·head refl)) e

@@ -9,3 +9,5 @@ pub mod Classifying
 pub mod Admitting
 pub mod Stepping
 pub mod Sending
+pub mod Hearing
+pub mod Counts

@@ -16,10 +16,11 @@ use Rattle.erp1.specs.Same.{isSame}
 use Rattle.erp1.proofs.Checks.{check-facts}
 use Rattle.layout.specs.Buffer.{part}
 use Rattle.layout.proofs.Buffer.{resized-length}
+use Rattle.model.specs.View.{openedBy}
 use Rattle.model.specs.Acceptable.{isCopyOf}
 use Rattle.model.proofs.Check.{valid-length}
-use Rattle.collector.specs.Collector.{entryAt, entriesAt}
-use Rattle.collector.specs.Acceptable.{hasCopy, shownAt, marks, markOf, MarkedAs, Repeated}
+use Rattle.collector.specs.Collector.{Columns, entryAt, entriesAt}
+use Rattle.collector.specs.Acceptable.{hasCopy, shownAt, marks, markOf, MarkedAs, Repeated, isRepeatedAt}
 use Rattle.collector.proofs.Inside.{fails}
 use Rattle.collector.proofs.Arrays.{not-same, has-none, has-more}
 use Rattle.collector.proofs.Copies.{same-length, same-at}
@@ -58,28 +59,28 @@ module _ (lens bytes : List ℕ) (i : ℕ) (seen : List ℕ) (m : Marked lens by
         | no l ↦ let s : j ≡ i = omega arith in absurd (n (ap markAt s ∙ sym e))
       ]
 
-  -- a mark that was not seen is that of no copy
-  module _ (times : List ℕ) (valid : isValid (shownAt lens bytes i) ≡ true) (unseen : getD seen (markAt i) 0 ≡ 0) where
-    low : minLength ≤ length (shownAt lens bytes i)
-    low = check-facts (shownAt lens bytes i) (eqb-true _ 0 valid) .low
+-- a mark that was not seen is that of no copy
+module _ (a : Columns) (i : ℕ) (seen : List ℕ) (m : Marked (a .lens) (a .bytes) i seen) (valid : isValid (entryAt a i .bytes) ≡ true)
+    (unseen : getD seen (markOf (entryAt a i .bytes)) 0 ≡ 0) where
+  low : minLength ≤ length (entryAt a i .bytes)
+  low = check-facts (entryAt a i .bytes) (eqb-true _ 0 valid) .low
 
-    no-copy-before : (j : ℕ) → j < i → isCopyOf (entryAt times lens bytes j) (entryAt times lens bytes i) ≡ false
-    no-copy-before j h =
-        not-same times lens bytes j (entryAt times lens bytes i) (fails (isSame (shownAt lens bytes j) (shownAt lens bytes i)) seen-twice)
-      where
-        seen-twice : isSame (shownAt lens bytes j) (shownAt lens bytes i) ≡ true → ⊥
-        seen-twice e =
-            let long = same-length (shownAt lens bytes j) (shownAt lens bytes i) e in
-            let enough = low in
-            let one : _≡_ {A = ℕ} 1 0 = sym (m .each j h) ∙ ap (λ (n : ℕ). getD seen n 0) (same-mark (shownAt lens bytes j) (shownAt lens bytes i) e (omega arith)) ∙ unseen in
-            omega arith
+  no-copy-before : (j : ℕ) → j < i → isCopyOf (entryAt a j) (openedBy (entryAt a i)) ≡ false
+  no-copy-before j h = not-same a j (openedBy (entryAt a i)) (fails (isSame (entryAt a j .bytes) (entryAt a i .bytes)) seen-twice)
+    where
+      seen-twice : isSame (entryAt a j .bytes) (entryAt a i .bytes) ≡ true → ⊥
+      seen-twice e =
+          let long = same-length (entryAt a j .bytes) (entryAt a i .bytes) e in
+          let enough = low in
+          let one : _≡_ {A = ℕ} 1 0 = sym (m .each j h) ∙ ap (λ (n : ℕ). getD seen n 0) (same-mark (entryAt a j .bytes) (entryAt a i .bytes) e (omega arith)) ∙ unseen in
+          omega arith
 
-    up-to : (k : ℕ) → k ≤ i → hasCopy (entriesAt times lens bytes k) (entryAt times lens bytes i) ≡ false
-    up-to zero h = has-none times lens bytes (entryAt times lens bytes i)
-    up-to (suc k) h = rw (← add-one) (has-more times lens bytes k (entryAt times lens bytes i) (up-to k (omega arith)) (no-copy-before k (omega arith)))
+  up-to : (k : ℕ) → k ≤ i → hasCopy (entriesAt a k) (openedBy (entryAt a i)) ≡ false
+  up-to zero h = has-none a (openedBy (entryAt a i))
+  up-to (suc k) h = rw (← add-one) (has-more a k (openedBy (entryAt a i)) (up-to k (omega arith)) (no-copy-before k (omega arith)))
 
-    pub new-mark : hasCopy (entriesAt times lens bytes i) (entryAt times lens bytes i) ≡ false
-    new-mark = up-to i (omega arith)
+  pub new-mark : isRepeatedAt a i ≡ false
+  new-mark = up-to i (omega arith)
 
 -- ---- an entry's mark
 

@@ -2,8 +2,9 @@
 -- gives. Assumes nothing.
 use Prim.Native.Nat.{ℕ}
 use mathlib.Core.Path.{_≡_}
-use mathlib.Core.Bool.{Bool, true, false, cond, _&&_, false≢true}
+use mathlib.Core.Bool.{Bool, true, false, cond, not, _&&_, false≢true}
 use mathlib.Core.List.{List}
+use lib.Dec.{leb}
 use borrow.Author.Tests.{eqb-true}
 use Rattle.lists.proofs.Tests.{by-test}
 use Rattle.erp1.specs.Subtelegram.{isValid}
@@ -13,7 +14,8 @@ use Rattle.telegram.specs.Repeater.{relayOf}
 use Rattle.telegram.proofs.Repeating.{repeat-valid}
 use Rattle.model.specs.Answer.{Shown, isKept}
 use Rattle.model.specs.View.{Reception, View}
-use Rattle.model.specs.Step.{sentFor}
+use Rattle.refusal.specs.declared.Refusal.the-variants.{Full, NotAccepted}
+use Rattle.model.specs.Step.{maxCount, sentFor}
 use Rattle.collector.specs.Merging.{relayedFor}
 use Rattle.collector.specs.Admission.{isSafe, admitted, notAdmitted, admission}
 use Rattle.collector.proofs.Admitting.{kept-room}
@@ -34,11 +36,12 @@ module _ (setting : ℕ) (a : Shown) (bytes out : List ℕ) where
 module _ (fit : Bool) (v : View) (r : Reception) where
   kept-valid : isKept (admission fit v r .answer) ≡ true → isValid (r .bytes) ≡ true
   unfolding admission admitted
-  kept-valid = go (fit && isSafe v)
+  kept-valid = go (fit && isSafe v) (leb maxCount (v .totals .received))
     where
-      go : (b : Bool) → isKept (cond b (admitted v r) (notAdmitted v) .answer) ≡ true → isValid (r .bytes) ≡ true
-      go true h = kept-room v r h .1
-      go false h = absurd (false≢true h)
+      go : (b c : Bool) → isKept (cond (not b) (notAdmitted NotAccepted v) (cond c (notAdmitted Full v) (admitted v r)) .answer) ≡ true → isValid (r .bytes) ≡ true
+      go true true h = absurd (false≢true h)
+      go true false h = kept-room v r h .1
+      go false c h = absurd (false≢true h)
 
   pub relayed-sent : (setting : ℕ) → frameOf (relayedFor setting (admission fit v r .answer) (r .bytes)) ≡ sentFor setting (admission fit v r .answer) r
   unfolding relayedFor sentFor

@@ -12,15 +12,16 @@ use Rattle.lists.specs.Lists.{keep, all, pairwise}
 use Rattle.lists.proofs.Choice.{both}
 use Rattle.lists.proofs.Tests.{by-test, all-both}
 use Rattle.erp1.specs.Subtelegram.{isValid}
-use Rattle.model.specs.Answer.{Kept, Copy, Loose, Refused, isKept, isAccepted}
-use Rattle.model.specs.View.{Reception, View, capacity, maturity, isOpen}
+use Rattle.refusal.specs.declared.Refusal.the-variants.{Full}
+use Rattle.model.specs.Answer.{Kept, Copy, Loose, isAccepted}
+use Rattle.model.specs.View.{Reception, Entry, View, openedBy, capacity, maturity, isOpen, stillOpen}
 use Rattle.model.specs.Acceptable.{isCopyOf, isEntry, mayFollow, acceptable}
-use Rattle.model.specs.Step.{Outcome, maxCount, isKnown, isCrowded, classify, tally, addIf, advance, step}
+use Rattle.model.specs.Step.{Outcome, maxCount, isKnown, isCrowded, classify, tally, entriesAfter, advance, step}
 use Rattle.model.proofs.Returns.{step-unacceptable}
 use Rattle.model.proofs.Invariant.{good-acceptable, good-of, good-advance, classified}
 use Rattle.collector.specs.Acceptable.{hasCopy}
 use Rattle.collector.specs.Merging.{receptionCheck, answerFor}
-use Rattle.collector.specs.Admission.{isSafe, numberOn, latestAfter, openFrom, leftAfter, answerOn, admitted, admission, Tested}
+use Rattle.collector.specs.Admission.{isSafe, numberOn, latestAfter, openFrom, leftAfter, answerOn, entriesWith, admitted, notAdmitted, admission, Tested, ToldRightly}
 use Rattle.collector.proofs.Accepting.{accepted-few, accepted-each, accepted-order, accepted-summed}
 
 -- ---- the open telegrams
@@ -31,35 +32,19 @@ keep-every p (x ∷ l) e =
     let w = both (p x) (all p l) e in
     rw (w .0) (ap (λ (m : List _). x ∷ m) (keep-every p l (w .1)))
 
-later-open : (t : ℕ) (e later : Reception) → isOpen t e ≡ true → mayFollow e later ≡ true → isOpen t later ≡ true
+later-open : (t : ℕ) (e later : Entry) → isOpen t e ≡ true → mayFollow e later ≡ true → isOpen t later ≡ true
 later-open t e later o f =
     le-leb (t - later .time) maturity
-    (omega (arith, leb-true (t - e .time) maturity o, leb-true (e .time) (later .time) (both (leb (e .time) (later .time)) (not (isCopyOf e later)) f .0)))
+    (omega (arith, leb-true (t - e .time) maturity o, leb-true (e .time) (later .time) (both (leb (e .time) (later .time)) (not (isCopyOf e (openedBy later))) f .0)))
 
-open-kept : (t : ℕ) (l : List Reception) → pairwise mayFollow l ≡ true → openFrom t l ≡ keep (isOpen t) l
+open-kept : (t : ℕ) (l : List Entry) → pairwise mayFollow l ≡ true → openFrom t l ≡ keep (isOpen t) l
 open-kept t [] order = refl
 open-kept t (e ∷ l) order =
     let w = both (all (mayFollow e) l) (pairwise mayFollow l) order in
     by-test (isOpen t e)
-    (λ o. rw o (ap (λ (m : List Reception). e ∷ m)
+    (λ o. rw o (ap (λ (m : List Entry). e ∷ m)
     (sym (keep-every (isOpen t) l (all-both (mayFollow e) (mayFollow e) (isOpen t) (λ x p _. later-open t e x o p) l (w .0) (w .0))))))
     (λ o. rw o (open-kept t l (w .1)))
-
--- ---- the answer
-
-accepted-answer : (n : ℕ) (known crowded : Bool) → isAccepted (answerFor n known crowded) ≡ eqb n 0
-unfolding answerFor
-accepted-answer n known crowded = go (eqb n 0) known crowded
-  where
-    go : (b k c : Bool) → isAccepted (cond b (cond k Copy (cond c Loose Kept)) (Refused n)) ≡ b
-    go true true c = refl
-    go true false true = refl
-    go true false false = refl
-    go false k c = refl
-
-refused-answer : (n : ℕ) (known crowded : Bool) → eqb n 0 ≡ false → isKept (answerFor n known crowded) ≡ false
-unfolding answerFor
-refused-answer n known crowded e = rw e
 
 -- ---- an acceptable view
 
@@ -67,11 +52,15 @@ module _ (v : View) (r : Reception) (ok : acceptable v ≡ true) where
   abbrev number : ℕ
   number = numberOn v r
 
-  classify-by : classify v r ≡ answerFor number (isKnown v r) (isCrowded v r)
+  -- 8 before all else
+  full-step : leb maxCount (v .totals .received) ≡ true → notAdmitted Full v ≡ step v r
+  unfolding step classify advance
+  full-step e = rw (ok, e)
+
+  classify-by : leb maxCount (v .totals .received) ≡ false → classify v r ≡ answerFor number (isKnown v r) (isCrowded v r)
   unfolding classify receptionCheck answerFor
-  classify-by =
-      by-test (leb maxCount (v .totals .received)) (λ a. rw (ok, a))
-      λ a. by-test (isValid (r .bytes))
+  classify-by a =
+      by-test (isValid (r .bytes))
       (λ b. by-test (ltb (r .time) (v .latest)) (λ c. rw (ok, a, b, c)) (λ c. rw (ok, a, b, c)))
       (λ b. rw (ok, a, b) (rw b))
 
@@ -87,21 +76,27 @@ module _ (v : View) (r : Reception) (ok : acceptable v ≡ true) where
       (λ e p _. both (leb (e .time) (v .latest)) (isOpen (v .latest) e) (both (isValid (e .bytes)) (leb (e .time) (v .latest) && isOpen (v .latest) e) p .1) .1)
       (v .entries) (accepted-each v ok) (accepted-each v ok))
 
-  answered : answerOn v r ≡ classify v r
+  answered : leb maxCount (v .totals .received) ≡ false → answerOn v r ≡ classify v r
   unfolding answerFor hasCopy
-  answered = by-test (eqb number 0) (λ e. rw (classify-by, e, left-kept (r .time))) (λ e. rw (classify-by, e))
+  answered a = by-test (eqb number 0) (λ e. rw (classify-by a, e, left-kept (r .time))) (λ e. rw (classify-by a, e))
 
   advanced : (known crowded : Bool)
       → (let a = answerFor number known crowded in
-      record { latest = latestAfter v r; totals = tally a (v .totals); entries = addIf (isKept a) r (leftAfter v r) } ≡ advance v r a)
-  unfolding advance
-  advanced known crowded =
-      by-test (eqb number 0) (λ e. rw (accepted-answer number known crowded, e, left-kept (r .time)))
-      (λ e. rw (accepted-answer number known crowded, e, refused-answer number known crowded e, unchanged))
+      record { latest = latestAfter v r; totals = tally a (v .totals); entries = entriesWith a r (leftAfter v r) } ≡ advance v r a)
+  unfolding advance answerFor
+  advanced known crowded = by-test (eqb number 0) (λ e. rw (e, left-kept (r .time)) (accepted known crowded)) (λ e. rw (e, unchanged))
+    where
+      accepted : (known crowded : Bool)
+          → (let a = cond known Copy (cond crowded Loose Kept) in
+          _≡_ {A = View} (record { latest = r .time; totals = tally a (v .totals); entries = entriesWith a r (stillOpen (r .time) v) })
+          (record { latest = cond (isAccepted a) (r .time) (v .latest); totals = tally a (v .totals); entries = entriesAfter v r a }))
+      accepted true crowded = refl
+      accepted false true = refl
+      accepted false false = refl
 
-  stepped : admitted v r ≡ step v r
+  stepped : leb maxCount (v .totals .received) ≡ false → admitted v r ≡ step v r
   unfolding admitted step
-  stepped = rw (advanced (hasCopy (leftAfter v r) r) (leb capacity (length (leftAfter v r))), answered)
+  stepped a = rw (advanced (hasCopy (leftAfter v r) r) (leb capacity (length (leftAfter v r))), answered a)
 
   safe : isSafe v ≡ true
   safe = rw (le-leb _ _ (accepted-few v ok), accepted-summed v ok)
@@ -111,7 +106,10 @@ module _ (v : View) (r : Reception) (ok : acceptable v ≡ true) where
 module _ (v : View) (r : Reception) where
   pub admission-step : admission (acceptable v) v r ≡ step v r
   unfolding admission
-  admission-step = by-test (acceptable v) (λ ok. rw (ok, safe v r ok) (stepped v r ok)) (λ bad. rw bad (step-unacceptable v bad r))
+  admission-step =
+      by-test (acceptable v)
+      (λ ok. by-test (leb maxCount (v .totals .received)) (λ e. rw (ok, safe v r ok, e) (full-step v r ok e)) (λ e. rw (ok, safe v r ok, e) (stepped v r ok e)))
+      (λ bad. rw bad (step-unacceptable v bad r))
 
   pub admission-fit : (fit : Bool) → fit ≡ acceptable v → admission fit v r ≡ step v r
   admission-fit fit e = rw e admission-step
@@ -122,7 +120,10 @@ pub tested-next : (fit : Bool) {v : View} (r : Reception) → Tested fit v → r
 unfolding step advance
 tested-next true {v} r k small =
     let g = good-advance v r (good-of v (sym (k .said)) (k .fits)) small (classified v r) in
-    record { said = sym (good-acceptable g); fits = record { latest = g .entries .fits; received = g .totals .fits } }
+    record { said = sym (good-acceptable g); fits = record { latest = g .entries .fits; received = g .totals .fits; copies = g .entries .copies } }
 tested-next false {v} r k small =
     let stays : step v r .next ≡ v = sym (ap (λ (o : Outcome). o .next) (step-unacceptable v (sym (k .said)) r)) in
     rw stays k
+
+pub told-rightly : ToldRightly
+told-rightly = record { isStep = λ fit v r e. admission-fit v r fit e; goesOn = λ fit v r k small. tested-next fit r k small }

@@ -13,8 +13,8 @@ use borrow.Author.Tests.{le-leb, lt-leb, leb-true}
 use Rattle.lists.specs.Lists.{all, pairwise, upFrom}
 use Rattle.lists.proofs.Choice.{both}
 use Rattle.lists.proofs.Tests.{and-true, all-both}
-use Rattle.model.specs.View.{Reception, maturity, isOpen}
-use Rattle.collector.specs.Collector.{entryAt, entriesAt}
+use Rattle.model.specs.View.{Entry, maturity, isOpen}
+use Rattle.collector.specs.Collector.{Columns, entryAt, entriesAt}
 use Rattle.collector.specs.Acceptable.{areTimely}
 use Rattle.collector.proofs.Inside.{same-test}
 
@@ -23,19 +23,19 @@ unfoldable pub rising : ℕ → ℕ → List ℕ → Bool
 rising lo hi [] = leb lo hi
 rising lo hi (t ∷ ts) = leb lo t && rising t hi ts
 
-abbrev timeOf : Reception → ℕ
+abbrev timeOf : Entry → ℕ
 timeOf e = e .time
 
-abbrev isBetween : ℕ → ℕ → Reception → Bool
+abbrev isBetween : ℕ → ℕ → Entry → Bool
 isBetween lo hi e = leb (e .time) hi && leb lo (e .time)
 
-abbrev pub isOrdered : Reception → Reception → Bool
+abbrev pub isOrdered : Entry → Entry → Bool
 isOrdered e later = leb (e .time) (later .time)
 
-between : {lo hi : ℕ} (e : Reception) → e .time ≤ hi → lo ≤ e .time → isBetween lo hi e ≡ true
+between : {lo hi : ℕ} (e : Entry) → e .time ≤ hi → lo ≤ e .time → isBetween lo hi e ≡ true
 between e h k = and-true (le-leb _ _ h) (le-leb _ _ k)
 
-rising-says : (lo hi : ℕ) (l : List Reception) → rising lo hi (map timeOf l) ≡ true
+rising-says : (lo hi : ℕ) (l : List Entry) → rising lo hi (map timeOf l) ≡ true
     → (lo ≤ hi) × (all (isBetween lo hi) l ≡ true) × (pairwise isOrdered l ≡ true)
 unfolding rising
 rising-says lo hi [] h = (leb-true lo hi h, refl, refl)
@@ -51,12 +51,12 @@ rising-says lo hi (e ∷ l) h =
           (rest .2),
     )
   where
-    wider : (x : Reception) → lo ≤ e .time → isBetween (e .time) hi x ≡ true → isBetween lo hi x ≡ true
+    wider : (x : Entry) → lo ≤ e .time → isBetween (e .time) hi x ≡ true → isBetween lo hi x ≡ true
     wider x low p =
         let w = both (leb (x .time) hi) (leb (e .time) (x .time)) p in
         between x (leb-true _ _ (w .0)) (omega (arith, leb-true (e .time) (x .time) (w .1)))
 
-says-rising : (lo hi : ℕ) (l : List Reception) → lo ≤ hi → all (isBetween lo hi) l ≡ true → pairwise isOrdered l ≡ true
+says-rising : (lo hi : ℕ) (l : List Entry) → lo ≤ hi → all (isBetween lo hi) l ≡ true → pairwise isOrdered l ≡ true
     → rising lo hi (map timeOf l) ≡ true
 unfolding rising
 says-rising lo hi [] h a p = le-leb lo hi h
@@ -76,10 +76,10 @@ times-from times a zero h = refl
 times-from times a (suc n) h =
     rw (drop-cons times a 0 (omega arith)) (ap (λ (l : List ℕ). getD times a 0 ∷ l) (times-from times (suc a) n (omega arith)))
 
-times-of : (times lens bytes : List ℕ) (count : ℕ) → count ≤ length times → map timeOf (entriesAt times lens bytes count) ≡ take count times
+times-of : (a : Columns) (count : ℕ) → count ≤ length (a .times) → map timeOf (entriesAt a count) ≡ take count (a .times)
 unfolding entriesAt
-times-of times lens bytes count h =
-    map-map timeOf (entryAt times lens bytes) (upFrom 0 count) ∙ times-from times 0 count (omega arith)
+times-of a count h =
+    map-map timeOf (entryAt a) (upFrom 0 count) ∙ times-from (a .times) 0 count (omega arith)
 
 -- an entry is open at the latest time where it is no earlier than the maturity before it
 open-says : (latest t : ℕ) → leb (latest - maturity) t ≡ leb (latest - t) maturity
@@ -92,7 +92,7 @@ all-same : {A : Type 0} (p q : A → Bool) → ((x : A) → p x ≡ q x) → (l 
 all-same p q h [] = refl
 all-same p q h (x ∷ l) = rw (h x, all-same p q h l)
 
-timely-rising : (latest : ℕ) (l : List Reception) → rising (latest - maturity) latest (map timeOf l) ≡ areTimely latest l
+timely-rising : (latest : ℕ) (l : List Entry) → rising (latest - maturity) latest (map timeOf l) ≡ areTimely latest l
 unfolding areTimely
 timely-rising latest l =
     same-test _ _
@@ -103,9 +103,9 @@ timely-rising latest l =
     open-same : all (isBetween (latest - maturity) latest) l ≡ all (λ e. leb (e .time) latest && isOpen latest e) l
     open-same = all-same _ _ (λ e. ap (λ (b : Bool). leb (e .time) latest && b) (open-says latest (e .time))) l
 
-pub timely-by : (times lens bytes : List ℕ) (count latest : ℕ) → count ≤ length times
-    → rising (latest - maturity) latest (take count times) ≡ areTimely latest (entriesAt times lens bytes count)
-timely-by times lens bytes count latest h = rw (← times-of times lens bytes count h) (timely-rising latest (entriesAt times lens bytes count))
+pub timely-by : (a : Columns) (count latest : ℕ) → count ≤ length (a .times)
+    → rising (latest - maturity) latest (take count (a .times)) ≡ areTimely latest (entriesAt a count)
+timely-by a count latest h = rw (← times-of a count h) (timely-rising latest (entriesAt a count))
 
 -- a turn of the loop over the times
 module _ (times : List ℕ) (i count lo hi : ℕ) (h : i < count) (k : count ≤ length times) where

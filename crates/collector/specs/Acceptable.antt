@@ -6,23 +6,32 @@ use mathlib.Core.Bool.{Bool, true, false, not, _&&_}
 use mathlib.Core.List.{List}
 use lib.Dec.{leb}
 use lib.ListN.{length, getD}
-use Rattle.lists.specs.Lists.{any, all, pairwise}
+use Rattle.lists.specs.Lists.{any, all, pairwise, lastIndex}
 use Rattle.erp1.specs.Subtelegram.{maxLength, isValid}
 use Rattle.layout.specs.Buffer.{part, resized}
-use Rattle.model.specs.View.{Reception, isOpen}
+use Rattle.model.specs.View.{Reception, Entry, openedBy, isOpen}
 use Rattle.model.specs.Acceptable.{isCopyOf}
+use Rattle.collector.specs.Collector.{Columns, entryAt, entriesAt}
 
 -- "in order of time (equal times allowed), open at the latest time, none later than it"
-unfoldable pub areTimely : ℕ → List Reception → Bool
+unfoldable pub areTimely : ℕ → List Entry → Bool
 areTimely latest l = all (λ e. leb (e .time) latest && isOpen latest e) l && pairwise (λ e later. leb (e .time) (later .time)) l
 
 -- "valid", "no two the same telegram"
-unfoldable pub areTelegrams : List Reception → Bool
-areTelegrams l = all (λ e. isValid (e .bytes)) l && pairwise (λ e later. not (isCopyOf e later)) l
+unfoldable pub areTelegrams : List Entry → Bool
+areTelegrams l = all (λ e. isValid (e .bytes)) l && pairwise (λ e later. not (isCopyOf e (openedBy later))) l
 
 -- one of the entries is the same telegram as r
-unfoldable pub hasCopy : List Reception → Reception → Bool
+unfoldable pub hasCopy : List Entry → Reception → Bool
 hasCopy l r = any (λ e. isCopyOf e r) l
+
+-- the index of the last entry that r is a copy of, or their number where there is none
+unfoldable pub lastCopy : List Entry → Reception → ℕ
+lastCopy l r = lastIndex (λ e. isCopyOf e r) l
+
+-- entry i is a copy of one before it
+abbrev pub isRepeatedAt : Columns → ℕ → Bool
+isRepeatedAt a i = hasCopy (entriesAt a i) (openedBy (entryAt a i))
 
 -- the bytes that entry i shows
 abbrev pub shownAt : List ℕ → List ℕ → ℕ → List ℕ

@@ -6,20 +6,39 @@ use Rattle.lists.specs.Lists.{upFrom}
 use Rattle.erp1.specs.Subtelegram.{maxLength}
 use Rattle.layout.specs.Buffer.{part, resized}
 use Rattle.model.specs.declared.Totals.{Totals}
-use Rattle.model.specs.View.{Reception, View}
+use Rattle.model.specs.View.{Entry, View}
 use Rattle.collector.specs.declared.Collector.{Collector}
 
--- entry i: its time, and as many bytes as its length says, so that one over 21 shows
-abbrev pub entryAt : List ℕ → List ℕ → List ℕ → ℕ → Reception
-entryAt times lens bytes i = record { bytes = resized (getD lens i 0) (part (maxLength * i) maxLength bytes); time = getD times i 0 }
+-- the arrays of the entries: entry i has element i of each, and the 21 bytes from 21 i
+pub record Columns : Type 0 where
+  pub times : List ℕ
+  pub lens : List ℕ
+  pub bytes : List ℕ
+  pub copies : List ℕ
+
+-- those that are lent
+abbrev pub columns : List ℕ → List ℕ → List ℕ → List ℕ → Columns
+columns times lens bytes copies = record { times = times; lens = lens; bytes = bytes; copies = copies }
+
+-- entry i: as many bytes as its length says, so that one over 21 shows, its time, and its number of copies
+abbrev pub entryAt : Columns → ℕ → Entry
+entryAt a i = record {
+  bytes = resized (getD (a .lens) i 0) (part (maxLength * i) maxLength (a .bytes));
+  time = getD (a .times) i 0;
+  copies = getD (a .copies) i 0;
+}
 
 -- the first `count` entries
-unfoldable pub entriesAt : List ℕ → List ℕ → List ℕ → ℕ → List Reception
-entriesAt times lens bytes count = map (entryAt times lens bytes) (upFrom 0 count)
+unfoldable pub entriesAt : Columns → ℕ → List Entry
+entriesAt a count = map (entryAt a) (upFrom 0 count)
 
 -- what the fields of a state say, one by one
-abbrev pub viewAt : List ℕ → List ℕ → List ℕ → ℕ → ℕ → Totals → View
-viewAt times lens bytes count latest totals = record { latest = latest; totals = totals; entries = entriesAt times lens bytes count }
+abbrev pub viewAt : Columns → ℕ → ℕ → Totals → View
+viewAt a count latest totals = record { latest = latest; totals = totals; entries = entriesAt a count }
+
+-- those of a state
+abbrev pub columnsOf : Collector → Columns
+columnsOf c = columns (c .times) (c .lens) (c .bytes) (c .copies)
 
 unfoldable pub viewOf : Collector → View
-viewOf c = viewAt (c .times) (c .lens) (c .bytes) (c .count) (c .latest) (c .totals)
+viewOf c = viewAt (columnsOf c) (c .count) (c .latest) (c .totals)

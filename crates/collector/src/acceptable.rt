@@ -10,13 +10,13 @@ ghost use lib.ListN.{length, getD};
 ghost use Rattle.erp1.specs.Subtelegram.{minLength, maxLength};
 ghost use Rattle.model.specs.View.{capacity};
 ghost use Rattle.model.specs.Acceptable.{isSummed, acceptable};
-ghost use Rattle.collector.specs.Collector.{entryAt, entriesAt, viewAt};
-ghost use Rattle.collector.specs.Acceptable.{areTimely, areTelegrams, hasCopy, shownAt, marks, markOf, MarkedAs, Repeated};
+ghost use Rattle.collector.specs.Collector.{Columns, columns, entryAt, entriesAt, viewAt};
+ghost use Rattle.collector.specs.Acceptable.{areTimely, areTelegrams, isRepeatedAt, shownAt, marks, markOf, MarkedAs, Repeated};
 
 // The size of the table of marks.
 const MARKS: usize = 1024;
 
-// Whether the state with these parts is acceptable, whatever they are.
+// Whether the state with these parts is acceptable, whatever they and its numbers of copies are.
 pub fn is_acceptable<'a>(
     times: &'a [u64; Collector::CAPACITY],
     lens: &'a [u8; Collector::CAPACITY],
@@ -25,7 +25,8 @@ pub fn is_acceptable<'a>(
     latest: u64,
     totals: Totals,
 ) -> bool
-    ensures { λ r. ⌜ r ≡ acceptable (viewAt (now (times .entry)) (now (lens .entry)) (now (bytes .entry)) count latest totals) ⌝ }
+    ensures { λ r. ⌜ ((copies : List ℕ) → r
+        ≡ acceptable (viewAt (columns (now (times .entry)) (now (lens .entry)) (now (bytes .entry)) copies) count latest totals)) ⌝ }
 {
     if Collector::CAPACITY < count {
         return false;
@@ -45,7 +46,7 @@ pub fn is_acceptable<'a>(
 // Whether the first `count` times never fall, and all are open at the latest, which none is later than.
 fn are_timely(times: &[u64], count: usize, latest: u64) -> bool
     requires { ⌜ count ≤ length (now times) ⌝ }
-    ensures { λ r. ⌜ ((lens bytes : List ℕ) → r ≡ areTimely latest (entriesAt (now (times .entry)) lens bytes count)) ⌝ }
+    ensures { λ r. ⌜ ((a : Columns) → a .times ≡ now (times .entry) → r ≡ areTimely latest (entriesAt a count)) ⌝ }
 {
     let mut earliest = entries::since(latest, Collector::MATURITY_MS);
     for i in 0..count {
@@ -67,7 +68,8 @@ fn are_telegrams<'a>(
     count: usize,
 ) -> bool
     requires { ⌜ count ≤ capacity ⌝ }
-    ensures { λ r. ⌜ r ≡ areTelegrams (entriesAt (now (times .entry)) (now (lens .entry)) (now (bytes .entry)) count) ⌝ }
+    ensures { λ r. ⌜ ((copies : List ℕ) → r
+        ≡ areTelegrams (entriesAt (columns (now (times .entry)) (now (lens .entry)) (now (bytes .entry)) copies) count)) ⌝ }
 {
     let mut seen = no_marks();
     for i in 0..count {
@@ -132,14 +134,15 @@ fn is_repeated<'a>(
     seen: u8,
 ) -> bool
     requires { ⌜ (i < capacity) × (minLength ≤ getD (now lens) i 0) × (getD (now lens) i 0 ≤ maxLength) ⌝ }
-    ensures { λ r. ⌜ Repeated seen (hasCopy (entriesAt (now (times .entry)) (now (lens .entry)) (now (bytes .entry)) i) (entryAt (now (times .entry)) (now (lens .entry)) (now (bytes .entry)) i)) r ⌝ }
+    ensures { λ r. ⌜ ((copies : List ℕ) → Repeated seen
+        (isRepeatedAt (columns (now (times .entry)) (now (lens .entry)) (now (bytes .entry)) copies) i) r) ⌝ }
 {
     if seen == 0 {
         return false;
     }
     let len = entries::wide(lens[i]);
     let telegram = entries::telegram(bytes, i, len);
-    entries::find(times, lens, bytes, i, telegram, times[i])
+    entries::find(times, lens, bytes, i, telegram, times[i]) < i
 }
 
 // Whether received is the sum of the others, which no sum here can wrap.

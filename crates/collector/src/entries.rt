@@ -1,4 +1,4 @@
-// The entries in their three arrays: the search for a copy, those no longer open, and a new one. An array at a time is lent and changed
+// The entries in their four arrays: the search for a copy and its count, those no longer open, and a new one. An array at a time is lent and changed
 // where it lies, so that nothing of the state is copied.
 use crate::Collector;
 use erp1::status;
@@ -12,12 +12,12 @@ ghost use Rattle.erp1.specs.Subtelegram.{minLength, maxLength};
 ghost use Rattle.layout.specs.Buffer.{part, resized};
 ghost use Rattle.erp1.specs.Same.{isSame};
 ghost use Rattle.telegram.specs.Repeater.{levelOf};
-ghost use Rattle.model.specs.View.{capacity, txMaturity};
-ghost use Rattle.collector.specs.Collector.{entriesAt};
-ghost use Rattle.collector.specs.Acceptable.{hasCopy, shownAt};
-ghost use Rattle.collector.specs.Merging.{Expired, Moved, PutIf};
+ghost use Rattle.model.specs.View.{capacity, txMaturity, capped};
+ghost use Rattle.collector.specs.Collector.{columns, entriesAt};
+ghost use Rattle.collector.specs.Acceptable.{lastCopy, shownAt};
+ghost use Rattle.collector.specs.Merging.{Expired, Moved, PutIf, moreAt};
 
-// Whether a reception is a copy of one of the first `count` entries, from the last of them on.
+// The last of the first `count` entries that a reception is a copy of, or `count` where it is of none; no number of copies is looked at.
 pub(crate) fn find<'a>(
     times: &'a [u64; Collector::CAPACITY],
     lens: &'a [u8; Collector::CAPACITY],
@@ -25,9 +25,11 @@ pub(crate) fn find<'a>(
     count: usize,
     received: &'a [u8],
     time: u64,
-) -> bool
+) -> usize
     requires { ⌜ (count ≤ capacity) × (minLength ≤ length (now received)) × (length (now received) ≤ maxLength) ⌝ }
-    ensures { λ r. ⌜ r ≡ hasCopy (entriesAt (now (times .entry)) (now (lens .entry)) (now (bytes .entry)) count) (record { bytes = now (received .entry); time = time }) ⌝ }
+    ensures { λ r. ⌜ ((copies : List ℕ) → r ≡ lastCopy
+        (entriesAt (columns (now (times .entry)) (now (lens .entry)) (now (bytes .entry)) copies) count)
+        (record { bytes = now (received .entry); time = time })) ⌝ }
 {
     let original = is_original(received);
     let mut i = count;
@@ -35,11 +37,11 @@ pub(crate) fn find<'a>(
         i -= 1;
         if holds(lens, bytes, i, received) {
             if is_echo(original, times[i], time) {
-                return true;
+                return i;
             }
         }
     }
-    false
+    count
 }
 
 // Whether a reception is the sender's own: its level is 0.
@@ -132,6 +134,13 @@ pub(crate) fn close_bytes(
     move_bytes(bytes, from, n);
 }
 
+pub(crate) fn close_copies(copies: &mut [u16; Collector::CAPACITY], gone: usize, left: usize)
+    requires { ⌜ gone + left ≤ capacity ⌝ }
+    ensures { λ _. ⌜ Moved gone left (now (copies .entry)) (now (copies .exit)) × (length (now (copies .exit)) ≡ capacity) ⌝ }
+{
+    move_counts(copies, gone, left);
+}
+
 fn move_times(xs: &mut [u64], from: usize, n: usize)
     requires { ⌜ from + n ≤ length (now xs) ⌝ }
     ensures { λ _. ⌜ Moved from n (now (xs .entry)) (now (xs .exit)) ⌝ }
@@ -154,6 +163,39 @@ fn move_bytes(xs: &mut [u8], from: usize, n: usize)
     for i in 0..n {
         xs[i] = xs[from + i];
     }
+}
+
+fn move_counts(xs: &mut [u16], from: usize, n: usize)
+    requires { ⌜ from + n ≤ length (now xs) ⌝ }
+    ensures { λ _. ⌜ Moved from n (now (xs .entry)) (now (xs .exit)) ⌝ }
+{
+    if from == 0 {
+        return;
+    }
+    for i in 0..n {
+        xs[i] = xs[from + i];
+    }
+}
+
+// ---- a copy is counted for entry `i`
+
+pub(crate) fn credit(copies: &mut [u16; Collector::CAPACITY], i: usize, heard: bool)
+    requires { ⌜ (heard ≡ true → i < capacity) ⌝ }
+    ensures { λ _. ⌜ now (copies .exit) ≡ moreAt heard i (now (copies .entry)) ⌝ }
+{
+    if !heard {
+        return;
+    }
+    copies[i] = one_more(copies[i]);
+}
+
+fn one_more(n: u16) -> u16
+    ensures { λ r. ⌜ r ≡ capped (n + 1) ⌝ }
+{
+    if n == Collector::MAX_COPIES {
+        return n;
+    }
+    n + 1
 }
 
 // ---- a reception that is kept is put at entry `i`
@@ -194,6 +236,16 @@ pub(crate) fn put_bytes(
     store_bytes(bytes, at, received);
 }
 
+pub(crate) fn put_copies(copies: &mut [u16; Collector::CAPACITY], i: usize, kept: bool)
+    requires { ⌜ (kept ≡ true → i < capacity) ⌝ }
+    ensures { λ _. ⌜ PutIf kept i (0 ∷ []) (now (copies .entry)) (now (copies .exit)) ⌝ }
+{
+    if !kept {
+        return;
+    }
+    store_count(copies, i, 0);
+}
+
 fn store_time(xs: &mut [u64], i: usize, x: u64)
     requires { ⌜ i < length (now xs) ⌝ }
     ensures { λ _. ⌜ PutIf true i (x ∷ []) (now (xs .entry)) (now (xs .exit)) ⌝ }
@@ -202,6 +254,13 @@ fn store_time(xs: &mut [u64], i: usize, x: u64)
 }
 
 fn store_byte(xs: &mut [u8], i: usize, x: u8)
+    requires { ⌜ i < length (now xs) ⌝ }
+    ensures { λ _. ⌜ PutIf true i (x ∷ []) (now (xs .entry)) (now (xs .exit)) ⌝ }
+{
+    xs[i] = x;
+}
+
+fn store_count(xs: &mut [u16], i: usize, x: u16)
     requires { ⌜ i < length (now xs) ⌝ }
     ensures { λ _. ⌜ PutIf true i (x ∷ []) (now (xs .entry)) (now (xs .exit)) ⌝ }
 {

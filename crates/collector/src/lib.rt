@@ -8,18 +8,23 @@ use acceptable::is_acceptable;
 use merging::Summary;
 use model::Answer;
 use model::Totals;
+use refusal::Refusal;
 ghost use mathlib.Core.Path.{_≡_};
 ghost use Rattle.model.specs.View as model;
-ghost use Rattle.model.specs.Step.{step};
-ghost use Rattle.collector.specs.Collector.{viewOf};
-ghost use Rattle.collector.specs.Merging.{outcomeOf};
+ghost use Rattle.model.specs.Heard.{copiesOf};
+ghost use Rattle.refusal.specs.Number.{numberOf};
+ghost use Rattle.collector.specs.Collector.{columns, viewOf};
+ghost use Rattle.collector.specs.Merging.{Takes};
+ghost use Rattle.collector.specs.Admission.{collectorOf};
+ghost use Rattle.collector.specs.Heard.{heardOf};
 
-// The state, in flat arrays. Entry i of the first `count`, in opening order, has times[i], lens[i] and the 21 bytes from 21 i, of
+// The state, in flat arrays. Entry i of the first `count`, in opening order, has times[i], lens[i], copies[i] and the 21 bytes from 21 i, of
 // which lens[i] are those first received; what stands past these is left to the program.
 pub struct Collector {
     pub times: [u64; Collector::CAPACITY],
     pub lens: [u8; Collector::CAPACITY],
     pub bytes: [u8; Collector::CAPACITY * Collector::MAX_LEN],
+    pub copies: [u16; Collector::CAPACITY],
     pub count: usize,
     pub latest: u64,
     pub totals: Totals,
@@ -31,6 +36,18 @@ pub struct Taken {
     pub answer: Answer,
 }
 
+// Whether a number of copies was answered.
+pub enum Asked {
+    Done,
+    Refused(Refusal),
+}
+
+// How often an open telegram was heard again; 0 beside a refusal.
+pub struct Heard {
+    pub answer: Asked,
+    pub copies: u16,
+}
+
 impl Collector {
     // RX maturity: how long a telegram is open (source document 001, Table 1).
     pub const MATURITY_MS: u64 = 100;
@@ -40,6 +57,8 @@ impl Collector {
     pub const CAPACITY: usize = 64;
     // The longest subtelegram.
     pub const MAX_LEN: usize = erp1::MAX_LEN;
+    // The most copies that are counted of one telegram.
+    pub const MAX_COPIES: u16 = 65535;
 
     // A collector with no telegram open and nothing counted.
     pub fn fresh() -> Collector
@@ -49,6 +68,7 @@ impl Collector {
             times: [0u64; Collector::CAPACITY],
             lens: [0u8; Collector::CAPACITY],
             bytes: [0u8; Collector::CAPACITY * Collector::MAX_LEN],
+            copies: [0u16; Collector::CAPACITY],
             count: 0,
             latest: 0,
             totals: Totals {
@@ -63,13 +83,14 @@ impl Collector {
     }
 
     // Takes one reception: its bytes and the moment they were complete, in ms. A state that is not acceptable gets 11 and stays.
-    // The entries' bytes are changed where they lie; of the fields of a struct one at a time can be lent to be changed, so the two small arrays are
-    // copied. There is one exit, so that the state is copied in and out alone.
+    // The entries' bytes are changed where they lie; of the fields of a struct one at a time can be lent to be changed, so the three small arrays
+    // are copied. There is one exit, so that the state is copied in and out alone.
     pub fn take(mut self, bytes: &[u8], time: u64) -> Taken
-        ensures { λ r. ⌜ outcomeOf r ≡ step (viewOf self) (record { bytes = now (bytes .entry); time = time }) ⌝ }
+        ensures { λ r. ⌜ Takes self (record { bytes = now (bytes .entry); time = time }) r ⌝ }
     {
         let mut times = self.times;
         let mut lens = self.lens;
+        let mut copies = self.copies;
         let count = self.count;
         let latest = self.latest;
         let totals = self.totals;
@@ -84,6 +105,7 @@ impl Collector {
             &mut times,
             &mut lens,
             &mut self.bytes,
+            &mut copies,
             old,
             bytes,
             time,
@@ -93,6 +115,7 @@ impl Collector {
         let answer = done.answer;
         self.times = times;
         self.lens = lens;
+        self.copies = copies;
         self.count = next.count;
         self.latest = next.latest;
         self.totals = counted;
@@ -102,20 +125,48 @@ impl Collector {
         }
     }
 
+    // How often the telegram of entry `entry`, counted from 0 in opening order, was heard again. A state that is not acceptable gets 11, an entry that
+    // is not open 10.
+    pub fn copies(self, entry: usize) -> Heard
+        ensures { λ r. ⌜ heardOf r ≡ copiesOf (viewOf self) entry ⌝ }
+    {
+        let count = self.count;
+        let totals = self.totals;
+        if !is_acceptable(
+            &self.times,
+            &self.lens,
+            &self.bytes,
+            count,
+            self.latest,
+            totals,
+        ) {
+            return not_heard(Refusal::NotAccepted);
+        }
+        if count <= entry {
+            return not_heard(Refusal::Argument);
+        }
+        Heard {
+            answer: Asked::Done,
+            copies: self.copies[entry],
+        }
+    }
+
     // The state with these parts: the entries' arrays, and what it holds beside them.
     pub fn from_parts(
         times: [u64; Collector::CAPACITY],
         lens: [u8; Collector::CAPACITY],
         bytes: [u8; Collector::CAPACITY * Collector::MAX_LEN],
+        copies: [u16; Collector::CAPACITY],
         summary: Summary,
     ) -> Collector
-        ensures { λ r. ⌜ r ≡ record { times = times; lens = lens; bytes = bytes; count = summary .count; latest = summary .latest; totals = summary .totals } ⌝ }
+        ensures { λ r. ⌜ r ≡ collectorOf (columns times lens bytes copies) summary ⌝ }
     {
         let totals = summary.totals;
         Collector {
             times: times,
             lens: lens,
             bytes: bytes,
+            copies: copies,
             count: summary.count,
             latest: summary.latest,
             totals: totals,
@@ -132,5 +183,14 @@ impl Collector {
             latest: self.latest,
             totals: totals,
         }
+    }
+}
+
+fn not_heard(why: Refusal) -> Heard
+    ensures { λ r. ⌜ heardOf r ≡ record { number = numberOf why; copies = 0 } ⌝ }
+{
+    Heard {
+        answer: Asked::Refused(why),
+        copies: 0,
     }
 }

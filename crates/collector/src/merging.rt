@@ -14,14 +14,14 @@ ghost use lib.Dec.{leb, eqb};
 ghost use lib.ListN.{length};
 ghost use Rattle.erp1.specs.Subtelegram.{minLength, maxLength, checkedNumber};
 ghost use Rattle.telegram.specs.Output.{written};
-ghost use Rattle.model.specs.Answer.{shownOf, shownNumber, isKept, isCopy, isLoose, isDamaged, isLate, isReceived};
+ghost use Rattle.refusal.specs.Number.{numberOf};
+ghost use Rattle.model.specs.Answer.{Refused, shownOf, shownNumber, isKept, isCopy, isLoose, isDamaged, isLate, isReceived};
 ghost use Rattle.model.specs.View.{capacity};
 ghost use Rattle.model.specs.Acceptable.{isSummed};
 ghost use Rattle.model.specs.Step.{maxCount, plusIf, tally};
-ghost use Rattle.collector.specs.Collector.{entriesAt};
-ghost use Rattle.collector.specs.Acceptable.{hasCopy};
-ghost use Rattle.collector.specs.Merging.{relayedFor, receptionCheck, answerFor, Countable};
-ghost use Rattle.collector.specs.Admission.{viewIn, admittedOf, notAdmitted, admission};
+ghost use Rattle.collector.specs.Collector.{columns, entriesAt};
+ghost use Rattle.collector.specs.Merging.{relayedFor, receptionCheck, JudgedBy, Countable};
+ghost use Rattle.collector.specs.Admission.{Admits};
 
 // What a state holds beside its entries' arrays.
 pub struct Summary {
@@ -36,7 +36,7 @@ pub struct Admitted {
     pub answer: Answer,
 }
 
-// Takes one reception at a state that is changed where it lies: its three arrays are lent. `fit` is what the test of the state said, so that a run
+// Takes one reception at a state that is changed where it lies: its four arrays are lent. `fit` is what the test of the state said, so that a run
 // of receptions pays for it once; where it is false, over 64 entries are counted or the totals do not add up, the answer is 11 and nothing is changed.
 // Each step decides by the answer. A refused reception leaves the latest time, at which every entry of an acceptable state is open.
 pub fn admit<'a>(
@@ -44,29 +44,39 @@ pub fn admit<'a>(
     times: &'a mut [u64; Collector::CAPACITY],
     lens: &'a mut [u8; Collector::CAPACITY],
     bytes: &'a mut [u8; Collector::CAPACITY * Collector::MAX_LEN],
+    copies: &'a mut [u16; Collector::CAPACITY],
     summary: Summary,
     received: &'a [u8],
     time: u64,
 ) -> Admitted
-    ensures { λ r. ⌜ admittedOf (now (times .exit)) (now (lens .exit)) (now (bytes .exit)) r ≡ admission fit (viewIn (now (times .entry)) (now (lens .entry)) (now (bytes .entry)) summary) (record { bytes = now (received .entry); time = time }) ⌝ }
+    ensures { λ r. ⌜ Admits fit (columns (now (times .entry)) (now (lens .entry)) (now (bytes .entry)) (now (copies .entry))) summary
+        (record { bytes = now (received .entry); time = time })
+        (columns (now (times .exit)) (now (lens .exit)) (now (bytes .exit)) (now (copies .exit))) r ⌝ }
 {
     let count = summary.count;
     let totals = summary.totals;
     if !is_safe(fit, count, totals) {
-        return refused(summary);
+        return refused(summary, Refusal::NotAccepted);
     }
-    let checked = check_reception(totals.received, summary.latest, received, time);
+    if totals.received == u64::MAX {
+        return refused(summary, Refusal::Full);
+    }
+    let checked = check_reception(summary.latest, received, time);
     let latest = latest_after(checked, summary.latest, time);
     let gone = entries::expired(times, count, latest);
     let left = count - gone;
     entries::close_times(times, gone, left);
     entries::close_lens(lens, gone, left);
     entries::close_bytes(bytes, gone, left);
-    let answer = classify(times, lens, bytes, left, checked, received, time);
+    entries::close_copies(copies, gone, left);
+    let judged = classify(times, lens, bytes, left, checked, received, time);
+    let answer = judged.answer;
+    entries::credit(copies, judged.entry, is_copy(answer));
     let kept = is_kept(answer);
     entries::put_time(times, left, kept, time);
     entries::put_len(lens, left, kept, received);
     entries::put_bytes(bytes, left, kept, received);
+    entries::put_copies(copies, left, kept);
     let after = Summary {
         count: count_after(kept, left),
         latest: latest,
@@ -76,6 +86,12 @@ pub fn admit<'a>(
         summary: after,
         answer: answer,
     }
+}
+
+// The answer, and the entry of which a copy is one.
+struct Judged {
+    answer: Answer,
+    entry: usize,
 }
 
 // What a repeater set to `setting` sends for a reception that got this answer, to the front of `out`, with how many bytes it is: none, if it was not
@@ -102,23 +118,20 @@ fn is_safe(fit: bool, count: usize, totals: Totals) -> bool
     fit & ((count <= Collector::CAPACITY) & acceptable::is_summed(totals))
 }
 
-// 11, and nothing is changed.
-fn refused(summary: Summary) -> Admitted
-    ensures { λ r. ⌜ ((times lens bytes : List ℕ) → admittedOf times lens bytes r ≡ notAdmitted (viewIn times lens bytes summary)) ⌝ }
+// Nothing is changed.
+fn refused(summary: Summary, why: Refusal) -> Admitted
+    ensures { λ r. ⌜ (r .summary ≡ summary) × (shownOf (r .answer) ≡ Refused (numberOf why)) ⌝ }
 {
     Admitted {
         summary: summary,
-        answer: Answer::Refused(Refusal::NotAccepted),
+        answer: Answer::Refused(why),
     }
 }
 
 // What a reception is refused for before the open telegrams are looked at.
-fn check_reception(received: u64, latest: u64, bytes: &[u8], time: u64) -> Checked
-    ensures { λ r. ⌜ checkedNumber r ≡ receptionCheck received latest (record { bytes = now (bytes .entry); time = time }) ⌝ }
+fn check_reception(latest: u64, bytes: &[u8], time: u64) -> Checked
+    ensures { λ r. ⌜ checkedNumber r ≡ receptionCheck latest (record { bytes = now (bytes .entry); time = time }) ⌝ }
 {
-    if received == u64::MAX {
-        return Checked::Refused(Refusal::Full);
-    }
     let checked = erp1::check(bytes);
     if let Checked::Refused(why) = checked {
         return Checked::Refused(why);
@@ -139,7 +152,7 @@ fn latest_after(checked: Checked, latest: u64, time: u64) -> u64
     }
 }
 
-// The answer, where `count` telegrams are open.
+// The answer, where `count` telegrams are open, and for a copy which of them it is one of; no count is looked at.
 fn classify<'a>(
     times: &'a [u64; Collector::CAPACITY],
     lens: &'a [u8; Collector::CAPACITY],
@@ -148,27 +161,42 @@ fn classify<'a>(
     checked: Checked,
     received: &'a [u8],
     time: u64,
-) -> Answer
+) -> Judged
     requires { ⌜ (count ≤ capacity) × (checkedNumber checked ≡ 0 → (minLength ≤ length (now received)) × (length (now received) ≤ maxLength)) ⌝ }
-    ensures { λ r. ⌜ shownOf r ≡ answerFor (checkedNumber checked) (hasCopy (entriesAt (now (times .entry)) (now (lens .entry)) (now (bytes .entry)) count) (record { bytes = now (received .entry); time = time })) (leb capacity count) ⌝ }
+    ensures { λ r. ⌜ ((copies : List ℕ) → JudgedBy (checkedNumber checked)
+        (entriesAt (columns (now (times .entry)) (now (lens .entry)) (now (bytes .entry)) copies) count)
+        (record { bytes = now (received .entry); time = time }) r) ⌝ }
 {
     match checked {
-        Checked::Refused(why) => Answer::Refused(why),
+        Checked::Refused(why) => no_copy(Answer::Refused(why)),
         Checked::Valid => {
-            if entries::find(times, lens, bytes, count, received, time) {
-                return Answer::Copy;
+            let entry = entries::find(times, lens, bytes, count, received, time);
+            if entry < count {
+                return Judged {
+                    answer: Answer::Copy,
+                    entry: entry,
+                };
             }
             if Collector::CAPACITY <= count {
-                return Answer::Loose;
+                return no_copy(Answer::Loose);
             }
-            Answer::Kept
+            no_copy(Answer::Kept)
         }
+    }
+}
+
+fn no_copy(answer: Answer) -> Judged
+    ensures { λ r. ⌜ r .answer ≡ answer ⌝ }
+{
+    Judged {
+        answer: answer,
+        entry: 0,
     }
 }
 
 // The totals after one more answer.
 fn counted(n: Totals, answer: Answer) -> Totals
-    requires { ⌜ Countable n (shownOf answer) ⌝ }
+    requires { ⌜ Countable n ⌝ }
     ensures { λ r. ⌜ r ≡ tally (shownOf answer) n ⌝ }
 {
     Totals {

@@ -38,7 +38,7 @@ module _ (s : List ℕ) (v : Sound s) (b : Bytes s) where
   originator-holds : leb (256 ^ sizesFor (fieldsOf s) .originator) (fieldsOf s .originator) ≡ false
   unfolding fieldsOf
   originator-holds =
-      let low = field-lt (originatorAt (sizesIn s)) (sizesIn s .originator) s b (omega (arith, v .fits, v .long)) in
+      let low = field-lt (originatorAt (sizesIn s)) (sizesIn s .originator) s b in
       rw (sizes-read s v) (lt-leb _ _ low)
 
   short-holds : isShort s ≡ true → isUnholdable (fieldsOf s) ≡ false
@@ -52,7 +52,7 @@ module _ (s : List ℕ) (v : Sound s) (b : Bytes s) where
   -- the byte of an extended header, 0 where there is none
   second-lt : isShort s ≡ false → (x : Bool) → headerIn s .extended ≡ x → unbe (part 2 (cond x 1 0) s) < 256
   unfolding unbe unbeFrom
-  second-lt h true e = field-lt 2 1 s b (omega (arith, v .long, leb-false (lengthByte s) 6 h))
+  second-lt h true e = field-lt 2 1 s b
   second-lt h false e = omega arith
 
   long-holds : isShort s ≡ false → isUnholdable (fieldsOf s) ≡ false

@@ -67,8 +67,8 @@ module _ (s : List ℕ) (v : Sound s) (b : Bytes s) where
       record {
         payload = padded-length maxData (part (payloadAt z) rest s) (omega (arith, payload, place .payload));
         optional = padded-length maxOptional (part (payloadAt z + rest) (z .optional) s) (omega (arith, optional, place .optional));
-        value = narrow _ (z .subtype) 1 (place .subtype) (field-lt (subtypeAt z) (z .subtype) s b (omega (arith, place .long)));
-        id = narrow _ (z .destination) 4 (place .destination) (field-lt (destinationAt z) (z .destination) s b (omega (arith, place .long)));
+        value = narrow _ (z .subtype) 1 (place .subtype) (field-lt (subtypeAt z) (z .subtype) s b);
+        id = narrow _ (z .destination) 4 (place .destination) (field-lt (destinationAt z) (z .destination) s b);
       }
 
 -- build what is read, and read it back

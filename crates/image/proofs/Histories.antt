@@ -1,5 +1,5 @@
 -- The model's theorem, for the code's states.
---     take-shows, checkpoint-shows, restore-shows, cut-shows     what the contract of a call ensures is what a history asks of it
+--     take-shows, checkpoint-shows, restore-shows, cut-shows, ask-shows     what the contract of a call ensures is what a history asks of it
 --     collector-histories, collector-divisions                   the theorem, and that any division of receptions is answered alike
 -- Assumes nothing.
 use Prim.Native.Nat.{ℕ}
@@ -16,16 +16,19 @@ use Rattle.model.specs.Answer.{isKept, shownOf}
 use Rattle.model.specs.View.{Reception, fresh}
 use Rattle.model.specs.Step.{step, sentFor}
 use Rattle.model.specs.Image.{imageLength, checkpointOf, restoreOf}
-use Rattle.model.specs.History.{Call, Receive, Checkpoint, Restore, Cut, Seen, Answered, Wrote}
+use Rattle.model.specs.Heard.{copiesOf}
+use Rattle.model.specs.History.{Call, Receive, Checkpoint, Restore, Cut, Ask, Seen, Answered, Wrote}
 use Rattle.model.specs.History as history
-use Rattle.model.specs.States.{Shows, received, saved, restored, resumed}
+use Rattle.model.specs.States.{Shows, received, saved, restored, resumed, asked}
 use Rattle.model.proofs.States.{states-agree, states-divide}
 use Rattle.collector.specs.declared.Collector.{Collector}
 use Rattle.collector.specs.declared.Taken.{Taken}
+use Rattle.collector.specs.declared.Heard.{Heard}
 use Rattle.image.specs.declared.Saved.{Saved}
 use Rattle.image.specs.declared.Restored.{Restored}
 use Rattle.collector.specs.Collector.{viewOf}
 use Rattle.collector.specs.Merging.{outcomeOf}
+use Rattle.collector.specs.Heard.{askedNumber, heardOf}
 use Rattle.image.specs.Checkpoint.{savedNumber, checkpointResult, loadedNumber, restoreResult}
 use Rattle.image.specs.Histories.{CollectorHistories, CollectorDivisions}
 
@@ -57,6 +60,10 @@ module _ {c : Collector} {h : List Call} {l : List Seen} where
       → Shows viewOf c (Cut output ∷ h)
       (Wrote (savedNumber s) after (viewOf c .totals) ∷ history.Restored (loadedNumber (r .answer)) (viewOf (r .next) .totals) ∷ l)
   cut-shows s d r e f g rest = resumed {d = d} e f g rest
+
+  ask-shows : {k : ℕ} (r : Heard) → heardOf r ≡ copiesOf (viewOf c) k → Shows viewOf c h l
+      → Shows viewOf c (Ask k ∷ h) (history.Heard (askedNumber (r .answer)) (r .copies) (viewOf c .totals) ∷ l)
+  ask-shows r e rest = asked e rest
 
 pub collector-histories : CollectorHistories
 collector-histories = states-agree viewOf

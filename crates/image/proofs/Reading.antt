@@ -16,14 +16,15 @@ use Rattle.lists.specs.Lists.{upFrom}
 use Rattle.lists.proofs.UpFrom.{length-upFrom, getD-upFrom}
 use Rattle.erp1.specs.Subtelegram.{maxLength}
 use Rattle.layout.specs.Buffer.{part, resized}
-use Rattle.layout.specs.Cell.{cellLength, cellTime, cellUsed, cellField, cellBytes}
+use Rattle.layout.specs.Cell.{cellLength, cellTime, cellUsed, cellField, cellBytes, cellLast}
 use Rattle.layout.specs.Header.{headerLength}
 use Rattle.layout.specs.Block.{blockLength}
 use Rattle.layout.proofs.Segments.{part-length, left, Each, flatten-length, flatten-part, Begun, begin, named, store, lent, turn, turned}
 use Rattle.layout.proofs.Buffer.{resized-whole}
-use Rattle.model.specs.View.{Reception, capacity}
+use Rattle.model.specs.View.{capacity}
 use Rattle.model.specs.Image.{imageLength, blockIn, entryIn}
-use Rattle.collector.specs.Collector.{entryAt, entriesAt}
+use Rattle.collector.specs.Collector.{Columns, entryAt, entriesAt}
+use Rattle.collector.proofs.Arrays.{noEntry}
 use Rattle.image.specs.Checkpoint.{blockCount, cellIn, entriesIn}
 
 pub block-long : (image : List ℕ) (k : ℕ) → length image ≡ imageLength → k < blockCount → length (blockIn k image) ≡ blockLength
@@ -54,7 +55,7 @@ stored-at orig all n xs i d b l h =
     let k : length all ≤ n = omega arith in
     ap (λ (ys : List _). getD ys i d) (b .is ∙ ap (λ (ys : List _). ys ++ drop n orig) (take-all n all k)) ∙ List·getD-append all (drop n orig) d i (omega arith)
 
--- ---- the three arrays
+-- ---- the columns
 
 module _ (image : List ℕ) where
   -- of entry i
@@ -63,6 +64,9 @@ module _ (image : List ℕ) where
 
   abbrev len-of : ℕ → ℕ
   len-of i = cellUsed (cellIn image i)
+
+  abbrev count-of : ℕ → ℕ
+  count-of i = cellLast (cellIn image i)
 
   abbrev field-of : ℕ → List ℕ
   field-of i = cellField (cellIn image i)
@@ -74,14 +78,18 @@ module _ (image : List ℕ) where
   pub lens-of : ℕ → List ℕ
   lens-of n = row len-of n
 
+  pub counts-of : ℕ → List ℕ
+  counts-of n = row count-of n
+
   pub fields-of : ℕ → List (List ℕ)
   fields-of n = row field-of n
 
--- of the first `count` entries i are read, into arrays that held times₀, lens₀ and bytes₀
-pub record Reading (image : List ℕ) (count : ℕ) (times₀ lens₀ bytes₀ : List ℕ) (i : ℕ) (times lens bytes : List ℕ) : Type 0 where
-  pub timesRead : Begun times₀ (take i (times-of image count)) i times
-  pub lensRead : Begun lens₀ (take i (lens-of image count)) i lens
-  pub bytesRead : Begun bytes₀ (flatten (take i (fields-of image count))) (maxLength * i) bytes
+-- of the first `count` entries i are read, into columns that were a₀
+pub record Reading (image : List ℕ) (count : ℕ) (a₀ : Columns) (i : ℕ) (a : Columns) : Type 0 where
+  pub times : Begun (a₀ .times) (take i (times-of image count)) i (a .times)
+  pub lens : Begun (a₀ .lens) (take i (lens-of image count)) i (a .lens)
+  pub bytes : Begun (a₀ .bytes) (flatten (take i (fields-of image count))) (maxLength * i) (a .bytes)
+  pub copies : Begun (a₀ .copies) (take i (counts-of image count)) i (a .copies)
 
 module _ (image : List ℕ) (count : ℕ) (long : length image ≡ imageLength) (few : count ≤ capacity) where
   field-long : (i : ℕ) → i < capacity → length (field-of image i) ≡ maxLength
@@ -89,65 +97,69 @@ module _ (image : List ℕ) (count : ℕ) (long : length image ≡ imageLength) 
       let l : length (cellIn image i) ≡ cellLength = part-length (headerLength + cellLength * (i % 15)) cellLength (blockIn (i / 15) image) (omega (arith, block-long image (i / 15) long (omega arith))) in
       part-length 9 maxLength (cellIn image i) (omega arith)
 
-  module _ (times₀ lens₀ bytes₀ : List ℕ) where
-    pub reading-none : Reading image count times₀ lens₀ bytes₀ 0 times₀ lens₀ bytes₀
+  module _ (a₀ : Columns) where
+    pub reading-none : Reading image count a₀ 0 a₀
     unfolding flatten
-    reading-none = record { timesRead = begin times₀; lensRead = begin lens₀; bytesRead = begin bytes₀ }
+    reading-none = record { times = begin (a₀ .times); lens = begin (a₀ .lens); bytes = begin (a₀ .bytes); copies = begin (a₀ .copies) }
 
-    module _ (i : ℕ) (times lens bytes : List ℕ) (r : Reading image count times₀ lens₀ bytes₀ i times lens bytes) where
+    module _ (i : ℕ) (a : Columns) (r : Reading image count a₀ i a) where
       -- what is read of the cell, and what is kept, the part's length
-      pub reading-more : (t n : ℕ) (ys : List ℕ) → t ≡ cellTime (cellIn image i) → n ≡ cellUsed (cellIn image i)
-          → ys ≡ resized (length (part (maxLength * i) (maxLength * i + maxLength - maxLength * i) bytes)) (cellField (cellIn image i))
-          → length ys ≡ length (part (maxLength * i) (maxLength * i + maxLength - maxLength * i) bytes)
-          → i < count → length times₀ ≡ capacity → length lens₀ ≡ capacity → length bytes₀ ≡ capacity * maxLength
-          → Reading image count times₀ lens₀ bytes₀ (i + 1) (set times i t) (set lens i n)
-          (take (maxLength * i) bytes ++ (ys ++ drop (maxLength * i + maxLength - maxLength * i) (drop (maxLength * i) bytes)))
-      unfolding times-of lens-of fields-of
-      reading-more t n ys p q s k h lt ll lb =
+      pub reading-more : (t n m : ℕ) (ys : List ℕ) → t ≡ cellTime (cellIn image i) → n ≡ cellUsed (cellIn image i) → m ≡ cellLast (cellIn image i)
+          → ys ≡ resized (length (part (maxLength * i) (maxLength * i + maxLength - maxLength * i) (a .bytes))) (cellField (cellIn image i))
+          → length ys ≡ length (part (maxLength * i) (maxLength * i + maxLength - maxLength * i) (a .bytes))
+          → i < count → length (a₀ .times) ≡ capacity → length (a₀ .lens) ≡ capacity → length (a₀ .bytes) ≡ capacity * maxLength → length (a₀ .copies) ≡ capacity
+          → Reading image count a₀ (i + 1) (record {
+            times = set (a .times) i t;
+            lens = set (a .lens) i n;
+            bytes = take (maxLength * i) (a .bytes) ++ (ys ++ drop (maxLength * i + maxLength - maxLength * i) (drop (maxLength * i) (a .bytes)));
+            copies = set (a .copies) i m;
+          })
+      unfolding times-of lens-of counts-of fields-of
+      reading-more t n m ys p q u s k h lt ll lb lc =
           let field = field-of image i in
-          let size = lent (r .bytesRead) maxLength (maxLength * i + maxLength) refl (omega arith) in
+          let size = lent (r .bytes) maxLength (maxLength * i + maxLength) refl (omega arith) in
           let whole : ys ≡ field = s ∙ ap (λ (m : ℕ). resized m field) size ∙ resized-whole maxLength field (field-long i (omega arith)) in
           record {
-            timesRead = stored times₀ (times-of image count) i times t 0 (r .timesRead) (rw row-length h) (omega arith) (p ∙ sym (row-at (time-of image) count i 0 h));
-            lensRead = stored lens₀ (lens-of image count) i lens n 0 (r .lensRead) (rw row-length h) (omega arith) (q ∙ sym (row-at (len-of image) count i 0 h));
-            bytesRead = turn bytes₀ (fields-of image count) maxLength i bytes ys (r .bytesRead) (rw row-length h) (whole ∙ sym (row-at (field-of image) count i [] h)) k (omega arith);
+            times = stored (a₀ .times) (times-of image count) i (a .times) t 0 (r .times) (rw row-length h) (omega arith) (p ∙ sym (row-at (time-of image) count i 0 h));
+            lens = stored (a₀ .lens) (lens-of image count) i (a .lens) n 0 (r .lens) (rw row-length h) (omega arith) (q ∙ sym (row-at (len-of image) count i 0 h));
+            copies = stored (a₀ .copies) (counts-of image count) i (a .copies) m 0 (r .copies) (rw row-length h) (omega arith) (u ∙ sym (row-at (count-of image) count i 0 h));
+            bytes = turn (a₀ .bytes) (fields-of image count) maxLength i (a .bytes) ys (r .bytes) (rw row-length h) (whole ∙ sym (row-at (field-of image) count i [] h)) k (omega arith);
           }
 
     -- all are read
-    module _ (times lens bytes : List ℕ) (r : Reading image count times₀ lens₀ bytes₀ count times lens bytes) where
+    module _ (a : Columns) (r : Reading image count a₀ count a) where
       fields-each : Each maxLength (fields-of image count)
       unfolding fields-of
       fields-each i h =
           let l : i < count = rw (row-length (field-of image) count) at h in
           ap length (row-at (field-of image) count i [] l) ∙ field-long i (omega arith)
 
-      field-at : (i : ℕ) → i < count → part (maxLength * i) maxLength bytes ≡ field-of image i
+      field-at : (i : ℕ) → i < count → part (maxLength * i) maxLength (a .bytes) ≡ field-of image i
       unfolding fields-of
       field-at i h =
           let n = row-length (field-of image) count in
           let size : length (flatten (fields-of image count)) ≡ maxLength * count = flatten-length maxLength (fields-of image count) fields-each ∙ ap (λ (m : ℕ). maxLength * m) n in
-          ap (λ (ys : List ℕ). part (maxLength * i) maxLength ys) (turned bytes₀ (fields-of image count) maxLength count count bytes (r .bytesRead) refl n .is)
-          ∙ left (flatten (fields-of image count)) (drop (maxLength * count) bytes₀) (maxLength * count) (maxLength * i) maxLength size (omega arith)
+          ap (λ (ys : List ℕ). part (maxLength * i) maxLength ys) (turned (a₀ .bytes) (fields-of image count) maxLength count count (a .bytes) (r .bytes) refl n .is)
+          ∙ left (flatten (fields-of image count)) (drop (maxLength * count) (a₀ .bytes)) (maxLength * count) (maxLength * i) maxLength size (omega arith)
           ∙ flatten-part maxLength (fields-of image count) fields-each i (rw row-length h)
           ∙ row-at (field-of image) count i [] h
 
-      entry-at : (i : ℕ) → i < count → entryAt times lens bytes i ≡ entryIn image i
-      unfolding entryIn cellBytes times-of lens-of
+      entry-at : (i : ℕ) → i < count → entryAt a i ≡ entryIn image i
+      unfolding entryIn cellBytes times-of lens-of counts-of
       entry-at i h =
-          let time = stored-at times₀ (times-of image count) count times i 0 (r .timesRead) (row-length _ count) h ∙ row-at (time-of image) count i 0 h in
-          let len = stored-at lens₀ (lens-of image count) count lens i 0 (r .lensRead) (row-length _ count) h ∙ row-at (len-of image) count i 0 h in
-          λ j. record { bytes = ap₂ resized len (field-at i h) j; time = time j }
+          let time = stored-at (a₀ .times) (times-of image count) count (a .times) i 0 (r .times) (row-length _ count) h ∙ row-at (time-of image) count i 0 h in
+          let len = stored-at (a₀ .lens) (lens-of image count) count (a .lens) i 0 (r .lens) (row-length _ count) h ∙ row-at (len-of image) count i 0 h in
+          let copies = stored-at (a₀ .copies) (counts-of image count) count (a .copies) i 0 (r .copies) (row-length _ count) h ∙ row-at (count-of image) count i 0 h in
+          λ j. record { bytes = ap₂ resized len (field-at i h) j; time = time j; copies = copies j }
 
-      entries-read : entriesAt times lens bytes count ≡ entriesIn image count
+      entries-read : entriesAt a count ≡ entriesIn image count
       unfolding entriesAt row
       entries-read =
-          let none : Reception = record { bytes = []; time = 0 } in
-          let f = entryAt times lens bytes in
-          ext-getD none (row f count) (row (entryIn image) count) (row-length f count ∙ sym (row-length (entryIn image) count))
+          let f = entryAt a in
+          ext-getD noEntry (row f count) (row (entryIn image) count) (row-length f count ∙ sym (row-length (entryIn image) count))
           (λ i h.
           let l : i < count = rw (row-length f count) at h in
-          row-at f count i none l ∙ entry-at i l ∙ sym (row-at (entryIn image) count i none l))
+          row-at f count i noEntry l ∙ entry-at i l ∙ sym (row-at (entryIn image) count i noEntry l))
 
-    pub reading-all : (i : ℕ) (times lens bytes : List ℕ) → Reading image count times₀ lens₀ bytes₀ i times lens bytes → i ≡ count
-        → entriesAt times lens bytes count ≡ entriesIn image count
-    reading-all i times lens bytes r e = entries-read times lens bytes (rw e at r)
+    pub reading-all : (i : ℕ) (a : Columns) → Reading image count a₀ i a → i ≡ count → entriesAt a count ≡ entriesIn image count
+    reading-all i a r e = entries-read a (rw e at r)

@@ -1,6 +1,7 @@
 -- Restores by their cases, in the order of the code's tests.
 --     readable                                           what the first test says
 --     restore-unreadable, restore-other, restore-done    what each return has to show
+--     stayed                                             a refusal
 -- Assumes nothing.
 use Prim.Native.Nat.{ℕ, _≤_}
 use mathlib.Core.Path.{_≡_, sym, _∙_}
@@ -13,12 +14,21 @@ use Rattle.lists.specs.Lists.{upFrom}
 use Rattle.lists.proofs.Choice.{both}
 use Rattle.lists.proofs.Tests.{and-true}
 use Rattle.lists.proofs.UpFrom.{length-upFrom}
+use Rattle.refusal.specs.Number.{numberOf}
+use Rattle.refusal.specs.declared.Refusal.the-variants.{NotAccepted}
 use Rattle.telegram.specs.Repeater.{maxSetting}
 use Rattle.model.specs.View.{View, capacity}
 use Rattle.model.specs.Acceptable.{acceptable}
 use Rattle.model.specs.Image.{RestoreResult, imageLength, settingIn, countIn, entryIn, parse, accepts, restoreOf}
-use Rattle.image.specs.Checkpoint.{refusedWith, isImageOf, isReadable, entriesIn}
+use Rattle.image.specs.Checkpoint.{loadedNumber, Restores, isImageOf, isReadable, entriesIn}
+use Rattle.image.specs.declared.Restored.{Restored}
+use Rattle.collector.specs.declared.Collector.{Collector}
+use Rattle.collector.specs.Collector.{viewOf}
 use Rattle.collector.proofs.Inside.{fails}
+
+-- "11: .. the collector stays as it was"
+abbrev pub refusedWith : View → RestoreResult
+refusedWith v = record { number = numberOf NotAccepted; next = v }
 
 -- done, with what is handed back
 abbrev pub restoredWith : View → RestoreResult
@@ -62,3 +72,11 @@ module _ (image : List ℕ) where
       pub restore-done : isImageOf (settingIn image) (parse image) image ≡ true → restoredWith (parse image) ≡ restoreOf v image
       unfolding restoreOf
       restore-done e = rw (ok, accepts-is long small ∙ e)
+
+-- a refusal hands back what was handed in
+pub stayed : (c : Collector) (image : List ℕ) (r : Restored) → (r .next ≡ c) × (loadedNumber (r .answer) ≡ numberOf NotAccepted)
+    → refusedWith (viewOf c) ≡ restoreOf (viewOf c) image → Restores c image r
+stayed c image r k e = record {
+  result = (λ i. record { number = k .1 i; next = viewOf (k .0 i) }) ∙ e;
+  stays = λ _. k .0;
+}

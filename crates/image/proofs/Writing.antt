@@ -27,45 +27,42 @@ use Rattle.layout.specs.Block.{cellsPerBlock, blockOf}
 use Rattle.layout.proofs.Segments.{part-at}
 use Rattle.layout.proofs.Buffer.{resized-length}
 use Rattle.model.specs.declared.Totals.{Totals}
-use Rattle.model.specs.View.{Reception, capacity}
+use Rattle.model.specs.View.{Entry, capacity}
 use Rattle.model.specs.Acceptable.{isEntry, acceptable}
 use Rattle.model.specs.Image.{entryCell, blockAt}
 use Rattle.model.proofs.Check.{valid-length}
 use Rattle.model.proofs.Invariant.{entry-valid}
-use Rattle.collector.specs.Collector.{entryAt, entriesAt, viewAt}
+use Rattle.collector.specs.Collector.{Columns, entryAt, entriesAt, viewAt}
 use Rattle.image.specs.Checkpoint.{blockCount, entriesFrom, blockWith, Writable}
 use Rattle.collector.proofs.Arrays as arrays
+use Rattle.collector.proofs.Arrays.{noEntry, entry-get}
 
--- stands for an entry past the end
-abbrev none : Reception
-none = record { bytes = []; time = 0 }
-
-module _ (times lens bytes : List ℕ) where
-  pub entries-length : (first n : ℕ) → length (entriesFrom times lens bytes first n) ≡ n
+module _ (a : Columns) where
+  pub entries-length : (first n : ℕ) → length (entriesFrom a first n) ≡ n
   unfolding entriesFrom
-  entries-length first n = length-map (upFrom first n) (entryAt times lens bytes) ∙ length-upFrom first n
+  entries-length first n = length-map (upFrom first n) (entryAt a) ∙ length-upFrom first n
 
-  pub entry-read : (first n i : ℕ) → i < n → getD (entriesFrom times lens bytes first n) i none ≡ entryAt times lens bytes (first + i)
+  pub entry-read : (first n i : ℕ) → i < n → getD (entriesFrom a first n) i noEntry ≡ entryAt a (first + i)
   unfolding entriesFrom
-  entry-read first n i h = getD-upFrom (entryAt times lens bytes) first n i none h
+  entry-read first n i h = getD-upFrom (entryAt a) first n i noEntry h
 
-  pub cell-read : (first n i : ℕ) → i < n → getD (map entryCell (entriesFrom times lens bytes first n)) i [] ≡ entryCell (entryAt times lens bytes (first + i))
-  cell-read first n i h = getD-map entryCell (entriesFrom times lens bytes first n) i none [] (rw entries-length h) ∙ ap entryCell (entry-read first n i h)
+  pub cell-read : (first n i : ℕ) → i < n → getD (map entryCell (entriesFrom a first n)) i [] ≡ entryCell (entryAt a (first + i))
+  cell-read first n i h = getD-map entryCell (entriesFrom a first n) i noEntry [] (rw entries-length h) ∙ ap entryCell (entry-read first n i h)
 
-  pub entries-part : (a n count : ℕ) → part a n (entriesAt times lens bytes count) ≡ entriesFrom times lens bytes a (min n (count - a))
+  pub entries-part : (first n count : ℕ) → part first n (entriesAt a count) ≡ entriesFrom a first (min n (count - first))
   unfolding entriesAt entriesFrom
-  entries-part a n count =
-      let f = entryAt times lens bytes in
-      let l : length (part a n (map f (upFrom 0 count))) ≡ min n (count - a) = simp (length-take, length-drop, length-map, length-upFrom) in
-      ext-getD none (part a n (map f (upFrom 0 count))) (map f (upFrom a (min n (count - a)))) (l ∙ sym (length-map (upFrom a (min n (count - a))) f ∙ length-upFrom a (min n (count - a))))
+  entries-part first n count =
+      let f = entryAt a in
+      let l : length (part first n (map f (upFrom 0 count))) ≡ min n (count - first) = simp (length-take, length-drop, length-map, length-upFrom) in
+      ext-getD noEntry (part first n (map f (upFrom 0 count))) (map f (upFrom first (min n (count - first)))) (l ∙ sym (length-map (upFrom first (min n (count - first))) f ∙ length-upFrom first (min n (count - first))))
       (λ i h.
-      part-at a n (map f (upFrom 0 count)) i none (omega arith) ∙ getD-upFrom f 0 count (a + i) none (omega arith) ∙ ap f (zero-add (a + i))
-      ∙ sym (getD-upFrom f a (min n (count - a)) i none (omega arith)))
+      part-at first n (map f (upFrom 0 count)) i noEntry (omega arith) ∙ getD-upFrom f 0 count (first + i) noEntry (omega arith) ∙ ap f (zero-add (first + i))
+      ∙ sym (getD-upFrom f first (min n (count - first)) i noEntry (omega arith)))
 
-  pub block-written : (k a b count n : ℕ) → n ≡ min cellsPerBlock (count - cellsPerBlock * k)
-      → blockOf (headerOf k n a b) (map entryCell (entriesFrom times lens bytes (cellsPerBlock * k) n)) ≡ blockWith k a b (entriesAt times lens bytes count)
+  pub block-written : (k x y count n : ℕ) → n ≡ min cellsPerBlock (count - cellsPerBlock * k)
+      → blockOf (headerOf k n x y) (map entryCell (entriesFrom a (cellsPerBlock * k) n)) ≡ blockWith k x y (entriesAt a count)
   unfolding blockAt
-  block-written k a b count n e =
+  block-written k x y count n e =
       rw (e, entries-part (cellsPerBlock * k) cellsPerBlock count, entries-length (cellsPerBlock * k) (min cellsPerBlock (count - cellsPerBlock * k)))
 
 pub writable-part : (lens : List ℕ) (k count : ℕ) → k < blockCount → Writable lens 0 count → Writable lens (cellsPerBlock * k) (min cellsPerBlock (count - cellsPerBlock * k))
@@ -75,12 +72,12 @@ writable-part lens k count h w = record {
 }
 
 -- an acceptable state can be written
-module _ (times lens bytes : List ℕ) (count latest : ℕ) (totals : Totals) (ok : acceptable (viewAt times lens bytes count latest totals) ≡ true) where
-  abbrev held : List Reception
-  held = entriesAt times lens bytes count
+module _ (a : Columns) (count latest : ℕ) (totals : Totals) (ok : acceptable (viewAt a count latest totals) ≡ true) where
+  abbrev held : List Entry
+  held = entriesAt a count
 
   held-length : length held ≡ count
-  held-length = arrays.entries-length times lens bytes count
+  held-length = arrays.entries-length a count
 
   -- the tests of its entries
   few-each : (length held ≤ capacity) × (all (isEntry latest) held ≡ true)
@@ -89,16 +86,12 @@ module _ (times lens bytes : List ℕ) (count latest : ℕ) (totals : Totals) (o
       let b = both (leb (length held) capacity) _ ok in
       (leb-true (length held) capacity (b .0), both (all (isEntry latest) held) _ (b .1) .0)
 
-  held-at : (i : ℕ) → i < count → getD held i none ≡ entryAt times lens bytes i
-  unfolding entriesAt
-  held-at i h = getD-upFrom (entryAt times lens bytes) 0 count i none h ∙ ap (entryAt times lens bytes) (zero-add i)
-
-  short : (i : ℕ) → i < count → getD lens i 0 ≤ maxLength
+  short : (i : ℕ) → i < count → getD (a .lens) i 0 ≤ maxLength
   short i h =
-      let valid = entry-valid latest (getD held i none) (all-getD (isEntry latest) held i none (few-each .1) (omega (arith, held-length))) in
-      rw (held-at i h, resized-length (getD lens i 0) (part (maxLength * i) maxLength bytes)) at (valid-length (getD held i none .bytes) valid)
+      let valid = entry-valid latest (getD held i noEntry) (all-getD (isEntry latest) held i noEntry (few-each .1) (omega (arith, held-length))) in
+      rw (entry-get a count i h, resized-length (getD (a .lens) i 0) (part (maxLength * i) maxLength (a .bytes))) at (valid-length (getD held i noEntry .bytes) valid)
 
-  pub writable-state : Writable lens 0 count
+  pub writable-state : Writable (a .lens) 0 count
   writable-state = record {
     bound = omega (arith, held-length, few-each .0);
     short = λ i h. rw zero-add (short i h);

@@ -1,20 +1,21 @@
 -- What a checkpoint and a restore show (document 01, "Parked collector"). Assumes nothing.
 use Prim.Native.Nat.{ℕ, _+_, _-_, _/_, _%_, _≤_, _<_}
+use mathlib.Core.Path.{_≡_}
 use mathlib.Core.Bool.{Bool, _&&_}
 use mathlib.Core.List.{List, map}
 use lib.Dec.{leb, eqb}
 use lib.ListN.{length, getD}
 use Rattle.lists.specs.Lists.{equal, upFrom}
 use Rattle.refusal.specs.Number.{numberOf}
-use Rattle.refusal.specs.declared.Refusal.the-variants.{NotAccepted}
 use Rattle.erp1.specs.Subtelegram.{maxLength}
 use Rattle.telegram.specs.Repeater.{maxSetting}
 use Rattle.layout.specs.Header.{headerLength}
 use Rattle.layout.specs.Block.{cellsPerBlock, bodyLength, blockCell}
-use Rattle.model.specs.View.{Reception, View, capacity, noTotals}
+use Rattle.model.specs.View.{Entry, View, capacity, noTotals}
 use Rattle.model.specs.Acceptable.{acceptable}
-use Rattle.model.specs.Image.{CheckpointResult, RestoreResult, imageLength, imageWith, blockAt, blockIn, settingIn, countIn, entryIn}
-use Rattle.collector.specs.Collector.{entryAt, viewOf}
+use Rattle.model.specs.Image.{CheckpointResult, RestoreResult, imageLength, imageWith, blockAt, blockIn, settingIn, countIn, entryIn, restoreOf}
+use Rattle.collector.specs.declared.Collector.{Collector}
+use Rattle.collector.specs.Collector.{Columns, entryAt, viewOf}
 use Rattle.image.specs.declared.Saved.{Saved}
 use Rattle.image.specs.declared.Saved.the-variants as saved
 use Rattle.image.specs.declared.Loaded.{Loaded}
@@ -39,11 +40,12 @@ loadedNumber (loaded.Refused why) = numberOf why
 abbrev pub restoreResult : Restored → RestoreResult
 restoreResult r = record { number = loadedNumber (r .answer); next = viewOf (r .next) }
 
--- ---- what private functions say
+-- "11: .. the collector stays as it was": beside a refusal the very state that was handed in
+pub record Restores (c : Collector) (image : List ℕ) (r : Restored) : Type 0 where
+  pub result : restoreResult r ≡ restoreOf (viewOf c) image
+  pub stays : (loadedNumber (r .answer) ≡ 0 → ⊥) → r .next ≡ c
 
--- "11: .. the collector stays as it was"
-abbrev pub refusedWith : View → RestoreResult
-refusedWith v = record { number = numberOf NotAccepted; next = v }
+-- ---- what private functions say
 
 abbrev pub blockCount : ℕ
 blockCount = 5
@@ -53,11 +55,11 @@ abbrev pub cellsLength : ℕ
 cellsLength = bodyLength - headerLength
 
 -- n entries from `first` on
-unfoldable pub entriesFrom : List ℕ → List ℕ → List ℕ → ℕ → ℕ → List Reception
-entriesFrom times lens bytes first n = map (entryAt times lens bytes) (upFrom first n)
+unfoldable pub entriesFrom : Columns → ℕ → ℕ → List Entry
+entriesFrom a first n = map (entryAt a) (upFrom first n)
 
 -- block k of an image, which looks at the entries alone
-abbrev pub blockWith : ℕ → ℕ → ℕ → List Reception → List ℕ
+abbrev pub blockWith : ℕ → ℕ → ℕ → List Entry → List ℕ
 blockWith k a b entries = blockAt k a b (record { latest = 0; totals = noTotals; entries = entries })
 
 -- the arrays have n entries from `first` on, each short enough for a cell
@@ -78,5 +80,5 @@ abbrev pub cellIn : List ℕ → ℕ → List ℕ
 cellIn image i = blockCell (i % cellsPerBlock) (blockIn (i / cellsPerBlock) image)
 
 -- the first n entries
-abbrev pub entriesIn : List ℕ → ℕ → List Reception
+abbrev pub entriesIn : List ℕ → ℕ → List Entry
 entriesIn image n = map (entryIn image) (upFrom 0 n)

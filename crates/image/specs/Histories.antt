@@ -3,7 +3,7 @@ use Rattle.model.specs.States.{StatesAgree, StatesDivide}
 use Rattle.collector.specs.Collector.{viewOf}
 
 -- What calls of the code show is what the reference model says, and what the uncut run shows: `Shows viewOf` knows of each call what the contract of
--- `fresh`, `take`, `repeat`, `checkpoint`, `restore` or `burst` ensures, and nothing else.
+-- `fresh`, `take`, `repeat`, `checkpoint`, `restore`, `copies` or `burst` ensures, and nothing else.
 abbrev pub CollectorHistories : Type 0
 CollectorHistories = StatesAgree viewOf
 

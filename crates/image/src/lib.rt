@@ -13,13 +13,15 @@ ghost use mathlib.Core.List.{_++_, map, flatten};
 ghost use Prim.Native.Nat.{_-_, _*_, _≤_, _<_, min};
 ghost use lib.ListN.{length, drop};
 ghost use Rattle.lists.specs.Lists.{padded};
+ghost use Rattle.refusal.specs.Number.{numberOf};
+ghost use Rattle.refusal.specs.declared.Refusal.the-variants.{NotAccepted};
 ghost use Rattle.layout.specs.Block.{cellsPerBlock, blockLength, blockHeader};
 ghost use Rattle.erp1.specs.Subtelegram.{maxLength};
 ghost use Rattle.model.specs.View.{capacity};
 ghost use Rattle.model.specs.Image as model;
-ghost use Rattle.model.specs.Image.{imageLength, entryCell, imageWith, blockIn, usedIn, firstIn, secondIn, countIn, totalsIn, checkpointOf, restoreOf};
-ghost use Rattle.collector.specs.Collector.{entriesAt, viewAt, viewOf};
-ghost use Rattle.image.specs.Checkpoint.{checkpointResult, restoreResult, refusedWith, blockCount, cellsLength, entriesFrom, blockWith, Writable, isImageOf, isReadable, cellIn, entriesIn};
+ghost use Rattle.model.specs.Image.{imageLength, entryCell, imageWith, blockIn, usedIn, firstIn, secondIn, countIn, totalsIn, checkpointOf};
+ghost use Rattle.collector.specs.Collector.{columns, entriesAt, viewAt, viewOf};
+ghost use Rattle.image.specs.Checkpoint.{checkpointResult, loadedNumber, Restores, blockCount, cellsLength, entriesFrom, blockWith, Writable, isImageOf, isReadable, cellIn, entriesIn};
 
 // How many blocks an image has.
 const BLOCKS: usize = 5;
@@ -65,6 +67,7 @@ pub fn checkpoint(c: Collector, out: &mut [u8]) -> Saved
         &c.times,
         &c.lens,
         &c.bytes,
+        &c.copies,
         c.count,
         c.latest,
         NO_SETTING,
@@ -76,7 +79,7 @@ pub fn checkpoint(c: Collector, out: &mut [u8]) -> Saved
 // The state that an image holds. Any other image than what a checkpoint writes, or wrote with 1 or 2 in the setting's place, is refused with 11, as
 // is a state that has none.
 pub fn restore(c: Collector, image: &[u8]) -> Restored
-    ensures { λ r. ⌜ restoreResult r ≡ restoreOf (viewOf c) (now (image .entry)) ⌝ }
+    ensures { λ r. ⌜ Restores c (now (image .entry)) r ⌝ }
 {
     if !acceptable::is_acceptable(&c.times, &c.lens, &c.bytes, c.count, c.latest, c.totals) {
         return refused(c);
@@ -91,6 +94,7 @@ pub fn restore(c: Collector, image: &[u8]) -> Restored
         &next.times,
         &next.lens,
         &next.bytes,
+        &next.copies,
         next.count,
         next.latest,
         setting,
@@ -106,7 +110,7 @@ pub fn restore(c: Collector, image: &[u8]) -> Restored
 
 // The collector stays as it was.
 fn refused(c: Collector) -> Restored
-    ensures { λ r. ⌜ restoreResult r ≡ refusedWith (viewOf c) ⌝ }
+    ensures { λ r. ⌜ (r .next ≡ c) × (loadedNumber (r .answer) ≡ numberOf NotAccepted) ⌝ }
 {
     Restored {
         next: c,
@@ -122,6 +126,7 @@ fn put_image<'a>(
     times: &'a [u64; Collector::CAPACITY],
     lens: &'a [u8; Collector::CAPACITY],
     bytes: &'a [u8; Collector::CAPACITY * Collector::MAX_LEN],
+    copies: &'a [u16; Collector::CAPACITY],
     count: usize,
     latest: u64,
     setting: u64,
@@ -129,7 +134,8 @@ fn put_image<'a>(
 )
     requires { ⌜ (imageLength ≤ length (now out)) × Writable (now lens) 0 count ⌝ }
     ensures { λ _. ⌜ now (out .exit)
-        ≡ imageWith setting (viewAt (now (times .entry)) (now (lens .entry)) (now (bytes .entry)) count latest totals) ++ drop imageLength (now (out .entry)) ⌝ }
+        ≡ imageWith setting (viewAt (columns (now (times .entry)) (now (lens .entry)) (now (bytes .entry)) (now (copies .entry))) count latest totals)
+        ++ drop imageLength (now (out .entry)) ⌝ }
 {
     let firsts = [latest, totals.kept, totals.loose, totals.late, 0];
     let seconds = [totals.received, totals.copies, totals.damaged, setting, 0];
@@ -142,6 +148,7 @@ fn put_image<'a>(
             times,
             lens,
             bytes,
+            copies,
             count,
         );
     }
@@ -156,10 +163,12 @@ fn put_block<'a>(
     times: &'a [u64; Collector::CAPACITY],
     lens: &'a [u8; Collector::CAPACITY],
     bytes: &'a [u8; Collector::CAPACITY * Collector::MAX_LEN],
+    copies: &'a [u16; Collector::CAPACITY],
     count: usize,
 )
     requires { ⌜ (length (now out) ≡ blockLength) × (k < blockCount) × Writable (now lens) 0 count ⌝ }
-    ensures { λ _. ⌜ now (out .exit) ≡ blockWith k a b (entriesAt (now (times .entry)) (now (lens .entry)) (now (bytes .entry)) count) ⌝ }
+    ensures { λ _. ⌜ now (out .exit)
+        ≡ blockWith k a b (entriesAt (columns (now (times .entry)) (now (lens .entry)) (now (bytes .entry)) (now (copies .entry))) count) ⌝ }
 {
     let first = CELLS_PER_BLOCK * k;
     let used = used_from(count, first);
@@ -169,6 +178,7 @@ fn put_block<'a>(
         times,
         lens,
         bytes,
+        copies,
         first,
         used as usize,
     );
@@ -181,11 +191,14 @@ fn put_cells<'a>(
     times: &'a [u64; Collector::CAPACITY],
     lens: &'a [u8; Collector::CAPACITY],
     bytes: &'a [u8],
+    copies: &'a [u16; Collector::CAPACITY],
     first: usize,
     used: usize,
 )
     requires { ⌜ (length (now out) ≡ cellsLength) × (length (now bytes) ≡ capacity * maxLength) × (used ≤ cellsPerBlock) × Writable (now lens) first used ⌝ }
-    ensures { λ _. ⌜ now (out .exit) ≡ padded cellsLength (flatten (map entryCell (entriesFrom (now (times .entry)) (now (lens .entry)) (now (bytes .entry)) first used))) ⌝ }
+    ensures { λ _. ⌜ now (out .exit)
+        ≡ padded cellsLength (flatten (map entryCell
+        (entriesFrom (columns (now (times .entry)) (now (lens .entry)) (now (bytes .entry)) (now (copies .entry))) first used))) ⌝ }
 {
     for i in 0..used {
         let e = first + i;
@@ -195,7 +208,7 @@ fn put_cells<'a>(
             &mut out[CELL_LENGTH * i..CELL_LENGTH * i + CELL_LENGTH],
             times[e],
             &bytes[at..at + len],
-            0,
+            copies[e],
         );
     }
     layout::clear(&mut out[CELL_LENGTH * used..CELLS_LENGTH]);
@@ -207,12 +220,15 @@ fn is_image_of<'a>(
     times: &'a [u64; Collector::CAPACITY],
     lens: &'a [u8; Collector::CAPACITY],
     bytes: &'a [u8; Collector::CAPACITY * Collector::MAX_LEN],
+    copies: &'a [u16; Collector::CAPACITY],
     count: usize,
     latest: u64,
     setting: u64,
     totals: Totals,
 ) -> bool
-    ensures { λ r. ⌜ r ≡ isImageOf setting (viewAt (now (times .entry)) (now (lens .entry)) (now (bytes .entry)) count latest totals) (now (image .entry)) ⌝ }
+    ensures { λ r. ⌜ r ≡ isImageOf setting
+        (viewAt (columns (now (times .entry)) (now (lens .entry)) (now (bytes .entry)) (now (copies .entry))) count latest totals)
+        (now (image .entry)) ⌝ }
 {
     if !acceptable::is_acceptable(times, lens, bytes, count, latest, totals) {
         return false;
@@ -223,6 +239,7 @@ fn is_image_of<'a>(
         times,
         lens,
         bytes,
+        copies,
         count,
         latest,
         setting,
@@ -266,14 +283,16 @@ fn parse(image: &[u8]) -> Collector
     let mut times = [0u64; Collector::CAPACITY];
     let mut lens = [0u8; Collector::CAPACITY];
     let mut bytes = [0u8; Collector::CAPACITY * Collector::MAX_LEN];
+    let mut copies = [0u16; Collector::CAPACITY];
     let count = count_in(image);
-    read_entries(&mut times, &mut lens, &mut bytes, image, count);
+    read_entries(&mut times, &mut lens, &mut bytes, &mut copies, image, count);
     let latest = first_in(image, 0);
     let totals = totals_in(image);
     Collector {
         times,
         lens,
         bytes,
+        copies,
         count,
         latest,
         totals,
@@ -281,14 +300,24 @@ fn parse(image: &[u8]) -> Collector
 }
 
 // The first `count` entries of an image, into the flat arrays of a state.
-fn read_entries(times: &mut [u64], lens: &mut [u8], bytes: &mut [u8], image: &[u8], count: usize)
-    requires { ⌜ (length (now times) ≡ capacity) × (length (now lens) ≡ capacity) × (length (now bytes) ≡ capacity * maxLength) × (length (now image) ≡ imageLength) × (count ≤ capacity) ⌝ }
-    ensures { λ _. ⌜ entriesAt (now (times .exit)) (now (lens .exit)) (now (bytes .exit)) count ≡ entriesIn (now (image .entry)) count ⌝ }
+fn read_entries(
+    times: &mut [u64],
+    lens: &mut [u8],
+    bytes: &mut [u8],
+    copies: &mut [u16],
+    image: &[u8],
+    count: usize,
+)
+    requires { ⌜ (length (now times) ≡ capacity) × (length (now lens) ≡ capacity) × (length (now bytes) ≡ capacity * maxLength)
+        × (length (now copies) ≡ capacity) × (length (now image) ≡ imageLength) × (count ≤ capacity) ⌝ }
+    ensures { λ _. ⌜ entriesAt (columns (now (times .exit)) (now (lens .exit)) (now (bytes .exit)) (now (copies .exit))) count
+        ≡ entriesIn (now (image .entry)) count ⌝ }
 {
     for i in 0..count {
         let cell = cell_in(image, i);
         times[i] = layout::cell_time(cell);
         lens[i] = layout::cell_used(cell);
+        copies[i] = layout::cell_last(cell);
         layout::copy_field(
             &mut bytes[Collector::MAX_LEN * i..Collector::MAX_LEN * i + Collector::MAX_LEN],
             cell,

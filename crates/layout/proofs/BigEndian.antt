@@ -90,17 +90,23 @@ eight-lt i n h k =
 
 -- ---- bytes, as the number that they spell, and back
 
--- what the first i bytes spell is below 256 ^ i
-spelled-lt : (i : ℕ) (bs : List ℕ) → i ≤ length bs → Bytes bs → unbe (take i bs) < 256 ^ i
+-- what the first i bytes spell is below 256 ^ i, also where there are fewer
+spelled-lt : (i : ℕ) (bs : List ℕ) → Bytes bs → unbe (take i bs) < 256 ^ i
 unfolding unbe unbeFrom
-spelled-lt zero bs h b = omega arith
-spelled-lt (suc i) bs h b =
-    let more : unbe (take i bs) * 256 + getD bs i 0 ≡ unbe (take (i + 1) bs) = unbe-more bs i h in
-    let low = digit-lt i (unbe (take i bs)) (getD bs i 0) (spelled-lt i bs (omega arith) b) (b i) in
-    rw (add-one i) at (rw more at low)
+spelled-lt zero bs b = omega arith
+spelled-lt (suc i) bs b = elim (decLt i (length bs)) [
+  | yes h ↦
+      (let more : unbe (take i bs) * 256 + getD bs i 0 ≡ unbe (take (i + 1) bs) = unbe-more bs i h in
+      let low = digit-lt i (unbe (take i bs)) (getD bs i 0) (spelled-lt i bs b) (b i) in
+      rw (add-one i) at (rw more at low))
+  | no h ↦
+      (let low : unbe (take i bs) * 256 + 0 < 256 ^ (i + 1) = digit-lt i (unbe (take i bs)) 0 (spelled-lt i bs b) (omega arith) in
+      let same : take (suc i) bs ≡ take i bs = take-all (suc i) bs (omega arith) ∙ sym (take-all i bs (omega arith)) in
+      rw (same, ← add-one i) (omega arith))
+]
 
 pub unbe-lt : (w : ℕ) (bs : List ℕ) → length bs ≡ w → Bytes bs → unbe bs < 256 ^ w
-unbe-lt w bs e b = rw (take-all w bs (omega arith)) at (spelled-lt w bs (omega arith) b)
+unbe-lt w bs e b = rw (take-all w bs (omega arith)) at (spelled-lt w bs b)
 
 -- the first i bytes are those of the number that they spell
 pub be-front : (i : ℕ) (bs : List ℕ) → i ≤ length bs → Bytes bs → be i (unbe (take i bs)) ≡ take i bs
@@ -122,11 +128,14 @@ bytes-take n bs b i = elim (decLt i n) [
   | no h ↦ (let l : length (take n bs) ≤ i = rw (length-take n bs) (omega arith) in rw (List·getD-eq-default (take n bs) 0 l) (omega arith))
 ]
 
-bytes-part : (a n : ℕ) (bs : List ℕ) → Bytes bs → Bytes (part a n bs)
-bytes-part a n bs b = bytes-take n (drop a bs) (λ i. rw (getD-drop a bs i 0) (b (a + i)))
+bytes-drop : (a : ℕ) (bs : List ℕ) → Bytes bs → Bytes (drop a bs)
+bytes-drop a bs b i = rw (getD-drop a bs i 0) (b (a + i))
 
-pub field-lt : (a w : ℕ) (bs : List ℕ) → Bytes bs → a + w ≤ length bs → unbe (part a w bs) < 256 ^ w
-field-lt a w bs b h = unbe-lt w (part a w bs) (part-length a w bs h) (bytes-part a w bs b)
+bytes-part : (a n : ℕ) (bs : List ℕ) → Bytes bs → Bytes (part a n bs)
+bytes-part a n bs b = bytes-take n (drop a bs) (bytes-drop a bs b)
+
+pub field-lt : (a w : ℕ) (bs : List ℕ) → Bytes bs → unbe (part a w bs) < 256 ^ w
+field-lt a w bs b = spelled-lt w (drop a bs) (bytes-drop a bs b)
 
 pub field-back : (a w : ℕ) (bs : List ℕ) → Bytes bs → a + w ≤ length bs → be w (unbe (part a w bs)) ≡ part a w bs
 field-back a w bs b h = be-unbe w (part a w bs) (part-length a w bs h) (bytes-part a w bs b)

@@ -158,12 +158,13 @@ pub fn cell_used(cell: &[u8]) -> u8
 }
 
 // The last two bytes of the cell, as one number.
-pub fn cell_last(cell: &[u8]) -> u64
+pub fn cell_last(cell: &[u8]) -> u16
     ensures { λ r. ⌜ r ≡ cellLast (now (cell .entry)) ⌝ }
 {
     let start = least(30, cell.len());
     let end = least(32, cell.len());
-    read_number(&cell[start..end])
+    let last = read_number(&cell[start..end]);
+    last as u16
 }
 
 // The 21 bytes of the cell, zeros included, cut where `out` ends or with zeros after them.

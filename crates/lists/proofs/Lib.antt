@@ -8,3 +8,4 @@ pub mod Pairwise
 pub mod UpFrom
 pub mod Tests
 pub mod First
+pub mod Last

@@ -1,6 +1,6 @@
 -- What follows by the two outcomes of a test, and what tests over a list say of what is kept of it and of one with an element more at its end.
 -- Assumes nothing.
-use Prim.Native.Nat.{ℕ, zero, suc, _≤_, _<_, zero-le}
+use Prim.Native.Nat.{ℕ, zero, suc, _+_, _≤_, _<_, zero-le}
 use native.Mathlib.Nat.{not-suc-le-zero, le-of-suc-le-suc}
 use native.Mathlib.Omega.{arith}
 use mathlib.Core.Path.{_≡_, refl, sym, _∙_, ap, ap₂}
@@ -9,7 +9,7 @@ use mathlib.Core.List.{List, [], _∷_, _++_, map, List·Memᴰ·eq-of-singleton
 use mathlib.Core.Logic.{⊎-elim}
 use lib.ListN.{length, getD}
 use borrow.Author.Tests.{not-true}
-use Rattle.lists.specs.Lists.{keep, any, all, pairwise}
+use Rattle.lists.specs.Lists.{keep, any, all, pairwise, count}
 use Rattle.lists.proofs.Choice.{both}
 use Rattle.lists.proofs.Members.{all-of, all-at}
 use Rattle.lists.proofs.Keep.{keep-append, keep-from}
@@ -94,10 +94,65 @@ module _ {A : Type 0} where
   pub pairwise-last : (r : A → A → Bool) (l : List A) (x : A) → pairwise r l ≡ true → all (λ y. r y x) l ≡ true → pairwise r (l ++ (x ∷ [])) ≡ true
   pairwise-last r l x e f = pairwise-append r l (x ∷ []) e refl (λ y z k m. ap (r y) (List·Memᴰ·eq-of-singleton m) ∙ all-at (λ w. r w x) k f)
 
+  -- two tests one after the other
+  pub any-and : (p q : A → Bool) (l : List A) → any (λ x. p x && q x) l ≡ any q (keep p l)
+  any-and p q [] = refl
+  any-and p q (x ∷ l) = go (p x) (any-and p q l)
+    where
+      go : (b : Bool) → any (λ y. p y && q y) l ≡ any q (keep p l) → ((b && q x) || any (λ y. p y && q y) l) ≡ any q (cond b (x ∷ keep p l) (keep p l))
+      go true ih = ap (λ z. q x || z) ih
+      go false ih = ih
+
+  pub keep-swap : (p q : A → Bool) (l : List A) → keep p (keep q l) ≡ keep q (keep p l)
+  keep-swap p q [] = refl
+  keep-swap p q (x ∷ l) = go (p x) refl (q x) refl (keep-swap p q l)
+    where
+      go : (b : Bool) → p x ≡ b → (c : Bool) → q x ≡ c → keep p (keep q l) ≡ keep q (keep p l)
+          → keep p (cond c (x ∷ keep q l) (keep q l)) ≡ keep q (cond b (x ∷ keep p l) (keep p l))
+      go true e true f h = rw (e, f, h)
+      go true e false f h = rw (f, h)
+      go false e true f h = rw (e, h)
+      go false e false f h = h
+
+  -- a test is not passed by what another test, which it implies where r holds, leaves out
+  pub any-keep : (q p r : A → Bool) → ((x : A) → r x ≡ true → q x ≡ true → p x ≡ true) → (l : List A) → all r l ≡ true → any q (keep p l) ≡ any q l
+  any-keep q p r h [] e = refl
+  any-keep q p r h (x ∷ l) e =
+      let w = both (r x) (all r l) e in
+      go (p x) (q x) refl (h x (w .0)) (any-keep q p r h l (w .1))
+    where
+      go : (b c : Bool) → q x ≡ c → (c ≡ true → b ≡ true) → any q (keep p l) ≡ any q l → any q (cond b (x ∷ keep p l) (keep p l)) ≡ (c || any q l)
+      go true c f k ih = rw (f, ih)
+      go false true f k ih = absurd (false≢true (k refl))
+      go false false f k ih = ih
+
+  pub count-length : (p : A → Bool) (l : List A) → count p l ≤ length l
+  count-length p [] = zero-le
+  count-length p (x ∷ l) = go (p x) (count-length p l)
+    where
+      go : (b : Bool) → count p l ≤ length l → cond b (count p l + 1) (count p l) ≤ suc (length l)
+      go true h = omega arith
+      go false h = omega arith
+
   pub all-getD : (p : A → Bool) (l : List A) (i : ℕ) (d : A) → all p l ≡ true → i < length l → p (getD l i d) ≡ true
   all-getD p [] i d e h = absurd (not-suc-le-zero h)
   all-getD p (x ∷ l) zero d e h = both (p x) (all p l) e .0
   all-getD p (x ∷ l) (suc i) d e h = all-getD p l i d (both (p x) (all p l) e .1) (le-of-suc-le-suc h)
+
+-- ---- tests of what a map makes
+
+module _ {A B : Type 0} (g : A → B) where
+  pub any-map : (p : B → Bool) (l : List A) → any p (map g l) ≡ any (λ x. p (g x)) l
+  any-map p [] = refl
+  any-map p (x ∷ l) = ap (λ (b : Bool). p (g x) || b) (any-map p l)
+
+  pub all-map : (p : B → Bool) (l : List A) → all p (map g l) ≡ all (λ x. p (g x)) l
+  all-map p [] = refl
+  all-map p (x ∷ l) = ap (λ (b : Bool). p (g x) && b) (all-map p l)
+
+  pub pairwise-mapped : (r : B → B → Bool) (l : List A) → pairwise r (map g l) ≡ pairwise (λ x y. r (g x) (g y)) l
+  pairwise-mapped r [] = refl
+  pairwise-mapped r (x ∷ l) = ap₂ _&&_ (all-map (r (g x)) l) (pairwise-mapped r l)
 
 -- an element of a map, whatever stands for one past the end
 pub getD-map : {A B : Type 0} (f : A → B) (l : List A) (i : ℕ) (d : A) (e : B) → i < length l → getD (map f l) i e ≡ f (getD l i d)

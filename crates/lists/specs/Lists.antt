@@ -36,6 +36,11 @@ module _ {A : Type 0} where
   firstOf p [] = 0
   firstOf p (x ∷ l) = cond (p x) 0 (suc (firstOf p l))
 
+  -- the index of the last element that passes; the length where none does
+  abbrev pub lastIndex : (A → Bool) → List A → ℕ
+  lastIndex p [] = 0
+  lastIndex p (x ∷ l) = cond (any p l) (suc (lastIndex p l)) (cond (p x) 0 (suc (length l)))
+
   -- how many elements pass
   abbrev pub count : (A → Bool) → List A → ℕ
   count p [] = 0

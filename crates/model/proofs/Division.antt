@@ -8,7 +8,7 @@ use lib.Seq.{take-at}
 use Rattle.model.specs.View.{Reception}
 use Rattle.model.specs.Burst.{Replied}
 use Rattle.model.specs.Reference.{answerTo, sentWith, logOf, pastAfter, repliesBy}
-use Rattle.model.specs.History.{Call, Receive, Checkpoint, Restore, Cut, Burst, Look, burstTaken, expected}
+use Rattle.model.specs.History.{Call, Receive, Checkpoint, Restore, Cut, Burst, Ask, Look, burstTaken, expected}
 use Rattle.model.specs.Division.{Given, givenAt, receptionsOf, repliesIn, AnyDivision}
 use Rattle.model.proofs.Theorem.{fresh-run}
 
@@ -47,6 +47,7 @@ expected-replies past (Burst setting rs places ∷ h) =
     ap (λ (l : List Replied). l ++ repliesIn h (expected (pastAfter past t) h)) shown
     ∙ ap (λ (l : List Replied). mine ++ l) (expected-replies (pastAfter past t) h)
     ∙ sym (replies-joined setting past t (receptionsOf h))
+expected-replies past (Ask k ∷ h) = expected-replies past h
 expected-replies past (Look ∷ h) = expected-replies past h
 
 pub any-division : AnyDivision

@@ -1,71 +1,101 @@
--- What is read of an image is the view that it was written of, where that is acceptable and its numbers have 64 bits.
+-- What is read of an image is the view that it was written of, where the layout has room for that.
 --     cells-long, cells-few            the cells of a block have 32 bytes, and there are at most fifteen
 --     blocks-long, image-length        a block has 512 bytes, and an image 2,560
---     parse-image, accepts-image       what a checkpoint writes is read back and accepted
+--     parse-image, accepts-image       what a checkpoint writes is read back, and accepted where it is acceptable
 --     exact                            and nothing else is
 -- Assumes nothing.
 use Prim.Native.Nat.{ℕ, zero, suc, _+_, _-_, _*_, _/_, _%_, _^_, _≤_, _<_, min}
 use native.Mathlib.Nat.{div-add-mod, sub-zero, zero-add}
 use native.Mathlib.Omega.{arith}
-use mathlib.Core.Path.{_≡_, refl, ap, _∙_}
-use mathlib.Core.Bool.{true}
+use mathlib.Core.Path.{_≡_, refl, sym, ap, _∙_}
+use mathlib.Core.Bool.{true, false, and-false, true≢false}
 use mathlib.Core.List.{List, [], map}
 use lib.ListN.{length, getD, length-take, length-drop, length-map}
 use lib.Seq.{ext-getD}
-use lib.Dec.{leb, eqb}
-use borrow.Author.Tests.{eq-eqb, le-leb, leb-true}
+use lib.Dec.{leb, ltb, eqb}
+use borrow.Author.Tests.{eq-eqb, le-leb, leb-true, lt-ltb, ltb-true}
 use Rattle.lists.specs.Lists.{equal, upFrom}
 use Rattle.lists.proofs.Choice.{both}
 use Rattle.lists.proofs.Equal.{equal-eq, equal-refl}
-use Rattle.lists.proofs.Tests.{all-getD, getD-map}
+use Rattle.lists.proofs.Tests.{and-true, all-both, all-getD, getD-map}
 use Rattle.lists.proofs.UpFrom.{length-upFrom, getD-upFrom}
-use Rattle.erp1.specs.Subtelegram.{maxLength}
 use Rattle.telegram.specs.Repeater.{maxSetting}
-use Rattle.layout.specs.Cell.{cellLength}
+use Rattle.layout.specs.Cell.{cellLength, cellCapacity}
 use Rattle.layout.specs.Header.{headerOf, headerUsed, headerFirst, headerSecond}
 use Rattle.layout.specs.Block.{cellsPerBlock, blockLength, blockHeader, blockCell}
 use Rattle.layout.proofs.Segments.{part-at, Each, flatten-length, flatten-part}
-use Rattle.layout.proofs.Cell.{cell-length, cell-time, cell-bytes}
+use Rattle.layout.proofs.Cell.{cell-length, cell-time, cell-bytes, cell-last}
 use Rattle.layout.proofs.Header.{header-length, header-used, header-first, header-second}
 use Rattle.layout.proofs.Block.{block-length, block-header, block-cell}
-use Rattle.model.specs.View.{Reception, View}
+use Rattle.model.specs.View.{Entry, View, ceiling}
 use Rattle.model.specs.Acceptable.{isEntry, acceptable}
 use Rattle.model.specs.Image.{imageLength, entryCell, entriesOf, blockAt, blocksOf, imageWith, blockIn, usedIn, firstIn, secondIn, settingIn, countIn, cellEntry, entryIn, totalsIn, parse, accepts}
-use Rattle.model.specs.Exact.{Exact}
+use Rattle.model.specs.Exact.{hasRoom, HasLayout, Exact}
 use Rattle.model.proofs.Check.{valid-length}
-use Rattle.model.proofs.Invariant.{Good, good-acceptable, good-of, entry-valid, entry-before}
+use Rattle.model.proofs.Invariant.{Good, good-of, entry-valid, entry-before}
 
 -- stands for an entry past the end
-abbrev none : Reception
-none = record { bytes = []; time = 0 }
+abbrev none : Entry
+none = record { bytes = []; time = 0; copies = 0 }
 
 -- fifteen more of n
 more : (m n : ℕ) → min m n + min 15 (n - m) ≡ min (m + 15) n
 more m n = omega arith
 
-module _ (setting : ℕ) (v : View) (g : Good v) where
+-- an acceptable view has it
+has-room : (latest : ℕ) (e : Entry) → latest < 2 ^ 64 → isEntry latest e ≡ true → leb (e .copies) ceiling ≡ true → hasRoom e ≡ true
+has-room latest e fits is small =
+    and-true (lt-ltb (e .time) (2 ^ 64) (omega (arith, entry-before latest e is)))
+    (and-true (le-leb (length (e .bytes)) cellCapacity (valid-length (e .bytes) (entry-valid latest e is))) small)
+
+pub good-layout : {v : View} → Good v → HasLayout v
+good-layout {v} g = record {
+  latest = g .entries .fits;
+  received = g .totals .fits;
+  kept = omega (arith, g .totals .sum, g .totals .fits);
+  copies = omega (arith, g .totals .sum, g .totals .fits);
+  loose = omega (arith, g .totals .sum, g .totals .fits);
+  damaged = omega (arith, g .totals .sum, g .totals .fits);
+  late = omega (arith, g .totals .sum, g .totals .fits);
+  few = omega (arith, g .entries .few);
+  entries =
+      all-both (isEntry (v .latest)) (λ e. leb (e .copies) ceiling) hasRoom (λ e. has-room (v .latest) e (g .entries .fits)) (v .entries)
+      (g .entries .each) (g .entries .copies);
+}
+
+module _ (setting : ℕ) (v : View) (f : HasLayout v) where
   -- ---- entries
 
   abbrev count : ℕ
   count = length (v .entries)
 
-  abbrev entryAt : ℕ → Reception
+  abbrev entryAt : ℕ → Entry
   entryAt i = getD (v .entries) i none
 
-  is-entry : (i : ℕ) → i < count → isEntry (v .latest) (entryAt i) ≡ true
-  is-entry i h = all-getD (isEntry (v .latest)) (v .entries) i none (g .entries .each) h
-
-  short : (i : ℕ) → i < count → length (entryAt i .bytes) ≤ maxLength
-  short i h = valid-length (entryAt i .bytes) (entry-valid (v .latest) (entryAt i) (is-entry i h))
+  room : (i : ℕ) → i < count → hasRoom (entryAt i) ≡ true
+  room i h = all-getD hasRoom (v .entries) i none (f .entries) h
 
   timed : (i : ℕ) → i < count → entryAt i .time < 2 ^ 64
-  timed i h = omega (arith, entry-before (v .latest) (entryAt i) (is-entry i h), g .entries .fits)
+  timed i h = ltb-true (entryAt i .time) (2 ^ 64) (both (ltb (entryAt i .time) (2 ^ 64)) _ (room i h) .0)
+
+  sized : (i : ℕ) → i < count → (leb (length (entryAt i .bytes)) cellCapacity ≡ true) × (leb (entryAt i .copies) ceiling ≡ true)
+  sized i h = both _ (leb (entryAt i .copies) ceiling) (both (ltb (entryAt i .time) (2 ^ 64)) _ (room i h) .1)
+
+  short : (i : ℕ) → i < count → length (entryAt i .bytes) ≤ cellCapacity
+  short i h = leb-true (length (entryAt i .bytes)) cellCapacity (sized i h .0)
+
+  counted : (i : ℕ) → i < count → entryAt i .copies < 2 ^ 16
+  counted i h = omega (arith, leb-true (entryAt i .copies) ceiling (sized i h .1))
 
   -- an entry is read back from its cell
   entry-cell : (i : ℕ) → i < count → cellEntry (entryCell (entryAt i)) ≡ entryAt i
   entry-cell i h =
       let e = entryAt i in
-      λ j. record { bytes = cell-bytes (e .time) (e .bytes) 0 (short i h) j; time = cell-time (e .time) (e .bytes) 0 (short i h) (timed i h) j }
+      λ j. record {
+        bytes = cell-bytes (e .time) (e .bytes) (e .copies) (short i h) j;
+        time = cell-time (e .time) (e .bytes) (e .copies) (short i h) (timed i h) j;
+        copies = cell-last (e .time) (e .bytes) (e .copies) (short i h) (counted i h) j;
+      }
 
   -- ---- the entries of block k
 
@@ -81,7 +111,7 @@ module _ (setting : ℕ) (v : View) (g : Good v) where
   cells-long k i h =
       let l : i < length (entriesOf k v) = rw (length-map (entriesOf k v) entryCell) at h in
       let e = entryAt (cellsPerBlock * k + i) in
-      ap length (cell-at k i l) ∙ cell-length (e .time) (e .bytes) 0 (short (cellsPerBlock * k + i) (omega (arith, group-length k)))
+      ap length (cell-at k i l) ∙ cell-length (e .time) (e .bytes) (e .copies) (short (cellsPerBlock * k + i) (omega (arith, group-length k)))
 
   pub cells-few : (k : ℕ) → length (map entryCell (entriesOf k v)) ≤ cellsPerBlock
   cells-few k = omega (arith, length-map (entriesOf k v) entryCell, group-length k)
@@ -146,12 +176,12 @@ module _ (setting : ℕ) (v : View) (g : Good v) where
         more 30 count,
         more 45 count,
         more 60 count,
-      ) (omega (arith, g .entries .few))
+      ) (omega (arith, f .few))
 
   entry-in : (i : ℕ) → i < count → entryIn (imageWith setting v) i ≡ entryAt i
   unfolding entryIn
   entry-in i h =
-      let k : i / 15 < 5 = omega (arith, g .entries .few) in
+      let k : i / 15 < 5 = omega (arith, f .few) in
       let w = block-at (i / 15) k in
       ap cellEntry (cell-in (i / 15) (w .0) (w .1) k (w .2) (i % 15) (omega (arith, group-length (i / 15))))
       ∙ ap (λ (n : ℕ). cellEntry (entryCell (entryAt n))) (div-add-mod i 15) ∙ entry-cell i h
@@ -168,14 +198,14 @@ module _ (setting : ℕ) (v : View) (g : Good v) where
   pub parse-image : parse (imageWith setting v) ≡ v
   unfolding parse totalsIn
   parse-image = λ i. record {
-    latest = first-in 0 _ _ (omega arith) refl (g .entries .fits) i;
+    latest = first-in 0 _ _ (omega arith) refl (f .latest) i;
     totals = record {
-      received = second-in 0 _ _ (omega arith) refl (g .totals .fits) i;
-      kept = first-in 1 _ _ (omega arith) refl (omega (arith, g .totals .sum, g .totals .fits)) i;
-      copies = second-in 1 _ _ (omega arith) refl (omega (arith, g .totals .sum, g .totals .fits)) i;
-      loose = first-in 2 _ _ (omega arith) refl (omega (arith, g .totals .sum, g .totals .fits)) i;
-      damaged = second-in 2 _ _ (omega arith) refl (omega (arith, g .totals .sum, g .totals .fits)) i;
-      late = first-in 3 _ _ (omega arith) refl (omega (arith, g .totals .sum, g .totals .fits)) i;
+      received = second-in 0 _ _ (omega arith) refl (f .received) i;
+      kept = first-in 1 _ _ (omega arith) refl (f .kept) i;
+      copies = second-in 1 _ _ (omega arith) refl (f .copies) i;
+      loose = first-in 2 _ _ (omega arith) refl (f .loose) i;
+      damaged = second-in 2 _ _ (omega arith) refl (f .damaged) i;
+      late = first-in 3 _ _ (omega arith) refl (f .late) i;
     };
     entries = entries-in i;
   }
@@ -185,17 +215,21 @@ module _ (setting : ℕ) (v : View) (g : Good v) where
     setting-in : settingIn (imageWith setting v) ≡ setting
     setting-in = second-in 3 _ _ (omega arith) refl (omega arith)
 
-    pub accepts-image : accepts (imageWith setting v) ≡ true
+    pub accepts-image : acceptable v ≡ true → accepts (imageWith setting v) ≡ true
     unfolding accepts
-    accepts-image =
+    accepts-image ok =
         rw (
           eq-eqb (length (imageWith setting v)) imageLength image-length,
           setting-in,
           le-leb setting maxSetting low,
           parse-image,
-          good-acceptable g,
+          ok,
           equal-refl (imageWith setting v),
         )
+
+  refuses-image : acceptable v ≡ false → accepts (imageWith setting v) ≡ false
+  unfolding accepts
+  refuses-image bad = rw (eq-eqb (length (imageWith setting v)) imageLength image-length, parse-image, bad) (and-false (leb (settingIn (imageWith setting v)) maxSetting))
 
 -- what an image says that is accepted
 pub record Accepted (image : List ℕ) : Type 0 where
@@ -213,8 +247,10 @@ accepted-says image e =
 
 pub exact : Exact
 exact = record {
-  accepted = λ s low v e f. accepts-image s v (good-of v e f) low;
-  readBack = λ s low v e f. parse-image s v (good-of v e f);
+  accepted = λ s low v e f. accepts-image s v (good-layout (good-of v e f)) low e;
+  readBack = λ s low v e f. parse-image s v (good-layout (good-of v e f));
+  refused = λ s v e f. refuses-image s v f e;
+  notSaid = λ v e image a p. true≢false (sym (accepted-says image a .view) ∙ ap acceptable p ∙ e);
   smallSetting = λ image e. accepted-says image e .small;
   acceptableView = λ image e. accepted-says image e .view;
   written = λ image e. equal-eq (imageWith (settingIn image) (parse image)) image (rw (accepted-says image e .same) tt);

@@ -3,7 +3,7 @@
 use Prim.Native.Nat.{ℕ, _+_, _-_, _^_, _≤_, _<_}
 use native.Mathlib.Omega.{arith}
 use mathlib.Core.Path.{_≡_, refl}
-use mathlib.Core.Bool.{true, false, not, _&&_, false≢true}
+use mathlib.Core.Bool.{Bool, true, false, not, _&&_, false≢true}
 use mathlib.Core.List.{List, [], _∷_, _++_}
 use lib.ListN.{length, length-append}
 use lib.Dec.{leb, ltb}
@@ -17,11 +17,12 @@ use Rattle.refusal.specs.declared.Refusal.the-variants as refusal
 use Rattle.erp1.specs.Subtelegram.{isValid}
 use Rattle.model.specs.declared.Totals.{Totals}
 use Rattle.model.specs.Answer.{Shown, Kept, Copy, Loose, Refused, isAccepted}
-use Rattle.model.specs.View.{Reception, View, maturity, capacity, isOpen, stillOpen, fresh}
+use Rattle.model.specs.View.{Reception, Entry, View, opened, recount, maturity, capacity, ceiling, capped, isOpen, stillOpen, fresh}
 use Rattle.model.specs.Acceptable.{isCopyOf, isEntry, mayFollow, isSummed, acceptable}
 use Rattle.model.specs.Exact.{Fits}
-use Rattle.model.specs.Step.{maxCount, isKnown, isCrowded, classify, advance}
+use Rattle.model.specs.Step.{maxCount, isKnown, isCrowded, classify, credit, advance}
 use Rattle.model.proofs.Check.{Failed, length-wrong, sum-wrong, crc-wrong, nested, check-failed}
+use Rattle.model.proofs.Copies.{length-credit, all-credit, pairwise-credit}
 
 -- totals over that many entries
 pub record GoodTotals (n : Totals) (used : ℕ) : Type 0 where
@@ -30,10 +31,11 @@ pub record GoodTotals (n : Totals) (used : ℕ) : Type 0 where
   pub fits : n .received < 2 ^ 64
 
 -- entries at that latest time
-pub record GoodEntries (latest : ℕ) (l : List Reception) : Type 0 where
+pub record GoodEntries (latest : ℕ) (l : List Entry) : Type 0 where
   pub each : all (isEntry latest) l ≡ true
   pub order : pairwise mayFollow l ≡ true
   pub few : length l ≤ capacity
+  pub copies : all (λ e. leb (e .copies) ceiling) l ≡ true
   pub fits : latest < 2 ^ 64
 
 pub record Good (v : View) : Type 0 where
@@ -57,33 +59,33 @@ good-of v e f =
     let d = both (pairwise mayFollow (v .entries)) _ (c .1) in
     let k = both (isSummed (v .totals)) _ (d .1) in
     record {
-      entries = record { each = c .0; order = d .0; few = leb-true _ _ (b .0); fits = f .latest };
+      entries = record { each = c .0; order = d .0; few = leb-true _ _ (b .0); copies = f .copies; fits = f .latest };
       totals = record { sum = eqb-true _ _ (k .0); enough = leb-true _ _ (k .1); fits = f .received };
     }
 
 pub good-fresh : Good fresh
 unfolding fresh
 good-fresh = record {
-  entries = record { each = refl; order = refl; few = omega arith; fits = omega arith };
+  entries = record { each = refl; order = refl; few = omega arith; copies = refl; fits = omega arith };
   totals = omega arith;
 }
 
 -- ---- entries
 
-entry : (latest : ℕ) (e : Reception) → isValid (e .bytes) ≡ true → e .time ≤ latest → isOpen latest e ≡ true → isEntry latest e ≡ true
+entry : (latest : ℕ) (e : Entry) → isValid (e .bytes) ≡ true → e .time ≤ latest → isOpen latest e ≡ true → isEntry latest e ≡ true
 entry latest e p q o = and-true p (and-true (le-leb (e .time) latest q) o)
 
 -- what is known of one
-pub entry-valid : (latest : ℕ) (e : Reception) → isEntry latest e ≡ true → isValid (e .bytes) ≡ true
+pub entry-valid : (latest : ℕ) (e : Entry) → isEntry latest e ≡ true → isValid (e .bytes) ≡ true
 entry-valid latest e p = both (isValid (e .bytes)) (leb (e .time) latest && isOpen latest e) p .0
 
-pub entry-before : (latest : ℕ) (e : Reception) → isEntry latest e ≡ true → e .time ≤ latest
+pub entry-before : (latest : ℕ) (e : Entry) → isEntry latest e ≡ true → e .time ≤ latest
 entry-before latest e p =
     leb-true (e .time) latest (both (leb (e .time) latest) (isOpen latest e) (both (isValid (e .bytes)) (leb (e .time) latest && isOpen latest e) p .1) .0)
 
 -- at a later time t the entries no longer open are gone
-module _ {latest t : ℕ} {l : List Reception} (g : GoodEntries latest l) (h : latest ≤ t) (fits : t < 2 ^ 64) where
-  still-entry : (e : Reception) → isEntry latest e ≡ true → isOpen t e ≡ true → isEntry t e ≡ true
+module _ {latest t : ℕ} {l : List Entry} (g : GoodEntries latest l) (h : latest ≤ t) (fits : t < 2 ^ 64) where
+  still-entry : (e : Entry) → isEntry latest e ≡ true → isOpen t e ≡ true → isEntry t e ≡ true
   still-entry e p o = entry t e (entry-valid latest e p) (omega (arith, entry-before latest e p)) o
 
   good-still : GoodEntries t (keep (isOpen t) l)
@@ -91,21 +93,44 @@ module _ {latest t : ℕ} {l : List Reception} (g : GoodEntries latest l) (h : l
     each = all-keep (isEntry latest) (isOpen t) (isEntry t) still-entry l (g .each);
     order = pairwise-keep mayFollow (isOpen t) l (g .order);
     few = omega (arith, length-keep (isOpen t) l);
+    copies = all-keep (λ e. leb (e .copies) ceiling) (isOpen t) (λ e. leb (e .copies) ceiling) (λ e p _. p) l (g .copies);
     fits = fits;
   }
 
 -- at the end there is room for another telegram
-module _ {l : List Reception} (r : Reception) (g : GoodEntries (r .time) l) where
-  follow : (e : Reception) → isEntry (r .time) e ≡ true → not (isCopyOf e r) ≡ true → mayFollow e r ≡ true
+module _ {l : List Entry} (r : Reception) (g : GoodEntries (r .time) l) where
+  follow : (e : Entry) → isEntry (r .time) e ≡ true → not (isCopyOf e r) ≡ true → mayFollow e (opened r) ≡ true
   follow e p q = and-true (le-leb (e .time) (r .time) (entry-before (r .time) e p)) q
 
-  good-add : isValid (r .bytes) ≡ true → any (λ e. isCopyOf e r) l ≡ false → length l < capacity → GoodEntries (r .time) (l ++ (r ∷ []))
+  good-add : isValid (r .bytes) ≡ true → any (λ e. isCopyOf e r) l ≡ false → length l < capacity → GoodEntries (r .time) (l ++ (opened r ∷ []))
   good-add valid new room = record {
-    each = all-last (isEntry (r .time)) l r (g .each) (entry (r .time) r valid (omega arith) (le-leb (r .time - r .time) maturity (omega arith)));
+    each = all-last (isEntry (r .time)) l (opened r) (g .each) (entry (r .time) (opened r) valid (omega arith) (le-leb (r .time - r .time) maturity (omega arith)));
     order =
-        pairwise-last mayFollow l r (g .order)
-        (all-both (isEntry (r .time)) (λ e. not (isCopyOf e r)) (λ e. mayFollow e r) follow l (g .each) (none (λ e. isCopyOf e r) l new));
-    few = omega (arith, length-append l (r ∷ []));
+        pairwise-last mayFollow l (opened r) (g .order)
+        (all-both (isEntry (r .time)) (λ e. not (isCopyOf e r)) (λ e. mayFollow e (opened r)) follow l (g .each) (none (λ e. isCopyOf e r) l new));
+    few = omega (arith, length-append l (opened r ∷ []));
+    copies = all-last (λ e. leb (e .copies) ceiling) l (opened r) (g .copies) refl;
+    fits = g .fits;
+  }
+
+-- one more copy for one of them
+abbrev more : ℕ → ℕ
+more n = capped (n + 1)
+
+follows-left : (f : ℕ → ℕ) (e later : Entry) → mayFollow e later ≡ true → mayFollow (recount f e) later ≡ true
+unfolding isCopyOf
+follows-left f e later h = h
+
+follows-right : (f : ℕ → ℕ) (e later : Entry) → mayFollow e later ≡ true → mayFollow e (recount f later) ≡ true
+follows-right f e later h = h
+
+module _ {latest : ℕ} {l : List Entry} (q : Entry → Bool) (g : GoodEntries latest l) where
+  good-credit : GoodEntries latest (credit more q l)
+  good-credit = record {
+    each = all-credit more q (isEntry latest) (λ e h. h) l (g .each);
+    order = pairwise-credit more q mayFollow (follows-left more) (follows-right more) l (g .order);
+    few = omega (arith, length-credit more q l);
+    copies = all-credit more q (λ e. leb (e .copies) ceiling) (λ e _. le-leb (more (e .copies)) ceiling (omega arith)) l (g .copies);
     fits = g .fits;
   }
 
@@ -154,8 +179,8 @@ module _ (v : View) (r : Reception) where
     good-advance (damaged nested m) = record { entries = g .entries; totals = omega arith }
     good-advance (late m) = record { entries = g .entries; totals = omega arith }
     good-advance (copy m t) = record {
-      entries = good-still (g .entries) t small;
-      totals = omega (arith, length-keep (isOpen (r .time)) (v .entries));
+      entries = good-credit (λ e. isCopyOf e r) (good-still (g .entries) t small);
+      totals = omega (arith, length-credit more (λ e. isCopyOf e r) (stillOpen (r .time) v), length-keep (isOpen (r .time)) (v .entries));
     }
     good-advance (loose m t) = record {
       entries = good-still (g .entries) t small;
@@ -163,5 +188,5 @@ module _ (v : View) (r : Reception) where
     }
     good-advance (kept m t w c l) = record {
       entries = good-add r (good-still (g .entries) t small) w c (leb-false capacity (length (stillOpen (r .time) v)) l);
-      totals = omega (arith, length-keep (isOpen (r .time)) (v .entries), length-append (stillOpen (r .time) v) (r ∷ []));
+      totals = omega (arith, length-keep (isOpen (r .time)) (v .entries), length-append (stillOpen (r .time) v) (opened r ∷ []));
     }

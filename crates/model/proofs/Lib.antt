@@ -1,4 +1,5 @@
 pub mod Check
+pub mod Copies
 pub mod Invariant
 pub mod Image
 pub mod Simulation
@@ -7,3 +8,4 @@ pub mod Division
 pub mod States
 pub mod Returns
 pub mod Latest
+pub mod Counting

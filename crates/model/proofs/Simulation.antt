@@ -1,27 +1,33 @@
 -- A step from the reference model's view gives its answer, and its view after one more reception.
 -- Assumes nothing.
-use Prim.Native.Nat.{ℕ, _-_, _^_, _≤_, _<_, max}
+use Prim.Native.Nat.{ℕ, _+_, _-_, _^_, _≤_, _<_, max}
 use native.Mathlib.Omega.{arith}
 use native.Mathlib.Nat.{max-eq-left}
 use mathlib.Core.Path.{_≡_, refl, sym, _∙_, ap}
 use mathlib.Core.Bool.{Bool, true, false, cond, _&&_, _||_}
-use mathlib.Core.List.{List, [], _∷_}
-use lib.Dec.{ltb}
-use borrow.Author.Tests.{le-leb, leb-true, ltb-true, ltb-false, lt-ltb, le-ltb}
-use Rattle.lists.specs.Lists.{keep}
-use Rattle.lists.proofs.Tests.{by-test, keep-keep, keep-last}
+use mathlib.Core.List.{List, [], _∷_, _++_, map, map-append}
+use lib.Dec.{leb, ltb}
+use lib.ListN.{length, getD, length-map}
+use borrow.Author.Tests.{le-leb, leb-true, leb-false, ltb-true, ltb-false, lt-ltb, le-ltb}
+use Rattle.lists.specs.Lists.{keep, any}
+use Rattle.lists.proofs.Choice.{both}
+use Rattle.lists.proofs.Members.{all-of}
+use Rattle.lists.proofs.Keep.{keep-map}
+use Rattle.lists.proofs.Tests.{by-test, keep-keep, keep-last, any-map, getD-map}
 use Rattle.model.specs.Answer.{Shown, Kept, Copy, Loose, Refused, isAccepted}
-use Rattle.model.specs.View.{Reception, View, maturity, isOpen}
-use Rattle.model.specs.Acceptable.{acceptable}
-use Rattle.model.specs.Step.{classify, advance, sentFor, step}
-use Rattle.model.specs.Reference.{Logged, totalsOf, latestOf, keptOf, openAt, isBehind, modelView, answerTo, sentWith}
+use Rattle.model.specs.View.{Reception, Entry, View, opened, recount, capped, maturity, isOpen}
+use Rattle.model.specs.Acceptable.{isCopyOf, acceptable}
+use Rattle.model.specs.Step.{classify, credit, advance, sentFor, step}
+use Rattle.model.specs.Heard.{copiesIn, copiesOf}
+use Rattle.model.specs.Reference.{Logged, totalsOf, latestOf, keptOf, openAt, isBehind, modelView, heardBy, answerTo, sentWith}
+use Rattle.model.proofs.Copies.{keep-credit, credit-and, credit-cap}
 use Rattle.model.proofs.Invariant.{Good, good-acceptable, good-advance, accepted-time, classified}
 
 -- a later time leaves open only what was open before
-open-before : {t u : ℕ} → t ≤ u → (e : Reception) → isOpen u e ≡ true → isOpen t e ≡ true
+open-before : {t u : ℕ} → t ≤ u → (e : Entry) → isOpen u e ≡ true → isOpen t e ≡ true
 open-before {t} {u} h e o = le-leb (t - e .time) maturity (omega (arith, leb-true (u - e .time) maturity o))
 
-open-now : (e : Reception) → isOpen (e .time) e ≡ true
+open-now : (e : Entry) → isOpen (e .time) e ≡ true
 open-now e = le-leb (e .time - e .time) maturity (omega arith)
 
 still-open : {t u : ℕ} → t ≤ u → (log : List Logged) → keep (isOpen u) (openAt t log) ≡ openAt u log
@@ -52,19 +58,51 @@ same-sent setting Copy r = refl
 same-sent setting Loose r = refl
 same-sent setting (Refused n) r = refl
 
+-- to test whether one is a copy, and which is open, no count matters
+capped-copy : (r : Reception) (e : Entry) → isCopyOf (recount capped e) r ≡ isCopyOf e r
+unfolding isCopyOf
+capped-copy r e = refl
+
+any-capped : (r : Reception) (l : List Entry) → any (λ e. isCopyOf e r) (map (recount capped) l) ≡ any (λ e. isCopyOf e r) l
+any-capped r l = any-map (recount capped) (λ e. isCopyOf e r) l ∙ (λ i. any (λ e. capped-copy r e i) l)
+
+still-capped : {t u : ℕ} → t ≤ u → (log : List Logged) → keep (isOpen u) (map (recount capped) (openAt t log)) ≡ map (recount capped) (openAt u log)
+still-capped {t} {u} h log = keep-map (isOpen u) (recount capped) (openAt t log) ∙ ap (map (recount capped)) (still-open h log)
+
+-- of the telegrams still open, a copy is one of the last of which it is a copy
+credit-open : (r : Reception) (l : List Entry)
+    → keep (isOpen (r .time)) (credit (λ n. n + 1) (λ e. isOpen (r .time) e && isCopyOf e r) l)
+    ≡ credit (λ n. n + 1) (λ e. isCopyOf e r) (keep (isOpen (r .time)) l)
+credit-open r l =
+    keep-credit (λ n. n + 1) (λ e. isOpen (r .time) e && isCopyOf e r) (isOpen (r .time)) (λ e. refl)
+    (λ e. true) (λ e _ h. both (isOpen (r .time) e) (isCopyOf e r) h .0) l (all-of (λ e. true) l (λ e m. refl))
+    ∙ credit-and (λ n. n + 1) (isOpen (r .time)) (λ e. isCopyOf e r) l
+
 module _ (log : List Logged) (r : Reception) where
   same-answer : acceptable (modelView log) ≡ true → classify (modelView log) r ≡ answerTo log r
   unfolding classify answerTo modelView totalsOf
   same-answer ok =
       by-test (ltb (r .time) (latestOf log)) (λ e. rw (ok, behind-latest (r .time) log, e))
-      (λ e. rw (ok, behind-latest (r .time) log, e, still-open (ltb-false (r .time) (latestOf log) e) log))
+      (λ e. rw (ok, behind-latest (r .time) log, e, still-capped (ltb-false (r .time) (latestOf log) e) log, any-capped r (openAt (r .time) log), length-map (openAt (r .time) log) (recount capped)))
 
   same-view : (a : Shown) → (isAccepted a ≡ true → latestOf log ≤ r .time)
       → advance (modelView log) r a ≡ modelView (record { reception = r; answer = a } ∷ log)
   unfolding advance modelView totalsOf
-  same-view Kept h = rw (max-eq-left (h refl), keep-last (isOpen (r .time)) (keptOf log) r (open-now r), ← (still-open (h refl) log))
-  same-view Copy h = rw (max-eq-left (h refl), ← (still-open (h refl) log))
-  same-view Loose h = rw (max-eq-left (h refl), ← (still-open (h refl) log))
+  same-view Kept h =
+      rw (
+        max-eq-left (h refl),
+        still-capped (h refl) log,
+        keep-last (isOpen (r .time)) (keptOf log) (opened r) (open-now (opened r)),
+        map-append (recount capped) (openAt (r .time) log) (opened r ∷ []),
+      )
+  same-view Copy h =
+      rw (
+        max-eq-left (h refl),
+        still-capped (h refl) log,
+        credit-open r (keptOf log),
+        credit-cap (λ e. isCopyOf e r) (capped-copy r) (openAt (r .time) log),
+      )
+  same-view Loose h = rw (max-eq-left (h refl), still-capped (h refl) log)
   same-view (Refused n) h = refl
 
   -- the view after one more reception, and the step to it
@@ -84,3 +122,21 @@ module _ (log : List Logged) (r : Reception) where
 
     pub good-after : r .time < 2 ^ 64 → Good after
     good-after small = rw next-view at (good-advance (modelView log) r g small (classified (modelView log) r))
+
+-- ---- an ask
+
+counts-capped : (l : List Entry) → copiesIn (map (recount capped) l) ≡ map capped (copiesIn l)
+counts-capped [] = refl
+counts-capped (x ∷ l) = ap (λ (m : List ℕ). capped (x .copies) ∷ m) (counts-capped l)
+
+pub same-heard : (log : List Logged) (k : ℕ) → Good (modelView log) → copiesOf (modelView log) k ≡ heardBy log k
+unfolding copiesOf heardBy modelView
+same-heard log k g =
+    let l = openAt (latestOf log) log in
+    let open-length : length (map (recount capped) l) ≡ length l = length-map l (recount capped) in
+    let count-length : length (copiesIn l) ≡ length l = length-map l (λ e. e .copies) in
+    by-test (leb (length l) k)
+    (λ e. rw (good-acceptable g, open-length, count-length, e, le-ltb k (length l) (leb-true (length l) k e)))
+    (λ e.
+    let low : k < length l = leb-false (length l) k e in
+    rw (good-acceptable g, open-length, count-length, e, lt-ltb k (length l) low, counts-capped l, getD-map capped (copiesIn l) k 0 0 (omega (arith, count-length))))

@@ -6,7 +6,7 @@ use Rattle.model.specs.View.{View, fresh}
 use Rattle.model.specs.Burst.{BurstResult}
 use Rattle.model.specs.History.{Call, Seen, Delivered, run, common}
 use Rattle.model.specs.Division.{repliesIn}
-use Rattle.model.specs.States.{Shows, ended, received, saved, restored, resumed, delivered, looked, StatesAgree, StatesDivide}
+use Rattle.model.specs.States.{Shows, ended, received, saved, restored, resumed, delivered, asked, looked, StatesAgree, StatesDivide}
 use Rattle.model.proofs.Theorem.{whole-history}
 use Rattle.model.proofs.Division.{any-division}
 
@@ -18,6 +18,7 @@ module _ {State : Type 0} (view : State → View) where
   shows-run (restored e t) = rw (← e) (ap₂ _∷_ refl (shows-run t))
   shows-run (resumed e d f t) = rw (← e, ← d, ← f) (ap₂ _∷_ refl (ap₂ _∷_ refl (shows-run t)))
   shows-run (delivered {h = h} e t) = ap₂ _∷_ refl (shows-run t) ∙ ap (λ (b : BurstResult). Delivered (b .number) (b .replies) (b .next .totals) ∷ run (b .next) h) e
+  shows-run (asked e t) = rw (← e) (ap₂ _∷_ refl (shows-run t))
   shows-run (looked t) = ap₂ _∷_ refl (shows-run t)
 
   -- started fresh

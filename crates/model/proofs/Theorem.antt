@@ -19,17 +19,17 @@ use Rattle.model.specs.Step.{Outcome}
 use Rattle.model.specs.Image.{imageLength, imageOf, accepts, checkpointOf, restoreOf}
 use Rattle.model.specs.Reference.{Logged, totalsOf, answerTo, modelView, savedBy, logOf, pastAfter, repliesBy}
 use Rattle.model.specs.Burst.{Replied, maxBurst, replyWith, afterAll, repliesTo, callNumber, burstNumber, taken, BurstResult, burstOf}
-use Rattle.model.specs.History.{Call, Receive, Checkpoint, Restore, Cut, Burst, Look, Timely, IsHistory, Delivered, run, burstTaken, expected, uncut, common, WholeHistory}
+use Rattle.model.specs.History.{Call, Receive, Checkpoint, Restore, Cut, Burst, Ask, Look, Timely, IsHistory, Delivered, run, burstTaken, expected, uncut, common, WholeHistory}
 use Rattle.model.proofs.Invariant.{Good, good-acceptable, good-fresh}
-use Rattle.model.proofs.Image.{image-length, parse-image, accepts-image}
-use Rattle.model.proofs.Simulation.{same-sent, same-step, good-after}
+use Rattle.model.proofs.Image.{good-layout, image-length, parse-image, accepts-image}
+use Rattle.model.proofs.Simulation.{same-sent, same-step, good-after, same-heard}
 
 -- ---- one call at a good view
 
 -- the restore of a view's image goes on with the view
 restore-image : {v : View} → Good v → restoreOf fresh (imageOf v) ≡ record { number = 0; next = v }
 unfolding restoreOf
-restore-image {v} g = rw (good-acceptable good-fresh, accepts-image 0 v g (omega arith), parse-image 0 v g)
+restore-image {v} g = rw (good-acceptable good-fresh, accepts-image 0 v (good-layout g) (omega arith) (good-acceptable g), parse-image 0 v (good-layout g))
 
 restore-refused : {v : View} (image : List ℕ) → Good v → accepts image ≡ false → restoreOf v image ≡ record { number = numberOf NotAccepted; next = v }
 unfolding restoreOf
@@ -47,7 +47,7 @@ module _ (log : List Logged) (output : List ℕ) where
 
   -- the bytes it wrote
   front : Good (modelView log) → take imageLength (imageOf (modelView log) ++ drop imageLength output) ≡ imageOf (modelView log)
-  front g = take-at (imageOf (modelView log)) (drop imageLength output) imageLength (image-length 0 (modelView log) g)
+  front g = take-at (imageOf (modelView log)) (drop imageLength output) imageLength (image-length 0 (modelView log) (good-layout g))
 
 -- ---- receptions one by one, from the reference model's view
 
@@ -140,6 +140,7 @@ same-run past (Burst setting rs places ∷ h) g ok =
     ap (λ (b : BurstResult). Delivered (b .number) (b .replies) (b .next .totals) ∷ run (b .next) h) (same-burst setting past rs places g (ok .0))
     ∙ ap₂ _∷_ refl (same-run (pastAfter past (burstTaken setting rs places)) h
     (burst-good past (burstTaken setting rs places) g (whole-timely setting past rs places g (ok .0))) (ok .1))
+same-run past (Ask k ∷ h) g ok = rw (same-heard (logOf past) k g) (ap₂ _∷_ refl (same-run past h g ok))
 same-run past (Look ∷ h) g ok = ap₂ _∷_ refl (same-run past h g ok)
 
 -- and says the same of the uncut run
@@ -150,6 +151,7 @@ same-uncut past (Checkpoint output ∷ h) ok = ap₂ _∷_ refl (same-uncut past
 same-uncut past (Restore image ∷ h) ok = ap₂ _∷_ refl (same-uncut past h (ok .1))
 same-uncut past (Cut output ∷ h) ok = rw (saved (logOf past) output (ok .0)) (ap₂ _∷_ refl (ap₂ _∷_ refl (same-uncut past h (ok .1))))
 same-uncut past (Burst setting rs places ∷ h) ok = ap₂ _∷_ refl (same-uncut (pastAfter past (burstTaken setting rs places)) h (ok .1))
+same-uncut past (Ask k ∷ h) ok = ap₂ _∷_ refl (same-uncut past h ok)
 same-uncut past (Look ∷ h) ok = ap₂ _∷_ refl (same-uncut past h ok)
 
 uncut-history : (h : List Call) → IsHistory h → IsHistory (uncut h)
@@ -159,6 +161,7 @@ uncut-history (Checkpoint output ∷ h) ok = uncut-history h ok
 uncut-history (Restore image ∷ h) ok = uncut-history h (ok .1)
 uncut-history (Cut output ∷ h) ok = uncut-history h (ok .1)
 uncut-history (Burst setting rs places ∷ h) ok = (ok .0, uncut-history h (ok .1))
+uncut-history (Ask k ∷ h) ok = uncut-history h ok
 uncut-history (Look ∷ h) ok = uncut-history h ok
 
 fresh-model : fresh ≡ modelView []

@@ -8,23 +8,23 @@ use Rattle.erp1.specs.Subtelegram.{isValid}
 use Rattle.erp1.specs.Same.{isSame}
 use Rattle.telegram.specs.Repeater.{levelOf}
 use Rattle.model.specs.declared.Totals.{Totals}
-use Rattle.model.specs.View.{Reception, View, txMaturity, capacity, isOpen}
+use Rattle.model.specs.View.{Reception, Entry, View, openedBy, txMaturity, capacity, isOpen}
 
 -- r is no original that came when the sender of e was finished (document 02, A6: "a valid level 0 reception more than 40 ms after the opening")
-abbrev pub isEcho : Reception → Reception → Bool
+abbrev pub isEcho : Entry → Reception → Bool
 isEcho e r = not (eqb (levelOf (r .bytes)) 0) || leb (r .time - e .time) txMaturity
 
 -- while the telegram that e opened is open, r is a copy of it: the same telegram, and an echo
-unfoldable pub isCopyOf : Reception → Reception → Bool
+unfoldable pub isCopyOf : Entry → Reception → Bool
 isCopyOf e r = isSame (e .bytes) (r .bytes) && isEcho e r
 
 -- "entries are valid, .. open at the latest time, none later than it"
-abbrev pub isEntry : ℕ → Reception → Bool
+abbrev pub isEntry : ℕ → Entry → Bool
 isEntry latest e = isValid (e .bytes) && (leb (e .time) latest && isOpen latest e)
 
 -- "in order of time (equal times allowed)", "no two the same telegram"
-abbrev pub mayFollow : Reception → Reception → Bool
-mayFollow e later = leb (e .time) (later .time) && not (isCopyOf e later)
+abbrev pub mayFollow : Entry → Entry → Bool
+mayFollow e later = leb (e .time) (later .time) && not (isCopyOf e (openedBy later))
 
 -- "received equals the other five summed without wrapping"
 abbrev pub isSummed : Totals → Bool

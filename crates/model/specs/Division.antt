@@ -6,7 +6,7 @@ use mathlib.Core.List.{List, [], _∷_, _++_, map}
 use lib.ListN.{length, take, drop}
 use Rattle.model.specs.View.{Reception, fresh}
 use Rattle.model.specs.Burst.{Replied}
-use Rattle.model.specs.History.{Call, Receive, Checkpoint, Restore, Cut, Burst, Look, IsHistory, Seen, Answered, Wrote, Restored, Delivered, Looked, run, burstTaken}
+use Rattle.model.specs.History.{Call, Receive, Checkpoint, Restore, Cut, Burst, Ask, Look, IsHistory, Seen, Answered, Wrote, Restored, Delivered, Heard, Looked, run, burstTaken}
 
 -- a reception, and the setting that its call named
 pub record Given : Type 0 where
@@ -23,6 +23,7 @@ standsFor (Checkpoint output) = []
 standsFor (Restore image) = []
 standsFor (Cut output) = []
 standsFor (Burst setting rs places) = map (givenAt setting) (burstTaken setting rs places)
+standsFor (Ask k) = []
 standsFor Look = []
 
 abbrev pub receptionsOf : List Call → List Given
@@ -36,6 +37,7 @@ seens (Checkpoint output) = 1
 seens (Restore image) = 1
 seens (Cut output) = 2
 seens (Burst setting rs places) = 1
+seens (Ask k) = 1
 seens Look = 1
 
 -- the replies in what is seen of a call that stands for k receptions: a burst shows places past them too
@@ -45,6 +47,7 @@ repliesFrom k (Answered a sent n ∷ l) = record { answer = a; sent = sent } ∷
 repliesFrom k (Wrote number output n ∷ l) = repliesFrom k l
 repliesFrom k (Restored number n ∷ l) = repliesFrom k l
 repliesFrom k (Delivered number replies n ∷ l) = take k replies ++ repliesFrom k l
+repliesFrom k (Heard number copies n ∷ l) = repliesFrom k l
 repliesFrom k (Looked n ∷ l) = repliesFrom k l
 
 -- the replies in what is seen of a list of calls

@@ -16,7 +16,8 @@ use Rattle.model.specs.View.{Reception, View, fresh}
 use Rattle.model.specs.Step.{step, sentFor}
 use Rattle.model.specs.Image.{imageLength, accepts, checkpointOf, restoreOf}
 use Rattle.model.specs.Burst.{Replied, maxBurst, callNumber, burstOf}
-use Rattle.model.specs.Reference.{totalsOf, answerTo, sentWith, logOf, savedBy, pastAfter, repliesBy}
+use Rattle.model.specs.Heard.{copiesOf}
+use Rattle.model.specs.Reference.{totalsOf, answerTo, sentWith, logOf, savedBy, heardBy, pastAfter, repliesBy}
 
 -- "A history is a list of calls: receptions taken, parkings into any room, and reloads."
 pub data Call : Type 0 where
@@ -30,6 +31,8 @@ pub data Call : Type 0 where
   Cut : List ℕ → Call
   -- a burst of these receptions at the caller's setting, with a second list that holds these replies (document 02, A1)
   Burst : ℕ → List Reception → List Replied → Call
+  -- the copies of the open telegram with this index are asked for (document 02, A8)
+  Ask : ℕ → Call
   -- nothing is called, and the totals are read
   Look : Call
 
@@ -46,6 +49,7 @@ IsHistory (Checkpoint output ∷ h) = IsHistory h
 IsHistory (Restore image ∷ h) = (accepts image ≡ false) × IsHistory h
 IsHistory (Cut output ∷ h) = (imageLength ≤ length output) × IsHistory h
 IsHistory (Burst setting rs places ∷ h) = Timely rs × IsHistory h
+IsHistory (Ask k ∷ h) = IsHistory h
 IsHistory (Look ∷ h) = IsHistory h
 
 -- what is seen of a call, and "the six totals after every call"
@@ -58,6 +62,8 @@ pub data Seen : Type 0 where
   Restored : ℕ → Totals → Seen
   -- the number of a burst, and every place of its second list
   Delivered : ℕ → List Replied → Totals → Seen
+  -- the number of an ask, and the copies
+  Heard : ℕ → ℕ → Totals → Seen
   Looked : Totals → Seen
 
 -- what the collector shows: "each call gets the state that the one before returned, save the reload of a cut, which gets a fresh one"
@@ -79,6 +85,9 @@ run v (Cut output ∷ h) =
 run v (Burst setting rs places ∷ h) =
     let b = burstOf setting v rs places in
     Delivered (b .number) (b .replies) (b .next .totals) ∷ run (b .next) h
+run v (Ask k ∷ h) =
+    let a = copiesOf v k in
+    Heard (a .number) (a .copies) (v .totals) ∷ run v h
 run v (Look ∷ h) = Looked (v .totals) ∷ run v h
 
 -- the receptions that a burst stands for, to the reference model: all of them, if each has a place, they are at most 256, and its setting is at
@@ -103,6 +112,9 @@ expected past (Burst setting rs places ∷ h) =
     let t = burstTaken setting rs places in
     Delivered (callNumber setting (length rs) (length places)) (repliesBy setting past t ++ drop (length t) places) (totalsOf (logOf (pastAfter past t)))
     ∷ expected (pastAfter past t) h
+expected past (Ask k ∷ h) =
+    let a = heardBy (logOf past) k in
+    Heard (a .number) (a .copies) (totalsOf (logOf past)) ∷ expected past h
 expected past (Look ∷ h) = Looked (totalsOf (logOf past)) ∷ expected past h
 
 -- "The uncut run is the same list without the reloads"; where one stood, the totals are read
@@ -113,6 +125,7 @@ uncut (Checkpoint output ∷ h) = Checkpoint output ∷ uncut h
 uncut (Restore image ∷ h) = Look ∷ uncut h
 uncut (Cut output ∷ h) = Checkpoint output ∷ Look ∷ uncut h
 uncut (Burst setting rs places ∷ h) = Burst setting rs places ∷ uncut h
+uncut (Ask k ∷ h) = Ask k ∷ uncut h
 uncut (Look ∷ h) = Look ∷ uncut h
 
 -- what is seen, but for the restores' own numbers
@@ -122,6 +135,7 @@ common (Answered a sent n ∷ l) = Answered a sent n ∷ common l
 common (Wrote number output n ∷ l) = Wrote number output n ∷ common l
 common (Restored number n ∷ l) = Looked n ∷ common l
 common (Delivered number replies n ∷ l) = Delivered number replies n ∷ common l
+common (Heard number copies n ∷ l) = Heard number copies n ∷ common l
 common (Looked n ∷ l) = Looked n ∷ common l
 
 -- all that is seen in a history "equals the clerk's after the receptions up to there, and the uncut run's"

@@ -9,11 +9,11 @@ use Rattle.refusal.specs.Number.{numberOf}
 use Rattle.refusal.specs.declared.Refusal.the-variants.{ShortOutput, NotAccepted}
 use Rattle.telegram.specs.Repeater.{maxSetting}
 use Rattle.layout.specs.Buffer.{part}
-use Rattle.layout.specs.Cell.{cellOf, cellTime, cellBytes}
+use Rattle.layout.specs.Cell.{cellOf, cellTime, cellBytes, cellLast}
 use Rattle.layout.specs.Header.{headerOf, headerUsed, headerFirst, headerSecond}
 use Rattle.layout.specs.Block.{cellsPerBlock, blockLength, blockOf, blockHeader, blockCell}
 use Rattle.model.specs.declared.Totals.{Totals}
-use Rattle.model.specs.View.{Reception, View}
+use Rattle.model.specs.View.{Entry, View}
 use Rattle.model.specs.Acceptable.{acceptable}
 
 -- ---- writing
@@ -22,12 +22,12 @@ use Rattle.model.specs.Acceptable.{acceptable}
 abbrev pub imageLength : ℕ
 imageLength = 2560
 
--- the last two bytes of an entry are zero
-abbrev pub entryCell : Reception → List ℕ
-entryCell e = cellOf (e .time) (e .bytes) 0
+-- "The last two bytes of a parked entry hold" the number of copies (document 02, A8)
+abbrev pub entryCell : Entry → List ℕ
+entryCell e = cellOf (e .time) (e .bytes) (e .copies)
 
 -- "in opening order, each block filled before the next": the entries of block k
-abbrev pub entriesOf : ℕ → View → List Reception
+abbrev pub entriesOf : ℕ → View → List Entry
 entriesOf k v = part (cellsPerBlock * k) cellsPerBlock (v .entries)
 
 -- block k, with its two numbers
@@ -75,11 +75,12 @@ settingIn image = secondIn 3 image
 abbrev pub countIn : List ℕ → ℕ
 countIn image = usedIn 0 image + usedIn 1 image + usedIn 2 image + usedIn 3 image + usedIn 4 image
 
-abbrev pub cellEntry : List ℕ → Reception
-cellEntry cell = record { bytes = cellBytes cell; time = cellTime cell }
+-- "any value there accepted"
+abbrev pub cellEntry : List ℕ → Entry
+cellEntry cell = record { bytes = cellBytes cell; time = cellTime cell; copies = cellLast cell }
 
 -- entry i, counted over all blocks
-unfoldable pub entryIn : List ℕ → ℕ → Reception
+unfoldable pub entryIn : List ℕ → ℕ → Entry
 entryIn image i = cellEntry (blockCell (i % cellsPerBlock) (blockIn (i / cellsPerBlock) image))
 
 unfoldable pub totalsIn : List ℕ → Totals

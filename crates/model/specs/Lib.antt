@@ -5,8 +5,10 @@ pub mod Step
 pub mod Image
 pub mod Exact
 pub mod Burst
+pub mod Heard
 pub mod Reference
 pub mod History
 pub mod Division
 pub mod States
 pub mod Latest
+pub mod Copies

@@ -1,11 +1,11 @@
 -- The reference model, document 01's clerk ("One history, and the clerk who writes it down"): it is fed the
 -- receptions in order, and nothing else, and keeps them all, each with the answer that it gave. Receptions and log are newest first.
 -- Assumes nothing.
-use Prim.Native.Nat.{ℕ, max}
+use Prim.Native.Nat.{ℕ, _+_, max}
 use mathlib.Core.Bool.{Bool, cond, not, _&&_}
-use mathlib.Core.List.{List, [], _∷_, _++_}
+use mathlib.Core.List.{List, [], _∷_, _++_, map}
 use lib.Dec.{leb, ltb}
-use lib.ListN.{length, drop}
+use lib.ListN.{length, drop, getD}
 use Rattle.lists.specs.Lists.{keep, any, count}
 use Rattle.refusal.specs.Number.{numberOf}
 use Rattle.refusal.specs.declared.Refusal.the-variants as refusal
@@ -15,10 +15,11 @@ use Rattle.telegram.specs.Frame.{frameOf}
 use Rattle.telegram.specs.Repeater.{repeatOf}
 use Rattle.model.specs.declared.Totals.{Totals}
 use Rattle.model.specs.Answer.{Shown, Kept, Copy, Loose, Refused, isKept, isCopy, isLoose, isDamaged, isLate, isReceived, isAccepted}
-use Rattle.model.specs.View.{Reception, View, capacity, isOpen}
+use Rattle.model.specs.View.{Reception, Entry, View, opened, recount, capacity, capped, isOpen}
 use Rattle.model.specs.Acceptable.{isCopyOf}
-use Rattle.model.specs.Step.{addIf, maxCount}
+use Rattle.model.specs.Step.{maxCount, credit}
 use Rattle.model.specs.Burst.{Replied}
+use Rattle.model.specs.Heard.{HeardResult, copiesIn}
 use Rattle.model.specs.Image.{CheckpointResult, imageLength, imageOf}
 
 pub record Logged : Type 0 where
@@ -40,13 +41,21 @@ totalsOf log = record {
   late = answers isLate log;
 }
 
--- the receptions answered Kept, in the order handed over
-abbrev pub keptOf : List Logged → List Reception
+-- of the telegrams opened so far, each with the number of Copy answers for it, what they are after one more answer: a Copy is one of the last that
+-- is open and of which it is a copy (document 02, A8: "the number of his own COPY answers for that opening")
+abbrev pub keptAfter : List Entry → Reception → Shown → List Entry
+keptAfter l r Kept = l ++ (opened r ∷ [])
+keptAfter l r Copy = credit (λ n. n + 1) (λ e. isOpen (r .time) e && isCopyOf e r) l
+keptAfter l r Loose = l
+keptAfter l r (Refused n) = l
+
+-- the receptions answered Kept, in the order handed over, with these numbers
+abbrev pub keptOf : List Logged → List Entry
 keptOf [] = []
-keptOf (e ∷ log) = addIf (isKept (e .answer)) (e .reception) (keptOf log)
+keptOf (e ∷ log) = keptAfter (keptOf log) (e .reception) (e .answer)
 
 -- of these, the ones with t - f <= 100
-abbrev pub openAt : ℕ → List Logged → List Reception
+abbrev pub openAt : ℕ → List Logged → List Entry
 openAt t log = keep (isOpen t) (keptOf log)
 
 -- "one before it that he answered KEPT, COPY or LOOSE has a time above t"
@@ -80,9 +89,16 @@ abbrev pub latestOf : List Logged → ℕ
 latestOf [] = 0
 latestOf (e ∷ log) = cond (isAccepted (e .answer)) (max (e .reception .time) (latestOf log)) (latestOf log)
 
--- what stands in his image: "those he answered KEPT with latest - f <= 100, in the order handed over"
+-- what stands in his image: "those he answered KEPT with latest - f <= 100, in the order handed over", the numbers "to the same ceiling"
 unfoldable pub modelView : List Logged → View
-modelView log = record { latest = latestOf log; totals = totalsOf log; entries = openAt (latestOf log) log }
+modelView log = record { latest = latestOf log; totals = totalsOf log; entries = map (recount capped) (openAt (latestOf log) log) }
+
+-- what he says of the copies of telegram k of those open at the latest time, in the order handed over; 10 where there is none
+unfoldable pub heardBy : List Logged → ℕ → HeardResult
+heardBy log k =
+    let counts = copiesIn (openAt (latestOf log) log) in
+    cond (ltb k (length counts)) (record { number = 0; copies = capped (getD counts k 0) })
+    (record { number = numberOf refusal.Argument; copies = 0 })
 
 -- what he says of a parking into an output: 6 if it is too short, else his image in front of what stood past it
 unfoldable pub savedBy : List Logged → List ℕ → CheckpointResult

@@ -10,7 +10,8 @@ use Rattle.model.specs.View.{Reception, View, fresh}
 use Rattle.model.specs.Step.{step, sentFor}
 use Rattle.model.specs.Image.{imageLength, checkpointOf, restoreOf}
 use Rattle.model.specs.Burst.{Replied, burstOf}
-use Rattle.model.specs.History.{Call, Receive, Checkpoint, Restore, Cut, Burst, Look, IsHistory, Seen, Answered, Wrote, Restored, Delivered, Looked, expected, uncut, common}
+use Rattle.model.specs.Heard.{copiesOf}
+use Rattle.model.specs.History.{Call, Receive, Checkpoint, Restore, Cut, Burst, Ask, Look, IsHistory, Seen, Answered, Wrote, Restored, Delivered, Heard, Looked, expected, uncut, common}
 use Rattle.model.specs.Division.{receptionsOf, repliesIn}
 
 module _ {State : Type 0} (view : State → View) where
@@ -37,6 +38,9 @@ module _ {State : Type 0} (view : State → View) where
     delivered : {c c′ : State} {setting : ℕ} {rs : List Reception} {places after : List Replied} {n : ℕ} {h : List Call} {l : List Seen}
         → record { number = n; replies = after; next = view c′ } ≡ burstOf setting (view c) rs places
         → Shows c′ h l → Shows c (Burst setting rs places ∷ h) (Delivered n after (view c′ .totals) ∷ l)
+    asked : {c : State} {k n copies : ℕ} {h : List Call} {l : List Seen}
+        → record { number = n; copies = copies } ≡ copiesOf (view c) k
+        → Shows c h l → Shows c (Ask k ∷ h) (Heard n copies (view c .totals) ∷ l)
     looked : {c : State} {h : List Call} {l : List Seen} → Shows c h l → Shows c (Look ∷ h) (Looked (view c .totals) ∷ l)
 
   -- what states show that started fresh is what the reference model says, and what states show in the uncut run

@@ -1,4 +1,5 @@
--- One reception (document 01, "Merging"): the answer, the next state, and the telegram to send (document 02, A7: that is a call of its own).
+-- One reception (document 01, "Merging"): the answer, the next state with its counts of copies (document 02, A8), and the telegram to send (A7: a
+-- call of its own).
 -- Assumes nothing.
 use Prim.Native.Nat.{ℕ, _+_, _-_, _^_}
 use mathlib.Core.Bool.{Bool, cond, not}
@@ -14,7 +15,7 @@ use Rattle.telegram.specs.Frame.{frameOf}
 use Rattle.telegram.specs.Repeater.{repeatOf}
 use Rattle.model.specs.declared.Totals.{Totals}
 use Rattle.model.specs.Answer.{Shown, Kept, Copy, Loose, Refused, isKept, isCopy, isLoose, isDamaged, isLate, isReceived, isAccepted}
-use Rattle.model.specs.View.{Reception, View, capacity, stillOpen}
+use Rattle.model.specs.View.{Reception, Entry, View, opened, recount, capacity, capped, stillOpen}
 use Rattle.model.specs.Acceptable.{isCopyOf, acceptable}
 
 -- "received is 2^64 - 1": the most that a total holds
@@ -55,16 +56,25 @@ tally a n = record {
   late = plusIf (isLate a) (n .late);
 }
 
--- x at the end, where a test passes
-abbrev pub addIf : {A : Type 0} → Bool → A → List A → List A
-addIf b x l = cond b (l ++ (x ∷ [])) l
+-- its number of copies changed by `more`, for the last entry that passes a test
+abbrev pub credit : (ℕ → ℕ) → (Entry → Bool) → List Entry → List Entry
+credit more q [] = []
+credit more q (e ∷ l) = cond (any q l) (e ∷ credit more q l) (cond (q e) (recount more e ∷ l) (e ∷ l))
 
--- the next state: an accepted reception sets the latest time, at which closed telegrams go, and one that is Kept opens a telegram
+-- the entries after an answer: closed telegrams go at an accepted reception, one that is Kept opens a telegram, and "Every COPY .. belongs to the
+-- latest opening" (document 02, A6)
+abbrev pub entriesAfter : View → Reception → Shown → List Entry
+entriesAfter v r Kept = stillOpen (r .time) v ++ (opened r ∷ [])
+entriesAfter v r Copy = credit (λ n. capped (n + 1)) (λ e. isCopyOf e r) (stillOpen (r .time) v)
+entriesAfter v r Loose = stillOpen (r .time) v
+entriesAfter v r (Refused n) = v .entries
+
+-- the next state; an accepted reception sets the latest time
 unfoldable pub advance : View → Reception → Shown → View
 advance v r a = record {
   latest = cond (isAccepted a) (r .time) (v .latest);
   totals = tally a (v .totals);
-  entries = cond (isAccepted a) (addIf (isKept a) r (stillOpen (r .time) v)) (v .entries);
+  entries = entriesAfter v r a;
 }
 
 pub record Outcome : Type 0 where

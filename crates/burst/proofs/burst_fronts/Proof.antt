@@ -50,13 +50,11 @@ use denote.Exit.{yes}
 use borrow.Table.Elements.{at}
 use borrow.Rule.Array.Share.{room-take}
 use Rattle.collector.specs.declared.Collector.{Collector}
-use Rattle.collector.specs.Collector.{viewOf}
 use Rattle.burst.specs.declared.Reception.{Reception}
 use Rattle.burst.specs.declared.Reply.{Reply}
 use Rattle.burst.specs.declared.Bursted.{Bursted}
 use Rattle.burst.specs.declared.Within.{Within}
-use Rattle.model.specs.Burst.{burstOf}
-use Rattle.burst.specs.Records.{receptionOf, repliedOf, burstedOf, listed, WithinOf}
+use Rattle.burst.specs.Records.{Bursts, listed, WithinOf}
 use Rattle.collector.proofs.Collector as C
 use Rattle.collector.proofs.Collector.Laws as C′
 use Rattle.burst.proofs.Reception as R
@@ -201,7 +199,7 @@ module _ {M : Type 1} (𝓤 : URA M) (H : Heap 𝓤) (A : Atoms 𝓤) (W : Given
 
   -- what `burst` says
   abbrev Says : Bursted → List Reply → Type 0
-  Says r zs = burstedOf r zs ≡ burstOf setting (viewOf c) (map receptionOf front-r) (map repliedOf front-y)
+  Says r zs = Bursts c setting front-r front-y r zs
 
   module _ (ν ν′ l₇ l₈ : ℕ) (γ γ′ : GName) where
     abbrev κ : Lft

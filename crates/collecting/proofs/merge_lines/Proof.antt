@@ -11,6 +11,7 @@ use lib.ListN.{length, take, drop, length-take, length-drop}
 use lib.Seq.{length-take-le}
 use Rattle.bytes.specs.Bytes.{indexOf}
 use Rattle.model.specs.Step.{Outcome}
+use Rattle.collector.specs.Collector.{columns}
 use Rattle.collector.specs.Admission.{viewIn, admittedOf, Tested}
 use Rattle.collector.proofs.Stepping.{admission-fit, tested-next}
 use Rattle.line_input.specs.Ascii.{newline}
@@ -35,9 +36,9 @@ Inv-loop fit setting times₀ lens₀ entries₀ input out₀ summary₀ bytes�
     × (to ≤ length out)
     × (length out ≡ length out₀)
     × (to ≤ longestLine * at)
-    × Tested fit (viewIn times lens entries summary)
-    × Fed (collect merging) (running (record { setting = setting; view = viewIn times₀ lens₀ entries₀ summary₀ })) (take at input) out₀
-    (running (record { setting = setting; view = viewIn times lens entries summary })) out to
+    × Tested fit (viewIn (columns times lens entries) summary)
+    × Fed (collect merging) (running (record { setting = setting; view = viewIn (columns times₀ lens₀ entries₀) summary₀ })) (take at input) out₀
+    (running (record { setting = setting; view = viewIn (columns times lens entries) summary })) out to
 
 abbrev μ-loop : tie.MeasureT-loop
 μ-loop fit setting times₀ lens₀ entries₀ input out₀ summary₀ bytes₀ at₀ to₀ times lens entries out summary bytes at to = length input - at
@@ -205,7 +206,7 @@ loop-again-2 c =
       omega (arith, w .short, l .loop .inv .3, ended (passed i) .1),
       rw (← o) at (tested-next _ (record { bytes = bytes i; time = parsed i .parse .result .time }) (l .loop .inv .4) small),
       reception-line (input l) (l .loop .at) (parsed i .parse .result .used) (l .loop .inv .5) (ended (passed i)) (l .loop .inv .0) (omega (arith, w .short, same, spare-out, l .loop .inv .2))
-          (admittedOf (a .admit .last .1 .0) (a .admit .last .1 .1 .0) (a .admit .last .1 .1 .1 .0) (a .admit .result)) (says i) o (time g)
+          (admittedOf (columns (a .admit .last .1 .0) (a .admit .last .1 .1 .0) (a .admit .last .1 .1 .1 .0)) (a .admit .result)) (says i) o (time g)
           (relayed-bytes _ _ _ (record { bytes = bytes i; time = parsed i .parse .result .time }) _ (ap (λ (x : Outcome). x .answer) (rw z at (a .admit .ensures)))) w,
     )
 

@@ -18,7 +18,7 @@ start c = c .before .before .before .before .before .before .before
 -- what the state's test says of it
 tested : (c : tie.After-is-acceptable) → c .is-acceptable .result ≡ acceptable (viewOf (start c .args .t1))
 unfolding viewOf
-tested c = c .is-acceptable .ensures
+tested c = c .is-acceptable .ensures _
 
 passed : (c : tie.Else1) → acceptable (viewOf (start (c .before) .args .t1)) ≡ true
 passed c = sym (tested (c .before)) ∙ not-false _ (c .if1 .left)
@@ -29,12 +29,12 @@ returns c = checkpoint-unacceptable _ (sym (tested (c .before)) ∙ not-true _ (
 returns-2 : tie.Need-returns-2
 returns-2 c = checkpoint-short _ (passed (c .before)) _ (c .if2 .taken)
 
-abbrev room : tie.After-put-image-arg5 → tie.Else2
-room c = c .before .before .before .before .before .before
+abbrev room : tie.After-put-image-arg6 → tie.Else2
+room c = c .before .before .before .before .before .before .before
 
 put-image-requires : tie.Need-put-image-requires
 unfolding viewOf
-put-image-requires c κs = (room c .if2 .left, writable-state _ _ _ _ _ _ (passed (room c .before)))
+put-image-requires c κs = (room c .if2 .left, writable-state _ _ _ _ (passed (room c .before)))
 
 returns-3 : tie.Need-returns-3
 unfolding viewOf

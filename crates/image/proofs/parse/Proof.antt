@@ -10,14 +10,14 @@ use Rattle.image.proofs.parse.Tie as tie
 
 read-entries-requires : tie.Need-read-entries-requires
 read-entries-requires c κs =
-    let n = c .before .before .before in
-    (refl, refl, refl, n .before .before .pre .0, rw (n .count-in .ensures) (n .before .before .pre .1))
+    let n = c .before .before .before .before in
+    (refl, refl, refl, refl, n .before .before .pre .0, rw (n .count-in .ensures) (n .before .before .pre .1))
 
 returns : tie.Need-returns
 unfolding viewOf parse
 returns c =
-    let read = c .before .before .before .before .before in
-    let n = read .before .before .before .before in
+    let read = c .before .before .before .before .before .before in
+    let n = read .before .before .before .before .before in
     λ i. record {
       latest = c .before .first-in .ensures i;
       totals = c .totals-in .ensures i;
@@ -29,6 +29,7 @@ parse-spec =
     tie.close
     (tie.spec
     (λ c κs. search needs)
+    (λ c. search needs)
     (λ c. search needs)
     (λ c. search needs)
     (λ c. search needs)

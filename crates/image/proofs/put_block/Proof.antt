@@ -13,6 +13,7 @@ use Rattle.layout.proofs.Buffer.{overwritten-fits}
 use Rattle.layout.proofs.Header.{header-length}
 use Rattle.layout.proofs.Block.{seal-written}
 use Rattle.model.specs.Image.{entryCell}
+use Rattle.collector.specs.Collector.{Columns, columns}
 use Rattle.image.specs.Checkpoint.{entriesFrom}
 use Rattle.image.proofs.Writing.{writable-part, block-written}
 use Rattle.image.proofs.put_block.Statement.{statement}
@@ -20,6 +21,9 @@ use Rattle.image.proofs.put_block.Tie as tie
 
 abbrev start : tie.After-used-from → tie.Start
 start c = c .before .before
+
+abbrev table : tie.Start → Columns
+table s = columns (now (s .args .times)) (now (s .args .lens)) (now (s .args .bytes)) (now (s .args .copies))
 
 put-cells-requires : tie.Need-put-cells-requires
 put-cells-requires c κs =
@@ -52,9 +56,9 @@ returns c =
     let a = s .args in
     let used = u .used-from .result in
     sealed .seal .ensures
-    ∙ seal-written (headerOf (a .k) used (a .a) (a .b)) (map entryCell (entriesFrom (now (a .times)) (now (a .lens)) (now (a .bytes)) (cellsPerBlock * a .k) used))
+    ∙ seal-written (headerOf (a .k) used (a .a) (a .b)) (map entryCell (entriesFrom (table s) (cellsPerBlock * a .k) used))
     (header-length (a .k) used (a .a) (a .b)) (filled put .begun) (s .pre .0)
-    ∙ block-written (now (a .times)) (now (a .lens)) (now (a .bytes)) (a .k) (a .a) (a .b) (a .count) used (u .used-from .ensures)
+    ∙ block-written (table s) (a .k) (a .a) (a .b) (a .count) used (u .used-from .ensures)
 
 pub put-block-spec : {M : Type 1} → statement M
 put-block-spec =

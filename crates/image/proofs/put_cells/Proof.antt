@@ -15,24 +15,25 @@ use Rattle.layout.proofs.Buffer.{resized-length}
 use Rattle.layout.proofs.Cell.{put-fits}
 use Rattle.model.specs.Image.{entryCell}
 use Rattle.image.specs.Checkpoint.{cellsLength, entriesFrom}
+use Rattle.collector.specs.Collector.{Columns, columns}
 use Rattle.collector.proofs.Arrays.{bytes-shown}
 use Rattle.image.proofs.Writing.{entries-length, cell-read}
 use Rattle.image.proofs.put_cells.Statement.{statement}
 use Rattle.image.proofs.put_cells.Tie as tie
 
-cells : List ℕ → List ℕ → List ℕ → ℕ → ℕ → List (List ℕ)
-cells times lens bytes first used = map entryCell (entriesFrom times lens bytes first used)
+cells : Columns → ℕ → ℕ → List (List ℕ)
+cells a first used = map entryCell (entriesFrom a first used)
 
-cells-length : (times lens bytes : List ℕ) (first used : ℕ) → length (cells times lens bytes first used) ≡ used
+cells-length : (a : Columns) (first used : ℕ) → length (cells a first used) ≡ used
 unfolding cells
-cells-length times lens bytes first used = length-map (entriesFrom times lens bytes first used) entryCell ∙ entries-length times lens bytes first used
+cells-length a first used = length-map (entriesFrom a first used) entryCell ∙ entries-length a first used
 
 abbrev Inv-loop : tie.InvT-loop
-Inv-loop out₀ times lens bytes first used i₀ out i =
-    (i ≤ used) × Begun out₀ (flatten (take i (cells times lens bytes first used))) (cellLength * i) out
+Inv-loop out₀ times lens bytes copies first used i₀ out i =
+    (i ≤ used) × Begun out₀ (flatten (take i (cells (columns times lens bytes copies) first used))) (cellLength * i) out
 
 abbrev μ-loop : tie.MeasureT-loop
-μ-loop out₀ times lens bytes first used i₀ out i = used - i
+μ-loop out₀ times lens bytes copies first used i₀ out i = used - i
 
 loop-holds : tie.Need-loop-holds Inv-loop μ-loop
 unfolding flatten
@@ -52,26 +53,27 @@ loop-again : tie.Need-loop-again Inv-loop μ-loop
 unfolding cells
 loop-again c =
     let put = c .before .before in
-    let seen = put .before .before .before .before in
+    let seen = put .before .before .before .before .before in
     let at = turn-of seen in
     let a = start seen .args in
     let e = a .first + at .loop .i in
     let time = getD (now (a .times)) e 0 in
     let len = getD (now (a .lens)) e 0 in
+    let count = getD (now (a .copies)) e 0 in
     let shown = part (maxLength * e) (maxLength * e + len - maxLength * e) (now (a .bytes)) in
     let is = bytes-shown (now (a .bytes)) e len (short seen) (omega arith) in
     let l : length shown ≤ maxLength = rw (is, resized-length) (short seen) in
     let w =
-    put .put-cell .ensures ∙ put-fits time shown 0 _ l (lent (at .loop .inv .1) cellLength _ refl (omega arith))
-    ∙ ap (λ (b : List ℕ). cellOf time b 0) is
-    ∙ sym (cell-read (now (a .times)) (now (a .lens)) (now (a .bytes)) (a .first) (a .used) (at .loop .i) (omega arith)) in
+    put .put-cell .ensures ∙ put-fits time shown count _ l (lent (at .loop .inv .1) cellLength _ refl (omega arith))
+    ∙ ap (λ (b : List ℕ). cellOf time b count) is
+    ∙ sym (cell-read (columns (now (a .times)) (now (a .lens)) (now (a .bytes)) (now (a .copies))) (a .first) (a .used) (at .loop .i) (omega arith)) in
     (omega arith, turn _ _ cellLength (at .loop .i) _ _ (at .loop .inv .1) (rw cells-length (omega arith)) w (put .put-cell .kept .0) (omega arith))
 
 -- what is written, after the clearing
 abbrev all : tie.After-clear Inv-loop μ-loop → Writing cellsLength
 all c =
     let at = c .before .before .before in
-    packed (wipe (turned _ _ cellLength _ (at .loop .i) _ (at .loop .inv .1) (omega arith) (cells-length _ _ _ _ _)) _ cellsLength (c .clear .ensures) (c .clear .kept .0) (omega arith) (omega arith))
+    packed (wipe (turned _ _ cellLength _ (at .loop .i) _ (at .loop .inv .1) (omega arith) (cells-length _ _ _)) _ cellsLength (c .clear .ensures) (c .clear .kept .0) (omega arith) (omega arith))
 
 returns : tie.Need-returns Inv-loop μ-loop
 unfolding cells
@@ -100,6 +102,8 @@ put-cells-spec =
     (λ c. omega (arith, short (c .before .before)))
     (λ c. omega (arith, short (c .before .before)))
     (λ c. omega (arith, short (c .before .before)))
+    (λ c. omega arith)
+    (λ c. omega arith)
     (λ c κs. search needs)
     (λ c. omega arith)
     (λ c. omega arith)

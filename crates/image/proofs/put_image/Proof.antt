@@ -8,15 +8,15 @@ use lib.ListN.{length, getD, take, drop}
 use Rattle.layout.specs.Buffer.{part}
 use Rattle.layout.specs.Block.{blockLength}
 use Rattle.layout.proofs.Segments.{Begun, begin, begun-length, within, lent, turn, turned}
-use Rattle.model.specs.View.{Reception}
+use Rattle.model.specs.View.{Entry}
 use Rattle.model.specs.Image.{blockAt, imageWith}
-use Rattle.collector.specs.Collector.{entriesAt}
+use Rattle.collector.specs.Collector.{columns, entriesAt}
 use Rattle.image.specs.Checkpoint.{blockWith}
 use Rattle.image.proofs.put_image.Statement.{statement}
 use Rattle.image.proofs.put_image.Tie as tie
 
 -- the blocks, by their two columns of numbers
-blocks : List ℕ → List ℕ → List Reception → List (List ℕ)
+blocks : List ℕ → List ℕ → List Entry → List (List ℕ)
 blocks firsts seconds l =
     blockWith 0 (getD firsts 0 0) (getD seconds 0 0) l
     ∷ blockWith 1 (getD firsts 1 0) (getD seconds 1 0) l
@@ -25,7 +25,7 @@ blocks firsts seconds l =
     ∷ blockWith 4 (getD firsts 4 0) (getD seconds 4 0) l
     ∷ []
 
-block-of : (firsts seconds : List ℕ) (l : List Reception) (k : ℕ) → k < 5 → blockWith k (getD firsts k 0) (getD seconds k 0) l ≡ getD (blocks firsts seconds l) k []
+block-of : (firsts seconds : List ℕ) (l : List Entry) (k : ℕ) → k < 5 → blockWith k (getD firsts k 0) (getD seconds k 0) l ≡ getD (blocks firsts seconds l) k []
 unfolding blocks
 block-of firsts seconds l zero h = refl
 block-of firsts seconds l (suc zero) h = refl
@@ -35,7 +35,7 @@ block-of firsts seconds l (suc (suc (suc (suc zero)))) h = refl
 block-of firsts seconds l (suc (suc (suc (suc (suc k))))) h = absurd (omega arith)
 
 -- a turn: p is what the block writer ensures, and q what it keeps
-one-more : (firsts seconds : List ℕ) (l : List Reception) {orig xs : List ℕ} (k : ℕ) (ys : List ℕ) → Begun orig (flatten (take k (blocks firsts seconds l))) (blockLength * k) xs
+one-more : (firsts seconds : List ℕ) (l : List Entry) {orig xs : List ℕ} (k : ℕ) (ys : List ℕ) → Begun orig (flatten (take k (blocks firsts seconds l))) (blockLength * k) xs
     → k < 5 → ys ≡ blockWith k (getD firsts k 0) (getD seconds k 0) l → length ys ≡ length (part (blockLength * k) (blockLength * k + blockLength - blockLength * k) xs)
     → blockLength * 5 ≤ length orig
     → Begun orig (flatten (take (k + 1) (blocks firsts seconds l))) (blockLength * (k + 1))
@@ -45,11 +45,11 @@ one-more firsts seconds l k ys b h p q room =
     turn _ _ blockLength k _ ys b h (p ∙ block-of firsts seconds l k h) q (omega arith)
 
 abbrev Inv-loop : tie.InvT-loop
-Inv-loop out₀ times lens bytes count latest setting firsts seconds k₀ out k =
-    (k ≤ 5) × Begun out₀ (flatten (take k (blocks firsts seconds (entriesAt times lens bytes count)))) (blockLength * k) out
+Inv-loop out₀ times lens bytes copies count latest setting firsts seconds k₀ out k =
+    (k ≤ 5) × Begun out₀ (flatten (take k (blocks firsts seconds (entriesAt (columns times lens bytes copies) count)))) (blockLength * k) out
 
 abbrev μ-loop : tie.MeasureT-loop
-μ-loop out₀ times lens bytes count latest setting firsts seconds k₀ out k = 5 - k
+μ-loop out₀ times lens bytes copies count latest setting firsts seconds k₀ out k = 5 - k
 
 loop-holds : tie.Need-loop-holds Inv-loop μ-loop
 unfolding flatten

@@ -5,43 +5,46 @@ use Prim.Native.Nat.{_-_, _≤_}
 use native.Mathlib.Omega.{arith}
 use borrow.Author.Needs.{needs}
 use Rattle.layout.specs.Buffer.{resized}
-use Rattle.layout.specs.Cell.{cellTime, cellUsed, cellField}
+use Rattle.layout.specs.Cell.{cellTime, cellUsed, cellField, cellLast}
 use Rattle.layout.proofs.Segments.{begun-length, within}
+use Rattle.collector.specs.Collector.{columns}
 use Rattle.image.proofs.Reading.{Reading, reading-none, reading-more, reading-all}
 use Rattle.image.proofs.read_entries.Statement.{statement}
 use Rattle.image.proofs.read_entries.Tie as tie
 
 abbrev Inv-loop : tie.InvT-loop
-Inv-loop times₀ lens₀ bytes₀ image count i₀ times lens bytes i = (i ≤ count) × Reading image count times₀ lens₀ bytes₀ i times lens bytes
+Inv-loop times₀ lens₀ bytes₀ copies₀ image count i₀ times lens bytes copies i =
+    (i ≤ count) × Reading image count (columns times₀ lens₀ bytes₀ copies₀) i (columns times lens bytes copies)
 
 abbrev μ-loop : tie.MeasureT-loop
-μ-loop times₀ lens₀ bytes₀ image count i₀ times lens bytes i = count - i
+μ-loop times₀ lens₀ bytes₀ copies₀ image count i₀ times lens bytes copies i = count - i
 
 loop-holds : tie.Need-loop-holds Inv-loop μ-loop
 loop-holds c =
-    let s = c .before .before .before .before in
-    (omega arith, reading-none _ _ (s .pre .3) (s .pre .4) _ _ _)
+    let s = c .before .before .before .before .before in
+    (omega arith, reading-none _ _ (s .pre .4) (s .pre .5) _)
 
 loop-again : tie.Need-loop-again Inv-loop μ-loop
 loop-again c =
     let copied = c .before .before in
-    let used = copied .before .before in
+    let last = copied .before .before in
+    let used = last .before in
     let shown = used .before .before in
     let at = shown .before .before in
-    let s = at .before .before .before .before .before in
+    let s = at .before .before .before .before .before .before in
     let cell = shown .cell-in .ensures in (
       omega arith,
-      reading-more _ _ (s .pre .3) (s .pre .4) _ _ _ (at .loop .i) _ _ _ (at .loop .inv .1) _ _ _
-          (used .before .cell-time .ensures ∙ ap cellTime cell) (used .cell-used .ensures ∙ ap cellUsed cell)
+      reading-more _ _ (s .pre .4) (s .pre .5) _ (at .loop .i) _ (at .loop .inv .1) _ _ _ _
+          (used .before .cell-time .ensures ∙ ap cellTime cell) (used .cell-used .ensures ∙ ap cellUsed cell) (last .cell-last .ensures ∙ ap cellLast cell)
           (copied .copy-field .ensures ∙ ap₂ resized refl (ap cellField cell)) (copied .copy-field .kept .0)
-          (omega arith) (s .pre .0) (s .pre .1) (s .pre .2),
+          (omega arith) (s .pre .0) (s .pre .1) (s .pre .2) (s .pre .3),
     )
 
 returns : tie.Need-returns Inv-loop μ-loop
 returns c =
     let at = c .before in
-    let s = at .before .before .before .before .before in
-    reading-all _ _ (s .pre .3) (s .pre .4) _ _ _ (at .loop .i) _ _ _ (at .loop .inv .1) (omega arith)
+    let s = at .before .before .before .before .before .before in
+    reading-all _ _ (s .pre .4) (s .pre .5) _ (at .loop .i) _ (at .loop .inv .1) (omega arith)
 
 pub read-entries-spec : {M : Type 1} → statement M
 read-entries-spec =
@@ -53,20 +56,24 @@ read-entries-spec =
     (λ c κs. search needs)
     (λ c κs. search needs)
     (λ c. omega arith)
-    (λ c. within (c .before .before .before .loop .inv .1 .timesRead) _ (omega arith))
+    (λ c. within (c .before .before .before .loop .inv .1 .times) _ (omega arith))
     (λ c κs. search needs)
-    (λ c. within (c .before .before .before .before .loop .inv .1 .lensRead) _ (omega arith))
+    (λ c. within (c .before .before .before .before .loop .inv .1 .lens) _ (omega arith))
+    (λ c κs. search needs)
+    (λ c. omega arith)
+    (λ c. within (c .before .before .before .before .before .loop .inv .1 .copies) _ (omega arith))
     (λ c. omega arith)
     (λ c. omega arith)
     (λ c. omega arith)
     (λ c. omega arith)
     (λ c. omega arith)
-    (λ c. within (c .before .before .before .before .loop .inv .1 .bytesRead) _ (omega arith))
+    (λ c. within (c .before .before .before .before .before .loop .inv .1 .bytes) _ (omega arith))
     (λ c κs. search needs)
     (λ c. omega arith)
     (λ c. omega arith)
     loop-again
-    (λ c. begun-length (c .before .loop .inv .1 .timesRead))
-    (λ c. begun-length (c .before .loop .inv .1 .lensRead))
-    (λ c. begun-length (c .before .loop .inv .1 .bytesRead))
+    (λ c. begun-length (c .before .loop .inv .1 .times))
+    (λ c. begun-length (c .before .loop .inv .1 .lens))
+    (λ c. begun-length (c .before .loop .inv .1 .bytes))
+    (λ c. begun-length (c .before .loop .inv .1 .copies))
     returns)

@@ -1,6 +1,6 @@
 -- `image::restore` meets its contract: a case for each answer, in the order of the tests. Assumes nothing.
 use native.Mathlib.Omega.{arith}
-use mathlib.Core.Path.{_≡_, sym, ap, ap₂, _∙_}
+use mathlib.Core.Path.{_≡_, refl, sym, ap, ap₂, _∙_}
 use mathlib.Core.Bool.{true}
 use mathlib.Core.List.{List}
 use Prim.Native.Nat.{ℕ, _≤_}
@@ -15,7 +15,7 @@ use Rattle.model.specs.Image.{imageLength, settingIn, countIn, parse}
 use Rattle.model.proofs.Returns.{restore-unacceptable}
 use Rattle.collector.specs.Collector.{viewOf}
 use Rattle.image.specs.Checkpoint.{isImageOf}
-use Rattle.image.proofs.Restoring.{restoredWith, readable, restore-unreadable, restore-other, restore-done}
+use Rattle.image.proofs.Restoring.{restoredWith, readable, restore-unreadable, restore-other, restore-done, stayed}
 use Rattle.image.proofs.restore.Statement.{statement}
 use Rattle.image.proofs.restore.Tie as tie
 
@@ -28,18 +28,18 @@ image-of c = now (start c .args .image)
 -- what the test says of the state that is handed in
 tested : (c : tie.After-is-acceptable) → c .is-acceptable .result ≡ acceptable (viewOf (start c .args .t1))
 unfolding viewOf
-tested c = c .is-acceptable .ensures
+tested c = c .is-acceptable .ensures _
 
 passed : (c : tie.Else1) → acceptable (viewOf (start (c .before) .args .t1)) ≡ true
 passed c = sym (tested (c .before)) ∙ not-false _ (c .if1 .left)
 
 returns : tie.Need-returns
-returns c = c .refused .ensures ∙ restore-unacceptable _ (sym (tested (c .before .before)) ∙ not-true _ (c .before .if1 .taken)) _
+returns c = stayed _ _ _ (c .refused .ensures) (restore-unacceptable _ (sym (tested (c .before .before)) ∙ not-true _ (c .before .if1 .taken)) _)
 
 returns-2 : tie.Need-returns-2
 returns-2 c =
     let b = c .before .before in
-    c .refused2 .ensures ∙ restore-unreadable _ _ (passed (b .before)) (sym (b .is-readable .ensures) ∙ not-true _ (c .before .if2 .taken))
+    stayed _ _ _ (c .refused2 .ensures) (restore-unreadable _ _ (passed (b .before)) (sym (b .is-readable .ensures) ∙ not-true _ (c .before .if2 .taken)))
 
 -- what can be read of the image
 read : (c : tie.Else2) →
@@ -49,7 +49,7 @@ read c = readable (image-of (c .before .before .before)) (sym (c .before .is-rea
 
 -- what the last test says of the image
 abbrev parsed : tie.After-is-image-of → tie.After-parse
-parsed c = c .before .before .before .before .before .before
+parsed c = c .before .before .before .before .before .before .before
 
 compared : (c : tie.After-is-image-of) →
     let image = image-of (parsed c .before .before .before .before .before) in
@@ -64,15 +64,19 @@ returns-3 : tie.Need-returns-3
 returns-3 c =
     let i = c .before .before in
     let e = parsed i .before .before in
-    c .refused3 .ensures
-    ∙ restore-other _ _ (passed (e .before .before)) (read e .0) (read e .2) (sym (compared i) ∙ not-true _ (c .before .if3 .taken))
+    stayed _ _ _ (c .refused3 .ensures)
+    (restore-other _ _ (passed (e .before .before)) (read e .0) (read e .2) (sym (compared i) ∙ not-true _ (c .before .if3 .taken)))
 
 returns-4 : tie.Need-returns-4
 returns-4 c =
     let p = parsed (c .before) in
     let e = p .before .before in
-    ap restoredWith (p .parse .ensures)
-    ∙ restore-done _ _ (passed (e .before .before)) (read e .0) (read e .2) (sym (compared (c .before)) ∙ not-false _ (c .if3 .left))
+    record {
+      result =
+          ap restoredWith (p .parse .ensures)
+          ∙ restore-done _ _ (passed (e .before .before)) (read e .0) (read e .2) (sym (compared (c .before)) ∙ not-false _ (c .if3 .left));
+      stays = λ n. absurd (n refl);
+    }
 
 pub restore-spec : {M : Type 1} → statement M
 restore-spec =

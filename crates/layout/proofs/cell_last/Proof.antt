@@ -9,6 +9,8 @@ use lib.ListN.{length, take, drop, length-take}
 use lib.Seq.{take-all}
 use Rattle.layout.specs.Buffer.{part}
 use Rattle.layout.specs.BigEndian.{unbe}
+use Rattle.layout.specs.Cell.{cellLast}
+use Rattle.layout.proofs.BigEndian.{field-lt}
 use Rattle.layout.proofs.Segments.{part-clamped}
 use Rattle.layout.proofs.cell_last.Statement.{statement}
 use Rattle.layout.proofs.cell_last.Tie as tie
@@ -16,11 +18,20 @@ use Rattle.layout.proofs.cell_last.Tie as tie
 both : (start end : ℕ) (cell : List ℕ) → start ≡ min 30 (length cell) → end ≡ min 32 (length cell) → take 8 (take (end - start) (drop start cell)) ≡ part 30 2 cell
 both start end cell s e = rw (s, e) (ap (take 8) (part-clamped 30 2 cell) ∙ take-all 8 (part 30 2 cell) (rw length-take (omega arith)))
 
-returns : tie.Need-returns
-returns c =
+-- what is read: two bytes at most
+abbrev start : tie.After-read-number → tie.Start
+start c = c .before .before .before .before .before
+
+read : (c : tie.After-read-number) → c .read-number .result ≡ cellLast (now (start c .args .cell))
+read c =
     let at = c .before .before in
-    let a = at .before .before .before .args in
-    c .read-number .ensures ∙ ap unbe (both _ _ (now (a .cell)) (at .before .least .ensures) (at .least2 .ensures))
+    c .read-number .ensures ∙ ap unbe (both _ _ (now (start c .args .cell)) (at .before .least .ensures) (at .least2 .ensures))
+
+cast-result : tie.Need-cast-result
+cast-result c =
+    let known = c .before .before .before .before in
+    let small = field-lt 30 2 (now (start c .args .cell)) (λ i. omega (arith, known .shared-slice-known .given i)) in
+    record { fits = rw (read c) small }
 
 pub cell-last-spec : {M : Type 1} → statement M
 cell-last-spec =
@@ -32,4 +43,5 @@ cell-last-spec =
     (λ c. search needs)
     (λ c. search needs)
     (λ c κs. search needs)
-    returns)
+    cast-result
+    read)

@@ -9,7 +9,7 @@ use borrow.Author.Needs.{needs}
 use denote.Ref.{now}
 use lib.ListN.{getD}
 use Rattle.erp1.specs.Subtelegram.{isValid}
-use Rattle.collector.specs.Collector.{entriesAt}
+use Rattle.collector.specs.Collector.{Columns, columns, entriesAt}
 use Rattle.collector.specs.Acceptable.{areTelegrams, shownAt}
 use Rattle.collector.proofs.Accepting.{telegrams-none, telegrams-more, telegrams-not, new-not-valid, new-repeated, new-both}
 use Rattle.collector.proofs.Marks.{Marked, marked-none, marked-more, valid-len, is-known, not-known, new-mark}
@@ -18,7 +18,7 @@ use Rattle.collector.proofs.acceptable.are_telegrams.Tie as tie
 
 abbrev Inv-loop : tie.InvT-loop
 Inv-loop times lens bytes count seen₀ i₀ seen i =
-    (i ≤ count) × (areTelegrams (entriesAt times lens bytes i) ≡ true) × Marked lens bytes i seen
+    (i ≤ count) × ((copies : List ℕ) → areTelegrams (entriesAt (columns times lens bytes copies) i) ≡ true) × Marked lens bytes i seen
 
 abbrev μ-loop : tie.MeasureT-loop
 μ-loop times lens bytes count seen₀ i₀ seen i = count - i
@@ -30,13 +30,15 @@ at c = c .before .before
 abbrev start : tie.At-loop Inv-loop μ-loop → tie.Start Inv-loop μ-loop
 start c = c .before .before
 
+abbrev table : tie.At-loop Inv-loop μ-loop → List ℕ → Columns
+table l copies = columns (now (start l .args .times)) (now (start l .args .lens)) (now (start l .args .bytes)) copies
+
 returns : tie.Need-returns Inv-loop μ-loop
-returns c =
+returns c copies =
     let l = at (c .before) in
-    let a = start l .args in
     let i = l .loop .i in
-    sym (telegrams-not (now (a .times)) (now (a .lens)) (now (a .bytes)) i (a .count) (omega arith)
-    (new-not-valid (now (a .times)) (now (a .lens)) (now (a .bytes)) i (c .before .mark-at .ensures .invalid (c .if1 .taken))))
+    sym (telegrams-not (table l copies) i (start l .args .count) (omega arith)
+    (new-not-valid (table l copies) i (c .before .mark-at .ensures .invalid (c .if1 .taken))))
 
 valid : (c : tie.Else1 Inv-loop μ-loop) → isValid (shownAt (now (start (at (c .before)) .args .lens)) (now (start (at (c .before)) .args .bytes)) (at (c .before) .loop .i)) ≡ true
 valid c = c .before .mark-at .ensures .valid (c .if1 .left)
@@ -44,41 +46,35 @@ valid c = c .before .mark-at .ensures .valid (c .if1 .left)
 is-repeated-requires : tie.Need-is-repeated-requires Inv-loop μ-loop
 is-repeated-requires c κs =
     let l = at (c .before) in
-    let a = start l .args in
-    let len = valid-len (now (a .lens)) (now (a .bytes)) (l .loop .i) (valid c) in
+    let len = valid-len (now (start l .args .lens)) (now (start l .args .bytes)) (l .loop .i) (valid c) in
     (omega arith, len .0, len .1)
 
 returns-2 : tie.Need-returns-2 Inv-loop μ-loop
-returns-2 c =
+returns-2 c copies =
     let l = at (c .before .before .before) in
-    let a = start l .args in
     let i = l .loop .i in
-    sym (telegrams-not (now (a .times)) (now (a .lens)) (now (a .bytes)) i (a .count) (omega arith)
-    (new-repeated (now (a .times)) (now (a .lens)) (now (a .bytes)) i (is-known (c .before .is-repeated .ensures) (c .if2 .taken))))
+    sym (telegrams-not (table l copies) i (start l .args .count) (omega arith)
+    (new-repeated (table l copies) i (is-known (c .before .is-repeated .ensures copies) (c .if2 .taken))))
 
 loop-again : tie.Need-loop-again Inv-loop μ-loop
 loop-again c =
     let e = c .before .before in
     let l = at (e .before) in
-    let a = start l .args in
     let i = l .loop .i in
-    let times = now (a .times) in
-    let lens = now (a .lens) in
-    let bytes = now (a .bytes) in
     let mark = e .before .mark-at .ensures .mark (e .if1 .left) in (
       omega arith,
-      telegrams-more times lens bytes i (l .loop .inv .1)
-          (new-both times lens bytes i (valid e)
-          (not-known (c .before .is-repeated .ensures) (c .if2 .left)
-          (λ z. new-mark lens bytes i (l .loop .seen) (l .loop .inv .2) times (valid e) (ap (λ (n : ℕ). getD (l .loop .seen) n 0) (sym mark) ∙ z)))),
-      marked-more lens bytes i (l .loop .seen) (l .loop .inv .2) _ mark (e .if1 .left),
+      λ copies. telegrams-more (table l copies) i (l .loop .inv .1 copies)
+          (new-both (table l copies) i (valid e)
+          (not-known (c .before .is-repeated .ensures copies) (c .if2 .left)
+          (λ z. new-mark (table l copies) i (l .loop .seen) (l .loop .inv .2) (valid e) (ap (λ (n : ℕ). getD (l .loop .seen) n 0) (sym mark) ∙ z)))),
+      marked-more (now (start l .args .lens)) (now (start l .args .bytes)) i (l .loop .seen) (l .loop .inv .2) _ mark (e .if1 .left),
     )
 
 returns-3 : tie.Need-returns-3 Inv-loop μ-loop
-returns-3 c =
+returns-3 c copies =
     let l = c .before in
     let e : l .loop .i ≡ start l .args .count = omega arith in
-    sym (rw e at (l .loop .inv .1))
+    sym (rw e at (l .loop .inv .1 copies))
 
 pub are-telegrams-spec : {M : Type 1} → statement M
 are-telegrams-spec =
@@ -87,7 +83,7 @@ are-telegrams-spec =
     Inv-loop
     μ-loop
     (λ c κs. search needs)
-    (λ c. (omega arith, telegrams-none _ _ _, marked-none _ _ _ (c .no-marks .ensures)))
+    (λ c. (omega arith, λ copies. telegrams-none _, marked-none _ _ _ (c .no-marks .ensures)))
     (λ c κs. omega arith)
     returns
     (λ c. omega arith)

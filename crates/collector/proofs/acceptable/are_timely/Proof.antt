@@ -1,13 +1,16 @@
 -- `collector::acceptable::are_timely` meets its contract. The loop's invariant: the times rise from the maturity before the latest up to
 -- it, if those from i on rise from the one before them. The measure is the number of times left. Assumes nothing.
-use Prim.Native.Nat.{_-_, _≤_}
+use Prim.Native.Nat.{ℕ, _-_, _≤_}
 use mathlib.Core.Path.{_≡_, sym, _∙_}
 use native.Mathlib.Omega.{arith}
 use borrow.Author.Needs.{needs}
 use denote.Ref.{now}
-use lib.ListN.{take}
+use mathlib.Core.List.{List}
+use lib.ListN.{length, take}
 use lib.Seq.{slice}
 use Rattle.model.specs.View.{maturity}
+use Rattle.collector.specs.Collector.{Columns, entriesAt}
+use Rattle.collector.specs.Acceptable.{areTimely}
 use Rattle.collector.proofs.Times.{rising, timely-by, rising-not, rising-more, rising-end}
 use Rattle.collector.proofs.acceptable.are_timely.Statement.{statement}
 use Rattle.collector.proofs.acceptable.are_timely.Tie as tie
@@ -19,15 +22,20 @@ Inv-loop times count latest earliest₀ i₀ earliest i =
 abbrev μ-loop : tie.MeasureT-loop
 μ-loop times count latest earliest₀ i₀ earliest i = count - i
 
+-- what the times say, whatever the other columns are
+timely : (a : Columns) {times : List ℕ} → a .times ≡ times → (count latest : ℕ) → count ≤ length times
+    → rising (latest - maturity) latest (take count times) ≡ areTimely latest (entriesAt a count)
+timely a e count latest h = rw (← e) (timely-by a count latest (rw e h))
+
 loop-holds : tie.Need-loop-holds Inv-loop μ-loop
 loop-holds c = (omega arith, rw (c .since .ensures))
 
 returns : tie.Need-returns Inv-loop μ-loop
-returns c lens bytes =
+returns c table e =
     let l = c .before .before .before in
     let a = l .before .before .before .args in
     sym (
-    sym (timely-by (now (a .times)) lens bytes (a .count) (a .latest) (omega arith))
+    sym (timely table e (a .count) (a .latest) (omega arith))
     ∙ sym (l .loop .inv .1)
     ∙ rising-not (now (a .times)) (l .loop .i) (a .count) (l .loop .earliest) (a .latest) (omega arith) (omega arith) (c .if1 .taken)
     )
@@ -41,12 +49,12 @@ loop-again c =
     )
 
 returns-2 : tie.Need-returns-2 Inv-loop μ-loop
-returns-2 c lens bytes =
+returns-2 c table t =
     let l = c .before in
     let a = l .before .before .before .args in
     let e : l .loop .i ≡ a .count = omega arith in
     sym (rising-end (now (a .times)) (a .count) (l .loop .earliest) (a .latest)) ∙ (rw e at (l .loop .inv .1))
-    ∙ timely-by (now (a .times)) lens bytes (a .count) (a .latest) (omega arith)
+    ∙ timely table t (a .count) (a .latest) (omega arith)
 
 pub are-timely-spec : {M : Type 1} → statement M
 are-timely-spec =

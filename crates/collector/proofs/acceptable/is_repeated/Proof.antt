@@ -9,6 +9,7 @@ use Rattle.erp1.specs.Subtelegram.{maxLength}
 use Rattle.layout.specs.Buffer.{part, resized}
 use Rattle.layout.proofs.Buffer.{resized-length}
 use Rattle.collector.specs.Acceptable.{shownAt}
+use Rattle.collector.proofs.Arrays.{found-known}
 use Rattle.collector.proofs.acceptable.is_repeated.Statement.{statement}
 use Rattle.collector.proofs.acceptable.is_repeated.Tie as tie
 
@@ -22,7 +23,7 @@ shown c =
     c .telegram .ensures ∙ ap (λ (n : ℕ). resized n (part (maxLength * a .i) maxLength (now (a .bytes)))) (c .before .before .wide .ensures)
 
 returns : tie.Need-returns
-returns c = record { new = λ _. refl; old = λ n. absurd (n (c .if1 .taken)) }
+returns c copies = record { new = λ _. refl; old = λ n. absurd (n (c .if1 .taken)) }
 
 find-requires : tie.Need-find-requires
 find-requires c κs =
@@ -31,10 +32,10 @@ find-requires c κs =
     (omega arith, omega (arith, start (c .before) .pre .1, long), omega (arith, start (c .before) .pre .2, long))
 
 returns-2 : tie.Need-returns-2
-returns-2 c =
+returns-2 c copies =
     record {
       new = λ e. absurd (c .before .before .before .before .before .before .if1 .left e);
-      old = λ _. rw (← shown (c .before .before)) (c .find .ensures);
+      old = λ _. rw (c .find .ensures copies, shown (c .before .before)) (found-known _ _ _);
     }
 
 pub is-repeated-spec : {M : Type 1} → statement M

@@ -1,25 +1,35 @@
--- `collector::entries::find` meets its contract. The loop's invariant: one of the entries is a copy where one of the first i is.
+-- `collector::entries::find` meets its contract. The loop's invariant: none of the entries from i on is a copy, whatever their counts are.
 -- The measure is i. Assumes nothing.
-use Prim.Native.Nat.{_-_, _≤_}
+use Prim.Native.Nat.{ℕ, _-_, _≤_, _<_}
+use native.Mathlib.Decide.{decLt}
 use mathlib.Core.Path.{_≡_, refl, sym, _∙_}
+use mathlib.Core.Bool.{Bool, false}
+use mathlib.Core.List.{List}
 use native.Mathlib.Omega.{arith}
 use borrow.Author.Needs.{needs}
 use denote.Ref.{now}
 use Rattle.model.specs.View.{Reception}
 use Rattle.model.specs.Acceptable.{isCopyOf}
-use Rattle.collector.specs.Collector.{entryAt, entriesAt}
-use Rattle.collector.specs.Acceptable.{hasCopy}
-use Rattle.collector.proofs.Arrays.{not-same, same-echo, echo-said, has-none, has-skip, has-inside}
+use Rattle.collector.specs.Collector.{Columns, columns, entryAt}
+use Rattle.collector.proofs.Arrays.{not-same, same-echo, echo-said, last-found, none-found}
 use Rattle.collector.proofs.entries.find.Statement.{statement}
 use Rattle.collector.proofs.entries.find.Tie as tie
 
 abbrev Inv-loop : tie.InvT-loop
 Inv-loop times lens bytes count received time original i₀ i =
     (i ≤ count)
-    × (hasCopy (entriesAt times lens bytes count) (record { bytes = received; time = time }) ≡ hasCopy (entriesAt times lens bytes i) (record { bytes = received; time = time }))
+    × ((copies : List ℕ) (j : ℕ) → i ≤ j → j < count → isCopyOf (entryAt (columns times lens bytes copies) j) (record { bytes = received; time = time }) ≡ false)
 
 abbrev μ-loop : tie.MeasureT-loop
 μ-loop times lens bytes count received time original i₀ i = i
+
+-- one more that fails a test
+down : (p : ℕ → Bool) (i count : ℕ) → p (i - 1) ≡ false → ((j : ℕ) → i ≤ j → j < count → p j ≡ false)
+    → (j : ℕ) → i - 1 ≤ j → j < count → p j ≡ false
+down p i count e later j h k = elim (decLt j i) [
+  | yes l ↦ (let same : j ≡ i - 1 = omega arith in rw same e)
+  | no l ↦ later j (omega arith) k
+]
 
 -- the loop's place, the arguments, and the reception
 abbrev turn : tie.After-holds Inv-loop μ-loop → tie.At-loop Inv-loop μ-loop
@@ -31,6 +41,9 @@ known l = l .before
 abbrev start : tie.At-loop Inv-loop μ-loop → tie.Start Inv-loop μ-loop
 start l = known l .before .before
 
+abbrev table : tie.At-loop Inv-loop μ-loop → List ℕ → Columns
+table l copies = columns (now (start l .args .times)) (now (start l .args .lens)) (now (start l .args .bytes)) copies
+
 abbrev reception : tie.At-loop Inv-loop μ-loop → Reception
 reception l = record { bytes = now (start l .args .received); time = start l .args .time }
 
@@ -38,41 +51,38 @@ reception l = record { bytes = now (start l .args .received); time = start l .ar
 abbrev held : tie.After-is-echo Inv-loop μ-loop → tie.Then1 Inv-loop μ-loop
 held c = c .before .before
 
-copies : (c : tie.After-is-echo Inv-loop μ-loop) →
+copied : (c : tie.After-is-echo Inv-loop μ-loop) (copies : List ℕ) →
     let l = turn (held c .before) in
-    let a = start l .args in
-    isCopyOf (entryAt (now (a .times)) (now (a .lens)) (now (a .bytes)) (l .loop .i - 1)) (reception l) ≡ c .is-echo .result
-copies c =
+    isCopyOf (entryAt (table l copies) (l .loop .i - 1)) (reception l) ≡ c .is-echo .result
+copied c copies =
     let h = held c in
     let l = turn (h .before) in
-    let a = start l .args in
-    same-echo (now (a .times)) (now (a .lens)) (now (a .bytes)) (l .loop .i - 1) (reception l) (sym (h .before .holds .ensures) ∙ h .if1 .taken)
-    ∙ echo-said (now (a .times)) (now (a .lens)) (now (a .bytes)) (l .loop .i - 1) (reception l) _ _ _ (known l .is-original .ensures) refl (c .is-echo .ensures)
+    same-echo (table l copies) (l .loop .i - 1) (reception l) (sym (h .before .holds .ensures) ∙ h .if1 .taken)
+    ∙ echo-said (table l copies) (l .loop .i - 1) (reception l) _ _ _ (known l .is-original .ensures) refl (c .is-echo .ensures)
 
 returns : tie.Need-returns Inv-loop μ-loop
-returns c =
+returns c copies =
     let l = turn (held (c .before) .before) in
-    let a = start l .args in
-    sym (has-inside (now (a .times)) (now (a .lens)) (now (a .bytes)) (l .loop .i - 1) (reception l) (a .count) (omega arith) (copies (c .before) ∙ c .if2 .taken))
+    last-found (table l copies) (start l .args .count) (reception l) (l .loop .i - 1) (omega arith) (copied (c .before) copies ∙ c .if2 .taken)
+    (λ j h k. l .loop .inv .1 copies j (omega arith) k)
 
 loop-again : tie.Need-loop-again Inv-loop μ-loop
 loop-again c =
     let l = turn (held (c .before) .before) in
-    let a = start l .args in
-    (omega arith, l .loop .inv .1 ∙ has-skip (now (a .times)) (now (a .lens)) (now (a .bytes)) (l .loop .i) (reception l) (omega arith) (copies (c .before) ∙ c .if2 .left))
+    (omega arith, λ copies. down (λ j. isCopyOf (entryAt (table l copies) j) (reception l)) (l .loop .i) (start l .args .count) (copied (c .before) copies ∙ c .if2 .left) (l .loop .inv .1 copies))
 
 loop-again-2 : tie.Need-loop-again-2 Inv-loop μ-loop
 loop-again-2 c =
-    let l = turn (c .before) in
-    let a = start l .args in
-    let other = not-same (now (a .times)) (now (a .lens)) (now (a .bytes)) (l .loop .i - 1) (reception l) (sym (c .before .holds .ensures) ∙ c .if1 .left) in
-    (omega arith, l .loop .inv .1 ∙ has-skip (now (a .times)) (now (a .lens)) (now (a .bytes)) (l .loop .i) (reception l) (omega arith) other)
+    let l = turn (c .before) in (
+      omega arith,
+      λ copies. down (λ j. isCopyOf (entryAt (table l copies) j) (reception l)) (l .loop .i) (start l .args .count)
+          (not-same (table l copies) (l .loop .i - 1) (reception l) (sym (c .before .holds .ensures) ∙ c .if1 .left)) (l .loop .inv .1 copies),
+    )
 
 returns-2 : tie.Need-returns-2 Inv-loop μ-loop
-returns-2 c =
+returns-2 c copies =
     let l = c .before in
-    let e : l .loop .i ≡ 0 = omega arith in
-    sym (l .loop .inv .1 ∙ rw e (has-none _ _ _ _))
+    none-found (table l copies) (start l .args .count) (reception l) (λ j k. l .loop .inv .1 copies j (omega arith) k)
 
 pub find-spec : {M : Type 1} → statement M
 find-spec =
@@ -81,7 +91,7 @@ find-spec =
     Inv-loop
     μ-loop
     (λ c κs. search needs)
-    (λ c. (omega arith, refl))
+    (λ c. (omega arith, λ copies j h k. absurd (omega arith)))
     (λ c. omega arith)
     (λ c κs. search needs)
     (λ c. search needs)

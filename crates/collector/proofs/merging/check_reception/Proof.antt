@@ -1,51 +1,39 @@
 -- `collector::merging::check_reception` meets its contract: each return is one case of `receptionCheck`. Assumes nothing.
 use mathlib.Core.Path.{_≡_, _∙_}
 use mathlib.Core.Bool.{true}
-use Prim.Native.Nat.{_<_}
-use native.Mathlib.Omega.{arith}
 use borrow.Author.Needs.{needs}
 use borrow.Author.Tests.{eq-eqb}
 use denote.Ref.{now}
 use Rattle.erp1.specs.Subtelegram.{isValid}
 use Rattle.erp1.proofs.Checks.{told-valid, told-refused, not-valid}
-use Rattle.model.specs.Step.{maxCount}
-use Rattle.collector.proofs.Classifying.{reception-full, reception-damaged, reception-late, reception-passed}
+use Rattle.collector.proofs.Classifying.{reception-damaged, reception-late, reception-passed}
 use Rattle.collector.proofs.merging.check_reception.Statement.{statement}
 use Rattle.collector.proofs.merging.check_reception.Tie as tie
 
 returns : tie.Need-returns
-returns c = reception-full _ _ _ (omega arith)
-
-returns-2 : tie.Need-returns-2
-returns-2 c =
+returns c =
     let k = c .before in
     let why = k .checked .given .0 .0 in
     let refused = told-refused _ _ (k .before .before .check .ensures) why (k .checked .given .1) in
-    let room : k .before .before .before .before .before .args .received < maxCount = omega arith in
-    refused ∙ reception-damaged _ _ _ room (not-valid _ why refused)
+    refused ∙ reception-damaged _ _ (not-valid _ why refused)
 
 -- the check passed
-valid : (c : tie.After-enum-told) → isValid (now (c .before .before .before .before .before .args .bytes)) ≡ true
+valid : (c : tie.After-enum-told) → isValid (now (c .before .before .before .before .args .bytes)) ≡ true
 valid c = eq-eqb _ 0 (told-valid _ _ (c .before .before .check .ensures) (c .enum-told .given .1))
 
-returns-3 : tie.Need-returns-3
-returns-3 c =
-    let room : c .before .before .before .before .before .before .args .received < maxCount = omega arith in
-    reception-late _ _ _ room (valid (c .before)) (c .if2 .taken)
+returns-2 : tie.Need-returns-2
+returns-2 c = reception-late _ _ (valid (c .before)) (c .if1 .taken)
 
-returns-4 : tie.Need-returns-4
-returns-4 c =
-    let room : c .before .before .before .before .before .before .args .received < maxCount = omega arith in
-    reception-passed _ _ _ room (valid (c .before)) (c .if2 .left)
+returns-3 : tie.Need-returns-3
+returns-3 c = reception-passed _ _ (valid (c .before)) (c .if1 .left)
 
 pub check-reception-spec : {M : Type 1} → statement M
 check-reception-spec =
     tie.close
     (tie.spec
-    returns
     (λ c κs. search needs)
     (λ c. search needs)
-    returns-2
+    returns
     (λ c. search needs)
-    returns-3
-    returns-4)
+    returns-2
+    returns-3)

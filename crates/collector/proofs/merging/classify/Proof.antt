@@ -1,11 +1,37 @@
--- `collector::merging::classify` meets its contract: each return is one case of `answerFor`. Assumes nothing.
-use mathlib.Core.Path.{sym, _∙_, ap}
+-- `collector::merging::classify` meets its contract: each return is one case of `answerFor`, whatever the counts of the entries are.
+-- Assumes nothing.
+use Prim.Native.Nat.{ℕ}
+use mathlib.Core.Path.{_≡_, refl, sym, _∙_, ap}
+use mathlib.Core.List.{List}
+use lib.Dec.{ltb}
 use borrow.Author.Needs.{needs}
-use borrow.Author.Tests.{le-leb, lt-leb}
+use borrow.Author.Tests.{le-leb, lt-leb, lt-ltb, le-ltb}
+use denote.Ref.{now}
 use Rattle.erp1.specs.Subtelegram.{checkedNumber}
-use Rattle.collector.proofs.Classifying.{answer-refused, answer-copy, answer-loose, answer-kept}
+use Rattle.model.specs.declared.Answer.the-variants as answer
+use Rattle.model.specs.View.{Reception}
+use Rattle.collector.specs.Collector.{Columns, columns, entriesAt}
+use Rattle.collector.specs.Acceptable.{hasCopy}
+use Rattle.collector.proofs.Arrays.{entries-length, found-known}
+use Rattle.collector.proofs.Classifying.{answer-refused, answer-copy, answer-loose, answer-kept, judged-other}
 use Rattle.collector.proofs.merging.classify.Statement.{statement}
 use Rattle.collector.proofs.merging.classify.Tie as tie
+
+abbrev start : tie.After-find → tie.Start
+start c = c .before .before .before .before
+
+abbrev table : tie.After-find → List ℕ → Columns
+table c copies = columns (now (start c .args .times)) (now (start c .args .lens)) (now (start c .args .bytes)) copies
+
+abbrev reception : tie.After-find → Reception
+reception c = record { bytes = now (start c .args .received); time = start c .args .time }
+
+-- the tests before are passed, and the search tells whether the telegram is open
+passed : (c : tie.After-find) → checkedNumber (start c .args .checked) ≡ 0
+passed c = ap checkedNumber (c .before .enum-told .given .1)
+
+known : (c : tie.After-find) (copies : List ℕ) → ltb (c .find .result) (start c .args .count) ≡ hasCopy (entriesAt (table c copies) (start c .args .count)) (reception c)
+known c copies = ap (λ (n : ℕ). ltb n (start c .args .count)) (c .find .ensures copies) ∙ found-known (table c copies) (start c .args .count) (reception c)
 
 find-requires : tie.Need-find-requires
 find-requires c κs =
@@ -14,26 +40,45 @@ find-requires c κs =
     (p .0, len .0, len .1)
 
 returns : tie.Need-returns
-returns c =
+returns c copies =
     let f = c .before in
-    answer-copy _ _ _ (ap checkedNumber (f .before .enum-told .given .1)) (sym (f .find .ensures) ∙ c .if1 .taken)
+    record {
+      answer = answer-copy _ _ _ (passed f) (sym (known f copies) ∙ lt-ltb _ _ (c .if1 .taken));
+      entry = λ _. f .find .ensures copies;
+    }
 
 returns-2 : tie.Need-returns-2
-returns-2 c =
-    let f = c .before .before in
-    answer-loose _ _ _ (ap checkedNumber (f .before .enum-told .given .1)) (sym (f .find .ensures) ∙ c .before .if1 .left) (le-leb _ _ (c .if2 .taken))
+returns-2 c copies =
+    let e = c .before .before in
+    let f = e .before in
+    judged-other answer.Loose (c .no-copy2 .ensures) refl
+    (rw (entries-length (table f copies) (start f .args .count))
+    (answer-loose _ _ _ (passed f) (sym (known f copies) ∙ le-ltb _ _ (e .if1 .left)) (le-leb _ _ (c .before .if2 .taken))))
 
 returns-3 : tie.Need-returns-3
-returns-3 c =
-    let k = c .before in
-    rw (k .checked .given .1) (answer-refused (k .checked .given .0 .0) _ _)
+returns-3 c copies =
+    let k = c .before .before in
+    judged-other (answer.Refused (k .checked .given .0 .0)) (c .no-copy .ensures) refl (rw (k .checked .given .1) (answer-refused (k .checked .given .0 .0) _ _))
 
 returns-4 : tie.Need-returns-4
-returns-4 c =
-    let f = c .before .before in
-    answer-kept _ _ _ (ap checkedNumber (f .before .enum-told .given .1)) (sym (f .find .ensures) ∙ c .before .if1 .left) (lt-leb _ _ (c .if2 .left))
+returns-4 c copies =
+    let e = c .before .before in
+    let f = e .before in
+    judged-other answer.Kept (c .no-copy3 .ensures) refl
+    (rw (entries-length (table f copies) (start f .args .count))
+    (answer-kept _ _ _ (passed f) (sym (known f copies) ∙ le-ltb _ _ (e .if1 .left)) (lt-leb _ _ (c .before .if2 .left))))
 
 pub classify-spec : {M : Type 1} → statement M
 classify-spec =
     tie.close
-    (tie.spec (λ c. search needs) (λ c. search needs) find-requires returns returns-2 returns-3 returns-4)
+    (tie.spec
+    (λ c. search needs)
+    (λ c κs. search needs)
+    (λ c. search needs)
+    find-requires
+    returns
+    (λ c κs. search needs)
+    returns-2
+    (λ c κs. search needs)
+    returns-3
+    returns-4)
