@@ -1,0 +1,31 @@
+-- What the calls answer, and what they leave in what they are lent; most are the calls of archive_model and repack_model as they are. Assumes nothing.
+use Prim.Native.Nat.{ℕ}
+use mathlib.Core.Bool.{cond, not}
+use mathlib.Core.List.{List, [], _∷_, _++_}
+use lib.Dec.{eqb}
+use lib.ListN.{length}
+use Rattle.archive_model.specs.Row.{Row}
+use Rattle.archive_model.specs.Append.{rowAtOf}
+use Rattle.c_layout.specs.Frame.{wrongSize, frameBytes, flagByte}
+
+abbrev pub rowLength : ℕ
+rowLength = 23
+
+-- a row but its time: 1 for LOOSE, its length, and its bytes, zero filled to 21 (of a length over 21, which no archive has, the first 21)
+unfoldable pub rowBytes : Row → List ℕ
+rowBytes r = (flagByte (r .loose) ∷ []) ++ frameBytes (length (r .bytes)) (r .bytes)
+
+-- the number, every byte of the row at exit, and its time
+pub record RowCall : Type 0 where
+  pub number : ℕ
+  pub row : List ℕ
+  pub time : ℕ
+
+abbrev pub found : ℕ → Row → RowCall
+found number r = record { number = number; row = rowBytes r; time = r .time }
+
+-- row i as it stands, zero beside a refusal; a row of another size is left as it was, and the time too
+unfoldable pub rowCall : List ℕ → ℕ → List ℕ → ℕ → RowCall
+rowCall buffer i old was =
+    cond (not (eqb (length old) rowLength)) (record { number = wrongSize; row = old; time = was })
+    (found (rowAtOf buffer i .number) (rowAtOf buffer i .row))

@@ -1,0 +1,164 @@
+// Archives on plain numbers and bytes, as other languages call them.
+use archive::Found;
+use archive::Opened;
+use archive::Outcome;
+use archive::Taken;
+use c_layout::FRAME_LENGTH;
+use c_layout::WRONG_SIZE;
+use refusal::Refusal;
+ghost use mathlib.Core.Path.{_≡_};
+ghost use mathlib.Core.List.{List};
+ghost use Prim.Native.Nat.{ℕ, min};
+ghost use lib.ListN.{length};
+ghost use Rattle.archive_model.specs.Append as calls;
+ghost use Rattle.archive.specs.Archive.{openResult, appendResult, rowOf, foundNumber, takenNumber};
+ghost use Rattle.repack_model.specs.Repack as repack;
+ghost use Rattle.c_archive.specs.Calls.{rowLength, rowCall};
+
+// 1 for LOOSE, and the frame of a row.
+pub const ROW_LENGTH: usize = 1 + FRAME_LENGTH;
+
+// How many rows an archive has: 16, 12 with the position.
+pub fn verify(buffer: &[u8], rows: &mut usize, position: &mut usize) -> u8
+    ensures { λ r. ⌜ record { number = r; position = now (position .exit); rows = now (rows .exit) } ≡ calls.openOf (now (buffer .entry)) ⌝ }
+{
+    let opened = archive::open(buffer);
+    match opened {
+        Opened::Rows(n) => {
+            *rows = n;
+            *position = 0;
+            0
+        }
+        Opened::Damaged(k) => {
+            *rows = 0;
+            *position = k;
+            refusal::number(Refusal::Mismatch)
+        }
+        Opened::Refused(why) => {
+            *rows = 0;
+            *position = 0;
+            refusal::number(why)
+        }
+    }
+}
+
+// Appends a row: 16, 12 with the position, the check's for the row, 6.
+pub fn append(buffer: &mut [u8], bytes: &[u8], time: u64, loose: bool, position: &mut usize) -> u8
+    ensures { λ r. ⌜ record { number = r; position = now (position .exit); buffer = now (buffer .exit) }
+        ≡ calls.appendOf (now (buffer .entry)) (rowOf (now (bytes .entry)) time loose) ⌝ }
+{
+    settle(archive::append(buffer, bytes, time, loose), position)
+}
+
+// The same for an archive of `n` rows, which looks at one block.
+pub fn append_at(
+    buffer: &mut [u8],
+    n: usize,
+    bytes: &[u8],
+    time: u64,
+    loose: bool,
+    position: &mut usize,
+) -> u8
+    ensures { λ r. ⌜ record { number = r; position = now (position .exit); buffer = now (buffer .exit) }
+        ≡ calls.appendAtOf (now (buffer .entry)) n (rowOf (now (bytes .entry)) time loose) ⌝ }
+{
+    settle(archive::append_at(buffer, n, bytes, time, loose), position)
+}
+
+// The same in the 512 bytes of its block.
+pub fn put_row(
+    block: &mut [u8],
+    n: usize,
+    bytes: &[u8],
+    time: u64,
+    loose: bool,
+    position: &mut usize,
+) -> u8
+    ensures { λ r. ⌜ record { number = r; position = now (position .exit); buffer = now (block .exit) }
+        ≡ calls.putRowOf (now (block .entry)) n (rowOf (now (bytes .entry)) time loose) ⌝ }
+{
+    settle(archive::put_row(block, n, bytes, time, loose), position)
+}
+
+// Row `i` as it stands, in 23 bytes and its time, all zero beside a refusal: 255, then 16, 10.
+pub fn row_at(buffer: &[u8], i: usize, row: &mut [u8], time: &mut u64) -> u8
+    ensures { λ r. ⌜ record { number = r; row = now (row .exit); time = now (time .exit) }
+        ≡ rowCall (now (buffer .entry)) i (now (row .entry)) (now (time .entry)) ⌝ }
+{
+    if row.len() != ROW_LENGTH {
+        return WRONG_SIZE;
+    }
+    let found = archive::row_at(buffer, i);
+    let answer = found.answer;
+    let bytes = found.bytes;
+    let n = most(found.len);
+    row[0] = c_layout::flag_byte(found.loose);
+    c_layout::put_frame(&mut row[1..ROW_LENGTH], found.len, &bytes[0..n]);
+    *time = found.time;
+    found_number(answer)
+}
+
+// A damaged archive packed anew: 16, 6.
+pub fn salvage(
+    buffer: &[u8],
+    out: &mut [u8],
+    positions: &mut [u64],
+    dropped: &mut usize,
+    rows: &mut usize,
+) -> u8
+    ensures { λ r. ⌜ record { number = r; count = now (dropped .exit); rows = now (rows .exit); output = now (out .exit); positions = now (positions .exit) }
+        ≡ repack.salvageOf (now (buffer .entry)) (now (out .entry)) (now (positions .entry)) ⌝ }
+{
+    let done = repack::salvage(buffer, out, positions);
+    let answer = done.answer;
+    *dropped = done.dropped;
+    *rows = done.rows;
+    taken_number(answer)
+}
+
+// The number of an outcome, and the position beside 12.
+fn settle(outcome: Outcome, position: &mut usize) -> u8
+    ensures { λ r. ⌜ ((buffer : List ℕ) → record { number = r; position = now (position .exit); buffer = buffer } ≡ appendResult outcome buffer) ⌝ }
+{
+    match outcome {
+        Outcome::Done => {
+            *position = 0;
+            0
+        }
+        Outcome::Damaged(k) => {
+            *position = k;
+            refusal::number(Refusal::Mismatch)
+        }
+        Outcome::Refused(why) => {
+            *position = 0;
+            refusal::number(why)
+        }
+    }
+}
+
+fn found_number(found: Found) -> u8
+    ensures { λ r. ⌜ r ≡ foundNumber found ⌝ }
+{
+    match found {
+        Found::Row => 0,
+        Found::Refused(why) => refusal::number(why),
+    }
+}
+
+fn taken_number(taken: Taken) -> u8
+    ensures { λ r. ⌜ r ≡ takenNumber taken ⌝ }
+{
+    match taken {
+        Taken::Done => 0,
+        Taken::Refused(why) => refusal::number(why),
+    }
+}
+
+fn most(len: u8) -> usize
+    ensures { λ r. ⌜ r ≡ min len 21 ⌝ }
+{
+    if len < 21 {
+        return len as usize;
+    }
+    21
+}

@@ -1,0 +1,94 @@
+-- The calls by what is tested: a slice of another size, and one of the right size; how long what is read and sent is.
+-- Assumes nothing.
+use mathlib.Core.Path.{_≡_, refl, sym, ap, _∙_}
+use mathlib.Core.Bool.{not, _&&_}
+use mathlib.Core.List.{List, [], _∷_, _++_}
+use Prim.Native.Nat.{ℕ, _-_, _≤_, zero-le}
+use native.Mathlib.Omega.{arith}
+use lib.Dec.{eqb}
+use lib.ListN.{length, length-append, length-take, length-replicate}
+use borrow.Author.Tests.{eq-eqb, ne-eqb, eqb-true, eqb-false}
+use Rattle.lists.proofs.Tests.{branch}
+use Rattle.erp1.specs.Subtelegram.{minLength, maxLength, checkOf, isValid, isAddressed, isLengthWrong, bodyOf}
+use Rattle.erp1.proofs.Checks.{check-facts}
+use Rattle.layout.specs.Buffer.{resized, overwritten}
+use Rattle.layout.proofs.Buffer.{resized-whole, overwritten-fits}
+use Rattle.telegram.specs.declared.fields.Telegram.{Telegram}
+use Rattle.telegram.specs.declared.frame.Frame.{Frame}
+use Rattle.telegram.specs.Output.{Result}
+use Rattle.telegram.specs.Frame.{frameOf}
+use Rattle.telegram.specs.Fields.{readOf, fieldsOf, noTelegram, addressedFields, plainFields, maxData, buildOf, Shaped}
+use Rattle.telegram.specs.Repeater.{RepeatResult, relayOf, repeatOf, repeats, levelOf, raisedOf, repeatResult}
+use Rattle.telegram.proofs.Frames.{frame-len}
+use Rattle.telegram.proofs.Laws.{repeat-sent}
+use Rattle.c_layout.specs.Frame.{wrongSize, frameLength, frameBytes, flagByte}
+use Rattle.c_codec.specs.Fields.{fieldsLength, fieldsBytes, telegramIn}
+use Rattle.c_codec.specs.Calls.{Call, call, readCall, buildCall, repeatCall, sentBytes}
+
+-- ---- sizes
+
+module _ (s old : List ℕ) where
+  pub read-other : (length old ≡ fieldsLength → ⊥) → call wrongSize old ≡ readCall s old
+  unfolding readCall
+  read-other h = rw (ne-eqb (length old) fieldsLength h)
+
+  pub read-done : length old ≡ fieldsLength → call (readOf s .number) (fieldsBytes (readOf s .telegram)) ≡ readCall s old
+  unfolding readCall
+  read-done h = rw (eq-eqb (length old) fieldsLength h)
+
+module _ (fields : List ℕ) (was : ℕ) (output : List ℕ) where
+  pub build-other : (length fields ≡ fieldsLength → ⊥) → (record { number = wrongSize; len = was; output = output }) ≡ buildCall fields was output
+  unfolding buildCall
+  build-other h = rw (ne-eqb (length fields) fieldsLength h)
+
+  pub build-done : length fields ≡ fieldsLength → buildOf (telegramIn fields) output ≡ buildCall fields was output
+  unfolding buildCall
+  build-done h = rw (eq-eqb (length fields) fieldsLength h)
+
+module _ (setting : ℕ) (s old : List ℕ) where
+  pub repeat-other : (length old ≡ frameLength → ⊥) → call wrongSize old ≡ repeatCall setting s old
+  unfolding repeatCall
+  repeat-other h = rw (ne-eqb (length old) frameLength h)
+
+  pub repeat-done : length old ≡ frameLength → call (repeatResult setting s .number) (sentBytes (repeatResult setting s .sent)) ≡ repeatCall setting s old
+  unfolding repeatCall
+  repeat-done h = rw (eq-eqb (length old) frameLength h)
+
+-- ---- lengths
+
+-- DATA that is read has at most 14 bytes
+pub read-len : (s : List ℕ) → readOf s .telegram .len ≤ maxData
+unfolding readOf fieldsOf
+read-len s =
+    branch (λ (t : Telegram). t .len ≤ maxData) (isValid s)
+    (λ e.
+    let v = check-facts s (eqb-true (checkOf s) 0 e) in
+    branch (λ (t : Telegram). t .len ≤ maxData) (isAddressed s) (λ a. omega (arith, v .high)) (λ a. omega (arith, v .high)))
+    (λ e. zero-le)
+
+raised-length : (s : List ℕ) → minLength ≤ length s → length s ≤ maxLength → length (raisedOf s) ≤ maxLength
+raised-length s low high = simp (length-append, length-take) (omega (arith, low, high))
+
+relay-length : (setting : ℕ) (s : List ℕ) → checkOf s ≡ 0 → length (relayOf setting s) ≤ maxLength
+unfolding relayOf
+relay-length setting s e =
+    let v = check-facts s e in
+    branch (λ (l : List ℕ). length l ≤ maxLength) (not (isLengthWrong s) && repeats setting (levelOf s)) (λ t. raised-length s (v .low) (v .high)) (λ t. zero-le)
+
+repeat-length : (setting : ℕ) (s : List ℕ) → length (repeatOf setting s) ≤ maxLength
+unfolding repeatOf
+repeat-length setting s =
+    branch (λ (l : List ℕ). length l ≤ maxLength) (isValid s) (λ e. relay-length setting s (eqb-true (checkOf s) 0 e)) (λ e. zero-le)
+
+-- what is sent is no longer than a subtelegram
+pub sent-len : (setting : ℕ) (s : List ℕ) → repeatResult setting s .sent .len ≤ maxLength
+sent-len setting s = rw (repeat-sent setting s, frame-len (frameOf (repeatOf setting s)) (repeatOf setting s) refl) (repeat-length setting s)
+
+-- ---- fields
+
+-- what is written, part by part
+pub fields-are : (t : Telegram) (flag : ℕ) → flag ≡ flagByte (t .addressed) → Shaped t
+    → (t .rorg ∷ t .len ∷ flag ∷ t .status ∷ []) ++ resized 4 (t .destid) ++ resized 4 (t .txid) ++ resized 14 (t .payload) ≡ fieldsBytes t
+unfolding fieldsBytes
+fields-are t flag e s =
+    rw (e, resized-whole 4 (t .destid) (s .destid), resized-whole 4 (t .txid) (s .txid), resized-whole 14 (t .payload) (s .payload))

@@ -1,0 +1,31 @@
+-- `c_codec::build` meets its contract. Assumes nothing.
+use mathlib.Core.Path.{_∙_, ap}
+use borrow.Author.Needs.{needs}
+use denote.Ref.{now}
+use Rattle.telegram.specs.declared.fields.Telegram.{Telegram}
+use Rattle.telegram.specs.Fields.{buildOf}
+use Rattle.c_codec.proofs.Calls.{build-other, build-done}
+use Rattle.c_codec.proofs.build.Statement.{statement}
+use Rattle.c_codec.proofs.build.Tie as tie
+
+other-size : tie.Need-returns
+other-size c =
+    let a = c .before .before .before .args in
+    build-other (now (a .fields)) (now (a .length)) (now (a .out)) (c .if1 .taken)
+
+built : tie.Need-returns-2
+built c =
+    let a = c .before .before .before .before .before .before .before .before .before .before .args in
+    c .settle .ensures _ ∙ c .before .before .before .before .build .ensures ∙ ap (λ (t : Telegram). buildOf t (now (a .out))) (c .before .before .before .before .before .before .telegram-in .ensures)
+    ∙ build-done (now (a .fields)) (now (a .length)) (now (a .out)) (c .before .before .before .before .before .before .before .if1 .left)
+
+pub build-spec : {M : Type 1} → statement M
+build-spec =
+    tie.close
+    (tie.spec
+    other-size
+    (λ c κs. search needs)
+    (λ c κs. search needs)
+    (λ c κs. search needs)
+    (λ c. search needs)
+    built)

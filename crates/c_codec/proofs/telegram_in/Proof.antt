@@ -1,0 +1,34 @@
+-- `c_codec::telegram_in` meets its contract. Assumes nothing.
+use mathlib.Core.Path.{_≡_, _∙_}
+use native.Mathlib.Omega.{arith}
+use borrow.Author.Needs.{needs}
+use Rattle.c_codec.specs.Fields.{telegramIn}
+use Rattle.c_codec.proofs.telegram_in.Statement.{statement}
+use Rattle.c_codec.proofs.telegram_in.Tie as tie
+
+returns : tie.Need-returns
+unfolding telegramIn
+returns c = rw (c .before .before .before .before .payload-in .ensures, c .before .before .before .before .before .before .id-in2 .ensures, c .before .before .before .before .before .before .before .before .id-in .ensures)
+
+pub telegram-in-spec : {M : Type 1} → statement M
+telegram-in-spec =
+    tie.close
+    (tie.spec
+    (λ c. search needs)
+    (λ c. search needs)
+    (λ c. search needs)
+    (λ c κs. search needs)
+    (λ c. search needs)
+    (λ c. search needs)
+    (λ c. search needs)
+    (λ c κs. search needs)
+    (λ c. search needs)
+    (λ c. search needs)
+    (λ c. search needs)
+    (λ c κs. search needs)
+    (λ c. search needs)
+    (λ c. search needs)
+    (λ c. omega (arith, c .shared-slice-known3 .given 1))
+    (λ c. search needs)
+    (λ c. search needs)
+    returns)

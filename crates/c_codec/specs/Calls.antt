@@ -1,0 +1,41 @@
+-- What the calls answer, and what they leave in what they are lent. Assumes nothing.
+use Prim.Native.Nat.{ℕ}
+use mathlib.Core.Bool.{cond, not}
+use mathlib.Core.List.{List}
+use lib.Dec.{eqb}
+use lib.ListN.{length}
+use Rattle.telegram.specs.declared.frame.Frame.{Frame}
+use Rattle.telegram.specs.Output.{Result}
+use Rattle.telegram.specs.Fields.{readOf, buildOf}
+use Rattle.telegram.specs.Repeater.{repeatResult}
+use Rattle.c_layout.specs.Frame.{wrongSize, frameLength, frameBytes}
+use Rattle.c_codec.specs.Fields.{fieldsLength, fieldsBytes, telegramIn}
+
+-- the number, and every byte of the values' slice at exit
+pub record Call : Type 0 where
+  pub number : ℕ
+  pub values : List ℕ
+
+abbrev pub call : ℕ → List ℕ → Call
+call number values = record { number = number; values = values }
+
+-- a slice that must have n elements: with another size it is left as it was
+abbrev pub sized : ℕ → List ℕ → Call → Call
+sized n old done = cond (not (eqb (length old) n)) (call wrongSize old) done
+
+-- document 01's reading: the check's number, and the fields, zero beside a refusal
+unfoldable pub readCall : List ℕ → List ℕ → Call
+readCall s old = sized fieldsLength old (call (readOf s .number) (fieldsBytes (readOf s .telegram)))
+
+-- document 01's building of what 26 bytes say; of another size nothing is touched, the length of the result too
+unfoldable pub buildCall : List ℕ → ℕ → List ℕ → Result
+buildCall fields was output =
+    cond (not (eqb (length fields) fieldsLength)) (record { number = wrongSize; len = was; output = output })
+    (buildOf (telegramIn fields) output)
+
+-- document 02's A7: the number, and the telegram to send
+abbrev pub sentBytes : Frame → List ℕ
+sentBytes f = frameBytes (f .len) (f .bytes)
+
+unfoldable pub repeatCall : ℕ → List ℕ → List ℕ → Call
+repeatCall setting s old = sized frameLength old (call (repeatResult setting s .number) (sentBytes (repeatResult setting s .sent)))

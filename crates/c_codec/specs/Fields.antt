@@ -1,0 +1,28 @@
+-- The fields of a telegram in 26 bytes. Assumes nothing.
+use Prim.Native.Nat.{ℕ}
+use mathlib.Core.Bool.{not}
+use mathlib.Core.List.{List, [], _∷_, _++_}
+use lib.Dec.{eqb}
+use lib.ListN.{getD}
+use Rattle.layout.specs.Buffer.{part}
+use Rattle.telegram.specs.declared.fields.Telegram.{Telegram}
+use Rattle.c_layout.specs.Frame.{flagByte}
+
+abbrev pub fieldsLength : ℕ
+fieldsLength = 26
+
+-- RORG, the length of DATA, 1 if addressed, STATUS, DESTID (4), TXID (4), DATA (14)
+unfoldable pub fieldsBytes : Telegram → List ℕ
+fieldsBytes t = (t .rorg ∷ t .len ∷ flagByte (t .addressed) ∷ t .status ∷ []) ++ t .destid ++ t .txid ++ t .payload
+
+-- what they say; any other number than 0 says "addressed"
+unfoldable pub telegramIn : List ℕ → Telegram
+telegramIn bytes = record {
+  rorg = getD bytes 0 0;
+  payload = part 12 14 bytes;
+  len = getD bytes 1 0;
+  addressed = not (eqb (getD bytes 2 0) 0);
+  destid = part 4 4 bytes;
+  txid = part 8 4 bytes;
+  status = getD bytes 3 0;
+}

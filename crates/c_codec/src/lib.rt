@@ -1,0 +1,139 @@
+// The codec on plain numbers and bytes, as other languages call it: each call answers a number, and hands values back through what it is lent.
+use c_layout::FRAME_LENGTH;
+use c_layout::WRONG_SIZE;
+use telegram::addressing;
+use telegram::fields;
+use telegram::fields::MAX_DATA;
+use telegram::fields::Telegram;
+use telegram::repeater;
+ghost use mathlib.Core.Path.{_≡_};
+ghost use Prim.Native.Nat.{_<_};
+ghost use lib.ListN.{length};
+ghost use Rattle.layout.specs.BigEndian.{be};
+ghost use Rattle.telegram.specs.Addressing.{encapsulateOf, decapsulateOf};
+ghost use Rattle.c_codec.specs.Fields.{fieldsLength, fieldsBytes, telegramIn};
+ghost use Rattle.c_codec.specs.Calls.{readCall, buildCall, repeatCall};
+
+// The bytes of a telegram's fields.
+pub const FIELDS_LENGTH: usize = 26;
+
+// Reads a subtelegram into the 26 bytes of its fields, all zero beside a refusal: 255, then the check's own.
+pub fn read(bytes: &[u8], fields: &mut [u8]) -> u8
+    ensures { λ r. ⌜ record { number = r; values = now (fields .exit) } ≡ readCall (now (bytes .entry)) (now (fields .entry)) ⌝ }
+{
+    if fields.len() != FIELDS_LENGTH {
+        return WRONG_SIZE;
+    }
+    let reading = fields::read(bytes);
+    let checked = reading.checked;
+    let t = reading.telegram;
+    put_fields(fields, t);
+    c_layout::checked_number(checked)
+}
+
+// Builds the telegram that the 26 bytes say into `out`: 255, then 10, 5, 6.
+pub fn build(fields: &[u8], out: &mut [u8], length: &mut usize) -> u8
+    ensures { λ r. ⌜ record { number = r; len = now (length .exit); output = now (out .exit) }
+        ≡ buildCall (now (fields .entry)) (now (length .entry)) (now (out .entry)) ⌝ }
+{
+    if fields.len() != FIELDS_LENGTH {
+        return WRONG_SIZE;
+    }
+    c_layout::settle(fields::build(telegram_in(fields), out), length)
+}
+
+// Encapsulates for a DESTID, which is a number: the check's own, 3, 5, 6.
+pub fn encapsulate(bytes: &[u8], destid: u32, out: &mut [u8], length: &mut usize) -> u8
+    ensures { λ r. ⌜ record { number = r; len = now (length .exit); output = now (out .exit) }
+        ≡ encapsulateOf (now (bytes .entry)) (be 4 destid) (now (out .entry)) ⌝ }
+{
+    c_layout::settle(
+        addressing::encapsulate(bytes, id_bytes(destid), out),
+        length,
+    )
+}
+
+// Removes an encapsulation: the check's own, 4, 6.
+pub fn decapsulate(bytes: &[u8], out: &mut [u8], length: &mut usize) -> u8
+    ensures { λ r. ⌜ record { number = r; len = now (length .exit); output = now (out .exit) }
+        ≡ decapsulateOf (now (bytes .entry)) (now (out .entry)) ⌝ }
+{
+    c_layout::settle(addressing::decapsulate(bytes, out), length)
+}
+
+// What a repeater sends for a valid telegram, as a frame of 22 bytes, all zero for nothing and beside a refusal: 255, then 10, the check's own.
+pub fn repeat(setting: u8, bytes: &[u8], sent: &mut [u8]) -> u8
+    ensures { λ r. ⌜ record { number = r; values = now (sent .exit) } ≡ repeatCall setting (now (bytes .entry)) (now (sent .entry)) ⌝ }
+{
+    if sent.len() != FRAME_LENGTH {
+        return WRONG_SIZE;
+    }
+    let repeated = repeater::repeat(setting, bytes);
+    let answer = repeated.answer;
+    let frame = repeated.sent;
+    let raised = frame.bytes;
+    c_layout::put_frame(sent, frame.len as u8, &raised);
+    c_layout::checked_number(answer)
+}
+
+// ---- fields
+
+fn put_fields(out: &mut [u8], t: Telegram)
+    requires { ⌜ (length (now out) ≡ fieldsLength) × (t .len < 256) ⌝ }
+    ensures { λ _. ⌜ now (out .exit) ≡ fieldsBytes t ⌝ }
+{
+    let destid = t.destid;
+    let txid = t.txid;
+    let payload = t.payload;
+    out[0] = t.rorg;
+    out[1] = t.len as u8;
+    out[2] = c_layout::flag_byte(t.addressed);
+    out[3] = t.status;
+    layout::put_bytes(&mut out[4..8], &destid);
+    layout::put_bytes(&mut out[8..12], &txid);
+    layout::put_bytes(&mut out[12..FIELDS_LENGTH], &payload);
+}
+
+fn telegram_in(fields: &[u8]) -> Telegram
+    requires { ⌜ length (now fields) ≡ fieldsLength ⌝ }
+    ensures { λ r. ⌜ r ≡ telegramIn (now (fields .entry)) ⌝ }
+{
+    let destid = id_in(&fields[4..8]);
+    let txid = id_in(&fields[8..12]);
+    let payload = payload_in(&fields[12..FIELDS_LENGTH]);
+    Telegram {
+        rorg: fields[0],
+        payload: payload,
+        len: fields[1] as usize,
+        addressed: fields[2] != 0,
+        destid: destid,
+        txid: txid,
+        status: fields[3],
+    }
+}
+
+fn id_in(part: &[u8]) -> [u8; 4]
+    requires { ⌜ length (now part) ≡ 4 ⌝ }
+    ensures { λ r. ⌜ r ≡ now (part .entry) ⌝ }
+{
+    let mut id = [0u8; 4];
+    bytes::copy(part, &mut id);
+    id
+}
+
+fn payload_in(part: &[u8]) -> [u8; MAX_DATA]
+    requires { ⌜ length (now part) ≡ 14 ⌝ }
+    ensures { λ r. ⌜ r ≡ now (part .entry) ⌝ }
+{
+    let mut payload = [0u8; MAX_DATA];
+    bytes::copy(part, &mut payload);
+    payload
+}
+
+fn id_bytes(id: u32) -> [u8; 4]
+    ensures { λ r. ⌜ r ≡ be 4 id ⌝ }
+{
+    let mut bytes = [0u8; 4];
+    layout::put_number(&mut bytes, id as u64);
+    bytes
+}

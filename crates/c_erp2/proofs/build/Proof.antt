@@ -1,0 +1,31 @@
+-- `c_erp2::build` meets its contract. Assumes nothing.
+use mathlib.Core.Path.{_∙_, ap}
+use borrow.Author.Needs.{needs}
+use denote.Ref.{now}
+use Rattle.erp2_model.specs.declared.Telegram.{Telegram}
+use Rattle.erp2_model.specs.Building.{buildOf}
+use Rattle.c_erp2.proofs.Calls.{build-other, build-done}
+use Rattle.c_erp2.proofs.build.Statement.{statement}
+use Rattle.c_erp2.proofs.build.Tie as tie
+
+other-size : tie.Need-returns
+other-size c =
+    let a = c .before .before .before .args in
+    build-other (now (a .fields)) (a .originator) (a .destination) (now (a .length)) (now (a .out)) (c .if1 .taken)
+
+built : tie.Need-returns-2
+built c =
+    let a = c .before .before .before .before .before .before .before .before .before .before .args in
+    c .settle .ensures _ ∙ c .before .before .before .before .build .ensures ∙ ap (λ (t : Telegram). buildOf t (now (a .out))) (c .before .before .before .before .before .before .telegram-in .ensures)
+    ∙ build-done (now (a .fields)) (a .originator) (a .destination) (now (a .length)) (now (a .out)) (c .before .before .before .before .before .before .before .if1 .left)
+
+pub build-spec : {M : Type 1} → statement M
+build-spec =
+    tie.close
+    (tie.spec
+    other-size
+    (λ c κs. search needs)
+    (λ c κs. search needs)
+    (λ c κs. search needs)
+    (λ c. search needs)
+    built)

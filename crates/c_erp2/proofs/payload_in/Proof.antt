@@ -1,0 +1,21 @@
+-- `c_erp2::payload_in` meets its contract: the whole array is copied. Assumes nothing.
+use mathlib.Core.Path.{_∙_}
+use mathlib.Core.List.{append-nil}
+use borrow.Author.Needs.{needs}
+use denote.Ref.{now}
+use Rattle.telegram.proofs.Reading.{padded-copy}
+use Rattle.c_erp2.proofs.payload_in.Statement.{statement}
+use Rattle.c_erp2.proofs.payload_in.Tie as tie
+
+returns : tie.Need-returns
+returns c =
+    let part = now (c .before .before .before .before .args .part) in
+    padded-copy 250 part _ (c .before .copy .ensures .1) ∙ simp (c .before .before .before .before .pre, append-nil)
+
+pub payload-in-spec : {M : Type 1} → statement M
+payload-in-spec =
+    tie.close
+    (tie.spec
+    (λ c. search needs)
+    (λ c κs. search needs)
+    returns)

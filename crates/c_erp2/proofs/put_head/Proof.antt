@@ -1,0 +1,67 @@
+-- `c_erp2::put_head` meets its contract: a step for each byte that is stored. Assumes nothing.
+use mathlib.Core.Path.{_≡_, _∙_}
+use native.Mathlib.Omega.{arith}
+use borrow.Author.Needs.{needs}
+use denote.Ref.{now}
+use lib.ListN.{length-set}
+use Rattle.layout.proofs.Segments.{Writing, packed, begin, begun-length, store, done}
+use Rattle.c_erp2.proofs.Calls.{head-are}
+use Rattle.c_erp2.proofs.put_head.Statement.{statement}
+use Rattle.c_erp2.proofs.put_head.Tie as tie
+
+-- what is written, after some steps
+abbrev step4 : tie.After-flag-byte4 → Writing 4
+step4 c =
+    let a = c .before .before .before .before .before .args in
+    let long = c .before .before .before .before .before .pre .0 in
+    packed
+    (store
+    (store (store (store (begin (now (a .out))) (a .t .short) (omega (arith, long))) (a .t .header .control) (omega (arith, long))) (c .before .before .before .flag-byte .result) (omega (arith, long)))
+    (a .t .header .kind)
+    (omega (arith, long)))
+
+abbrev step8 : tie.After-flag-byte4 → Writing 8
+step8 c =
+    let a = c .before .before .before .before .before .args in
+    let long = c .before .before .before .before .before .pre .0 in
+    packed
+    (store
+    (store (store (store (step4 c .begun) (c .before .before .flag-byte2 .result) (omega (arith, long))) (a .t .extension .hops) (omega (arith, long))) (a .t .extension .announced) (omega (arith, long)))
+    (c .before .flag-byte3 .result)
+    (omega (arith, long)))
+
+abbrev step11 : tie.After-flag-byte4 → Writing 11
+step11 c =
+    let a = c .before .before .before .before .before .args in
+    let long = c .before .before .before .before .before .pre .0 in
+    packed
+    (store (store (store (step8 c .begun) (a .t .subtype .value) (omega (arith, long))) (c .flag-byte4 .result) (omega (arith, long))) (a .t .len) (omega (arith, long)))
+
+written : tie.Need-returns
+written c =
+    let start = c .before .before .before .before .before .before in
+    done (step11 (c .before) .begun) (start .pre .0)
+    ∙ head-are (start .args .t) _ _ _ _ (c .before .before .before .before .flag-byte .ensures) (c .before .before .before .flag-byte2 .ensures) (c .before .before .flag-byte3 .ensures) (c .before .flag-byte4 .ensures)
+
+pub put-head-spec : {M : Type 1} → statement M
+put-head-spec =
+    tie.close
+    (tie.spec
+    (λ c κs. search needs)
+    (λ c κs. search needs)
+    (λ c κs. search needs)
+    (λ c κs. search needs)
+    (λ c. search needs)
+    (λ c. search needs)
+    (λ c. search needs)
+    (λ c. search needs)
+    (λ c. simp length-set (omega (arith, c .before .before .before .before .before .pre .0)))
+    (λ c. simp length-set (omega (arith, c .before .before .before .before .before .pre .0)))
+    (λ c. simp length-set (omega (arith, c .before .before .before .before .before .pre .0)))
+    (λ c. simp length-set (omega (arith, c .before .before .before .before .before .pre .0)))
+    (λ c. simp length-set (omega (arith, c .before .before .before .before .before .pre .0)))
+    (λ c. simp length-set (omega (arith, c .before .before .before .before .before .pre .0)))
+    (λ c. search needs)
+    (λ c. simp length-set (omega (arith, c .before .before .before .before .before .before .pre .0)))
+    (λ c. begun-length (step11 (c .before) .begun))
+    written)

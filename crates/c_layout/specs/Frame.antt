@@ -1,0 +1,21 @@
+-- What the calls for other languages share. Assumes nothing.
+use Prim.Native.Nat.{ℕ}
+use mathlib.Core.Bool.{Bool, cond}
+use mathlib.Core.List.{List, [], _∷_, _++_}
+use Rattle.erp1.specs.Subtelegram.{maxLength}
+use Rattle.layout.specs.Buffer.{resized}
+
+-- the number of a lent slice of another size than its call asks for; no paper uses it
+abbrev pub wrongSize : ℕ
+wrongSize = 255
+
+-- a telegram with its length: "in 21 bytes, zero filled, with its length, 0 if none" (document 01, "Numbers a caller sees")
+abbrev pub frameLength : ℕ
+frameLength = 22
+
+unfoldable pub frameBytes : ℕ → List ℕ → List ℕ
+frameBytes len bytes = (len ∷ []) ++ resized maxLength bytes
+
+-- 1 for yes, 0 for no
+abbrev pub flagByte : Bool → ℕ
+flagByte flag = cond flag 1 0

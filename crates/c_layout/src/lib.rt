@@ -1,0 +1,63 @@
+// What the calls for other languages share: the number of a wrong size, and the bytes of a telegram with its length.
+use erp1::Checked;
+use telegram::frame::Built;
+ghost use mathlib.Core.Path.{_≡_};
+ghost use mathlib.Core.List.{List};
+ghost use Prim.Native.Nat.{ℕ};
+ghost use Rattle.erp1.specs.Subtelegram.{checkedNumber};
+ghost use Rattle.telegram.specs.Output.{resultOf};
+ghost use Rattle.layout.specs.Buffer.{overwritten};
+ghost use Rattle.c_layout.specs.Frame.{frameLength, frameBytes, flagByte};
+
+// A lent slice does not have the size that its call asks for: a number of the interface alone, which no paper uses.
+pub const WRONG_SIZE: u8 = 255;
+
+// A length byte and 21 bytes.
+pub const FRAME_LENGTH: usize = 22;
+
+// The frame of some bytes, zero filled, with a length byte; a buffer of another size stays as it is.
+pub fn put_frame(out: &mut [u8], len: u8, bytes: &[u8])
+    ensures { λ _. ⌜ now (out .exit) ≡ overwritten frameLength (frameBytes len (now (bytes .entry))) (now (out .entry)) ⌝ }
+{
+    if out.len() != FRAME_LENGTH {
+        return;
+    }
+    out[0] = len;
+    layout::put_bytes(&mut out[1..22], bytes);
+}
+
+// A flag as a byte.
+pub fn flag_byte(flag: bool) -> u8
+    ensures { λ r. ⌜ r ≡ flagByte flag ⌝ }
+{
+    if flag {
+        return 1;
+    }
+    0
+}
+
+// The number of a check's answer.
+pub fn checked_number(checked: Checked) -> u8
+    ensures { λ r. ⌜ r ≡ checkedNumber checked ⌝ }
+{
+    match checked {
+        Checked::Valid => 0,
+        Checked::Refused(why) => refusal::number(why),
+    }
+}
+
+// The number of what was written, and its length.
+pub fn settle(built: Built, length: &mut usize) -> u8
+    ensures { λ r. ⌜ ((output : List ℕ) → record { number = r; len = now (length .exit); output = output } ≡ resultOf built output) ⌝ }
+{
+    match built {
+        Built::Done(n) => {
+            *length = n;
+            0
+        }
+        Built::Refused(why) => {
+            *length = 0;
+            refusal::number(why)
+        }
+    }
+}

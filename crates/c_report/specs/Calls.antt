@@ -1,0 +1,30 @@
+-- A report in two arrays of numbers, and what the calls leave in them. Assumes nothing.
+use Prim.Native.Nat.{ℕ}
+use mathlib.Core.List.{List, [], _∷_}
+use lib.ListN.{getD}
+use Rattle.report_model.specs.Report as model
+use Rattle.report.specs.Lines.{linesOf}
+
+-- archives added, lines, KEPT rows and LOOSE rows; five numbers for each line, of which those past the lines are left to the program
+abbrev pub reportAt : List ℕ → List ℕ → model.Report
+reportAt numbers lines = record {
+  archives = getD numbers 0 0;
+  lines = linesOf lines (getD numbers 1 0);
+  kept = getD numbers 2 0;
+  loose = getD numbers 3 0;
+}
+
+-- identity, KEPT rows, LOOSE rows, earliest and latest time
+abbrev pub lineNumbers : model.Line → List ℕ
+lineNumbers a = a .identity ∷ a .kept ∷ a .loose ∷ a .earliest ∷ a .latest ∷ []
+
+-- the number, and every number of the lent line at exit
+pub record LineCall : Type 0 where
+  pub number : ℕ
+  pub values : List ℕ
+
+abbrev pub lineOf : model.LineAnswer → LineCall
+lineOf a = record { number = a .number; values = lineNumbers (a .line) }
+
+abbrev pub lineCall : model.Report → ℕ → LineCall
+lineCall r i = lineOf (model.lineOfReport r i)

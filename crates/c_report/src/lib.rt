@@ -1,0 +1,137 @@
+// Reports on plain numbers and bytes, as other languages call them: a report is two lent arrays, its numbers and its lines.
+use archive::Outcome;
+use refusal::Refusal;
+use report::LineAt;
+use report::Looked;
+use report::Report;
+use report::Share;
+ghost use mathlib.Core.Path.{_≡_};
+ghost use mathlib.Core.List.{List};
+ghost use Prim.Native.Nat.{ℕ};
+ghost use Rattle.report_model.specs.Report as model;
+ghost use Rattle.report.specs.Report.{reportOf, outcomeNumber, outcomePosition, lookedNumber, shareResult};
+ghost use Rattle.c_report.specs.Calls.{reportAt, lineNumbers, lineCall};
+
+// How many archives were added, how many lines there are, KEPT rows, LOOSE rows.
+pub const NUMBERS: usize = 4;
+
+// Five numbers a line: identity, KEPT rows, LOOSE rows, earliest and latest time.
+pub const LINE_NUMBERS: usize = 5;
+
+pub const LINES: usize = Report::MAX_LINES * LINE_NUMBERS;
+
+// A report of no archive.
+pub fn empty(numbers: &mut [u64; NUMBERS], lines: &mut [u64; LINES])
+    ensures { λ _. ⌜ reportAt (now (numbers .exit)) (now (lines .exit)) ≡ model.emptyReport ⌝ }
+{
+    store(Report::empty(), numbers, lines);
+}
+
+// Adds the rows of an archive: 11, 16, 12 with the position, 10, 17; then the report is as it was.
+pub fn add(
+    numbers: &mut [u64; NUMBERS],
+    lines: &mut [u64; LINES],
+    buffer: &[u8],
+    position: &mut usize,
+) -> u8
+    ensures { λ r. ⌜ model.answer r (now (position .exit)) (reportAt (now (numbers .exit)) (now (lines .exit)))
+        ≡ model.addOf (reportAt (now (numbers .entry)) (now (lines .entry))) (now (buffer .entry)) ⌝ }
+{
+    let added = report_in(numbers, lines).add(buffer);
+    let answer = added.answer;
+    store(added.next, numbers, lines);
+    settle(answer, position)
+}
+
+// Line `i`, five numbers, zero beside a refusal: 11, 10.
+pub fn line(
+    numbers: &[u64; NUMBERS],
+    lines: &[u64; LINES],
+    i: usize,
+    line: &mut [u64; LINE_NUMBERS],
+) -> u8
+    ensures { λ r. ⌜ record { number = r; values = now (line .exit) } ≡ lineCall (reportAt (now (numbers .entry)) (now (lines .entry))) i ⌝ }
+{
+    let found = report_in(numbers, lines).line(i);
+    *line = [
+        found.identity,
+        found.kept,
+        found.loose,
+        found.earliest,
+        found.latest,
+    ];
+    let answer = found.answer;
+    looked_number(answer)
+}
+
+// The share of its rows in receptions, in whole thousandths: 11, 10.
+pub fn share(
+    numbers: &[u64; NUMBERS],
+    lines: &[u64; LINES],
+    received: u64,
+    thousandths: &mut u64,
+) -> u8
+    ensures { λ r. ⌜ record { number = r; thousandths = now (thousandths .exit) } ≡ model.shareOf (reportAt (now (numbers .entry)) (now (lines .entry))) received ⌝ }
+{
+    let share = report_in(numbers, lines).share(received);
+    match share {
+        Share::PerMille(t) => {
+            *thousandths = t;
+            0
+        }
+        Share::Refused(why) => {
+            *thousandths = 0;
+            refusal::number(why)
+        }
+    }
+}
+
+// The report that two arrays hold.
+fn report_in(numbers: &[u64; NUMBERS], lines: &[u64; LINES]) -> Report
+    ensures { λ r. ⌜ reportOf r ≡ reportAt (now (numbers .entry)) (now (lines .entry)) ⌝ }
+{
+    Report {
+        archives: numbers[0] as usize,
+        count: numbers[1] as usize,
+        kept: numbers[2],
+        loose: numbers[3],
+        lines: *lines,
+    }
+}
+
+fn store(r: Report, numbers: &mut [u64; NUMBERS], lines: &mut [u64; LINES])
+    ensures { λ _. ⌜ reportAt (now (numbers .exit)) (now (lines .exit)) ≡ reportOf r ⌝ }
+{
+    *numbers = [r.archives as u64, r.count as u64, r.kept, r.loose];
+    let all = r.lines;
+    *lines = all;
+}
+
+// The number of an outcome, and the position beside 12.
+fn settle(outcome: Outcome, position: &mut usize) -> u8
+    ensures { λ r. ⌜ (r ≡ outcomeNumber outcome) × (now (position .exit) ≡ outcomePosition outcome) ⌝ }
+{
+    match outcome {
+        Outcome::Done => {
+            *position = 0;
+            0
+        }
+        Outcome::Damaged(k) => {
+            *position = k;
+            refusal::number(Refusal::Mismatch)
+        }
+        Outcome::Refused(why) => {
+            *position = 0;
+            refusal::number(why)
+        }
+    }
+}
+
+fn looked_number(looked: Looked) -> u8
+    ensures { λ r. ⌜ r ≡ lookedNumber looked ⌝ }
+{
+    match looked {
+        Looked::Line => 0,
+        Looked::Refused(why) => refusal::number(why),
+    }
+}
