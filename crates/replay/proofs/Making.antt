@@ -1,5 +1,5 @@
 -- What each call writes is its part of the record: the cells of a call, by what the contract of the function that was called says.
---     answered, loaded, delivered, seen       receptions, restores, bursts, looks
+--     answered, loaded, delivered, heard, seen      receptions, restores, bursts, asks, looks
 --     saved-output, saved                     a checkpoint, whose output is written before its head
 --     image-lent, cut-made                    a cut: the image in the first cell, and the second cell
 -- Assumes nothing.
@@ -19,7 +19,8 @@ use Rattle.model.specs.View.{Reception, View, fresh}
 use Rattle.model.specs.Step.{Outcome, step, sentFor}
 use Rattle.model.specs.Image.{CheckpointResult, RestoreResult, imageLength, checkpointOf, restoreOf}
 use Rattle.model.specs.Burst.{Replied, BurstResult, burstOf}
-use Rattle.model.specs.History.{Call, Receive, Checkpoint, Restore, Cut, Burst, Look, Answered, Wrote, Restored, Delivered, Looked, run}
+use Rattle.model.specs.Heard.{HeardResult, copiesOf}
+use Rattle.model.specs.History.{Call, Receive, Checkpoint, Restore, Cut, Burst, Ask, Look, Answered, Wrote, Restored, Delivered, Heard, Looked, run}
 use Rattle.replay_model.specs.Operation.{saving}
 use Rattle.replay_model.specs.Record.{headOf, bytesOf, recordOf}
 use Rattle.replay_model.proofs.Parts.{record-one, record-two}
@@ -41,6 +42,9 @@ module _ (v : View) where
   pub delivered : (setting : ℕ) (rs : List Reception) (places : List Replied) (b : BurstResult) → b ≡ burstOf setting v rs places
       → bytesOf (Delivered (b .number) (b .replies) (b .next .totals)) ≡ recordOf (run v (Burst setting rs places ∷ []))
   delivered setting rs places b e = ap (λ (p : BurstResult). bytesOf (Delivered (p .number) (p .replies) (p .next .totals))) e ∙ record-one _
+
+  pub heard : (k : ℕ) (a : HeardResult) → a ≡ copiesOf v k → bytesOf (Heard (a .number) (a .copies) (v .totals)) ≡ recordOf (run v (Ask k ∷ []))
+  heard k a e = ap (λ (p : HeardResult). bytesOf (Heard (p .number) (p .copies) (v .totals))) e ∙ record-one _
 
   pub seen : bytesOf (Looked (v .totals)) ≡ recordOf (run v (Look ∷ []))
   seen = record-one _

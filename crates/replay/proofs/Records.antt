@@ -26,11 +26,11 @@ use Rattle.layout.specs.Buffer.{part, resized}
 use Rattle.layout.specs.BigEndian.{unbe}
 use Rattle.layout.proofs.Buffer.{resized-whole}
 use Rattle.layout.proofs.Segments.{part-length, part-ends, take-clamped}
-use Rattle.model.specs.History.{Call, Receive, Checkpoint, Restore, Cut, Burst, Look}
-use Rattle.replay_model.specs.Operation.{receiving, saving, cutting, restoring, delivering}
+use Rattle.model.specs.History.{Call, Receive, Checkpoint, Restore, Cut, Burst, Ask, Look}
+use Rattle.replay_model.specs.Operation.{receiving, saving, cutting, restoring, delivering, asking}
 use Rattle.replay_model.specs.Replay.{sizeOf, sizeOfAll}
 use Rattle.replay_model.proofs.Sizes.{size-append, size-part}
-use Rattle.replay.specs.Calls.{callLength, recordAt, settingIn, receptionIn, outputIn, lentIn, receptionsIn, placesIn, callIn, callsIn}
+use Rattle.replay.specs.Calls.{callLength, recordAt, settingIn, receptionIn, outputIn, lentIn, receptionsIn, placesIn, entryIn, callIn, callsIn}
 
 -- ---- the fields of a record
 
@@ -91,6 +91,10 @@ module _ (lent r : List ℕ) where
   unfolding callIn
   call-burst e = rw e
 
+  pub call-ask : getD r 0 0 ≡ asking → callIn lent r ≡ Ask (entryIn r)
+  unfolding callIn
+  call-ask e = rw e
+
   -- byte 0 is none of these
   pub record Other : Type 0 where
     pub receive : getD r 0 0 ≡ receiving → ⊥
@@ -98,6 +102,7 @@ module _ (lent r : List ℕ) where
     pub cut : getD r 0 0 ≡ cutting → ⊥
     pub restore : getD r 0 0 ≡ restoring → ⊥
     pub burst : getD r 0 0 ≡ delivering → ⊥
+    pub ask : getD r 0 0 ≡ asking → ⊥
 
   pub call-look : Other → callIn lent r ≡ Look
   unfolding callIn
@@ -108,6 +113,7 @@ module _ (lent r : List ℕ) where
         ne-eqb (getD r 0 0) cutting (o .cut),
         ne-eqb (getD r 0 0) restoring (o .restore),
         ne-eqb (getD r 0 0) delivering (o .burst),
+        ne-eqb (getD r 0 0) asking (o .ask),
       )
 
 -- what is written of a call has a length that the bytes lent beside it do not change
@@ -118,7 +124,8 @@ size-lent lent r =
     (λ a. by-test (eqb (getD r 0 0) saving) (λ b. rw (a, b))
     (λ b. by-test (eqb (getD r 0 0) cutting) (λ c. rw (a, b, c))
     (λ c. by-test (eqb (getD r 0 0) restoring) (λ d. rw (a, b, c, d))
-    (λ d. by-test (eqb (getD r 0 0) delivering) (λ e. rw (a, b, c, d, e)) (λ e. rw (a, b, c, d, e))))))
+    (λ d. by-test (eqb (getD r 0 0) delivering) (λ e. rw (a, b, c, d, e))
+    (λ e. by-test (eqb (getD r 0 0) asking) (λ f. rw (a, b, c, d, e, f)) (λ f. rw (a, b, c, d, e, f)))))))
 
 -- ---- the calls of all records
 

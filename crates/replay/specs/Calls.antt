@@ -12,9 +12,9 @@ use Rattle.layout.specs.BigEndian.{unbe}
 use Rattle.model.specs.Answer.{Shown, Kept, Copy, Loose}
 use Rattle.model.specs.View.{Reception}
 use Rattle.model.specs.Burst.{Replied}
-use Rattle.model.specs.History.{Call, Receive, Checkpoint, Restore, Cut, Burst, Look}
+use Rattle.model.specs.History.{Call, Receive, Checkpoint, Restore, Cut, Burst, Ask, Look}
 use Rattle.burst.specs.Records.{listed}
-use Rattle.replay_model.specs.Operation.{receiving, saving, cutting, restoring, delivering}
+use Rattle.replay_model.specs.Operation.{receiving, saving, cutting, restoring, delivering, asking}
 
 abbrev pub callLength : ℕ
 callLength = 64
@@ -70,6 +70,10 @@ placeIn r = record { answer = formIn (getD r 25 0); sent = record { len = getD r
 abbrev pub placesIn : List ℕ → List Replied
 placesIn r = replicate (min (numberAt 17 r) listed) (placeIn r)
 
+-- an ask: the entry in 1 to 8, counted from 0
+abbrev pub entryIn : List ℕ → ℕ
+entryIn r = numberAt 1 r
+
 -- ---- the calls
 
 -- byte 0 says which call it is
@@ -80,7 +84,8 @@ callIn lent r =
     (cond (eqb (getD r 0 0) cutting) (Cut (outputIn r))
     (cond (eqb (getD r 0 0) restoring) (Restore (lentIn lent r))
     (cond (eqb (getD r 0 0) delivering) (Burst (settingIn r) (receptionsIn (lentIn lent r)) (placesIn r))
-    Look))))
+    (cond (eqb (getD r 0 0) asking) (Ask (entryIn r))
+    Look)))))
 
 -- of all whole records
 unfoldable pub callsIn : List ℕ → List ℕ → List Call

@@ -15,11 +15,11 @@ ghost use lib.ListN.{length};
 ghost use Rattle.telegram.specs.Frame.{frameOf};
 ghost use Rattle.telegram.specs.Repeater.{repeatOf};
 ghost use Rattle.model.specs.Answer.{shownOf, isKept};
-ghost use Rattle.model.specs.History.{Receive, Checkpoint, Restore, Cut, Burst, Look};
+ghost use Rattle.model.specs.History.{Receive, Checkpoint, Restore, Cut, Burst, Ask, Look};
 ghost use Rattle.collector.specs.Collector.{viewOf};
 ghost use Rattle.burst.specs.Records.{listed};
 ghost use Rattle.replay_model.specs.Record.{headLength, countLength, replyLength};
-ghost use Rattle.replay.specs.Calls.{callLength, numberAt, settingIn, receptionIn, outputIn, lentIn, receptionsIn, placesIn};
+ghost use Rattle.replay.specs.Calls.{callLength, numberAt, settingIn, receptionIn, outputIn, lentIn, receptionsIn, placesIn, entryIn};
 ghost use Rattle.replay.specs.Replay.{Called, BurstMade};
 
 // The most bytes that a record has for a reception.
@@ -125,6 +125,17 @@ fn burst_in<'a>(c: Collector, r: &'a [u8], bytes: &'a [u8], m: usize) -> Within
     let records = reading::receptions_in(bytes, n);
     let places = reading::places(reading::place_in(r));
     burst::burst_within(c, r[63], records, n, places, m)
+}
+
+pub(crate) fn asked<'a>(c: Collector, r: &'a [u8], out: &'a mut [u8]) -> Collector
+    requires { ⌜ (length (now r) ≡ callLength) × (length (now out) ≡ headLength + countLength) ⌝ }
+    ensures { λ d. ⌜ Called (viewOf c) (Ask (entryIn (now (r .entry)))) (now (out .exit)) d ⌝ }
+{
+    let entry = reading::number_at(r, 1);
+    let heard = c.copies(entry as usize);
+    let answer = heard.answer;
+    writing::put_heard(out, answer, heard.copies, c.totals);
+    c
 }
 
 pub(crate) fn looked(c: Collector, out: &mut [u8]) -> Collector

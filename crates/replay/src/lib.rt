@@ -35,6 +35,8 @@ pub const RESTORING: u8 = 5;
 
 pub const DELIVERING: u8 = 6;
 
+pub const ASKING: u8 = 7;
+
 // Whether the calls were made.
 pub enum Ran {
     Done,
@@ -128,6 +130,9 @@ fn call<'a>(c: Collector, r: &'a [u8], lent: &'a [u8], out: &'a mut [u8]) -> Col
     }
     if operation == DELIVERING {
         return calls::delivered(c, r, lent, out);
+    }
+    if operation == ASKING {
+        return calls::asked(c, r, out);
     }
     calls::looked(c, out)
 }

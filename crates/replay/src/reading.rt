@@ -37,6 +37,9 @@ pub(crate) fn size_in(r: &[u8]) -> usize
     if operation == crate::DELIVERING {
         return crate::writing::BODY + crate::writing::REPLY * place_count(r);
     }
+    if operation == crate::ASKING {
+        return crate::writing::BODY;
+    }
     crate::writing::HEAD
 }
 

@@ -2,6 +2,7 @@
 use burst::Handed;
 use burst::LISTED;
 use burst::Reply;
+use collector::Asked;
 use collector::Collector;
 use image::Loaded;
 use image::Saved;
@@ -14,8 +15,9 @@ ghost use Prim.Native.Nat.{_+_, _-_, _*_, _≤_};
 ghost use lib.ListN.{length, take, replicate};
 ghost use Rattle.model.specs.Answer.{shownOf, shownNumber};
 ghost use Rattle.model.specs.Image.{checkpointOf};
-ghost use Rattle.model.specs.History.{Answered, Restored, Delivered};
+ghost use Rattle.model.specs.History.{Answered, Restored, Delivered, Heard};
 ghost use Rattle.collector.specs.Collector.{viewOf};
+ghost use Rattle.collector.specs.Heard.{askedNumber};
 ghost use Rattle.image.specs.Checkpoint.{savedNumber, loadedNumber, checkpointResult};
 ghost use Rattle.burst.specs.Records.{repliedOf, handedNumber, listed};
 ghost use Rattle.replay_model.specs.Record.{headLength, countLength, replyLength, headOf, formOf, replyOf, bytesOf};
@@ -103,6 +105,15 @@ fn put_replies(out: &mut [u8], replies: [Reply; LISTED], m: usize)
     }
 }
 
+pub(crate) fn put_heard(out: &mut [u8], answer: Asked, copies: u16, totals: Totals)
+    requires { ⌜ length (now out) ≡ headLength + countLength ⌝ }
+    ensures { λ _. ⌜ now (out .exit) ≡ bytesOf (Heard (askedNumber answer) copies totals) ⌝ }
+{
+    let number = asked_number(answer);
+    put_head(&mut out[0..HEAD], crate::ASKING, number, totals);
+    layout::put_number(&mut out[HEAD..BODY], copies as u64);
+}
+
 // The operation, the number, and the totals.
 pub(crate) fn put_head(out: &mut [u8], operation: u8, number: u8, t: Totals)
     requires { ⌜ length (now out) ≡ headLength ⌝ }
@@ -167,6 +178,15 @@ fn loaded_number(answer: Loaded) -> u8
     match answer {
         Loaded::Done => 0,
         Loaded::Refused(why) => refusal::number(why),
+    }
+}
+
+fn asked_number(answer: Asked) -> u8
+    ensures { λ r. ⌜ r ≡ askedNumber answer ⌝ }
+{
+    match answer {
+        Asked::Done => 0,
+        Asked::Refused(why) => refusal::number(why),
     }
 }
 

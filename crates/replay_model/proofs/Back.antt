@@ -22,8 +22,8 @@ use Rattle.layout.proofs.Segments.{start, part-nth}
 use Rattle.model.specs.declared.Totals.{Totals}
 use Rattle.model.specs.Answer.{Shown, Kept, Copy, Loose, Refused, shownNumber}
 use Rattle.model.specs.Burst.{Replied}
-use Rattle.model.specs.History.{Seen, Answered, Wrote, Restored, Delivered, Looked}
-use Rattle.replay_model.specs.Operation.{looking, receiving, saving, restoring, delivering}
+use Rattle.model.specs.History.{Seen, Answered, Wrote, Restored, Delivered, Heard, Looked}
+use Rattle.replay_model.specs.Operation.{looking, receiving, saving, restoring, delivering, asking}
 use Rattle.replay_model.specs.Record.{headOf, formOf, replyOf, bytesOf, recordOf}
 use Rattle.replay_model.specs.Claims.{WholeTotals, WholeFrame, WholeReplies, Whole, AllWhole, ReadsBack}
 use Rattle.replay_model.proofs.Lengths.{head-length, reply-length}
@@ -168,7 +168,8 @@ bodyIn operation number n body =
     (cond (eqb operation restoring) (record { seen = Restored number n; rest = body })
     (cond (eqb operation delivering)
     (record { seen = Delivered number (repliesIn (counted body) (drop 8 body)) n; rest = pastReplies (counted body) (drop 8 body) })
-    (record { seen = Looked n; rest = body }))))
+    (cond (eqb operation asking) (record { seen = Heard number (counted body) n; rest = drop 8 body })
+    (record { seen = Looked n; rest = body })))))
 
 seenIn : List ℕ → Cell
 seenIn b = bodyIn (getD b 0 0) (getD b 1 0) (totalsAt b) (drop 50 b)
@@ -220,6 +221,13 @@ seen-back (Delivered number replies n) x w =
       replies-back replies x (w .1),
       replies-past replies x,
     )
+seen-back (Heard number copies n) x w =
+    rw (
+      append-assoc (headOf asking number n) (be 8 copies) x,
+      head-back asking number n (be 8 copies ++ x) (w .1),
+      count-back copies x (w .0),
+      count-past copies x,
+    )
 seen-back (Looked n) x w = head-back looking 0 n x w
 
 -- ---- records
@@ -229,6 +237,7 @@ some (Answered a sent n) = rw seen-length (omega arith)
 some (Wrote number output n) = rw seen-length (omega arith)
 some (Restored number n) = rw seen-length (omega arith)
 some (Delivered number replies n) = rw seen-length (omega arith)
+some (Heard number copies n) = rw seen-length (omega arith)
 some (Looked n) = rw seen-length (omega arith)
 
 -- a cell is not empty

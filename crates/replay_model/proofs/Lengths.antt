@@ -24,7 +24,7 @@ use Rattle.layout.proofs.Cell.{cell-length}
 use Rattle.layout.proofs.Header.{header-length}
 use Rattle.layout.proofs.Block.{block-length}
 use Rattle.model.specs.declared.Totals.{Totals}
-use Rattle.model.specs.View.{Reception, View, capacity}
+use Rattle.model.specs.View.{Reception, Entry, View, capacity}
 use Rattle.model.specs.Acceptable.{isEntry, acceptable}
 use Rattle.model.specs.Step.{step}
 use Rattle.model.specs.Image.{imageLength, entryCell, entriesOf, blockAt, blocksOf, imageWith, checkpointOf}
@@ -51,8 +51,8 @@ replies-length (r ∷ l) = simp (length-append, mul-suc, reply-length r, replies
 -- ---- the image of an acceptable view
 
 -- stands for an entry past the end
-abbrev none : Reception
-none = record { bytes = []; time = 0 }
+abbrev none : Entry
+none = record { bytes = []; time = 0; copies = 0 }
 
 module _ (v : View) (ok : acceptable v ≡ true) where
   each-entry : all (isEntry (v .latest)) (v .entries) ≡ true
@@ -77,7 +77,7 @@ module _ (v : View) (ok : acceptable v ≡ true) where
       ap length
       (getD-map entryCell (entriesOf k v) i none [] l
       ∙ ap entryCell (part-at (cellsPerBlock * k) cellsPerBlock (v .entries) i none (omega (arith, group-length k))))
-      ∙ cell-length (e .time) (e .bytes) 0 (short (cellsPerBlock * k + i) inside)
+      ∙ cell-length (e .time) (e .bytes) (e .copies) (short (cellsPerBlock * k + i) inside)
 
   block-long : (k a b : ℕ) → length (blockAt k a b v) ≡ blockLength
   unfolding blockAt

@@ -6,7 +6,7 @@ use Rattle.model.specs.View.{View, fresh}
 use Rattle.model.specs.Step.{step}
 use Rattle.model.specs.Image.{imageLength, checkpointOf, restoreOf}
 use Rattle.model.specs.Burst.{burstOf}
-use Rattle.model.specs.History.{Call, Receive, Checkpoint, Restore, Cut, Burst, Look, Seen, run}
+use Rattle.model.specs.History.{Call, Receive, Checkpoint, Restore, Cut, Burst, Ask, Look, Seen, run}
 use Rattle.replay_model.specs.Record.{bytesOf, recordOf}
 use Rattle.replay_model.specs.Replay.{after, afterCalls}
 use Rattle.replay_model.specs.Claims.{InParts}
@@ -19,6 +19,7 @@ run-append v (Restore image ∷ h) g = ap₂ _∷_ refl (run-append (restoreOf v
 run-append v (Cut output ∷ h) g =
     ap₂ _∷_ refl (ap₂ _∷_ refl (run-append (restoreOf fresh (take imageLength (checkpointOf v output .output)) .next) h g))
 run-append v (Burst setting rs places ∷ h) g = ap₂ _∷_ refl (run-append (burstOf setting v rs places .next) h g)
+run-append v (Ask k ∷ h) g = ap₂ _∷_ refl (run-append v h g)
 run-append v (Look ∷ h) g = ap₂ _∷_ refl (run-append v h g)
 
 pub after-append : (v : View) (h g : List Call) → afterCalls v (h ++ g) ≡ afterCalls (afterCalls v h) g

@@ -12,7 +12,7 @@ use Rattle.model.specs.View.{View, fresh}
 use Rattle.model.specs.Step.{step}
 use Rattle.model.specs.Image.{imageLength, checkpointOf, restoreOf}
 use Rattle.model.specs.Burst.{burstOf}
-use Rattle.model.specs.History.{Call, Receive, Checkpoint, Restore, Cut, Burst, Look, Seen, Answered, Wrote, Restored, Delivered, Looked, run}
+use Rattle.model.specs.History.{Call, Receive, Checkpoint, Restore, Cut, Burst, Ask, Look, Seen, Answered, Wrote, Restored, Delivered, Heard, Looked, run}
 use Rattle.replay_model.specs.Record.{bytesOf, recordOf}
 use Rattle.replay_model.specs.Replay.{after, sizeOf, sizeOfAll}
 use Rattle.replay_model.specs.Claims.{Sized}
@@ -25,6 +25,7 @@ seenLength (Answered a sent n) = 81
 seenLength (Wrote number output n) = 58 + length output
 seenLength (Restored number n) = 50
 seenLength (Delivered number replies n) = 58 + 31 * length replies
+seenLength (Heard number copies n) = 58
 seenLength (Looked n) = 50
 
 pub seen-length : (s : Seen) → length (bytesOf s) ≡ seenLength s
@@ -33,6 +34,7 @@ seen-length (Answered a sent n) = simp (length-append, head-length, reply-length
 seen-length (Wrote number output n) = simp (length-append, head-length, be-length)
 seen-length (Restored number n) = head-length _ _ _
 seen-length (Delivered number replies n) = simp (length-append, head-length, be-length, replies-length)
+seen-length (Heard number copies n) = simp (length-append, head-length, be-length)
 seen-length (Looked n) = head-length _ _ _
 
 none : length (recordOf []) ≡ 0
@@ -53,6 +55,7 @@ sized v (Restore image ∷ h) = more _ _ ∙ ap (λ (n : ℕ). 50 + n) (sized (r
 sized v (Cut output ∷ h) =
     rw (more, more, checkpoint-length, sized (restoreOf fresh (take imageLength (checkpointOf v output .output)) .next) h) (omega arith)
 sized v (Burst setting rs places ∷ h) = rw (more, burst-length, sized (burstOf setting v rs places .next) h)
+sized v (Ask k ∷ h) = more _ _ ∙ ap (λ (n : ℕ). 58 + n) (sized v h)
 sized v (Look ∷ h) = more _ _ ∙ ap (λ (n : ℕ). 50 + n) (sized v h)
 
 pub size-append : (h g : List Call) → sizeOfAll (h ++ g) ≡ sizeOfAll h + sizeOfAll g

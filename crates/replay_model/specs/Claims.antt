@@ -8,7 +8,7 @@ use Rattle.telegram.specs.declared.frame.Frame.{Frame}
 use Rattle.model.specs.declared.Totals.{Totals}
 use Rattle.model.specs.View.{View}
 use Rattle.model.specs.Burst.{Replied}
-use Rattle.model.specs.History.{Call, Seen, Answered, Wrote, Restored, Delivered, Looked, run}
+use Rattle.model.specs.History.{Call, Seen, Answered, Wrote, Restored, Delivered, Heard, Looked, run}
 use Rattle.replay_model.specs.Record.{recordOf}
 use Rattle.replay_model.specs.Replay.{afterCalls, sizeOfAll}
 
@@ -35,6 +35,7 @@ Whole (Answered a sent n) = WholeFrame sent × WholeTotals n
 Whole (Wrote number output n) = (length output < 2 ^ 64) × WholeTotals n
 Whole (Restored number n) = WholeTotals n
 Whole (Delivered number replies n) = (length replies < 2 ^ 64) × WholeReplies replies × WholeTotals n
+Whole (Heard number copies n) = (copies < 2 ^ 64) × WholeTotals n
 Whole (Looked n) = WholeTotals n
 
 abbrev pub AllWhole : List Seen → Type 0

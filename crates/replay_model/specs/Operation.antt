@@ -19,3 +19,6 @@ restoring = 5
 
 abbrev pub delivering : ℕ
 delivering = 6
+
+abbrev pub asking : ℕ
+asking = 7

@@ -8,8 +8,8 @@ use Rattle.layout.specs.BigEndian.{be}
 use Rattle.model.specs.declared.Totals.{Totals}
 use Rattle.model.specs.Answer.{Shown, Kept, Copy, Loose, Refused, shownNumber}
 use Rattle.model.specs.Burst.{Replied}
-use Rattle.model.specs.History.{Seen, Answered, Wrote, Restored, Delivered, Looked}
-use Rattle.replay_model.specs.Operation.{looking, receiving, saving, restoring, delivering}
+use Rattle.model.specs.History.{Seen, Answered, Wrote, Restored, Delivered, Heard, Looked}
+use Rattle.replay_model.specs.Operation.{looking, receiving, saving, restoring, delivering, asking}
 
 -- ---- the parts of a cell
 
@@ -41,12 +41,13 @@ replyOf r = (formOf (r .answer) ∷ shownNumber (r .answer) ∷ []) ++ be 8 (r .
 
 -- ---- the cells
 
--- after the head a reception has its reply, a checkpoint every byte of its output, and a burst every place of its second list
+-- after the head a reception has its reply, a checkpoint every byte of its output, a burst every place of its second list, and an ask the copies
 unfoldable pub bytesOf : Seen → List ℕ
 bytesOf (Answered a sent n) = headOf receiving (shownNumber a) n ++ replyOf (record { answer = a; sent = sent })
 bytesOf (Wrote number output n) = headOf saving number n ++ be 8 (length output) ++ output
 bytesOf (Restored number n) = headOf restoring number n
 bytesOf (Delivered number replies n) = headOf delivering number n ++ be 8 (length replies) ++ flatten (map replyOf replies)
+bytesOf (Heard number copies n) = headOf asking number n ++ be 8 copies
 bytesOf (Looked n) = headOf looking 0 n
 
 unfoldable pub recordOf : List Seen → List ℕ

@@ -11,7 +11,7 @@ use Rattle.model.specs.View.{View, fresh}
 use Rattle.model.specs.Step.{step}
 use Rattle.model.specs.Image.{imageLength, checkpointOf, restoreOf}
 use Rattle.model.specs.Burst.{burstOf}
-use Rattle.model.specs.History.{Call, Receive, Checkpoint, Restore, Cut, Burst, Look}
+use Rattle.model.specs.History.{Call, Receive, Checkpoint, Restore, Cut, Burst, Ask, Look}
 use Rattle.replay_model.specs.Record.{headLength, countLength, replyLength}
 
 -- what a collector says after a call: "each call gets the state that the one before returned"
@@ -21,6 +21,7 @@ after v (Checkpoint output) = v
 after v (Restore image) = restoreOf v image .next
 after v (Cut output) = restoreOf fresh (take imageLength (checkpointOf v output .output)) .next
 after v (Burst setting rs places) = burstOf setting v rs places .next
+after v (Ask k) = v
 after v Look = v
 
 -- and after all
@@ -35,6 +36,7 @@ sizeOf (Checkpoint output) = headLength + countLength + length output
 sizeOf (Restore image) = headLength
 sizeOf (Cut output) = headLength + countLength + length output + headLength
 sizeOf (Burst setting rs places) = headLength + countLength + replyLength * length places
+sizeOf (Ask k) = headLength + countLength
 sizeOf Look = headLength
 
 -- and of all

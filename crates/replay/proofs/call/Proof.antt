@@ -4,7 +4,7 @@ use mathlib.Core.List.{List, []}
 use borrow.Author.Needs.{needs}
 use denote.Ref.{now}
 use lib.ListN.{length-replicate}
-use Rattle.replay.proofs.Records.{call-receive, call-checkpoint, call-cut, call-restore, call-burst, Other, call-look}
+use Rattle.replay.proofs.Records.{call-receive, call-checkpoint, call-cut, call-restore, call-burst, call-ask, Other, call-look}
 use Rattle.replay.proofs.call.Statement.{statement}
 use Rattle.replay.proofs.call.Tie as tie
 
@@ -43,20 +43,27 @@ delivered-requires c κs =
     let s = start (test .before .before .before .before .before) in
     (s .pre .0, rw (call-burst [] (now (s .args .r)) (test .if5 .taken), length-replicate) at (s .pre .1))
 
+asked-requires : tie.Need-asked-requires
+asked-requires c κs =
+    let test = c .before in
+    let s = start (test .before .before .before .before .before .before) in
+    (s .pre .0, rw (call-ask [] (now (s .args .r)) (test .if6 .taken)) at (s .pre .1))
+
 -- byte 0 is none of the operations
-other : (c : tie.Else5) → (lent : List ℕ) → Other lent (now (start (c .before .before .before .before .before) .args .r))
+other : (c : tie.Else6) → (lent : List ℕ) → Other lent (now (start (c .before .before .before .before .before .before) .args .r))
 other c lent = record {
-  receive = c .before .before .before .before .if1 .left;
-  checkpoint = c .before .before .before .if2 .left;
-  cut = c .before .before .if3 .left;
-  restore = c .before .if4 .left;
-  burst = c .if5 .left;
+  receive = c .before .before .before .before .before .if1 .left;
+  checkpoint = c .before .before .before .before .if2 .left;
+  cut = c .before .before .before .if3 .left;
+  restore = c .before .before .if4 .left;
+  burst = c .before .if5 .left;
+  ask = c .if6 .left;
 }
 
 looked-requires : tie.Need-looked-requires
 looked-requires c κs =
     let test = c .before in
-    let s = start (test .before .before .before .before .before) in
+    let s = start (test .before .before .before .before .before .before) in
     rw (call-look [] (now (s .args .r)) (other test [])) at (s .pre .1)
 
 returns : tie.Need-returns
@@ -98,7 +105,14 @@ returns-6 : tie.Need-returns-6
 returns-6 c =
     let done = c .before .before in
     let test = done .before .before in
-    let a = start (test .before .before .before .before .before) .args in
+    let a = start (test .before .before .before .before .before .before) .args in
+    rw (call-ask (now (a .lent)) (now (a .r)) (test .if6 .taken)) (done .asked .ensures)
+
+returns-7 : tie.Need-returns-7
+returns-7 c =
+    let done = c .before .before in
+    let test = done .before .before in
+    let a = start (test .before .before .before .before .before .before) .args in
     rw (call-look (now (a .lent)) (now (a .r)) (other test (now (a .lent)))) (done .looked .ensures)
 
 pub call-spec : {M : Type 1} → statement M
@@ -121,6 +135,9 @@ call-spec =
     delivered-requires
     (λ c. search needs)
     returns-5
+    asked-requires
+    (λ c. search needs)
+    returns-6
     looked-requires
     (λ c. search needs)
-    returns-6)
+    returns-7)

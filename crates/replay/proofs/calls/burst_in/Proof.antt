@@ -27,7 +27,7 @@ returns c =
     let r = now (a .r) in
     let n : min (count .least .result) listed ≡ count .least .result = omega (arith, count .least .ensures) in
     let m : min (a .m) listed ≡ a .m = omega (arith, start .pre .1) in
-    let is = rw (n, m) at (c .burst-within .ensures .result) in
+    let is = rw (n, m) at (c .burst-within .ensures .front .result) in
     record {
       result = is ∙ λ i. burstOf (settingIn r) (viewOf (a .c))
           (receptions-are (now (a .bytes)) _ (count .least .result) (count .least .ensures) (records .receptions-in .ensures) i)

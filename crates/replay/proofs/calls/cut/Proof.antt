@@ -68,7 +68,7 @@ restored c =
     let m = other .before in
     let at = lengths (put c) in
     let v = viewOf (start at .args .c) in
-    c .restore .ensures
+    c .restore .ensures .result
     ∙ λ i. restoreOf (other .fresh .ensures i)
     (image-lent v (output at) _ _ (m .least .result) (first (put c) .begun .is) (m .least .ensures ∙ omega (arith, output-length at)) i)
 

@@ -32,7 +32,7 @@ lent-bytes c = bytes-lent (now (start c .args .r)) _ (least c .least .result) (l
 -- what `take` ensures, of the reception that the record says
 taken : (c : tie.After-take) → outcomeOf (c .take .result) ≡ step (viewOf (start c .args .c)) (receptionIn (now (start c .args .r)))
 taken c =
-    c .take .ensures ∙ λ i. step (viewOf (start c .args .c))
+    c .take .ensures .outcome ∙ λ i. step (viewOf (start c .args .c))
     (record { bytes = lent-bytes c i; time = least c .before .before .before .number-at .ensures i })
 
 -- and `sent_for` of its answer

@@ -16,7 +16,7 @@ start c = c .before .before .before .before .before
 -- what `restore` ensures, of the image that the record says
 taken : (c : tie.After-restore) → restoreResult (c .restore .result) ≡ restoreOf (viewOf (start c .args .c)) (lentIn (now (start c .args .lent))
     (now (start c .args .r)))
-taken c = c .restore .ensures ∙ ap (restoreOf (viewOf (start c .args .c))) (c .before .lent-in .ensures)
+taken c = c .restore .ensures .result ∙ ap (restoreOf (viewOf (start c .args .c))) (c .before .lent-in .ensures)
 
 returns : tie.Need-returns
 unfolding viewOf

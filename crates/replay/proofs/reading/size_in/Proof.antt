@@ -4,7 +4,7 @@ use native.Mathlib.Omega.{arith}
 use borrow.Author.Needs.{needs}
 use denote.Ref.{now}
 use lib.ListN.{length-replicate}
-use Rattle.replay.proofs.Records.{call-receive, call-checkpoint, call-cut, call-restore, call-burst, call-look}
+use Rattle.replay.proofs.Records.{call-receive, call-checkpoint, call-cut, call-restore, call-burst, call-ask, call-look}
 use Rattle.replay.proofs.reading.size_in.Statement.{statement}
 use Rattle.replay.proofs.reading.size_in.Tie as tie
 
@@ -33,14 +33,18 @@ returns-5 c =
     rw (call-burst [] (now (start (test .before .before .before .before .before) .args .r)) (test .if5 .taken), length-replicate) (omega arith)
 
 returns-6 : tie.Need-returns-6
-returns-6 c =
-    rw (call-look [] (now (start (c .before .before .before .before .before) .args .r))
+returns-6 c = rw (call-ask [] (now (start (c .before .before .before .before .before .before) .args .r)) (c .if6 .taken))
+
+returns-7 : tie.Need-returns-7
+returns-7 c =
+    rw (call-look [] (now (start (c .before .before .before .before .before .before) .args .r))
     (record {
-      receive = c .before .before .before .before .if1 .left;
-      checkpoint = c .before .before .before .if2 .left;
-      cut = c .before .before .if3 .left;
-      restore = c .before .if4 .left;
-      burst = c .if5 .left;
+      receive = c .before .before .before .before .before .if1 .left;
+      checkpoint = c .before .before .before .before .if2 .left;
+      cut = c .before .before .before .if3 .left;
+      restore = c .before .before .if4 .left;
+      burst = c .before .if5 .left;
+      ask = c .if6 .left;
     }))
 
 pub size-in-spec : {M : Type 1} → statement M
@@ -61,4 +65,5 @@ size-in-spec =
     (λ c. search needs)
     (λ c. search needs)
     returns-5
-    returns-6)
+    returns-6
+    returns-7)
