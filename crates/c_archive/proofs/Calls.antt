@@ -14,11 +14,16 @@ use Rattle.layout.proofs.Buffer.{resized-length, resized-padded, resized-cut, r
 use Rattle.archive_model.specs.Row.{Row}
 use Rattle.archive_model.specs.Append.{Opening, rowAtOf}
 use Rattle.archive.specs.Archive.{rowOf}
+use Rattle.repack_model.specs.Repack.{Removed}
 use Rattle.c_layout.specs.Frame.{wrongSize, frameBytes, flagByte}
 use Rattle.c_archive.specs.Calls.{rowLength, rowBytes, RowCall, found, rowCall}
 
 abbrev pub opening : ℕ → ℕ → ℕ → Opening
 opening number position rows = record { number = number; position = position; rows = rows }
+
+-- no block is freed
+abbrev pub removal : ℕ → ℕ → List ℕ → Removed
+removal number position buffer = record { number = number; position = position; freed = 0; buffer = buffer }
 
 -- ---- a row
 

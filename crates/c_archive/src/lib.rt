@@ -6,6 +6,7 @@ use archive::Taken;
 use c_layout::FRAME_LENGTH;
 use c_layout::WRONG_SIZE;
 use refusal::Refusal;
+use repack::Removed;
 ghost use mathlib.Core.Path.{_≡_};
 ghost use mathlib.Core.List.{List};
 ghost use Prim.Native.Nat.{ℕ, min};
@@ -13,6 +14,7 @@ ghost use lib.ListN.{length};
 ghost use Rattle.archive_model.specs.Append as calls;
 ghost use Rattle.archive.specs.Archive.{openResult, appendResult, rowOf, foundNumber, takenNumber};
 ghost use Rattle.repack_model.specs.Repack as repack;
+ghost use Rattle.repack.specs.Calls.{removeResult};
 ghost use Rattle.c_archive.specs.Calls.{rowLength, rowCall};
 
 // 1 for LOOSE, and the frame of a row.
@@ -106,7 +108,13 @@ pub fn salvage(
     dropped: &mut usize,
     rows: &mut usize,
 ) -> u8
-    ensures { λ r. ⌜ record { number = r; count = now (dropped .exit); rows = now (rows .exit); output = now (out .exit); positions = now (positions .exit) }
+    ensures { λ r. ⌜ record {
+      number = r;
+      count = now (dropped .exit);
+      rows = now (rows .exit);
+      output = now (out .exit);
+      positions = now (positions .exit);
+    }
         ≡ repack.salvageOf (now (buffer .entry)) (now (out .entry)) (now (positions .entry)) ⌝ }
 {
     let done = repack::salvage(buffer, out, positions);
@@ -114,6 +122,38 @@ pub fn salvage(
     *dropped = done.dropped;
     *rows = done.rows;
     taken_number(answer)
+}
+
+// The rows of some transmitters removed in place: 16, 12 with the position, 10.
+pub fn remove(buffer: &mut [u8], identities: &[u32], freed: &mut usize, position: &mut usize) -> u8
+    ensures { λ r. ⌜ record { number = r; position = now (position .exit); freed = now (freed .exit); buffer = now (buffer .exit) }
+        ≡ repack.removeOf (now (buffer .entry)) (now (identities .entry)) ⌝ }
+{
+    settle_removed(repack::remove(buffer, identities), freed, position)
+}
+
+// The number of a removal, the blocks freed, and the position beside 12.
+fn settle_removed(removed: Removed, freed: &mut usize, position: &mut usize) -> u8
+    ensures { λ r. ⌜ ((buffer : List ℕ) → record { number = r; position = now (position .exit); freed = now (freed .exit); buffer = buffer }
+        ≡ removeResult removed buffer) ⌝ }
+{
+    match removed {
+        Removed::Done(n) => {
+            *freed = n;
+            *position = 0;
+            0
+        }
+        Removed::Damaged(k) => {
+            *freed = 0;
+            *position = k;
+            refusal::number(Refusal::Mismatch)
+        }
+        Removed::Refused(why) => {
+            *freed = 0;
+            *position = 0;
+            refusal::number(why)
+        }
+    }
 }
 
 // The number of an outcome, and the position beside 12.
