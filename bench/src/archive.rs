@@ -9,8 +9,23 @@ use std::hint::black_box;
 extern "C" {
     fn archive_bench_crc(bytes: *const u8, len: usize) -> u8;
     fn archive_bench_open(buffer: *const u8, len: usize) -> u64;
-    fn archive_bench_append_at(buffer: *mut u8, len: usize, n: u64, bytes: *const u8, bytes_len: usize, time: u64, loose: u8) -> u64;
-    fn mmap(at: *mut c_void, len: usize, access: i32, flags: i32, file: i32, offset: i64) -> *mut c_void;
+    fn archive_bench_append_at(
+        buffer: *mut u8,
+        len: usize,
+        n: u64,
+        bytes: *const u8,
+        bytes_len: usize,
+        time: u64,
+        loose: u8,
+    ) -> u64;
+    fn mmap(
+        at: *mut c_void,
+        len: usize,
+        access: i32,
+        flags: i32,
+        file: i32,
+        offset: i64,
+    ) -> *mut c_void;
 }
 
 pub const BLOCK: usize = 512;
@@ -28,7 +43,17 @@ pub fn proved_open(buffer: &[u8]) -> u64 {
 
 fn proved_append(buffer: &mut [u8], n: usize, bytes: &[u8], time: u64, loose: bool) -> u64 {
     let (at, len) = (buffer.as_mut_ptr(), buffer.len());
-    unsafe { archive_bench_append_at(at, len, n as u64, bytes.as_ptr(), bytes.len(), time, u8::from(loose)) }
+    unsafe {
+        archive_bench_append_at(
+            at,
+            len,
+            n as u64,
+            bytes.as_ptr(),
+            bytes.len(),
+            time,
+            u8::from(loose),
+        )
+    }
 }
 
 // ---- by hand
@@ -61,7 +86,14 @@ pub fn crc_by_eight(bytes: &[u8]) -> u8 {
     let mut crc = 0u8;
     for b in &mut parts {
         let i = |k: usize| usize::from(b[k]);
-        crc = t[7][usize::from(crc ^ b[0])] ^ t[6][i(1)] ^ t[5][i(2)] ^ t[4][i(3)] ^ t[3][i(4)] ^ t[2][i(5)] ^ t[1][i(6)] ^ t[0][i(7)];
+        crc = t[7][usize::from(crc ^ b[0])]
+            ^ t[6][i(1)]
+            ^ t[5][i(2)]
+            ^ t[4][i(3)]
+            ^ t[3][i(4)]
+            ^ t[2][i(5)]
+            ^ t[1][i(6)]
+            ^ t[0][i(7)];
     }
     for b in parts.remainder() {
         crc = t[0][usize::from(crc ^ b)];
@@ -88,15 +120,24 @@ pub fn rows_of(block: &[u8]) -> usize {
     }
     for cell in block[24..24 + 32 * n].chunks_exact(32) {
         let len = usize::from(cell[8]);
-        if len > 21 || !is_zero(&cell[9 + len..30]) || cell[30] > 1 || cell[31] != 0 || !is_valid(&cell[9..9 + len]) {
+        if len > 21
+            || !is_zero(&cell[9 + len..30])
+            || cell[30] > 1
+            || cell[31] != 0
+            || !is_valid(&cell[9..9 + len])
+        {
             return 0;
         }
     }
-    if crc_by_eight(&block[..511]) == block[511] { n } else { 0 }
+    if crc_by_eight(&block[..511]) == block[511] {
+        n
+    } else {
+        0
+    }
 }
 
 pub fn open(buffer: &[u8]) -> u64 {
-    if buffer.len() % BLOCK != 0 || buffer.len() / BLOCK > 1 << 32 {
+    if !buffer.len().is_multiple_of(BLOCK) || buffer.len() / BLOCK > 1 << 32 {
         return 16 * NUMBER;
     }
     let (mut rows, mut short, mut ended) = (0, false, false);
@@ -121,14 +162,18 @@ pub fn open(buffer: &[u8]) -> u64 {
 
 fn append_at(buffer: &mut [u8], n: usize, bytes: &[u8], time: u64, loose: bool) -> u64 {
     let (k, used) = (n / ROWS, n % ROWS);
-    if buffer.len() % BLOCK != 0 || buffer.len() / BLOCK > 1 << 32 {
+    if !buffer.len().is_multiple_of(BLOCK) || buffer.len() / BLOCK > 1 << 32 {
         return 16 * NUMBER;
     }
     let Some(block) = buffer.chunks_exact_mut(BLOCK).nth(k) else {
         return 6 * NUMBER;
     };
     let number = u32::from_be_bytes(block[..4].try_into().unwrap()) as usize;
-    let next = if used == 0 { is_zero(&block[..5]) } else { number == k && usize::from(block[4]) == used };
+    let next = if used == 0 {
+        is_zero(&block[..5])
+    } else {
+        number == k && usize::from(block[4]) == used
+    };
     if !next {
         return 12 * NUMBER + k as u64;
     }
@@ -159,7 +204,11 @@ pub fn telegram(random: &mut Random) -> Vec<u8> {
     bytes
 }
 
-fn fill(buffer: &mut [u8], rows: &[Vec<u8>], append: fn(&mut [u8], usize, &[u8], u64, bool) -> u64) {
+fn fill(
+    buffer: &mut [u8],
+    rows: &[Vec<u8>],
+    append: fn(&mut [u8], usize, &[u8], u64, bool) -> u64,
+) {
     for (n, row) in rows.iter().enumerate() {
         assert_eq!(append(buffer, n, row, n as u64 * 17, n % 5 == 0), 0);
     }
@@ -186,9 +235,17 @@ pub fn bench() {
             black_box(function(black_box(buffer)));
         })
     };
-    report("archive opened, a full block", run(proved_open, &buffer), run(open, &buffer));
+    report(
+        "archive opened, a full block",
+        run(proved_open, &buffer),
+        run(open, &buffer),
+    );
     let zeros = vec![0; BLOCK * blocks];
-    report("archive opened, a block behind the end", run(proved_open, &zeros), run(open, &zeros));
+    report(
+        "archive opened, a block behind the end",
+        run(proved_open, &zeros),
+        run(open, &zeros),
+    );
     let appends = |function: fn(&mut [u8], usize, &[u8], u64, bool) -> u64| {
         let mut buffer = vec![0; BLOCK * blocks];
         time(rows.len(), || {
@@ -198,7 +255,11 @@ pub fn bench() {
             fill(black_box(&mut buffer), &rows, function);
         })
     };
-    report("a row appended at the cursor", appends(proved_append), appends(append_at));
+    report(
+        "a row appended at the cursor",
+        appends(proved_append),
+        appends(append_at),
+    );
     reserved();
 }
 
@@ -216,14 +277,27 @@ fn crcs(random: &mut Random) {
             }
         })
     };
-    report("CRC by eight over 511 bytes", run(proved_crc), run(crc_by_eight));
+    report(
+        "CRC by eight over 511 bytes",
+        run(proved_crc),
+        run(crc_by_eight),
+    );
 }
 
 /// 2^41 + 512 bytes of addresses without access: 16 by the length alone, as any look at a byte would end the run with a signal.
 fn reserved() {
     const BYTES: usize = (1 << 41) + BLOCK;
     let (private, anonymous, no_reserve) = (2, 0x20, 0x4000);
-    let at = unsafe { mmap(std::ptr::null_mut(), BYTES, 0, private | anonymous | no_reserve, -1, 0) };
+    let at = unsafe {
+        mmap(
+            std::ptr::null_mut(),
+            BYTES,
+            0,
+            private | anonymous | no_reserve,
+            -1,
+            0,
+        )
+    };
     if at as isize == -1 {
         println!("a buffer over 2^32 blocks: NOT RUN, the addresses are not granted");
         return;

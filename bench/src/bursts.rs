@@ -73,17 +73,28 @@ fn walk(collector: &mut Collector, setting: u8, records: &[Record], replies: &mu
 
 fn by_hand(cells: &[u8], size: usize, rounds: usize) -> u64 {
     let all = records(&cells[..2 * MOST * CELL]);
-    let none = Reply { answer: 1 << 48, sent: [0; 21], len: 0 };
+    let none = Reply {
+        answer: 1 << 48,
+        sent: [0; 21],
+        len: 0,
+    };
     let mut replies = vec![none; MOST];
     let mut start = Collector::new();
     walk(&mut start, black_box(1), &all[..MOST], &mut replies.clone());
     let mut figure = 0u64;
     for i in 0..rounds {
         let mut collector = black_box(&start).clone();
-        walk(&mut collector, black_box(1), black_box(&all[MOST..MOST + size]), &mut replies[..size]);
+        walk(
+            &mut collector,
+            black_box(1),
+            black_box(&all[MOST..MOST + size]),
+            &mut replies[..size],
+        );
         let reply = &black_box(&replies)[i % MOST];
         black_box((&reply.sent, reply.len));
-        figure = figure.wrapping_add(collector.totals.kept).wrapping_add(reply.answer);
+        figure = figure
+            .wrapping_add(collector.totals.kept)
+            .wrapping_add(reply.answer);
     }
     figure
 }
@@ -111,15 +122,30 @@ pub fn bench() {
     for open in [4, 16, 64] {
         let cells = &cells(open)[..2 * MOST * CELL];
         for size in [MOST, 8, 1] {
-            assert_eq!(proved(cells, size, 2 * MOST), by_hand(cells, size, 2 * MOST), "{open} open, {size}");
+            assert_eq!(
+                proved(cells, size, 2 * MOST),
+                by_hand(cells, size, 2 * MOST),
+                "{open} open, {size}"
+            );
         }
         let take = run(bench_take, cells);
         let once = take - run(bench_admit, cells);
         let lists = burst_time(proved, cells, 0) - once;
         let each = |size: usize| (burst_time(proved, cells, size) - lists) / size as f64;
         let by_hand = burst_time(by_hand, cells, MOST) / MOST as f64;
-        report(&format!("a reception in a burst of 256, {open} open, half of them copies"), each(MOST), by_hand);
-        println!("  with the copies of lists held by value {:.0} ns", each(MOST) + lists / MOST as f64);
-        println!("  in a burst of 8 {:.0} ns, of 1 {:.0} ns, by `take` {take:.0} ns", each(8), each(1));
+        report(
+            &format!("a reception in a burst of 256, {open} open, half of them copies"),
+            each(MOST),
+            by_hand,
+        );
+        println!(
+            "  with the copies of lists held by value {:.0} ns",
+            each(MOST) + lists / MOST as f64
+        );
+        println!(
+            "  in a burst of 8 {:.0} ns, of 1 {:.0} ns, by `take` {take:.0} ns",
+            each(8),
+            each(1)
+        );
     }
 }

@@ -71,7 +71,9 @@ fn tests_by_hand(cells: &[u8], rounds: u64) -> u64 {
     for (time, bytes) in receptions(cells) {
         collector.take(time, bytes);
     }
-    (0..rounds).map(|_| u64::from(black_box(&collector).is_acceptable())).sum()
+    (0..rounds)
+        .map(|_| u64::from(black_box(&collector).is_acceptable()))
+        .sum()
 }
 
 /// Different telegrams so far apart that `open` of them are open at any time; each second one is heard again through a repeater.
@@ -81,7 +83,11 @@ pub fn cells(open: usize) -> Vec<u8> {
     let mut last = Vec::new();
     for i in 0..RECEPTIONS {
         let time = (i / 2 * 101 / open) as u64;
-        let mut s = if i % 2 == 0 { telegram(random.next()) } else { last.clone() };
+        let mut s = if i % 2 == 0 {
+            telegram(random.next())
+        } else {
+            last.clone()
+        };
         if i % 4 == 3 {
             let n = s.len();
             s[n - 2] = 1;
@@ -140,11 +146,17 @@ pub fn bench() {
             run(by_hand_in_place),
         );
         report("  by value, its state tested", run(proved), run(by_hand));
-        report_test("  of which the test of the state", &cells[..2 * open * CELL]);
+        report_test(
+            "  of which the test of the state",
+            &cells[..2 * open * CELL],
+        );
     }
     let cells = openings();
     assert_eq!(proved(&cells), by_hand(&cells));
-    report_test("the test of a state with 21 telegrams opened three times each", &cells);
+    report_test(
+        "the test of a state with 21 telegrams opened three times each",
+        &cells,
+    );
 }
 
 /// The test of the state that these receptions leave behind.

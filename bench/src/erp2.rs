@@ -52,7 +52,11 @@ fn read(bytes: &[u8]) -> Option<Telegram> {
     }
     let mut t = Telegram {
         short: 0,
-        header: Header { control: 0, extended: false, kind: 0 },
+        header: Header {
+            control: 0,
+            extended: false,
+            kind: 0,
+        },
         extension: None,
         subtype: None,
         originator: 0,
@@ -74,7 +78,11 @@ fn read(bytes: &[u8]) -> Option<Telegram> {
         return None;
     }
     let first = next(&mut rest, 1)?[0];
-    t.header = Header { control: first >> 5, extended: first & 0x10 != 0, kind: first & 0x0F };
+    t.header = Header {
+        control: first >> 5,
+        extended: first & 0x10 != 0,
+        kind: first & 0x0F,
+    };
     if t.header.control > 3 {
         return None;
     }
@@ -107,27 +115,50 @@ fn put(out: &mut [u8], at: &mut usize, bytes: &[u8]) -> Option<()> {
 fn build(t: &Telegram, out: &mut [u8]) -> Option<usize> {
     let h = &t.header;
     let long = t.short == 0;
-    let id = if long { id_bytes(h.control.min(3)) } else { [0, 1, 1, 2, 3, 4, 4][usize::from(t.short.min(6))] };
+    let id = if long {
+        id_bytes(h.control.min(3))
+    } else {
+        [0, 1, 1, 2, 3, 4, 4][usize::from(t.short.min(6))]
+    };
     let (hops, announced) = t.extension.unwrap_or((0, 0));
-    if t.short > 6 || h.control > 7 || h.kind > 15 || hops > 15 || announced > 15 || t.originator >> (8 * id) != 0 {
+    if t.short > 6
+        || h.control > 7
+        || h.kind > 15
+        || hops > 15
+        || announced > 15
+        || t.originator >> (8 * id) != 0
+    {
         return None;
     }
     let differ = |there: bool, header: bool| there != (long && header);
-    if differ(t.extension.is_some(), h.extended) || differ(t.subtype.is_some(), h.kind == 15) || differ(t.destination.is_some(), h.control == 2) {
+    if differ(t.extension.is_some(), h.extended)
+        || differ(t.subtype.is_some(), h.kind == 15)
+        || differ(t.destination.is_some(), h.control == 2)
+    {
         return None;
     }
     let optional = usize::from(announced);
     let fields = id + t.len + optional;
-    let flags = usize::from(t.extension.is_some()) + usize::from(t.subtype.is_some()) + 4 * usize::from(t.destination.is_some());
+    let flags = usize::from(t.extension.is_some())
+        + usize::from(t.subtype.is_some())
+        + 4 * usize::from(t.destination.is_some());
     let size = if long { 2 + flags + fields } else { fields };
-    let fits = if long { h.control <= 3 && (7..=255).contains(&size) } else { size == usize::from(t.short) };
+    let fits = if long {
+        h.control <= 3 && (7..=255).contains(&size)
+    } else {
+        size == usize::from(t.short)
+    };
     if !fits || t.len > MAX_DATA || out.len() < 1 + size {
         return None;
     }
     out[0] = size as u8;
     let mut at = 1;
     if long {
-        put(out, &mut at, &[h.control << 5 | u8::from(h.extended) << 4 | h.kind])?;
+        put(
+            out,
+            &mut at,
+            &[h.control << 5 | u8::from(h.extended) << 4 | h.kind],
+        )?;
     }
     if t.extension.is_some() {
         put(out, &mut at, &[hops << 4 | announced])?;
@@ -149,7 +180,10 @@ fn build(t: &Telegram, out: &mut [u8]) -> Option<usize> {
 }
 
 fn by_hand_read(bytes: &[u8]) -> u64 {
-    read(bytes).map_or(0, |t| t.originator.wrapping_add(u64::from(t.payload[0]) + u64::from(t.payload[249])))
+    read(bytes).map_or(0, |t| {
+        t.originator
+            .wrapping_add(u64::from(t.payload[0]) + u64::from(t.payload[249]))
+    })
 }
 
 fn by_hand_again(bytes: &[u8], out: &mut [u8]) -> usize {
@@ -192,7 +226,11 @@ pub fn bench() {
                 }
             })
         };
-        report(&format!("ERP2 read, {bytes} bytes"), reading(proved_read), reading(by_hand_read));
+        report(
+            &format!("ERP2 read, {bytes} bytes"),
+            reading(proved_read),
+            reading(by_hand_read),
+        );
         let again = |function: fn(&[u8], &mut [u8]) -> usize| {
             let mut out = [0; LONGEST];
             time(calls, || {
@@ -201,6 +239,10 @@ pub fn bench() {
                 }
             })
         };
-        report(&format!("ERP2 read and built again, {bytes} bytes"), again(proved_again), again(by_hand_again));
+        report(
+            &format!("ERP2 read and built again, {bytes} bytes"),
+            again(proved_again),
+            again(by_hand_again),
+        );
     }
 }

@@ -35,7 +35,10 @@ fn time(calls: usize, mut round: impl FnMut()) -> f64 {
 }
 
 fn report(what: &str, proved: f64, by_hand: f64) {
-    println!("{what}: proved {proved:.0} ns, by hand {by_hand:.0} ns, ratio {:.2}", proved / by_hand);
+    println!(
+        "{what}: proved {proved:.0} ns, by hand {by_hand:.0} ns, ratio {:.2}",
+        proved / by_hand
+    );
 }
 
 /// Numbers from a small generator (xorshift), the same in every run.

@@ -1,24 +1,54 @@
 //! Salvage of a damaged archive and removal of sensors against Rust of the same walks, with the same test of a block and the same CRC.
-use crate::archive::{crc_by_eight, is_zero, open, proved_open, rows_of, telegram, BLOCK, NUMBER, ROWS};
+use crate::archive::{
+    crc_by_eight, is_zero, open, proved_open, rows_of, telegram, BLOCK, NUMBER, ROWS,
+};
 use crate::{report, time, Random};
 use collect_rust::hash::hash;
 use std::hint::black_box;
 
 // A slice passes as a pointer and a length. Nothing checks this line against the Rattle source.
 extern "C" {
-    fn repack_bench_salvage(buffer: *const u8, len: usize, out: *mut u8, out_len: usize, positions: *mut u64, count: usize) -> u64;
-    fn repack_bench_remove(buffer: *mut u8, len: usize, identities: *const u32, count: usize) -> u64;
+    fn repack_bench_salvage(
+        buffer: *const u8,
+        len: usize,
+        out: *mut u8,
+        out_len: usize,
+        positions: *mut u64,
+        count: usize,
+    ) -> u64;
+    fn repack_bench_remove(
+        buffer: *mut u8,
+        len: usize,
+        identities: *const u32,
+        count: usize,
+    ) -> u64;
 }
 
 const BLOCKS: usize = 64;
 
 fn proved(buffer: &[u8], out: &mut [u8], positions: &mut [u64]) -> u64 {
     let (at, len) = (positions.as_mut_ptr(), positions.len());
-    unsafe { repack_bench_salvage(buffer.as_ptr(), buffer.len(), out.as_mut_ptr(), out.len(), at, len) }
+    unsafe {
+        repack_bench_salvage(
+            buffer.as_ptr(),
+            buffer.len(),
+            out.as_mut_ptr(),
+            out.len(),
+            at,
+            len,
+        )
+    }
 }
 
 fn proved_remove(buffer: &mut [u8], identities: &[u32]) -> u64 {
-    unsafe { repack_bench_remove(buffer.as_mut_ptr(), buffer.len(), identities.as_ptr(), identities.len()) }
+    unsafe {
+        repack_bench_remove(
+            buffer.as_mut_ptr(),
+            buffer.len(),
+            identities.as_ptr(),
+            identities.len(),
+        )
+    }
 }
 
 // ---- by hand
@@ -40,10 +70,12 @@ fn is_dropped(block: &[u8]) -> bool {
 /// How many rows remain, and 0 beside a refusal.
 fn salvage(buffer: &[u8], out: &mut [u8], positions: &mut [u64]) -> u64 {
     let blocks = buffer.len() / BLOCK;
-    if buffer.len() % BLOCK != 0 || blocks > 1 << 32 || out.len() < buffer.len() {
+    if !buffer.len().is_multiple_of(BLOCK) || blocks > 1 << 32 || out.len() < buffer.len() {
         return 0;
     }
-    if positions.len() < blocks && positions.len() < buffer.chunks_exact(BLOCK).filter(|b| is_dropped(b)).count() {
+    if positions.len() < blocks
+        && positions.len() < buffer.chunks_exact(BLOCK).filter(|b| is_dropped(b)).count()
+    {
         return 0;
     }
     let (mut pending, mut used, mut next, mut gone) = ([0u8; 960], 0, 0, 0);
@@ -56,7 +88,11 @@ fn salvage(buffer: &[u8], out: &mut [u8], positions: &mut [u64]) -> u64 {
         pending[32 * used..32 * (used + n)].copy_from_slice(&block[24..24 + 32 * n]);
         used += n;
         if used >= ROWS {
-            put_block(&mut out[BLOCK * next..BLOCK * (next + 1)], next, &pending[..480]);
+            put_block(
+                &mut out[BLOCK * next..BLOCK * (next + 1)],
+                next,
+                &pending[..480],
+            );
             pending.copy_within(480..960, 0);
             used -= ROWS;
             next += 1;
@@ -95,14 +131,22 @@ fn remove_from(buffer: &mut [u8], rows: usize, identities: &[u32]) -> u64 {
             }
         }
         if used >= ROWS {
-            put_block(&mut buffer[BLOCK * next..BLOCK * (next + 1)], next, &pending[..480]);
+            put_block(
+                &mut buffer[BLOCK * next..BLOCK * (next + 1)],
+                next,
+                &pending[..480],
+            );
             pending.copy_within(480..960, 0);
             used -= ROWS;
             next += 1;
         }
     }
     if used > 0 {
-        put_block(&mut buffer[BLOCK * next..BLOCK * (next + 1)], next, &pending[..32 * used]);
+        put_block(
+            &mut buffer[BLOCK * next..BLOCK * (next + 1)],
+            next,
+            &pending[..32 * used],
+        );
         next += 1;
     }
     buffer[BLOCK * next..BLOCK * blocks].fill(0);
@@ -136,12 +180,18 @@ pub fn bench() {
 
 fn salvages() {
     let mut random = Random::new();
-    for (what, counts) in [("full blocks", &[ROWS][..]), ("15, 14, 3 and 1 rows", &[15, 14, 3, 1])] {
+    for (what, counts) in [
+        ("full blocks", &[ROWS][..]),
+        ("15, 14, 3 and 1 rows", &[15, 14, 3, 1]),
+    ] {
         let buffer = damaged(&mut random, counts);
         for (walks, len) in [("one walk", BLOCKS), ("two walks", 1)] {
             let (mut out, mut list) = (vec![1; buffer.len()], vec![0; len]);
             let (mut out2, mut list2) = (out.clone(), list.clone());
-            assert_eq!(proved(&buffer, &mut out, &mut list), salvage(&buffer, &mut out2, &mut list2));
+            assert_eq!(
+                proved(&buffer, &mut out, &mut list),
+                salvage(&buffer, &mut out2, &mut list2)
+            );
             assert_eq!((&out, &list), (&out2, &list2));
             let first = time(BLOCKS, || {
                 black_box(proved(black_box(&buffer), &mut out, &mut list));
@@ -184,7 +234,9 @@ fn removals() {
         ("8 of 32 leave", (8..40).collect()),
     ];
     let mut held = buffer.clone();
-    let copying = time(BLOCKS, || black_box(&mut held).copy_from_slice(black_box(&buffer)));
+    let copying = time(BLOCKS, || {
+        black_box(&mut held).copy_from_slice(black_box(&buffer))
+    });
     let opening = time(BLOCKS, || {
         black_box(proved_open(black_box(&buffer)));
     });
@@ -203,6 +255,10 @@ fn removals() {
         let whole = run(&|b| remove(b, &list));
         let walk = run(&|b| remove_from(b, rows, &list));
         report(&format!("removal, a block, {what}"), first, whole);
-        report(&format!("removal without open, a block, {what}"), first - opening, walk);
+        report(
+            &format!("removal without open, a block, {what}"),
+            first - opening,
+            walk,
+        );
     }
 }

@@ -53,7 +53,16 @@ fn by_hand(buffer: &[u8]) -> u64 {
                 Err(_) if lines.len() == 256 => return 17 * NUMBER,
                 Err(i) => {
                     let (kept, loose) = (1 - is_loose, is_loose);
-                    lines.insert(i, Line { identity, kept, loose, earliest: time, latest: time });
+                    lines.insert(
+                        i,
+                        Line {
+                            identity,
+                            kept,
+                            loose,
+                            earliest: time,
+                            latest: time,
+                        },
+                    );
                 }
             }
         }
@@ -70,7 +79,7 @@ fn row(random: &mut Random, transmitters: u64) -> [u8; 32] {
     let id = (random.next() % transmitters) as u32;
     cell[11..15].copy_from_slice(&id.wrapping_mul(0x9E37_79B1).to_be_bytes());
     cell[16] = cell[9..16].iter().fold(0u8, |sum, b| sum.wrapping_add(*b));
-    cell[30] = (random.next() % 4 == 0) as u8;
+    cell[30] = random.next().is_multiple_of(4) as u8;
     cell
 }
 
@@ -97,8 +106,20 @@ pub fn bench() {
         let buffer = archive(BLOCKS, transmitters);
         assert_eq!(proved(&buffer), by_hand(&buffer), "both say the same");
         assert_eq!(in_pieces(&buffer), by_hand(&buffer), "in pieces too");
-        let of = |f: fn(&[u8]) -> u64| time(BLOCKS, || assert!(std::hint::black_box(f(&buffer)) < NUMBER));
-        print(&format!("archive added to a report, a full block, {transmitters} transmitters"), of(proved), of(by_hand));
-        print(&format!("the same in two pieces, {transmitters} transmitters"), of(in_pieces), of(by_hand));
+        let of = |f: fn(&[u8]) -> u64| {
+            time(BLOCKS, || {
+                assert!(std::hint::black_box(f(&buffer)) < NUMBER)
+            })
+        };
+        print(
+            &format!("archive added to a report, a full block, {transmitters} transmitters"),
+            of(proved),
+            of(by_hand),
+        );
+        print(
+            &format!("the same in two pieces, {transmitters} transmitters"),
+            of(in_pieces),
+            of(by_hand),
+        );
     }
 }

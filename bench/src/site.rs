@@ -15,7 +15,11 @@ struct Repeater {
     slots: [u8; 3],
 }
 
-const STANDARD: [[(u8, u8); 3]; 3] = [[(0, 0), (1, 9), (20, 39)], [(10, 19), (20, 29), (1, 0)], [(0, 9), (20, 29), (1, 0)]];
+const STANDARD: [[(u8, u8); 3]; 3] = [
+    [(0, 0), (1, 9), (20, 39)],
+    [(10, 19), (20, 29), (1, 0)],
+    [(0, 9), (20, 29), (1, 0)],
+];
 
 /// Whether a plan is lawful under its rule.
 fn is_lawful(r: &Repeater) -> bool {
@@ -46,17 +50,30 @@ fn overlap(a: &Repeater, b: &Repeater) -> bool {
 }
 
 fn by_hand(bytes: &[u8]) -> u32 {
-    if bytes.len() % 9 != 0 || bytes.len() > 288 {
+    if !bytes.len().is_multiple_of(9) || bytes.len() > 288 {
         return 10 << 16;
     }
-    let mut all = [Repeater { rule: 0, level: 0, duration: 0, slots: [0; 3] }; 32];
+    let mut all = [Repeater {
+        rule: 0,
+        level: 0,
+        duration: 0,
+        slots: [0; 3],
+    }; 32];
     let count = bytes.len() / 9;
     for (r, b) in all.iter_mut().zip(bytes.chunks_exact(9)) {
         let duration = u32::from_be_bytes([b[2], b[3], b[4], b[5]]);
-        *r = Repeater { rule: b[0], level: b[1], duration, slots: [b[6], b[7], b[8]] };
+        *r = Repeater {
+            rule: b[0],
+            level: b[1],
+            duration,
+            slots: [b[6], b[7], b[8]],
+        };
     }
     let site = &all[..count];
-    if !site.iter().all(|r| r.rule <= 2 && r.level <= 2 && (1..=65_535).contains(&r.duration)) {
+    if !site
+        .iter()
+        .all(|r| r.rule <= 2 && r.level <= 2 && (1..=65_535).contains(&r.duration))
+    {
         return 10 << 16;
     }
     if let Some(i) = site.iter().position(|r| !is_lawful(r)) {
@@ -95,7 +112,10 @@ pub fn bench() {
         last.extend(bytes(0, 1, [11, 21, 255]));
     }
     last.extend(bytes(0, 1, [10, 22, 255]));
-    for (name, site, answer) in [("12 that fit", twelve, 0), ("32, the last clashes with the first", last, 19 << 16 | 31)] {
+    for (name, site, answer) in [
+        ("12 that fit", twelve, 0),
+        ("32, the last clashes with the first", last, 19 << 16 | 31),
+    ] {
         assert_eq!((proved(&site), by_hand(&site)), (answer, answer), "{name}");
         let run = |check: fn(&[u8]) -> u32| {
             time(1_000, || {

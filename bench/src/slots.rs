@@ -21,7 +21,11 @@ struct Rule {
 const NONE: (u32, u32) = (1, 0);
 
 /// The standard ranges by level sent, then transmission.
-const STANDARD: [[(u32, u32); 3]; 3] = [[(0, 0), (1, 9), (20, 39)], [(10, 19), (20, 29), NONE], [(0, 9), (20, 29), NONE]];
+const STANDARD: [[(u32, u32); 3]; 3] = [
+    [(0, 0), (1, 9), (20, 39)],
+    [(10, 19), (20, 29), NONE],
+    [(0, 9), (20, 29), NONE],
+];
 
 const COMPRESSED: [(u32, u32); 3] = [(0, 1), (4, 12), (14, 22)];
 
@@ -41,7 +45,11 @@ fn thirds(rule: &Rule, duration: u32, second: u32) -> (u64, u32) {
 }
 
 /// Visits the pairs of a first and a second slot in order, with the thirds of each, until `visit` answers.
-fn pairs(rule: &Rule, duration: u32, mut visit: impl FnMut(u32, u32, u64, u32) -> Option<u32>) -> Option<u32> {
+fn pairs(
+    rule: &Rule,
+    duration: u32,
+    mut visit: impl FnMut(u32, u32, u64, u32) -> Option<u32>,
+) -> Option<u32> {
     let [first, second, _] = rule.ranges;
     for a in first.0..first.1 + 1 {
         for b in second.0..second.1 + 1 {
@@ -78,11 +86,19 @@ fn choose(rule: &Rule, duration: u32, draw: u64) -> u32 {
 }
 
 fn by_hand(level: u8, duration: u32, draw: u64) -> u32 {
-    if level > 2 || duration < 1 || duration > 65_535 {
+    if level > 2 || !(1..=65_535).contains(&duration) {
         return 10 << 24;
     }
     let ranges = STANDARD[level as usize];
-    choose(&Rule { ranges, pause: 0, end: 40_000 }, duration, draw)
+    choose(
+        &Rule {
+            ranges,
+            pause: 0,
+            end: 40_000,
+        },
+        duration,
+        draw,
+    )
 }
 
 /// A rule at a level with so many transmissions.
@@ -101,7 +117,7 @@ fn rule_by_hand(rule: u8, level: u8, transmissions: u8) -> Option<Rule> {
 }
 
 fn named_by_hand(rule: u8, level: u8, transmissions: u8, duration: u32, draw: u64) -> u32 {
-    if duration < 1 || duration > 65_535 {
+    if !(1..=65_535).contains(&duration) {
         return 10 << 24;
     }
     match rule_by_hand(rule, level, transmissions) {
@@ -119,22 +135,48 @@ fn named_proved(rule: u8, level: u8, transmissions: u8, duration: u32, draw: u64
 }
 
 const DURATIONS: [u32; 17] = [
-    0, 1, 999, 1_000, 1_001, 9_000, 9_001, 11_000, 11_001, 14_000, 14_001, 15_000, 15_001, 20_000, 20_001, 65_535, 65_536,
+    0, 1, 999, 1_000, 1_001, 9_000, 9_001, 11_000, 11_001, 14_000, 14_001, 15_000, 15_001, 20_000,
+    20_001, 65_535, 65_536,
 ];
 
 /// The rows of the table: a rule, a level and a number of transmissions.
-const ROWS: [(u8, u8, u8); 10] =
-    [(0, 0, 3), (0, 1, 2), (0, 2, 2), (1, 0, 3), (1, 1, 3), (1, 2, 2), (2, 0, 2), (2, 0, 3), (2, 1, 2), (2, 2, 2)];
+const ROWS: [(u8, u8, u8); 10] = [
+    (0, 0, 3),
+    (0, 1, 2),
+    (0, 2, 2),
+    (1, 0, 3),
+    (1, 1, 3),
+    (1, 2, 2),
+    (2, 0, 2),
+    (2, 0, 3),
+    (2, 1, 2),
+    (2, 2, 2),
+];
 
 /// The proved functions and those by hand answer the same.
 fn compare(draws: &[u64]) {
     for level in 0..=3 {
         for duration in DURATIONS {
             for &draw in draws {
-                let (p, h) = (proved(level, duration, draw), by_hand(level, duration, draw));
+                let (p, h) = (
+                    proved(level, duration, draw),
+                    by_hand(level, duration, draw),
+                );
                 assert_eq!(p, h, "level {level}, duration {duration}, draw {draw}");
-                for (rule, n) in [(0, 2), (0, 3), (1, 2), (1, 3), (2, 2), (2, 3), (2, 4), (3, 3)] {
-                    let (p, h) = (named_proved(rule, level, n, duration, draw), named_by_hand(rule, level, n, duration, draw));
+                for (rule, n) in [
+                    (0, 2),
+                    (0, 3),
+                    (1, 2),
+                    (1, 3),
+                    (2, 2),
+                    (2, 3),
+                    (2, 4),
+                    (3, 3),
+                ] {
+                    let (p, h) = (
+                        named_proved(rule, level, n, duration, draw),
+                        named_by_hand(rule, level, n, duration, draw),
+                    );
                     assert_eq!(p, h, "rule {rule}, level {level}, {n} transmissions, duration {duration}, draw {draw}");
                 }
             }
@@ -156,13 +198,33 @@ pub fn bench() {
     let draws: Vec<u64> = (0..DRAWS).map(|_| random.next()).collect();
     compare(&draws[..256]);
     for level in 0..3 {
-        let run = |plan: fn(u8, u32, u64) -> u32| timed(&draws, |duration, draw| plan(black_box(level), duration, draw));
-        report(&format!("slot plan, level {level}, d = 1,000"), run(proved), run(by_hand));
+        let run = |plan: fn(u8, u32, u64) -> u32| {
+            timed(&draws, |duration, draw| {
+                plan(black_box(level), duration, draw)
+            })
+        };
+        report(
+            &format!("slot plan, level {level}, d = 1,000"),
+            run(proved),
+            run(by_hand),
+        );
     }
     for (rule, level, n) in ROWS {
         let run = |plan: fn(u8, u8, u8, u32, u64) -> u32| {
-            timed(&draws, |duration, draw| plan(black_box(rule), black_box(level), black_box(n), duration, draw))
+            timed(&draws, |duration, draw| {
+                plan(
+                    black_box(rule),
+                    black_box(level),
+                    black_box(n),
+                    duration,
+                    draw,
+                )
+            })
         };
-        report(&format!("slot plan, rule {rule}, level {level}, {n} sent, d = 1,000"), run(named_proved), run(named_by_hand));
+        report(
+            &format!("slot plan, rule {rule}, level {level}, {n} sent, d = 1,000"),
+            run(named_proved),
+            run(named_by_hand),
+        );
     }
 }
