@@ -134,7 +134,7 @@ impl Repacker for Cells {
         }
         let used = &room[..BLOCK * rows.div_ceil(ROWS)];
         let cells: Vec<[u8; 32]> = used.chunks(BLOCK).flat_map(cells_of).collect();
-        let stay = |cell: &&[u8; 32]| !self.leaves(*cell, identities);
+        let stay = |cell: &&[u8; 32]| !self.leaves(cell, identities);
         let mut rest: Vec<[u8; 32]> = cells.iter().filter(stay).copied().collect();
         if self.has("the last row forgotten") && rest.len() < cells.len() {
             rest.pop();
