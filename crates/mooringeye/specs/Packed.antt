@@ -14,3 +14,7 @@ packed a = a .number * 16_777_216 + a .slots .first * 65_536 + a .slots .second 
 -- the answer for a site: its number, and a byte for each repeater that it names
 abbrev pub packedSite : site.Answer → ℕ
 packedSite a = a .number * 65_536 + a .repeater * 256 + a .other
+
+-- the first version of the interface
+abbrev pub interfaceVersion : ℕ
+interfaceVersion = 1

@@ -1,4 +1,11 @@
-// The interface for Rust and C, on plain numbers and bytes: `rt staticlib mooringeye` makes the archive to link.
+// The interface for other languages, on plain numbers and bytes: `bin/library` makes what is linked. Each call of a module is one of the crates below,
+// where the work and its proof are.
+pub mod archive;
+pub mod codec;
+pub mod erp2;
+pub mod plans;
+pub mod report;
+
 use refusal::Refusal;
 use site::Verdict;
 use slots::Planned;
@@ -8,7 +15,15 @@ ghost use Rattle.crc8.specs.Crc8.{crcOf};
 ghost use Rattle.slots.specs.Plan.{answerOf, planOf};
 ghost use Rattle.timing.specs.Rules.{planBy};
 ghost use Rattle.site.specs.Bytes.{siteIn};
-ghost use Rattle.mooringeye.specs.Packed.{answer, packed, packedSite};
+ghost use Rattle.mooringeye.specs.Packed.{answer, packed, packedSite, interfaceVersion};
+
+// The version of the interface: it rises with every change of a function or a layout that was there before.
+#[no_mangle]
+pub extern "C" fn mooringeye_version() -> u32
+    ensures { λ r. ⌜ r ≡ interfaceVersion ⌝ }
+{
+    1
+}
 
 // The CRC-8 of ERP1 over bytes.
 #[no_mangle]

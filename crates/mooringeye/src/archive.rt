@@ -1,0 +1,113 @@
+// Archive block files in lent buffers: verified, appended to, read by row, salvaged, and rid of the rows of sensors that left.
+ghost use mathlib.Core.Path.{_≡_};
+ghost use Rattle.archive_model.specs.Append as calls;
+ghost use Rattle.repack_model.specs.Repack as repack;
+ghost use Rattle.c_archive.specs.Calls.{rowCall};
+
+// How many rows an archive has.
+#[no_mangle]
+pub extern "C" fn mooringeye_archive_verify(
+    buffer: &[u8],
+    rows: &mut usize,
+    position: &mut usize,
+) -> u8
+    ensures { λ r. ⌜ record { number = r; position = now (position .exit); rows = now (rows .exit) } ≡ calls.openOf (now (buffer .entry)) ⌝ }
+{
+    c_archive::verify(buffer, rows, position)
+}
+
+// Appends a row.
+#[no_mangle]
+pub extern "C" fn mooringeye_archive_append(
+    buffer: &mut [u8],
+    bytes: &[u8],
+    time: u64,
+    loose: bool,
+    position: &mut usize,
+) -> u8
+    ensures { λ r. ⌜ record { number = r; position = now (position .exit); buffer = now (buffer .exit) }
+        ≡ calls.appendOf (now (buffer .entry)) (record { bytes = now (bytes .entry); time = time; loose = loose }) ⌝ }
+{
+    c_archive::append(buffer, bytes, time, loose, position)
+}
+
+// Appends a row to an archive of `n` rows: one block is looked at and written.
+#[no_mangle]
+pub extern "C" fn mooringeye_archive_append_at(
+    buffer: &mut [u8],
+    n: usize,
+    bytes: &[u8],
+    time: u64,
+    loose: bool,
+    position: &mut usize,
+) -> u8
+    ensures { λ r. ⌜ record { number = r; position = now (position .exit); buffer = now (buffer .exit) }
+        ≡ calls.appendAtOf (now (buffer .entry)) n (record { bytes = now (bytes .entry); time = time; loose = loose }) ⌝ }
+{
+    c_archive::append_at(buffer, n, bytes, time, loose, position)
+}
+
+// Puts row `n` into the 512 bytes of its block.
+#[no_mangle]
+pub extern "C" fn mooringeye_archive_put_row(
+    block: &mut [u8],
+    n: usize,
+    bytes: &[u8],
+    time: u64,
+    loose: bool,
+    position: &mut usize,
+) -> u8
+    ensures { λ r. ⌜ record { number = r; position = now (position .exit); buffer = now (block .exit) }
+        ≡ calls.putRowOf (now (block .entry)) n (record { bytes = now (bytes .entry); time = time; loose = loose }) ⌝ }
+{
+    c_archive::put_row(block, n, bytes, time, loose, position)
+}
+
+// Row `i` as it stands, in 23 bytes, and its time.
+#[no_mangle]
+pub extern "C" fn mooringeye_archive_row(
+    buffer: &[u8],
+    i: usize,
+    row: &mut [u8],
+    time: &mut u64,
+) -> u8
+    ensures { λ r. ⌜ record { number = r; row = now (row .exit); time = now (time .exit) }
+        ≡ rowCall (now (buffer .entry)) i (now (row .entry)) (now (time .entry)) ⌝ }
+{
+    c_archive::row_at(buffer, i, row, time)
+}
+
+// Packs a damaged archive anew.
+#[no_mangle]
+pub extern "C" fn mooringeye_archive_salvage(
+    buffer: &[u8],
+    out: &mut [u8],
+    positions: &mut [u64],
+    dropped: &mut usize,
+    rows: &mut usize,
+) -> u8
+    ensures { λ r. ⌜ record {
+      number = r;
+      count = now (dropped .exit);
+      rows = now (rows .exit);
+      output = now (out .exit);
+      positions = now (positions .exit);
+    }
+        ≡ repack.salvageOf (now (buffer .entry)) (now (out .entry)) (now (positions .entry)) ⌝ }
+{
+    c_archive::salvage(buffer, out, positions, dropped, rows)
+}
+
+// Removes the rows of some transmitters.
+#[no_mangle]
+pub extern "C" fn mooringeye_archive_remove(
+    buffer: &mut [u8],
+    identities: &[u32],
+    freed: &mut usize,
+    position: &mut usize,
+) -> u8
+    ensures { λ r. ⌜ record { number = r; position = now (position .exit); freed = now (freed .exit); buffer = now (buffer .exit) }
+        ≡ repack.removeOf (now (buffer .entry)) (now (identities .entry)) ⌝ }
+{
+    c_archive::remove(buffer, identities, freed, position)
+}

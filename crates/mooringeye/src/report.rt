@@ -1,0 +1,55 @@
+// Reports over archives, in two lent arrays: its four numbers, and five numbers for each line.
+use c_report::LINE_NUMBERS;
+use c_report::LINES;
+use c_report::NUMBERS;
+ghost use mathlib.Core.Path.{_≡_};
+ghost use Rattle.report_model.specs.Report as model;
+ghost use Rattle.c_report.specs.Calls.{reportAt, lineCall};
+
+// A report of no archive.
+#[no_mangle]
+pub extern "C" fn mooringeye_report_empty(numbers: &mut [u64; NUMBERS], lines: &mut [u64; LINES])
+    ensures { λ _. ⌜ reportAt (now (numbers .exit)) (now (lines .exit)) ≡ model.emptyReport ⌝ }
+{
+    c_report::empty(numbers, lines);
+}
+
+// Adds the rows of an archive.
+#[no_mangle]
+pub extern "C" fn mooringeye_report_add(
+    numbers: &mut [u64; NUMBERS],
+    lines: &mut [u64; LINES],
+    buffer: &[u8],
+    position: &mut usize,
+) -> u8
+    ensures { λ r. ⌜ model.answer r (now (position .exit)) (reportAt (now (numbers .exit)) (now (lines .exit)))
+        ≡ model.addOf (reportAt (now (numbers .entry)) (now (lines .entry))) (now (buffer .entry)) ⌝ }
+{
+    c_report::add(numbers, lines, buffer, position)
+}
+
+// Line `i`, in order of identity.
+#[no_mangle]
+pub extern "C" fn mooringeye_report_line(
+    numbers: &[u64; NUMBERS],
+    lines: &[u64; LINES],
+    i: usize,
+    line: &mut [u64; LINE_NUMBERS],
+) -> u8
+    ensures { λ r. ⌜ record { number = r; values = now (line .exit) } ≡ lineCall (reportAt (now (numbers .entry)) (now (lines .entry))) i ⌝ }
+{
+    c_report::line(numbers, lines, i, line)
+}
+
+// The share of its rows in receptions, in whole thousandths.
+#[no_mangle]
+pub extern "C" fn mooringeye_report_share(
+    numbers: &[u64; NUMBERS],
+    lines: &[u64; LINES],
+    received: u64,
+    thousandths: &mut u64,
+) -> u8
+    ensures { λ r. ⌜ record { number = r; thousandths = now (thousandths .exit) } ≡ model.shareOf (reportAt (now (numbers .entry)) (now (lines .entry))) received ⌝ }
+{
+    c_report::share(numbers, lines, received, thousandths)
+}

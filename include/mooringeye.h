@@ -1,0 +1,234 @@
+/* Mooringeye: a proved EnOcean collector, for C11 and C++.
+ *
+ * What the caller guarantees, of every call:
+ *   - a pointer is not NULL and is valid for its length (of elements, not of bytes) or for its fixed size, also where a length is 0;
+ *   - what is lent to be changed overlaps nothing else that is lent to the same call;
+ *   - one thread at a time uses one collector, one report or one buffer;
+ *   - a `bool` is 0 or 1.
+ * Nothing else is asked: every call answers for every content.
+ *
+ * A call that answers `uint8_t` answers a number: 0 for done, a refusal of mooringeye_refusal, or MOORINGEYE_WRONG_SIZE for a slice that does not
+ * have the size that the call asks for, which is tested before all else and leaves everything that was lent as it was. Refusals are tested in the
+ * order in which a function lists them. Beside a refusal each value handed back is zero, a position excepted, and an output is left as it was; what
+ * stands in an output behind the result is untouched. Positions and indices count from 0. Times are in milliseconds.
+ *
+ * Each function is proved to do what docs/API.md says of it, for every input. */
+#ifndef MOORINGEYE_H
+#define MOORINGEYE_H
+
+#include <stdbool.h>
+#include <stddef.h>
+#include <stdint.h>
+
+#ifdef __cplusplus
+extern "C" {
+#endif
+
+/* The version of the interface that this header declares; mooringeye_version() is that of the library. */
+#define MOORINGEYE_VERSION 1
+
+enum mooringeye_refusal {
+    MOORINGEYE_DONE = 0,
+    MOORINGEYE_LENGTH = 1,            /* the length is wrong */
+    MOORINGEYE_SUM = 2,               /* HASH is wrong, the sum */
+    MOORINGEYE_NESTED = 3,            /* addressed inside addressed, or encapsulating an addressed one */
+    MOORINGEYE_NOT_ADDRESSED = 4,     /* removal asked of a plain telegram */
+    MOORINGEYE_TOO_LONG = 5,          /* an addressed telegram of over 21 bytes */
+    MOORINGEYE_SHORT_OUTPUT = 6,      /* the output is too short for the result */
+    MOORINGEYE_LATE = 7,              /* the clock went back */
+    MOORINGEYE_FULL = 8,              /* 2^64 - 1 receptions are counted */
+    MOORINGEYE_NO_PLAN = 9,           /* no lawful plan */
+    MOORINGEYE_ARGUMENT = 10,         /* an argument is out of its range */
+    MOORINGEYE_NOT_ACCEPTED = 11,     /* the state or the image is not accepted */
+    MOORINGEYE_MISMATCH = 12,         /* a block of an archive does not match */
+    MOORINGEYE_CRC = 13,              /* HASH is wrong, the CRC */
+    MOORINGEYE_RESERVED_ADDRESS = 14, /* the address control of an ERP2 telegram is reserved */
+    MOORINGEYE_MISFIT = 15,           /* the fields of an ERP2 telegram do not fit its length */
+    MOORINGEYE_SIZE = 16,             /* a buffer that isn't whole blocks, or is over 2^32 of them */
+    MOORINGEYE_TRANSMITTERS = 17,     /* a 257th transmitter of a report */
+    MOORINGEYE_UNLAWFUL = 18,         /* the slot plan of a repeater of a site is not lawful */
+    MOORINGEYE_OVERLAP = 19,          /* transmissions of two repeaters of a site overlap */
+    MOORINGEYE_WRONG_SIZE = 255       /* of this interface: a slice does not have the size that the call asks for */
+};
+
+uint32_t mooringeye_version(void);
+
+/* ---- subtelegrams */
+
+enum {
+    MOORINGEYE_MAX_TELEGRAM = 21,
+    MOORINGEYE_MAX_DATA = 14
+};
+
+/* The fields of a subtelegram. RORG is the inner one where it is addressed; IDs stand in the order of transmission. Any other number than 0 in
+ * `addressed` says yes; reading gives 1. A plain telegram's DESTID reads zero. */
+typedef struct mooringeye_fields {
+    uint8_t rorg;
+    uint8_t length; /* of DATA */
+    uint8_t addressed;
+    uint8_t status;
+    uint8_t destid[4];
+    uint8_t txid[4];
+    uint8_t data[MOORINGEYE_MAX_DATA];
+} mooringeye_fields;
+
+/* Up to 21 bytes with their length, 0 for none, zero filled. */
+typedef struct mooringeye_frame {
+    uint8_t length;
+    uint8_t bytes[MOORINGEYE_MAX_TELEGRAM];
+} mooringeye_frame;
+
+/* CRC-8 with x^8 + x^2 + x + 1 from 0; 0 for no bytes. */
+uint8_t mooringeye_crc8(const uint8_t *bytes, size_t length);
+
+/* The check of a subtelegram: 1, 2 or 13, 3. */
+uint8_t mooringeye_check(const uint8_t *bytes, size_t length);
+
+/* Whether two subtelegrams are the same telegram: equal but for HASH and the level. */
+bool mooringeye_same(const uint8_t *a, size_t a_length, const uint8_t *b, size_t b_length);
+
+/* Reads a subtelegram. `fields_size` is sizeof(mooringeye_fields). Refused: the check's own. */
+uint8_t mooringeye_read(const uint8_t *bytes, size_t length, mooringeye_fields *fields, size_t fields_size);
+
+/* Builds a subtelegram into the front of `out`, and its length into `out_length`, which a wrong size leaves as it was.
+ * Refused: 10 DATA not 1 to 14 bytes or RORG 0xA6, 5, 6. */
+uint8_t mooringeye_build(const mooringeye_fields *fields, size_t fields_size, uint8_t *out, size_t out_size, size_t *out_length);
+
+/* Encapsulates a plain subtelegram for a DESTID, its first byte the highest: STATUS is kept and HASH renewed. Refused: the check's own, 3, 5, 6. */
+uint8_t mooringeye_encapsulate(const uint8_t *bytes, size_t length, uint32_t destid, uint8_t *out, size_t out_size, size_t *out_length);
+
+/* Removes the encapsulation of an addressed one. Refused: the check's own, 4, 6. */
+uint8_t mooringeye_decapsulate(const uint8_t *bytes, size_t length, uint8_t *out, size_t out_size, size_t *out_length);
+
+/* What a repeater set to 0 (off), 1 or 2 sends for a telegram; length 0 for nothing. It knows no history: ask it for receptions that were KEPT.
+ * `sent_size` is sizeof(mooringeye_frame). Refused: 10 a setting over 2, the check's own. */
+uint8_t mooringeye_repeat(uint8_t setting, const uint8_t *bytes, size_t length, mooringeye_frame *sent, size_t sent_size);
+
+/* ---- ERP2 telegrams */
+
+/* The fields of an ERP2 telegram but its IDs. A flag that is not set makes the values beside it mean nothing, and a short form its header: reading
+ * gives zeros there. */
+typedef struct mooringeye_erp2 {
+    uint8_t form;     /* the Length of a short form, 1 to 6; 0 for a long form */
+    uint8_t control;  /* address control */
+    uint8_t extended; /* an extended header is available */
+    uint8_t kind;     /* telegram type */
+    uint8_t has_extension;
+    uint8_t hops;      /* repeater count */
+    uint8_t announced; /* length of optional data */
+    uint8_t has_subtype;
+    uint8_t subtype; /* extended telegram type */
+    uint8_t has_destination;
+    uint8_t length; /* of data */
+    uint8_t data[250];
+    uint8_t optional[15];
+} mooringeye_erp2;
+
+/* Reads a length byte and Data_PL. `fields_size` is sizeof(mooringeye_erp2). Refused: 1, and of a long form 13, 14, 15. */
+uint8_t mooringeye_erp2_read(const uint8_t *bytes, size_t length, mooringeye_erp2 *fields, size_t fields_size, uint64_t *originator,
+                             uint32_t *destination);
+
+/* Builds an ERP2 telegram, the length byte first, into the front of `out`. Refused: 10 a value that its bits can't hold or a flag against the header,
+ * 14, 15 fields that do not fit the length, 6. */
+uint8_t mooringeye_erp2_build(const mooringeye_erp2 *fields, size_t fields_size, uint64_t originator, uint32_t destination, uint8_t *out,
+                              size_t out_size, size_t *out_length);
+
+/* ---- slot plans: rule 0 is the standard one, 1 the compressed one, 2 the one with a pause; slot 255 is none */
+
+/* A plan under the standard rule, as one number: the answer's number, and the first, second and third slot, a byte each from the highest.
+ * `duration` is in microseconds, 1 to 65,535. Refused: 10, 9. */
+uint32_t mooringeye_plan(uint8_t level, uint32_t duration, uint64_t draw);
+
+/* The same under a named rule, for two or three transmissions. */
+uint32_t mooringeye_plan_by(uint8_t rule, uint8_t level, uint8_t transmissions, uint32_t duration, uint64_t draw);
+
+/* Whether a plan is lawful under a rule that has so many transmissions at this level: two where the third slot is 255, else three. */
+bool mooringeye_is_lawful(uint8_t rule, uint8_t level, uint32_t duration, uint8_t first, uint8_t second, uint8_t third);
+
+/* What one repeater of a site sends. */
+typedef struct mooringeye_repeater {
+    uint8_t rule;
+    uint8_t level;
+    uint8_t duration[4]; /* big-endian, in microseconds */
+    uint8_t slots[3];
+} mooringeye_repeater;
+
+/* The check of up to 32 repeaters, as one number: answer x 65,536 + repeater x 256 + other. `size` is that of all repeaters, in bytes.
+ * Refused: 10 naming none (a size of no whole repeaters included), 18 with the first unlawful one, 19 with the first pair that overlaps. */
+uint32_t mooringeye_site(const mooringeye_repeater *repeaters, size_t size);
+
+/* ---- archive block files, in lent buffers */
+
+enum {
+    MOORINGEYE_BLOCK = 512,
+    MOORINGEYE_ROWS_PER_BLOCK = 15,
+    MOORINGEYE_MAX_IDENTITIES = 32
+};
+
+/* A row but its time: 1 for LOOSE, and the bytes as received, zero filled, with their length. */
+typedef struct mooringeye_row {
+    uint8_t loose;
+    mooringeye_frame frame;
+} mooringeye_row;
+
+/* How many rows an archive has. Refused: 16, 12 with the position of the first block that does not match. */
+uint8_t mooringeye_archive_verify(const uint8_t *buffer, size_t size, size_t *rows, size_t *position);
+
+/* Appends a row, KEPT or LOOSE; every block is looked at. Refused: 16, 12 with the position, the check's for the row, 6 no room for another block. */
+uint8_t mooringeye_archive_append(uint8_t *buffer, size_t size, const uint8_t *bytes, size_t length, uint64_t time, bool loose, size_t *position);
+
+/* The same for an archive of `rows` rows, as mooringeye_archive_verify said and the caller counts on: one block is looked at. Refused: 16, 12 with
+ * the position of the block that does not say that this row is next, the check's, 6. */
+uint8_t mooringeye_archive_append_at(uint8_t *buffer, size_t size, size_t rows, const uint8_t *bytes, size_t length, uint64_t time, bool loose,
+                                     size_t *position);
+
+/* The same where the caller holds the 512 bytes of that block alone. Refused: 16 another size or a row that no archive has, 12, the check's. */
+uint8_t mooringeye_archive_put_row(uint8_t *block, size_t size, size_t rows, const uint8_t *bytes, size_t length, uint64_t time, bool loose,
+                                   size_t *position);
+
+/* Row `index` as it stands. `row_size` is sizeof(mooringeye_row). Refused: 16, 10 no such row. */
+uint8_t mooringeye_archive_row(const uint8_t *buffer, size_t size, size_t index, mooringeye_row *row, size_t row_size, uint64_t *time);
+
+/* Packs what is right of a damaged archive into `out`, zeros behind it up to the buffer's size, and the positions of the blocks that were dropped
+ * into the front of `positions`. Refused: 16, 6 an output shorter than the buffer or a list shorter than the positions. */
+uint8_t mooringeye_archive_salvage(const uint8_t *buffer, size_t size, uint8_t *out, size_t out_size, uint64_t *positions, size_t positions_length,
+                                   size_t *dropped, size_t *rows);
+
+/* Removes the rows of up to 32 transmitters in the archive's own buffer: the others are packed and renumbered, and blocks no longer needed are zero
+ * filled; `freed` says how many. A transmitter is its TXID, the first byte the highest. Refused: 16, 12 with the position, 10 more than 32. */
+uint8_t mooringeye_archive_remove(uint8_t *buffer, size_t size, const uint32_t *identities, size_t identities_length, size_t *freed,
+                                  size_t *position);
+
+/* ---- reports over archives */
+
+enum {
+    MOORINGEYE_MAX_ARCHIVES = 64,
+    MOORINGEYE_MAX_LINES = 256,
+    MOORINGEYE_REPORT_NUMBERS = 4,
+    MOORINGEYE_LINE_NUMBERS = 5
+};
+
+/* A report: archives added, lines, KEPT rows, LOOSE rows; and the lines, five numbers each: identity, KEPT rows, LOOSE rows, earliest and latest
+ * time. */
+typedef struct mooringeye_report {
+    uint64_t numbers[MOORINGEYE_REPORT_NUMBERS];
+    uint64_t lines[MOORINGEYE_MAX_LINES * MOORINGEYE_LINE_NUMBERS];
+} mooringeye_report;
+
+/* A report of no archive. */
+void mooringeye_report_empty(uint64_t *numbers, uint64_t *lines);
+
+/* Adds the rows of an archive. Refused: 11 a report that no archives give, 16, 12 with the position, 10 a 65th archive, 17; then nothing is added. */
+uint8_t mooringeye_report_add(uint64_t *numbers, uint64_t *lines, const uint8_t *buffer, size_t size, size_t *position);
+
+/* Line `index`, five numbers. Refused: 11, 10 no such line. */
+uint8_t mooringeye_report_line(const uint64_t *numbers, const uint64_t *lines, size_t index, uint64_t *line);
+
+/* The share of its rows in receptions, in whole thousandths rounded down. Refused: 11, 10 a figure of 0 or less than the rows. */
+uint8_t mooringeye_report_share(const uint64_t *numbers, const uint64_t *lines, uint64_t received, uint64_t *thousandths);
+
+#ifdef __cplusplus
+}
+#endif
+
+#endif
