@@ -1,0 +1,186 @@
+//! The header, the declarations of this crate, the sources of the exports and the symbols of the library say the same: names, and of each parameter
+//! whether it is a pointer or which number.
+use std::collections::BTreeMap;
+use std::path::{Path, PathBuf};
+use std::process::Command;
+
+/// The parameters of each function, and its answer last.
+type Functions = BTreeMap<String, Vec<String>>;
+
+fn root() -> PathBuf {
+    Path::new(env!("CARGO_MANIFEST_DIR")).join("../..")
+}
+
+fn library(file: &str) -> PathBuf {
+    let own = root().join("target/library");
+    std::env::var_os("MOORINGEYE_LIB_DIR").map_or(own, PathBuf::from).join(file)
+}
+
+fn text(path: impl AsRef<Path>) -> String {
+    std::fs::read_to_string(root().join(path.as_ref())).unwrap_or_else(|e| panic!("{}: {e}", path.as_ref().display()))
+}
+
+/// A text without its comments.
+fn bare(text: &str) -> String {
+    let mut out = String::new();
+    let mut rest = text;
+    while let Some(at) = rest.find("/*") {
+        out.push_str(&rest[..at]);
+        rest = &rest[at + rest[at..].find("*/").expect("a comment ends") + 2..];
+    }
+    out.push_str(rest);
+    out.lines().map(|l| l.split("//").next().unwrap()).collect::<Vec<_>>().join("\n")
+}
+
+/// What stands between the parenthesis at `open` and the one that closes it, and the rest.
+fn parenthesis(text: &str, open: usize) -> (&str, &str) {
+    let mut depth = 0;
+    for (i, c) in text[open..].char_indices() {
+        match c {
+            '(' => depth += 1,
+            ')' => depth -= 1,
+            _ => {}
+        }
+        if depth == 0 {
+            return (&text[open + 1..open + i], &text[open + i + 1..]);
+        }
+    }
+    panic!("a parenthesis does not close");
+}
+
+fn header_kind(declared: &str) -> String {
+    let words: Vec<&str> = declared.split(|c: char| !c.is_alphanumeric() && c != '_').filter(|w| !w.is_empty()).collect();
+    if declared.contains('*') {
+        return "pointer".into();
+    }
+    match *words.iter().find(|w| **w != "const").expect("a type") {
+        "uint8_t" => "u8",
+        "uint16_t" => "u16",
+        "uint32_t" => "u32",
+        "uint64_t" => "u64",
+        "size_t" => "usize",
+        "bool" => "bool",
+        "void" => "nothing",
+        other => panic!("the header has a type that this test does not know: {other}"),
+    }
+    .into()
+}
+
+/// The prototypes of the header: what ends with a semicolon; functions with a body are none.
+fn header() -> Functions {
+    let text = bare(&text("include/mooringeye.h"));
+    let mut found = Functions::new();
+    let mut from = 0;
+    while let Some(at) = text[from..].find("mooringeye_").map(|i| from + i) {
+        let end = at + text[at..].find(|c: char| !c.is_alphanumeric() && c != '_').unwrap();
+        from = end;
+        if !text[end..].starts_with('(') {
+            continue;
+        }
+        let (inside, after) = parenthesis(&text, end);
+        if !after.trim_start().starts_with(';') || inside.contains("->") || inside.contains('&') {
+            continue;
+        }
+        let start = text[..at].rfind([';', '}', '{', '\n']).map_or(0, |i| i + 1);
+        if text[start..at].contains('=') || text[start..at].contains("return") {
+            continue;
+        }
+        let mut kinds: Vec<String> = inside.split(',').map(header_kind).filter(|k| k != "nothing").collect();
+        kinds.push(header_kind(&text[start..at]));
+        assert!(found.insert(text[at..end].into(), kinds).is_none(), "{} is declared twice", &text[at..end]);
+    }
+    found
+}
+
+/// The functions after a word such as `pub fn`, with what each type is.
+fn functions(text: &str, word: &str, kinds: impl Fn(&str) -> Vec<String>) -> Functions {
+    let mut found = Functions::new();
+    for part in text.split(word).skip(1) {
+        let name: String = part.trim_start().chars().take_while(|c| c.is_alphanumeric() || *c == '_').collect();
+        if !name.starts_with("mooringeye_") {
+            continue;
+        }
+        let (inside, after) = parenthesis(part, part.find('(').unwrap());
+        let mut all: Vec<String> = inside.split(',').filter_map(|p| p.split_once(':')).flat_map(|(_, t)| kinds(t.trim())).collect();
+        match after.trim_start().strip_prefix("->") {
+            Some(t) => all.push(t.trim_start().chars().take_while(|c| c.is_alphanumeric()).collect()),
+            None => all.push("nothing".into()),
+        }
+        found.insert(name, all);
+    }
+    found
+}
+
+/// The declarations of `raw.rs`.
+fn declared() -> Functions {
+    let kinds = |t: &str| vec![if t.starts_with('*') { "pointer".into() } else { t.to_string() }];
+    functions(&bare(&text("rust/mooringeye/src/raw.rs")), "pub fn ", kinds)
+}
+
+/// The exports of crate `mooringeye`: a slice is a pointer and a length, any other reference a pointer.
+fn exported() -> Functions {
+    let kind = |t: &str| -> Vec<String> {
+        let Some(to) = t.strip_prefix('&') else { return vec![t.to_string()] };
+        let to = to.trim_start_matches(|c: char| c == '\'' || c.is_ascii_lowercase() && to.starts_with('\'')).trim_start();
+        let to = to.strip_prefix("mut ").unwrap_or(to).trim_start();
+        if to.starts_with('[') && !to.contains(';') {
+            vec!["pointer".into(), "usize".into()]
+        } else {
+            vec!["pointer".into()]
+        }
+    };
+    let mut all = Functions::new();
+    for entry in std::fs::read_dir(root().join("crates/mooringeye/src")).unwrap() {
+        let text = bare(&text(entry.unwrap().path()));
+        all.extend(functions(&text.replace("<'a>", "").replace("&'a ", "&"), "pub extern \"C\" fn ", kind));
+    }
+    all
+}
+
+/// The functions that `nm` finds defined.
+fn symbols(words: &[&str], file: &str) -> Vec<String> {
+    let out = Command::new("nm").args(words).arg(library(file)).output().expect("nm runs");
+    assert!(out.status.success(), "nm {file}");
+    let mut names: Vec<String> = String::from_utf8(out.stdout)
+        .unwrap()
+        .lines()
+        .filter_map(|l| l.split_once(" T "))
+        .map(|(_, name)| name.split('@').next().unwrap().to_string())
+        .collect();
+    names.sort();
+    names
+}
+
+fn names(functions: &Functions) -> Vec<String> {
+    functions.keys().cloned().collect()
+}
+
+#[test]
+fn the_header_is_what_is_declared_here() {
+    assert!(header().len() >= 20);
+    assert_eq!(header(), declared());
+}
+
+#[test]
+fn the_header_is_what_is_exported() {
+    assert_eq!(header(), exported());
+}
+
+#[test]
+fn the_archive_has_these_symbols() {
+    assert_eq!(symbols(&["--defined-only"], "libmooringeye.a"), names(&header()));
+}
+
+#[test]
+fn the_shared_object_exports_these_symbols_and_no_others() {
+    assert_eq!(symbols(&["-D", "--defined-only"], "libmooringeye.so"), names(&header()));
+    let out = Command::new("nm").args(["-D", "--defined-only"]).arg(library("libmooringeye.so")).output().unwrap();
+    assert_eq!(String::from_utf8(out.stdout).unwrap().lines().count(), header().len());
+}
+
+#[test]
+fn versions_agree() {
+    let text = text("include/mooringeye.h");
+    let line = text.lines().find_map(|l| l.strip_prefix("#define MOORINGEYE_VERSION ")).unwrap();
+    assert_eq!(line.trim().parse(), Ok(mooringeye::version()));
+}

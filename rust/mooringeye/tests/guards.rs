@@ -1,0 +1,131 @@
+//! Slices that end where memory ends, and slices that begin where it begins: a read or write outside them stops the test.
+use mooringeye::raw;
+use std::ffi::c_void;
+
+extern "C" {
+    fn mmap(at: *mut c_void, len: usize, access: i32, flags: i32, file: i32, offset: i64) -> *mut c_void;
+    fn mprotect(at: *mut c_void, len: usize, access: i32) -> i32;
+}
+
+const PAGE: usize = 4096;
+const NONE: i32 = 0;
+const READ_WRITE: i32 = 3;
+const PRIVATE_ANONYMOUS: i32 = 0x22;
+
+/// `len` bytes, or numbers, between two pages that may not be touched: at the end of what lies between them, or at its start.
+fn guarded<T: Clone>(content: &[T], at_end: bool) -> &'static mut [T] {
+    let size = std::mem::size_of_val(content);
+    let pages = size.div_ceil(PAGE).max(1);
+    // SAFETY: a new mapping of its own, never unmapped; the part that is handed out lies in it, is aligned, and is handed out once.
+    unsafe {
+        let base = mmap(std::ptr::null_mut(), (pages + 2) * PAGE, NONE, PRIVATE_ANONYMOUS, -1, 0);
+        assert!(base as isize > 0);
+        let inner = base.add(PAGE);
+        assert_eq!(mprotect(inner, pages * PAGE, READ_WRITE), 0);
+        let start = if at_end { inner.add(pages * PAGE - size) } else { inner } as *mut T;
+        std::ptr::copy_nonoverlapping(content.as_ptr(), start, content.len());
+        std::slice::from_raw_parts_mut(start, content.len())
+    }
+}
+
+fn both(mut call: impl FnMut(bool)) {
+    call(true);
+    call(false);
+}
+
+/// Bytes that look right and bytes that do not, of a length.
+fn contents(n: usize) -> Vec<Vec<u8>> {
+    let mut right = vec![0xD5; n];
+    if n >= 2 {
+        right[n - 2] = 0;
+        right[n - 1] = right[..n - 1].iter().fold(0u8, |s, b| s.wrapping_add(*b));
+    }
+    let mut addressed = right.clone();
+    if n >= 2 {
+        addressed[0] = 0xA6;
+        addressed[n - 1] = addressed[..n - 1].iter().fold(0u8, |s, b| s.wrapping_add(*b));
+    }
+    vec![right, addressed, vec![0xFF; n], vec![0; n]]
+}
+
+#[test]
+fn subtelegrams() {
+    for n in 0..30 {
+        for content in contents(n) {
+            both(|end| {
+                let bytes = guarded(&content, end);
+                let (fields, sent) = (guarded(&[0u8; raw::FIELDS], end), guarded(&[0u8; raw::FRAME], end));
+                let (out, length) = (guarded(&vec![0u8; n % 23], end), guarded(&[0usize], end));
+                raw::crc8(bytes);
+                raw::check(bytes);
+                raw::same(bytes, guarded(&content, !end));
+                raw::read(bytes, fields);
+                raw::build(fields, out, &mut length[0]);
+                raw::encapsulate(bytes, 7, out, &mut length[0]);
+                raw::decapsulate(bytes, out, &mut length[0]);
+                raw::repeat(2, bytes, sent);
+            });
+        }
+    }
+}
+
+#[test]
+fn erp2_telegrams() {
+    for n in 0..=256 {
+        let mut content = vec![0x2F; n];
+        if n > 1 {
+            content[0] = (n - 1) as u8;
+            content[n - 1] = raw::crc8(&content[1..n - 1]);
+        }
+        both(|end| {
+            let fields = guarded(&[0u8; raw::ERP2], end);
+            let (from, to) = (guarded(&[0u64], end), guarded(&[0u32], end));
+            raw::erp2_read(guarded(&content, end), fields, &mut from[0], &mut to[0]);
+            let (out, length) = (guarded(&vec![0u8; n], end), guarded(&[0usize], end));
+            raw::erp2_build(fields, from[0], to[0], out, &mut length[0]);
+        });
+    }
+}
+
+#[test]
+fn archives_and_reports() {
+    let telegram = [0xD5, 0x09, 1, 2, 3, 4, 0, 0xE8];
+    for (blocks, rows) in [(0, 0), (1, 0), (1, 15), (3, 31), (3, 45)] {
+        let mut content = vec![0; 512 * blocks];
+        let mut position = 0;
+        for n in 0..rows {
+            assert_eq!(raw::archive_append_at(&mut content, n, &telegram, n as u64, false, &mut position), 0);
+        }
+        both(|end| {
+            let buffer = guarded(&content, end);
+            let bytes = guarded(&telegram, end);
+            let numbers = guarded(&[0usize; 2], end);
+            let [a, b] = numbers else { unreachable!() };
+            let (row, time) = (guarded(&[0u8; raw::ROW], end), guarded(&[0u64], end));
+            raw::archive_verify(buffer, a, b);
+            raw::archive_append(buffer, bytes, 1, true, a);
+            raw::archive_append_at(buffer, rows, bytes, 1, true, a);
+            raw::archive_row(buffer, rows, row, &mut time[0]);
+            let (out, list) = (guarded(&content, end), guarded(&vec![0u64; blocks], end));
+            raw::archive_salvage(buffer, out, list, a, b);
+            raw::archive_remove(buffer, guarded(&[5u32; 32], end), a, b);
+            let report: &mut [u64; raw::REPORT_NUMBERS] = guarded(&[0; raw::REPORT_NUMBERS], end).try_into().unwrap();
+            let lines: &mut [u64; raw::REPORT_LINES] = guarded(&[0; raw::REPORT_LINES], end).try_into().unwrap();
+            let line: &mut [u64; raw::LINE_NUMBERS] = guarded(&[0; raw::LINE_NUMBERS], end).try_into().unwrap();
+            raw::report_empty(report, lines);
+            raw::report_add(report, lines, buffer, a);
+            raw::report_line(report, lines, 0, line);
+            raw::report_line(report, lines, usize::MAX, line);
+            raw::report_share(report, lines, 50, &mut time[0]);
+        });
+    }
+}
+
+#[test]
+fn sites() {
+    for n in [0, 8, 9, 10, 9 * 32, 9 * 33] {
+        both(|end| {
+            raw::site(guarded(&vec![1u8; n], end));
+        });
+    }
+}
