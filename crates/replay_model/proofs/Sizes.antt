@@ -12,7 +12,8 @@ use Rattle.model.specs.View.{View, fresh}
 use Rattle.model.specs.Step.{step}
 use Rattle.model.specs.Image.{imageLength, checkpointOf, restoreOf}
 use Rattle.model.specs.Burst.{burstOf}
-use Rattle.model.specs.History.{Call, Receive, Checkpoint, Restore, Cut, Burst, Ask, Look, Seen, Answered, Wrote, Restored, Delivered, Heard, Looked, run}
+use Rattle.model.specs.History.{Call, Receive, Checkpoint, Restore, Cut, Burst, Ask, Look, run}
+use Rattle.model.specs.History.{Seen, Answered, Wrote, Restored, Delivered, Heard, Looked}
 use Rattle.replay_model.specs.Record.{bytesOf, recordOf}
 use Rattle.replay_model.specs.Replay.{after, sizeOf, sizeOfAll}
 use Rattle.replay_model.specs.Claims.{Sized}

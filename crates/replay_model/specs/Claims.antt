@@ -1,4 +1,5 @@
--- What is claimed of a record: it reads back, its length is told by the calls alone, and calls made in parts are one run. Assumes nothing.
+-- What is claimed of a record: it reads back, and the reference model's is never cut; its length is told by the calls alone; and calls made in parts
+-- are one run. Assumes nothing.
 use Prim.Native.Nat.{ℕ, _^_, _<_}
 use mathlib.Core.Path.{_≡_}
 use mathlib.Core.List.{List, [], _∷_, _++_}
@@ -8,7 +9,8 @@ use Rattle.telegram.specs.declared.frame.Frame.{Frame}
 use Rattle.model.specs.declared.Totals.{Totals}
 use Rattle.model.specs.View.{View}
 use Rattle.model.specs.Burst.{Replied}
-use Rattle.model.specs.History.{Call, Seen, Answered, Wrote, Restored, Delivered, Heard, Looked, run}
+use Rattle.model.specs.History.{Call, Receive, Checkpoint, Restore, Cut, Burst, Ask, Look, IsHistory, run, expected}
+use Rattle.model.specs.History.{Seen, Answered, Wrote, Restored, Delivered, Heard, Looked}
 use Rattle.replay_model.specs.Record.{recordOf}
 use Rattle.replay_model.specs.Replay.{afterCalls, sizeOfAll}
 
@@ -45,6 +47,22 @@ AllWhole (s ∷ l) = Whole s × AllWhole l
 -- a record reads back: things seen that differ have different bytes
 abbrev pub ReadsBack : Type 0
 ReadsBack = (l m : List Seen) → AllWhole l → AllWhole m → recordOf l ≡ recordOf m → l ≡ m
+
+-- ---- and of each call: outputs and lists shorter than 2^64, and telegrams in 21 bytes in the places of a burst
+
+abbrev pub Held : List Call → Type 0
+Held [] = Unit {0}
+Held (Receive setting r ∷ h) = Held h
+Held (Checkpoint output ∷ h) = (length output < 2 ^ 64) × Held h
+Held (Restore image ∷ h) = Held h
+Held (Cut output ∷ h) = (length output < 2 ^ 64) × Held h
+Held (Burst setting rs places ∷ h) = (length places < 2 ^ 64) × WholeReplies places × Held h
+Held (Ask k ∷ h) = Held h
+Held (Look ∷ h) = Held h
+
+-- so what the reference model says of a history is never cut, and its record tells all of it
+abbrev pub ReferenceWhole : Type 0
+ReferenceWhole = (h : List Call) → IsHistory h → Held h → AllWhole (expected [] h)
 
 -- how long the record is, whatever the state at its start
 abbrev pub Sized : Type 0
