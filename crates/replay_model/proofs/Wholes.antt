@@ -24,7 +24,7 @@ use Rattle.model.specs.Burst.{Replied, maxBurst}
 use Rattle.model.specs.Reference.{Logged, totalsOf, answerTo, sentWith, logOf, openAt, latestOf, modelView, heardBy, savedBy, pastAfter, repliesBy}
 use Rattle.model.specs.History.{Call, Receive, Checkpoint, Restore, Cut, Burst, Ask, Look, Timely, IsHistory, burstTaken, expected}
 use Rattle.model.proofs.Invariant.{Good, good-fresh}
-use Rattle.model.proofs.Image.{good-layout, image-length}
+use Rattle.model.proofs.Image.{fits-layout, image-length}
 use Rattle.model.proofs.Simulation.{good-after}
 use Rattle.replay_model.specs.Claims.{WholeTotals, WholeFrame, WholeReplies, AllWhole, Held, ReferenceWhole}
 
@@ -51,7 +51,7 @@ unfolding savedBy
 saved-length log output g =
     by-test (ltb (length output) imageLength) (λ t. rw t)
     (λ t. rw t
-    (simp (length-append, length-drop, image-length 0 (modelView log) (good-layout g)) (omega (arith, ltb-false (length output) imageLength t))))
+    (simp (length-append, length-drop, image-length 0 (modelView log) (fits-layout g)) (omega (arith, ltb-false (length output) imageLength t))))
 
 -- ---- what is sent
 
