@@ -17,11 +17,15 @@ pub record Printed (out : List ℕ) (at : ℕ) (text : List ℕ) (most : ℕ) (o
 abbrev pub PrintedIfFits : (out : List ℕ) (at longest : ℕ) (text out' : List ℕ) (r : ℕ) → Type 0
 PrintedIfFits out at longest text out' r = Printed out at (cond (leb (at + longest) (length out)) text []) longest out' r
 
--- no time of 64 bits is longer
-abbrev pub longestTime : ℕ
-longestTime = 20
+-- no number of 64 bits is longer
+abbrev pub longestNumber : ℕ
+longestNumber = 20
 
--- no row with a time of k characters and n bytes to send is longer: the time, ` REFUSED `, 20 digits and the newline, and two digits for each byte
+-- no answer with n bytes to send is longer: `REFUSED ` and 20 digits, and two digits for each byte
+abbrev pub longestAnswer : ℕ → ℕ
+longestAnswer n = 28 + 2 * n
+
+-- no row with a time of k characters and n bytes to send is longer: the time, a space, the answer and the newline
 abbrev pub longestRow : ℕ → ℕ → ℕ
 longestRow k n = k + 30 + 2 * n
 
