@@ -25,8 +25,7 @@ use Rattle.crc8.specs.Crc8.{crcOf}
 use Rattle.layout.specs.Buffer.{part}
 use Rattle.layout.specs.BigEndian.{be}
 use Rattle.layout.specs.Cell.{cellLength, cellCapacity, cellOf, cellTime, cellUsed, cellField, cellBytes, cellLast}
-use Rattle.layout.specs.Header.{headerLength}
-use Rattle.layout.specs.Block.{cellsPerBlock, bodyLength, blockLength, sealed, blockOf, blockCell}
+use Rattle.layout.specs.Block.{headerLength, cellsPerBlock, bodyLength, blockLength, sealed, blockOf, blockCell}
 use Rattle.layout.proofs.Segments.{part-length, left, last, flatten-length}
 use Rattle.layout.proofs.Buffer.{padded-length}
 use Rattle.layout.proofs.BigEndian.{be-length, be-front}

@@ -24,8 +24,7 @@ use Rattle.erp1.proofs.Checks.{check-facts}
 use Rattle.layout.specs.Buffer.{part}
 use Rattle.layout.specs.BigEndian.{be, unbe}
 use Rattle.layout.specs.Cell.{cellLength}
-use Rattle.layout.specs.Header.{headerLength}
-use Rattle.layout.specs.Block.{cellsPerBlock, blockLength, blockHeader, blockCell}
+use Rattle.layout.specs.Block.{headerLength, cellsPerBlock, blockLength, blockHeader, blockCell}
 use Rattle.layout.proofs.Segments.{part-at, part-take, left, whole, Each}
 use Rattle.layout.proofs.BigEndian.{be-length, unbe-be}
 use Rattle.layout.proofs.Cell.{cell-length, cell-time, cell-bytes, cell-last}

@@ -23,8 +23,7 @@ use Rattle.erp1.specs.Subtelegram.{checkOf, isValid}
 use Rattle.crc8.specs.Crc8.{crcOf}
 use Rattle.layout.specs.Buffer.{part}
 use Rattle.layout.specs.Cell.{cellLength}
-use Rattle.layout.specs.Header.{headerLength}
-use Rattle.layout.specs.Block.{cellsPerBlock, bodyLength, blockLength, sealed, blockOf}
+use Rattle.layout.specs.Block.{headerLength, cellsPerBlock, bodyLength, blockLength, sealed, blockOf}
 use Rattle.layout.proofs.Segments.{left, right, last, part-replicate, flatten-length}
 use Rattle.layout.proofs.Buffer.{padded-length}
 use Rattle.layout.proofs.Cell.{cell-length}

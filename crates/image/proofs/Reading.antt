@@ -17,8 +17,7 @@ use Rattle.lists.proofs.UpFrom.{length-upFrom, getD-upFrom}
 use Rattle.erp1.specs.Subtelegram.{maxLength}
 use Rattle.layout.specs.Buffer.{part, resized}
 use Rattle.layout.specs.Cell.{cellLength, cellTime, cellUsed, cellField, cellBytes, cellLast}
-use Rattle.layout.specs.Header.{headerLength}
-use Rattle.layout.specs.Block.{blockLength}
+use Rattle.layout.specs.Block.{headerLength, blockLength}
 use Rattle.layout.proofs.Segments.{part-length, left, Each, flatten-length, flatten-part, Begun, begin, named, store, lent, turn, turned}
 use Rattle.layout.proofs.Buffer.{resized-whole}
 use Rattle.model.specs.View.{capacity}

@@ -22,7 +22,7 @@ use Rattle.lists.proofs.Tests.{all-getD, getD-map}
 use Rattle.lists.proofs.UpFrom.{length-upFrom, getD-upFrom}
 use Rattle.erp1.specs.Subtelegram.{maxLength}
 use Rattle.layout.specs.Buffer.{part}
-use Rattle.layout.specs.Header.{headerOf}
+use Rattle.model.specs.Header.{headerOf}
 use Rattle.layout.specs.Block.{cellsPerBlock, blockOf}
 use Rattle.layout.proofs.Segments.{part-at}
 use Rattle.layout.proofs.Buffer.{resized-length}

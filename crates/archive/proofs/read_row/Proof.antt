@@ -10,7 +10,7 @@ use denote.Ref.{now}
 use lib.ListN.{length}
 use Rattle.layout.specs.Buffer.{resized}
 use Rattle.layout.specs.Cell.{cellLength, cellCapacity, cellTime, cellUsed, cellField, cellBytes}
-use Rattle.layout.specs.Header.{headerLength}
+use Rattle.layout.specs.Block.{headerLength}
 use Rattle.layout.proofs.Segments.{part-length}
 use Rattle.layout.proofs.Buffer.{resized-whole}
 use Rattle.archive_model.specs.Row.{Row, rowCount, rowIn}

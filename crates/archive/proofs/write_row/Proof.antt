@@ -7,8 +7,7 @@ use native.Mathlib.Omega.{arith}
 use borrow.Author.Needs.{needs}
 use denote.Ref.{now}
 use Rattle.layout.specs.Cell.{cellLength, cellOf}
-use Rattle.layout.specs.Header.{headerLength}
-use Rattle.layout.specs.Block.{cellsPerBlock, bodyLength, sealed}
+use Rattle.layout.specs.Block.{headerLength, cellsPerBlock, bodyLength, sealed}
 use Rattle.layout.specs.Buffer.{part}
 use Rattle.layout.proofs.Segments.{Writing, packed, begin, lend, lent, skip}
 use Rattle.layout.proofs.Cell.{put-fits}

@@ -6,8 +6,7 @@ use borrow.Author.Needs.{needs}
 use denote.Ref.{now}
 use lib.ListN.{length}
 use Rattle.layout.specs.Cell.{cellLength}
-use Rattle.layout.specs.Header.{headerLength}
-use Rattle.layout.specs.Block.{cellsPerBlock, blockLength, blockCell}
+use Rattle.layout.specs.Block.{headerLength, cellsPerBlock, blockLength, blockCell}
 use Rattle.layout.proofs.Segments.{part-ends}
 use Rattle.image.proofs.Reading.{block-long}
 use Rattle.image.proofs.cell_in.Statement.{statement}
