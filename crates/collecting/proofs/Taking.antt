@@ -29,7 +29,8 @@ use Rattle.line_input.proofs.Long.{long-time}
 use Rattle.line_input.proofs.Whole.{Said}
 use Rattle.line_output.proofs.ReadBack.{time-back}
 use Rattle.line_output.specs.Text.{decimalText, rowBehind, badText}
-use Rattle.line_output.specs.Printed.{longestNumber, Printed}
+use Rattle.buffers.specs.Printed.{Printed}
+use Rattle.line_output.specs.Longest.{longestNumber}
 use Rattle.streams.specs.Chunks.{feedText}
 use Rattle.streams.specs.Collect.{Phase, running, collect, phaseText, nextPhase}
 use Rattle.streams.specs.Buffer.{isOpen, Fed}

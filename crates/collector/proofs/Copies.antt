@@ -15,9 +15,9 @@ use Rattle.erp1.specs.Status.{upperOf}
 use Rattle.erp1.specs.Subtelegram.{minLength, maxLength, statusOf, beforeStatus}
 use Rattle.erp1.specs.Same.{isSame}
 use Rattle.erp1.proofs.Checks.{front-at}
-use Rattle.layout.specs.Buffer.{part, resized}
-use Rattle.layout.proofs.Segments.{part-at}
-use Rattle.layout.proofs.Buffer.{resized-length}
+use Rattle.buffers.specs.Buffer.{part, resized}
+use Rattle.buffers.proofs.Segments.{part-at}
+use Rattle.buffers.proofs.Buffer.{resized-length}
 use Rattle.collector.specs.Acceptable.{shownAt}
 use Rattle.collector.proofs.Inside.{fails}
 

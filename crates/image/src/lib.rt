@@ -15,7 +15,7 @@ ghost use lib.ListN.{length, drop};
 ghost use Rattle.lists.specs.Lists.{padded};
 ghost use Rattle.refusal.specs.Number.{numberOf};
 ghost use Rattle.refusal.specs.declared.Refusal.the-variants.{NotAccepted};
-ghost use Rattle.layout.specs.Buffer.{overwritten};
+ghost use Rattle.buffers.specs.Buffer.{overwritten};
 ghost use Rattle.layout.specs.Block.{headerLength, cellsPerBlock, blockLength, blockHeader};
 ghost use Rattle.erp1.specs.Subtelegram.{maxLength};
 ghost use Rattle.model.specs.View.{capacity};

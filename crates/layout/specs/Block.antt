@@ -5,7 +5,7 @@ use Prim.Native.Nat.{ℕ, _+_, _*_}
 use lib.ListN.{take}
 use Rattle.lists.specs.Lists.{padded}
 use Rattle.crc8.specs.Crc8.{crcOf}
-use Rattle.layout.specs.Buffer.{part, overwritten}
+use Rattle.buffers.specs.Buffer.{part, overwritten}
 use Rattle.layout.specs.Cell.{cellLength}
 
 abbrev pub headerLength : ℕ

@@ -6,7 +6,7 @@ use lib.Dec.{leb}
 use lib.ListN.{length, getD}
 use Rattle.lists.specs.Lists.{padded}
 use Rattle.erp1.specs.Subtelegram.{maxLength}
-use Rattle.layout.specs.Buffer.{part, resized, overwritten}
+use Rattle.buffers.specs.Buffer.{part, resized, overwritten}
 use Rattle.layout.specs.BigEndian.{be, unbe}
 
 abbrev pub cellLength : ℕ

@@ -1,4 +1,3 @@
-pub mod Buffer
 pub mod BigEndian
 pub mod Cell
 pub mod Block

@@ -5,7 +5,7 @@ ghost use Prim.Native.Nat.{min};
 ghost use lib.Dec.{eqb};
 ghost use lib.ListN.{length, getD, take, replicate};
 ghost use Rattle.lists.specs.Lists as lists;
-ghost use Rattle.layout.specs.Buffer.{part, resized, overwritten};
+ghost use Rattle.buffers.specs.Buffer.{part, resized, overwritten};
 ghost use Rattle.layout.specs.BigEndian.{be, unbe};
 ghost use Rattle.layout.specs.Cell.{putCell, cellTime, cellUsed, cellField, cellLast};
 ghost use Rattle.layout.specs.Block.{sealBlock};

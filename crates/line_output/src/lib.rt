@@ -7,7 +7,8 @@ ghost use lib.Dec.{leb};
 ghost use lib.ListN.{length, drop};
 ghost use Rattle.lists.specs.Lists.{isTableOf};
 ghost use Rattle.line_output.specs.Text.{decimalText, hexDigitOf, hexText, answerText, rowBehind, badText, counted, totalsText};
-ghost use Rattle.line_output.specs.Printed.{Printed, PrintedIfFits, longestNumber, longestAnswer, longestRow, longestTotals};
+ghost use Rattle.buffers.specs.Printed.{Printed, PrintedIfFits};
+ghost use Rattle.line_output.specs.Longest.{longestNumber, longestAnswer, longestRow, longestTotals};
 
 // What the row of a reception says; a refusal by its number.
 pub enum Row {

@@ -10,7 +10,7 @@ use lib.ListN.{length, replicate, length-append}
 use Rattle.layout.specs.BigEndian.{be, unbe}
 use Rattle.model.specs.Header.{headerOf, headerIndex, headerUsed, headerFirst, headerSecond}
 use Rattle.layout.specs.Block.{headerLength}
-use Rattle.layout.proofs.Segments.{left, last}
+use Rattle.buffers.proofs.Segments.{left, last}
 use Rattle.layout.proofs.BigEndian.{be-length, unbe-be}
 
 module _ (k used a b : ℕ) where

@@ -16,7 +16,7 @@ use borrow.Author.Tests.{lt-ltb, ltb-true}
 use Rattle.lists.specs.Lists.{all, upFrom}
 use Rattle.lists.proofs.Choice.{both}
 use Rattle.lists.proofs.Tests.{and-true, all-both}
-use Rattle.layout.specs.Buffer.{part, resized}
+use Rattle.buffers.specs.Buffer.{part, resized}
 use Rattle.layout.specs.BigEndian.{unbe, unbeFrom}
 use Rattle.layout.specs.Cell.{cellLength, cellCapacity, cellUsed, cellField, cellBytes}
 use Rattle.layout.specs.Block.{headerLength, blockLength, blockCell}

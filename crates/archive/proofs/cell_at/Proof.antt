@@ -3,7 +3,7 @@ use Prim.Native.Nat.{_+_, _*_}
 use borrow.Author.Needs.{needs}
 use Rattle.layout.specs.Cell.{cellLength}
 use Rattle.layout.specs.Block.{headerLength}
-use Rattle.layout.proofs.Segments.{part-ends}
+use Rattle.buffers.proofs.Segments.{part-ends}
 use Rattle.archive.proofs.cell_at.Statement.{statement}
 use Rattle.archive.proofs.cell_at.Tie as tie
 

@@ -8,8 +8,8 @@ use borrow.Author.Needs.{needs}
 use denote.Ref.{now}
 use Rattle.model.specs.Header.{headerOf}
 use Rattle.layout.specs.Block.{headerLength, cellsPerBlock, bodyLength}
-use Rattle.layout.proofs.Segments.{Writing, packed, begin, lend, lent}
-use Rattle.layout.proofs.Buffer.{overwritten-fits}
+use Rattle.buffers.proofs.Segments.{Writing, packed, begin, lend, lent}
+use Rattle.buffers.proofs.Buffer.{overwritten-fits}
 use Rattle.model.proofs.Header.{header-length}
 use Rattle.layout.proofs.Block.{seal-written}
 use Rattle.model.specs.Image.{entryCell}

@@ -6,8 +6,8 @@ use denote.Ref.{now}
 use Rattle.layout.specs.BigEndian.{be}
 use Rattle.model.specs.Header.{headerOf}
 use Rattle.layout.specs.Block.{headerLength}
-use Rattle.layout.proofs.Segments.{Writing, packed, begin, begun-length, within, store, lend-sized, wipe, done}
-use Rattle.layout.proofs.Buffer.{overwritten-fits, overwritten-not}
+use Rattle.buffers.proofs.Segments.{Writing, packed, begin, begun-length, within, store, lend-sized, wipe, done}
+use Rattle.buffers.proofs.Buffer.{overwritten-fits, overwritten-not}
 use Rattle.image.proofs.put_header.Statement.{statement}
 use Rattle.image.proofs.put_header.Tie as tie
 

@@ -9,7 +9,7 @@ use mathlib.Core.List.{List}
 use Prim.Native.Nat.{ℕ, _+_, _-_, _*_, _≤_}
 use Rattle.layout.specs.Block.{headerLength, blockCell}
 use Rattle.layout.specs.Cell.{cellLength}
-use Rattle.layout.proofs.Segments.{part-ends}
+use Rattle.buffers.proofs.Segments.{part-ends}
 use Rattle.archive_model.specs.Row.{rowIn}
 use Rattle.report_model.specs.Report.{looseIn}
 use Rattle.report.specs.Lines.{rowsBetween}
