@@ -15,9 +15,9 @@ use Rattle.refusal.specs.declared.Refusal.{Refusal}
 use Rattle.refusal.specs.declared.Refusal.the-variants.{ShortOutput, Argument, NotAccepted, Mismatch, Size}
 use Rattle.refusal.proofs.Numbers.{refused-number}
 use Rattle.erp1.specs.Subtelegram.{checkOf, isValid}
-use Rattle.layout.specs.Buffer.{part}
+use Rattle.buffers.specs.Buffer.{part}
 use Rattle.layout.specs.Block.{cellsPerBlock, blockLength}
-use Rattle.layout.proofs.Segments.{part-length}
+use Rattle.buffers.proofs.Segments.{part-length}
 use Rattle.archive_model.specs.Row.{Row}
 use Rattle.archive_model.specs.Buffer.{Found, At, None, maxBlocks, maxRows, isWhole, blocksIn, rowsIn, mismatch, Scan, scanBlocks}
 use Rattle.archive_model.specs.Append.{Opening, Appended, Feeding, refused, stored, found, verdict, openOf, isNext, blockAt, putRow, putRowOf, appendOf, appendAtOf, feedOf, rowAtOf}

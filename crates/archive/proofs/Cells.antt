@@ -10,10 +10,10 @@ use lib.ListN.{length}
 use lib.Seq.{take-take}
 use Rattle.erp1.proofs.Checks.{check-long, not-valid}
 use Rattle.refusal.specs.declared.Refusal.the-variants.{Length}
-use Rattle.layout.specs.Buffer.{part}
+use Rattle.buffers.specs.Buffer.{part}
 use Rattle.layout.specs.Cell.{cellLength, cellCapacity, cellUsed, cellField, cellBytes}
-use Rattle.layout.proofs.Segments.{part-length}
-use Rattle.layout.proofs.Buffer.{resized-length, resized-cut}
+use Rattle.buffers.proofs.Segments.{part-length}
+use Rattle.buffers.proofs.Buffer.{resized-length, resized-cut}
 use Rattle.archive_model.specs.Row.{rowIn, isRow}
 
 pub used-is : (cell : List ℕ) → length (cellBytes cell) ≡ cellUsed cell

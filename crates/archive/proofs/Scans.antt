@@ -16,7 +16,7 @@ use borrow.Author.Tests.{eq-eqb, ne-eqb, lt-ltb, le-ltb, leb-true}
 use Rattle.lists.specs.Lists.{upFrom}
 use Rattle.lists.proofs.Choice.{both}
 use Rattle.lists.proofs.Tests.{by-test}
-use Rattle.layout.specs.Buffer.{part}
+use Rattle.buffers.specs.Buffer.{part}
 use Rattle.layout.specs.Block.{cellsPerBlock, blockLength}
 use Rattle.archive_model.specs.Row.{blockNumber, rowCount, isSound, isBlank}
 use Rattle.archive_model.specs.Buffer.{blocksIn, Stage, Filling, Short, Wrong, Scan, stageAfter, stageBlank, scanBlock, scanBlocks}

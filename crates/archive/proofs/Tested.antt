@@ -22,13 +22,12 @@ use Rattle.lists.proofs.Equal.{equal-eq, equal-refl}
 use Rattle.lists.proofs.Tests.{and-true, by-test, all-getD}
 use Rattle.lists.proofs.UpFrom.{length-upFrom, getD-upFrom}
 use Rattle.crc8.specs.Crc8.{crcOf}
-use Rattle.layout.specs.Buffer.{part}
+use Rattle.buffers.specs.Buffer.{part}
 use Rattle.layout.specs.BigEndian.{be}
 use Rattle.layout.specs.Cell.{cellLength, cellCapacity, cellOf, cellTime, cellUsed, cellField, cellBytes, cellLast}
-use Rattle.layout.specs.Header.{headerLength}
-use Rattle.layout.specs.Block.{cellsPerBlock, bodyLength, blockLength, sealed, blockOf, blockCell}
-use Rattle.layout.proofs.Segments.{part-length, left, last, flatten-length}
-use Rattle.layout.proofs.Buffer.{padded-length}
+use Rattle.layout.specs.Block.{headerLength, cellsPerBlock, bodyLength, blockLength, sealed, blockOf, blockCell}
+use Rattle.buffers.proofs.Segments.{part-length, left, last, flatten-length}
+use Rattle.buffers.proofs.Buffer.{padded-length}
 use Rattle.layout.proofs.BigEndian.{be-length, be-front}
 use Rattle.layout.proofs.Cell.{cell-field, cell-last}
 use Rattle.layout.proofs.Block.{block-crc}

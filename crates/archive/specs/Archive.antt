@@ -9,7 +9,7 @@ use Rattle.refusal.specs.Number.{numberOf}
 use Rattle.refusal.specs.declared.Refusal.{Refusal}
 use Rattle.refusal.specs.declared.Refusal.the-variants.{ShortOutput, Argument, Mismatch}
 use Rattle.erp1.specs.Subtelegram.{checkOf, isValid}
-use Rattle.layout.specs.Buffer.{part, resized}
+use Rattle.buffers.specs.Buffer.{part, resized}
 use Rattle.layout.specs.Block.{blockLength, blockCell}
 use Rattle.archive_model.specs.Row.{Row, rowCell, rowIn, rowCount, isRow, isSound}
 use Rattle.archive_model.specs.Buffer as buffer

@@ -21,12 +21,11 @@ use Rattle.lists.proofs.Tests.{and-true, getD-map}
 use Rattle.lists.proofs.UpFrom.{length-upFrom, getD-upFrom}
 use Rattle.erp1.specs.Subtelegram.{maxLength, checkOf}
 use Rattle.erp1.proofs.Checks.{check-facts}
-use Rattle.layout.specs.Buffer.{part}
+use Rattle.buffers.specs.Buffer.{part}
 use Rattle.layout.specs.BigEndian.{be, unbe}
 use Rattle.layout.specs.Cell.{cellLength}
-use Rattle.layout.specs.Header.{headerLength}
-use Rattle.layout.specs.Block.{cellsPerBlock, blockLength, blockHeader, blockCell}
-use Rattle.layout.proofs.Segments.{part-at, part-take, left, whole, Each}
+use Rattle.layout.specs.Block.{headerLength, cellsPerBlock, blockLength, blockHeader, blockCell}
+use Rattle.buffers.proofs.Segments.{part-at, part-take, left, whole, Each}
 use Rattle.layout.proofs.BigEndian.{be-length, unbe-be}
 use Rattle.layout.proofs.Cell.{cell-length, cell-time, cell-bytes, cell-last}
 use Rattle.layout.proofs.Block.{block-length, block-header, block-cell}

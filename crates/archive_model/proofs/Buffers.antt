@@ -18,10 +18,10 @@ use borrow.Author.Tests.{eqb-true, eq-eqb, le-ltb}
 use Rattle.lists.specs.Lists.{upFrom}
 use Rattle.lists.proofs.Tests.{by-test, all-getD}
 use Rattle.lists.proofs.UpFrom.{length-upFrom, getD-upFrom, upFrom-add}
-use Rattle.layout.specs.Buffer.{part}
+use Rattle.buffers.specs.Buffer.{part}
 use Rattle.layout.specs.Block.{cellsPerBlock, blockLength}
-use Rattle.layout.proofs.Segments.{part-at, left, right, part-replicate, Each, flatten-length, flatten-part}
-use Rattle.layout.proofs.Buffer.{padded-length}
+use Rattle.buffers.proofs.Segments.{part-at, left, right, part-replicate, Each, flatten-length, flatten-part}
+use Rattle.buffers.proofs.Buffer.{padded-length}
 use Rattle.archive_model.specs.Row.{Row, rowsBlock, blockNumber, rowCount, rowsOf, isSound, isBlank}
 use Rattle.archive_model.specs.Buffer.{None, blocksFor, rowsAt, archiveOf, bufferOf, maxBlocks, blocksIn, rowsIn, nonZero, isShort, isFollowed, mismatchFrom, mismatch}
 use Rattle.archive_model.proofs.Blocks.{Fits, rows-block-length, number-back, count-back, rows-back, block-sound}

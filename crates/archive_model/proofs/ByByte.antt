@@ -13,11 +13,10 @@ use Rattle.lists.specs.Lists.{padded}
 use Rattle.crc8.specs.Crc8.{crcOf}
 use Rattle.layout.specs.BigEndian.{be}
 use Rattle.layout.specs.Cell.{cellLength, cellCapacity, cellOf}
-use Rattle.layout.specs.Header.{headerLength}
-use Rattle.layout.specs.Block.{cellsPerBlock, bodyLength, sealed, blockOf}
-use Rattle.layout.proofs.Segments.{part-at, flatten-length}
+use Rattle.layout.specs.Block.{headerLength, cellsPerBlock, bodyLength, sealed, blockOf}
+use Rattle.buffers.proofs.Segments.{part-at, flatten-length}
 use Rattle.layout.proofs.BigEndian.{be-length, be-at}
-use Rattle.layout.proofs.Buffer.{padded-length, padded-at, zeros-after}
+use Rattle.buffers.proofs.Buffer.{padded-length, padded-at, zeros-after}
 use Rattle.layout.proofs.Block.{block-crc}
 use Rattle.archive_model.specs.Row.{Row, rowLast, rowCell, rowsHeader, rowsBlock}
 use Rattle.archive_model.specs.Claims.{digit, LaidRow, Laid}

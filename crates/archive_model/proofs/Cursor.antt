@@ -21,12 +21,11 @@ use Rattle.refusal.specs.Number.{numberOf}
 use Rattle.refusal.specs.declared.Refusal.the-variants.{ShortOutput, Size}
 use Rattle.erp1.specs.Subtelegram.{checkOf, isValid}
 use Rattle.crc8.specs.Crc8.{crcOf}
-use Rattle.layout.specs.Buffer.{part}
+use Rattle.buffers.specs.Buffer.{part}
 use Rattle.layout.specs.Cell.{cellLength}
-use Rattle.layout.specs.Header.{headerLength}
-use Rattle.layout.specs.Block.{cellsPerBlock, bodyLength, blockLength, sealed, blockOf}
-use Rattle.layout.proofs.Segments.{left, right, last, part-replicate, flatten-length}
-use Rattle.layout.proofs.Buffer.{padded-length}
+use Rattle.layout.specs.Block.{headerLength, cellsPerBlock, bodyLength, blockLength, sealed, blockOf}
+use Rattle.buffers.proofs.Segments.{left, right, last, part-replicate, flatten-length}
+use Rattle.buffers.proofs.Buffer.{padded-length}
 use Rattle.layout.proofs.Cell.{cell-length}
 use Rattle.archive_model.specs.Row.{Row, rowLast, rowCell, rowsHeader, rowsBlock, blockNumber, rowCount, isBlank}
 use Rattle.archive_model.specs.Buffer.{Found, At, None, rowsAt, bufferOf, maxBlocks, isWhole, rowsIn, mismatch}

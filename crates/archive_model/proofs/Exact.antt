@@ -22,10 +22,10 @@ use Rattle.lists.proofs.Tests.{by-test, all-getD}
 use Rattle.lists.proofs.UpFrom.{length-upFrom, getD-upFrom}
 use Rattle.erp1.specs.Subtelegram.{checkOf}
 use Rattle.erp1.proofs.Checks.{check-facts}
-use Rattle.layout.specs.Buffer.{part}
+use Rattle.buffers.specs.Buffer.{part}
 use Rattle.layout.specs.Cell.{cellTime}
 use Rattle.layout.specs.Block.{cellsPerBlock, blockLength, blockCell}
-use Rattle.layout.proofs.Segments.{part-length, right, Each}
+use Rattle.buffers.proofs.Segments.{part-length, right, Each}
 use Rattle.layout.proofs.Cell.{cell-time-lt}
 use Rattle.archive_model.specs.Row.{Row, rowLast, rowCell, rowsBlock, blockNumber, rowCount, rowIn, rowsOf, isRow, isSound, isBlank}
 use Rattle.archive_model.specs.Buffer.{At, None, blocksFor, rowsAt, archiveOf, bufferOf, blocksIn, rowsIn, nonZero, isShort, isFollowed, mismatchFrom, mismatch}

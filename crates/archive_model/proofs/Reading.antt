@@ -13,7 +13,7 @@ use borrow.Author.Tests.{lt-ltb, le-ltb}
 use Rattle.refusal.specs.Number.{numberOf}
 use Rattle.refusal.specs.declared.Refusal.the-variants.{Argument}
 use Rattle.layout.specs.Block.{cellsPerBlock, blockLength, blockCell}
-use Rattle.layout.proofs.Segments.{part-at}
+use Rattle.buffers.proofs.Segments.{part-at}
 use Rattle.archive_model.specs.Row.{Row, rowsBlock, rowCount, rowIn}
 use Rattle.archive_model.specs.Buffer.{blocksFor, rowsAt, bufferOf, maxBlocks}
 use Rattle.archive_model.specs.Append.{ReadRow, blockAt, isInside, rowAtOf}

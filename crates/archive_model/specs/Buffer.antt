@@ -5,7 +5,7 @@ use mathlib.Core.List.{List, [], _∷_, map, flatten}
 use lib.Dec.{ltb, leb, eqb}
 use lib.ListN.{length}
 use Rattle.lists.specs.Lists.{padded, upFrom}
-use Rattle.layout.specs.Buffer.{part}
+use Rattle.buffers.specs.Buffer.{part}
 use Rattle.layout.specs.Block.{cellsPerBlock, blockLength}
 use Rattle.archive_model.specs.Row.{Row, rowsBlock, blockNumber, rowCount, rowsOf, isSound, isBlank}
 

@@ -5,7 +5,7 @@ use mathlib.Core.List.{List, [], _∷_, _++_, map}
 use lib.Dec.{leb, eqb}
 use lib.ListN.{length, getD, replicate}
 use Rattle.lists.specs.Lists.{equal, all, upFrom}
-use Rattle.layout.specs.Buffer.{part}
+use Rattle.buffers.specs.Buffer.{part}
 use Rattle.layout.specs.BigEndian.{be, unbe}
 use Rattle.layout.specs.Cell.{cellOf, cellTime, cellBytes, cellLast}
 use Rattle.layout.specs.Block.{cellsPerBlock, blockOf, blockCell}

@@ -7,7 +7,7 @@ use lib.Dec.{ltb, eqb}
 use lib.ListN.{take, drop}
 use Rattle.refusal.specs.Number.{numberOf}
 use Rattle.erp1.specs.Subtelegram.{maxLength}
-use Rattle.layout.specs.Buffer.{resized}
+use Rattle.buffers.specs.Buffer.{resized}
 use Rattle.model.specs.Answer.{shownOf}
 use Rattle.model.specs.View as view
 use Rattle.model.specs.View.{View}

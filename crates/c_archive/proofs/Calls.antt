@@ -9,8 +9,8 @@ use lib.ListN.{length, take, drop, replicate, length-take, length-replicate, len
 use lib.Seq.{take-all, take-append-le}
 use borrow.Author.Tests.{eq-eqb, ne-eqb}
 use Rattle.lists.specs.Lists.{padded}
-use Rattle.layout.specs.Buffer.{resized}
-use Rattle.layout.proofs.Buffer.{resized-length, resized-padded, resized-cut, resized-whole}
+use Rattle.buffers.specs.Buffer.{resized}
+use Rattle.buffers.proofs.Buffer.{resized-length, resized-padded, resized-cut, resized-whole}
 use Rattle.archive_model.specs.Row.{Row}
 use Rattle.archive_model.specs.Append.{Opening, rowAtOf}
 use Rattle.archive.specs.Archive.{rowOf}

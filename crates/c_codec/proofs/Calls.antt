@@ -11,8 +11,8 @@ use borrow.Author.Tests.{eq-eqb, ne-eqb, eqb-true, eqb-false}
 use Rattle.lists.proofs.Tests.{branch}
 use Rattle.erp1.specs.Subtelegram.{minLength, maxLength, checkOf, isValid, isAddressed, isLengthWrong, bodyOf}
 use Rattle.erp1.proofs.Checks.{check-facts}
-use Rattle.layout.specs.Buffer.{resized, overwritten}
-use Rattle.layout.proofs.Buffer.{resized-whole, overwritten-fits}
+use Rattle.buffers.specs.Buffer.{resized, overwritten}
+use Rattle.buffers.proofs.Buffer.{resized-whole, overwritten-fits}
 use Rattle.telegram.specs.declared.fields.Telegram.{Telegram}
 use Rattle.telegram.specs.declared.frame.Frame.{Frame}
 use Rattle.telegram.specs.Output.{Result}

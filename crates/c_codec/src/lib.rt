@@ -10,6 +10,7 @@ ghost use mathlib.Core.Path.{_≡_};
 ghost use Prim.Native.Nat.{_<_};
 ghost use lib.ListN.{length};
 ghost use Rattle.layout.specs.BigEndian.{be};
+ghost use Rattle.telegram.specs.Fields.{maxData};
 ghost use Rattle.telegram.specs.Addressing.{encapsulateOf, decapsulateOf};
 ghost use Rattle.c_codec.specs.Fields.{fieldsLength, fieldsBytes, telegramIn};
 ghost use Rattle.c_codec.specs.Calls.{readCall, buildCall, repeatCall};
@@ -122,7 +123,7 @@ fn id_in(part: &[u8]) -> [u8; 4]
 }
 
 fn payload_in(part: &[u8]) -> [u8; MAX_DATA]
-    requires { ⌜ length (now part) ≡ 14 ⌝ }
+    requires { ⌜ length (now part) ≡ maxData ⌝ }
     ensures { λ r. ⌜ r ≡ now (part .entry) ⌝ }
 {
     let mut payload = [0u8; MAX_DATA];

@@ -4,7 +4,7 @@ use mathlib.Core.Bool.{Bool, not}
 use mathlib.Core.List.{List, [], _∷_, _++_}
 use lib.Dec.{eqb}
 use lib.ListN.{getD}
-use Rattle.layout.specs.Buffer.{part, resized}
+use Rattle.buffers.specs.Buffer.{part, resized}
 use Rattle.erp2_model.specs.declared.Telegram.{Telegram}
 use Rattle.erp2_model.specs.Reading.{maxData, maxOptional}
 use Rattle.c_layout.specs.Frame.{flagByte}

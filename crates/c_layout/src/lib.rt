@@ -6,7 +6,7 @@ ghost use mathlib.Core.List.{List};
 ghost use Prim.Native.Nat.{ℕ};
 ghost use Rattle.erp1.specs.Subtelegram.{checkedNumber};
 ghost use Rattle.telegram.specs.Output.{resultOf};
-ghost use Rattle.layout.specs.Buffer.{overwritten};
+ghost use Rattle.buffers.specs.Buffer.{overwritten};
 ghost use Rattle.c_layout.specs.Frame.{frameLength, frameBytes, flagByte};
 
 // A lent slice does not have the size that its call asks for: a number of the interface alone, which no paper uses.

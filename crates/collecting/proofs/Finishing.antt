@@ -10,8 +10,9 @@ use lib.ListN.{length, take, set, length-take, length-append}
 use lib.Seq.{take-nil, take-all, take-append-le, take-suc-set, length-take-le}
 use Rattle.line_input.specs.Ascii.{newline}
 use Rattle.line_input.specs.Reading.{lineLimit}
-use Rattle.line_output.specs.Printed.{Printed, PrintedIfFits, longestTotals}
-use Rattle.line_output.proofs.Stores.{then, if-fits}
+use Rattle.buffers.specs.Printed.{Printed, PrintedIfFits}
+use Rattle.line_output.specs.Longest.{longestTotals}
+use Rattle.buffers.proofs.Stores.{then, if-fits}
 use Rattle.streams.specs.Chunks.{Position, within, fresh, feed, lastText, endText}
 use Rattle.streams.specs.Collect.{Phase, starting, running, over, collect, endOf, nextPhase, phaseText}
 use Rattle.streams.specs.Buffer.{isOpen}

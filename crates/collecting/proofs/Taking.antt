@@ -29,7 +29,8 @@ use Rattle.line_input.proofs.Long.{long-time}
 use Rattle.line_input.proofs.Whole.{Said}
 use Rattle.line_output.proofs.ReadBack.{time-back}
 use Rattle.line_output.specs.Text.{decimalText, rowBehind, badText}
-use Rattle.line_output.specs.Printed.{longestTime, Printed}
+use Rattle.buffers.specs.Printed.{Printed}
+use Rattle.line_output.specs.Longest.{longestNumber}
 use Rattle.streams.specs.Chunks.{feedText}
 use Rattle.streams.specs.Collect.{Phase, running, collect, phaseText, nextPhase}
 use Rattle.streams.specs.Buffer.{isOpen, Fed}
@@ -114,7 +115,7 @@ module _ (text : List ℕ) (k : ℕ) {t : ℕ} {bs : List ℕ} (within : k ≤ l
   pub time-room : 2 * length bs + 1 ≤ k
   time-room = omega (arith, parts-long)
 
-  pub time-short : k - (2 * length bs + 1) ≤ longestTime
+  pub time-short : k - (2 * length bs + 1) ≤ longestNumber
   time-short = by-test (ltb 20 (length (w .digits)))
       (λ h. absurd (false≢true (sym (long-time (w .digits) (ltb-true 20 (length (w .digits)) h)) ∙ w .isTimely)))
       (λ h. omega (arith, parts-long, ltb-false 20 (length (w .digits)) h))

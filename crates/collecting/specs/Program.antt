@@ -5,7 +5,7 @@ use mathlib.Core.Bool.{Bool, true, false}
 use mathlib.Core.List.{List}
 use lib.ListN.{length, take, drop}
 use Rattle.line_input.specs.Reading.{lineLimit}
-use Rattle.line_output.specs.Printed.{longestTotals}
+use Rattle.line_output.specs.Longest.{longestTotals}
 use Rattle.streams.specs.Chunks.{within, fresh, feed}
 use Rattle.streams.specs.Collect.{Phase, collect}
 use Rattle.streams.specs.Buffer.{isOpen}

@@ -8,7 +8,7 @@ use Rattle.erp1.specs.Subtelegram.{maxLength}
 use Rattle.model.specs.View.{View, fresh}
 use Rattle.model.specs.Step.{Outcome, step, sentFor}
 use Rattle.collector.specs.Collector.{viewOf}
-use Rattle.line_output.specs.Printed.{longestTime, longestRow, longestTotals}
+use Rattle.line_output.specs.Longest.{longestNumber, longestRow, longestTotals}
 use Rattle.streams.specs.Collect.{Collector, Phase, starting, running, over, collect}
 use Rattle.streams.specs.Buffer.{isOpen, Fed}
 use Rattle.collecting.specs.declared.Stage.{Stage}
@@ -48,7 +48,7 @@ phaseOf s = atStage (s .stage) (record { setting = s .setting; view = viewOf (s 
 
 -- the longest text of a line, and of each end
 abbrev pub longestLine : ℕ
-longestLine = longestRow longestTime maxLength
+longestLine = longestRow longestNumber maxLength
 
 abbrev pub longestEnd : Phase Receiver → ℕ
 longestEnd starting = 4

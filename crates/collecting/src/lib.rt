@@ -19,7 +19,8 @@ ghost use Rattle.collector.specs.Collector.{columns, viewOf};
 ghost use Rattle.collector.specs.Merging.{relayedFor};
 ghost use Rattle.collector.specs.Admission.{viewIn, Tested};
 ghost use Rattle.line_output.specs.Text.{rowBehind};
-ghost use Rattle.line_output.specs.Printed.{longestTime, Printed, PrintedIfFits};
+ghost use Rattle.buffers.specs.Printed.{Printed, PrintedIfFits};
+ghost use Rattle.line_output.specs.Longest.{longestNumber};
 ghost use Rattle.streams.specs.Collect.{starting, running, over, afterFirst, firstText, endOf};
 ghost use Rattle.collecting.specs.Printed.{rowOf};
 ghost use Rattle.collecting.specs.Session.{merging, phaseOf, longestLine, longestEnd, RanTo, Ran};
@@ -53,7 +54,7 @@ struct Merged {
 }
 
 // The longest text of one line: a row that sends 21 bytes.
-pub const LONGEST: usize = line_output::LONGEST_TIME
+pub const LONGEST: usize = line_output::LONGEST_NUMBER
     + line_output::LONGEST_ROW
     + 2 * Collector::MAX_LEN;
 
@@ -280,7 +281,7 @@ fn put_answer(
     answer: Answer,
     bytes: &[u8],
 ) -> usize
-    requires { ⌜ (length (now time) ≤ longestTime) × (at + longestLine ≤ length (now out)) ⌝ }
+    requires { ⌜ (length (now time) ≤ longestNumber) × (at + longestLine ≤ length (now out)) ⌝ }
     ensures { λ r. ⌜ Printed (now (out .entry)) at
         (rowBehind (now (time .entry)) (rowOf (shownOf answer)) (relayedFor setting (shownOf answer) (now (bytes .entry)))) longestLine (now (out .exit)) r ⌝ }
 {

@@ -11,7 +11,7 @@ ghost use Prim.Native.Nat.{_≤_};
 ghost use lib.ListN.{length, take};
 ghost use Rattle.streams.specs.Chunks.{endText, within};
 ghost use Rattle.streams.specs.Collect.{collect};
-ghost use Rattle.line_output.specs.Printed.{Printed};
+ghost use Rattle.buffers.specs.Printed.{Printed};
 ghost use Rattle.collecting.specs.Session.{merging, phaseOf, longestLine};
 ghost use Rattle.collecting.specs.Program.{longestFinish, isSound, Kept, Drained, Chunked};
 

@@ -17,9 +17,9 @@ use Rattle.lists.proofs.Last.{last-is, last-none, last-low}
 use Rattle.erp1.specs.Subtelegram.{maxLength}
 use Rattle.erp1.specs.Same.{isSame}
 use Rattle.erp1.proofs.Sames.{other-length}
-use Rattle.layout.specs.Buffer.{part, resized}
-use Rattle.layout.proofs.Segments.{part-length, part-ends}
-use Rattle.layout.proofs.Buffer.{resized-length, resized-cut}
+use Rattle.buffers.specs.Buffer.{part, resized}
+use Rattle.buffers.proofs.Segments.{part-length, part-ends}
+use Rattle.buffers.proofs.Buffer.{resized-length, resized-cut}
 use Rattle.telegram.specs.Repeater.{levelOf}
 use Rattle.model.specs.View.{Reception, Entry, txMaturity}
 use Rattle.model.specs.Acceptable.{isEcho, isCopyOf}

@@ -12,12 +12,12 @@ use Rattle.lists.specs.Lists.{equal, padded}
 use Rattle.lists.proofs.Choice.{both}
 use Rattle.lists.proofs.Equal.{equal-eq}
 use Rattle.erp1.specs.Status.{upperOf}
-use Rattle.erp1.specs.Subtelegram.{minLength, maxLength, statusOf, bodyOf}
+use Rattle.erp1.specs.Subtelegram.{minLength, maxLength, statusOf, beforeStatus}
 use Rattle.erp1.specs.Same.{isSame}
 use Rattle.erp1.proofs.Checks.{front-at}
-use Rattle.layout.specs.Buffer.{part, resized}
-use Rattle.layout.proofs.Segments.{part-at}
-use Rattle.layout.proofs.Buffer.{resized-length}
+use Rattle.buffers.specs.Buffer.{part, resized}
+use Rattle.buffers.proofs.Segments.{part-at}
+use Rattle.buffers.proofs.Buffer.{resized-length}
 use Rattle.collector.specs.Acceptable.{shownAt}
 use Rattle.collector.proofs.Inside.{fails}
 
@@ -30,9 +30,9 @@ module _ (a b : List ℕ) (same : isSame a b ≡ true) where
     same-front : take (length a - 2) a ≡ take (length a - 2) b
     unfolding isSame
     same-front =
-        let e = both (eqb (upperOf (statusOf a)) (upperOf (statusOf b))) (equal (bodyOf (bodyOf a)) (bodyOf (bodyOf b))) (both (eqb (length a) (length b)) _ same .1) .1 in
+        let e = both (eqb (upperOf (statusOf a)) (upperOf (statusOf b))) (equal (beforeStatus a) (beforeStatus b)) (both (eqb (length a) (length b)) _ same .1) .1 in
         let long = same-length in
-        let f = equal-eq (bodyOf (bodyOf a)) (bodyOf (bodyOf b)) (subst T (sym e) tt) in
+        let f = equal-eq (beforeStatus a) (beforeStatus b) (subst T (sym e) tt) in
         sym (front-at a (omega arith)) ∙ f ∙ front-at b (omega arith) ∙ ap (λ (n : ℕ). take (n - 2) b) (sym long)
 
     pub same-at : (k : ℕ) → k < length a - 2 → getD a k 0 ≡ getD b k 0

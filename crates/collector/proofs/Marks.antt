@@ -14,8 +14,8 @@ use Rattle.lists.proofs.Tests.{by-test}
 use Rattle.erp1.specs.Subtelegram.{minLength, maxLength, checkOf, isValid}
 use Rattle.erp1.specs.Same.{isSame}
 use Rattle.erp1.proofs.Checks.{check-facts}
-use Rattle.layout.specs.Buffer.{part}
-use Rattle.layout.proofs.Buffer.{resized-length}
+use Rattle.buffers.specs.Buffer.{part}
+use Rattle.buffers.proofs.Buffer.{resized-length}
 use Rattle.model.specs.View.{openedBy}
 use Rattle.model.specs.Acceptable.{isCopyOf}
 use Rattle.model.proofs.Check.{valid-length}

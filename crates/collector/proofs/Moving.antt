@@ -14,9 +14,9 @@ use borrow.Author.Tests.{eqb-true, eqb-false}
 use Rattle.lists.specs.Lists.{upFrom}
 use Rattle.lists.proofs.Tests.{by-test}
 use Rattle.erp1.specs.Subtelegram.{maxLength}
-use Rattle.layout.specs.Buffer.{part, resized}
-use Rattle.layout.proofs.Buffer.{resized-cut}
-use Rattle.layout.proofs.Segments.{part-at, part-take}
+use Rattle.buffers.specs.Buffer.{part, resized}
+use Rattle.buffers.proofs.Buffer.{resized-cut}
+use Rattle.buffers.proofs.Segments.{part-at, part-take}
 use Rattle.model.specs.View.{Reception, Entry, opened, recount, isOpen, capped}
 use Rattle.model.specs.Acceptable.{isCopyOf}
 use Rattle.model.specs.Step.{plusIf, credit}

@@ -8,7 +8,7 @@ use lib.Dec.{leb}
 use lib.ListN.{length, getD}
 use Rattle.lists.specs.Lists.{any, all, pairwise, lastIndex}
 use Rattle.erp1.specs.Subtelegram.{maxLength, isValid}
-use Rattle.layout.specs.Buffer.{part, resized}
+use Rattle.buffers.specs.Buffer.{part, resized}
 use Rattle.model.specs.View.{Reception, Entry, openedBy, isOpen}
 use Rattle.model.specs.Acceptable.{isCopyOf}
 use Rattle.collector.specs.Collector.{Columns, entryAt, entriesAt}

@@ -4,7 +4,7 @@ use mathlib.Core.List.{List, map}
 use lib.ListN.{getD}
 use Rattle.lists.specs.Lists.{upFrom}
 use Rattle.erp1.specs.Subtelegram.{maxLength}
-use Rattle.layout.specs.Buffer.{part, resized}
+use Rattle.buffers.specs.Buffer.{part, resized}
 use Rattle.model.specs.declared.Totals.{Totals}
 use Rattle.model.specs.View.{Entry, View}
 use Rattle.collector.specs.declared.Collector.{Collector}

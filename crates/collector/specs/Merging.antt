@@ -9,7 +9,7 @@ use Rattle.refusal.specs.Number.{numberOf}
 use Rattle.refusal.specs.declared.Refusal.the-variants as refusal
 use Rattle.erp1.specs.Subtelegram.{checkOf, isValid}
 use Rattle.telegram.specs.Repeater.{relayOf}
-use Rattle.layout.specs.Buffer.{part}
+use Rattle.buffers.specs.Buffer.{part}
 use Rattle.model.specs.declared.Totals.{Totals}
 use Rattle.model.specs.Answer.{Shown, Kept, Copy, Loose, Refused, isKept, isCopy, isReceived, shownOf}
 use Rattle.model.specs.View.{Reception, Entry, capacity, maturity, capped}

@@ -9,7 +9,7 @@ ghost use Prim.Native.Nat.{ℕ, _+_, _-_, _*_, _≤_, _<_};
 ghost use lib.Dec.{leb, eqb};
 ghost use lib.ListN.{length};
 ghost use Rattle.erp1.specs.Subtelegram.{minLength, maxLength};
-ghost use Rattle.layout.specs.Buffer.{part, resized};
+ghost use Rattle.buffers.specs.Buffer.{part, resized};
 ghost use Rattle.erp1.specs.Same.{isSame};
 ghost use Rattle.telegram.specs.Repeater.{levelOf};
 ghost use Rattle.model.specs.View.{capacity, txMaturity, capped};

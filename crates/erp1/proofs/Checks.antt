@@ -16,7 +16,7 @@ use Rattle.refusal.proofs.Numbers.{refused-number}
 use Rattle.crc8.specs.Crc8.{crcOf}
 use Rattle.erp1.specs.declared.Checked.{Checked}
 use Rattle.erp1.specs.declared.Checked.the-variants.{Valid, Refused}
-use Rattle.erp1.specs.Subtelegram.{minLength, maxLength, minAddressedLength, addressed, sumOf, lastOf, bodyOf, statusOf, hashOf, wrongHash, isAddressed, isNested, checkOf, isValid, checkedNumber}
+use Rattle.erp1.specs.Subtelegram.{minLength, maxLength, minAddressedLength, addressed, sumOf, lastOf, bodyOf, statusOf, hashOf, wrongHash, isAddressed, isNested, checkOf, isValid, checkedNumber, beforeStatus}
 
 -- ---- the two hashes
 
@@ -45,7 +45,7 @@ module _ (s : List ℕ) (h : 2 ≤ length s) where
       let e : length (bodyOf s) - 1 ≡ length s - 2 = omega (arith, body-length) in
       rw e (getD-take (length s - 1) s (length s - 2) 0 (omega arith))
 
-  pub front-at : bodyOf (bodyOf s) ≡ take (length s - 2) s
+  pub front-at : beforeStatus s ≡ take (length s - 2) s
   front-at =
       let e : length (bodyOf s) - 1 ≡ length s - 2 = omega (arith, body-length) in
       rw e (take-take (length s - 2) (length s - 1) s (omega arith))

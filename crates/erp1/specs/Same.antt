@@ -6,11 +6,11 @@ use lib.Dec.{eqb}
 use lib.ListN.{length}
 use Rattle.lists.specs.Lists.{equal}
 use Rattle.erp1.specs.Status.{upperOf}
-use Rattle.erp1.specs.Subtelegram.{bodyOf, statusOf}
+use Rattle.erp1.specs.Subtelegram.{statusOf, beforeStatus}
 
 -- equal length, and equal in every byte except HASH and the level: every byte before STATUS, and all of STATUS but the level
 unfoldable pub isSame : List ℕ → List ℕ → Bool
 isSame a b =
     eqb (length a) (length b)
     && (eqb (upperOf (statusOf a)) (upperOf (statusOf b))
-    && equal (bodyOf (bodyOf a)) (bodyOf (bodyOf b)))
+    && equal (beforeStatus a) (beforeStatus b))

@@ -37,6 +37,9 @@ bodyOf s = take (length s - 1) s
 abbrev pub statusOf : List ℕ → ℕ
 statusOf s = lastOf (bodyOf s)
 
+abbrev pub beforeStatus : List ℕ → List ℕ
+beforeStatus s = bodyOf (bodyOf s)
+
 -- ---- HASH covers every byte before it
 
 abbrev pub sumOf : List ℕ → ℕ

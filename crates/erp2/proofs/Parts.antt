@@ -5,8 +5,8 @@ use Prim.Native.Nat.{ℕ, zero, suc, _+_, _-_, _^_, _≤_, _<_}
 use native.Mathlib.Nat.{pow-le-pow-right}
 use native.Mathlib.Omega.{arith}
 use lib.ListN.{length, getD, take, drop, length-take}
-use Rattle.layout.specs.Buffer.{part}
-use Rattle.layout.proofs.Segments.{part-ends}
+use Rattle.buffers.specs.Buffer.{part}
+use Rattle.buffers.proofs.Segments.{part-ends}
 use Rattle.layout.specs.BigEndian.{unbe, unbeFrom}
 use Rattle.erp2_model.specs.Sizes.{originators, shortOriginators}
 

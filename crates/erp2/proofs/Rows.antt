@@ -5,10 +5,10 @@ use Prim.Native.Nat.{ℕ, _+_, _-_, _≤_, _<_}
 use native.Mathlib.Omega.{arith}
 use lib.ListN.{length, take, drop, set}
 use lib.Seq.{take-at, length-take-le}
-use Rattle.layout.specs.Buffer.{part, resized}
+use Rattle.buffers.specs.Buffer.{part, resized}
 use Rattle.layout.specs.BigEndian.{be}
-use Rattle.layout.proofs.Buffer.{resized-whole}
-use Rattle.layout.proofs.Segments.{Begun, store}
+use Rattle.buffers.proofs.Buffer.{resized-whole}
+use Rattle.buffers.proofs.Segments.{Begun, store}
 use Rattle.crc8.specs.Crc8.{crcOf}
 use borrow.Author.Tests.{eq-eqb, ne-eqb}
 use Rattle.erp2_model.specs.declared.Telegram.{Telegram}

@@ -7,7 +7,7 @@ use native.Mathlib.Omega.{arith}
 use lib.Dec.{leb, ltb}
 use lib.ListN.{length, getD}
 use borrow.Author.Tests.{eq-eqb, lt-leb, le-ltb, leb-true, leb-false}
-use Rattle.layout.specs.Buffer.{part}
+use Rattle.buffers.specs.Buffer.{part}
 use Rattle.layout.specs.BigEndian.{unbe, unbeFrom, Bytes}
 use Rattle.layout.proofs.BigEndian.{field-lt, field-one}
 use Rattle.telegram.specs.Output.{written}

@@ -12,7 +12,7 @@ use Rattle.lists.specs.Lists.{padded}
 use Rattle.refusal.specs.Number.{numberOf}
 use Rattle.refusal.specs.declared.Refusal.the-variants.{Misfit}
 use Rattle.crc8.specs.Crc8.{crcOf}
-use Rattle.layout.specs.Buffer.{part}
+use Rattle.buffers.specs.Buffer.{part}
 use Rattle.layout.specs.BigEndian.{be, unbe, unbeFrom}
 use Rattle.layout.proofs.BigEndian.{be-length, unbe-be, field-one}
 use Rattle.erp2_model.specs.declared.Header.{Header}

@@ -10,7 +10,7 @@ use borrow.Author.Tests.{eq-eqb, ne-eqb, le-leb, lt-leb, lt-ltb, le-ltb}
 use Rattle.refusal.specs.Number.{numberOf}
 use Rattle.refusal.specs.declared.Refusal.the-variants.{Length, Crc, ReservedAddress, Misfit}
 use Rattle.crc8.specs.Crc8.{crcOf}
-use Rattle.layout.specs.Buffer.{part}
+use Rattle.buffers.specs.Buffer.{part}
 use Rattle.erp2_model.specs.Sizes.{longSizes, overhead}
 use Rattle.erp2_model.specs.Reading.{lengthByte, headerIn, checkOf}
 

@@ -9,9 +9,9 @@ use lib.Seq.{take-at, take-all, drop-cons}
 use borrow.Author.Tests.{leb-false, ne-eqb}
 use Rattle.lists.specs.Lists.{padded}
 use Rattle.crc8.specs.Crc8.{crcOf}
-use Rattle.layout.specs.Buffer.{part}
+use Rattle.buffers.specs.Buffer.{part}
 use Rattle.layout.specs.BigEndian.{be, unbe, Bytes}
-use Rattle.layout.proofs.Segments.{part-length, part-join}
+use Rattle.buffers.proofs.Segments.{part-length, part-join}
 use Rattle.layout.proofs.BigEndian.{field-back, field-one}
 use Rattle.erp2_model.specs.declared.Sizes.{Sizes}
 use Rattle.erp2_model.specs.Sizes.{longSizes, overhead, extensionAt, subtypeAt, originatorAt, destinationAt, payloadAt}

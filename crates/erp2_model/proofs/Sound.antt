@@ -12,7 +12,7 @@ use Rattle.refusal.specs.Number.{numberOf}
 use Rattle.refusal.specs.declared.Refusal.the-variants.{Length, Crc, ReservedAddress, Misfit}
 use Rattle.refusal.proofs.Numbers.{refused-number}
 use Rattle.crc8.specs.Crc8.{crcOf}
-use Rattle.layout.specs.Buffer.{part}
+use Rattle.buffers.specs.Buffer.{part}
 use Rattle.erp2_model.specs.Header.{isReserved}
 use Rattle.erp2_model.specs.Sizes.{overhead}
 use Rattle.erp2_model.specs.Reading.{lengthByte, isLengthWrong, isShort, isIntact, headerIn, sizesIn, isOverrun, checkOf}

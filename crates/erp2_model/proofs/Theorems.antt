@@ -5,10 +5,10 @@ use Prim.Native.Nat.{ℕ, _+_, _-_, _^_, _≤_, _<_}
 use native.Mathlib.Nat.{pow-le-pow-right}
 use native.Mathlib.Omega.{arith}
 use lib.Seq.{take-append-seam}
-use Rattle.layout.specs.Buffer.{part}
+use Rattle.buffers.specs.Buffer.{part}
 use Rattle.layout.specs.BigEndian.{Bytes}
-use Rattle.layout.proofs.Buffer.{padded-length}
-use Rattle.layout.proofs.Segments.{part-length}
+use Rattle.buffers.proofs.Buffer.{padded-length}
+use Rattle.buffers.proofs.Segments.{part-length}
 use Rattle.layout.proofs.BigEndian.{field-lt}
 use Rattle.telegram.specs.Output.{Result, written, resultBytes}
 use Rattle.erp2_model.specs.declared.Telegram.{Telegram}

@@ -8,7 +8,7 @@ use Rattle.lists.specs.Lists.{padded}
 use Rattle.refusal.specs.Number.{numberOf}
 use Rattle.refusal.specs.declared.Refusal.the-variants.{Length, Crc, ReservedAddress, Misfit}
 use Rattle.crc8.specs.Crc8.{crcOf}
-use Rattle.layout.specs.Buffer.{part}
+use Rattle.buffers.specs.Buffer.{part}
 use Rattle.layout.specs.BigEndian.{unbe}
 use Rattle.erp1.specs.Subtelegram.{checkedNumber}
 use Rattle.erp2_model.specs.declared.Header.{Header}

@@ -15,12 +15,11 @@ use lib.Seq.{take-suc, take-all, ext-getD}
 use Rattle.lists.specs.Lists.{upFrom}
 use Rattle.lists.proofs.UpFrom.{length-upFrom, getD-upFrom}
 use Rattle.erp1.specs.Subtelegram.{maxLength}
-use Rattle.layout.specs.Buffer.{part, resized}
+use Rattle.buffers.specs.Buffer.{part, resized}
 use Rattle.layout.specs.Cell.{cellLength, cellTime, cellUsed, cellField, cellBytes, cellLast}
-use Rattle.layout.specs.Header.{headerLength}
-use Rattle.layout.specs.Block.{blockLength}
-use Rattle.layout.proofs.Segments.{part-length, left, Each, flatten-length, flatten-part, Begun, begin, named, store, lent, turn, turned}
-use Rattle.layout.proofs.Buffer.{resized-whole}
+use Rattle.layout.specs.Block.{headerLength, blockLength}
+use Rattle.buffers.proofs.Segments.{part-length, left, Each, flatten-length, flatten-part, Begun, begin, named, store, lent, turn, turned}
+use Rattle.buffers.proofs.Buffer.{resized-whole}
 use Rattle.model.specs.View.{capacity}
 use Rattle.model.specs.Image.{imageLength, blockIn, entryIn}
 use Rattle.collector.specs.Collector.{Columns, entryAt, entriesAt}

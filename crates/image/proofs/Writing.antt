@@ -21,11 +21,11 @@ use Rattle.lists.proofs.Choice.{both}
 use Rattle.lists.proofs.Tests.{all-getD, getD-map}
 use Rattle.lists.proofs.UpFrom.{length-upFrom, getD-upFrom}
 use Rattle.erp1.specs.Subtelegram.{maxLength}
-use Rattle.layout.specs.Buffer.{part}
-use Rattle.layout.specs.Header.{headerOf}
+use Rattle.buffers.specs.Buffer.{part}
+use Rattle.model.specs.Header.{headerOf}
 use Rattle.layout.specs.Block.{cellsPerBlock, blockOf}
-use Rattle.layout.proofs.Segments.{part-at}
-use Rattle.layout.proofs.Buffer.{resized-length}
+use Rattle.buffers.proofs.Segments.{part-at}
+use Rattle.buffers.proofs.Buffer.{resized-length}
 use Rattle.model.specs.declared.Totals.{Totals}
 use Rattle.model.specs.View.{Entry, capacity}
 use Rattle.model.specs.Acceptable.{isEntry, acceptable}

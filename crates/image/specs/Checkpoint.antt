@@ -9,8 +9,7 @@ use Rattle.lists.specs.Lists.{equal, upFrom}
 use Rattle.refusal.specs.Number.{numberOf}
 use Rattle.erp1.specs.Subtelegram.{maxLength}
 use Rattle.telegram.specs.Repeater.{maxSetting}
-use Rattle.layout.specs.Header.{headerLength}
-use Rattle.layout.specs.Block.{cellsPerBlock, bodyLength, blockCell}
+use Rattle.layout.specs.Block.{headerLength, cellsPerBlock, bodyLength, blockCell}
 use Rattle.model.specs.View.{Entry, View, capacity, noTotals}
 use Rattle.model.specs.Acceptable.{acceptable}
 use Rattle.model.specs.Image.{CheckpointResult, RestoreResult, imageLength, imageWith, blockAt, blockIn, settingIn, countIn, entryIn, restoreOf}

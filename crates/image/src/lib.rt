@@ -15,9 +15,11 @@ ghost use lib.ListN.{length, drop};
 ghost use Rattle.lists.specs.Lists.{padded};
 ghost use Rattle.refusal.specs.Number.{numberOf};
 ghost use Rattle.refusal.specs.declared.Refusal.the-variants.{NotAccepted};
-ghost use Rattle.layout.specs.Block.{cellsPerBlock, blockLength, blockHeader};
+ghost use Rattle.buffers.specs.Buffer.{overwritten};
+ghost use Rattle.layout.specs.Block.{headerLength, cellsPerBlock, blockLength, blockHeader};
 ghost use Rattle.erp1.specs.Subtelegram.{maxLength};
 ghost use Rattle.model.specs.View.{capacity};
+ghost use Rattle.model.specs.Header.{headerOf};
 ghost use Rattle.model.specs.Image as model;
 ghost use Rattle.model.specs.Image.{imageLength, entryCell, imageWith, blockIn, usedIn, firstIn, secondIn, countIn, totalsIn, checkpointOf};
 ghost use Rattle.collector.specs.Collector.{columns, entriesAt, viewAt, viewOf};
@@ -172,7 +174,7 @@ fn put_block<'a>(
 {
     let first = CELLS_PER_BLOCK * k;
     let used = used_from(count, first);
-    layout::put_header(&mut out[0..HEADER_LENGTH], k as u8, used, a, b);
+    put_header(&mut out[0..HEADER_LENGTH], k as u8, used, a, b);
     put_cells(
         &mut out[HEADER_LENGTH..HEADER_LENGTH + CELLS_LENGTH],
         times,
@@ -183,6 +185,20 @@ fn put_block<'a>(
         used as usize,
     );
     layout::seal(out);
+}
+
+// The header of block `k`, into 24 bytes: the entries used, and two numbers.
+fn put_header(out: &mut [u8], k: u8, used: u8, a: u64, b: u64)
+    ensures { λ _. ⌜ now (out .exit) ≡ overwritten headerLength (headerOf k used a b) (now (out .entry)) ⌝ }
+{
+    if out.len() != HEADER_LENGTH {
+        return;
+    }
+    out[0] = k;
+    out[1] = used;
+    layout::clear(&mut out[2..8]);
+    layout::put_number(&mut out[8..16], a);
+    layout::put_number(&mut out[16..24], b);
 }
 
 // What stands between the header of a block and its CRC: the cells of `used` entries from `first` on, and zeros.
@@ -363,21 +379,21 @@ fn used_in(image: &[u8], k: usize) -> usize
     requires { ⌜ (length (now image) ≡ imageLength) × (k < blockCount) ⌝ }
     ensures { λ r. ⌜ (r ≡ usedIn k (now (image .entry))) × (r < 256) ⌝ }
 {
-    layout::header_used(header_in(image, k)) as usize
+    layout::byte_at(header_in(image, k), 1) as usize
 }
 
 fn first_in(image: &[u8], k: usize) -> u64
     requires { ⌜ (length (now image) ≡ imageLength) × (k < blockCount) ⌝ }
     ensures { λ r. ⌜ r ≡ firstIn k (now (image .entry)) ⌝ }
 {
-    layout::header_first(header_in(image, k))
+    layout::number_at(header_in(image, k), 8)
 }
 
 fn second_in(image: &[u8], k: usize) -> u64
     requires { ⌜ (length (now image) ≡ imageLength) × (k < blockCount) ⌝ }
     ensures { λ r. ⌜ r ≡ secondIn k (now (image .entry)) ⌝ }
 {
-    layout::header_second(header_in(image, k))
+    layout::number_at(header_in(image, k), 16)
 }
 
 fn header_in(image: &[u8], k: usize) -> &[u8]

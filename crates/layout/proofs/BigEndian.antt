@@ -15,9 +15,9 @@ use native.Mathlib.Decide.{decLt}
 use native.Mathlib.Omega.{arith}
 use lib.ListN.{length, getD, take, drop, set, length-append, length-set, length-take, List·getD-append, List·getD-eq-default}
 use lib.Seq.{drop-cons, drop-set-lt, getD-at, getD-set-same, append-snoc, take-suc, take-all, getD-take, getD-drop}
-use Rattle.layout.specs.Buffer.{part}
+use Rattle.buffers.specs.Buffer.{part}
 use Rattle.layout.specs.BigEndian.{be, unbe, unbeFrom, Bytes}
-use Rattle.layout.proofs.Segments.{part-length}
+use Rattle.buffers.proofs.Segments.{part-length}
 
 pub be-length : (w n : ℕ) → length (be w n) ≡ w
 unfolding be

@@ -11,12 +11,11 @@ use lib.ListN.{length, getD, take, set, replicate, length-append, drop-of-length
 use lib.Seq.{getD-at, set-split, take-at}
 use Rattle.crc8.specs.Crc8.{crcOf}
 use Rattle.lists.specs.Lists.{padded}
-use Rattle.layout.specs.Buffer.{part}
+use Rattle.buffers.specs.Buffer.{part}
 use Rattle.layout.specs.Cell.{cellLength}
-use Rattle.layout.specs.Header.{headerLength}
-use Rattle.layout.specs.Block.{cellsPerBlock, bodyLength, blockLength, sealed, sealBlock, blockOf, blockHeader, blockCell}
-use Rattle.layout.proofs.Segments.{left, right, whole, part-replicate, Each, flatten-length, flatten-part, Begun, begun-length, so-far}
-use Rattle.layout.proofs.Buffer.{padded-length, overwritten-fits, overwritten-not}
+use Rattle.layout.specs.Block.{headerLength, cellsPerBlock, bodyLength, blockLength, sealed, sealBlock, blockOf, blockHeader, blockCell}
+use Rattle.buffers.proofs.Segments.{left, right, whole, part-replicate, Each, flatten-length, flatten-part, Begun, begun-length, so-far}
+use Rattle.buffers.proofs.Buffer.{padded-length, overwritten-fits, overwritten-not}
 
 -- ---- sealing
 

@@ -12,11 +12,11 @@ use borrow.Author.Tests.{le-leb, lt-leb}
 use lib.ListN.{length, length-append, List·getD-append}
 use lib.Seq.{getD-at}
 use Rattle.lists.specs.Lists.{padded}
-use Rattle.layout.specs.Buffer.{part, resized}
+use Rattle.buffers.specs.Buffer.{part, resized}
 use Rattle.layout.specs.BigEndian.{be, unbe}
 use Rattle.layout.specs.Cell.{cellLength, cellCapacity, cellOf, putCell, cellTime, cellUsed, cellField, cellBytes, cellLast}
-use Rattle.layout.proofs.Segments.{left, last, whole}
-use Rattle.layout.proofs.Buffer.{padded-length, resized-back, overwritten-fits, overwritten-not}
+use Rattle.buffers.proofs.Segments.{left, last, whole}
+use Rattle.buffers.proofs.Buffer.{padded-length, resized-back, overwritten-fits, overwritten-not}
 use Rattle.layout.proofs.BigEndian.{be-length, unbe-be, unbe-be-lt}
 
 -- ---- putting

@@ -5,9 +5,11 @@ use Prim.Native.Nat.{ℕ, _+_, _*_}
 use lib.ListN.{take}
 use Rattle.lists.specs.Lists.{padded}
 use Rattle.crc8.specs.Crc8.{crcOf}
-use Rattle.layout.specs.Buffer.{part, overwritten}
+use Rattle.buffers.specs.Buffer.{part, overwritten}
 use Rattle.layout.specs.Cell.{cellLength}
-use Rattle.layout.specs.Header.{headerLength}
+
+abbrev pub headerLength : ℕ
+headerLength = 24
 
 abbrev pub cellsPerBlock : ℕ
 cellsPerBlock = 15

@@ -5,15 +5,16 @@ use Prim.Native.Nat.{ℕ}
 use lib.Dec.{leb}
 use lib.ListN.{length, getD}
 use Rattle.lists.specs.Lists.{padded}
-use Rattle.layout.specs.Buffer.{part, resized, overwritten}
+use Rattle.erp1.specs.Subtelegram.{maxLength}
+use Rattle.buffers.specs.Buffer.{part, resized, overwritten}
 use Rattle.layout.specs.BigEndian.{be, unbe}
 
 abbrev pub cellLength : ℕ
 cellLength = 32
 
--- the most bytes that a cell holds
+-- the most bytes that a cell holds: those of the longest subtelegram
 abbrev pub cellCapacity : ℕ
-cellCapacity = 21
+cellCapacity = maxLength
 
 -- time opened (8), length (1), bytes as first received (21, zero filled), and the last two bytes: zero in document 01, used by 02's A2 and A8
 unfoldable pub cellOf : ℕ → List ℕ → ℕ → List ℕ

@@ -5,16 +5,15 @@ ghost use Prim.Native.Nat.{min};
 ghost use lib.Dec.{eqb};
 ghost use lib.ListN.{length, getD, take, replicate};
 ghost use Rattle.lists.specs.Lists as lists;
-ghost use Rattle.layout.specs.Buffer.{part, resized, overwritten};
+ghost use Rattle.buffers.specs.Buffer.{part, resized, overwritten};
 ghost use Rattle.layout.specs.BigEndian.{be, unbe};
 ghost use Rattle.layout.specs.Cell.{putCell, cellTime, cellUsed, cellField, cellLast};
-ghost use Rattle.layout.specs.Header.{headerLength, headerOf, headerUsed, headerFirst, headerSecond};
 ghost use Rattle.layout.specs.Block.{sealBlock};
 
 pub const CELL_LENGTH: usize = 32;
 
-// The most bytes that a cell holds.
-pub const CELL_CAPACITY: usize = 21;
+// The most bytes that a cell holds: those of the longest subtelegram.
+pub const CELL_CAPACITY: usize = erp1::MAX_LEN;
 
 pub const HEADER_LENGTH: usize = 24;
 
@@ -56,20 +55,6 @@ pub fn put_bytes(out: &mut [u8], bytes: &[u8])
     for i in 0..out.len() {
         out[i] = byte_at(bytes, i);
     }
-}
-
-// The header of block `k` of a checkpoint, into 24 bytes: the entries used, and two numbers.
-pub fn put_header(out: &mut [u8], k: u8, used: u8, a: u64, b: u64)
-    ensures { λ _. ⌜ now (out .exit) ≡ overwritten headerLength (headerOf k used a b) (now (out .entry)) ⌝ }
-{
-    if out.len() != HEADER_LENGTH {
-        return;
-    }
-    out[0] = k;
-    out[1] = used;
-    clear(&mut out[2..8]);
-    put_number(&mut out[8..16], a);
-    put_number(&mut out[16..24], b);
 }
 
 // The cell of an entry, into 32 bytes, of at most 21 bytes.
@@ -122,25 +107,14 @@ pub fn read_number(s: &[u8]) -> u64
     n
 }
 
-// The entries used.
-pub fn header_used(header: &[u8]) -> u8
-    ensures { λ r. ⌜ r ≡ headerUsed (now (header .entry)) ⌝ }
+// The number that the eight bytes from `at` on spell.
+pub fn number_at(s: &[u8], at: usize) -> u64
+    ensures { λ r. ⌜ r ≡ unbe (part at 8 (now (s .entry))) ⌝ }
 {
-    byte_at(header, 1)
-}
-
-// The first of the two numbers.
-pub fn header_first(header: &[u8]) -> u64
-    ensures { λ r. ⌜ r ≡ headerFirst (now (header .entry)) ⌝ }
-{
-    number_at(header, 8)
-}
-
-// The second.
-pub fn header_second(header: &[u8]) -> u64
-    ensures { λ r. ⌜ r ≡ headerSecond (now (header .entry)) ⌝ }
-{
-    number_at(header, 16)
+    if s.len() < at {
+        return 0;
+    }
+    read_number(&s[at..s.len()])
 }
 
 // The time opened.
@@ -202,16 +176,6 @@ pub fn is_blank(s: &[u8]) -> bool
 }
 
 // ---- helpers
-
-// The number that the eight bytes from `at` on spell.
-fn number_at(s: &[u8], at: usize) -> u64
-    ensures { λ r. ⌜ r ≡ unbe (part at 8 (now (s .entry))) ⌝ }
-{
-    if s.len() < at {
-        return 0;
-    }
-    read_number(&s[at..s.len()])
-}
 
 // The smaller of two.
 fn least(a: usize, b: usize) -> usize

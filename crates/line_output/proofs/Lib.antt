@@ -1,3 +1,3 @@
 pub mod Digits
-pub mod Stores
+pub mod Words
 pub mod ReadBack

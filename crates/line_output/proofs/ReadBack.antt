@@ -22,7 +22,7 @@ use Rattle.line_input.proofs.Whole.{joined}
 use Rattle.line_output.specs.Text.{digitsOf, decimalText, hexDigitOf, hexText}
 use Rattle.line_output.specs.Claims.{areBytes, NumbersBack, TimesBack, BytesBack, LinesBack}
 use Rattle.line_output.proofs.Digits.{one-digit, several-digits}
-use Rattle.line_output.proofs.Stores.{hex-length}
+use Rattle.line_output.proofs.Words.{hex-length}
 
 -- ---- numbers
 

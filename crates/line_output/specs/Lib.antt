@@ -1,4 +1,4 @@
 pub mod Codes
 pub mod Text
-pub mod Printed
+pub mod Longest
 pub mod Claims

@@ -7,7 +7,8 @@ ghost use lib.Dec.{leb};
 ghost use lib.ListN.{length, drop};
 ghost use Rattle.lists.specs.Lists.{isTableOf};
 ghost use Rattle.line_output.specs.Text.{decimalText, hexDigitOf, hexText, answerText, rowBehind, badText, counted, totalsText};
-ghost use Rattle.line_output.specs.Printed.{Printed, PrintedIfFits, longestRow, longestTotals};
+ghost use Rattle.buffers.specs.Printed.{Printed, PrintedIfFits};
+ghost use Rattle.line_output.specs.Longest.{longestNumber, longestAnswer, longestRow, longestTotals};
 
 // What the row of a reception says; a refusal by its number.
 pub enum Row {
@@ -17,8 +18,8 @@ pub enum Row {
     Refused(u8),
 }
 
-// The longest time, and the longest row behind its time that sends nothing, or more; each byte to send takes two characters more.
-pub const LONGEST_TIME: usize = 20;
+// The longest number, and the longest row behind its time that sends nothing, or more; each byte to send takes two characters more.
+pub const LONGEST_NUMBER: usize = 20;
 
 pub const LONGEST_ROW: usize = 30;
 
@@ -116,8 +117,8 @@ fn write_row(out: &mut [u8], at: usize, time: &[u8], row: Row, sent: &[u8]) -> u
 }
 
 fn write_answer(out: &mut [u8], at: usize, row: Row, sent: &[u8]) -> usize
-    requires { ⌜ at + (28 + 2 * length (now sent)) ≤ length (now out) ⌝ }
-    ensures { λ r. ⌜ Printed (now (out .entry)) at (answerText row (now (sent .entry))) (28 + 2 * length (now (sent .entry))) (now (out .exit)) r ⌝ }
+    requires { ⌜ at + longestAnswer (length (now sent)) ≤ length (now out) ⌝ }
+    ensures { λ r. ⌜ Printed (now (out .entry)) at (answerText row (now (sent .entry))) (longestAnswer (length (now (sent .entry)))) (now (out .exit)) r ⌝ }
 {
     match row {
         Row::Kept => {
@@ -159,8 +160,8 @@ fn write_totals(
 }
 
 fn write_count(out: &mut [u8], at: usize, name: &[u8], n: u64) -> usize
-    requires { ⌜ at + (length (now name) + 20) ≤ length (now out) ⌝ }
-    ensures { λ r. ⌜ Printed (now (out .entry)) at (counted (now (name .entry)) n) (length (now (name .entry)) + 20) (now (out .exit)) r ⌝ }
+    requires { ⌜ at + (length (now name) + longestNumber) ≤ length (now out) ⌝ }
+    ensures { λ r. ⌜ Printed (now (out .entry)) at (counted (now (name .entry)) n) (length (now (name .entry)) + longestNumber) (now (out .exit)) r ⌝ }
 {
     let from = write(out, at, name);
     write_decimal(out, from, n)
@@ -177,20 +178,20 @@ fn write(out: &mut [u8], at: usize, s: &[u8]) -> usize
 }
 
 fn write_decimal(out: &mut [u8], at: usize, n: u64) -> usize
-    requires { ⌜ at + 20 ≤ length (now out) ⌝ }
-    ensures { λ r. ⌜ Printed (now (out .entry)) at (decimalText n) 20 (now (out .exit)) r ⌝ }
+    requires { ⌜ at + longestNumber ≤ length (now out) ⌝ }
+    ensures { λ r. ⌜ Printed (now (out .entry)) at (decimalText n) longestNumber (now (out .exit)) r ⌝ }
 {
-    let mut digits = [0u8; 20];
+    let mut digits = [0u8; LONGEST_NUMBER];
     let from = spell(n, &mut digits);
-    write(out, at, &digits[from..20])
+    write(out, at, &digits[from..LONGEST_NUMBER])
 }
 
 // Writes n in decimal to the end of `digits`, and answers where it starts. Two digits at a time: a division by 100 costs as much as one by 10.
 fn spell(n: u64, digits: &mut [u8]) -> usize
-    requires { ⌜ length (now digits) ≡ 20 ⌝ }
-    ensures { λ r. ⌜ (r ≤ 20) × (drop r (now (digits .exit)) ≡ decimalText n) ⌝ }
+    requires { ⌜ length (now digits) ≡ longestNumber ⌝ }
+    ensures { λ r. ⌜ (r ≤ longestNumber) × (drop r (now (digits .exit)) ≡ decimalText n) ⌝ }
 {
-    let mut i = 20;
+    let mut i = LONGEST_NUMBER;
     let mut rest = n;
     while 100 <= rest {
         let pair = (rest % 100) as u8;

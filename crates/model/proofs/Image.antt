@@ -21,11 +21,11 @@ use Rattle.lists.proofs.Tests.{and-true, all-both, all-getD, getD-map}
 use Rattle.lists.proofs.UpFrom.{length-upFrom, getD-upFrom}
 use Rattle.telegram.specs.Repeater.{maxSetting}
 use Rattle.layout.specs.Cell.{cellLength, cellCapacity}
-use Rattle.layout.specs.Header.{headerOf, headerUsed, headerFirst, headerSecond}
+use Rattle.model.specs.Header.{headerOf, headerUsed, headerFirst, headerSecond}
 use Rattle.layout.specs.Block.{cellsPerBlock, blockLength, blockHeader, blockCell}
-use Rattle.layout.proofs.Segments.{part-at, Each, flatten-length, flatten-part}
+use Rattle.buffers.proofs.Segments.{part-at, Each, flatten-length, flatten-part}
 use Rattle.layout.proofs.Cell.{cell-length, cell-time, cell-bytes, cell-last}
-use Rattle.layout.proofs.Header.{header-length, header-used, header-first, header-second}
+use Rattle.model.proofs.Header.{header-length, header-used, header-first, header-second}
 use Rattle.layout.proofs.Block.{block-length, block-header, block-cell}
 use Rattle.model.specs.View.{Entry, View, ceiling}
 use Rattle.model.specs.Acceptable.{isEntry, acceptable}

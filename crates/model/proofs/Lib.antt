@@ -1,6 +1,7 @@
 pub mod Check
 pub mod Copies
 pub mod Invariant
+pub mod Header
 pub mod Image
 pub mod Simulation
 pub mod Theorem

@@ -8,9 +8,9 @@ use Rattle.lists.specs.Lists.{equal, upFrom}
 use Rattle.refusal.specs.Number.{numberOf}
 use Rattle.refusal.specs.declared.Refusal.the-variants.{ShortOutput, NotAccepted}
 use Rattle.telegram.specs.Repeater.{maxSetting}
-use Rattle.layout.specs.Buffer.{part}
+use Rattle.buffers.specs.Buffer.{part}
 use Rattle.layout.specs.Cell.{cellOf, cellTime, cellBytes, cellLast}
-use Rattle.layout.specs.Header.{headerOf, headerUsed, headerFirst, headerSecond}
+use Rattle.model.specs.Header.{headerOf, headerUsed, headerFirst, headerSecond}
 use Rattle.layout.specs.Block.{cellsPerBlock, blockLength, blockOf, blockHeader, blockCell}
 use Rattle.model.specs.declared.Totals.{Totals}
 use Rattle.model.specs.View.{Entry, View}

@@ -2,6 +2,7 @@ pub mod Answer
 pub mod View
 pub mod Acceptable
 pub mod Step
+pub mod Header
 pub mod Image
 pub mod Exact
 pub mod Burst

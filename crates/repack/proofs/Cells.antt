@@ -19,12 +19,12 @@ use Rattle.lists.proofs.Tests.{all-getD}
 use Rattle.lists.proofs.UpFrom.{length-upFrom, getD-upFrom}
 use Rattle.erp1.specs.Subtelegram.{minLength, maxLength, checkOf}
 use Rattle.erp1.proofs.Checks.{check-facts}
-use Rattle.layout.specs.Buffer.{part, resized}
+use Rattle.buffers.specs.Buffer.{part, resized}
 use Rattle.layout.specs.BigEndian.{unbe}
 use Rattle.layout.specs.Cell.{cellLength, cellCapacity, cellUsed, cellField, cellBytes}
 use Rattle.layout.specs.Block.{blockCell}
-use Rattle.layout.proofs.Segments.{part-length, part-take}
-use Rattle.layout.proofs.Buffer.{resized-length, resized-cut}
+use Rattle.buffers.proofs.Segments.{part-length, part-take}
+use Rattle.buffers.proofs.Buffer.{resized-length, resized-cut}
 use Rattle.archive_model.specs.Row.{rowIn, isRow}
 use Rattle.archive_model.specs.Identity.{identityOf}
 use Rattle.repack_model.specs.Repack.{isListed}

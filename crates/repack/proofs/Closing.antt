@@ -20,7 +20,7 @@ use Rattle.refusal.specs.Number.{numberOf}
 use Rattle.refusal.specs.declared.Refusal.the-variants.{ShortOutput, Size}
 use Rattle.layout.specs.Cell.{cellLength}
 use Rattle.layout.specs.Block.{cellsPerBlock, blockLength}
-use Rattle.layout.proofs.Segments.{Begun}
+use Rattle.buffers.proofs.Segments.{Begun}
 use Rattle.archive_model.specs.Row.{Row}
 use Rattle.archive_model.specs.Buffer.{archiveOf, bufferOf, isWhole}
 use Rattle.repack_model.specs.Repack.{isListed, others, soundRows, dropped, fronted, Salvaged, salvageOf}

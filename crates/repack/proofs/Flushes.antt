@@ -8,7 +8,7 @@ use mathlib.Core.Path.{_≡_, refl, sym, ap, ap₂, _∙_}
 use mathlib.Core.List.{List, [], _∷_, _++_, append-nil}
 use lib.ListN.{length, take, drop, length-take, length-drop, drop-of-length-le}
 use lib.Seq.{take-nil, take-take, take-append-le}
-use Rattle.layout.specs.Buffer.{part}
+use Rattle.buffers.specs.Buffer.{part}
 use Rattle.layout.specs.Cell.{cellLength}
 use Rattle.layout.specs.Block.{cellsPerBlock, blockLength}
 use Rattle.repack_model.specs.Packer.{fullLength, cellsBlock, fullBlocks, pendingLength}

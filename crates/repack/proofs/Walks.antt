@@ -18,10 +18,10 @@ use Rattle.lists.proofs.Choice.{both}
 use Rattle.lists.proofs.Equal.{equal-eq}
 use Rattle.lists.proofs.Tests.{by-test, length-keep}
 use Rattle.lists.proofs.UpFrom.{length-upFrom}
-use Rattle.layout.specs.Buffer.{part}
+use Rattle.buffers.specs.Buffer.{part}
 use Rattle.layout.specs.Cell.{cellLength}
 use Rattle.layout.specs.Block.{cellsPerBlock, blockLength, blockCell}
-use Rattle.layout.proofs.Segments.{Begun, begin, begun-length, lend, lent, named, store, part-length}
+use Rattle.buffers.proofs.Segments.{Begun, begin, begun-length, lend, lent, named, store, part-length}
 use Rattle.archive_model.specs.Row.{Row, rowCell, rowIn, rowCount, rowsOf, isRow, isSound, isBlank}
 use Rattle.archive_model.specs.Buffer.{blocksIn}
 use Rattle.archive_model.specs.Append.{blockAt}

@@ -12,9 +12,9 @@ use mathlib.Core.List.{List, [], _∷_, _++_, map, flatten, append-nil}
 use lib.ListN.{length, take, drop, replicate, length-take, length-append}
 use lib.Seq.{drop-drop, drop-append-add}
 use Rattle.lists.specs.Lists.{padded, upFrom}
-use Rattle.layout.specs.Buffer.{part}
+use Rattle.buffers.specs.Buffer.{part}
 use Rattle.layout.specs.Block.{cellsPerBlock, blockLength}
-use Rattle.layout.proofs.Segments.{Begun, part-take}
+use Rattle.buffers.proofs.Segments.{Begun, part-take}
 use Rattle.archive_model.specs.Row.{Row, rowsBlock, rowCount, isSound}
 use Rattle.archive_model.specs.Buffer.{blocksFor, rowsAt, rowsIn, archiveOf, bufferOf, maxBlocks}
 use Rattle.archive_model.specs.Append.{verdict, blockAt}

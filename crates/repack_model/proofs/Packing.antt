@@ -18,11 +18,11 @@ use borrow.Author.Tests.{eq-eqb, ne-eqb, eqb-true}
 use Rattle.lists.specs.Lists.{all, padded, upFrom}
 use Rattle.lists.proofs.Choice.{both}
 use Rattle.lists.proofs.UpFrom.{upFrom-add}
-use Rattle.layout.specs.Buffer.{part}
+use Rattle.buffers.specs.Buffer.{part}
 use Rattle.layout.specs.Cell.{cellLength}
 use Rattle.layout.specs.Block.{cellsPerBlock, bodyLength, blockLength, sealed, blockOf}
-use Rattle.layout.proofs.Segments.{left}
-use Rattle.layout.proofs.Buffer.{padded-length}
+use Rattle.buffers.proofs.Segments.{left}
+use Rattle.buffers.proofs.Buffer.{padded-length}
 use Rattle.layout.proofs.Cell.{cell-length}
 use Rattle.archive_model.specs.Row.{Row, rowLast, rowCell, rowsHeader, rowsBlock}
 use Rattle.archive_model.specs.Buffer.{blocksFor, rowsAt, archiveOf}

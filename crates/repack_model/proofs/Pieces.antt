@@ -15,9 +15,9 @@ use Rattle.lists.specs.Lists.{keep, all, upFrom}
 use Rattle.lists.proofs.Choice.{both}
 use Rattle.lists.proofs.Keep.{keep-append}
 use Rattle.lists.proofs.UpFrom.{upFrom-add}
-use Rattle.layout.specs.Buffer.{part}
+use Rattle.buffers.specs.Buffer.{part}
 use Rattle.layout.specs.Block.{blockLength}
-use Rattle.layout.proofs.Segments.{left, right}
+use Rattle.buffers.proofs.Segments.{left, right}
 use Rattle.archive_model.specs.Row.{Row, rowCell, rowsOf, isSound}
 use Rattle.archive_model.specs.Buffer.{blocksIn, archiveOf}
 use Rattle.archive_model.proofs.Blocks.{Fits}

@@ -8,7 +8,7 @@ use lib.ListN.{length, take, drop}
 use Rattle.lists.specs.Lists.{padded, upFrom}
 use Rattle.refusal.specs.Number.{numberOf}
 use Rattle.refusal.specs.declared.Refusal.the-variants.{ShortOutput, Argument, NotAccepted, Size}
-use Rattle.layout.specs.Buffer.{part}
+use Rattle.buffers.specs.Buffer.{part}
 use Rattle.layout.specs.Cell.{cellLength}
 use Rattle.layout.specs.Block.{cellsPerBlock, bodyLength, blockLength, sealed}
 use Rattle.archive_model.specs.Row.{Row, rowCell, rowsHeader}

@@ -14,7 +14,7 @@ use lib.Seq.{take-suc, take-set-le, getD-set-same, getD-take}
 use Rattle.lists.specs.Lists.{upFrom}
 use Rattle.lists.proofs.Tests.{getD-map}
 use Rattle.lists.proofs.UpFrom.{upFrom-add}
-use Rattle.layout.proofs.Segments.{part-replicate}
+use Rattle.buffers.proofs.Segments.{part-replicate}
 use Rattle.model.specs.View as view
 use Rattle.model.specs.Burst.{Replied}
 use Rattle.burst.specs.declared.Reception.{Reception}

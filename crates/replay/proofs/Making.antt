@@ -10,10 +10,10 @@ use mathlib.Core.List.{List, [], _∷_, _++_, append-assoc, append-nil}
 use lib.ListN.{length, getD, take, drop, length-append, length-take, length-drop, drop-of-length-le, replicate, length-replicate}
 use lib.Seq.{take-append-le, take-all, drop-at, drop-drop, length-take-le}
 use Rattle.telegram.specs.declared.frame.Frame.{Frame}
-use Rattle.layout.specs.Buffer.{part}
+use Rattle.buffers.specs.Buffer.{part}
 use Rattle.layout.specs.BigEndian.{be}
 use Rattle.layout.proofs.BigEndian.{be-length}
-use Rattle.layout.proofs.Segments.{part-length, part-ends, take-clamped, Begun}
+use Rattle.buffers.proofs.Segments.{part-length, part-ends, take-clamped, Begun}
 use Rattle.model.specs.declared.Totals.{Totals}
 use Rattle.model.specs.View.{Reception, View, fresh}
 use Rattle.model.specs.Step.{Outcome, step, sentFor}

@@ -22,10 +22,10 @@ use Rattle.lists.specs.Lists.{upFrom}
 use Rattle.lists.proofs.Tests.{by-test}
 use Rattle.lists.proofs.UpFrom.{length-upFrom, getD-upFrom}
 use Rattle.erp1.specs.Subtelegram.{maxLength}
-use Rattle.layout.specs.Buffer.{part, resized}
+use Rattle.buffers.specs.Buffer.{part, resized}
 use Rattle.layout.specs.BigEndian.{unbe}
-use Rattle.layout.proofs.Buffer.{resized-whole}
-use Rattle.layout.proofs.Segments.{part-length, part-ends, take-clamped}
+use Rattle.buffers.proofs.Buffer.{resized-whole}
+use Rattle.buffers.proofs.Segments.{part-length, part-ends, take-clamped}
 use Rattle.model.specs.History.{Call, Receive, Checkpoint, Restore, Cut, Burst, Ask, Look}
 use Rattle.replay_model.specs.Operation.{receiving, saving, cutting, restoring, delivering, asking}
 use Rattle.replay_model.specs.Replay.{sizeOf, sizeOfAll}

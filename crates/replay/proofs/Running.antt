@@ -11,8 +11,8 @@ use mathlib.Core.List.{List, [], _∷_, _++_, flatten}
 use lib.ListN.{length, take, drop}
 use borrow.Author.Tests.{lt-ltb, le-ltb}
 use Rattle.refusal.specs.declared.Refusal.the-variants.{ShortOutput}
-use Rattle.layout.specs.Buffer.{part}
-use Rattle.layout.proofs.Segments.{Begun, begin, lend, named}
+use Rattle.buffers.specs.Buffer.{part}
+use Rattle.buffers.proofs.Segments.{Begun, begin, lend, named}
 use Rattle.telegram.specs.Output.{Result}
 use Rattle.model.specs.View.{View, fresh}
 use Rattle.model.specs.History.{Call, run, common}

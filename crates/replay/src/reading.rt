@@ -10,7 +10,7 @@ ghost use mathlib.Core.List.{[], map};
 ghost use Prim.Native.Nat.{_+_, _*_, _/_, _≤_, min};
 ghost use lib.ListN.{length, getD, take, replicate};
 ghost use Rattle.lists.specs.Lists.{upFrom};
-ghost use Rattle.layout.specs.Buffer.{part};
+ghost use Rattle.buffers.specs.Buffer.{part};
 ghost use Rattle.model.specs.Answer.{shownOf};
 ghost use Rattle.burst.specs.Records.{receptionOf, repliedOf, listed};
 ghost use Rattle.replay_model.specs.Replay.{sizeOf};

@@ -14,11 +14,11 @@ use lib.ListN.{length, getD, take, drop, length-append}
 use lib.Seq.{take-at, drop-at}
 use Rattle.erp1.specs.Subtelegram.{maxLength}
 use Rattle.telegram.specs.declared.frame.Frame.{Frame}
-use Rattle.layout.specs.Buffer.{part, resized}
+use Rattle.buffers.specs.Buffer.{part, resized}
 use Rattle.layout.specs.BigEndian.{be, unbe}
 use Rattle.layout.proofs.BigEndian.{be-length, unbe-be}
-use Rattle.layout.proofs.Buffer.{resized-length, resized-whole}
-use Rattle.layout.proofs.Segments.{start, part-nth}
+use Rattle.buffers.proofs.Buffer.{resized-length, resized-whole}
+use Rattle.buffers.proofs.Segments.{start, part-nth}
 use Rattle.model.specs.declared.Totals.{Totals}
 use Rattle.model.specs.Answer.{Shown, Kept, Copy, Loose, Refused, shownNumber}
 use Rattle.model.specs.Burst.{Replied}

@@ -18,10 +18,10 @@ use Rattle.erp1.specs.Subtelegram.{maxLength, isValid}
 use Rattle.layout.specs.Cell.{cellLength}
 use Rattle.layout.specs.Block.{cellsPerBlock, blockLength}
 use Rattle.layout.proofs.BigEndian.{be-length}
-use Rattle.layout.proofs.Buffer.{resized-length}
-use Rattle.layout.proofs.Segments.{part-at, Each, flatten-length}
+use Rattle.buffers.proofs.Buffer.{resized-length}
+use Rattle.buffers.proofs.Segments.{part-at, Each, flatten-length}
 use Rattle.layout.proofs.Cell.{cell-length}
-use Rattle.layout.proofs.Header.{header-length}
+use Rattle.model.proofs.Header.{header-length}
 use Rattle.layout.proofs.Block.{block-length}
 use Rattle.model.specs.declared.Totals.{Totals}
 use Rattle.model.specs.View.{Reception, Entry, View, capacity}

@@ -15,7 +15,7 @@ use Rattle.erp1.proofs.Checks.{check-facts}
 use Rattle.telegram.specs.Frame.{frameOf}
 use Rattle.telegram.specs.Repeater.{maxSetting, levelOf, repeats, relayOf, repeatOf}
 use Rattle.telegram.proofs.Repeating.{raised-length}
-use Rattle.layout.proofs.Buffer.{padded-length}
+use Rattle.buffers.proofs.Buffer.{padded-length}
 use Rattle.model.specs.Answer.{Shown, Kept, Copy, Loose, Refused}
 use Rattle.model.specs.View.{Reception, fresh}
 use Rattle.model.specs.Heard.{copiesIn}

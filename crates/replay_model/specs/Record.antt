@@ -3,7 +3,7 @@ use Prim.Native.Nat.{ℕ}
 use mathlib.Core.List.{List, [], _∷_, _++_, map, flatten}
 use lib.ListN.{length}
 use Rattle.erp1.specs.Subtelegram.{maxLength}
-use Rattle.layout.specs.Buffer.{resized}
+use Rattle.buffers.specs.Buffer.{resized}
 use Rattle.layout.specs.BigEndian.{be}
 use Rattle.model.specs.declared.Totals.{Totals}
 use Rattle.model.specs.Answer.{Shown, Kept, Copy, Loose, Refused, shownNumber}

@@ -24,8 +24,8 @@ use Rattle.lists.proofs.Tests.{by-test}
 use Rattle.lists.proofs.UpFrom.{length-upFrom}
 use Rattle.erp1.specs.Subtelegram.{minLength, maxLength, checkOf}
 use Rattle.erp1.proofs.Checks.{check-facts}
-use Rattle.layout.specs.Buffer.{part}
-use Rattle.layout.proofs.Segments.{part-take}
+use Rattle.buffers.specs.Buffer.{part}
+use Rattle.buffers.proofs.Segments.{part-take}
 use Rattle.layout.specs.BigEndian.{unbe}
 use Rattle.layout.specs.Cell.{cellLength, cellUsed, cellBytes}
 use Rattle.layout.specs.Block.{cellsPerBlock, blockLength, blockCell}

@@ -23,9 +23,9 @@ use Rattle.refusal.specs.Number.{numberOf}
 use Rattle.refusal.specs.declared.Refusal.{Refusal}
 use Rattle.refusal.specs.declared.Refusal.the-variants.{NotAccepted, Size}
 use Rattle.refusal.proofs.Numbers.{refused-number}
-use Rattle.layout.specs.Buffer.{part}
+use Rattle.buffers.specs.Buffer.{part}
 use Rattle.layout.specs.Block.{cellsPerBlock, blockLength}
-use Rattle.layout.proofs.Segments.{left, right}
+use Rattle.buffers.proofs.Segments.{left, right}
 use Rattle.archive_model.specs.Row.{Row, rowCount, rowsOf, isRow, isSound}
 use Rattle.archive_model.specs.Buffer.{maxBlocks, isWhole, blocksIn, Scan, scanBlock}
 use Rattle.archive_model.specs.Append.{isScan}

@@ -16,11 +16,10 @@ use borrow.Author.Tests.{lt-ltb, ltb-true}
 use Rattle.lists.specs.Lists.{all, upFrom}
 use Rattle.lists.proofs.Choice.{both}
 use Rattle.lists.proofs.Tests.{and-true, all-both}
-use Rattle.layout.specs.Buffer.{part, resized}
+use Rattle.buffers.specs.Buffer.{part, resized}
 use Rattle.layout.specs.BigEndian.{unbe, unbeFrom}
 use Rattle.layout.specs.Cell.{cellLength, cellCapacity, cellUsed, cellField, cellBytes}
-use Rattle.layout.specs.Block.{blockLength, blockCell}
-use Rattle.layout.specs.Header.{headerLength}
+use Rattle.layout.specs.Block.{headerLength, blockLength, blockCell}
 use Rattle.archive_model.specs.Row.{Row, isRow, rowIn, rowCount, rowsOf}
 use Rattle.archive_model.specs.Buffer.{blocksIn, rowsIn}
 use Rattle.archive_model.specs.Append.{verdict}

@@ -9,7 +9,7 @@ use lib.ListN.{length, take, drop, length-take, length-map}
 use lib.Seq.{take-all}
 use Rattle.lists.specs.Lists.{all, upFrom}
 use Rattle.lists.proofs.UpFrom.{length-upFrom}
-use Rattle.layout.specs.Buffer.{part}
+use Rattle.buffers.specs.Buffer.{part}
 use Rattle.archive_model.specs.Row.{Row}
 use Rattle.archive_model.specs.Buffer.{maxRows, bufferOf, rowsIn}
 use Rattle.archive_model.specs.Append.{verdict}

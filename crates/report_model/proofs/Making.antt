@@ -18,7 +18,7 @@ use Rattle.lists.proofs.Choice.{both}
 use Rattle.lists.proofs.Tests.{and-true}
 use Rattle.erp1.specs.Subtelegram.{lastOf, bodyOf, hashOf, sealedOf, checkOf, isValid}
 use Rattle.erp1.proofs.Checks.{check-plain}
-use Rattle.layout.specs.Buffer.{part}
+use Rattle.buffers.specs.Buffer.{part}
 use Rattle.layout.specs.BigEndian.{be, unbe}
 use Rattle.layout.proofs.BigEndian.{be-length, unbe-be}
 use Rattle.archive_model.specs.Row.{Row}

@@ -13,7 +13,7 @@ use Rattle.lists.proofs.Choice.{both}
 use Rattle.lists.proofs.Equal.{equal-eq, equal-refl}
 use Rattle.lists.proofs.Tests.{by-test}
 use Rattle.erp1.specs.Status.{upperOf}
-use Rattle.erp1.specs.Subtelegram.{hashOf, bodyOf, statusOf, sealedOf, isAddressed, isValid}
+use Rattle.erp1.specs.Subtelegram.{hashOf, bodyOf, statusOf, sealedOf, isAddressed, isValid, beforeStatus}
 use Rattle.erp1.specs.Same.{isSame}
 use Rattle.erp1.proofs.Checks.{Sound, check-facts}
 use Rattle.telegram.specs.declared.fields.Telegram.{Telegram}
@@ -35,13 +35,13 @@ abbrev writtenOf : Telegram → List ℕ
 writtenOf t = frontOf t ++ (t .status ∷ [])
 
 module _ (s : List ℕ) (v : Sound s) where
-  front-fields : frontOf (fieldsOf s) ≡ bodyOf (bodyOf s)
+  front-fields : frontOf (fieldsOf s) ≡ beforeStatus s
   unfolding bytesOf
   front-fields =
       let t = fieldsOf s in
       sym (body-more (frontOf t) (t .status))
       ∙ ap bodyOf (sym (body-more (writtenOf t) (hashOf (writtenOf t))))
-      ∙ ap (λ (l : List ℕ). bodyOf (bodyOf l)) (read-builds s v)
+      ∙ ap (λ (l : List ℕ). beforeStatus l) (read-builds s v)
 
   front-length : length (frontOf (fieldsOf s)) + 2 ≡ length s
   unfolding bytesOf
@@ -52,7 +52,7 @@ module _ (s : List ℕ) (v : Sound s) where
       = length-append (writtenOf t) (hashOf (writtenOf t) ∷ []) ∙ omega (arith, status) in
       sym whole ∙ ap length (read-builds s v)
 
-  rebuilt : sealedOf (bodyOf (bodyOf s) ++ (fieldsOf s .status ∷ [])) ≡ s
+  rebuilt : sealedOf (beforeStatus s ++ (fieldsOf s .status ∷ [])) ≡ s
   unfolding bytesOf
   rebuilt = rw (← front-fields) (read-builds s v)
 
@@ -85,7 +85,7 @@ same-address t st = go (t .addressed)
     go true = equal-refl (t .destid)
     go false = refl
 
-module _ (a b : List ℕ) (va : Sound a) (vb : Sound b) (front : bodyOf (bodyOf a) ≡ bodyOf (bodyOf b)) where
+module _ (a b : List ℕ) (va : Sound a) (vb : Sound b) (front : beforeStatus a ≡ beforeStatus b) where
   abbrev other : Telegram
   other = withStatus (fieldsOf a) (fieldsOf b .status)
 
@@ -159,7 +159,7 @@ module _ (t u : Telegram) (same : isSameTelegram t u ≡ true) where
 -- ---- the law
 
 module _ (a b : List ℕ) (va : Sound a) (vb : Sound b) where
-  agree : equal (bodyOf (bodyOf a)) (bodyOf (bodyOf b)) ≡ true → isSame a b ≡ isSameTelegram (fieldsOf a) (fieldsOf b)
+  agree : equal (beforeStatus a) (beforeStatus b) ≡ true → isSame a b ≡ isSameTelegram (fieldsOf a) (fieldsOf b)
   unfolding isSame
   agree e =
       let front = equal-lists e in
@@ -167,7 +167,7 @@ module _ (a b : List ℕ) (va : Sound a) (vb : Sound b) where
       let long : length a ≡ length b = sym (front-length a va) ∙ ap (λ (l : List ℕ). length l + 2) fronts ∙ front-length b vb in
       rw (eq-eqb (length a) (length b) long, e, by-upper a b va vb front) (and-true (eqb (upperOf (statusOf a)) (upperOf (statusOf b))))
 
-  differ : equal (bodyOf (bodyOf a)) (bodyOf (bodyOf b)) ≡ false → isSame a b ≡ isSameTelegram (fieldsOf a) (fieldsOf b)
+  differ : equal (beforeStatus a) (beforeStatus b) ≡ false → isSame a b ≡ isSameTelegram (fieldsOf a) (fieldsOf b)
   unfolding isSame
   differ e =
       rw (e, and-false (eqb (upperOf (statusOf a)) (upperOf (statusOf b))), and-false (eqb (length a) (length b)))
@@ -176,11 +176,11 @@ module _ (a b : List ℕ) (va : Sound a) (vb : Sound b) where
       go : (r : Bool) → isSameTelegram (fieldsOf a) (fieldsOf b) ≡ r → r ≡ false
       go true s =
           let front = sym (front-fields a va) ∙ same-front (fieldsOf a) (fieldsOf b) s ∙ front-fields b vb in
-          sym (sym e ∙ ap (λ (l : List ℕ). equal l (bodyOf (bodyOf b))) front ∙ equal-refl (bodyOf (bodyOf b)))
+          sym (sym e ∙ ap (λ (l : List ℕ). equal l (beforeStatus b)) front ∙ equal-refl (beforeStatus b))
       go false s = refl
 
   same-fields : isSame a b ≡ isSameTelegram (fieldsOf a) (fieldsOf b)
-  same-fields = by-test (equal (bodyOf (bodyOf a)) (bodyOf (bodyOf b))) agree differ
+  same-fields = by-test (equal (beforeStatus a) (beforeStatus b)) agree differ
 
 pub same-by-fields : SameByFields
 same-by-fields a b va vb = same-fields a b (check-facts a (eqb-true _ 0 va)) (check-facts b (eqb-true _ 0 vb))

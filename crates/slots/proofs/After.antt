@@ -9,8 +9,8 @@ use Rattle.lists.specs.Lists.{upFrom}
 use Rattle.lists.proofs.UpFrom.{length-upFrom, getD-upFrom}
 use Rattle.slots.specs.declared.Rule.{Rule}
 use Rattle.slots.specs.declared.Lookup.the-variants.{Found, Counted}
-use Rattle.slots.specs.Plan.{plan, secondFollows}
-use Rattle.slots.specs.Search.{IsThirds, lookupOf, plansAfter}
+use Rattle.slots.specs.Plan.{plan}
+use Rattle.slots.specs.Search.{secondFollows, IsThirds, lookupOf, plansAfter}
 use Rattle.slots.proofs.Lookups.{lookup-found, lookup-counted}
 
 module _ (r : Rule) (d a b k : ℕ) where

@@ -14,7 +14,8 @@ use Rattle.lists.proofs.UpFrom.{upFrom-in, flatMap-in, flatMap-from, pairwise-f
 use Rattle.slots.specs.declared.Rule.{Rule}
 use Rattle.slots.specs.declared.SlotRange.{SlotRange}
 use Rattle.slots.specs.declared.SlotPlan.{SlotPlan}
-use Rattle.slots.specs.Plan.{plan, plans, candidates, lawful, thirdFollows, within, empty, noSlot, rangeAt, slotsIn, thirdSlots}
+use Rattle.slots.specs.Plan.{plan, plans, candidates, lawful, within, empty, noSlot, rangeAt, slotsIn, thirdSlots}
+use Rattle.slots.specs.Search.{thirdFollows}
 use Rattle.slots.specs.Claims.{precedes, Lexicographic, PlansListed}
 use Rattle.slots.proofs.Parts.{parts, no-third, third-after}
 

@@ -1,13 +1,28 @@
 -- What a lawful plan's test says part by part, and what the test of a third slot says of it. Assumes nothing.
-use mathlib.Core.Path.{_≡_}
-use mathlib.Core.Bool.{true, false, _&&_}
+use mathlib.Core.Path.{_≡_, refl, sym, _∙_}
+use mathlib.Core.Bool.{Bool, true, false, cond, _&&_}
 use Prim.Native.Nat.{ℕ, _≤_}
 use lib.Dec.{leb, eqb}
 use borrow.Author.Tests.{leb-true, eqb-true}
 use Rattle.lists.proofs.Choice.{both}
 use Rattle.slots.specs.declared.Rule.{Rule}
 use Rattle.slots.specs.declared.SlotPlan.{SlotPlan}
-use Rattle.slots.specs.Plan.{lawful, secondFollows, thirdFollows, within, empty, endOf, startOf, noSlot, rangeAt}
+use Rattle.slots.specs.Plan.{lawful, within, empty, isOfTwo, endOf, startOf, noSlot, rangeAt}
+use Rattle.slots.specs.Search.{secondFollows, thirdFollows, passes}
+
+-- the tests in range, in order and in time, slot by slot
+regrouped : (two a b none c s o x y : Bool)
+    → ((a && (b && cond two none c)) && ((s && cond two true o) && cond two x y)) ≡ (a && (b && (s && cond two (none && x) (c && (o && y)))))
+regrouped two false b none c s o x y = refl
+regrouped two true false none c s o x y = refl
+regrouped true true true false c false o x y = refl
+regrouped true true true false c true o x y = refl
+regrouped true true true true c false o x y = refl
+regrouped true true true true c true o x y = refl
+regrouped false true true none false false o x y = refl
+regrouped false true true none false true o x y = refl
+regrouped false true true none true false o x y = refl
+regrouped false true true none true true o x y = refl
 
 module _ (r : Rule) (d : ℕ) where
   pub record Parts (p : SlotPlan) : Type 0 where
@@ -16,9 +31,17 @@ module _ (r : Rule) (d : ℕ) where
     pub second-follows : secondFollows r d (p .first) (p .second) ≡ true
     pub third-follows : thirdFollows r d (p .second) (p .third) ≡ true
 
+  pub lawful-passes : (p : SlotPlan) → lawful r d p ≡ passes r d p
+  unfolding lawful passes thirdFollows
+  lawful-passes p =
+      regrouped (isOfTwo r) (within (rangeAt r 0) (p .first)) (within (rangeAt r 1) (p .second)) (eqb (p .third) noSlot) (within (rangeAt r 2) (p .third))
+      (secondFollows r d (p .first) (p .second)) (leb (endOf d (p .second)) (startOf (p .third)))
+      (leb (endOf d (p .second)) (r .end)) (leb (endOf d (p .third)) (r .end))
+
   pub parts : (p : SlotPlan) → lawful r d p ≡ true → Parts p
-  unfolding lawful
-  parts p e =
+  unfolding passes
+  parts p l =
+      let e = sym (lawful-passes p) ∙ l in
       let in-second = within (rangeAt r 1) (p .second) in
       let second = secondFollows r d (p .first) (p .second) in
       let third = thirdFollows r d (p .second) (p .third) in

@@ -1,17 +1,18 @@
 -- The lawful plans, block by block, as the search meets them. Assumes nothing.
-use mathlib.Core.Path.{_≡_, refl, ap}
+use mathlib.Core.Path.{_≡_, refl, ap, _∙_}
 use mathlib.Core.Bool.{Bool, true, false, cond, _&&_}
 use mathlib.Core.List.{List, [], map, flatMap}
 use Prim.Native.Nat.{ℕ, _≤_}
 use native.Mathlib.Omega.{arith}
 use borrow.Author.Tests.{le-leb}
 use Rattle.lists.specs.Lists.{keep}
-use Rattle.lists.proofs.Keep.{keep-map, keep-flatMap, keep-false}
+use Rattle.lists.proofs.Keep.{keep-same, keep-map, keep-flatMap, keep-false}
 use Rattle.lists.proofs.UpFrom.{flatMap-same}
 use Rattle.slots.specs.declared.Rule.{Rule}
 use Rattle.slots.specs.declared.SlotPlan.{SlotPlan}
-use Rattle.slots.specs.Plan.{plan, plans, candidates, lawful, secondFollows, rangeAt, slotsIn, thirdSlots}
-use Rattle.slots.specs.Search.{plansAfter, plansFrom}
+use Rattle.slots.specs.Plan.{plan, plans, candidates, lawful, rangeAt, slotsIn, thirdSlots}
+use Rattle.slots.specs.Search.{secondFollows, passes, plansAfter, plansFrom}
+use Rattle.slots.proofs.Parts.{lawful-passes}
 
 -- the test of the second slot taken out of the test of each plan
 second-out : (t : Bool) (f : ℕ → Bool) (g : ℕ → SlotPlan) (cs : List ℕ) → map g (keep (λ c. t && f c) cs) ≡ cond t (map g (keep f cs)) []
@@ -27,9 +28,10 @@ module _ (r : Rule) (d : ℕ) where
 
   -- of the candidates with two slots inside their ranges, the lawful ones
   block : (a b : ℕ) → first 0 ≤ a → a ≤ last 0 → first 1 ≤ b → b ≤ last 1 → keep (lawful r d) (map (plan a b) (thirdSlots r)) ≡ plansAfter r d a b
-  unfolding lawful plansAfter
+  unfolding passes plansAfter
   block a b p q s t =
-      rw keep-map
+      keep-same (lawful r d) (passes r d) (lawful-passes r d) (map (plan a b) (thirdSlots r))
+      ∙ rw keep-map
       (simp (le-leb (first 0) a p, le-leb a (last 0) q, le-leb (first 1) b s, le-leb b (last 1) t)
       (second-out (secondFollows r d a b) _ (plan a b) (thirdSlots r)))
 

@@ -11,8 +11,8 @@ use Rattle.lists.specs.Lists.{keep, upFrom}
 use Rattle.lists.proofs.Keep.{keep-same}
 use Rattle.lists.proofs.UpFrom.{keep-none, keep-between}
 use Rattle.slots.specs.declared.Rule.{Rule}
-use Rattle.slots.specs.Plan.{thirdFollows, noSlot, thirdSlots, slotsIn, rangeAt, startOf, endOf}
-use Rattle.slots.specs.Search.{IsThirds}
+use Rattle.slots.specs.Plan.{noSlot, thirdSlots, slotsIn, rangeAt, startOf, endOf}
+use Rattle.slots.specs.Search.{thirdFollows, IsThirds}
 
 -- slots lo to hi; a start at `ended` or later; an end by `end`
 module _ (lo hi d ended end : ℕ) where

@@ -1,6 +1,6 @@
 -- Slot plans (document 01, "Slot plan"): the rule of a level, when a plan is lawful, all lawful plans in order, and the plan that a draw
 -- picks. Assumes nothing.
-use mathlib.Core.Bool.{Bool, not, cond, _&&_}
+use mathlib.Core.Bool.{Bool, true, not, cond, _&&_}
 use mathlib.Core.List.{List, [], _∷_, map, flatMap}
 use Prim.Native.Nat.{ℕ, _+_, _-_, _*_, _%_}
 use lib.ListN.{length, getD}
@@ -63,24 +63,30 @@ startOf n = 1000 * n
 abbrev pub endOf : ℕ → ℕ → ℕ
 endOf d n = startOf n + d
 
--- slot b starts when slot a has ended and the pause is over
-abbrev pub secondFollows : Rule → ℕ → ℕ → ℕ → Bool
-secondFollows r d a b = leb (endOf d a + r .pause) (startOf b)
+-- the rule has no third transmission
+abbrev pub isOfTwo : Rule → Bool
+isOfTwo r = empty (rangeAt r 2)
 
--- slot c is in the third range, starts when slot b has ended, and ends in time; where that range is empty, slot b ends in time
-unfoldable pub thirdFollows : Rule → ℕ → ℕ → ℕ → Bool
-thirdFollows r d b c =
-    cond (empty (rangeAt r 2))
-    (eqb c noSlot && leb (endOf d b) (r .end))
-    (within (rangeAt r 2) c && (leb (endOf d b) (startOf c) && leb (endOf d c) (r .end)))
-
--- each slot in its range, no start before the previous end, the last end in time
-unfoldable pub lawful : Rule → ℕ → SlotPlan → Bool
-lawful r d p =
+-- each slot is in the range of its transmission; a third one that is not sent reads 255
+abbrev pub isInRange : Rule → SlotPlan → Bool
+isInRange r p =
     within (rangeAt r 0) (p .first)
     && (within (rangeAt r 1) (p .second)
-    && (secondFollows r d (p .first) (p .second)
-    && thirdFollows r d (p .second) (p .third)))
+    && cond (isOfTwo r) (eqb (p .third) noSlot) (within (rangeAt r 2) (p .third)))
+
+-- no transmission starts before the one before it has ended, nor the second before the pause is over
+abbrev pub isInOrder : Rule → ℕ → SlotPlan → Bool
+isInOrder r d p =
+    leb (endOf d (p .first) + r .pause) (startOf (p .second))
+    && cond (isOfTwo r) true (leb (endOf d (p .second)) (startOf (p .third)))
+
+-- the last one ends in time
+abbrev pub isInTime : Rule → ℕ → SlotPlan → Bool
+isInTime r d p = cond (isOfTwo r) (leb (endOf d (p .second)) (r .end)) (leb (endOf d (p .third)) (r .end))
+
+-- "each slot in its range, no start before the previous end, the last end" in time
+unfoldable pub lawful : Rule → ℕ → SlotPlan → Bool
+lawful r d p = isInRange r p && (isInOrder r d p && isInTime r d p)
 
 -- ── all of them, in order ──
 

@@ -1,16 +1,39 @@
 -- What the search inside the crate finds: the contracts of its private functions cite these, and no public contract does. Assumes nothing.
 use mathlib.Core.Path.{_≡_}
-use mathlib.Core.Bool.{cond}
+use mathlib.Core.Bool.{Bool, cond, _&&_}
 use mathlib.Core.List.{List, [], map, flatMap}
 use Prim.Native.Nat.{ℕ, _+_, _≤_}
 use lib.ListN.{length, getD}
-use lib.Dec.{ltb}
+use lib.Dec.{leb, ltb, eqb}
 use Rattle.lists.specs.Lists.{keep, upFrom}
 use Rattle.slots.specs.declared.Rule.{Rule}
 use Rattle.slots.specs.declared.SlotPlan.{SlotPlan}
 use Rattle.slots.specs.declared.Lookup.{Lookup}
 use Rattle.slots.specs.declared.Lookup.the-variants.{Found, Counted}
-use Rattle.slots.specs.Plan.{plan, secondFollows, thirdFollows, rangeAt, slotsIn, thirdSlots}
+use Rattle.slots.specs.Plan.{plan, within, noSlot, startOf, endOf, isOfTwo, rangeAt, slotsIn, thirdSlots}
+
+-- ---- a lawful plan, slot by slot
+
+-- slot b starts when slot a has ended and the pause is over
+abbrev pub secondFollows : Rule → ℕ → ℕ → ℕ → Bool
+secondFollows r d a b = leb (endOf d a + r .pause) (startOf b)
+
+-- slot c is in the third range, starts when slot b has ended, and ends in time; where that range is empty, slot b ends in time
+unfoldable pub thirdFollows : Rule → ℕ → ℕ → ℕ → Bool
+thirdFollows r d b c =
+    cond (isOfTwo r)
+    (eqb c noSlot && leb (endOf d b) (r .end))
+    (within (rangeAt r 2) c && (leb (endOf d b) (startOf c) && leb (endOf d c) (r .end)))
+
+-- the tests of `lawful` in the order of the slots
+unfoldable pub passes : Rule → ℕ → SlotPlan → Bool
+passes r d p =
+    within (rangeAt r 0) (p .first)
+    && (within (rangeAt r 1) (p .second)
+    && (secondFollows r d (p .first) (p .second)
+    && thirdFollows r d (p .second) (p .third)))
+
+-- ---- what the search finds
 
 -- the plan at index k of a list, or the length of a list that is too short
 unfoldable pub lookupOf : List SlotPlan → ℕ → Lookup

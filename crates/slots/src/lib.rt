@@ -2,8 +2,8 @@
 use refusal::Refusal;
 ghost use mathlib.Core.Path.{_≡_};
 ghost use Prim.Native.Nat.{_≤_, min, max};
-ghost use Rattle.slots.specs.Plan.{answerOf, planOf, standardRule, plans, drawn, lawful, within, secondFollows, thirdFollows};
-ghost use Rattle.slots.specs.Search.{IsThirds, lookupOf, plansAfter, plansFrom};
+ghost use Rattle.slots.specs.Plan.{answerOf, planOf, standardRule, plans, drawn, lawful, within};
+ghost use Rattle.slots.specs.Search.{secondFollows, thirdFollows, IsThirds, lookupOf, plansAfter, plansFrom};
 
 // Slots first to last; empty where first is above last.
 pub struct SlotRange {

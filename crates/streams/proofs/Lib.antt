@@ -2,5 +2,5 @@ pub mod Pieces
 pub mod Segments
 pub mod Limit
 pub mod Ended
-pub mod Moves
+pub mod Kept
 pub mod Takes

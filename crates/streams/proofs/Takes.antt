@@ -8,8 +8,8 @@ use lib.Seq.{take-length}
 use Rattle.bytes.specs.Bytes.{indexOf, slice}
 use Rattle.line_input.specs.Ascii.{newline}
 use Rattle.line_input.specs.Reading.{lineLimit}
-use Rattle.line_output.specs.Printed.{Printed}
-use Rattle.line_output.proofs.Stores.{then}
+use Rattle.buffers.specs.Printed.{Printed}
+use Rattle.buffers.proofs.Stores.{then}
 use Rattle.streams.specs.Lines.{Program}
 use Rattle.streams.specs.Chunks.{Bounded, fresh, feed, feedText}
 use Rattle.streams.specs.Buffer.{Fed}

@@ -8,7 +8,7 @@ use lib.ListN.{length, take, drop}
 use lib.Seq.{sets}
 use Rattle.line_input.specs.Ascii.{newline}
 use Rattle.line_input.specs.Reading.{lineLimit}
-use Rattle.line_output.specs.Printed.{Printed}
+use Rattle.buffers.specs.Printed.{Printed}
 use Rattle.streams.specs.Lines.{Program}
 use Rattle.streams.specs.Chunks.{fresh, feed, feedText}
 

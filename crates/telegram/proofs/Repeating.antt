@@ -14,7 +14,7 @@ use Rattle.refusal.specs.Number.{numberOf}
 use Rattle.refusal.specs.declared.Refusal.{Refusal}
 use Rattle.refusal.specs.declared.Refusal.the-variants.{Argument}
 use Rattle.erp1.specs.Status.{splitOf, joinOf, upperOf}
-use Rattle.erp1.specs.Subtelegram.{minLength, maxLength, bodyOf, statusOf, isLengthWrong, isAddressed, isValid, checkOf, hashOf, sealedOf}
+use Rattle.erp1.specs.Subtelegram.{minLength, maxLength, bodyOf, statusOf, isLengthWrong, isAddressed, isValid, checkOf, hashOf, sealedOf, beforeStatus}
 use Rattle.erp1.specs.Same.{isSame}
 use Rattle.erp1.proofs.Checks.{Sound, not-valid, status-at, front-at, check-plain, check-addressed}
 use Rattle.telegram.specs.Frame.{frameOf}
@@ -82,7 +82,7 @@ module _ (setting : ℕ) (s : List ℕ) where
 
 -- ---- what is sent
 
-front-length : (s : List ℕ) → 2 ≤ length s → length (bodyOf (bodyOf s)) ≡ length s - 2
+front-length : (s : List ℕ) → 2 ≤ length s → length (beforeStatus s) ≡ length s - 2
 front-length s h = rw (front-at s h) (length-take-le (length s - 2) s (omega arith))
 
 pub raised-length : (s : List ℕ) → 2 ≤ length s → length (raisedOf s) ≡ length s
@@ -144,7 +144,7 @@ raised-byte b h l = go (eqb (b / 128) 1) refl
 
 module _ (s : List ℕ) (v : Sound s) where
   abbrev front : List ℕ
-  front = bodyOf (bodyOf s)
+  front = beforeStatus s
 
   abbrev sent : ℕ
   sent = joinOf (raise (splitOf (statusOf s)))
@@ -161,7 +161,7 @@ module _ (s : List ℕ) (v : Sound s) where
   raised-status : statusOf (raisedOf s) ≡ sent
   raised-status = rw raised-body (last-more front sent)
 
-  raised-front : bodyOf (bodyOf (raisedOf s)) ≡ front
+  raised-front : beforeStatus (raisedOf s) ≡ front
   raised-front = rw raised-body (body-more front sent)
 
   -- every byte before STATUS is the same

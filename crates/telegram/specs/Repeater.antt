@@ -9,7 +9,7 @@ use Rattle.refusal.specs.Number.{numberOf}
 use Rattle.refusal.specs.declared.Refusal.the-variants.{Argument}
 use Rattle.erp1.specs.declared.status.Status.{Status}
 use Rattle.erp1.specs.Status.{splitOf, joinOf}
-use Rattle.erp1.specs.Subtelegram.{bodyOf, checkOf, checkedNumber, isLengthWrong, isValid, sealedOf, statusOf}
+use Rattle.erp1.specs.Subtelegram.{checkOf, checkedNumber, isLengthWrong, isValid, sealedOf, statusOf, beforeStatus}
 use Rattle.erp1.specs.Same.{isSame}
 use Rattle.telegram.specs.declared.frame.Frame.{Frame}
 use Rattle.telegram.specs.declared.repeater.Repeated.{Repeated}
@@ -33,7 +33,7 @@ raise s = record { level = s .level + 1; flags = s .flags; crc = s .crc }
 
 -- the telegram sent: it differs in level, raised by one, and HASH only
 abbrev pub raisedOf : List ℕ → List ℕ
-raisedOf s = sealedOf (bodyOf (bodyOf s) ++ (joinOf (raise (splitOf (statusOf s))) ∷ []))
+raisedOf s = sealedOf (beforeStatus s ++ (joinOf (raise (splitOf (statusOf s))) ∷ []))
 
 -- what a repeater with this setting sends for bytes that need no check: no bytes for nothing
 unfoldable pub relayOf : ℕ → List ℕ → List ℕ

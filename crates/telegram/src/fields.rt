@@ -3,10 +3,10 @@ ghost use mathlib.Core.Path.{_≡_};
 ghost use Prim.Native.Nat.{_+_, _≤_};
 ghost use lib.ListN.{length};
 ghost use Rattle.lists.specs.Lists.{padded};
-ghost use Rattle.erp1.specs.Subtelegram.{checkedNumber};
+ghost use Rattle.erp1.specs.Subtelegram.{minLength, maxLength, minAddressedLength, checkedNumber};
 ghost use Rattle.telegram.specs.Frame.{frameOf, Extended};
 ghost use Rattle.telegram.specs.Output.{resultOf};
-ghost use Rattle.telegram.specs.Fields.{noTelegram, plainFields, addressedFields, readingOf, readOf, admissionOf, Buildable, headOf, idsOf, bytesOf, buildOf};
+ghost use Rattle.telegram.specs.Fields.{maxData, noTelegram, plainFields, addressedFields, readingOf, readOf, admissionOf, Buildable, headOf, idsOf, bytesOf, buildOf};
 use crate::frame;
 use crate::frame::Built;
 use crate::frame::Frame;
@@ -78,7 +78,7 @@ pub fn build(t: Telegram, out: &mut [u8]) -> Built
 
 // The fields of a plain subtelegram: RORG, DATA, TXID, STATUS, HASH.
 fn plain_fields(s: &[u8]) -> Telegram
-    requires { ⌜ (8 ≤ length (now s)) × (length (now s) ≤ 21) ⌝ }
+    requires { ⌜ (minLength ≤ length (now s)) × (length (now s) ≤ maxLength) ⌝ }
     ensures { λ r. ⌜ r ≡ plainFields (now (s .entry)) ⌝ }
 {
     let n = s.len();
@@ -99,7 +99,7 @@ fn plain_fields(s: &[u8]) -> Telegram
 
 // The fields of an addressed subtelegram: 0xA6, RORG, DATA, DESTID, TXID, STATUS, HASH.
 fn addressed_fields(s: &[u8]) -> Telegram
-    requires { ⌜ (13 ≤ length (now s)) × (length (now s) ≤ 21) ⌝ }
+    requires { ⌜ (minAddressedLength ≤ length (now s)) × (length (now s) ≤ maxLength) ⌝ }
     ensures { λ r. ⌜ r ≡ addressedFields (now (s .entry)) ⌝ }
 {
     let n = s.len();
@@ -122,8 +122,8 @@ fn addressed_fields(s: &[u8]) -> Telegram
 
 // DATA, zero filled.
 fn payload_of(part: &[u8]) -> [u8; MAX_DATA]
-    requires { ⌜ length (now part) ≤ 14 ⌝ }
-    ensures { λ r. ⌜ r ≡ padded 14 (now (part .entry)) ⌝ }
+    requires { ⌜ length (now part) ≤ maxData ⌝ }
+    ensures { λ r. ⌜ r ≡ padded maxData (now (part .entry)) ⌝ }
 {
     let mut payload = [0u8; MAX_DATA];
     bytes::copy(part, &mut payload);
@@ -199,7 +199,7 @@ fn head(t: Telegram) -> Frame
 
 // The frame with the IDs more: DESTID if addressed, and TXID.
 fn with_ids(f: Frame, t: Telegram) -> Frame
-    requires { ⌜ f .len + length (idsOf t) ≤ 21 ⌝ }
+    requires { ⌜ f .len + length (idsOf t) ≤ maxLength ⌝ }
     ensures { λ r. ⌜ Extended f r (idsOf t) ⌝ }
 {
     let destid = t.destid;

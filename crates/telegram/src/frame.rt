@@ -3,7 +3,7 @@ ghost use mathlib.Core.Path.{_≡_};
 ghost use mathlib.Core.List.{List, [], _∷_};
 ghost use Prim.Native.Nat.{ℕ, _+_, _≤_, _<_};
 ghost use lib.ListN.{length};
-ghost use Rattle.erp1.specs.Subtelegram.{sealedOf};
+ghost use Rattle.erp1.specs.Subtelegram.{maxLength, sealedOf};
 ghost use Rattle.telegram.specs.Frame.{frameOf, Extended};
 ghost use Rattle.telegram.specs.Output.{resultOf, putOf};
 use refusal::Refusal;
@@ -32,7 +32,7 @@ impl Frame {
 
     // One byte more.
     pub(crate) fn push(self, b: u8) -> Frame
-        requires { ⌜ self .len < 21 ⌝ }
+        requires { ⌜ self .len < maxLength ⌝ }
         ensures { λ r. ⌜ Extended self r (b ∷ []) ⌝ }
     {
         let at = self.len;
@@ -46,7 +46,7 @@ impl Frame {
 
     // All of `src` more.
     pub(crate) fn append(self, src: &[u8]) -> Frame
-        requires { ⌜ self .len + length (now src) ≤ 21 ⌝ }
+        requires { ⌜ self .len + length (now src) ≤ maxLength ⌝ }
         ensures { λ r. ⌜ Extended self r (now (src .entry)) ⌝ }
     {
         let at = self.len;
@@ -60,7 +60,7 @@ impl Frame {
 
     // HASH over all the bytes, put after them.
     pub(crate) fn sealed(self) -> Frame
-        requires { ⌜ self .len < 21 ⌝ }
+        requires { ⌜ self .len < maxLength ⌝ }
         ensures { λ r. ⌜ ((xs : List ℕ) → self ≡ frameOf xs → r ≡ frameOf (sealedOf xs)) ⌝ }
     {
         let n = self.len;
@@ -72,7 +72,7 @@ impl Frame {
 
 // Copies a frame to the front of `out`, which may be too short for it.
 pub(crate) fn emit(f: Frame, out: &mut [u8]) -> Built
-    requires { ⌜ f .len ≤ 21 ⌝ }
+    requires { ⌜ f .len ≤ maxLength ⌝ }
     ensures { λ r. ⌜ ((xs : List ℕ) → f ≡ frameOf xs → resultOf r (now (out .exit)) ≡ putOf xs (now (out .entry))) ⌝ }
 {
     let n = f.len;

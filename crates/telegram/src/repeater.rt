@@ -4,6 +4,7 @@ ghost use Prim.Native.Nat.{_≤_, _<_};
 ghost use lib.ListN.{length};
 ghost use Rattle.refusal.specs.Number.{numberOf};
 ghost use Rattle.erp1.specs.Status.{splitOf, joinOf};
+ghost use Rattle.erp1.specs.Subtelegram.{minLength};
 ghost use Rattle.telegram.specs.Output.{written};
 ghost use Rattle.telegram.specs.Repeater.{repeats as repeating, raise, raisedOf, relayOf, repeatedOf, notRepeated, repeatResult};
 use crate::frame::Frame;
@@ -80,7 +81,7 @@ fn repeats(setting: u8, level: u8) -> bool
 
 // Writes what is sent for a subtelegram of this length to the front of `out`: another STATUS and HASH.
 fn put_raised(bytes: &[u8], out: &mut [u8])
-    requires { ⌜ (8 ≤ length (now bytes)) × (length (now bytes) ≤ length (now out)) ⌝ }
+    requires { ⌜ (minLength ≤ length (now bytes)) × (length (now bytes) ≤ length (now out)) ⌝ }
     ensures { λ _. ⌜ now (out .exit) ≡ written (raisedOf (now (bytes .entry))) (now (out .entry)) .output ⌝ }
 {
     let at = bytes.len() - 2;

@@ -8,9 +8,8 @@ use borrow.Author.Tests.{not-true, not-false}
 use denote.Ref.{now}
 use Rattle.lists.specs.Lists.{all}
 use Rattle.layout.specs.Cell.{cellLength}
-use Rattle.layout.specs.Header.{headerLength}
-use Rattle.layout.specs.Block.{blockCell}
-use Rattle.layout.proofs.Segments.{part-length}
+use Rattle.layout.specs.Block.{headerLength, blockCell}
+use Rattle.buffers.proofs.Segments.{part-length}
 use Rattle.archive.specs.Archive.{isWritten, cellsFrom}
 use Rattle.archive.proofs.Tested.{cells-first, cells-next, cells-none}
 use Rattle.archive.proofs.are_written.Statement.{statement}

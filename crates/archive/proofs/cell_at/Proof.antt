@@ -2,8 +2,8 @@
 use Prim.Native.Nat.{_+_, _*_}
 use borrow.Author.Needs.{needs}
 use Rattle.layout.specs.Cell.{cellLength}
-use Rattle.layout.specs.Header.{headerLength}
-use Rattle.layout.proofs.Segments.{part-ends}
+use Rattle.layout.specs.Block.{headerLength}
+use Rattle.buffers.proofs.Segments.{part-ends}
 use Rattle.archive.proofs.cell_at.Statement.{statement}
 use Rattle.archive.proofs.cell_at.Tie as tie
 

@@ -7,7 +7,7 @@ use borrow.Author.Needs.{needs}
 use borrow.Author.Tests.{not-true, not-false}
 use denote.Ref.{now}
 use lib.Dec.{eqb}
-use Rattle.layout.specs.Buffer.{part}
+use Rattle.buffers.specs.Buffer.{part}
 use Rattle.layout.specs.Cell.{cellUsed, cellCapacity, cellLast}
 use Rattle.archive_model.specs.Row.{isBlank}
 use Rattle.archive.proofs.Tested.{written-long, written-rest, written-last, written-row}

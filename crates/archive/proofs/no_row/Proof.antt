@@ -1,6 +1,6 @@
 -- `archive::no_row` meets its contract. Assumes nothing.
 use mathlib.Core.Path.{refl}
-use Rattle.layout.specs.Buffer.{resized}
+use Rattle.buffers.specs.Buffer.{resized}
 use Rattle.archive.specs.Archive.{readResult}
 use Rattle.archive.proofs.no_row.Statement.{statement}
 use Rattle.archive.proofs.no_row.Tie as tie

@@ -5,7 +5,7 @@ use borrow.Author.Needs.{needs}
 use denote.Ref.{now}
 use lib.ListN.{length-take}
 use lib.Seq.{take-all}
-use Rattle.layout.specs.Buffer.{part}
+use Rattle.buffers.specs.Buffer.{part}
 use Rattle.layout.specs.BigEndian.{unbe}
 use Rattle.archive.proofs.number_of.Statement.{statement}
 use Rattle.archive.proofs.number_of.Tie as tie

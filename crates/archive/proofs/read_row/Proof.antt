@@ -8,11 +8,11 @@ use borrow.Author.Needs.{needs}
 use borrow.Author.Tests.{lt-ltb, le-ltb}
 use denote.Ref.{now}
 use lib.ListN.{length}
-use Rattle.layout.specs.Buffer.{resized}
+use Rattle.buffers.specs.Buffer.{resized}
 use Rattle.layout.specs.Cell.{cellLength, cellCapacity, cellTime, cellUsed, cellField, cellBytes}
-use Rattle.layout.specs.Header.{headerLength}
-use Rattle.layout.proofs.Segments.{part-length}
-use Rattle.layout.proofs.Buffer.{resized-whole}
+use Rattle.layout.specs.Block.{headerLength}
+use Rattle.buffers.proofs.Segments.{part-length}
+use Rattle.buffers.proofs.Buffer.{resized-whole}
 use Rattle.archive_model.specs.Row.{Row, rowCount, rowIn}
 use Rattle.archive.specs.Archive.{readResult, rowOf}
 use Rattle.archive.proofs.read_row.Statement.{statement}

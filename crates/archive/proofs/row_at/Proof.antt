@@ -9,7 +9,7 @@ use borrow.Author.Tests.{not-true, not-false}
 use denote.Ref.{now}
 use lib.ListN.{length}
 use Rattle.layout.specs.Block.{cellsPerBlock, blockLength}
-use Rattle.layout.proofs.Segments.{part-length, part-ends}
+use Rattle.buffers.proofs.Segments.{part-length, part-ends}
 use Rattle.archive_model.specs.Buffer.{isWhole}
 use Rattle.archive.specs.Archive.{rowInBlock}
 use Rattle.archive.proofs.Calls.{row-size, row-out, row-in}

@@ -6,7 +6,7 @@ use native.Mathlib.Omega.{arith}
 use denote.Ref.{now}
 use lib.ListN.{length}
 use Rattle.layout.specs.Block.{cellsPerBlock, blockLength}
-use Rattle.layout.proofs.Segments.{part-length, part-ends}
+use Rattle.buffers.proofs.Segments.{part-length, part-ends}
 use Rattle.archive_model.specs.Buffer as buffer
 use Rattle.archive.specs.Archive.{scanOf, blocksFrom}
 use Rattle.archive.proofs.Scans.{blocks-next, rest-first, rest-next, rest-none}

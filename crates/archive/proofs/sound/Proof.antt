@@ -7,10 +7,9 @@ use borrow.Author.Needs.{needs}
 use borrow.Author.Tests.{not-true, not-false}
 use denote.Ref.{now}
 use Rattle.lists.specs.Lists.{all}
-use Rattle.layout.specs.Buffer.{part}
+use Rattle.buffers.specs.Buffer.{part}
 use Rattle.layout.specs.Cell.{cellLength}
-use Rattle.layout.specs.Header.{headerLength}
-use Rattle.layout.specs.Block.{bodyLength}
+use Rattle.layout.specs.Block.{headerLength, bodyLength}
 use Rattle.archive_model.specs.Row.{rowCount, isBlank}
 use Rattle.archive.specs.Archive.{isWritten, cellsFrom}
 use Rattle.archive.proofs.Tested.{other-length, count-low, count-high, not-sound, fails, sound-gap, sound-cells, sound-zeros, sound-crc, tested}

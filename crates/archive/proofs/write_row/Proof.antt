@@ -7,10 +7,9 @@ use native.Mathlib.Omega.{arith}
 use borrow.Author.Needs.{needs}
 use denote.Ref.{now}
 use Rattle.layout.specs.Cell.{cellLength, cellOf}
-use Rattle.layout.specs.Header.{headerLength}
-use Rattle.layout.specs.Block.{cellsPerBlock, bodyLength, sealed}
-use Rattle.layout.specs.Buffer.{part}
-use Rattle.layout.proofs.Segments.{Writing, packed, begin, lend, lent, skip}
+use Rattle.layout.specs.Block.{headerLength, cellsPerBlock, bodyLength, sealed}
+use Rattle.buffers.specs.Buffer.{part}
+use Rattle.buffers.proofs.Segments.{Writing, packed, begin, lend, lent, skip}
 use Rattle.layout.proofs.Cell.{put-fits}
 use Rattle.layout.proofs.Block.{seal-front}
 use Rattle.archive_model.specs.Row.{rowLast, rowsHeader}

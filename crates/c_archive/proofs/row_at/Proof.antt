@@ -5,8 +5,8 @@ use native.Mathlib.Omega.{arith}
 use borrow.Author.Needs.{needs}
 use denote.Ref.{now}
 use lib.ListN.{length, take}
-use Rattle.layout.proofs.Segments.{Writing, packed, begin, begun-length, within, lent, store, lend, done}
-use Rattle.layout.proofs.Buffer.{overwritten-fits}
+use Rattle.buffers.proofs.Segments.{Writing, packed, begin, begun-length, within, lent, store, lend, done}
+use Rattle.buffers.proofs.Buffer.{overwritten-fits}
 use Rattle.archive_model.specs.Append.{ReadRow}
 use Rattle.archive.specs.Archive.{readResult}
 use Rattle.c_layout.specs.Frame.{frameLength, frameBytes}

@@ -3,7 +3,7 @@ use mathlib.Core.Path.{_≡_, _∙_, ap, ap₂}
 use native.Mathlib.Omega.{arith}
 use borrow.Author.Needs.{needs}
 use denote.Ref.{now}
-use Rattle.layout.proofs.Buffer.{overwritten-fits}
+use Rattle.buffers.proofs.Buffer.{overwritten-fits}
 use Rattle.telegram.specs.declared.frame.Frame.{Frame}
 use Rattle.telegram.specs.Repeater.{RepeatResult, repeatResult}
 use Rattle.c_layout.specs.Frame.{frameLength, frameBytes}

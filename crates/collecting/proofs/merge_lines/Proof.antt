@@ -19,7 +19,7 @@ use Rattle.line_input.specs.Reading.{readingOf, reception, frontOf, lineOf, byt
 use Rattle.line_input.proofs.Answers.{len-fits, bytes-fill, said-open, said-ended, said-bad, said-reception}
 use Rattle.line_input.proofs.Whole.{said}
 use Rattle.line_output.specs.Text.{decimalText}
-use Rattle.line_output.proofs.Stores.{take-rest, if-fits}
+use Rattle.buffers.proofs.Stores.{take-rest, if-fits}
 use Rattle.streams.specs.Collect.{running, collect}
 use Rattle.streams.specs.Buffer.{Fed}
 use Rattle.streams.proofs.Segments.{open-whole}

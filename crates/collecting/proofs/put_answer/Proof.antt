@@ -10,7 +10,7 @@ use Rattle.telegram.specs.Output.{Result}
 use Rattle.telegram.proofs.Frames.{written-length}
 use Rattle.model.specs.Answer.{shownOf}
 use Rattle.collector.specs.Merging.{relayedFor}
-use Rattle.line_output.proofs.Stores.{within, if-fits}
+use Rattle.buffers.proofs.Stores.{loosened, if-fits}
 use Rattle.collecting.proofs.Taking.{relayed-short, sent-front}
 use Rattle.collecting.proofs.put_answer.Statement.{statement}
 use Rattle.collecting.proofs.put_answer.Tie as tie
@@ -42,7 +42,7 @@ returns c =
     let k = r .before .before in
     let z : k .relay-kept .result - 0 ≡ k .relay-kept .result = omega arith in
     let w = rw (r .row-of .ensures, z, front k .1) at (if-fits (omega (arith, front k .0, short k)) (q .put-row .ensures)) in
-    within w (omega (arith, short k))
+    loosened w (omega (arith, short k))
 
 pub put-answer-spec : {M : Type 1} → statement M
 put-answer-spec =

@@ -2,7 +2,7 @@
 use mathlib.Core.Path.{refl}
 use native.Mathlib.Omega.{arith}
 use borrow.Author.Needs.{needs}
-use Rattle.line_output.proofs.Stores.{within, if-fits}
+use Rattle.buffers.proofs.Stores.{loosened, if-fits}
 use Rattle.collecting.proofs.put_first.Statement.{statement}
 use Rattle.collecting.proofs.put_first.Tie as tie
 
@@ -11,7 +11,7 @@ returns c = rw (c .enum-told .given .1) (record { bytes = refl; next = refl; sho
 
 returns-2 : tie.Need-returns-2
 returns-2 c =
-    rw (c .before .before .before .before .enum-told2 .given .1) (within (if-fits (omega arith) (c .before .before .put-bad .ensures)) (omega arith))
+    rw (c .before .before .before .before .enum-told2 .given .1) (loosened (if-fits (omega arith) (c .before .before .put-bad .ensures)) (omega arith))
 
 pub put-first-spec : {M : Type 1} → statement M
 put-first-spec =

@@ -4,7 +4,7 @@ use mathlib.Core.List.{[]}
 use native.Mathlib.Omega.{arith}
 use borrow.Author.Needs.{needs}
 use denote.Ref.{now}
-use Rattle.line_output.specs.Printed.{Printed}
+use Rattle.buffers.specs.Printed.{Printed}
 use Rattle.streams.specs.Collect.{over}
 use Rattle.collecting.proofs.Taking.{none-taken, no-line, one-line}
 use Rattle.collecting.proofs.skip_line.Statement.{statement}

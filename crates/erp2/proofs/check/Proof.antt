@@ -7,7 +7,7 @@ use borrow.Author.Needs.{needs}
 use denote.Ref.{now}
 use lib.ListN.{length, getD}
 use Rattle.crc8.specs.Crc8.{crcOf}
-use Rattle.layout.specs.Buffer.{part}
+use Rattle.buffers.specs.Buffer.{part}
 use Rattle.erp2_model.specs.declared.Header.{Header}
 use Rattle.erp2_model.specs.Sizes.{overhead, longSizes}
 use Rattle.erp2_model.specs.Reading.{lengthByte, headerIn}

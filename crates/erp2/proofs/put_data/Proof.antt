@@ -5,8 +5,8 @@ use native.Mathlib.Omega.{arith}
 use borrow.Author.Needs.{needs}
 use denote.Ref.{now}
 use lib.ListN.{length}
-use Rattle.layout.specs.Buffer.{part, resized}
-use Rattle.layout.proofs.Segments.{Writing, packed, begin, lend-sized, done}
+use Rattle.buffers.specs.Buffer.{part, resized}
+use Rattle.buffers.proofs.Segments.{Writing, packed, begin, lend-sized, done}
 use Rattle.erp2.proofs.Rows.{data-is}
 use Rattle.erp2.proofs.put_data.Statement.{statement}
 use Rattle.erp2.proofs.put_data.Tie as tie

@@ -5,7 +5,7 @@ use native.Mathlib.Omega.{arith}
 use borrow.Author.Needs.{needs}
 use denote.Ref.{now}
 use Rattle.layout.specs.BigEndian.{be}
-use Rattle.layout.proofs.Segments.{Writing, packed, begin, store, lend-sized, done, within, begun-length}
+use Rattle.buffers.proofs.Segments.{Writing, packed, begin, store, lend-sized, done, within, begun-length}
 use Rattle.erp2_model.specs.declared.Sizes.{Sizes}
 use Rattle.erp2.proofs.Rows.{head-is}
 use Rattle.erp2.proofs.put_head.Statement.{statement}

@@ -5,7 +5,7 @@ use native.Mathlib.Omega.{arith}
 use borrow.Author.Needs.{needs}
 use denote.Ref.{now}
 use Rattle.layout.specs.BigEndian.{be}
-use Rattle.layout.proofs.Segments.{Writing, packed, begin, lend-sized, done}
+use Rattle.buffers.proofs.Segments.{Writing, packed, begin, lend-sized, done}
 use Rattle.erp2.proofs.Rows.{ids-is}
 use Rattle.erp2.proofs.put_ids.Statement.{statement}
 use Rattle.erp2.proofs.put_ids.Tie as tie

@@ -5,7 +5,7 @@ use native.Mathlib.Omega.{arith}
 use borrow.Author.Needs.{needs}
 use denote.Ref.{now}
 use lib.ListN.{length-set}
-use Rattle.layout.proofs.Segments.{Writing, packed, begin, lend, lent, within, begun-length}
+use Rattle.buffers.proofs.Segments.{Writing, packed, begin, lend, lent, within, begun-length}
 use Rattle.erp2_model.specs.declared.Telegram.{Telegram}
 use Rattle.erp2_model.specs.declared.Sizes.{Sizes}
 use Rattle.erp2_model.specs.Sizes.{overhead}

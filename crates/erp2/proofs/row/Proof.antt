@@ -5,9 +5,9 @@ use denote.Ref.{now}
 use lib.ListN.{take, drop}
 use lib.Seq.{take-all}
 use Rattle.lists.specs.Lists.{padded}
-use Rattle.layout.specs.Buffer.{part}
+use Rattle.buffers.specs.Buffer.{part}
 use Rattle.layout.specs.BigEndian.{unbe}
-use Rattle.layout.proofs.Segments.{part-ends}
+use Rattle.buffers.proofs.Segments.{part-ends}
 use Rattle.erp2_model.specs.Header.{headerOf}
 use Rattle.erp2_model.specs.Sizes.{extensionAt, subtypeAt, originatorAt, destinationAt, payloadAt}
 use Rattle.erp2.proofs.Parts.{take-short, part-short}

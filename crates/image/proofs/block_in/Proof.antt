@@ -2,7 +2,7 @@
 use Prim.Native.Nat.{_*_}
 use borrow.Author.Needs.{needs}
 use Rattle.layout.specs.Block.{blockLength}
-use Rattle.layout.proofs.Segments.{part-ends}
+use Rattle.buffers.proofs.Segments.{part-ends}
 use Rattle.image.proofs.block_in.Statement.{statement}
 use Rattle.image.proofs.block_in.Tie as tie
 

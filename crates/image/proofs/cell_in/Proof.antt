@@ -6,9 +6,8 @@ use borrow.Author.Needs.{needs}
 use denote.Ref.{now}
 use lib.ListN.{length}
 use Rattle.layout.specs.Cell.{cellLength}
-use Rattle.layout.specs.Header.{headerLength}
-use Rattle.layout.specs.Block.{cellsPerBlock, blockLength, blockCell}
-use Rattle.layout.proofs.Segments.{part-ends}
+use Rattle.layout.specs.Block.{headerLength, cellsPerBlock, blockLength, blockCell}
+use Rattle.buffers.proofs.Segments.{part-ends}
 use Rattle.image.proofs.Reading.{block-long}
 use Rattle.image.proofs.cell_in.Statement.{statement}
 use Rattle.image.proofs.cell_in.Tie as tie

@@ -1,10 +1,10 @@
 -- `image::first_in` meets its contract. Assumes nothing.
 use mathlib.Core.Path.{ap, _∙_}
 use borrow.Author.Needs.{needs}
-use Rattle.layout.specs.Header.{headerFirst}
+use Rattle.model.specs.Header.{headerFirst}
 use Rattle.image.proofs.first_in.Statement.{statement}
 use Rattle.image.proofs.first_in.Tie as tie
 
 pub first-in-spec : {M : Type 1} → statement M
 first-in-spec =
-    tie.close (tie.spec (λ c κs. search needs) (λ c κs. search needs) (λ c. c .header-first .ensures ∙ ap headerFirst (c .before .header-in .ensures)))
+    tie.close (tie.spec (λ c κs. search needs) (λ c κs. search needs) (λ c. c .number-at .ensures ∙ ap headerFirst (c .before .header-in .ensures)))

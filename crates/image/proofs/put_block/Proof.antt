@@ -6,11 +6,11 @@ use Prim.Native.Nat.{_*_}
 use native.Mathlib.Omega.{arith}
 use borrow.Author.Needs.{needs}
 use denote.Ref.{now}
-use Rattle.layout.specs.Header.{headerLength, headerOf}
-use Rattle.layout.specs.Block.{cellsPerBlock, bodyLength}
-use Rattle.layout.proofs.Segments.{Writing, packed, begin, lend, lent}
-use Rattle.layout.proofs.Buffer.{overwritten-fits}
-use Rattle.layout.proofs.Header.{header-length}
+use Rattle.model.specs.Header.{headerOf}
+use Rattle.layout.specs.Block.{headerLength, cellsPerBlock, bodyLength}
+use Rattle.buffers.proofs.Segments.{Writing, packed, begin, lend, lent}
+use Rattle.buffers.proofs.Buffer.{overwritten-fits}
+use Rattle.model.proofs.Header.{header-length}
 use Rattle.layout.proofs.Block.{seal-written}
 use Rattle.model.specs.Image.{entryCell}
 use Rattle.collector.specs.Collector.{Columns, columns}

@@ -8,10 +8,10 @@ use borrow.Author.Needs.{needs}
 use denote.Ref.{now}
 use lib.ListN.{length, getD, take, length-map}
 use Rattle.erp1.specs.Subtelegram.{maxLength}
-use Rattle.layout.specs.Buffer.{part}
+use Rattle.buffers.specs.Buffer.{part}
 use Rattle.layout.specs.Cell.{cellLength, cellOf}
-use Rattle.layout.proofs.Segments.{Writing, packed, Begun, begin, begun-length, within, lent, turn, turned, wipe, done}
-use Rattle.layout.proofs.Buffer.{resized-length}
+use Rattle.buffers.proofs.Segments.{Writing, packed, Begun, begin, begun-length, within, lent, turn, turned, wipe, done}
+use Rattle.buffers.proofs.Buffer.{resized-length}
 use Rattle.layout.proofs.Cell.{put-fits}
 use Rattle.model.specs.Image.{entryCell}
 use Rattle.image.specs.Checkpoint.{cellsLength, entriesFrom}

@@ -5,9 +5,9 @@ use mathlib.Core.List.{List, [], _∷_, _++_, flatten}
 use Prim.Native.Nat.{ℕ, zero, suc, _+_, _-_, _*_, _≤_, _<_}
 use native.Mathlib.Omega.{arith}
 use lib.ListN.{length, getD, take, drop}
-use Rattle.layout.specs.Buffer.{part}
+use Rattle.buffers.specs.Buffer.{part}
 use Rattle.layout.specs.Block.{blockLength}
-use Rattle.layout.proofs.Segments.{Begun, begin, begun-length, within, lent, turn, turned}
+use Rattle.buffers.proofs.Segments.{Begun, begin, begun-length, within, lent, turn, turned}
 use Rattle.model.specs.View.{Entry}
 use Rattle.model.specs.Image.{blockAt, imageWith}
 use Rattle.collector.specs.Collector.{columns, entriesAt}

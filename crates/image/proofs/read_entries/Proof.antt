@@ -4,9 +4,9 @@ use mathlib.Core.Path.{refl, ap, ap₂, _∙_}
 use Prim.Native.Nat.{_-_, _≤_}
 use native.Mathlib.Omega.{arith}
 use borrow.Author.Needs.{needs}
-use Rattle.layout.specs.Buffer.{resized}
+use Rattle.buffers.specs.Buffer.{resized}
 use Rattle.layout.specs.Cell.{cellTime, cellUsed, cellField, cellLast}
-use Rattle.layout.proofs.Segments.{begun-length, within}
+use Rattle.buffers.proofs.Segments.{begun-length, within}
 use Rattle.collector.specs.Collector.{columns}
 use Rattle.image.proofs.Reading.{Reading, reading-none, reading-more, reading-all}
 use Rattle.image.proofs.read_entries.Statement.{statement}

@@ -1,10 +1,10 @@
 -- `image::second_in` meets its contract. Assumes nothing.
 use mathlib.Core.Path.{ap, _∙_}
 use borrow.Author.Needs.{needs}
-use Rattle.layout.specs.Header.{headerSecond}
+use Rattle.model.specs.Header.{headerSecond}
 use Rattle.image.proofs.second_in.Statement.{statement}
 use Rattle.image.proofs.second_in.Tie as tie
 
 pub second-in-spec : {M : Type 1} → statement M
 second-in-spec =
-    tie.close (tie.spec (λ c κs. search needs) (λ c κs. search needs) (λ c. c .header-second .ensures ∙ ap headerSecond (c .before .header-in .ensures)))
+    tie.close (tie.spec (λ c κs. search needs) (λ c κs. search needs) (λ c. c .number-at .ensures ∙ ap headerSecond (c .before .header-in .ensures)))

@@ -2,7 +2,7 @@
 use mathlib.Core.Path.{ap, _∙_}
 use native.Mathlib.Omega.{arith}
 use borrow.Author.Needs.{needs}
-use Rattle.layout.specs.Header.{headerUsed}
+use Rattle.model.specs.Header.{headerUsed}
 use Rattle.image.proofs.used_in.Statement.{statement}
 use Rattle.image.proofs.used_in.Tie as tie
 
@@ -13,4 +13,4 @@ used-in-spec =
     (λ c κs. search needs)
     (λ c κs. search needs)
     (λ c. search needs)
-    (λ c. (c .header-used .ensures ∙ ap headerUsed (c .before .header-in .ensures), omega arith)))
+    (λ c. (c .byte-at .ensures ∙ ap headerUsed (c .before .header-in .ensures), omega arith)))

@@ -7,11 +7,11 @@ use borrow.Author.Needs.{needs}
 use denote.Ref.{now}
 use lib.ListN.{length, take, drop, length-take}
 use lib.Seq.{take-all}
-use Rattle.layout.specs.Buffer.{part}
+use Rattle.buffers.specs.Buffer.{part}
 use Rattle.layout.specs.BigEndian.{unbe}
 use Rattle.layout.specs.Cell.{cellLast}
 use Rattle.layout.proofs.BigEndian.{field-lt}
-use Rattle.layout.proofs.Segments.{part-clamped}
+use Rattle.buffers.proofs.Segments.{part-clamped}
 use Rattle.layout.proofs.cell_last.Statement.{statement}
 use Rattle.layout.proofs.cell_last.Tie as tie
 

@@ -5,7 +5,7 @@ use Prim.Native.Nat.{_-_, _≤_}
 use native.Mathlib.Omega.{arith}
 use denote.Ref.{now}
 use lib.ListN.{length, replicate}
-use Rattle.layout.proofs.Segments.{Begun, begin, begun-length, done, fill}
+use Rattle.buffers.proofs.Segments.{Begun, begin, begun-length, done, fill}
 use Rattle.layout.proofs.clear.Statement.{statement}
 use Rattle.layout.proofs.clear.Tie as tie
 

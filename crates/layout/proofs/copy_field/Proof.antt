@@ -5,9 +5,9 @@ use Prim.Native.Nat.{ℕ, _-_, min}
 use borrow.Author.Needs.{needs}
 use denote.Ref.{now}
 use lib.ListN.{length, take, drop}
-use Rattle.layout.specs.Buffer.{resized}
+use Rattle.buffers.specs.Buffer.{resized}
 use Rattle.layout.specs.Cell.{cellField}
-use Rattle.layout.proofs.Segments.{part-clamped}
+use Rattle.buffers.proofs.Segments.{part-clamped}
 use Rattle.layout.proofs.copy_field.Statement.{statement}
 use Rattle.layout.proofs.copy_field.Tie as tie
 

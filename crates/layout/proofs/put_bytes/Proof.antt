@@ -7,9 +7,9 @@ use native.Mathlib.Omega.{arith}
 use borrow.Author.Needs.{needs}
 use denote.Ref.{now}
 use lib.ListN.{length}
-use Rattle.layout.specs.Buffer.{resized}
-use Rattle.layout.proofs.Buffer.{resized-more}
-use Rattle.layout.proofs.Segments.{Begun, begin, begun-length, named, store, done}
+use Rattle.buffers.specs.Buffer.{resized}
+use Rattle.buffers.proofs.Buffer.{resized-more}
+use Rattle.buffers.proofs.Segments.{Begun, begin, begun-length, named, store, done}
 use Rattle.layout.proofs.put_bytes.Statement.{statement}
 use Rattle.layout.proofs.put_bytes.Tie as tie
 

@@ -6,11 +6,11 @@ use native.Mathlib.Omega.{arith}
 use borrow.Author.Needs.{needs}
 use denote.Ref.{now}
 use lib.ListN.{length}
-use Rattle.layout.specs.Buffer.{resized}
+use Rattle.buffers.specs.Buffer.{resized}
 use Rattle.layout.specs.BigEndian.{be}
 use Rattle.layout.specs.Cell.{cellCapacity, cellOf}
-use Rattle.layout.proofs.Segments.{Writing, packed, begin, begun-length, within, store, lend-sized, done}
-use Rattle.layout.proofs.Buffer.{resized-padded}
+use Rattle.buffers.proofs.Segments.{Writing, packed, begin, begun-length, within, store, lend-sized, done}
+use Rattle.buffers.proofs.Buffer.{resized-padded}
 use Rattle.layout.proofs.Cell.{put-fits, put-long, put-other}
 use Rattle.layout.proofs.put_cell.Statement.{statement}
 use Rattle.layout.proofs.put_cell.Tie as tie

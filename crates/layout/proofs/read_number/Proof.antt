@@ -7,7 +7,7 @@ use borrow.Author.Needs.{needs}
 use denote.Ref.{now}
 use lib.ListN.{length, take}
 use Rattle.layout.specs.BigEndian.{unbe, unbeFrom}
-use Rattle.layout.proofs.Segments.{take-clamped}
+use Rattle.buffers.proofs.Segments.{take-clamped}
 use Rattle.layout.proofs.BigEndian.{unbe-more, digit-lt, eight-lt}
 use Rattle.layout.proofs.read_number.Statement.{statement}
 use Rattle.layout.proofs.read_number.Tie as tie

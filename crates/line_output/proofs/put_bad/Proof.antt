@@ -8,7 +8,7 @@ use denote.Ref.{now}
 use lib.Dec.{leb}
 use lib.ListN.{length}
 use Rattle.line_output.specs.Text.{badText}
-use Rattle.line_output.proofs.Stores.{not-fitting, fitting}
+use Rattle.buffers.proofs.Stores.{not-fitting, fitting}
 use Rattle.line_output.proofs.put_bad.Statement.{statement}
 use Rattle.line_output.proofs.put_bad.Tie as tie
 

@@ -8,8 +8,8 @@ use denote.Ref.{now}
 use lib.Dec.{leb}
 use lib.ListN.{length}
 use Rattle.line_output.specs.Text.{rowBehind}
-use Rattle.line_output.specs.Printed.{longestRow}
-use Rattle.line_output.proofs.Stores.{not-fitting, fitting}
+use Rattle.line_output.specs.Longest.{longestRow}
+use Rattle.buffers.proofs.Stores.{not-fitting, fitting}
 use Rattle.line_output.proofs.put_row.Statement.{statement}
 use Rattle.line_output.proofs.put_row.Tie as tie
 

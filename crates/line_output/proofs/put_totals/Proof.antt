@@ -8,8 +8,8 @@ use denote.Ref.{now}
 use lib.Dec.{leb}
 use lib.ListN.{length}
 use Rattle.line_output.specs.Text.{totalsText}
-use Rattle.line_output.specs.Printed.{longestTotals}
-use Rattle.line_output.proofs.Stores.{not-fitting, fitting}
+use Rattle.line_output.specs.Longest.{longestTotals}
+use Rattle.buffers.proofs.Stores.{not-fitting, fitting}
 use Rattle.line_output.proofs.put_totals.Statement.{statement}
 use Rattle.line_output.proofs.put_totals.Tie as tie
 

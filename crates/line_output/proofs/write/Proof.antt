@@ -8,7 +8,7 @@ use borrow.Author.Needs.{needs}
 use denote.Ref.{now}
 use lib.ListN.{length, drop, length-set, drop-of-length-le}
 use lib.Seq.{sets}
-use Rattle.line_output.proofs.Stores.{copy-next}
+use Rattle.buffers.proofs.Stores.{copy-next}
 use Rattle.line_output.proofs.write.Statement.{statement}
 use Rattle.line_output.proofs.write.Tie as tie
 

@@ -1,7 +1,7 @@
 -- `line_output::write_count` meets its contract: the name, and then the number. Assumes nothing.
 use native.Mathlib.Omega.{arith}
 use borrow.Author.Needs.{needs}
-use Rattle.line_output.proofs.Stores.{then}
+use Rattle.buffers.proofs.Stores.{then}
 use Rattle.line_output.proofs.write_count.Statement.{statement}
 use Rattle.line_output.proofs.write_count.Tie as tie
 

@@ -3,7 +3,7 @@ use mathlib.Core.Path.{sym, _∙_}
 use native.Mathlib.Omega.{arith}
 use borrow.Author.Needs.{needs}
 use lib.ListN.{length-take}
-use Rattle.line_output.proofs.Stores.{within, take-rest}
+use Rattle.buffers.proofs.Stores.{loosened, take-rest}
 use Rattle.line_output.proofs.write_decimal.Statement.{statement}
 use Rattle.line_output.proofs.write_decimal.Tie as tie
 
@@ -11,7 +11,7 @@ returns : tie.Need-returns
 returns c =
     let s = c .before .before .before .before .before .before .before .spell in
     let e = take-rest (s .last .1 .0) 20 (s .result) (omega (arith, s .kept .1 .0)) ∙ s .ensures .1 in
-    rw (sym e) (within (c .before .before .write .ensures) (simp length-take (omega arith)))
+    rw (sym e) (loosened (c .before .before .write .ensures) (simp length-take (omega arith)))
 
 pub write-decimal-spec : {M : Type 1} → statement M
 write-decimal-spec =

@@ -9,7 +9,7 @@ use lib.ListN.{length, drop, length-set, drop-of-length-le}
 use lib.Seq.{sets}
 use Rattle.lists.specs.Lists.{isTableOf}
 use Rattle.line_output.specs.Text.{hexText, hexDigitOf}
-use Rattle.line_output.proofs.Stores.{hex-next, hex-length}
+use Rattle.line_output.proofs.Words.{hex-next, hex-length}
 use Rattle.line_output.proofs.write_hex.Statement.{statement}
 use Rattle.line_output.proofs.write_hex.Tie as tie
 

@@ -2,7 +2,7 @@
 use native.Mathlib.Omega.{arith}
 use borrow.Author.Needs.{needs}
 use Rattle.line_output.specs.Text.{rowBehind}
-use Rattle.line_output.proofs.Stores.{within, then}
+use Rattle.buffers.proofs.Stores.{loosened, then}
 use Rattle.line_output.proofs.write_row.Statement.{statement}
 use Rattle.line_output.proofs.write_row.Tie as tie
 
@@ -13,7 +13,7 @@ returns c =
     let w = e .before .before .before .before .before in
     let s = w .before .before .before .before in
     let t = s .before .before .before .before .before in
-    within (then (then (then (t .write .ensures) (s .write2 .ensures)) (w .write-answer .ensures)) (e .write3 .ensures)) (omega arith)
+    loosened (then (then (then (t .write .ensures) (s .write2 .ensures)) (w .write-answer .ensures)) (e .write3 .ensures)) (omega arith)
 
 pub write-row-spec : {M : Type 1} → statement M
 write-row-spec =

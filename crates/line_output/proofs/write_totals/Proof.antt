@@ -2,7 +2,7 @@
 use native.Mathlib.Omega.{arith}
 use borrow.Author.Needs.{needs}
 use Rattle.line_output.specs.Text.{totalsText}
-use Rattle.line_output.proofs.Stores.{within, then}
+use Rattle.buffers.proofs.Stores.{loosened, then}
 use Rattle.line_output.proofs.write_totals.Statement.{statement}
 use Rattle.line_output.proofs.write_totals.Tie as tie
 
@@ -59,7 +59,7 @@ returns c =
     let o = d .before .before .before .before .before in
     let k = o .before .before .before .before .before in
     let r = k .before .before .before .before .before in
-    within
+    loosened
     (then
     (then
     (then

@@ -8,7 +8,7 @@ use denote.Ref.{now}
 use lib.ListN.{length, take, replicate}
 use Rattle.layout.specs.Cell.{cellLength}
 use Rattle.layout.specs.Block.{blockLength}
-use Rattle.layout.proofs.Segments.{Writing, packed, Begun, begin, begun-length, within, named, skip, lend, lend-sized}
+use Rattle.buffers.proofs.Segments.{Writing, packed, Begun, begin, begun-length, within, named, skip, lend, lend-sized}
 use Rattle.repack_model.specs.Packer.{cellsBlock}
 use Rattle.repack.proofs.Closing.{closed-none, closed-last}
 use Rattle.repack.proofs.close.Statement.{statement}

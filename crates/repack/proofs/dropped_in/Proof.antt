@@ -8,7 +8,7 @@ use borrow.Author.Needs.{needs}
 use denote.Ref.{now}
 use lib.ListN.{length}
 use Rattle.layout.specs.Block.{blockLength}
-use Rattle.layout.proofs.Segments.{part-ends}
+use Rattle.buffers.proofs.Segments.{part-ends}
 use Rattle.archive_model.specs.Append.{blockAt}
 use Rattle.repack_model.specs.Repack.{isDropped, dropped}
 use Rattle.repack.proofs.Walks.{droppedFrom, from-first, from-turn, from-end}

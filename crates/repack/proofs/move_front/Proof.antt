@@ -7,7 +7,7 @@ use mathlib.Core.List.{List, _++_}
 use Prim.Native.Nat.{ℕ, _≤_}
 use lib.ListN.{length, drop, length-drop}
 use lib.Seq.{take-all}
-use Rattle.layout.proofs.Segments.{part-length}
+use Rattle.buffers.proofs.Segments.{part-length}
 use Rattle.repack_model.specs.Packer.{fullLength}
 use Rattle.repack.proofs.Cells.{copied}
 use Rattle.repack.proofs.move_front.Statement.{statement}

@@ -10,7 +10,7 @@ use lib.Dec.{eqb}
 use lib.ListN.{length, take}
 use Rattle.lists.specs.Lists.{any}
 use Rattle.layout.specs.Cell.{cellLength}
-use Rattle.layout.proofs.Segments.{Writing, packed, begin, begun-length, skip, named, lend, lent, so-far}
+use Rattle.buffers.proofs.Segments.{Writing, packed, begin, begun-length, skip, named, lend, lent, so-far}
 use Rattle.repack.specs.Calls.{keptCell}
 use Rattle.repack.proofs.Cells.{copied, cell-listed}
 use Rattle.repack.proofs.push_cell.Statement.{statement}

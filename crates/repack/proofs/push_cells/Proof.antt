@@ -8,9 +8,8 @@ use borrow.Author.Needs.{needs}
 use denote.Ref.{now}
 use lib.ListN.{length, take}
 use Rattle.layout.specs.Cell.{cellLength}
-use Rattle.layout.specs.Header.{headerLength}
-use Rattle.layout.specs.Block.{blockCell}
-use Rattle.layout.proofs.Segments.{part-length, part-ends}
+use Rattle.layout.specs.Block.{headerLength, blockCell}
+use Rattle.buffers.proofs.Segments.{part-length, part-ends}
 use Rattle.archive_model.specs.Row.{rowIn, isRow}
 use Rattle.repack_model.specs.Packer.{pendingLength}
 use Rattle.repack.specs.Calls.{keptCell, keptFrom}

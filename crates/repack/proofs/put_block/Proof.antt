@@ -8,9 +8,8 @@ use denote.Ref.{now}
 use lib.ListN.{length, replicate}
 use Rattle.layout.specs.BigEndian.{be}
 use Rattle.layout.specs.Cell.{cellLength}
-use Rattle.layout.specs.Block.{bodyLength, sealed}
-use Rattle.layout.specs.Header.{headerLength}
-use Rattle.layout.proofs.Segments.{Writing, packed, begin, begun-length, within, lent, store, lend, lend-sized, wipe}
+use Rattle.layout.specs.Block.{headerLength, bodyLength, sealed}
+use Rattle.buffers.proofs.Segments.{Writing, packed, begin, begun-length, within, lent, store, lend, lend-sized, wipe}
 use Rattle.layout.proofs.Block.{seal-front}
 use Rattle.repack_model.specs.Packer.{cellsBlock}
 use Rattle.repack.proofs.Cells.{copied}

@@ -5,7 +5,7 @@ use Prim.Native.Nat.{_+_, _-_, _*_, _/_, _≤_}
 use native.Mathlib.Omega.{arith}
 use denote.Ref.{now}
 use lib.ListN.{length, take}
-use Rattle.layout.proofs.Segments.{begun-length, within, lent}
+use Rattle.buffers.proofs.Segments.{begun-length, within, lent}
 use Rattle.collector.specs.Collector.{viewOf}
 use Rattle.replay.specs.Calls.{callLength, callsIn}
 use Rattle.replay.proofs.Records.{record-length, calls-all}

@@ -3,7 +3,7 @@ use mathlib.Core.Path.{_≡_, _∙_, sym}
 use mathlib.Core.Bool.{true}
 use borrow.Author.Needs.{needs}
 use borrow.Author.Tests.{not-true, not-false}
-use Rattle.slots.specs.Plan.{secondFollows}
+use Rattle.slots.specs.Search.{secondFollows}
 use Rattle.slots.proofs.After.{after-none, after-counted, after-found}
 use Rattle.slots.proofs.search_after.Statement.{statement}
 use Rattle.slots.proofs.search_after.Tie as tie

@@ -1,7 +1,7 @@
 -- `slots::third_follows` meets its contract: `thirdFollows` goes by the same test of the range. Assumes nothing.
 use borrow.Author.Needs.{needs}
 use borrow.Author.Tests.{lt-ltb, le-ltb}
-use Rattle.slots.specs.Plan.{thirdFollows}
+use Rattle.slots.specs.Search.{thirdFollows}
 use Rattle.slots.proofs.third_follows.Statement.{statement}
 use Rattle.slots.proofs.third_follows.Tie as tie
 

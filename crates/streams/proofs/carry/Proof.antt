@@ -3,7 +3,7 @@ use mathlib.Core.Path.{refl}
 use native.Mathlib.Omega.{arith}
 use borrow.Author.Needs.{needs}
 use denote.Ref.{now}
-use Rattle.streams.proofs.Moves.{past-buffer, past-end, front-kept, all-kept}
+use Rattle.streams.proofs.Kept.{past-buffer, past-end, front-kept, all-kept}
 use Rattle.streams.proofs.carry.Statement.{statement}
 use Rattle.streams.proofs.carry.Tie as tie
 

@@ -5,7 +5,7 @@ use native.Mathlib.Omega.{arith}
 use borrow.Author.Needs.{needs}
 use denote.Ref.{now}
 use lib.ListN.{length, length-set}
-use Rattle.streams.proofs.Moves.{Moved, moved-none, moved-next, moved-all}
+use Rattle.buffers.proofs.Moves.{Moved, moved-none, moved-next, moved-all}
 use Rattle.streams.proofs.shift.Statement.{statement}
 use Rattle.streams.proofs.shift.Tie as tie
 

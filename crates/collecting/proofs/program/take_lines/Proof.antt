@@ -10,7 +10,7 @@ use denote.Ref.{now}
 use Rattle.line_input.specs.Reading.{lineLimit}
 use Rattle.streams.specs.Chunks.{fresh, feed}
 use Rattle.streams.specs.Collect.{collect}
-use Rattle.line_output.proofs.Stores.{take-rest}
+use Rattle.buffers.proofs.Stores.{take-rest}
 use Rattle.collecting.specs.Session.{merging, phaseOf, Ran}
 use Rattle.collecting.proofs.Draining.{more-taken, none-more, none-left}
 use Rattle.collecting.proofs.program.take_lines.Statement.{statement}

@@ -6,8 +6,8 @@ use borrow.Author.Needs.{needs}
 use denote.Ref.{now}
 use lib.ListN.{length, getD}
 use Rattle.erp1.specs.Subtelegram.{maxLength}
-use Rattle.layout.specs.Buffer.{part, resized}
-use Rattle.layout.proofs.Buffer.{resized-length}
+use Rattle.buffers.specs.Buffer.{part, resized}
+use Rattle.buffers.proofs.Buffer.{resized-length}
 use Rattle.collector.specs.Acceptable.{shownAt}
 use Rattle.collector.proofs.Arrays.{found-known}
 use Rattle.collector.proofs.acceptable.is_repeated.Statement.{statement}

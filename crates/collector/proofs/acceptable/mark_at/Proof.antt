@@ -6,7 +6,7 @@ use borrow.Author.Needs.{needs}
 use denote.Ref.{now}
 use Rattle.erp1.specs.Subtelegram.{maxLength}
 use Rattle.erp1.proofs.Checks.{check-facts, told-valid, told-refused, not-valid}
-use Rattle.layout.specs.Buffer.{part, resized}
+use Rattle.buffers.specs.Buffer.{part, resized}
 use Rattle.collector.specs.Acceptable.{shownAt}
 use Rattle.collector.proofs.Marks.{no-mark, long-not-valid, has-mark}
 use Rattle.collector.proofs.acceptable.mark_at.Statement.{statement}

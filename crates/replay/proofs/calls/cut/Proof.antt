@@ -6,8 +6,8 @@ use native.Mathlib.Omega.{arith}
 use borrow.Author.Needs.{needs}
 use denote.Ref.{now}
 use lib.ListN.{length, take, length-replicate}
-use Rattle.layout.specs.Buffer.{part}
-use Rattle.layout.proofs.Segments.{Writing, packed, begin, lend, lent, within, done, part-length}
+use Rattle.buffers.specs.Buffer.{part}
+use Rattle.buffers.proofs.Segments.{Writing, packed, begin, lend, lent, within, done, part-length}
 use Rattle.model.specs.View.{fresh}
 use Rattle.model.specs.Image.{RestoreResult, imageLength, checkpointOf, restoreOf}
 use Rattle.model.specs.History.{Restored}

@@ -7,7 +7,7 @@ use borrow.Author.Needs.{needs}
 use denote.Ref.{now}
 use Rattle.telegram.specs.Frame.{frameOf}
 use Rattle.telegram.specs.Repeater.{repeatOf}
-use Rattle.layout.specs.Buffer.{part}
+use Rattle.buffers.specs.Buffer.{part}
 use Rattle.model.specs.Answer.{isKept, shownOf}
 use Rattle.model.specs.Step.{Outcome, step, sentFor}
 use Rattle.collector.specs.Collector.{viewOf}

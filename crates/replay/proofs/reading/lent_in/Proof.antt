@@ -2,7 +2,7 @@
 use mathlib.Core.Path.{_∙_}
 use borrow.Author.Needs.{needs}
 use denote.Ref.{now}
-use Rattle.layout.specs.Buffer.{part}
+use Rattle.buffers.specs.Buffer.{part}
 use Rattle.replay.proofs.reading.lent_in.Statement.{statement}
 use Rattle.replay.proofs.reading.lent_in.Tie as tie
 

@@ -4,7 +4,7 @@ use native.Mathlib.Omega.{arith}
 use borrow.Author.Needs.{needs}
 use denote.Ref.{now}
 use lib.ListN.{getD}
-use Rattle.layout.specs.Buffer.{resized}
+use Rattle.buffers.specs.Buffer.{resized}
 use Rattle.replay.proofs.Records.{field-lent}
 use Rattle.replay.proofs.reading.reception_in.Statement.{statement}
 use Rattle.replay.proofs.reading.reception_in.Tie as tie

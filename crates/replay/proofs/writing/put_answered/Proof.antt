@@ -3,7 +3,7 @@ use mathlib.Core.Path.{_∙_}
 use native.Mathlib.Omega.{arith}
 use borrow.Author.Needs.{needs}
 use denote.Ref.{now}
-use Rattle.layout.proofs.Segments.{Writing, packed, begin, lend, done}
+use Rattle.buffers.proofs.Segments.{Writing, packed, begin, lend, done}
 use Rattle.model.specs.Answer.{shownOf, shownNumber}
 use Rattle.replay_model.specs.Operation.{receiving}
 use Rattle.replay_model.specs.Record.{headOf, replyOf, bytesOf}

@@ -7,7 +7,7 @@ use borrow.Author.Needs.{needs}
 use denote.Ref.{now}
 use lib.ListN.{length, take}
 use Rattle.layout.specs.BigEndian.{be}
-use Rattle.layout.proofs.Segments.{Writing, packed, begin, begun-length, within, lend, lend-sized, lent, done}
+use Rattle.buffers.proofs.Segments.{Writing, packed, begin, begun-length, within, lend, lend-sized, lent, done}
 use Rattle.burst.specs.Records.{repliedOf, handedNumber}
 use Rattle.replay_model.specs.Operation.{delivering}
 use Rattle.replay_model.specs.Record.{headOf, bytesOf}

@@ -3,7 +3,7 @@ use native.Mathlib.Omega.{arith}
 use borrow.Author.Needs.{needs}
 use denote.Ref.{now}
 use Rattle.layout.specs.BigEndian.{be}
-use Rattle.layout.proofs.Segments.{Writing, packed, begin, begun-length, within, store, lend-sized, done}
+use Rattle.buffers.proofs.Segments.{Writing, packed, begin, begun-length, within, store, lend-sized, done}
 use Rattle.replay_model.specs.Record.{headOf}
 use Rattle.replay.proofs.writing.put_head.Statement.{statement}
 use Rattle.replay.proofs.writing.put_head.Tie as tie

@@ -4,7 +4,7 @@ use native.Mathlib.Omega.{arith}
 use borrow.Author.Needs.{needs}
 use denote.Ref.{now}
 use Rattle.layout.specs.BigEndian.{be}
-use Rattle.layout.proofs.Segments.{Writing, packed, begin, lend, lend-sized, done}
+use Rattle.buffers.proofs.Segments.{Writing, packed, begin, lend, lend-sized, done}
 use Rattle.collector.specs.Heard.{askedNumber}
 use Rattle.replay_model.specs.Operation.{asking}
 use Rattle.replay_model.specs.Record.{headOf, bytesOf}

@@ -6,7 +6,7 @@ use native.Mathlib.Omega.{arith}
 use borrow.Author.Needs.{needs}
 use denote.Ref.{now}
 use lib.ListN.{length, take}
-use Rattle.layout.proofs.Segments.{Begun, begin, begun-length, within, turn, turned, done}
+use Rattle.buffers.proofs.Segments.{Begun, begin, begun-length, within, turn, turned, done}
 use Rattle.replay_model.specs.Record.{replyOf}
 use Rattle.burst.specs.Records.{repliedOf}
 use Rattle.replay.proofs.Filling.{cells, cells-length, cell-at}

@@ -5,9 +5,9 @@ use native.Mathlib.Omega.{arith}
 use borrow.Author.Needs.{needs}
 use denote.Ref.{now}
 use Rattle.erp1.specs.Subtelegram.{maxLength}
-use Rattle.layout.specs.Buffer.{resized}
+use Rattle.buffers.specs.Buffer.{resized}
 use Rattle.layout.specs.BigEndian.{be}
-use Rattle.layout.proofs.Segments.{Writing, packed, begin, begun-length, within, store, lend-sized, done}
+use Rattle.buffers.proofs.Segments.{Writing, packed, begin, begun-length, within, store, lend-sized, done}
 use Rattle.replay_model.specs.Record.{replyOf}
 use Rattle.replay.proofs.writing.put_reply.Statement.{statement}
 use Rattle.replay.proofs.writing.put_reply.Tie as tie

@@ -4,7 +4,7 @@ use native.Mathlib.Omega.{arith}
 use borrow.Author.Needs.{needs}
 use denote.Ref.{now}
 use Rattle.layout.specs.BigEndian.{be}
-use Rattle.layout.proofs.Segments.{begin, lend, lend-sized}
+use Rattle.buffers.proofs.Segments.{begin, lend, lend-sized}
 use Rattle.collector.specs.Collector.{viewOf}
 use Rattle.image.specs.Checkpoint.{savedNumber}
 use Rattle.replay_model.specs.Operation.{saving}

@@ -6,9 +6,9 @@ use mathlib.Core.Path.{_≡_, sym, ap, _∙_}
 use mathlib.Core.List.{List}
 use Prim.Native.Nat.{ℕ, _+_, _-_, _*_, _/_, _≤_}
 use lib.ListN.{length}
-use Rattle.layout.specs.Buffer.{part}
+use Rattle.buffers.specs.Buffer.{part}
 use Rattle.layout.specs.Block.{blockLength}
-use Rattle.layout.proofs.Segments.{part-length, part-ends}
+use Rattle.buffers.proofs.Segments.{part-length, part-ends}
 use Rattle.archive_model.specs.Buffer.{blocksIn}
 use Rattle.archive.specs.Archive.{blocksFrom}
 use Rattle.archive.proofs.Scans.{rest-first}

@@ -7,8 +7,8 @@ use mathlib.Core.List.{List}
 use Prim.Native.Nat.{ℕ, _+_, _-_, _*_, _≤_}
 use lib.ListN.{length}
 use Rattle.layout.specs.Cell.{cellLength}
-use Rattle.layout.specs.Header.{headerLength}
-use Rattle.layout.proofs.Segments.{part-length, part-ends}
+use Rattle.layout.specs.Block.{headerLength}
+use Rattle.buffers.proofs.Segments.{part-length, part-ends}
 use Rattle.archive_model.specs.Row.{rowIn, isRow}
 use Rattle.report_model.specs.Report.{lineOf}
 use Rattle.report.specs.Lines.{linesOf}

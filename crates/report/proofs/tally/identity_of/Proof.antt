@@ -7,7 +7,7 @@ use mathlib.Core.List.{List}
 use Prim.Native.Nat.{ℕ, _+_, _-_}
 use lib.ListN.{length-take, drop}
 use lib.Seq.{take-all}
-use Rattle.layout.specs.Buffer.{part}
+use Rattle.buffers.specs.Buffer.{part}
 use Rattle.layout.specs.BigEndian.{unbe}
 use Rattle.report.proofs.Blocks.{used-high, shown-identity}
 use Rattle.report.proofs.tally.identity_of.Statement.{statement}

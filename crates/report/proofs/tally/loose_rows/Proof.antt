@@ -7,10 +7,9 @@ use mathlib.Core.Path.{_≡_, ap, _∙_}
 use mathlib.Core.Bool.{Bool, true, false, cond}
 use mathlib.Core.List.{List}
 use Prim.Native.Nat.{ℕ, _+_, _-_, _*_, _≤_}
-use Rattle.layout.specs.Block.{blockCell}
+use Rattle.layout.specs.Block.{headerLength, blockCell}
 use Rattle.layout.specs.Cell.{cellLength}
-use Rattle.layout.specs.Header.{headerLength}
-use Rattle.layout.proofs.Segments.{part-ends}
+use Rattle.buffers.proofs.Segments.{part-ends}
 use Rattle.archive_model.specs.Row.{rowIn}
 use Rattle.report_model.specs.Report.{looseIn}
 use Rattle.report.specs.Lines.{rowsBetween}

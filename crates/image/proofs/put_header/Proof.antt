@@ -1,14 +1,15 @@
--- `layout::put_header` meets its contract: a step for each part that is lent and each byte that is stored. Assumes nothing.
+-- `image::put_header` meets its contract: a step for each part that is lent and each byte that is stored. Assumes nothing.
 use mathlib.Core.Path.{sym, _∙_}
 use native.Mathlib.Omega.{arith}
 use borrow.Author.Needs.{needs}
 use denote.Ref.{now}
 use Rattle.layout.specs.BigEndian.{be}
-use Rattle.layout.specs.Header.{headerLength, headerOf}
-use Rattle.layout.proofs.Segments.{Writing, packed, begin, begun-length, within, store, lend-sized, wipe, done}
-use Rattle.layout.proofs.Buffer.{overwritten-fits, overwritten-not}
-use Rattle.layout.proofs.put_header.Statement.{statement}
-use Rattle.layout.proofs.put_header.Tie as tie
+use Rattle.model.specs.Header.{headerOf}
+use Rattle.layout.specs.Block.{headerLength}
+use Rattle.buffers.proofs.Segments.{Writing, packed, begin, begun-length, within, store, lend-sized, wipe, done}
+use Rattle.buffers.proofs.Buffer.{overwritten-fits, overwritten-not}
+use Rattle.image.proofs.put_header.Statement.{statement}
+use Rattle.image.proofs.put_header.Tie as tie
 
 other-length : tie.Need-returns
 other-length c = sym (overwritten-not headerLength _ (now (c .before .before .args .out)) (c .if1 .taken))

@@ -7,10 +7,11 @@ use mathlib.Core.List.{List, [], _∷_, _++_}
 use Prim.Native.Nat.{ℕ, _^_, _<_}
 use native.Mathlib.Omega.{arith}
 use lib.ListN.{length, replicate, length-append}
 use Rattle.layout.specs.BigEndian.{be, unbe}
-use Rattle.layout.specs.Header.{headerLength, headerOf, headerIndex, headerUsed, headerFirst, headerSecond}
-use Rattle.layout.proofs.Segments.{left, last}
+use Rattle.model.specs.Header.{headerOf, headerIndex, headerUsed, headerFirst, headerSecond}
+use Rattle.layout.specs.Block.{headerLength}
+use Rattle.buffers.proofs.Segments.{left, last}
 use Rattle.layout.proofs.BigEndian.{be-length, unbe-be}
 
 module _ (k used a b : ℕ) where
   -- what stands before the first number, and before the second

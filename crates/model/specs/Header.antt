@@ -2,11 +2,8 @@
 use mathlib.Core.List.{List, [], _∷_, _++_}
 use Prim.Native.Nat.{ℕ}
 use lib.ListN.{getD, replicate}
-use Rattle.layout.specs.Buffer.{part}
+use Rattle.buffers.specs.Buffer.{part}
 use Rattle.layout.specs.BigEndian.{be, unbe}
-
-abbrev pub headerLength : ℕ
-headerLength = 24
 
 -- byte 0 is k; byte 1 the entries used; 2 to 7 zero; 8 to 15 and 16 to 23 two numbers
 unfoldable pub headerOf : ℕ → ℕ → ℕ → ℕ → List ℕ

@@ -16,7 +16,7 @@ use borrow.Author.Tests.{eq-eqb, ne-eqb}
 use lib.ListN.{length, getD, take, replicate, length-append, length-take, length-replicate, replicate-append-replicate, List·getD-eq-default}
 use lib.Seq.{take-all, take-at, take-append-le, take-suc}
 use Rattle.lists.specs.Lists.{padded}
-use Rattle.layout.specs.Buffer.{resized, overwritten}
+use Rattle.buffers.specs.Buffer.{resized, overwritten}
 
 pub padded-length : (n : ℕ) (xs : List ℕ) → length xs ≤ n → length (padded n xs) ≡ n
 padded-length n xs h = simp (length-append, length-replicate) (omega arith)

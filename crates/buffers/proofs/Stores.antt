@@ -1,19 +1,21 @@
--- Laws of texts that are stored in a buffer. Assumes nothing.
+-- Laws of texts that are stored in a buffer.
+--     then                                one text after another
+--     loosened                            a larger bound
+--     fitting, not-fitting, if-fits       where the longest text fits, where it does not, and for a caller who knows that it fits
+--     copy-next                           a text that is stored from its front on
+--     take-rest                           the part from an index to the end
 use mathlib.Core.Path.{_≡_, refl, sym, _∙_}
 use mathlib.Core.Bool.{true, false}
 use mathlib.Core.List.{List, [], _∷_, _++_}
-use Prim.Native.Nat.{ℕ, suc, _+_, _-_, _*_, _/_, _%_, _<_, _≤_}
+use Prim.Native.Nat.{ℕ, suc, _+_, _-_, _<_, _≤_}
 use native.Mathlib.Omega.{arith}
 use native.Mathlib.Numerals.{add-one}
 use native.Mathlib.Nat.{add-zero, add-suc, suc-add}
 use lib.Dec.{leb}
 use borrow.Author.Tests.{le-leb}
-use Rattle.line_input.specs.Ascii.{space}
 use lib.ListN.{length, getD, take, drop, set, length-append, length-drop}
 use lib.Seq.{sets, drop-cons, take-all}
-use Rattle.line_output.specs.Text.{hexDigitOf, hexText, keptWord, sendWord, answerText}
-use Rattle.line_output.specs.declared.Row.{Row}
-use Rattle.line_output.specs.Printed.{Printed, PrintedIfFits}
+use Rattle.buffers.specs.Printed.{Printed, PrintedIfFits}
 
 -- ---- one text after another
 
@@ -30,8 +32,8 @@ then {out} {a = a} {b = b} {at = at} p q =
     }
 
 -- a larger bound
-pub within : {out out' text : List ℕ} {at r m n : ℕ} → Printed out at text m out' r → m ≤ n → Printed out at text n out' r
-within p h = record { bytes = p .bytes; next = p .next; short = omega (arith, p .short) }
+pub loosened : {out out' text : List ℕ} {at r m n : ℕ} → Printed out at text m out' r → m ≤ n → Printed out at text n out' r
+loosened p h = record { bytes = p .bytes; next = p .next; short = omega (arith, p .short) }
 
 -- where the longest text fits, and where it does not
 pub fitting : {out out' text : List ℕ} {at r longest : ℕ} → leb (at + longest) (length out) ≡ true → Printed out at text longest out' r → PrintedIfFits out at longest text out' r
@@ -51,30 +53,6 @@ pub copy-next : (out s : List ℕ) (at i : ℕ) → i < length s
 copy-next out s at i h =
     let e : at + (i + 1) ≡ suc (at + i) = omega arith in
     rw (drop-cons s i 0 h, e, add-one i)
-
-pub hex-next : (out s : List ℕ) (to i : ℕ) → i < length s
-    → sets out to (hexText (drop i s))
-    ≡ sets (set (set out to (hexDigitOf (getD s i 0 / 16))) (to + 1) (hexDigitOf (getD s i 0 % 16))) (to + 2) (hexText (drop (i + 1) s))
-unfolding hexText
-hex-next out s to i h =
-    let e : to + 2 ≡ suc (suc to) = omega arith in
-    rw (drop-cons s i 0 h, e, add-one i, add-one to)
-
-pub hex-length : (s : List ℕ) → length (hexText s) ≡ 2 * length s
-unfolding hexText
-hex-length [] = refl
-hex-length (b ∷ s) = omega (arith, hex-length s)
-
--- KEPT, alone and with what is sent
-pub kept-alone : (sent : List ℕ) → length sent ≡ 0 → answerText Row.Kept sent ≡ keptWord
-unfolding answerText
-kept-alone [] e = refl
-kept-alone (b ∷ bs) e = absurd (omega arith)
-
-pub kept-sends : (sent : List ℕ) → (length sent ≡ 0 → ⊥) → answerText Row.Kept sent ≡ keptWord ++ (space ∷ sendWord ++ (space ∷ hexText sent))
-unfolding answerText
-kept-sends [] n = absurd (n refl)
-kept-sends (b ∷ bs) n = refl
 
 -- the part from an index to the end
 pub take-rest : (l : List ℕ) (n i : ℕ) → length l ≡ n → take (n - i) (drop i l) ≡ drop i l

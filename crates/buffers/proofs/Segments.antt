@@ -24,7 +24,7 @@ use native.Mathlib.Omega.{arith}
 use lib.ListN.{length, getD, take, drop, set, length-append, length-take, length-drop, drop-of-length-le, replicate, length-replicate, getD-replicate, replicate-append-replicate, take-append-drop}
 use lib.Seq.{take-at, take-add, drop-at, take-all, take-nil, take-append-le, drop-append-le, drop-append-add, drop-drop, drop-cons, set-at, append-snoc, getD-take, getD-drop, ext-getD, take-take}
 use Rattle.lists.specs.Lists.{padded}
-use Rattle.layout.specs.Buffer.{part}
+use Rattle.buffers.specs.Buffer.{part}
 
 module _ {A : Type 0} where
   pub part-length : (a n : ℕ) (xs : List A) → a + n ≤ length xs → length (part a n xs) ≡ n

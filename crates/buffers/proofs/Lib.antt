@@ -1,0 +1,4 @@
+pub mod Segments
+pub mod Buffer
+pub mod Stores
+pub mod Moves

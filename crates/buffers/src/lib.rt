@@ -1,0 +1,1 @@
+// What lent buffers show and hold: all of it is in specs/ and proofs/.
