@@ -1,12 +1,12 @@
 -- One reception at any state whose entries and totals can be counted on, from what the code's steps tell: the answer, that there is room where it is
 -- kept, and the next state. Assumes nothing.
-use Prim.Native.Nat.{ℕ, _-_, _≤_, _<_}
+use Prim.Native.Nat.{ℕ, _-_, _*_, _≤_, _<_}
 use native.Mathlib.Omega.{arith}
 use mathlib.Core.Path.{_≡_, refl, sym, _∙_, ap}
 use mathlib.Core.Bool.{Bool, true, false, cond, not, _&&_, false≢true}
 use mathlib.Core.List.{List}
 use lib.Dec.{leb, ltb, eqb}
-use lib.ListN.{length}
+use lib.ListN.{length, drop}
 use borrow.Author.Tests.{le-leb, lt-leb, leb-true, leb-false, ltb-true, eqb-true}
 use Rattle.lists.proofs.Choice.{both}
 use Rattle.lists.proofs.Tests.{by-test}
@@ -25,12 +25,13 @@ use Rattle.model.proofs.Check.{Failed, length-wrong, sum-wrong, crc-wrong, nest
 use Rattle.collector.specs.declared.merging.Summary.{Summary}
 use Rattle.collector.specs.declared.merging.Admitted.{Admitted}
 use Rattle.collector.specs.declared.merging.Judged.{Judged}
-use Rattle.collector.specs.Collector.{Columns, entriesAt}
+use Rattle.collector.specs.declared.merging.Decision.{Decision}
+use Rattle.collector.specs.Collector.{Columns, columns, entriesAt}
 use Rattle.collector.specs.Acceptable.{hasCopy}
-use Rattle.collector.specs.Merging.{receptionCheck, answerFor, JudgedBy, Expired}
-use Rattle.collector.specs.Admission.{viewIn, admittedOf, isSafe, numberOn, latestAfter, leftAfter, answerOn, entriesWith, admitted, notAdmitted, admission, Admits}
-use Rattle.collector.proofs.Arrays.{entries-length, found-known}
-use Rattle.collector.proofs.Moving.{MovedColumns, moved-entries, creditIf, moreCopies, credited-entries, addIf, PutColumns, put-entries, expired-open}
+use Rattle.collector.specs.Merging.{receptionCheck, answerFor, JudgedBy, Expired, moved, Changed}
+use Rattle.collector.specs.Admission.{viewIn, admittedOf, isSafe, numberOn, latestAfter, leftAfter, answerOn, entriesWith, admitted, notAdmitted, admission, Admits, unchanged, changed, Whole, Decides}
+use Rattle.collector.proofs.Arrays.{entries-length, left-length, found-known}
+use Rattle.collector.proofs.Moving.{creditIf, addIf, changed-entries, expired-open}
 
 -- ---- any view
 
@@ -104,20 +105,13 @@ by-answer Copy r l = refl
 by-answer Loose r l = refl
 by-answer (Refused n) r l = refl
 
--- ---- the columns, where the telegrams that are no longer open are gone from them
+-- ---- the columns
 
 -- what the test of a state that may be taken says of its fields
 pub record Fit (fit : Bool) (s : Summary) : Type 0 where
   pub found : fit ≡ true
   pub few : s .count ≤ capacity
   pub summed : isSummed (s .totals) ≡ true
-
--- what the code's steps tell up to there
-pub record Closed (a₀ : Columns) (s : Summary) (r : Reception) (n time gone : ℕ) (a : Columns) : Type 0 where
-  pub checked : n ≡ receptionCheck (s .latest) r
-  pub latest : time ≡ cond (eqb n 0) (r .time) (s .latest)
-  pub expired : Expired (a₀ .times) (s .count) time gone
-  pub moved : MovedColumns gone (s .count - gone) a₀ a
 
 module _ (fit : Bool) (a : Columns) (s : Summary) (r : Reception) where
   safe-by : isSafe (viewIn a s) ≡ (leb (s .count) capacity && isSummed (s .totals))
@@ -129,17 +123,19 @@ module _ (fit : Bool) (a : Columns) (s : Summary) (r : Reception) where
       let u = both (leb (s .count) capacity) (isSummed (s .totals)) (w .1) in
       record { found = w .0; few = leb-true _ _ (u .0); summed = u .1 }
 
-  -- the three ways out: nothing is changed at the first two
-  pub unchanged : (why : Refusal) (d : Admitted) → (d .summary ≡ s) × (shownOf (d .answer) ≡ Refused (numberOf why))
-      → notAdmitted why (viewIn a s) ≡ admission fit (viewIn a s) r → Admits fit a s r a d
-  unchanged why d k e = record {
-    outcome = (λ i. record { answer = k .1 i; next = viewIn a (k .0 i) }) ∙ e;
-    stays = λ _. (refl, k .0);
+  -- at 8 and 11 nothing is changed
+  pub decides-nothing : (why : Refusal) → notAdmitted why (viewIn a s) ≡ admission fit (viewIn a s) r → Decides fit a s r (unchanged s why)
+  unfolding moved
+  decides-nothing why e = record {
+    few = omega arith;
+    room = λ k. absurd (false≢true k);
+    inside = λ k. absurd (false≢true k);
+    admits = λ _. record { outcome = e; stays = λ _. (refl, refl) };
   }
 
-  pub changed : {a' : Columns} (d : Admitted) → admittedOf a' d ≡ admitted (viewIn a s) r → admitted (viewIn a s) r ≡ admission fit (viewIn a s) r → Admits fit a s r a' d
+  taken-admits : {a' : Columns} (d : Admitted) → admittedOf a' d ≡ admitted (viewIn a s) r → admitted (viewIn a s) r ≡ admission fit (viewIn a s) r → Admits fit a s r a' d
   unfolding admitted
-  changed d k e = record {
+  taken-admits d k e = record {
     outcome = k ∙ e;
     stays = λ f. absurd (false≢true (sym f ∙ ap (λ (o : Outcome). isReceived (o .answer)) k ∙ is-received (viewIn a s) r));
   }
@@ -157,49 +153,84 @@ module _ (fit : Bool) (a : Columns) (s : Summary) (r : Reception) where
     unfolding admission
     is-taken h = rw (safe-by, f .found, le-leb _ _ (f .few), f .summed, lt-leb maxCount (s .totals .received) h)
 
-module _ {a₀ : Columns} {s : Summary} {r : Reception} {n time gone : ℕ} {a : Columns} (k : Closed a₀ s r n time gone a) where
+-- what the code's steps tell before the open telegrams are looked at
+pub record Looked (a : Columns) (s : Summary) (r : Reception) (n time gone : ℕ) : Type 0 where
+  pub checked : n ≡ receptionCheck (s .latest) r
+  pub latest : time ≡ cond (eqb n 0) (r .time) (s .latest)
+  pub expired : Expired (a .times) (s .count) time gone
+
+module _ {a : Columns} {s : Summary} {r : Reception} {n time gone : ℕ} (k : Looked a s r n time gone) where
   abbrev view : View
-  view = viewIn a₀ s
+  view = viewIn a s
 
   abbrev left : ℕ
   left = s .count - gone
 
-  left-open : entriesAt a left ≡ leftAfter view r
-  left-open =
-      rw (← k .checked, ← k .latest)
-      (moved-entries gone left a₀ a (k .moved) ∙ sym (expired-open a₀ (s .count) time gone (k .expired)))
+  left-open : drop gone (entriesAt a (s .count)) ≡ leftAfter view r
+  left-open = rw (← k .checked, ← k .latest) (sym (expired-open a (s .count) time gone (k .expired)))
 
-  left-length : length (leftAfter view r) ≡ left
-  left-length = sym (ap length left-open) ∙ entries-length a left
+  open-length : length (leftAfter view r) ≡ left
+  open-length = sym (ap length left-open) ∙ left-length a gone (s .count)
 
   latest-is : time ≡ latestAfter view r
   latest-is = k .latest ∙ rw (k .checked)
 
-  module _ {j : Judged} (by : JudgedBy n (entriesAt a left) r j) where
-    pub answer-said : shownOf (j .answer) ≡ answerOn view r
+  module _ {j : Judged} (by : JudgedBy n (drop gone (entriesAt a (s .count))) r j) where
+    answer-said : shownOf (j .answer) ≡ answerOn view r
     answer-said = by .answer ∙ rw (k .checked, left-open)
 
     -- a copy is one of an open telegram
-    pub inside : isCopy (shownOf (j .answer)) ≡ true → j .entry < left
+    inside : isCopy (shownOf (j .answer)) ≡ true → j .entry < left
     inside e =
         let known = copy-known _ _ _ (ap isCopy (sym (by .answer)) ∙ e) in
-        rw (by .entry e) (ltb-true _ left (found-known a left r ∙ known))
+        rw (by .entry e) (ltb-true _ left (found-known (drop gone (entriesAt a (s .count))) left r (left-length a gone (s .count)) ∙ known))
 
-    -- a reception that is kept, and the next state
-    module _ {heard kept : Bool} (hears : heard ≡ isCopy (shownOf (j .answer))) (keeps : kept ≡ isKept (shownOf (j .answer))) where
-      pub room : kept ≡ true → (left < capacity) × (isValid (r .bytes) ≡ true)
+    -- what is kept is valid, and there is room for it
+    module _ {kept : Bool} (keeps : kept ≡ isKept (shownOf (j .answer))) where
+      pub room : kept ≡ true → (left < capacity) × (length (r .bytes) ≤ maxLength)
       room e =
           let w = kept-room view r (ap isKept (sym answer-said) ∙ sym keeps ∙ e) in
-          (omega (arith, w .0, left-length), w .1)
+          (omega (arith, w .0, open-length), valid-fits (r .bytes) (w .1) .1)
 
-      module _ {a' : Columns} (long : left ≤ length (a .copies)) (put : PutColumns kept left r (moreCopies heard (j .entry) a) a') where
-        entries-after : entriesAt a' (plusIf kept left) ≡ entriesWith (shownOf (j .answer)) r (leftAfter view r)
-        entries-after =
-            put-entries kept left r (moreCopies heard (j .entry) a) a' (λ e. valid-fits (r .bytes) (room e .1) .1) put
-            ∙ ap (addIf kept (opened r)) (credited-entries a (j .entry) left r long heard (λ e. by .entry (sym hears ∙ e)))
+      -- the law: what is decided, carried out column by column, is what `admitted` says
+      module _ {heard : Bool} (hears : heard ≡ isCopy (shownOf (j .answer))) {count : ℕ} (counts : count ≡ plusIf kept left)
+          {totals : Totals} (tallies : totals ≡ tally (shownOf (j .answer)) (s .totals)) (few : s .count ≤ capacity) where
+        abbrev decision : Decision
+        decision = record {
+          gone = gone;
+          left = left;
+          heard = heard;
+          entry = j .entry;
+          kept = kept;
+          summary = record { count = count; latest = time; totals = totals };
+          answer = j .answer;
+        }
+
+        next-entries : Whole a → entriesAt (changed decision r a) (plusIf kept left) ≡ entriesWith (shownOf (j .answer)) r (leftAfter view r)
+        next-entries whole =
+            let below = k .expired .few in
+            changed-entries a whole decision (s .count) (omega arith) few r room (λ e. by .entry (sym hears ∙ e))
             ∙ rw (keeps, hears, left-open) (by-answer (shownOf (j .answer)) r (leftAfter view r))
 
-        pub taken : (count : ℕ) (totals : Totals) → count ≡ plusIf kept left → totals ≡ tally (shownOf (j .answer)) (s .totals)
-            → record { answer = shownOf (j .answer); next = record { latest = time; totals = totals; entries = entriesAt a' count } } ≡ admitted view r
+        outcome : Whole a → admittedOf (changed decision r a) (record { summary = decision .summary; answer = j .answer }) ≡ admitted view r
         unfolding admitted
-        taken count totals e f = rw (e, f, latest-is, entries-after, answer-said)
+        outcome whole = rw (counts, tallies, latest-is, next-entries whole, answer-said)
+
+        pub decides : (fit : Bool) → admitted view r ≡ admission fit view r → Decides fit a s r decision
+        decides fit taken = record {
+          few = (let below = k .expired .few in omega arith);
+          room = room;
+          inside = λ e. omega (arith, inside (sym hears ∙ e));
+          admits = λ whole. taken-admits fit a s r _ (outcome whole) taken;
+        }
+
+-- ---- what is decided is carried out, column by column
+
+pub carried-out : {fit : Bool} {a a' : Columns} {s : Summary} {r : Reception} {d : Decision} → Decides fit a s r d
+    → Changed capacity (a .times) (a' .times) (changed d r a .times) → Changed capacity (a .lens) (a' .lens) (changed d r a .lens)
+    → Changed (maxLength * capacity) (a .bytes) (a' .bytes) (changed d r a .bytes) → Changed capacity (a .copies) (a' .copies) (changed d r a .copies)
+    → Admits fit a s r a' (record { summary = d .summary; answer = d .answer })
+carried-out {fit} {a} {a'} {s} {r} {d} k times lens bytes copies =
+    let whole : Whole a = record { times = times .long; lens = lens .long; bytes = bytes .long; copies = copies .long } in
+    let e : a' ≡ changed d r a = λ i. columns (times .is i) (lens .is i) (bytes .is i) (copies .is i) in
+    rw e (k .admits whole)

@@ -6,8 +6,8 @@ use mathlib.Core.Path.{_≡_, refl, sym, _∙_, ap}
 use mathlib.Core.Bool.{Bool, true, false, not, _||_}
 use lib.Dec.{leb, ltb, eqb}
 use mathlib.Core.List.{List, [], _∷_, _++_, map, map-append}
-use lib.ListN.{length, getD, drop, length-map}
-use lib.Seq.{take-take}
+use lib.ListN.{length, getD, drop, length-map, length-drop}
+use lib.Seq.{take-take, getD-drop}
 use borrow.Author.Tests.{lt-ltb, le-ltb}
 use Rattle.lists.specs.Lists.{any, upFrom, lastIndex}
 use Rattle.lists.proofs.UpFrom.{upFrom-add, length-upFrom, getD-upFrom}
@@ -98,29 +98,40 @@ module _ (a : Columns) where
   unfolding hasCopy
   has-none r = rw entries-none
 
-  -- ---- the last of the first `count` that is a copy
+  -- ---- the entries after the first `gone` of `count`, and the last of them that is a copy
 
-  module _ (count : ℕ) (r : Reception) where
-    pub last-found : (i : ℕ) → i < count → isCopyOf (entryAt a i) r ≡ true → ((j : ℕ) → i < j → j < count → isCopyOf (entryAt a j) r ≡ false)
-        → i ≡ lastCopy (entriesAt a count) r
-    unfolding lastCopy
-    last-found i h e later =
-        sym (last-is (λ x. isCopyOf x r) noEntry (entriesAt a count) i (rw entries-length h) (rw (entry-get count i h) e)
-        (λ j k l. let m : j < count = rw (entries-length count) at l in rw (entry-get count j m) (later j k m)))
+  module _ (gone count : ℕ) where
+    abbrev left : List Entry
+    left = drop gone (entriesAt a count)
 
-    pub none-found : ((j : ℕ) → j < count → isCopyOf (entryAt a j) r ≡ false) → count ≡ lastCopy (entriesAt a count) r
-    unfolding lastCopy
-    none-found each =
-        sym (last-none (λ x. isCopyOf x r) (entriesAt a count) none ∙ entries-length count)
-      where
-        none : any (λ x. isCopyOf x r) (entriesAt a count) ≡ false
-        none = none-at (λ x. isCopyOf x r) noEntry (entriesAt a count)
-            (λ j l. let m : j < count = rw (entries-length count) at l in rw (entry-get count j m) (each j m))
+    pub left-length : length left ≡ count - gone
+    left-length = length-drop gone (entriesAt a count) ∙ ap (λ (n : ℕ). n - gone) (entries-length count)
 
-    -- there is one where its index is that of an entry
-    pub found-known : ltb (lastCopy (entriesAt a count) r) count ≡ hasCopy (entriesAt a count) r
-    unfolding lastCopy hasCopy
-    found-known =
-        by-test (any (λ x. isCopyOf x r) (entriesAt a count))
-        (λ e. lt-ltb (lastIndex (λ x. isCopyOf x r) (entriesAt a count)) count (rw (entries-length count) at (last-low (λ x. isCopyOf x r) (entriesAt a count) e)) ∙ sym e)
-        (λ e. le-ltb (lastIndex (λ x. isCopyOf x r) (entriesAt a count)) count (omega (arith, last-none (λ x. isCopyOf x r) (entriesAt a count) e, entries-length count)) ∙ sym e)
+    left-get : (k : ℕ) → gone + k < count → getD left k noEntry ≡ entryAt a (gone + k)
+    left-get k h = getD-drop gone (entriesAt a count) k noEntry ∙ entry-get count (gone + k) h
+
+    module _ (r : Reception) where
+      pub last-found : (i : ℕ) → gone ≤ i → i < count → isCopyOf (entryAt a i) r ≡ true → ((j : ℕ) → i < j → j < count → isCopyOf (entryAt a j) r ≡ false)
+          → i - gone ≡ lastCopy left r
+      unfolding lastCopy
+      last-found i g h e later =
+          let same : gone + (i - gone) ≡ i = omega arith in
+          sym (last-is (λ x. isCopyOf x r) noEntry left (i - gone) (omega (arith, left-length))
+          (rw (left-get (i - gone) (omega arith), same) e)
+          (λ j k l. let m : gone + j < count = omega (arith, left-length, l) in rw (left-get j m) (later (gone + j) (omega arith) m)))
+
+      pub none-found : ((j : ℕ) → gone ≤ j → j < count → isCopyOf (entryAt a j) r ≡ false) → count - gone ≡ lastCopy left r
+      unfolding lastCopy
+      none-found each = sym (last-none (λ x. isCopyOf x r) left none ∙ left-length)
+        where
+          none : any (λ x. isCopyOf x r) left ≡ false
+          none = none-at (λ x. isCopyOf x r) noEntry left
+              (λ j l. let m : gone + j < count = omega (arith, left-length, l) in rw (left-get j m) (each (gone + j) (omega arith) m))
+
+-- there is a copy where the index of the last is that of an entry
+pub found-known : (l : List Entry) (n : ℕ) (r : Reception) → length l ≡ n → ltb (lastCopy l r) n ≡ hasCopy l r
+unfolding lastCopy hasCopy
+found-known l n r long =
+    by-test (any (λ x. isCopyOf x r) l)
+    (λ e. lt-ltb (lastIndex (λ x. isCopyOf x r) l) n (omega (arith, last-low (λ x. isCopyOf x r) l e)) ∙ sym e)
+    (λ e. le-ltb (lastIndex (λ x. isCopyOf x r) l) n (omega (arith, last-none (λ x. isCopyOf x r) l e)) ∙ sym e)

@@ -1,11 +1,11 @@
 -- What two of one telegram share: their length, and every byte before STATUS. Assumes nothing.
-use Prim.Native.Nat.{ℕ, zero, suc, _+_, _-_, _*_, _≤_, _<_}
+use Prim.Native.Nat.{ℕ, _+_, _-_, _*_, _≤_, _<_}
 use native.Mathlib.Omega.{arith}
-use mathlib.Core.Path.{_≡_, refl, sym, _∙_, ap, subst}
+use mathlib.Core.Path.{_≡_, sym, _∙_, ap, subst}
 use mathlib.Core.Bool.{true, false}
-use mathlib.Core.List.{List, [], _∷_, _++_}
+use mathlib.Core.List.{List}
 use lib.Dec.{T, eqb}
-use lib.ListN.{length, getD, take, replicate}
+use lib.ListN.{length, getD, take}
 use lib.Seq.{getD-take}
 use borrow.Author.Tests.{eqb-true}
 use Rattle.lists.specs.Lists.{equal, padded}
@@ -17,7 +17,7 @@ use Rattle.erp1.specs.Same.{isSame}
 use Rattle.erp1.proofs.Checks.{front-at}
 use Rattle.buffers.specs.Buffer.{part, resized}
 use Rattle.buffers.proofs.Segments.{part-at}
-use Rattle.buffers.proofs.Buffer.{resized-length}
+use Rattle.buffers.proofs.Buffer.{resized-length, padded-at}
 use Rattle.collector.specs.Acceptable.{shownAt}
 use Rattle.collector.proofs.Inside.{fails}
 
@@ -40,19 +40,9 @@ module _ (a b : List ℕ) (same : isSame a b ≡ true) where
 
 -- ---- a byte that an entry shows is the one that stands there, also past the array's end
 
-zeros-at : (n k : ℕ) → getD (replicate {A = ℕ} n 0) k 0 ≡ 0
-zeros-at zero k = refl
-zeros-at (suc n) zero = refl
-zeros-at (suc n) (suc k) = zeros-at n k
-
-filled-at : (xs : List ℕ) (n k : ℕ) → getD (xs ++ replicate n 0) k 0 ≡ getD xs k 0
-filled-at [] n k = zeros-at n k
-filled-at (x ∷ xs) n zero = refl
-filled-at (x ∷ xs) n (suc k) = filled-at xs n k
-
 resized-at : (n : ℕ) (xs : List ℕ) (k : ℕ) → k < n → getD (resized n xs) k 0 ≡ getD xs k 0
 unfolding resized
-resized-at n xs k h = getD-take n (padded n xs) k 0 h ∙ filled-at xs (n - length xs) k
+resized-at n xs k h = getD-take n (padded n xs) k 0 h ∙ padded-at n xs k
 
 -- an entry with another byte before STATUS is another telegram, whatever its length is
 module _ (lens bytes : List ℕ) (i : ℕ) (xs : List ℕ) (low : minLength ≤ length xs) (high : length xs ≤ maxLength) (k : ℕ) (before : k < length xs - 2) where

@@ -4,27 +4,30 @@ use Prim.Native.Nat.{ℕ, zero, suc, _+_, _-_, _*_, _≤_, _<_}
 use native.Mathlib.Nat.{zero-add, add-zero, add-comm, add-suc, suc-add, le-refl}
 use native.Mathlib.Numerals.{add-one}
 use native.Mathlib.Omega.{arith}
-use mathlib.Core.Path.{_≡_, refl, sym, _∙_, ap, ap₂, subst}
+use mathlib.Core.Path.{_≡_, refl, sym, _∙_, ap, ap₂}
 use mathlib.Core.Bool.{Bool, true, false, cond, false≢true}
 use lib.Dec.{eqb}
-use mathlib.Core.List.{List, [], _∷_, _++_, map, append-assoc}
-use lib.ListN.{length, getD, take, drop, set, length-set, length-take, length-drop}
-use lib.Seq.{take-suc, take-suc-set, take-set-le, drop-set-lt, getD-take, getD-drop, getD-set-same, getD-set-other, ext-getD, drop-drop, drop-cons, take-take, take-at, drop-at, take-append-seam, take-length, length-take-le}
+use mathlib.Core.List.{List, [], _∷_, _++_, map, map-append, append-assoc}
+use lib.ListN.{length, getD, take, drop, set, length-set, length-take, length-drop, length-map, take-append-drop}
+use lib.Seq.{take-suc, take-suc-set, take-set-le, drop-set-lt, getD-take, getD-drop, getD-set-same, getD-set-other, ext-getD, drop-drop, drop-cons, take-take, take-at, drop-at, take-append-seam, take-length, drop-append-le, length-take-le, length-front}
 use borrow.Author.Tests.{eqb-true, eqb-false}
+use borrow.Rule.Slice.PartMut.{midOf, putMid}
 use Rattle.lists.specs.Lists.{upFrom}
+use Rattle.lists.proofs.UpFrom.{upFrom-add, length-upFrom}
 use Rattle.lists.proofs.Tests.{by-test}
 use Rattle.erp1.specs.Subtelegram.{maxLength}
 use Rattle.buffers.specs.Buffer.{part, resized}
 use Rattle.buffers.proofs.Buffer.{resized-cut}
-use Rattle.buffers.proofs.Segments.{part-at, part-take}
-use Rattle.model.specs.View.{Reception, Entry, opened, recount, isOpen, capped}
+use Rattle.buffers.proofs.Segments.{part-length, part-at, part-take}
+use Rattle.model.specs.View.{Reception, Entry, opened, recount, capacity, isOpen, capped}
 use Rattle.model.specs.Acceptable.{isCopyOf}
 use Rattle.model.specs.Step.{plusIf, credit}
 use Rattle.model.proofs.Copies.{length-credit, credit-at}
+use Rattle.collector.specs.declared.merging.Decision.{Decision}
 use Rattle.collector.specs.Collector.{Columns, columns, entryAt, entriesAt}
 use Rattle.collector.specs.Acceptable.{lastCopy}
-use Rattle.collector.specs.Merging.{Expired, Moved, PutIf, moreAt}
-use Rattle.collector.specs.Admission.{openFrom}
+use Rattle.collector.specs.Merging.{Expired, moved, setIf, moreIf, putIf}
+use Rattle.collector.specs.Admission.{openFrom, changed, Whole}
 use Rattle.collector.proofs.Arrays.{noEntry, entries-length, entry-get, entries-more}
 
 -- ---- the loop that moves, over an array of any numbers: the first i stand there, and the others are as they were
@@ -56,13 +59,29 @@ module _ (from i : ℕ) (old xs : List ℕ) (m : Moving from i old xs) (fits : f
             ∙ sym (drop-drop 1 i xs) ∙ ap (drop 1) (m .rest) ∙ drop-drop 1 i old;
       }
 
-pub moved-none : (n : ℕ) (old : List ℕ) {from : ℕ} → from ≡ 0 → Moved from n old old
-moved-none n old e = rw e (record { front = refl })
+module _ (n : ℕ) (old : List ℕ) where
+  pub moved-none : {from : ℕ} → from ≡ 0 → old ≡ moved from n old
+  unfolding moved
+  moved-none e = rw e (sym (take-append-drop n old))
 
-pub moved-all : (from n : ℕ) (old xs : List ℕ) {i : ℕ} → i ≡ n → Moving from i old xs → Moved from n old xs
-moved-all from n old xs e m = record { front = rw e at (m .passed) }
+  pub moved-all : (from : ℕ) (xs : List ℕ) {i : ℕ} → i ≡ n → Moving from i old xs → xs ≡ moved from n old
+  unfolding moved
+  moved-all from xs e m = sym (take-append-drop n xs) ∙ ap₂ _++_ (rw e at (m .passed)) (rw e at (m .rest))
 
 -- ---- what stands after a move
+
+-- the n elements after the first `gone` stand at the front
+record Moved (gone n : ℕ) (old new : List ℕ) : Type 0 where
+  front : take n new ≡ take n (drop gone old)
+
+module _ (gone n : ℕ) (l : List ℕ) (fits : gone + n ≤ length l) where
+  moved-length : length (moved gone n l) ≡ length l
+  unfolding moved
+  moved-length = length-front l (take n (drop gone l)) n (part-length gone n l fits ∙ sym (length-take-le n l (omega arith)))
+
+  moved-front : Moved gone n l (moved gone n l)
+  unfolding moved
+  moved-front = record { front = take-at (take n (drop gone l)) (drop n l) n (part-length gone n l fits) }
 
 module _ {gone n : ℕ} {old new : List ℕ} (m : Moved gone n old new) where
   moved-at : (i : ℕ) → i < n → getD new i 0 ≡ getD old (gone + i) 0
@@ -80,18 +99,24 @@ map-same f g a b (suc n) h =
     ap₂ _∷_ (rw (add-zero, add-zero) at (h 0 (omega arith)))
     (map-same f g (suc a) (suc b) n (λ i k. rw (suc-add, suc-add, ← add-suc, ← add-suc) (h (suc i) (omega arith))))
 
--- n entries after the first `gone` stand at the front, column by column
-pub record MovedColumns (gone n : ℕ) (a a' : Columns) : Type 0 where
-  pub times : Moved gone n (a .times) (a' .times)
-  pub lens : Moved gone n (a .lens) (a' .lens)
-  pub bytes : Moved (maxLength * gone) (maxLength * n) (a .bytes) (a' .bytes)
-  pub copies : Moved gone n (a .copies) (a' .copies)
-
-pub moved-entries : (gone n : ℕ) (a a' : Columns) → MovedColumns gone n a a' → entriesAt a' n ≡ map (entryAt a) (upFrom gone n)
+-- the entries after the first `gone`, by their index
+entries-after : (a : Columns) (gone n count : ℕ) → gone + n ≡ count → drop gone (entriesAt a count) ≡ map (entryAt a) (upFrom gone n)
 unfolding entriesAt
-moved-entries gone n a a' m =
-    map-same (entryAt a') (entryAt a) 0 gone n
-    (λ i h. rw (zero-add) (same i h))
+entries-after a gone n count e =
+    rw (← e, upFrom-add 0 gone n, zero-add, map-append)
+    (drop-at (map (entryAt a) (upFrom 0 gone)) (map (entryAt a) (upFrom gone n)) gone (length-map (upFrom 0 gone) (entryAt a) ∙ length-upFrom 0 gone))
+
+-- n entries after the first `gone` stand at the front, column by column
+record MovedColumns (gone n : ℕ) (a a' : Columns) : Type 0 where
+  times : Moved gone n (a .times) (a' .times)
+  lens : Moved gone n (a .lens) (a' .lens)
+  bytes : Moved (maxLength * gone) (maxLength * n) (a .bytes) (a' .bytes)
+  copies : Moved gone n (a .copies) (a' .copies)
+
+moved-entries : (gone n count : ℕ) (a a' : Columns) → gone + n ≡ count → MovedColumns gone n a a' → entriesAt a' n ≡ drop gone (entriesAt a count)
+unfolding entriesAt
+moved-entries gone n count a a' size m =
+    map-same (entryAt a') (entryAt a) 0 gone n (λ i h. rw (zero-add) (same i h)) ∙ sym (entries-after a gone n count size)
   where
     same : (i : ℕ) → i < n → entryAt a' i ≡ entryAt a (gone + i)
     same i h =
@@ -105,15 +130,19 @@ abbrev pub creditIf : Bool → Reception → List Entry → List Entry
 creditIf test r l = cond test (credit (λ n. capped (n + 1)) (λ e. isCopyOf e r) l) l
 
 -- the columns with one more copy at i, where a test passes
-abbrev pub moreCopies : Bool → ℕ → Columns → Columns
-moreCopies test i a = columns (a .times) (a .lens) (a .bytes) (moreAt test i (a .copies))
+abbrev moreCopies : Bool → ℕ → Columns → Columns
+moreCopies test i a = columns (a .times) (a .lens) (a .bytes) (moreIf test i (a .copies))
 
 module _ (i : ℕ) (l : List ℕ) {test : Bool} where
-  pub more-none : test ≡ false → l ≡ moreAt test i l
+  pub more-none : test ≡ false → l ≡ moreIf test i l
   more-none e = rw e
 
-  pub more-one : {x : ℕ} → test ≡ true → x ≡ capped (getD l i 0 + 1) → set l i x ≡ moreAt test i l
+  pub more-one : {x : ℕ} → test ≡ true → x ≡ capped (getD l i 0 + 1) → set l i x ≡ moreIf test i l
   more-one e f = rw (e, f)
+
+more-length : (test : Bool) (i : ℕ) (l : List ℕ) → length (moreIf test i l) ≡ length l
+more-length true i l = length-set l i _
+more-length false i l = refl
 
 module _ (a : Columns) (i n : ℕ) (r : Reception) (long : n ≤ length (a .copies)) where
   abbrev counted : List ℕ
@@ -138,7 +167,7 @@ module _ (a : Columns) (i n : ℕ) (r : Reception) (long : n ≤ length (a .copi
       ∙ credited-at k h
       ∙ sym (credit-at _ _ noEntry (entriesAt a n) k (rw (entries-length a n) h) ∙ rw (← e, entry-get a n k h)))
 
-  pub credited-entries : (test : Bool) → (test ≡ true → i ≡ lastCopy (entriesAt a n) r) → entriesAt (moreCopies test i a) n ≡ creditIf test r (entriesAt a n)
+  credited-entries : (test : Bool) → (test ≡ true → i ≡ lastCopy (entriesAt a n) r) → entriesAt (moreCopies test i a) n ≡ creditIf test r (entriesAt a n)
   credited-entries true e = credited-all (e refl)
   credited-entries false e = refl
 
@@ -148,30 +177,44 @@ module _ (a : Columns) (i n : ℕ) (r : Reception) (long : n ≤ length (a .copi
 abbrev pub addIf : {A : Type 0} → Bool → A → List A → List A
 addIf b x l = cond b (l ++ (x ∷ [])) l
 
-pub put-none : (at : ℕ) (xs old : List ℕ) {test : Bool} → test ≡ false → PutIf test at xs old old
-put-none at xs old e = record { before = refl; stored = λ t. absurd (false≢true (sym e ∙ t)) }
+-- what stands before `at` stays, and xs stand there if the test passes
+record PutIf (test : Bool) (at : ℕ) (xs old new : List ℕ) : Type 0 where
+  before : take at new ≡ take at old
+  stored : test ≡ true → part at (length xs) new ≡ xs
 
-pub put-when : {test : Bool} {at : ℕ} {xs old new : List ℕ} → test ≡ true → PutIf true at xs old new → PutIf test at xs old new
-put-when e p = rw e p
+put-none : (at : ℕ) (xs old : List ℕ) → PutIf false at xs old old
+put-none at xs old = record { before = refl; stored = λ t. absurd (false≢true t) }
 
--- over what stood there by another name
-pub put-over : {test : Bool} {at : ℕ} {xs old old' new : List ℕ} → old ≡ old' → PutIf test at xs old new → PutIf test at xs old' new
-put-over {test} {at} {xs} {old} {old'} {new} e p = subst (λ (l : List ℕ). PutIf test at xs l new) e p
-
-pub put-one : (i x : ℕ) (old : List ℕ) → i < length old → PutIf true i (x ∷ []) old (set old i x)
-put-one i x old h = record {
+set-put : (test : Bool) (i x : ℕ) (old : List ℕ) → (test ≡ true → i < length old) → PutIf test i (x ∷ []) old (setIf test i x old)
+set-put true i x old h = record {
   before = take-set-le i old i x (le-refl i);
-  stored = λ _. rw (drop-cons (set old i x) i 0 (omega (arith, length-set old i x)), getD-set-same old i x 0 h);
+  stored = λ _. rw (drop-cons (set old i x) i 0 (omega (arith, h refl, length-set old i x)), getD-set-same old i x 0 (h refl));
 }
+set-put false i x old h = put-none i (x ∷ []) old
 
--- a copy into the part from `at` on
-pub put-copied : (at : ℕ) (xs old ys rest post : List ℕ) → at ≤ length old → ys ≡ take (length xs) xs ++ rest → PutIf true at xs old (take at old ++ (ys ++ post))
-put-copied at xs old ys rest post h e =
-    let long : length (take at old) ≡ at = length-take-le at old h in
+all-put : (test : Bool) (at : ℕ) (xs old : List ℕ) → (test ≡ true → at + length xs ≤ length old) → PutIf test at xs old (putIf test at xs old)
+all-put true at xs old h =
+    let long : length (take at old) ≡ at = length-take-le at old (omega (arith, h refl)) in
+    let rest = xs ++ drop (at + length xs) old in
     record {
-      before = take-at (take at old) (ys ++ post) at long;
-      stored = λ _. rw (drop-at (take at old) (ys ++ post) at long, e, take-length xs, append-assoc xs rest post) (take-append-seam xs (rest ++ post));
+      before = take-at (take at old) rest at long;
+      stored = λ _. rw (drop-at (take at old) rest at long) (take-append-seam xs (drop (at + length xs) old));
     }
+all-put false at xs old h = put-none at xs old
+
+-- what a copy into the part from `at` on leaves
+pub put-copied : (at : ℕ) (xs old ys : List ℕ) → at + length xs ≤ length old → ys ≡ take (length xs) xs ++ drop (length xs) (midOf at (length old - at) old)
+    → putMid at (length old - at) old ys ≡ putIf true at xs old
+put-copied at xs old ys h e =
+    let k = length old - at in
+    let mid = midOf at k old in
+    let post = drop k (drop at old) in
+    let long : length mid ≡ k = part-length at k old (omega arith) in
+    ap (λ (l : List ℕ). take at old ++ (l ++ post)) (e ∙ ap (λ (l : List ℕ). l ++ drop (length xs) mid) (take-length xs))
+    ∙ ap (λ (l : List ℕ). take at old ++ l)
+    (append-assoc xs (drop (length xs) mid) post
+    ∙ ap (λ (l : List ℕ). xs ++ l)
+    (sym (drop-append-le (length xs) mid post (omega arith)) ∙ ap (drop (length xs)) (take-append-drop k (drop at old)) ∙ drop-drop (length xs) at old))
 
 -- a length that says how many bytes stand there
 resized-part : (n : ℕ) (xs ys : List ℕ) → n ≤ maxLength → length ys ≡ n → take n xs ≡ ys → resized n (take maxLength xs) ≡ ys
@@ -180,17 +223,16 @@ resized-part n xs ys h long e =
     resized-cut n (take maxLength xs) (simp length-take (omega arith)) ∙ take-take n maxLength xs h ∙ e
 
 -- a reception that is kept stands at entry n, column by column
-pub record PutColumns (kept : Bool) (n : ℕ) (r : Reception) (a a' : Columns) : Type 0 where
-  pub times : PutIf kept n (r .time ∷ []) (a .times) (a' .times)
-  pub lens : PutIf kept n (length (r .bytes) ∷ []) (a .lens) (a' .lens)
-  pub bytes : PutIf kept (maxLength * n) (r .bytes) (a .bytes) (a' .bytes)
-  pub copies : PutIf kept n (0 ∷ []) (a .copies) (a' .copies)
+record PutColumns (kept : Bool) (n : ℕ) (r : Reception) (a a' : Columns) : Type 0 where
+  times : PutIf kept n (r .time ∷ []) (a .times) (a' .times)
+  lens : PutIf kept n (length (r .bytes) ∷ []) (a .lens) (a' .lens)
+  bytes : PutIf kept (maxLength * n) (r .bytes) (a .bytes) (a' .bytes)
+  copies : PutIf kept n (0 ∷ []) (a .copies) (a' .copies)
 
 module _ (kept : Bool) (n : ℕ) (r : Reception) (a a' : Columns) (short : kept ≡ true → length (r .bytes) ≤ maxLength) (p : PutColumns kept n r a a') where
   same-before : entriesAt a' n ≡ entriesAt a n
-  unfolding entriesAt
   same-before =
-      moved-entries 0 n a a' (record {
+      moved-entries 0 n n a a' (zero-add n) (record {
         times = record { front = p .times .before };
         lens = record { front = p .lens .before };
         bytes = record { front = p .bytes .before };
@@ -209,8 +251,57 @@ module _ (kept : Bool) (n : ℕ) (r : Reception) (a a' : Columns) (short : kept 
         resized-part (length (r .bytes)) (drop (maxLength * n) (a' .bytes)) (r .bytes) (short k) refl (p .bytes .stored k),
       )
 
-  pub put-entries : entriesAt a' (plusIf kept n) ≡ addIf kept (opened r) (entriesAt a n)
+  put-entries : entriesAt a' (plusIf kept n) ≡ addIf kept (opened r) (entriesAt a n)
   put-entries = by-test kept (λ k. rw (k, entries-more a' n, same-before, put-entry k)) (λ k. rw (k, same-before))
+
+-- ---- all that one reception makes of columns whose arrays hold 64 entries
+
+abbrev movedTo : ℕ → ℕ → Columns → Columns
+movedTo gone n a =
+    columns (moved gone n (a .times)) (moved gone n (a .lens)) (moved (maxLength * gone) (maxLength * n) (a .bytes)) (moved gone n (a .copies))
+
+module _ (a : Columns) (whole : Whole a) (d : Decision) (count : ℕ) (size : d .gone + d .left ≡ count) (few : count ≤ capacity) (r : Reception) where
+  abbrev front : Columns
+  front = movedTo (d .gone) (d .left) a
+
+  moved-all-four : entriesAt front (d .left) ≡ drop (d .gone) (entriesAt a count)
+  moved-all-four =
+      let k = whole in
+      moved-entries (d .gone) (d .left) count a front size (record {
+        times = moved-front (d .gone) (d .left) (a .times) (omega (arith, k .times));
+        lens = moved-front (d .gone) (d .left) (a .lens) (omega (arith, k .lens));
+        bytes = moved-front (maxLength * d .gone) (maxLength * d .left) (a .bytes) (omega (arith, k .bytes));
+        copies = moved-front (d .gone) (d .left) (a .copies) (omega (arith, k .copies));
+      })
+
+  -- each array is as long as it was
+  long-times : length (front .times) ≡ capacity
+  long-times = moved-length (d .gone) (d .left) (a .times) (omega (arith, whole .times)) ∙ whole .times
+
+  long-lens : length (front .lens) ≡ capacity
+  long-lens = moved-length (d .gone) (d .left) (a .lens) (omega (arith, whole .lens)) ∙ whole .lens
+
+  long-bytes : length (front .bytes) ≡ maxLength * capacity
+  long-bytes = moved-length (maxLength * d .gone) (maxLength * d .left) (a .bytes) (omega (arith, whole .bytes)) ∙ whole .bytes
+
+  long-copies : length (front .copies) ≡ capacity
+  long-copies = moved-length (d .gone) (d .left) (a .copies) (omega (arith, whole .copies)) ∙ whole .copies
+
+  pub changed-entries : (d .kept ≡ true → (d .left < capacity) × (length (r .bytes) ≤ maxLength))
+      → (d .heard ≡ true → d .entry ≡ lastCopy (drop (d .gone) (entriesAt a count)) r)
+      → entriesAt (changed d r a) (plusIf (d .kept) (d .left)) ≡ addIf (d .kept) (opened r) (creditIf (d .heard) r (drop (d .gone) (entriesAt a count)))
+  changed-entries room last =
+      put-entries (d .kept) (d .left) r (moreCopies (d .heard) (d .entry) front) (changed d r a) (λ e. room e .1) (record {
+        times = set-put (d .kept) (d .left) (r .time) (front .times) (λ e. omega (arith, room e .0, long-times));
+        lens = set-put (d .kept) (d .left) (length (r .bytes)) (front .lens) (λ e. omega (arith, room e .0, long-lens));
+        bytes = all-put (d .kept) (maxLength * d .left) (r .bytes) (front .bytes) (λ e. omega (arith, room e .0, room e .1, long-bytes));
+        copies =
+            set-put (d .kept) (d .left) 0 (moreIf (d .heard) (d .entry) (front .copies))
+            (λ e. omega (arith, room e .0, more-length (d .heard) (d .entry) (front .copies), long-copies));
+      })
+      ∙ ap (addIf (d .kept) (opened r))
+      (credited-entries front (d .entry) (d .left) r (omega (arith, long-copies)) (d .heard) (λ e. last e ∙ ap (λ (l : List Entry). lastCopy l r) (sym moved-all-four))
+      ∙ ap (creditIf (d .heard) r) moved-all-four)
 
 -- ---- which are no longer open
 
@@ -225,11 +316,12 @@ open-after f t a (suc n) m closed first =
     (open-after f t (suc a) n m (λ i h k. closed i (omega arith) (omega arith)) (λ h. rw (suc-add a, ← add-suc) (first h)))
 
 pub expired-open : (a : Columns) (count time gone : ℕ) → Expired (a .times) count time gone
-    → openFrom time (entriesAt a count) ≡ map (entryAt a) (upFrom gone (count - gone))
+    → openFrom time (entriesAt a count) ≡ drop gone (entriesAt a count)
 unfolding entriesAt
 expired-open a count time gone e =
     let few = e .few in
     let size : gone + (count - gone) ≡ count = omega arith in
-    rw (size, zero-add) at
+    (rw (size, zero-add) at
     (open-after (entryAt a) time 0 gone (count - gone) (λ i _ h. e .closed i (omega arith))
-    (λ h. rw zero-add (e .first (omega arith))))
+    (λ h. rw zero-add (e .first (omega arith)))))
+    ∙ sym (entries-after a gone (count - gone) count size)

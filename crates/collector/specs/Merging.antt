@@ -2,14 +2,13 @@
 use Prim.Native.Nat.{ℕ, _+_, _-_, _≤_, _<_}
 use mathlib.Core.Path.{_≡_}
 use mathlib.Core.Bool.{Bool, true, false, cond, not}
-use mathlib.Core.List.{List, []}
+use mathlib.Core.List.{List, [], _++_}
 use lib.Dec.{leb, ltb, eqb}
 use lib.ListN.{length, getD, take, drop, set}
 use Rattle.refusal.specs.Number.{numberOf}
 use Rattle.refusal.specs.declared.Refusal.the-variants as refusal
 use Rattle.erp1.specs.Subtelegram.{checkOf, isValid}
 use Rattle.telegram.specs.Repeater.{relayOf}
-use Rattle.buffers.specs.Buffer.{part}
 use Rattle.model.specs.declared.Totals.{Totals}
 use Rattle.model.specs.Answer.{Shown, Kept, Copy, Loose, Refused, isKept, isCopy, isReceived, shownOf}
 use Rattle.model.specs.View.{Reception, Entry, capacity, maturity, capped}
@@ -63,15 +62,25 @@ pub record Expired (times : List ℕ) (count time r : ℕ) : Type 0 where
   pub closed : (i : ℕ) → i < r → leb (time - getD times i 0) maturity ≡ false
   pub first : r < count → leb (time - getD times r 0) maturity ≡ true
 
--- the n elements after the first `gone` stand at the front
-pub record Moved (gone n : ℕ) (old new : List ℕ) : Type 0 where
-  pub front : take n new ≡ take n (drop gone old)
+-- ---- what a reception makes of an array
 
--- where a test passes, one more at i, up to the ceiling
-abbrev pub moreAt : Bool → ℕ → List ℕ → List ℕ
-moreAt test i l = cond test (set l i (capped (getD l i 0 + 1))) l
+-- the n elements after the first `gone` stand at the front, and behind them what stood there
+unfoldable pub moved : ℕ → ℕ → List ℕ → List ℕ
+moved gone n l = take n (drop gone l) ++ drop n l
 
--- what stands before `at` stays, and xs stand there if the test passes
-pub record PutIf (test : Bool) (at : ℕ) (xs old new : List ℕ) : Type 0 where
-  pub before : take at new ≡ take at old
-  pub stored : test ≡ true → part at (length xs) new ≡ xs
+-- x stands at i, where a test passes
+abbrev pub setIf : Bool → ℕ → ℕ → List ℕ → List ℕ
+setIf test i x l = cond test (set l i x) l
+
+-- one more stands at i, up to the ceiling
+abbrev pub moreIf : Bool → ℕ → List ℕ → List ℕ
+moreIf test i l = setIf test i (capped (getD l i 0 + 1)) l
+
+-- xs stand from `at` on
+abbrev pub putIf : Bool → ℕ → List ℕ → List ℕ → List ℕ
+putIf test at xs l = cond test (take at l ++ (xs ++ drop (at + length xs) l)) l
+
+-- an array of n elements, which was `old` and is `new`, is what is said
+pub record Changed (n : ℕ) (old new said : List ℕ) : Type 0 where
+  pub long : length old ≡ n
+  pub is : new ≡ said

@@ -142,7 +142,7 @@ fn is_repeated<'a>(
     }
     let len = entries::wide(lens[i]);
     let telegram = entries::telegram(bytes, i, len);
-    entries::find(times, lens, bytes, i, telegram, times[i]) < i
+    entries::find(times, lens, bytes, 0, i, telegram, times[i]) < i
 }
 
 // Whether received is the sum of the others, which no sum here can wrap.

@@ -7,7 +7,7 @@ ghost use mathlib.Core.Bool.{true, not, _||_};
 ghost use mathlib.Core.List.{List, [], _∷_};
 ghost use Prim.Native.Nat.{ℕ, _+_, _-_, _*_, _≤_, _<_};
 ghost use lib.Dec.{leb, eqb};
-ghost use lib.ListN.{length};
+ghost use lib.ListN.{length, drop};
 ghost use Rattle.erp1.specs.Subtelegram.{minLength, maxLength};
 ghost use Rattle.buffers.specs.Buffer.{part, resized};
 ghost use Rattle.erp1.specs.Same.{isSame};
@@ -15,33 +15,35 @@ ghost use Rattle.telegram.specs.Repeater.{levelOf};
 ghost use Rattle.model.specs.View.{capacity, txMaturity, capped};
 ghost use Rattle.collector.specs.Collector.{columns, entriesAt};
 ghost use Rattle.collector.specs.Acceptable.{lastCopy, shownAt};
-ghost use Rattle.collector.specs.Merging.{Expired, Moved, PutIf, moreAt};
+ghost use Rattle.collector.specs.Merging.{Expired, moved, setIf, moreIf, putIf, Changed};
 
-// The last of the first `count` entries that a reception is a copy of, or `count` where it is of none; no number of copies is looked at.
+// The last of the entries after the first `gone` of `count` that a reception is a copy of, counted from the first of these, or how many they are where
+// it is of none; no number of copies is looked at.
 pub(crate) fn find<'a>(
     times: &'a [u64; Collector::CAPACITY],
     lens: &'a [u8; Collector::CAPACITY],
     bytes: &'a [u8; Collector::CAPACITY * Collector::MAX_LEN],
+    gone: usize,
     count: usize,
     received: &'a [u8],
     time: u64,
 ) -> usize
-    requires { ⌜ (count ≤ capacity) × (minLength ≤ length (now received)) × (length (now received) ≤ maxLength) ⌝ }
+    requires { ⌜ (gone ≤ count) × (count ≤ capacity) × (minLength ≤ length (now received)) × (length (now received) ≤ maxLength) ⌝ }
     ensures { λ r. ⌜ ((copies : List ℕ) → r ≡ lastCopy
-        (entriesAt (columns (now (times .entry)) (now (lens .entry)) (now (bytes .entry)) copies) count)
+        (drop gone (entriesAt (columns (now (times .entry)) (now (lens .entry)) (now (bytes .entry)) copies) count))
         (record { bytes = now (received .entry); time = time })) ⌝ }
 {
     let original = is_original(received);
     let mut i = count;
-    while 0 < i {
+    while gone < i {
         i -= 1;
         if holds(lens, bytes, i, received) {
             if is_echo(original, times[i], time) {
-                return i;
+                return i - gone;
             }
         }
     }
-    count
+    count - gone
 }
 
 // Whether a reception is the sender's own: its level is 0.
@@ -105,45 +107,87 @@ pub(crate) fn expired(times: &[u64; Collector::CAPACITY], count: usize, time: u6
     count
 }
 
-// ---- the `left` entries after the first `gone` are moved to the front
+// ---- what one reception makes of each array: the `left` entries after the first `gone` are moved to the front, a copy is counted for one of them, and
+// what is kept is put behind them
 
-pub(crate) fn close_times(times: &mut [u64; Collector::CAPACITY], gone: usize, left: usize)
-    requires { ⌜ gone + left ≤ capacity ⌝ }
-    ensures { λ _. ⌜ Moved gone left (now (times .entry)) (now (times .exit)) ⌝ }
+pub(crate) fn change_times(
+    times: &mut [u64; Collector::CAPACITY],
+    gone: usize,
+    left: usize,
+    kept: bool,
+    time: u64,
+)
+    requires { ⌜ (gone + left ≤ capacity) × (kept ≡ true → left < capacity) ⌝ }
+    ensures { λ _. ⌜ Changed capacity (now (times .entry)) (now (times .exit)) (setIf kept left time (moved gone left (now (times .entry)))) ⌝ }
 {
     move_times(times, gone, left);
+    if !kept {
+        return;
+    }
+    times[left] = time;
 }
 
-pub(crate) fn close_lens(lens: &mut [u8; Collector::CAPACITY], gone: usize, left: usize)
-    requires { ⌜ gone + left ≤ capacity ⌝ }
-    ensures { λ _. ⌜ Moved gone left (now (lens .entry)) (now (lens .exit)) ⌝ }
+pub(crate) fn change_lens(
+    lens: &mut [u8; Collector::CAPACITY],
+    gone: usize,
+    left: usize,
+    kept: bool,
+    received: &[u8],
+)
+    requires { ⌜ (gone + left ≤ capacity) × (kept ≡ true → (left < capacity) × (length (now received) ≤ maxLength)) ⌝ }
+    ensures { λ _. ⌜ Changed capacity (now (lens .entry)) (now (lens .exit))
+        (setIf kept left (length (now (received .entry))) (moved gone left (now (lens .entry)))) ⌝ }
 {
     move_bytes(lens, gone, left);
+    if !kept {
+        return;
+    }
+    lens[left] = received.len() as u8;
 }
 
-pub(crate) fn close_bytes(
+pub(crate) fn change_bytes(
     bytes: &mut [u8; Collector::CAPACITY * Collector::MAX_LEN],
     gone: usize,
     left: usize,
+    kept: bool,
+    received: &[u8],
 )
-    requires { ⌜ gone + left ≤ capacity ⌝ }
-    ensures { λ _. ⌜ Moved (maxLength * gone) (maxLength * left) (now (bytes .entry)) (now (bytes .exit)) ⌝ }
+    requires { ⌜ (gone + left ≤ capacity) × (kept ≡ true → (left < capacity) × (length (now received) ≤ maxLength)) ⌝ }
+    ensures { λ _. ⌜ Changed (maxLength * capacity) (now (bytes .entry)) (now (bytes .exit))
+        (putIf kept (maxLength * left) (now (received .entry)) (moved (maxLength * gone) (maxLength * left) (now (bytes .entry)))) ⌝ }
 {
     let from = Collector::MAX_LEN * gone;
-    let n = Collector::MAX_LEN * left;
-    move_bytes(bytes, from, n);
+    let end = Collector::MAX_LEN * left;
+    move_bytes(bytes, from, end);
+    if !kept {
+        return;
+    }
+    store_bytes(bytes, end, received);
 }
 
-pub(crate) fn close_copies(copies: &mut [u16; Collector::CAPACITY], gone: usize, left: usize)
-    requires { ⌜ gone + left ≤ capacity ⌝ }
-    ensures { λ _. ⌜ Moved gone left (now (copies .entry)) (now (copies .exit)) × (length (now (copies .exit)) ≡ capacity) ⌝ }
+pub(crate) fn change_copies(
+    copies: &mut [u16; Collector::CAPACITY],
+    gone: usize,
+    left: usize,
+    heard: bool,
+    entry: usize,
+    kept: bool,
+)
+    requires { ⌜ (gone + left ≤ capacity) × (heard ≡ true → entry < capacity) × (kept ≡ true → left < capacity) ⌝ }
+    ensures { λ _. ⌜ Changed capacity (now (copies .entry)) (now (copies .exit))
+        (setIf kept left 0 (moreIf heard entry (moved gone left (now (copies .entry))))) ⌝ }
 {
     move_counts(copies, gone, left);
+    credit(copies, entry, heard);
+    if !kept {
+        return;
+    }
+    copies[left] = 0;
 }
 
 fn move_times(xs: &mut [u64], from: usize, n: usize)
     requires { ⌜ from + n ≤ length (now xs) ⌝ }
-    ensures { λ _. ⌜ Moved from n (now (xs .entry)) (now (xs .exit)) ⌝ }
+    ensures { λ _. ⌜ now (xs .exit) ≡ moved from n (now (xs .entry)) ⌝ }
 {
     if from == 0 {
         return;
@@ -155,7 +199,7 @@ fn move_times(xs: &mut [u64], from: usize, n: usize)
 
 fn move_bytes(xs: &mut [u8], from: usize, n: usize)
     requires { ⌜ from + n ≤ length (now xs) ⌝ }
-    ensures { λ _. ⌜ Moved from n (now (xs .entry)) (now (xs .exit)) ⌝ }
+    ensures { λ _. ⌜ now (xs .exit) ≡ moved from n (now (xs .entry)) ⌝ }
 {
     if from == 0 {
         return;
@@ -167,7 +211,7 @@ fn move_bytes(xs: &mut [u8], from: usize, n: usize)
 
 fn move_counts(xs: &mut [u16], from: usize, n: usize)
     requires { ⌜ from + n ≤ length (now xs) ⌝ }
-    ensures { λ _. ⌜ Moved from n (now (xs .entry)) (now (xs .exit)) ⌝ }
+    ensures { λ _. ⌜ now (xs .exit) ≡ moved from n (now (xs .entry)) ⌝ }
 {
     if from == 0 {
         return;
@@ -177,11 +221,10 @@ fn move_counts(xs: &mut [u16], from: usize, n: usize)
     }
 }
 
-// ---- a copy is counted for entry `i`
-
-pub(crate) fn credit(copies: &mut [u16; Collector::CAPACITY], i: usize, heard: bool)
+// A copy is counted for entry `i`, if it is one.
+fn credit(copies: &mut [u16; Collector::CAPACITY], i: usize, heard: bool)
     requires { ⌜ (heard ≡ true → i < capacity) ⌝ }
-    ensures { λ _. ⌜ now (copies .exit) ≡ moreAt heard i (now (copies .entry)) ⌝ }
+    ensures { λ _. ⌜ now (copies .exit) ≡ moreIf heard i (now (copies .entry)) ⌝ }
 {
     if !heard {
         return;
@@ -198,78 +241,9 @@ fn one_more(n: u16) -> u16
     n + 1
 }
 
-// ---- a reception that is kept is put at entry `i`
-
-pub(crate) fn put_time(times: &mut [u64; Collector::CAPACITY], i: usize, kept: bool, time: u64)
-    requires { ⌜ (kept ≡ true → i < capacity) ⌝ }
-    ensures { λ _. ⌜ PutIf kept i (time ∷ []) (now (times .entry)) (now (times .exit)) ⌝ }
-{
-    if !kept {
-        return;
-    }
-    store_time(times, i, time);
-}
-
-pub(crate) fn put_len(lens: &mut [u8; Collector::CAPACITY], i: usize, kept: bool, received: &[u8])
-    requires { ⌜ (kept ≡ true → (i < capacity) × (length (now received) ≤ maxLength)) ⌝ }
-    ensures { λ _. ⌜ PutIf kept i (length (now (received .entry)) ∷ []) (now (lens .entry)) (now (lens .exit)) ⌝ }
-{
-    if !kept {
-        return;
-    }
-    store_byte(lens, i, received.len() as u8);
-}
-
-pub(crate) fn put_bytes(
-    bytes: &mut [u8; Collector::CAPACITY * Collector::MAX_LEN],
-    i: usize,
-    kept: bool,
-    received: &[u8],
-)
-    requires { ⌜ (kept ≡ true → (i < capacity) × (length (now received) ≤ maxLength)) ⌝ }
-    ensures { λ _. ⌜ PutIf kept (maxLength * i) (now (received .entry)) (now (bytes .entry)) (now (bytes .exit)) ⌝ }
-{
-    if !kept {
-        return;
-    }
-    let at = Collector::MAX_LEN * i;
-    store_bytes(bytes, at, received);
-}
-
-pub(crate) fn put_copies(copies: &mut [u16; Collector::CAPACITY], i: usize, kept: bool)
-    requires { ⌜ (kept ≡ true → i < capacity) ⌝ }
-    ensures { λ _. ⌜ PutIf kept i (0 ∷ []) (now (copies .entry)) (now (copies .exit)) ⌝ }
-{
-    if !kept {
-        return;
-    }
-    store_count(copies, i, 0);
-}
-
-fn store_time(xs: &mut [u64], i: usize, x: u64)
-    requires { ⌜ i < length (now xs) ⌝ }
-    ensures { λ _. ⌜ PutIf true i (x ∷ []) (now (xs .entry)) (now (xs .exit)) ⌝ }
-{
-    xs[i] = x;
-}
-
-fn store_byte(xs: &mut [u8], i: usize, x: u8)
-    requires { ⌜ i < length (now xs) ⌝ }
-    ensures { λ _. ⌜ PutIf true i (x ∷ []) (now (xs .entry)) (now (xs .exit)) ⌝ }
-{
-    xs[i] = x;
-}
-
-fn store_count(xs: &mut [u16], i: usize, x: u16)
-    requires { ⌜ i < length (now xs) ⌝ }
-    ensures { λ _. ⌜ PutIf true i (x ∷ []) (now (xs .entry)) (now (xs .exit)) ⌝ }
-{
-    xs[i] = x;
-}
-
 fn store_bytes(xs: &mut [u8], at: usize, src: &[u8])
     requires { ⌜ at + length (now src) ≤ length (now xs) ⌝ }
-    ensures { λ _. ⌜ PutIf true at (now (src .entry)) (now (xs .entry)) (now (xs .exit)) ⌝ }
+    ensures { λ _. ⌜ now (xs .exit) ≡ putIf true at (now (src .entry)) (now (xs .entry)) ⌝ }
 {
     bytes::copy(src, &mut xs[at..]);
 }

@@ -83,39 +83,31 @@ impl Collector {
     }
 
     // Takes one reception: its bytes and the moment they were complete, in ms. A state that is not acceptable gets 11 and stays.
-    // The entries' bytes are changed where they lie; of the fields of a struct one at a time can be lent to be changed, so the three small arrays
-    // are copied. There is one exit, so that the state is copied in and out alone.
+    // Of the fields of a struct one at a time can be lent to be changed: what is changed is decided first, and then each array is changed where it lies.
+    // There is one exit, so that the state is copied in and out and no more.
     pub fn take(mut self, bytes: &[u8], time: u64) -> Taken
         ensures { λ r. ⌜ Takes self (record { bytes = now (bytes .entry); time = time }) r ⌝ }
     {
-        let mut times = self.times;
-        let mut lens = self.lens;
-        let mut copies = self.copies;
         let count = self.count;
         let latest = self.latest;
         let totals = self.totals;
-        let fit = is_acceptable(&times, &lens, &self.bytes, count, latest, totals);
+        let fit = is_acceptable(&self.times, &self.lens, &self.bytes, count, latest, totals);
         let old = Summary {
             count: count,
             latest: latest,
             totals: totals,
         };
-        let done = merging::admit(
-            fit,
-            &mut times,
-            &mut lens,
-            &mut self.bytes,
-            &mut copies,
-            old,
-            bytes,
-            time,
-        );
-        let next = done.summary;
+        let made = merging::decide(fit, &self.times, &self.lens, &self.bytes, old, bytes, time);
+        let gone = made.gone;
+        let left = made.left;
+        let kept = made.kept;
+        entries::change_times(&mut self.times, gone, left, kept, time);
+        entries::change_lens(&mut self.lens, gone, left, kept, bytes);
+        entries::change_bytes(&mut self.bytes, gone, left, kept, bytes);
+        entries::change_copies(&mut self.copies, gone, left, made.heard, made.entry, kept);
+        let next = made.summary;
         let counted = next.totals;
-        let answer = done.answer;
-        self.times = times;
-        self.lens = lens;
-        self.copies = copies;
+        let answer = made.answer;
         self.count = next.count;
         self.latest = next.latest;
         self.totals = counted;

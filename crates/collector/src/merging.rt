@@ -11,17 +11,16 @@ ghost use mathlib.Core.Bool.{true, cond, _&&_};
 ghost use mathlib.Core.List.{List};
 ghost use Prim.Native.Nat.{ℕ, _≤_, _<_};
 ghost use lib.Dec.{leb, eqb};
-ghost use lib.ListN.{length};
+ghost use lib.ListN.{length, drop};
 ghost use Rattle.erp1.specs.Subtelegram.{minLength, maxLength, checkedNumber};
 ghost use Rattle.telegram.specs.Output.{written};
-ghost use Rattle.refusal.specs.Number.{numberOf};
-ghost use Rattle.model.specs.Answer.{Refused, shownOf, shownNumber, isKept, isCopy, isLoose, isDamaged, isLate, isReceived};
+ghost use Rattle.model.specs.Answer.{shownOf, shownNumber, isKept, isCopy, isLoose, isDamaged, isLate, isReceived};
 ghost use Rattle.model.specs.View.{capacity};
 ghost use Rattle.model.specs.Acceptable.{isSummed};
 ghost use Rattle.model.specs.Step.{maxCount, plusIf, tally};
 ghost use Rattle.collector.specs.Collector.{columns, entriesAt};
 ghost use Rattle.collector.specs.Merging.{relayedFor, receptionCheck, JudgedBy, Countable};
-ghost use Rattle.collector.specs.Admission.{Admits};
+ghost use Rattle.collector.specs.Admission.{Admits, Decides, unchanged};
 
 // What a state holds beside its entries' arrays.
 pub struct Summary {
@@ -38,7 +37,6 @@ pub struct Admitted {
 
 // Takes one reception at a state that is changed where it lies: its four arrays are lent. `fit` is what the test of the state said, so that a run
 // of receptions pays for it once; where it is false, over 64 entries are counted or the totals do not add up, the answer is 11 and nothing is changed.
-// Each step decides by the answer. A refused reception leaves the latest time, at which every entry of an acceptable state is open.
 pub fn admit<'a>(
     fit: bool,
     times: &'a mut [u64; Collector::CAPACITY],
@@ -53,45 +51,83 @@ pub fn admit<'a>(
         (record { bytes = now (received .entry); time = time })
         (columns (now (times .exit)) (now (lens .exit)) (now (bytes .exit)) (now (copies .exit))) r ⌝ }
 {
-    let count = summary.count;
-    let totals = summary.totals;
-    if !is_safe(fit, count, totals) {
-        return refused(summary, Refusal::NotAccepted);
-    }
-    if totals.received == u64::MAX {
-        return refused(summary, Refusal::Full);
-    }
-    let checked = check_reception(summary.latest, received, time);
-    let latest = latest_after(checked, summary.latest, time);
-    let gone = entries::expired(times, count, latest);
-    let left = count - gone;
-    entries::close_times(times, gone, left);
-    entries::close_lens(lens, gone, left);
-    entries::close_bytes(bytes, gone, left);
-    entries::close_copies(copies, gone, left);
-    let judged = classify(times, lens, bytes, left, checked, received, time);
-    let answer = judged.answer;
-    entries::credit(copies, judged.entry, is_copy(answer));
-    let kept = is_kept(answer);
-    entries::put_time(times, left, kept, time);
-    entries::put_len(lens, left, kept, received);
-    entries::put_bytes(bytes, left, kept, received);
-    entries::put_copies(copies, left, kept);
-    let after = Summary {
-        count: count_after(kept, left),
-        latest: latest,
-        totals: counted(totals, answer),
-    };
+    let made = decide(fit, times, lens, bytes, summary, received, time);
+    let gone = made.gone;
+    let left = made.left;
+    let kept = made.kept;
+    entries::change_times(times, gone, left, kept, time);
+    entries::change_lens(lens, gone, left, kept, received);
+    entries::change_bytes(bytes, gone, left, kept, received);
+    entries::change_copies(copies, gone, left, made.heard, made.entry, kept);
+    let after = made.summary;
+    let answer = made.answer;
     Admitted {
         summary: after,
         answer: answer,
     }
 }
 
+// What one reception changes: the first `gone` entries are taken out, and `left` stay open; of these `entry` is heard again, if any is; it is put behind
+// them, if it is kept.
+pub(crate) struct Decision {
+    pub(crate) gone: usize,
+    pub(crate) left: usize,
+    pub(crate) heard: bool,
+    pub(crate) entry: usize,
+    pub(crate) kept: bool,
+    pub(crate) summary: Summary,
+    pub(crate) answer: Answer,
+}
+
 // The answer, and the entry of which a copy is one.
 struct Judged {
     answer: Answer,
     entry: usize,
+}
+
+// Decides on one reception before anything is changed, so that each array can then be changed by itself. A refused one leaves the latest time, at which
+// every entry of an acceptable state is open.
+pub(crate) fn decide<'a>(
+    fit: bool,
+    times: &'a [u64; Collector::CAPACITY],
+    lens: &'a [u8; Collector::CAPACITY],
+    bytes: &'a [u8; Collector::CAPACITY * Collector::MAX_LEN],
+    summary: Summary,
+    received: &'a [u8],
+    time: u64,
+) -> Decision
+    ensures { λ r. ⌜ ((copies : List ℕ) → Decides fit (columns (now (times .entry)) (now (lens .entry)) (now (bytes .entry)) copies) summary
+        (record { bytes = now (received .entry); time = time }) r) ⌝ }
+{
+    let count = summary.count;
+    let totals = summary.totals;
+    if !is_safe(fit, count, totals) {
+        return nothing(summary, Refusal::NotAccepted);
+    }
+    if totals.received == u64::MAX {
+        return nothing(summary, Refusal::Full);
+    }
+    let checked = check_reception(summary.latest, received, time);
+    let latest = latest_after(checked, summary.latest, time);
+    let gone = entries::expired(times, count, latest);
+    let judged = classify(times, lens, bytes, gone, count, checked, received, time);
+    let answer = judged.answer;
+    let left = count - gone;
+    let kept = is_kept(answer);
+    let after = Summary {
+        count: count_after(kept, left),
+        latest: latest,
+        totals: counted(totals, answer),
+    };
+    Decision {
+        gone: gone,
+        left: left,
+        heard: is_copy(answer),
+        entry: judged.entry,
+        kept: kept,
+        summary: after,
+        answer: answer,
+    }
 }
 
 // What a repeater set to `setting` sends for a reception that got this answer, to the front of `out`, with how many bytes it is: none, if it was not
@@ -119,10 +155,15 @@ fn is_safe(fit: bool, count: usize, totals: Totals) -> bool
 }
 
 // Nothing is changed.
-fn refused(summary: Summary, why: Refusal) -> Admitted
-    ensures { λ r. ⌜ (r .summary ≡ summary) × (shownOf (r .answer) ≡ Refused (numberOf why)) ⌝ }
+fn nothing(summary: Summary, why: Refusal) -> Decision
+    ensures { λ r. ⌜ r ≡ unchanged summary why ⌝ }
 {
-    Admitted {
+    Decision {
+        gone: 0,
+        left: 0,
+        heard: false,
+        entry: 0,
+        kept: false,
         summary: summary,
         answer: Answer::Refused(why),
     }
@@ -152,32 +193,36 @@ fn latest_after(checked: Checked, latest: u64, time: u64) -> u64
     }
 }
 
-// The answer, where `count` telegrams are open, and for a copy which of them it is one of; no count is looked at.
+// The answer, where of `count` telegrams the first `gone` are no longer open, and for a copy which of the others it is one of; no number of copies is
+// looked at.
 fn classify<'a>(
     times: &'a [u64; Collector::CAPACITY],
     lens: &'a [u8; Collector::CAPACITY],
     bytes: &'a [u8; Collector::CAPACITY * Collector::MAX_LEN],
+    gone: usize,
     count: usize,
     checked: Checked,
     received: &'a [u8],
     time: u64,
 ) -> Judged
-    requires { ⌜ (count ≤ capacity) × (checkedNumber checked ≡ 0 → (minLength ≤ length (now received)) × (length (now received) ≤ maxLength)) ⌝ }
+    requires { ⌜ (gone ≤ count) × (count ≤ capacity)
+        × (checkedNumber checked ≡ 0 → (minLength ≤ length (now received)) × (length (now received) ≤ maxLength)) ⌝ }
     ensures { λ r. ⌜ ((copies : List ℕ) → JudgedBy (checkedNumber checked)
-        (entriesAt (columns (now (times .entry)) (now (lens .entry)) (now (bytes .entry)) copies) count)
+        (drop gone (entriesAt (columns (now (times .entry)) (now (lens .entry)) (now (bytes .entry)) copies) count))
         (record { bytes = now (received .entry); time = time }) r) ⌝ }
 {
     match checked {
         Checked::Refused(why) => no_copy(Answer::Refused(why)),
         Checked::Valid => {
-            let entry = entries::find(times, lens, bytes, count, received, time);
-            if entry < count {
+            let left = count - gone;
+            let entry = entries::find(times, lens, bytes, gone, count, received, time);
+            if entry < left {
                 return Judged {
                     answer: Answer::Copy,
                     entry: entry,
                 };
             }
-            if Collector::CAPACITY <= count {
+            if Collector::CAPACITY <= left {
                 return no_copy(Answer::Loose);
             }
             no_copy(Answer::Kept)

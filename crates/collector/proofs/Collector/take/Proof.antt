@@ -1,20 +1,58 @@
--- `collector::Collector::take` meets its contract: what is admitted as the test of the state says is a step. Assumes nothing.
+-- `collector::Collector::take` meets its contract: what is decided as the test of the state says, carried out column by column, is a step.
+-- Assumes nothing.
 use mathlib.Core.Path.{_∙_}
 use borrow.Author.Needs.{needs}
-use Rattle.collector.specs.Collector.{viewOf}
-use Rattle.collector.specs.Admission.{collectorOf}
+use denote.Ref.{now}
+use Rattle.model.specs.View.{Reception}
+use Rattle.collector.specs.Collector.{columnsOf, viewOf}
+use Rattle.collector.specs.Admission.{collectorOf, Decides}
+use Rattle.collector.proofs.Admitting.{carried-out}
 use Rattle.collector.proofs.Stepping.{admission-fit}
 use Rattle.collector.proofs.Collector.take.Statement.{statement}
 use Rattle.collector.proofs.Collector.take.Tie as tie
 
+abbrev testing : tie.After-decide → tie.After-is-acceptable
+testing c = c .before .before .before .before .before
+
+abbrev start : tie.After-decide → tie.Start
+start c = testing c .before .before .before .before .before .before .before
+
+abbrev reception : tie.Start → Reception
+reception s = record { bytes = now (s .args .bytes); time = s .args .time }
+
+made : (c : tie.After-decide)
+    → (let s = start c .args .t1 in
+    Decides (testing c .is-acceptable .result) (columnsOf s) (record { count = s .count; latest = s .latest; totals = s .totals }) (reception (start c)) (c .decide .result))
+made c = c .decide .ensures (start c .args .t1 .copies)
+
+change-times-requires : tie.Need-change-times-requires
+change-times-requires c κs = let d = made (c .before) in (d .few, λ e. d .room e .0)
+
+change-copies-requires : tie.Need-change-copies-requires
+change-copies-requires c κs = let d = made (c .before .before .before .before .before .before .before) in (d .few, d .inside, λ e. d .room e .0)
+
 returns : tie.Need-returns
 unfolding viewOf
 returns c =
-    let a = c .before .before in
+    let d = c .before .before .before .before .before .before .before .before .before .before in
+    let k =
+    carried-out (made d) (c .before .before .before .before .before .before .before .before .change-times .ensures)
+    (c .before .before .before .before .before .before .change-lens .ensures) (c .before .before .before .before .change-bytes .ensures)
+    (c .before .before .change-copies .ensures)
+    in
     record {
-      outcome = a .admit .ensures .outcome ∙ admission-fit _ _ _ (a .before .before .before .before .before .is-acceptable .ensures _);
-      stays = λ e. let k = a .admit .ensures .stays e in λ i. collectorOf (k .0 i) (k .1 i);
+      outcome = k .outcome ∙ admission-fit _ _ _ (testing d .is-acceptable .ensures _);
+      stays = λ e. let same = k .stays e in λ i. collectorOf (same .0 i) (same .1 i);
     }
 
 pub take-spec : {M : Type 1} → statement M
-take-spec = tie.close (tie.spec (λ c κs. search needs) (λ c κs. search needs) returns)
+take-spec =
+    tie.close
+    (tie.spec
+    (λ c κs. search needs)
+    (λ c κs. search needs)
+    change-times-requires
+    (λ c κs. let d = made (c .before .before .before) in (d .few, d .room))
+    (λ c κs. let d = made (c .before .before .before .before .before) in (d .few, d .room))
+    change-copies-requires
+    returns)

@@ -9,7 +9,7 @@ use Rattle.erp1.specs.Subtelegram.{maxLength}
 use Rattle.buffers.specs.Buffer.{part, resized}
 use Rattle.buffers.proofs.Buffer.{resized-length}
 use Rattle.collector.specs.Acceptable.{shownAt}
-use Rattle.collector.proofs.Arrays.{found-known}
+use Rattle.collector.proofs.Arrays.{entries-length, found-known}
 use Rattle.collector.proofs.acceptable.is_repeated.Statement.{statement}
 use Rattle.collector.proofs.acceptable.is_repeated.Tie as tie
 
@@ -29,13 +29,13 @@ find-requires : tie.Need-find-requires
 find-requires c κs =
     let a = start (c .before) .args in
     let long = ap length (shown (c .before)) ∙ resized-length (getD (now (a .lens)) (a .i) 0) (part (maxLength * a .i) maxLength (now (a .bytes))) in
-    (omega arith, omega (arith, start (c .before) .pre .1, long), omega (arith, start (c .before) .pre .2, long))
+    (omega arith, omega arith, omega (arith, start (c .before) .pre .1, long), omega (arith, start (c .before) .pre .2, long))
 
 returns-2 : tie.Need-returns-2
 returns-2 c copies =
     record {
       new = λ e. absurd (c .before .before .before .before .before .before .if1 .left e);
-      old = λ _. rw (c .find .ensures copies, shown (c .before .before)) (found-known _ _ _);
+      old = λ _. rw (c .find .ensures copies, shown (c .before .before)) (found-known _ _ _ (entries-length _ _));
     }
 
 pub is-repeated-spec : {M : Type 1} → statement M

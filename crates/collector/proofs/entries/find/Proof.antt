@@ -16,12 +16,12 @@ use Rattle.collector.proofs.entries.find.Statement.{statement}
 use Rattle.collector.proofs.entries.find.Tie as tie
 
 abbrev Inv-loop : tie.InvT-loop
-Inv-loop times lens bytes count received time original i₀ i =
-    (i ≤ count)
+Inv-loop times lens bytes gone count received time original i₀ i =
+    (gone ≤ i) × (i ≤ count)
     × ((copies : List ℕ) (j : ℕ) → i ≤ j → j < count → isCopyOf (entryAt (columns times lens bytes copies) j) (record { bytes = received; time = time }) ≡ false)
 
 abbrev μ-loop : tie.MeasureT-loop
-μ-loop times lens bytes count received time original i₀ i = i
+μ-loop times lens bytes gone count received time original i₀ i = i
 
 -- one more that fails a test
 down : (p : ℕ → Bool) (i count : ℕ) → p (i - 1) ≡ false → ((j : ℕ) → i ≤ j → j < count → p j ≡ false)
@@ -63,26 +63,27 @@ copied c copies =
 returns : tie.Need-returns Inv-loop μ-loop
 returns c copies =
     let l = turn (held (c .before) .before) in
-    last-found (table l copies) (start l .args .count) (reception l) (l .loop .i - 1) (omega arith) (copied (c .before) copies ∙ c .if2 .taken)
-    (λ j h k. l .loop .inv .1 copies j (omega arith) k)
+    last-found (table l copies) (start l .args .gone) (start l .args .count) (reception l) (l .loop .i - 1) (omega arith) (omega arith) (copied (c .before) copies ∙ c .if2 .taken)
+    (λ j h k. l .loop .inv .2 copies j (omega arith) k)
 
 loop-again : tie.Need-loop-again Inv-loop μ-loop
 loop-again c =
     let l = turn (held (c .before) .before) in
-    (omega arith, λ copies. down (λ j. isCopyOf (entryAt (table l copies) j) (reception l)) (l .loop .i) (start l .args .count) (copied (c .before) copies ∙ c .if2 .left) (l .loop .inv .1 copies))
+    (omega arith, omega arith, λ copies. down (λ j. isCopyOf (entryAt (table l copies) j) (reception l)) (l .loop .i) (start l .args .count) (copied (c .before) copies ∙ c .if2 .left) (l .loop .inv .2 copies))
 
 loop-again-2 : tie.Need-loop-again-2 Inv-loop μ-loop
 loop-again-2 c =
     let l = turn (c .before) in (
       omega arith,
+      omega arith,
       λ copies. down (λ j. isCopyOf (entryAt (table l copies) j) (reception l)) (l .loop .i) (start l .args .count)
-          (not-same (table l copies) (l .loop .i - 1) (reception l) (sym (c .before .holds .ensures) ∙ c .if1 .left)) (l .loop .inv .1 copies),
+          (not-same (table l copies) (l .loop .i - 1) (reception l) (sym (c .before .holds .ensures) ∙ c .if1 .left)) (l .loop .inv .2 copies),
     )
 
 returns-2 : tie.Need-returns-2 Inv-loop μ-loop
 returns-2 c copies =
     let l = c .before in
-    none-found (table l copies) (start l .args .count) (reception l) (λ j k. l .loop .inv .1 copies j (omega arith) k)
+    none-found (table l copies) (start l .args .gone) (start l .args .count) (reception l) (λ j g k. l .loop .inv .2 copies j (omega arith) k)
 
 pub find-spec : {M : Type 1} → statement M
 find-spec =
@@ -91,15 +92,17 @@ find-spec =
     Inv-loop
     μ-loop
     (λ c κs. search needs)
-    (λ c. (omega arith, λ copies j h k. absurd (omega arith)))
+    (λ c. (omega arith, omega arith, λ copies j h k. absurd (omega arith)))
     (λ c. omega arith)
     (λ c κs. search needs)
     (λ c. search needs)
     (λ c. search needs)
     (λ c κs. search needs)
+    (λ c. omega arith)
     returns
     (λ c. omega arith)
     loop-again
     (λ c. omega arith)
     loop-again-2
+    (λ c. omega arith)
     returns-2)

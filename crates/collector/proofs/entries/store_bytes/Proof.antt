@@ -1,12 +1,15 @@
 -- `collector::entries::store_bytes` meets its contract. Assumes nothing.
 use native.Mathlib.Omega.{arith}
 use borrow.Author.Needs.{needs}
+use denote.Ref.{now}
 use Rattle.collector.proofs.Moving.{put-copied}
 use Rattle.collector.proofs.entries.store_bytes.Statement.{statement}
 use Rattle.collector.proofs.entries.store_bytes.Tie as tie
 
 returns : tie.Need-returns
-returns c = put-copied _ _ _ _ _ _ (omega arith) (c .before .before .copy .ensures .1)
+returns c =
+    let a = c .before .before .before .before .before .before .args in
+    put-copied (a .at) (now (a .src)) (now (a .xs)) _ (omega arith) (c .before .before .copy .ensures .1)
 
 pub store-bytes-spec : {M : Type 1} → statement M
 store-bytes-spec =
