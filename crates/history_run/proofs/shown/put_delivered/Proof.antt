@@ -1,19 +1,19 @@
--- `history_run::bursts::put_replies` is safe and ends. The loop's invariant: the index is at most the count; the measure is what is left of it.
+-- `shown::put_delivered` is safe and ends. The loop's invariant: the index is at most the count; the measure is what is left of it.
 -- Assumes nothing.
 use Prim.Native.Nat.{_≤_, _-_}
 use borrow.Author.Needs.{needs}
 use native.Mathlib.Omega.{arith}
-use Rattle.history_run.proofs.bursts.put_replies.Statement.{statement}
-use Rattle.history_run.proofs.bursts.put_replies.Tie as tie
+use Rattle.history_run.proofs.shown.put_delivered.Statement.{statement}
+use Rattle.history_run.proofs.shown.put_delivered.Tie as tie
 
 abbrev Inv-loop : tie.InvT-loop
-Inv-loop m replies i₀ i = (i ≤ m) × (m ≤ 259)
+Inv-loop cell m i₀ i = (i ≤ m) × (m ≤ 259)
 
 abbrev μ-loop : tie.MeasureT-loop
-μ-loop m replies i₀ i = m - i
+μ-loop cell m i₀ i = m - i
 
-pub put-replies-spec : {M : Type 1} → statement M
-put-replies-spec =
+pub put-delivered-spec : {M : Type 1} → statement M
+put-delivered-spec =
     tie.close
     (tie.spec
     Inv-loop

@@ -1,8 +1,8 @@
--- `history_run::calls` is safe and ends: the count of what is left falls. Assumes nothing.
+-- `history_run::histories` is safe and ends: the count of what is left falls. Assumes nothing.
 use borrow.Author.Needs.{needs}
 use native.Mathlib.Omega.{arith}
-use Rattle.history_run.proofs.calls.Statement.{statement}
-use Rattle.history_run.proofs.calls.Tie as tie
+use Rattle.history_run.proofs.histories.Statement.{statement}
+use Rattle.history_run.proofs.histories.Tie as tie
 
 abbrev Inv-loop : tie.InvT-loop
 Inv-loop most session₀ left₀ session left = Unit {0}
@@ -10,8 +10,8 @@ Inv-loop most session₀ left₀ session left = Unit {0}
 abbrev μ-loop : tie.MeasureT-loop
 μ-loop most session₀ left₀ session left = left
 
-pub calls-spec : {M : Type 1} → statement M
-calls-spec =
+pub histories-spec : {M : Type 1} → statement M
+histories-spec =
     tie.close
     (tie.spec
     Inv-loop

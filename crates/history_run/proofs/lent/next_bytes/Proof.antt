@@ -1,12 +1,12 @@
--- `given::next_bytes` is safe and ends. The loop's invariant: the buffer has its length; the measure is what is left of the bytes.
+-- `lent::next_bytes` is safe and ends. The loop's invariant: the buffer has its length; the measure is what is left of the bytes.
 -- Assumes nothing.
 use Prim.Native.Nat.{_≤_, _-_}
 use mathlib.Core.Path.{_≡_}
 use lib.ListN.{length}
 use borrow.Author.Needs.{needs}
 use native.Mathlib.Omega.{arith}
-use Rattle.history_run.proofs.given.next_bytes.Statement.{statement}
-use Rattle.history_run.proofs.given.next_bytes.Tie as tie
+use Rattle.history_run.proofs.lent.next_bytes.Statement.{statement}
+use Rattle.history_run.proofs.lent.next_bytes.Tie as tie
 
 abbrev Inv-loop : tie.InvT-loop
 Inv-loop n bytes₀ at₀ bytes at = length bytes ≡ 3054

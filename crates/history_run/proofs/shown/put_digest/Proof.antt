@@ -1,11 +1,11 @@
--- `history_run::put_digest` is safe and ends. The loop's invariant: the index is at most the length; the measure is what is left of it.
+-- `shown::put_digest` is safe and ends. The loop's invariant: the index is at most the length; the measure is what is left of it.
 -- Assumes nothing.
 use Prim.Native.Nat.{_≤_, _-_}
 use mathlib.Core.Path.{_≡_}
 use lib.ListN.{length}
 use borrow.Author.Needs.{needs}
-use Rattle.history_run.proofs.put_digest.Statement.{statement}
-use Rattle.history_run.proofs.put_digest.Tie as tie
+use Rattle.history_run.proofs.shown.put_digest.Statement.{statement}
+use Rattle.history_run.proofs.shown.put_digest.Tie as tie
 
 abbrev Inv-loop : tie.InvT-loop
 Inv-loop out figure₀ i₀ t4 i-end figure i = (i ≤ length out) × (i-end ≡ length out)

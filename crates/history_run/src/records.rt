@@ -1,0 +1,81 @@
+// The calls of a replay: what each record of the input is to it.
+use crate::least;
+ghost use mathlib.Core.Path.{_≡_};
+ghost use Prim.Native.Nat.{_≤_};
+ghost use lib.ListN.{length};
+
+// What each byte of an output is before the call.
+const FILL: u8 = 0xEE;
+
+// A reception: the record itself, with at most 28 bytes, and the setting that the caller keeps.
+pub(crate) fn reception(r: &[u8], setting: u8) -> [u8; replay::CALL_LENGTH]
+    requires { ⌜ length (now r) ≡ 64 ⌝ }
+{
+    let mut call = [0u8; replay::CALL_LENGTH];
+    layout::put_bytes(&mut call, r);
+    call[9] = at_most_28(r[9]);
+    call[63] = setting;
+    call
+}
+
+fn at_most_28(n: u8) -> u8 {
+    if n < 28 {
+        return n;
+    }
+    28
+}
+
+// A checkpoint into n bytes, or a cut by one.
+pub(crate) fn checkpoint(operation: u8, n: usize) -> [u8; replay::CALL_LENGTH] {
+    let mut call = [0u8; replay::CALL_LENGTH];
+    call[0] = operation;
+    layout::put_number(&mut call[1..9], n as u64);
+    call[9] = FILL;
+    call
+}
+
+// A restore of the n bytes that are lent.
+pub(crate) fn restore(n: usize) -> [u8; replay::CALL_LENGTH] {
+    let mut call = [0u8; replay::CALL_LENGTH];
+    call[0] = replay::RESTORING;
+    layout::put_number(&mut call[9..17], n as u64);
+    call
+}
+
+// A burst of the n records that are lent, with m places, which hold LOOSE with 21 bytes to send; byte 12 of its record is the setting.
+pub(crate) fn burst(r: &[u8], n: usize, m: usize) -> [u8; replay::CALL_LENGTH]
+    requires { ⌜ (length (now r) ≡ 64) × (n ≤ 259) ⌝ }
+{
+    let mut call = [FILL; replay::CALL_LENGTH];
+    call[0] = replay::DELIVERING;
+    put_lists(&mut call, n, m);
+    call[25] = 2;
+    call[26] = 21;
+    call[63] = r[12];
+    call
+}
+
+// Where the records stand and how many bytes they are, and the number of places.
+fn put_lists(call: &mut [u8], n: usize, m: usize)
+    requires { ⌜ (length (now call) ≡ 64) × (n ≤ 259) ⌝ }
+{
+    layout::put_number(&mut call[1..9], 0);
+    layout::put_number(&mut call[9..17], (replay::CALL_LENGTH * n) as u64);
+    layout::put_number(&mut call[17..25], m as u64);
+}
+
+// How many places bytes 10 and 11 say, at most those of a list.
+pub(crate) fn places_in(r: &[u8]) -> usize
+    requires { ⌜ length (now r) ≡ 64 ⌝ }
+    ensures { λ m. ⌜ m ≤ 259 ⌝ }
+{
+    least(layout::read_number(&r[10..12]), crate::lent::LISTED)
+}
+
+// An ask for the copies of an entry.
+pub(crate) fn ask(entry: u64) -> [u8; replay::CALL_LENGTH] {
+    let mut call = [0u8; replay::CALL_LENGTH];
+    call[0] = replay::ASKING;
+    layout::put_number(&mut call[1..9], entry);
+    call
+}
