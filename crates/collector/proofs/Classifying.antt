@@ -1,5 +1,6 @@
 -- A reception's answer by the parts that the code finds it by, and the next state by that answer. Assumes nothing.
 use Prim.Native.Nat.{ℕ, _+_, _≤_, _<_}
+use native.Mathlib.Omega.{arith}
 use mathlib.Core.Path.{_≡_, sym, _∙_, ap}
 use mathlib.Core.Bool.{Bool, true, false, false≢true}
 use mathlib.Core.List.{List}
@@ -15,6 +16,7 @@ use Rattle.model.specs.declared.Totals.{Totals}
 use Rattle.model.specs.declared.Answer.{Answer}
 use Rattle.model.specs.Answer.{Kept, Copy, Loose, Refused, isCopy, shownOf}
 use Rattle.model.specs.View.{Reception, Entry, capacity}
+use Rattle.model.specs.Step.{maxCount}
 use Rattle.collector.specs.declared.merging.Judged.{Judged}
 use Rattle.collector.specs.Acceptable.{hasCopy}
 use Rattle.collector.specs.Merging.{receptionCheck, answerFor, JudgedBy, Countable}
@@ -62,5 +64,16 @@ judged-other answer e other said = record { answer = ap shownOf e ∙ said; entr
 
 -- ---- the totals
 
-pub sum : {n : Totals} → Countable n → n .received ≡ n .kept + n .copies + n .loose + n .damaged + n .late
-sum k = eqb-true _ _ (k .summed)
+-- none of them is at its end, for none is above the sum
+pub record Below (n : Totals) : Type 0 where
+  pub kept : n .kept < maxCount
+  pub copies : n .copies < maxCount
+  pub loose : n .loose < maxCount
+  pub damaged : n .damaged < maxCount
+  pub late : n .late < maxCount
+
+pub below : {n : Totals} → Countable n → Below n
+below {n} k =
+    let sum : n .received ≡ n .kept + n .copies + n .loose + n .damaged + n .late = eqb-true _ _ (k .summed) in
+    let room = k .room in
+    record { kept = omega arith; copies = omega arith; loose = omega arith; damaged = omega arith; late = omega arith }

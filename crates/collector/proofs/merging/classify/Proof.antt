@@ -47,7 +47,7 @@ find-requires : tie.Need-find-requires
 find-requires c κs =
     let p = c .before .before .before .pre in
     let len = p .2 (ap checkedNumber (c .enum-told .given .1)) in
-    (p .0, p .1, len .0, len .1)
+    (omega (arith, p .0), p .1, len .0, len .1)
 
 returns : tie.Need-returns
 returns c copies =

@@ -1,27 +1,40 @@
 -- `collector::merging::counted` meets its contract: no total is at its end, for none is above the sum. Assumes nothing.
-use native.Mathlib.Omega.{arith}
 use borrow.Author.Needs.{needs}
-use Rattle.collector.proofs.Classifying.{sum}
+use Rattle.collector.proofs.Classifying.{below}
 use Rattle.collector.proofs.merging.counted.Statement.{statement}
 use Rattle.collector.proofs.merging.counted.Tie as tie
 
 returns : tie.Need-returns
-returns c = cc
+returns c =
+    rw (
+      c .one-more6 .ensures,
+      c .before .is-late .ensures,
+      c .before .before .one-more5 .ensures,
+      c .before .before .before .is-damaged .ensures,
+      c .before .before .before .before .one-more4 .ensures,
+      c .before .before .before .before .before .is-loose .ensures,
+      c .before .before .before .before .before .before .one-more3 .ensures,
+      c .before .before .before .before .before .before .before .is-copy .ensures,
+      c .before .before .before .before .before .before .before .before .one-more2 .ensures,
+      c .before .before .before .before .before .before .before .before .before .is-kept .ensures,
+      c .before .before .before .before .before .before .before .before .before .before .one-more .ensures,
+      c .before .before .before .before .before .before .before .before .before .before .before .is-received .ensures,
+    )
 
 pub counted-spec : {M : Type 1} → statement M
 counted-spec =
     tie.close
     (tie.spec
     (λ c κs. search needs)
-    (λ c κs t. let k = c .before .pre in k .room)
+    (λ c κs t. c .before .pre .room)
     (λ c κs. search needs)
-    (λ c κs t. let k = c .before .before .before .pre in omega (arith, sum k, k .room))
+    (λ c κs t. below (c .before .before .before .pre) .kept)
     (λ c κs. search needs)
-    (λ c κs t. let k = c .before .before .before .before .before .pre in omega (arith, sum k, k .room))
+    (λ c κs t. below (c .before .before .before .before .before .pre) .copies)
     (λ c κs. search needs)
-    (λ c κs t. let k = c .before .before .before .before .before .before .before .pre in omega (arith, sum k, k .room))
+    (λ c κs t. below (c .before .before .before .before .before .before .before .pre) .loose)
     (λ c κs. search needs)
-    (λ c κs t. let k = c .before .before .before .before .before .before .before .before .before .pre in omega (arith, sum k, k .room))
+    (λ c κs t. below (c .before .before .before .before .before .before .before .before .before .pre) .damaged)
     (λ c κs. search needs)
-    (λ c κs t. let k = c .before .before .before .before .before .before .before .before .before .before .before .pre in omega (arith, sum k, k .room))
+    (λ c κs t. below (c .before .before .before .before .before .before .before .before .before .before .before .pre) .late)
     returns)
