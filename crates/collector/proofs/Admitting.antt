@@ -29,7 +29,8 @@ use Rattle.collector.specs.declared.merging.Decision.{Decision}
 use Rattle.collector.specs.Collector.{Columns, columns, entriesAt}
 use Rattle.collector.specs.Acceptable.{hasCopy}
 use Rattle.collector.specs.Merging.{receptionCheck, answerFor, JudgedBy, Expired, moved, Changed}
-use Rattle.collector.specs.Admission.{viewIn, admittedOf, isSafe, numberOn, latestAfter, leftAfter, answerOn, entriesWith, admitted, notAdmitted, admission, Admits, unchanged, changed, Whole, Decides}
+use Rattle.collector.specs.Admission.{viewIn, admittedOf, isSafe, numberOn, latestAfter, leftAfter, answerOn, entriesWith}
+use Rattle.collector.specs.Admission.{admitted, notAdmitted, admission, Admits, unchanged, changed, Whole, Decides}
 use Rattle.collector.proofs.Arrays.{entries-length, left-length, found-known}
 use Rattle.collector.proofs.Moving.{creditIf, addIf, changed-entries, expired-open}
 
@@ -133,14 +134,16 @@ module _ (fit : Bool) (a : Columns) (s : Summary) (r : Reception) where
     admits = λ _. record { outcome = e; stays = λ _. (refl, refl) };
   }
 
-  taken-admits : {a' : Columns} (d : Admitted) → admittedOf a' d ≡ admitted (viewIn a s) r → admitted (viewIn a s) r ≡ admission fit (viewIn a s) r → Admits fit a s r a' d
+  taken-admits : {a' : Columns} (d : Admitted) → admittedOf a' d ≡ admitted (viewIn a s) r → admitted (viewIn a s) r ≡ admission fit (viewIn a s) r
+      → Admits fit a s r a' d
   unfolding admitted
   taken-admits d k e = record {
     outcome = k ∙ e;
     stays = λ f. absurd (false≢true (sym f ∙ ap (λ (o : Outcome). isReceived (o .answer)) k ∙ is-received (viewIn a s) r));
   }
 
-  pub not-accepted : fit && (leb (s .count) capacity && isSummed (s .totals)) ≡ false → notAdmitted NotAccepted (viewIn a s) ≡ admission fit (viewIn a s) r
+  pub not-accepted : fit && (leb (s .count) capacity && isSummed (s .totals)) ≡ false
+      → notAdmitted NotAccepted (viewIn a s) ≡ admission fit (viewIn a s) r
   unfolding admission
   not-accepted e = rw (safe-by, e)
 

@@ -111,7 +111,8 @@ module _ (a : Columns) where
     left-get k h = getD-drop gone (entriesAt a count) k noEntry ∙ entry-get count (gone + k) h
 
     module _ (r : Reception) where
-      pub last-found : (i : ℕ) → gone ≤ i → i < count → isCopyOf (entryAt a i) r ≡ true → ((j : ℕ) → i < j → j < count → isCopyOf (entryAt a j) r ≡ false)
+      pub last-found : (i : ℕ) → gone ≤ i → i < count → isCopyOf (entryAt a i) r ≡ true
+          → ((j : ℕ) → i < j → j < count → isCopyOf (entryAt a j) r ≡ false)
           → i - gone ≡ lastCopy left r
       unfolding lastCopy
       last-found i g h e later =

@@ -60,7 +60,10 @@ module _ (n : ℕ) (known crowded : Bool) (passed : n ≡ 0) where
 -- an answer that is no copy names no entry
 pub judged-other : {number : ℕ} {l : List Entry} {r : Reception} {j : Judged} (answer : Answer) → j .answer ≡ answer → isCopy (shownOf answer) ≡ false
     → shownOf answer ≡ answerFor number (hasCopy l r) (leb capacity (length l)) → JudgedBy number l r j
-judged-other answer e other said = record { answer = ap shownOf e ∙ said; entry = λ c. absurd (false≢true (sym other ∙ sym (ap (λ (a : Answer). isCopy (shownOf a)) e) ∙ c)) }
+judged-other answer e other said = record {
+  answer = ap shownOf e ∙ said;
+  entry = λ c. absurd (false≢true (sym other ∙ sym (ap (λ (a : Answer). isCopy (shownOf a)) e) ∙ c));
+}
 
 -- ---- the totals
 

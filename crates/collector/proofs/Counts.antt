@@ -10,7 +10,6 @@ use package.mir.Val.{Val}
 use borrow.Author.Tests.{le-leb}
 use denote.Laws.{Is}
 use denote.Shadow.{shadow}
-use denote.RattleType.{RattleType}
 use denote.Builtin.{u16}
 use denote.Array.{Array, each}
 use Rattle.lists.specs.Lists.{all, upFrom}

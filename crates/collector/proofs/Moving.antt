@@ -9,7 +9,8 @@ use mathlib.Core.Bool.{Bool, true, false, cond, false≢true}
 use lib.Dec.{eqb}
 use mathlib.Core.List.{List, [], _∷_, _++_, map, map-append, append-assoc}
 use lib.ListN.{length, getD, take, drop, set, length-set, length-take, length-drop, length-map, take-append-drop}
-use lib.Seq.{take-suc, take-suc-set, take-set-le, drop-set-lt, getD-take, getD-drop, getD-set-same, getD-set-other, ext-getD, drop-drop, drop-cons, take-take, take-at, drop-at, take-append-seam, take-length, drop-append-le, length-take-le, length-front}
+use lib.Seq.{take-suc, take-suc-set, take-set-le, drop-set-lt, getD-take, getD-drop, getD-set-same, getD-set-other, ext-getD, drop-drop, drop-cons}
+use lib.Seq.{take-take, take-at, drop-at, take-append-seam, take-length, drop-append-le, length-take-le, length-front}
 use borrow.Author.Tests.{eqb-true, eqb-false}
 use borrow.Rule.Slice.PartMut.{midOf, putMid}
 use Rattle.lists.specs.Lists.{upFrom}
@@ -121,7 +122,13 @@ moved-entries gone n count a a' size m =
     same : (i : ℕ) → i < n → entryAt a' i ≡ entryAt a (gone + i)
     same i h =
         let e : maxLength * gone + maxLength * i ≡ maxLength * (gone + i) = omega arith in
-        rw (moved-at (m .times) i h, moved-at (m .lens) i h, moved-part (m .bytes) (maxLength * i) maxLength (omega arith), moved-at (m .copies) i h, e)
+        rw (
+          moved-at (m .times) i h,
+          moved-at (m .lens) i h,
+          moved-part (m .bytes) (maxLength * i) maxLength (omega arith),
+          moved-at (m .copies) i h,
+          e,
+        )
 
 -- ---- a copy is counted
 
@@ -167,7 +174,8 @@ module _ (a : Columns) (i n : ℕ) (r : Reception) (long : n ≤ length (a .copi
       ∙ credited-at k h
       ∙ sym (credit-at _ _ noEntry (entriesAt a n) k (rw (entries-length a n) h) ∙ rw (← e, entry-get a n k h)))
 
-  credited-entries : (test : Bool) → (test ≡ true → i ≡ lastCopy (entriesAt a n) r) → entriesAt (moreCopies test i a) n ≡ creditIf test r (entriesAt a n)
+  credited-entries : (test : Bool) → (test ≡ true → i ≡ lastCopy (entriesAt a n) r)
+      → entriesAt (moreCopies test i a) n ≡ creditIf test r (entriesAt a n)
   credited-entries true e = credited-all (e refl)
   credited-entries false e = refl
 
@@ -203,7 +211,8 @@ all-put true at xs old h =
 all-put false at xs old h = put-none at xs old
 
 -- what a copy into the part from `at` on leaves
-pub put-copied : (at : ℕ) (xs old ys : List ℕ) → at + length xs ≤ length old → ys ≡ take (length xs) xs ++ drop (length xs) (midOf at (length old - at) old)
+pub put-copied : (at : ℕ) (xs old ys : List ℕ) → at + length xs ≤ length old
+    → ys ≡ take (length xs) xs ++ drop (length xs) (midOf at (length old - at) old)
     → putMid at (length old - at) old ys ≡ putIf true at xs old
 put-copied at xs old ys h e =
     let k = length old - at in
@@ -214,7 +223,9 @@ put-copied at xs old ys h e =
     ∙ ap (λ (l : List ℕ). take at old ++ l)
     (append-assoc xs (drop (length xs) mid) post
     ∙ ap (λ (l : List ℕ). xs ++ l)
-    (sym (drop-append-le (length xs) mid post (omega arith)) ∙ ap (drop (length xs)) (take-append-drop k (drop at old)) ∙ drop-drop (length xs) at old))
+    (sym (drop-append-le (length xs) mid post (omega arith))
+    ∙ ap (drop (length xs)) (take-append-drop k (drop at old))
+    ∙ drop-drop (length xs) at old))
 
 -- a length that says how many bytes stand there
 resized-part : (n : ℕ) (xs ys : List ℕ) → n ≤ maxLength → length ys ≡ n → take n xs ≡ ys → resized n (take maxLength xs) ≡ ys
@@ -229,7 +240,8 @@ record PutColumns (kept : Bool) (n : ℕ) (r : Reception) (a a' : Columns) : Typ
   bytes : PutIf kept (maxLength * n) (r .bytes) (a .bytes) (a' .bytes)
   copies : PutIf kept n (0 ∷ []) (a .copies) (a' .copies)
 
-module _ (kept : Bool) (n : ℕ) (r : Reception) (a a' : Columns) (short : kept ≡ true → length (r .bytes) ≤ maxLength) (p : PutColumns kept n r a a') where
+module _ (kept : Bool) (n : ℕ) (r : Reception) (a a' : Columns)
+    (short : kept ≡ true → length (r .bytes) ≤ maxLength) (p : PutColumns kept n r a a') where
   same-before : entriesAt a' n ≡ entriesAt a n
   same-before =
       moved-entries 0 n n a a' (zero-add n) (record {
@@ -289,7 +301,8 @@ module _ (a : Columns) (whole : Whole a) (d : Decision) (count : ℕ) (size : d 
 
   pub changed-entries : (d .kept ≡ true → (d .left < capacity) × (length (r .bytes) ≤ maxLength))
       → (d .heard ≡ true → d .entry ≡ lastCopy (drop (d .gone) (entriesAt a count)) r)
-      → entriesAt (changed d r a) (plusIf (d .kept) (d .left)) ≡ addIf (d .kept) (opened r) (creditIf (d .heard) r (drop (d .gone) (entriesAt a count)))
+      → entriesAt (changed d r a) (plusIf (d .kept) (d .left))
+      ≡ addIf (d .kept) (opened r) (creditIf (d .heard) r (drop (d .gone) (entriesAt a count)))
   changed-entries room last =
       put-entries (d .kept) (d .left) r (moreCopies (d .heard) (d .entry) front) (changed d r a) (λ e. room e .1) (record {
         times = set-put (d .kept) (d .left) (r .time) (front .times) (λ e. omega (arith, room e .0, long-times));
@@ -300,7 +313,8 @@ module _ (a : Columns) (whole : Whole a) (d : Decision) (count : ℕ) (size : d 
             (λ e. omega (arith, room e .0, more-length (d .heard) (d .entry) (front .copies), long-copies));
       })
       ∙ ap (addIf (d .kept) (opened r))
-      (credited-entries front (d .entry) (d .left) r (omega (arith, long-copies)) (d .heard) (λ e. last e ∙ ap (λ (l : List Entry). lastCopy l r) (sym moved-all-four))
+      (credited-entries front (d .entry) (d .left) r (omega (arith, long-copies)) (d .heard)
+      (λ e. last e ∙ ap (λ (l : List Entry). lastCopy l r) (sym moved-all-four))
       ∙ ap (creditIf (d .heard) r) moved-all-four)
 
 -- ---- which are no longer open

@@ -10,7 +10,7 @@ ghost use lib.ListN.{length, getD};
 ghost use Rattle.erp1.specs.Subtelegram.{minLength, maxLength};
 ghost use Rattle.model.specs.View.{capacity};
 ghost use Rattle.model.specs.Acceptable.{isSummed, acceptable};
-ghost use Rattle.collector.specs.Collector.{Columns, columns, entryAt, entriesAt, viewAt};
+ghost use Rattle.collector.specs.Collector.{Columns, columns, entriesAt, viewAt};
 ghost use Rattle.collector.specs.Acceptable.{areTimely, areTelegrams, isRepeatedAt, shownAt, marks, markOf, MarkedAs, Repeated};
 
 // The size of the table of marks.

@@ -1,10 +1,10 @@
-// The entries in their four arrays: the search for a copy and its count, those no longer open, and a new one. An array at a time is lent and changed
-// where it lies, so that nothing of the state is copied.
+// The entries in their four arrays: the search for a copy, those no longer open, and what a reception makes of each array. An array at a time is lent
+// and changed where it lies, so that nothing of the state is copied.
 use crate::Collector;
 use erp1::status;
 ghost use mathlib.Core.Path.{_≡_};
 ghost use mathlib.Core.Bool.{true, not, _||_};
-ghost use mathlib.Core.List.{List, [], _∷_};
+ghost use mathlib.Core.List.{List};
 ghost use Prim.Native.Nat.{ℕ, _+_, _-_, _*_, _≤_, _<_};
 ghost use lib.Dec.{leb, eqb};
 ghost use lib.ListN.{length, drop};
@@ -17,8 +17,8 @@ ghost use Rattle.collector.specs.Collector.{columns, entriesAt};
 ghost use Rattle.collector.specs.Acceptable.{lastCopy, shownAt};
 ghost use Rattle.collector.specs.Merging.{Expired, moved, setIf, moreIf, putIf, Changed};
 
-// The last of the entries after the first `gone` of `count` that a reception is a copy of, counted from the first of these, or how many they are where
-// it is of none; no number of copies is looked at.
+// Which of the entries after the first `gone` of `count` is the last that a reception is a copy of, counted from the first of these, or how many they
+// are where it is of none; no number of copies is looked at.
 pub(crate) fn find<'a>(
     times: &'a [u64; Collector::CAPACITY],
     lens: &'a [u8; Collector::CAPACITY],
@@ -107,8 +107,8 @@ pub(crate) fn expired(times: &[u64; Collector::CAPACITY], count: usize, time: u6
     count
 }
 
-// ---- what one reception makes of each array: the `left` entries after the first `gone` are moved to the front, a copy is counted for one of them, and
-// what is kept is put behind them
+// ---- what one reception makes of each array: the `left` entries after the first `gone` are moved to the front, a copy is counted for one of them,
+// and what is kept is put behind them
 
 pub(crate) fn change_times(
     times: &mut [u64; Collector::CAPACITY],

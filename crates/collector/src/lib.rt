@@ -83,8 +83,8 @@ impl Collector {
     }
 
     // Takes one reception: its bytes and the moment they were complete, in ms. A state that is not acceptable gets 11 and stays.
-    // Of the fields of a struct one at a time can be lent to be changed: what is changed is decided first, and then each array is changed where it lies.
-    // There is one exit, so that the state is copied in and out and no more.
+    // Of the fields of a struct one at a time can be lent to be changed: so what is changed is decided first, and then each array is changed where it
+    // lies. There is one exit, so that nothing is copied but the state, once in and once out.
     pub fn take(mut self, bytes: &[u8], time: u64) -> Taken
         ensures { λ r. ⌜ Takes self (record { bytes = now (bytes .entry); time = time }) r ⌝ }
     {
@@ -97,17 +97,24 @@ impl Collector {
             latest: latest,
             totals: totals,
         };
-        let made = merging::decide(fit, &self.times, &self.lens, &self.bytes, old, bytes, time);
-        let gone = made.gone;
-        let left = made.left;
-        let kept = made.kept;
+        let decided = merging::decide(fit, &self.times, &self.lens, &self.bytes, old, bytes, time);
+        let gone = decided.gone;
+        let left = decided.left;
+        let kept = decided.kept;
         entries::change_times(&mut self.times, gone, left, kept, time);
         entries::change_lens(&mut self.lens, gone, left, kept, bytes);
         entries::change_bytes(&mut self.bytes, gone, left, kept, bytes);
-        entries::change_copies(&mut self.copies, gone, left, made.heard, made.entry, kept);
-        let next = made.summary;
+        entries::change_copies(
+            &mut self.copies,
+            gone,
+            left,
+            decided.heard,
+            decided.entry,
+            kept,
+        );
+        let next = decided.summary;
         let counted = next.totals;
-        let answer = made.answer;
+        let answer = decided.answer;
         self.count = next.count;
         self.latest = next.latest;
         self.totals = counted;
@@ -117,8 +124,8 @@ impl Collector {
         }
     }
 
-    // How often the telegram of entry `entry`, counted from 0 in opening order, was heard again. A state that is not acceptable gets 11, an entry that
-    // is not open 10.
+    // How often the telegram of entry `entry`, counted from 0 in opening order, was heard again. A state that is not acceptable gets 11, an entry
+    // that is not open 10.
     pub fn copies(self, entry: usize) -> Heard
         ensures { λ r. ⌜ heardOf r ≡ copiesOf (viewOf self) entry ⌝ }
     {

@@ -36,7 +36,8 @@ pub struct Admitted {
 }
 
 // Takes one reception at a state that is changed where it lies: its four arrays are lent. `fit` is what the test of the state said, so that a run
-// of receptions pays for it once; where it is false, over 64 entries are counted or the totals do not add up, the answer is 11 and nothing is changed.
+// of receptions pays for it once; where it is false, over 64 entries are counted or the totals do not add up, the answer is 11 and nothing is
+// changed.
 pub fn admit<'a>(
     fit: bool,
     times: &'a mut [u64; Collector::CAPACITY],
@@ -51,24 +52,24 @@ pub fn admit<'a>(
         (record { bytes = now (received .entry); time = time })
         (columns (now (times .exit)) (now (lens .exit)) (now (bytes .exit)) (now (copies .exit))) r ⌝ }
 {
-    let made = decide(fit, times, lens, bytes, summary, received, time);
-    let gone = made.gone;
-    let left = made.left;
-    let kept = made.kept;
+    let decided = decide(fit, times, lens, bytes, summary, received, time);
+    let gone = decided.gone;
+    let left = decided.left;
+    let kept = decided.kept;
     entries::change_times(times, gone, left, kept, time);
     entries::change_lens(lens, gone, left, kept, received);
     entries::change_bytes(bytes, gone, left, kept, received);
-    entries::change_copies(copies, gone, left, made.heard, made.entry, kept);
-    let after = made.summary;
-    let answer = made.answer;
+    entries::change_copies(copies, gone, left, decided.heard, decided.entry, kept);
+    let after = decided.summary;
+    let answer = decided.answer;
     Admitted {
         summary: after,
         answer: answer,
     }
 }
 
-// What one reception changes: the first `gone` entries are taken out, and `left` stay open; of these `entry` is heard again, if any is; it is put behind
-// them, if it is kept.
+// What one reception changes: the first `gone` entries go, and `left` stay; of these `entry` was heard again, if `heard` says so, and the reception is
+// put behind them, if `kept` does. `summary` is what the state then holds beside its entries.
 pub(crate) struct Decision {
     pub(crate) gone: usize,
     pub(crate) left: usize,
@@ -85,8 +86,8 @@ struct Judged {
     entry: usize,
 }
 
-// Decides on one reception before anything is changed, so that each array can then be changed by itself. A refused one leaves the latest time, at which
-// every entry of an acceptable state is open.
+// Decides on one reception before anything is changed, so that each array can then be changed by itself. A refused one leaves the latest time, at
+// which every entry of an acceptable state is open.
 pub(crate) fn decide<'a>(
     fit: bool,
     times: &'a [u64; Collector::CAPACITY],

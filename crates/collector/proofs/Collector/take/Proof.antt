@@ -4,6 +4,7 @@ use mathlib.Core.Path.{_∙_}
 use borrow.Author.Needs.{needs}
 use denote.Ref.{now}
 use Rattle.model.specs.View.{Reception}
+use Rattle.collector.specs.declared.merging.Summary.{Summary}
 use Rattle.collector.specs.Collector.{columnsOf, viewOf}
 use Rattle.collector.specs.Admission.{collectorOf, Decides}
 use Rattle.collector.proofs.Admitting.{carried-out}
@@ -20,9 +21,11 @@ start c = testing c .before .before .before .before .before .before .before
 abbrev reception : tie.Start → Reception
 reception s = record { bytes = now (s .args .bytes); time = s .args .time }
 
+abbrev summary : tie.Start → Summary
+summary s = record { count = s .args .t1 .count; latest = s .args .t1 .latest; totals = s .args .t1 .totals }
+
 made : (c : tie.After-decide)
-    → (let s = start c .args .t1 in
-    Decides (testing c .is-acceptable .result) (columnsOf s) (record { count = s .count; latest = s .latest; totals = s .totals }) (reception (start c)) (c .decide .result))
+    → Decides (testing c .is-acceptable .result) (columnsOf (start c .args .t1)) (summary (start c)) (reception (start c)) (c .decide .result)
 made c = c .decide .ensures (start c .args .t1 .copies)
 
 change-times-requires : tie.Need-change-times-requires
@@ -35,11 +38,10 @@ returns : tie.Need-returns
 unfolding viewOf
 returns c =
     let d = c .before .before .before .before .before .before .before .before .before .before in
-    let k =
-    carried-out (made d) (c .before .before .before .before .before .before .before .before .change-times .ensures)
-    (c .before .before .before .before .before .before .change-lens .ensures) (c .before .before .before .before .change-bytes .ensures)
-    (c .before .before .change-copies .ensures)
-    in
+    let times = c .before .before .before .before .before .before .before .before .change-times .ensures in
+    let lens = c .before .before .before .before .before .before .change-lens .ensures in
+    let bytes = c .before .before .before .before .change-bytes .ensures in
+    let k = carried-out (made d) times lens bytes (c .before .before .change-copies .ensures) in
     record {
       outcome = k .outcome ∙ admission-fit _ _ _ (testing d .is-acceptable .ensures _);
       stays = λ e. let same = k .stays e in λ i. collectorOf (same .0 i) (same .1 i);

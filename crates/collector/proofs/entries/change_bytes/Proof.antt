@@ -1,12 +1,14 @@
 -- `collector::entries::change_bytes` meets its contract. Assumes nothing.
 use native.Mathlib.Omega.{arith}
-use borrow.Author.Needs.{needs}
 use borrow.Author.Tests.{not-true, not-false}
 use Rattle.collector.proofs.entries.change_bytes.Statement.{statement}
 use Rattle.collector.proofs.entries.change_bytes.Tie as tie
 
 returns : tie.Need-returns
-returns c = record { long = omega arith; is = rw (not-true (c .before .before .before .before .args .kept) (c .if1 .taken)) (c .before .move-bytes .ensures) }
+returns c = record {
+  long = omega arith;
+  is = rw (not-true (c .before .before .before .before .args .kept) (c .if1 .taken)) (c .before .move-bytes .ensures);
+}
 
 store-bytes-requires : tie.Need-store-bytes-requires
 store-bytes-requires c κs =

@@ -18,7 +18,8 @@ use Rattle.collector.proofs.entries.find.Tie as tie
 abbrev Inv-loop : tie.InvT-loop
 Inv-loop times lens bytes gone count received time original i₀ i =
     (gone ≤ i) × (i ≤ count)
-    × ((copies : List ℕ) (j : ℕ) → i ≤ j → j < count → isCopyOf (entryAt (columns times lens bytes copies) j) (record { bytes = received; time = time }) ≡ false)
+    × ((copies : List ℕ) (j : ℕ) → i ≤ j → j < count
+    → isCopyOf (entryAt (columns times lens bytes copies) j) (record { bytes = received; time = time }) ≡ false)
 
 abbrev μ-loop : tie.MeasureT-loop
 μ-loop times lens bytes gone count received time original i₀ i = i
@@ -63,13 +64,18 @@ copied c copies =
 returns : tie.Need-returns Inv-loop μ-loop
 returns c copies =
     let l = turn (held (c .before) .before) in
-    last-found (table l copies) (start l .args .gone) (start l .args .count) (reception l) (l .loop .i - 1) (omega arith) (omega arith) (copied (c .before) copies ∙ c .if2 .taken)
+    last-found (table l copies) (start l .args .gone) (start l .args .count) (reception l) (l .loop .i - 1) (omega arith) (omega arith)
+    (copied (c .before) copies ∙ c .if2 .taken)
     (λ j h k. l .loop .inv .2 copies j (omega arith) k)
 
 loop-again : tie.Need-loop-again Inv-loop μ-loop
 loop-again c =
-    let l = turn (held (c .before) .before) in
-    (omega arith, omega arith, λ copies. down (λ j. isCopyOf (entryAt (table l copies) j) (reception l)) (l .loop .i) (start l .args .count) (copied (c .before) copies ∙ c .if2 .left) (l .loop .inv .2 copies))
+    let l = turn (held (c .before) .before) in (
+      omega arith,
+      omega arith,
+      λ copies. down (λ j. isCopyOf (entryAt (table l copies) j) (reception l)) (l .loop .i) (start l .args .count)
+          (copied (c .before) copies ∙ c .if2 .left) (l .loop .inv .2 copies),
+    )
 
 loop-again-2 : tie.Need-loop-again-2 Inv-loop μ-loop
 loop-again-2 c =

@@ -29,8 +29,10 @@ change-copies-requires c κs = let d = made (c .before .before .before .before .
 returns : tie.Need-returns
 returns c =
     carried-out (made (c .before .before .before .before .before .before .before .before .before))
-    (c .before .before .before .before .before .before .before .change-times .ensures) (c .before .before .before .before .before .change-lens .ensures)
-    (c .before .before .before .change-bytes .ensures) (c .before .change-copies .ensures)
+    (c .before .before .before .before .before .before .before .change-times .ensures)
+    (c .before .before .before .before .before .change-lens .ensures)
+    (c .before .before .before .change-bytes .ensures)
+    (c .before .change-copies .ensures)
 
 pub admit-spec : {M : Type 1} → statement M
 admit-spec =

@@ -38,7 +38,8 @@ opened c copies = drop (start c .args .gone) (entriesAt (table c copies) (start 
 open-length : (c : tie.After-find) (copies : List ℕ) → length (opened c copies) ≡ start c .args .count - start c .args .gone
 open-length c copies = left-length (table c copies) (start c .args .gone) (start c .args .count)
 
-known : (c : tie.After-find) (copies : List ℕ) → ltb (c .find .result) (start c .args .count - start c .args .gone) ≡ hasCopy (opened c copies) (reception c)
+known : (c : tie.After-find) (copies : List ℕ)
+    → ltb (c .find .result) (start c .args .count - start c .args .gone) ≡ hasCopy (opened c copies) (reception c)
 known c copies =
     ap (λ (n : ℕ). ltb n (start c .args .count - start c .args .gone)) (c .find .ensures copies)
     ∙ found-known (opened c copies) (start c .args .count - start c .args .gone) (reception c) (open-length c copies)
@@ -68,7 +69,8 @@ returns-2 c copies =
 returns-3 : tie.Need-returns-3
 returns-3 c copies =
     let k = c .before .before in
-    judged-other (answer.Refused (k .checked .given .0 .0)) (c .no-copy .ensures) refl (rw (k .checked .given .1) (answer-refused (k .checked .given .0 .0) _ _))
+    judged-other (answer.Refused (k .checked .given .0 .0)) (c .no-copy .ensures) refl
+    (rw (k .checked .given .1) (answer-refused (k .checked .given .0 .0) _ _))
 
 returns-4 : tie.Need-returns-4
 returns-4 c copies =

@@ -1,6 +1,6 @@
 -- `collector::merging::decide` meets its contract: the steps of `admitted` are decided, or 11 or 8 and nothing. Assumes nothing.
 use Prim.Native.Nat.{ℕ, _-_, _<_}
-use mathlib.Core.Path.{_≡_, sym, _∙_}
+use mathlib.Core.Path.{sym, _∙_}
 use mathlib.Core.List.{List, []}
 use native.Mathlib.Omega.{arith}
 use borrow.Author.Needs.{needs}
@@ -14,7 +14,8 @@ use Rattle.model.specs.Step.{maxCount}
 use Rattle.collector.specs.Collector.{Columns, columns, entriesAt}
 use Rattle.collector.specs.Merging.{JudgedBy}
 use Rattle.collector.specs.Admission.{viewIn}
-use Rattle.collector.proofs.Admitting.{Fit, Looked, passed-valid, valid-fits, fit-says, decides-nothing, not-accepted, all-full, is-taken, room, decides}
+use Rattle.collector.proofs.Admitting.{Fit, Looked, passed-valid, valid-fits, fit-says, not-accepted, all-full, is-taken}
+use Rattle.collector.proofs.Admitting.{decides-nothing, room, decides}
 use Rattle.collector.proofs.merging.decide.Statement.{statement}
 use Rattle.collector.proofs.merging.decide.Tie as tie
 
@@ -30,7 +31,9 @@ abbrev start : tie.Else1 → tie.Start
 start c = c .before .before .before .before
 
 fit : (c : tie.Else1) → Fit (start c .args .fit) (start c .args .summary)
-fit c = fit-says (start c .args .fit) (table (start c) []) (start c .args .summary) (reception (start c)) (sym (c .before .is-safe .ensures) ∙ not-false _ (c .if1 .left))
+fit c =
+    fit-says (start c .args .fit) (table (start c) []) (start c .args .summary) (reception (start c))
+    (sym (c .before .is-safe .ensures) ∙ not-false _ (c .if1 .left))
 
 spare : (c : tie.Else2) → start (c .before .before) .args .summary .totals .received < maxCount
 spare c = omega (arith, c .if2 .left)
@@ -57,7 +60,8 @@ looked c copies = record {
 -- the answer, and the entry of which a copy is one
 judged : (c : tie.After-classify) (copies : List ℕ)
     → (let s = looking (c .before) in
-    JudgedBy (checkedNumber (checking (c .before) .check-reception .result)) (drop (c .before .expired .result) (entriesAt (table s copies) (s .args .summary .count)))
+    JudgedBy (checkedNumber (checking (c .before) .check-reception .result))
+    (drop (c .before .expired .result) (entriesAt (table s copies) (s .args .summary .count)))
     (reception s) (c .classify .result))
 judged c copies = c .classify .ensures copies
 
@@ -66,7 +70,8 @@ returns c copies =
     let s = c .before .before .before .before .before in
     rw (c .nothing .ensures)
     (decides-nothing (s .args .fit) (table s copies) (s .args .summary) (reception s) NotAccepted
-    (not-accepted (s .args .fit) (table s copies) (s .args .summary) (reception s) (sym (c .before .before .is-safe .ensures) ∙ not-true _ (c .before .if1 .taken))))
+    (not-accepted (s .args .fit) (table s copies) (s .args .summary) (reception s)
+    (sym (c .before .before .is-safe .ensures) ∙ not-true _ (c .before .if1 .taken))))
 
 returns-2 : tie.Need-returns-2
 returns-2 c copies =
@@ -98,7 +103,8 @@ returns-3 c copies =
     let j = k .before in
     let s = looking (j .before) in
     let f = found (j .before) in
-    decides (looked (j .before) copies) (judged j copies) (k .is-kept .ensures) (c .is-copy .ensures) (c .before .before .count-after .ensures) (c .before .counted .ensures)
+    decides (looked (j .before) copies) (judged j copies) (k .is-kept .ensures) (c .is-copy .ensures)
+    (c .before .before .count-after .ensures) (c .before .counted .ensures)
     (fit f .few) (s .args .fit)
     (is-taken (s .args .fit) (table s copies) (s .args .summary) (reception s) (fit f) (spare (checking (j .before) .before)))
 
