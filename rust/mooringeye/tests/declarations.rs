@@ -145,61 +145,65 @@ fn exported() -> Functions {
     all
 }
 
-/// The functions that `nm` finds defined.
-fn symbols(words: &[&str], file: &str) -> Vec<String> {
-    let out = Command::new("nm").args(words).arg(library(file)).output().expect("nm runs");
-    assert!(out.status.success(), "nm {file}");
-    let mut names: Vec<String> = String::from_utf8(out.stdout)
-        .unwrap()
-        .lines()
-        .filter_map(|l| l.split_once(" T "))
-        .map(|(_, name)| name.split('@').next().unwrap().to_string())
-        .collect();
-    names.sort();
-    names
-}
+/// What the texts say: this file alone, compiled by `rustc --test`, shows it before the library is built.
+mod sources {
+    use super::*;
 
-fn names(functions: &Functions) -> Vec<String> {
-    functions.keys().cloned().collect()
-}
+    #[test]
+    fn the_header_is_what_is_declared_here() {
+        assert!(header().len() >= 33);
+        assert_eq!(header(), declared());
+    }
 
-#[test]
-fn the_header_is_what_is_declared_here() {
-    assert!(header().len() >= 20);
-    assert_eq!(header(), declared());
-}
+    #[test]
+    fn the_header_is_what_is_exported() {
+        assert_eq!(header(), exported());
+    }
 
-#[test]
-fn the_header_is_what_is_exported() {
-    assert_eq!(header(), exported());
-}
-
-#[test]
-fn the_benchmarks_declare_what_the_header_has() {
-    let header = header();
-    for entry in std::fs::read_dir(root().join("bench/src")).unwrap() {
-        let path = entry.unwrap().path();
-        for (name, kinds) in functions(&bare(&text(&path)), "fn ", |t| vec![t.to_string()]) {
-            assert_eq!(Some(&kinds), header.get(&name), "{name} in {}", path.display());
+    #[test]
+    fn the_benchmarks_declare_what_the_header_has() {
+        let header = header();
+        for entry in std::fs::read_dir(root().join("bench/src")).unwrap() {
+            let path = entry.unwrap().path();
+            for (name, kinds) in functions(&bare(&text(&path)), "fn ", |t| vec![t.to_string()]) {
+                assert_eq!(Some(&kinds), header.get(&name), "{name} in {}", path.display());
+            }
         }
     }
 }
 
-#[test]
-fn the_archive_has_these_symbols() {
-    assert_eq!(symbols(&["--defined-only"], "libmooringeye.a"), names(&header()));
-}
+/// What was built of them.
+mod built {
+    use super::*;
 
-#[test]
-fn the_shared_object_exports_these_symbols_and_no_others() {
-    assert_eq!(symbols(&["-D", "--defined-only"], "libmooringeye.so"), names(&header()));
-    let out = Command::new("nm").args(["-D", "--defined-only"]).arg(library("libmooringeye.so")).output().unwrap();
-    assert_eq!(String::from_utf8(out.stdout).unwrap().lines().count(), header().len());
-}
+    /// The lines of `nm` that name what a file defines.
+    fn defined(words: &[&str], file: &str) -> Vec<String> {
+        let out = Command::new("nm").args(words).arg("--defined-only").arg(library(file)).output().expect("nm runs");
+        assert!(out.status.success(), "nm {file}");
+        String::from_utf8(out.stdout).unwrap().lines().map(String::from).collect()
+    }
 
-#[test]
-fn versions_agree() {
-    let text = text("include/mooringeye.h");
-    let line = text.lines().find_map(|l| l.strip_prefix("#define MOORINGEYE_VERSION ")).unwrap();
-    assert_eq!(line.trim().parse(), Ok(mooringeye::version()));
+    /// The functions among them.
+    fn symbols(lines: &[String]) -> Vec<String> {
+        let functions = lines.iter().filter_map(|l| l.split_once(" T "));
+        let mut names: Vec<String> = functions.map(|(_, name)| name.split('@').next().unwrap().to_string()).collect();
+        names.sort();
+        names
+    }
+
+    fn names() -> Vec<String> {
+        header().into_keys().collect()
+    }
+
+    #[test]
+    fn the_archive_has_these_symbols() {
+        assert_eq!(symbols(&defined(&[], "libmooringeye.a")), names());
+    }
+
+    #[test]
+    fn the_shared_object_exports_these_symbols_and_no_others() {
+        let lines = defined(&["-D"], "libmooringeye.so");
+        assert_eq!(symbols(&lines), names());
+        assert_eq!(lines.len(), names().len());
+    }
 }
