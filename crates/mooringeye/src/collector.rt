@@ -5,8 +5,10 @@ use c_collector::NUMBERS;
 use c_collector::TOTALS;
 ghost use mathlib.Core.Path.{_≡_};
 ghost use Rattle.model.specs.Heard.{copiesOf};
+ghost use Rattle.model.specs.Image.{checkpointOf};
 ghost use Rattle.c_collector.specs.State.{arrays, stateAt};
 ghost use Rattle.c_collector.specs.Calls.{Takes, Fresh, totalsCall};
+ghost use Rattle.c_image.specs.Calls.{Restores};
 
 // A collector with no telegram open and nothing counted.
 #[no_mangle]
@@ -83,7 +85,10 @@ pub extern "C" fn mooringeye_collector_checkpoint<'a>(
     copies: &'a [u16; CAPACITY],
     numbers: &'a [u64; NUMBERS],
     out: &'a mut [u8],
-) -> u8 {
+) -> u8
+    ensures { λ r. ⌜ record { number = r; output = now (out .exit) }
+        ≡ checkpointOf (stateAt (arrays (now (times .entry)) (now (lengths .entry)) (now (bytes .entry)) (now (copies .entry)) (now (numbers .entry)))) (now (out .entry)) ⌝ }
+{
     c_image::checkpoint(times, lengths, bytes, copies, numbers, out)
 }
 
@@ -96,7 +101,10 @@ pub extern "C" fn mooringeye_collector_restore(
     copies: &mut [u16; CAPACITY],
     numbers: &mut [u64; NUMBERS],
     image: &[u8],
-) -> u8 {
+) -> u8
+    ensures { λ r. ⌜ Restores (arrays (now (times .entry)) (now (lengths .entry)) (now (bytes .entry)) (now (copies .entry)) (now (numbers .entry))) (now (image .entry)) r
+        (arrays (now (times .exit)) (now (lengths .exit)) (now (bytes .exit)) (now (copies .exit)) (now (numbers .exit))) ⌝ }
+{
     c_image::restore(times, lengths, bytes, copies, numbers, image)
 }
 
