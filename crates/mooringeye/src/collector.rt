@@ -9,6 +9,7 @@ ghost use Rattle.model.specs.Image.{checkpointOf};
 ghost use Rattle.c_collector.specs.State.{arrays, stateAt};
 ghost use Rattle.c_collector.specs.Calls.{Takes, Fresh, totalsCall};
 ghost use Rattle.c_image.specs.Calls.{Restores};
+ghost use Rattle.c_burst.specs.Calls.{Bursts};
 
 // A collector with no telegram open and nothing counted.
 #[no_mangle]
@@ -118,9 +119,13 @@ pub extern "C" fn mooringeye_collector_burst(
     numbers: &mut [u64; NUMBERS],
     setting: u8,
     moments: &[u64],
-    records: &[u8],
+    frames: &[u8],
     replies: &mut [u8],
-) -> u8 {
+) -> u8
+    ensures { λ r. ⌜ Bursts (arrays (now (times .entry)) (now (lengths .entry)) (now (bytes .entry)) (now (copies .entry)) (now (numbers .entry)))
+        setting (now (moments .entry)) (now (frames .entry)) (now (replies .entry)) r
+        (arrays (now (times .exit)) (now (lengths .exit)) (now (bytes .exit)) (now (copies .exit)) (now (numbers .exit))) (now (replies .exit)) ⌝ }
+{
     c_burst::burst(
         times,
         lengths,
@@ -129,7 +134,7 @@ pub extern "C" fn mooringeye_collector_burst(
         numbers,
         setting,
         moments,
-        records,
+        frames,
         replies,
     )
 }
