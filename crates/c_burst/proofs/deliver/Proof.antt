@@ -1,0 +1,93 @@
+-- `c_burst::deliver` meets its contract. The invariant: the first i receptions are taken and answered, and what is left leads to the end; the measure:
+-- the receptions left. Assumes nothing.
+use mathlib.Core.Path.{_≡_, refl, sym, ap, _∙_}
+use mathlib.Core.List.{List}
+use Prim.Native.Nat.{ℕ, _-_, _*_, _^_, _≤_, _<_}
+use native.Mathlib.Omega.{arith}
+use lib.ListN.{length, getD}
+use Rattle.layout.proofs.Segments.{begun-length, within, lent, part-length, part-ends}
+use Rattle.model.specs.Burst.{maxBurst}
+use Rattle.collector.specs.Collector.{columns}
+use Rattle.collector.specs.Admission.{viewIn}
+use Rattle.c_layout.specs.Frame.{frameLength}
+use Rattle.c_burst.specs.Bytes.{receptionIn, receptionsIn, replyLength}
+use Rattle.c_burst.proofs.Turns.{Going, starts, turns, ends, receptions-count, reception-get}
+use Rattle.c_burst.proofs.deliver.Statement.{statement}
+use Rattle.c_burst.proofs.deliver.Tie as tie
+
+abbrev Inv-loop : tie.InvT-loop
+Inv-loop times₀ lengths₀ bytes₀ copies₀ setting moments frames replies₀ s₀ i₀ i-end times lengths bytes copies replies s i =
+    (i ≤ length moments) × (length moments ≤ maxBurst)
+    × Going setting (viewIn (columns times₀ lengths₀ bytes₀ copies₀) s₀) (receptionsIn moments frames) replies₀ i (viewIn (columns times lengths bytes copies) s) replies
+
+abbrev μ-loop : tie.MeasureT-loop
+μ-loop times₀ lengths₀ bytes₀ copies₀ setting moments frames replies₀ s₀ i₀ i-end times lengths bytes copies replies s i = length moments - i
+
+loop-holds : tie.Need-loop-holds Inv-loop μ-loop
+loop-holds c =
+    let s = c .before .before .before in
+    (omega arith, s .pre .0, starts _ _ _ _ (s .pre .3))
+
+take-frame-requires : tie.Need-take-frame-requires Inv-loop μ-loop
+take-frame-requires c κs =
+    let at = c .before .before .before .before .before .before .before .before in
+    let s = at .before .before .before .before in
+    let from = frameLength * at .loop .i in
+    let frames = s .args .frames .now in
+    (ap length (part-ends from frameLength frames) ∙ part-length from frameLength frames (omega (arith, s .pre .1)), lent (at .loop .inv .2 .written) replyLength _ refl (omega (arith, s .pre .2)), sym (at .loop .inv .2 .tested .said))
+
+loop-again : tie.Need-loop-again Inv-loop μ-loop
+loop-again c =
+    let took = c .before .before in
+    let known = took .before .before in
+    let inside = known .before .before .before .before .before .before in
+    let at = inside .before in
+    let s = at .before .before .before .before in
+    let i = at .loop .i in
+    let moments = s .args .moments .now in
+    let frames = s .args .frames .now in
+    let count = receptions-count moments frames in (
+      omega arith,
+      at .loop .inv .1,
+      turns _ _ _ _ (at .loop .inv .2) (omega (arith, count)) _
+          (reception-get moments frames i (omega arith) ∙ ap (λ (f : List ℕ). receptionIn f (getD moments i 0)) (sym (part-ends (frameLength * i) frameLength frames)))
+          (omega (arith, known .shared-slice-known3 .given i))
+          (omega (arith, count, s .pre .2))
+          _
+          _
+          (took .take-frame .ensures)
+          (took .take-frame .kept .1 .1 .1 .1 .1 .1 .1 .1 .0),
+    )
+
+returns : tie.Need-returns Inv-loop μ-loop
+returns c =
+    let a = c .before .before .before .before .before .args in
+    ends _ _ _ _ (c .before .loop .inv .2) (omega (arith, receptions-count (a .moments .now) (a .frames .now)))
+
+pub deliver-spec : {M : Type 1} → statement M
+deliver-spec =
+    tie.close
+    (tie.spec
+    Inv-loop
+    μ-loop
+    loop-holds
+    (λ c. omega arith)
+    (λ c. omega arith)
+    (λ c. omega arith)
+    (λ c. omega arith)
+    (λ c. omega arith)
+    (λ c. omega arith)
+    (λ c. omega arith)
+    (λ c. omega arith)
+    (λ c. omega arith)
+    (λ c. omega arith)
+    (λ c. omega arith)
+    (λ c. omega arith)
+    (λ c. omega arith)
+    (λ c. within (c .before .before .before .before .before .before .before .loop .inv .2 .written) _ (omega arith))
+    take-frame-requires
+    (λ c. omega arith)
+    (λ c. omega arith)
+    loop-again
+    (λ c. begun-length (c .before .loop .inv .2 .written))
+    returns)

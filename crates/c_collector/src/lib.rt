@@ -1,0 +1,215 @@
+// The collector in five lent arrays, as other languages call it: the entries' four, and its eight numbers. It is changed where it lies.
+use collector::Collector;
+use collector::acceptable;
+use collector::merging;
+use collector::merging::Summary;
+use model::Answer;
+use model::Totals;
+use refusal::Refusal;
+ghost use mathlib.Core.Path.{_≡_};
+ghost use mathlib.Core.List.{List};
+ghost use Prim.Native.Nat.{ℕ};
+ghost use lib.ListN.{length};
+ghost use Rattle.model.specs.Answer.{shownOf, shownNumber};
+ghost use Rattle.model.specs.Acceptable.{acceptable};
+ghost use Rattle.model.specs.Heard.{copiesOf};
+ghost use Rattle.c_collector.specs.State.{arrays, summaryIn, stateAt, numbersIn};
+ghost use Rattle.c_collector.specs.Calls.{kindOf, answerNumber, Takes, Fresh, totalsCall};
+
+// How many telegrams can be open.
+pub const CAPACITY: usize = Collector::CAPACITY;
+
+// 21 bytes for each.
+pub const BYTES: usize = Collector::CAPACITY * Collector::MAX_LEN;
+
+// How many telegrams are open, the latest time, and the six totals.
+pub const NUMBERS: usize = 8;
+
+// Received, kept, copies, loose, damaged, late.
+pub const TOTALS: usize = 6;
+
+// A collector with no telegram open and nothing counted.
+pub fn fresh(
+    times: &mut [u64; CAPACITY],
+    lengths: &mut [u8; CAPACITY],
+    bytes: &mut [u8; BYTES],
+    copies: &mut [u16; CAPACITY],
+    numbers: &mut [u64; NUMBERS],
+)
+    ensures { λ _. ⌜ Fresh (arrays (now (times .exit)) (now (lengths .exit)) (now (bytes .exit)) (now (copies .exit)) (now (numbers .exit))) ⌝ }
+{
+    *times = [0u64; CAPACITY];
+    *lengths = [0u8; CAPACITY];
+    *bytes = [0u8; BYTES];
+    *copies = [0u16; CAPACITY];
+    *numbers = [0u64; NUMBERS];
+}
+
+// Takes one reception: its bytes and the moment they were complete. The state is tested once.
+pub fn take<'a>(
+    times: &'a mut [u64; CAPACITY],
+    lengths: &'a mut [u8; CAPACITY],
+    bytes: &'a mut [u8; BYTES],
+    copies: &'a mut [u16; CAPACITY],
+    numbers: &'a mut [u64; NUMBERS],
+    received: &'a [u8],
+    time: u64,
+) -> u16
+    ensures { λ r. ⌜ Takes (arrays (now (times .entry)) (now (lengths .entry)) (now (bytes .entry)) (now (copies .entry)) (now (numbers .entry)))
+        (record { bytes = now (received .entry); time = time }) r
+        (arrays (now (times .exit)) (now (lengths .exit)) (now (bytes .exit)) (now (copies .exit)) (now (numbers .exit))) ⌝ }
+{
+    let summary = summary_in(numbers);
+    let fit = is_acceptable(times, lengths, bytes, numbers);
+    let done = merging::admit(fit, times, lengths, bytes, copies, summary, received, time);
+    let next = done.summary;
+    let answer = done.answer;
+    store(next, numbers);
+    answer_number(answer)
+}
+
+// The six totals: 11, and then they stay as they were.
+pub fn totals<'a>(
+    times: &'a [u64; CAPACITY],
+    lengths: &'a [u8; CAPACITY],
+    bytes: &'a [u8; BYTES],
+    copies: &'a [u16; CAPACITY],
+    numbers: &'a [u64; NUMBERS],
+    totals: &'a mut [u64; TOTALS],
+) -> u8
+    ensures { λ r. ⌜ record { number = r; values = now (totals .exit) }
+        ≡ totalsCall (stateAt (arrays (now (times .entry)) (now (lengths .entry)) (now (bytes .entry)) (now (copies .entry)) (now (numbers .entry))))
+        (now (totals .entry)) ⌝ }
+{
+    if !is_acceptable(times, lengths, bytes, numbers) {
+        return refusal::number(Refusal::NotAccepted);
+    }
+    *totals = [
+        numbers[2],
+        numbers[3],
+        numbers[4],
+        numbers[5],
+        numbers[6],
+        numbers[7],
+    ];
+    0
+}
+
+// How often the telegram of entry `entry` was heard again, 0 beside a refusal: 11, then 10.
+pub fn copies_of<'a>(
+    times: &'a [u64; CAPACITY],
+    lengths: &'a [u8; CAPACITY],
+    bytes: &'a [u8; BYTES],
+    copies: &'a [u16; CAPACITY],
+    numbers: &'a [u64; NUMBERS],
+    entry: usize,
+    heard: &'a mut u64,
+) -> u8
+    ensures { λ r. ⌜ record { number = r; copies = now (heard .exit) }
+        ≡ copiesOf (stateAt (arrays (now (times .entry)) (now (lengths .entry)) (now (bytes .entry)) (now (copies .entry)) (now (numbers .entry)))) entry ⌝ }
+{
+    *heard = 0;
+    if !is_acceptable(times, lengths, bytes, numbers) {
+        return refusal::number(Refusal::NotAccepted);
+    }
+    if numbers[0] as usize <= entry {
+        return refusal::number(Refusal::Argument);
+    }
+    *heard = wide(copies[entry]);
+    0
+}
+
+// Whether the state in these arrays is acceptable.
+pub fn is_acceptable<'a>(
+    times: &'a [u64; CAPACITY],
+    lengths: &'a [u8; CAPACITY],
+    bytes: &'a [u8; BYTES],
+    numbers: &'a [u64; NUMBERS],
+) -> bool
+    ensures { λ r. ⌜ ((copies : List ℕ) → r
+        ≡ acceptable (stateAt (arrays (now (times .entry)) (now (lengths .entry)) (now (bytes .entry)) copies (now (numbers .entry))))) ⌝ }
+{
+    let summary = summary_in(numbers);
+    let totals = summary.totals;
+    acceptable::is_acceptable(times, lengths, bytes, summary.count, summary.latest, totals)
+}
+
+// What eight numbers say. That there are eight is known of a slice, and not of an array that is lent.
+pub fn summary_in(numbers: &[u64; NUMBERS]) -> Summary
+    ensures { λ r. ⌜ (r ≡ summaryIn (now (numbers .entry))) × (length (now (numbers .entry)) ≡ 8) ⌝ }
+{
+    read_numbers(numbers)
+}
+
+fn read_numbers(numbers: &[u64]) -> Summary
+    requires { ⌜ length (now numbers) ≡ 8 ⌝ }
+    ensures { λ r. ⌜ (r ≡ summaryIn (now (numbers .entry))) × (length (now (numbers .entry)) ≡ 8) ⌝ }
+{
+    let totals = Totals {
+        received: numbers[2],
+        kept: numbers[3],
+        copies: numbers[4],
+        loose: numbers[5],
+        damaged: numbers[6],
+        late: numbers[7],
+    };
+    Summary {
+        count: numbers[0] as usize,
+        latest: numbers[1],
+        totals: totals,
+    }
+}
+
+// Puts the eight numbers of a state.
+pub fn store(summary: Summary, numbers: &mut [u64; NUMBERS])
+    ensures { λ _. ⌜ now (numbers .exit) ≡ numbersIn summary ⌝ }
+{
+    let totals = summary.totals;
+    *numbers = [
+        summary.count as u64,
+        summary.latest,
+        totals.received,
+        totals.kept,
+        totals.copies,
+        totals.loose,
+        totals.damaged,
+        totals.late,
+    ];
+}
+
+// An answer as one number.
+fn answer_number(answer: Answer) -> u16
+    ensures { λ r. ⌜ r ≡ answerNumber (shownOf answer) ⌝ }
+{
+    256 * kind_of(answer) as u16 + number_of(answer) as u16
+}
+
+// KEPT 0, COPY 1, LOOSE 2; 0 beside a refusal.
+pub fn kind_of(answer: Answer) -> u8
+    ensures { λ r. ⌜ r ≡ kindOf (shownOf answer) ⌝ }
+{
+    match answer {
+        Answer::Kept => 0,
+        Answer::Copy => 1,
+        Answer::Loose => 2,
+        Answer::Refused(_) => 0,
+    }
+}
+
+// The number of a refusal, else 0.
+pub fn number_of(answer: Answer) -> u8
+    ensures { λ r. ⌜ r ≡ shownNumber (shownOf answer) ⌝ }
+{
+    match answer {
+        Answer::Kept => 0,
+        Answer::Copy => 0,
+        Answer::Loose => 0,
+        Answer::Refused(why) => refusal::number(why),
+    }
+}
+
+fn wide(n: u16) -> u64
+    ensures { λ r. ⌜ r ≡ n ⌝ }
+{
+    n as u64
+}

@@ -1,0 +1,140 @@
+// The collector, in five lent arrays that are changed where they lie: the entries' times, lengths, bytes and numbers of copies, and eight numbers.
+use c_collector::BYTES;
+use c_collector::CAPACITY;
+use c_collector::NUMBERS;
+use c_collector::TOTALS;
+ghost use mathlib.Core.Path.{_≡_};
+ghost use Rattle.model.specs.Heard.{copiesOf};
+ghost use Rattle.model.specs.Image.{checkpointOf};
+ghost use Rattle.c_collector.specs.State.{arrays, stateAt};
+ghost use Rattle.c_collector.specs.Calls.{Takes, Fresh, totalsCall};
+ghost use Rattle.c_image.specs.Calls.{Restores};
+ghost use Rattle.c_burst.specs.Calls.{Bursts};
+
+// A collector with no telegram open and nothing counted.
+#[no_mangle]
+pub extern "C" fn mooringeye_collector_fresh(
+    times: &mut [u64; CAPACITY],
+    lengths: &mut [u8; CAPACITY],
+    bytes: &mut [u8; BYTES],
+    copies: &mut [u16; CAPACITY],
+    numbers: &mut [u64; NUMBERS],
+)
+    ensures { λ _. ⌜ Fresh (arrays (now (times .exit)) (now (lengths .exit)) (now (bytes .exit)) (now (copies .exit)) (now (numbers .exit))) ⌝ }
+{
+    c_collector::fresh(times, lengths, bytes, copies, numbers);
+}
+
+// Takes one reception.
+#[no_mangle]
+pub extern "C" fn mooringeye_collector_take<'a>(
+    times: &'a mut [u64; CAPACITY],
+    lengths: &'a mut [u8; CAPACITY],
+    bytes: &'a mut [u8; BYTES],
+    copies: &'a mut [u16; CAPACITY],
+    numbers: &'a mut [u64; NUMBERS],
+    received: &'a [u8],
+    time: u64,
+) -> u16
+    ensures { λ r. ⌜ Takes (arrays (now (times .entry)) (now (lengths .entry)) (now (bytes .entry)) (now (copies .entry)) (now (numbers .entry)))
+        (record { bytes = now (received .entry); time = time }) r
+        (arrays (now (times .exit)) (now (lengths .exit)) (now (bytes .exit)) (now (copies .exit)) (now (numbers .exit))) ⌝ }
+{
+    c_collector::take(times, lengths, bytes, copies, numbers, received, time)
+}
+
+// The six totals.
+#[no_mangle]
+pub extern "C" fn mooringeye_collector_totals<'a>(
+    times: &'a [u64; CAPACITY],
+    lengths: &'a [u8; CAPACITY],
+    bytes: &'a [u8; BYTES],
+    copies: &'a [u16; CAPACITY],
+    numbers: &'a [u64; NUMBERS],
+    totals: &'a mut [u64; TOTALS],
+) -> u8
+    ensures { λ r. ⌜ record { number = r; values = now (totals .exit) }
+        ≡ totalsCall (stateAt (arrays (now (times .entry)) (now (lengths .entry)) (now (bytes .entry)) (now (copies .entry)) (now (numbers .entry))))
+        (now (totals .entry)) ⌝ }
+{
+    c_collector::totals(times, lengths, bytes, copies, numbers, totals)
+}
+
+// How often the telegram of an entry was heard again.
+#[no_mangle]
+pub extern "C" fn mooringeye_collector_copies<'a>(
+    times: &'a [u64; CAPACITY],
+    lengths: &'a [u8; CAPACITY],
+    bytes: &'a [u8; BYTES],
+    copies: &'a [u16; CAPACITY],
+    numbers: &'a [u64; NUMBERS],
+    entry: usize,
+    heard: &'a mut u64,
+) -> u8
+    ensures { λ r. ⌜ record { number = r; copies = now (heard .exit) }
+        ≡ copiesOf (stateAt (arrays (now (times .entry)) (now (lengths .entry)) (now (bytes .entry)) (now (copies .entry)) (now (numbers .entry)))) entry ⌝ }
+{
+    c_collector::copies_of(times, lengths, bytes, copies, numbers, entry, heard)
+}
+
+// Writes the image of the state into the first 2,560 bytes.
+#[no_mangle]
+pub extern "C" fn mooringeye_collector_checkpoint<'a>(
+    times: &'a [u64; CAPACITY],
+    lengths: &'a [u8; CAPACITY],
+    bytes: &'a [u8; BYTES],
+    copies: &'a [u16; CAPACITY],
+    numbers: &'a [u64; NUMBERS],
+    out: &'a mut [u8],
+) -> u8
+    ensures { λ r. ⌜ record { number = r; output = now (out .exit) }
+        ≡ checkpointOf (stateAt (arrays (now (times .entry)) (now (lengths .entry)) (now (bytes .entry)) (now (copies .entry)) (now (numbers .entry)))) (now (out .entry)) ⌝ }
+{
+    c_image::checkpoint(times, lengths, bytes, copies, numbers, out)
+}
+
+// The state that an image holds.
+#[no_mangle]
+pub extern "C" fn mooringeye_collector_restore(
+    times: &mut [u64; CAPACITY],
+    lengths: &mut [u8; CAPACITY],
+    bytes: &mut [u8; BYTES],
+    copies: &mut [u16; CAPACITY],
+    numbers: &mut [u64; NUMBERS],
+    image: &[u8],
+) -> u8
+    ensures { λ r. ⌜ Restores (arrays (now (times .entry)) (now (lengths .entry)) (now (bytes .entry)) (now (copies .entry)) (now (numbers .entry))) (now (image .entry)) r
+        (arrays (now (times .exit)) (now (lengths .exit)) (now (bytes .exit)) (now (copies .exit)) (now (numbers .exit))) ⌝ }
+{
+    c_image::restore(times, lengths, bytes, copies, numbers, image)
+}
+
+// Takes receptions that are handed over in one list, and replies in a second.
+#[no_mangle]
+pub extern "C" fn mooringeye_collector_burst(
+    times: &mut [u64; CAPACITY],
+    lengths: &mut [u8; CAPACITY],
+    bytes: &mut [u8; BYTES],
+    copies: &mut [u16; CAPACITY],
+    numbers: &mut [u64; NUMBERS],
+    setting: u8,
+    moments: &[u64],
+    frames: &[u8],
+    replies: &mut [u8],
+) -> u8
+    ensures { λ r. ⌜ Bursts (arrays (now (times .entry)) (now (lengths .entry)) (now (bytes .entry)) (now (copies .entry)) (now (numbers .entry)))
+        setting (now (moments .entry)) (now (frames .entry)) (now (replies .entry)) r
+        (arrays (now (times .exit)) (now (lengths .exit)) (now (bytes .exit)) (now (copies .exit)) (now (numbers .exit))) (now (replies .exit)) ⌝ }
+{
+    c_burst::burst(
+        times,
+        lengths,
+        bytes,
+        copies,
+        numbers,
+        setting,
+        moments,
+        frames,
+        replies,
+    )
+}
