@@ -132,6 +132,16 @@ pub fn remove(buffer: &mut [u8], identities: &[u32], freed: &mut usize, position
     settle_removed(repack::remove(buffer, identities), freed, position)
 }
 
+// Leaves the first `rows` rows: 16, 12 with the position, 10.
+pub fn cut(buffer: &mut [u8], rows: usize, position: &mut usize) -> u8 {
+    settle(cutting::cut(buffer, rows), position)
+}
+
+// The same of one block: 16, 12.
+pub fn cut_block(block: &mut [u8], rows: usize) -> u8 {
+    taken_number(cutting::cut_block(block, rows))
+}
+
 // The number of a removal, the blocks freed, and the position beside 12.
 fn settle_removed(removed: Removed, freed: &mut usize, position: &mut usize) -> u8
     ensures { λ r. ⌜ ((buffer : List ℕ) → record { number = r; position = now (position .exit); freed = now (freed .exit); buffer = buffer }
