@@ -8,10 +8,16 @@ use layout::CELLS_PER_BLOCK;
 use layout::HEADER_LENGTH;
 use refusal::Refusal;
 ghost use mathlib.Core.Path.{_≡_};
+ghost use mathlib.Core.Bool.{true};
 ghost use Prim.Native.Nat.{_≤_, _<_};
-ghost use lib.ListN.{length};
+ghost use lib.ListN.{length, take};
 ghost use Rattle.layout.specs.Block.{cellsPerBlock, blockLength};
-ghost use Rattle.cutting.specs.Calls.{keptRows};
+ghost use Rattle.archive_model.specs.Row.{rowCount, isSound};
+ghost use Rattle.archive_model.specs.Buffer.{bufferOf, rowsIn};
+ghost use Rattle.archive_model.specs.Append.{verdict};
+ghost use Rattle.archive.specs.Archive.{appendResult};
+ghost use Rattle.cutting.specs.Cut.{firstRows, cutBlockOf, cutOf};
+ghost use Rattle.cutting.specs.Calls.{cutBlockResult, keptRows};
 
 // The bytes of a block before its CRC.
 const BODY_LENGTH: usize = BLOCK_LENGTH - 1;
@@ -27,9 +33,10 @@ fn keep_rows(block: &mut [u8], rows: usize)
     layout::seal(block);
 }
 
-// The same, and all zero for none.
+// A sound block of at least `rows` rows becomes that of the first of them; all zero for none.
 fn shorten(block: &mut [u8], rows: usize)
-    requires { ⌜ (length (now block) ≡ blockLength) × (rows ≤ cellsPerBlock) ⌝ }
+    requires { ⌜ (isSound (now block) ≡ true) × (rows ≤ rowCount (now block)) ⌝ }
+    ensures { λ _. ⌜ now (block .exit) ≡ firstRows rows (now (block .entry)) ⌝ }
 {
     if rows == 0 {
         layout::clear(block);
@@ -40,7 +47,9 @@ fn shorten(block: &mut [u8], rows: usize)
 
 // One block becomes that of its first `rows` rows, and all zero for none. Refused: 16 for another length, 12 for a block that isn't sound or has fewer
 // rows; then it is as it was.
-pub fn cut_block(block: &mut [u8], rows: usize) -> Taken {
+pub fn cut_block(block: &mut [u8], rows: usize) -> Taken
+    ensures { λ r. ⌜ cutBlockResult r (now (block .exit)) ≡ cutBlockOf rows (now (block .entry)) ⌝ }
+{
     if block.len() != BLOCK_LENGTH {
         return Taken::Refused(Refusal::Size);
     }
@@ -51,15 +60,14 @@ pub fn cut_block(block: &mut [u8], rows: usize) -> Taken {
     if used < rows {
         return Taken::Refused(Refusal::Mismatch);
     }
-    if CELLS_PER_BLOCK < rows {
-        return Taken::Refused(Refusal::Mismatch);
-    }
     shorten(block, rows);
     Taken::Done
 }
 
 // Leaves the first `rows` rows of an archive. Refused: 16, 12 with the position, 10 where it has fewer; then the buffer is as it was.
-pub fn cut(buffer: &mut [u8], rows: usize) -> Outcome {
+pub fn cut(buffer: &mut [u8], rows: usize) -> Outcome
+    ensures { λ r. ⌜ appendResult r (now (buffer .exit)) ≡ cutOf rows (now (buffer .entry)) ⌝ }
+{
     let opened = archive::open(buffer);
     match opened {
         Opened::Rows(n) => cut_from(buffer, n, rows),
@@ -68,21 +76,29 @@ pub fn cut(buffer: &mut [u8], rows: usize) -> Outcome {
     }
 }
 
-// The same of an archive of `n` rows: the block where the cut falls, and zeros behind it.
-fn cut_from(buffer: &mut [u8], n: usize, rows: usize) -> Outcome {
+// The same of an archive of `n` rows.
+fn cut_from(buffer: &mut [u8], n: usize, rows: usize) -> Outcome
+    requires { ⌜ (verdict (now buffer) .number ≡ 0) × (n ≡ length (rowsIn (now buffer))) ⌝ }
+    ensures { λ r. ⌜ appendResult r (now (buffer .exit)) ≡ cutOf rows (now (buffer .entry)) ⌝ }
+{
     if n < rows {
         return Outcome::Refused(Refusal::Argument);
     }
     if n == rows {
         return Outcome::Done;
     }
-    let k = rows / CELLS_PER_BLOCK;
-    if buffer.len() / BLOCK_LENGTH <= k {
-        return Outcome::Done;
-    }
-    let at = BLOCK_LENGTH * k;
-    shorten(&mut buffer[at..at + BLOCK_LENGTH], rows % CELLS_PER_BLOCK);
-    let end = buffer.len();
-    layout::clear(&mut buffer[at + BLOCK_LENGTH..end]);
+    take_back(buffer, rows);
     Outcome::Done
+}
+
+// Where it has more: the block in which the first `rows` rows end is cut, and zeros stand behind it.
+fn take_back(buffer: &mut [u8], rows: usize)
+    requires { ⌜ (verdict (now buffer) .number ≡ 0) × (rows < length (rowsIn (now buffer))) ⌝ }
+    ensures { λ _. ⌜ now (buffer .exit) ≡ bufferOf (length (now (buffer .entry))) (take rows (rowsIn (now (buffer .entry)))) ⌝ }
+{
+    let at = BLOCK_LENGTH * (rows / CELLS_PER_BLOCK);
+    let next = at + BLOCK_LENGTH;
+    let end = buffer.len();
+    shorten(&mut buffer[at..next], rows % CELLS_PER_BLOCK);
+    layout::clear(&mut buffer[next..end]);
 }
