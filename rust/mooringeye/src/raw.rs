@@ -132,12 +132,12 @@ mod c {
         pub fn mooringeye_report_add(numbers: *mut u64, lines: *mut u64, buffer: *const u8, size: usize, position: *mut usize) -> u8;
         pub fn mooringeye_report_line(numbers: *const u64, lines: *const u64, index: usize, line: *mut u64) -> u8;
         pub fn mooringeye_report_share(numbers: *const u64, lines: *const u64, received: u64, thousandths: *mut u64) -> u8;
-        pub fn mooringeye_report_start(numbers: *const u64, lines: *const u64, adding: *mut u64, so_far: *mut u64);
+        pub fn mooringeye_report_start(numbers: *const u64, lines: *const u64, adding: *mut u64, tally: *mut u64);
         pub fn mooringeye_report_feed(
             numbers: *const u64,
             lines: *const u64,
             adding: *mut u64,
-            so_far: *mut u64,
+            tally: *mut u64,
             piece: *const u8,
             size: usize,
         ) -> u8;
@@ -145,7 +145,7 @@ mod c {
             numbers: *mut u64,
             lines: *mut u64,
             adding: *const u64,
-            so_far: *const u64,
+            tally: *const u64,
             position: *mut usize,
         ) -> u8;
     }
@@ -374,10 +374,10 @@ pub fn report_start(
     numbers: &[u64; REPORT_NUMBERS],
     lines: &[u64; REPORT_LINES],
     adding: &mut [u64; ADDING_NUMBERS],
-    so_far: &mut [u64; REPORT_LINES],
+    tally: &mut [u64; REPORT_LINES],
 ) {
     // SAFETY: arrays of the sizes that the header names, of which those that are written are `&mut`.
-    unsafe { c::mooringeye_report_start(numbers.as_ptr(), lines.as_ptr(), adding.as_mut_ptr(), so_far.as_mut_ptr()) }
+    unsafe { c::mooringeye_report_start(numbers.as_ptr(), lines.as_ptr(), adding.as_mut_ptr(), tally.as_mut_ptr()) }
 }
 
 /// The next piece of an archive that is added.
@@ -385,12 +385,12 @@ pub fn report_feed(
     numbers: &[u64; REPORT_NUMBERS],
     lines: &[u64; REPORT_LINES],
     adding: &mut [u64; ADDING_NUMBERS],
-    so_far: &mut [u64; REPORT_LINES],
+    tally: &mut [u64; REPORT_LINES],
     piece: &[u8],
 ) -> u8 {
     let (from, size) = (piece.as_ptr(), piece.len());
     // SAFETY: arrays of the sizes that the header names, of which those that are written are `&mut`, and a slice that is read.
-    unsafe { c::mooringeye_report_feed(numbers.as_ptr(), lines.as_ptr(), adding.as_mut_ptr(), so_far.as_mut_ptr(), from, size) }
+    unsafe { c::mooringeye_report_feed(numbers.as_ptr(), lines.as_ptr(), adding.as_mut_ptr(), tally.as_mut_ptr(), from, size) }
 }
 
 /// All pieces added as one archive.
@@ -398,9 +398,9 @@ pub fn report_end(
     numbers: &mut [u64; REPORT_NUMBERS],
     lines: &mut [u64; REPORT_LINES],
     adding: &[u64; ADDING_NUMBERS],
-    so_far: &[u64; REPORT_LINES],
+    tally: &[u64; REPORT_LINES],
     position: &mut usize,
 ) -> u8 {
     // SAFETY: arrays of the sizes that the header names, of which those that are written are `&mut`, as is the number.
-    unsafe { c::mooringeye_report_end(numbers.as_mut_ptr(), lines.as_mut_ptr(), adding.as_ptr(), so_far.as_ptr(), position) }
+    unsafe { c::mooringeye_report_end(numbers.as_mut_ptr(), lines.as_mut_ptr(), adding.as_ptr(), tally.as_ptr(), position) }
 }
