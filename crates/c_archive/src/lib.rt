@@ -15,6 +15,7 @@ ghost use Rattle.archive_model.specs.Append as calls;
 ghost use Rattle.archive.specs.Archive.{openResult, appendResult, rowOf, foundNumber, takenNumber};
 ghost use Rattle.repack_model.specs.Repack as repack;
 ghost use Rattle.repack.specs.Calls.{removeResult};
+ghost use Rattle.cutting.specs.Cut.{cutOf, cutBlockOf};
 ghost use Rattle.c_archive.specs.Calls.{rowLength, rowCall};
 
 // 1 for LOOSE, and the frame of a row.
@@ -132,6 +133,20 @@ pub fn remove(buffer: &mut [u8], identities: &[u32], freed: &mut usize, position
     settle_removed(repack::remove(buffer, identities), freed, position)
 }
 
+// Leaves the first `rows` rows: 16, 12 with the position, 10.
+pub fn cut(buffer: &mut [u8], rows: usize, position: &mut usize) -> u8
+    ensures { λ r. ⌜ record { number = r; position = now (position .exit); buffer = now (buffer .exit) } ≡ cutOf rows (now (buffer .entry)) ⌝ }
+{
+    settle(cutting::cut(buffer, rows), position)
+}
+
+// The same of one block: 16, 12.
+pub fn cut_block(block: &mut [u8], rows: usize) -> u8
+    ensures { λ r. ⌜ record { number = r; block = now (block .exit) } ≡ cutBlockOf rows (now (block .entry)) ⌝ }
+{
+    taken_number(cutting::cut_block(block, rows))
+}
+
 // The number of a removal, the blocks freed, and the position beside 12.
 fn settle_removed(removed: Removed, freed: &mut usize, position: &mut usize) -> u8
     ensures { λ r. ⌜ ((buffer : List ℕ) → record { number = r; position = now (position .exit); freed = now (freed .exit); buffer = buffer }
@@ -185,7 +200,8 @@ fn found_number(found: Found) -> u8
     }
 }
 
-fn taken_number(taken: Taken) -> u8
+// The number of what was taken or refused.
+pub fn taken_number(taken: Taken) -> u8
     ensures { λ r. ⌜ r ≡ takenNumber taken ⌝ }
 {
     match taken {

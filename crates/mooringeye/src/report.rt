@@ -1,10 +1,13 @@
 // Reports over archives, in two lent arrays: its four numbers, and five numbers for each line.
+use c_pieces::adding;
 use c_report::LINE_NUMBERS;
 use c_report::LINES;
 use c_report::NUMBERS;
 ghost use mathlib.Core.Path.{_≡_};
 ghost use Rattle.report_model.specs.Report as model;
+ghost use Rattle.report_model.specs.Pieces as pieces;
 ghost use Rattle.c_report.specs.Calls.{reportAt, lineCall};
+ghost use Rattle.c_pieces.specs.Adding.{addingAt};
 
 // A report of no archive.
 #[no_mangle]
@@ -52,4 +55,50 @@ pub extern "C" fn mooringeye_report_share(
     ensures { λ r. ⌜ record { number = r; thousandths = now (thousandths .exit) } ≡ model.shareOf (reportAt (now (numbers .entry)) (now (lines .entry))) received ⌝ }
 {
     c_report::share(numbers, lines, received, thousandths)
+}
+
+// ---- in pieces
+
+// Before the first piece of an archive.
+#[no_mangle]
+pub extern "C" fn mooringeye_report_start(
+    numbers: &[u64; NUMBERS],
+    lines: &[u64; LINES],
+    adding: &mut [u64; adding::NUMBERS],
+    tally: &mut [u64; LINES],
+)
+    ensures { λ _. ⌜ addingAt (now (numbers .entry)) (now (lines .entry)) (now (adding .exit)) (now (tally .exit))
+        ≡ pieces.startAdding (reportAt (now (numbers .entry)) (now (lines .entry))) ⌝ }
+{
+    adding::start(numbers, lines, adding, tally);
+}
+
+// The next piece of an archive that is added.
+#[no_mangle]
+pub extern "C" fn mooringeye_report_feed(
+    numbers: &[u64; NUMBERS],
+    lines: &[u64; LINES],
+    adding: &mut [u64; adding::NUMBERS],
+    tally: &mut [u64; LINES],
+    piece: &[u8],
+) -> u8
+    ensures { λ r. ⌜ pieces.fed r (addingAt (now (numbers .entry)) (now (lines .entry)) (now (adding .exit)) (now (tally .exit)))
+        ≡ pieces.feedOf (addingAt (now (numbers .entry)) (now (lines .entry)) (now (adding .entry)) (now (tally .entry))) (now (piece .entry)) ⌝ }
+{
+    adding::feed(numbers, lines, adding, tally, piece)
+}
+
+// All pieces added as one archive.
+#[no_mangle]
+pub extern "C" fn mooringeye_report_end(
+    numbers: &mut [u64; NUMBERS],
+    lines: &mut [u64; LINES],
+    adding: &[u64; adding::NUMBERS],
+    tally: &[u64; LINES],
+    position: &mut usize,
+) -> u8
+    ensures { λ r. ⌜ model.answer r (now (position .exit)) (reportAt (now (numbers .exit)) (now (lines .exit)))
+        ≡ pieces.endOf (addingAt (now (numbers .entry)) (now (lines .entry)) (now (adding .entry)) (now (tally .entry))) ⌝ }
+{
+    adding::end(numbers, lines, adding, tally, position)
 }

@@ -1,0 +1,113 @@
+// An archive added to a report in pieces: the report stays as it is until the end.
+use crate::scan;
+use report::Adding;
+ghost use mathlib.Core.Path.{_≡_};
+ghost use mathlib.Core.Bool.{not};
+ghost use lib.Dec.{eqb};
+ghost use Rattle.report_model.specs.Report as model;
+ghost use Rattle.report_model.specs.Pieces as pieces;
+ghost use Rattle.report.specs.Report.{addingOf};
+ghost use Rattle.c_report.specs.Calls.{reportAt};
+ghost use Rattle.c_pieces.specs.Adding.{tallyAt, addingAt};
+
+// The four numbers of a scan, how many lines there are, KEPT rows, LOOSE rows, and 1 where a transmitter was one too many.
+pub const NUMBERS: usize = 8;
+
+// Before the first piece.
+pub fn start(
+    numbers: &[u64; c_report::NUMBERS],
+    lines: &[u64; c_report::LINES],
+    adding: &mut [u64; NUMBERS],
+    tally: &mut [u64; c_report::LINES],
+)
+    ensures { λ _. ⌜ addingAt (now (numbers .entry)) (now (lines .entry)) (now (adding .exit)) (now (tally .exit))
+        ≡ pieces.startAdding (reportAt (now (numbers .entry)) (now (lines .entry))) ⌝ }
+{
+    let r = c_report::report_in(numbers, lines);
+    store(Adding::start(r), adding, tally);
+}
+
+// The blocks of a piece: 11, 16.
+pub fn feed(
+    numbers: &[u64; c_report::NUMBERS],
+    lines: &[u64; c_report::LINES],
+    adding: &mut [u64; NUMBERS],
+    tally: &mut [u64; c_report::LINES],
+    piece: &[u8],
+) -> u8
+    ensures { λ r. ⌜ pieces.fed r (addingAt (now (numbers .entry)) (now (lines .entry)) (now (adding .exit)) (now (tally .exit)))
+        ≡ pieces.feedOf (addingAt (now (numbers .entry)) (now (lines .entry)) (now (adding .entry)) (now (tally .entry))) (now (piece .entry)) ⌝ }
+{
+    let a = adding_in(numbers, lines, adding, tally);
+    let fed = a.feed(piece);
+    let answer = fed.answer;
+    store(fed.next, adding, tally);
+    c_archive::taken_number(answer)
+}
+
+// What adding all pieces as one archive answers: 11, 12 with the position, 10, 17; then the report is as it was.
+pub fn end(
+    numbers: &mut [u64; c_report::NUMBERS],
+    lines: &mut [u64; c_report::LINES],
+    adding: &[u64; NUMBERS],
+    tally: &[u64; c_report::LINES],
+    position: &mut usize,
+) -> u8
+    ensures { λ r. ⌜ model.answer r (now (position .exit)) (reportAt (now (numbers .exit)) (now (lines .exit)))
+        ≡ pieces.endOf (addingAt (now (numbers .entry)) (now (lines .entry)) (now (adding .entry)) (now (tally .entry))) ⌝ }
+{
+    let a = adding_in(numbers, lines, adding, tally);
+    let added = a.end();
+    let answer = added.answer;
+    c_report::store(added.next, numbers, lines);
+    c_report::settle(answer, position)
+}
+
+// The archive that is being added, as four arrays hold it.
+fn adding_in(
+    numbers: &[u64; c_report::NUMBERS],
+    lines: &[u64; c_report::LINES],
+    adding: &[u64; NUMBERS],
+    tally: &[u64; c_report::LINES],
+) -> Adding
+    ensures { λ r. ⌜ addingOf r ≡ addingAt (now (numbers .entry)) (now (lines .entry)) (now (adding .entry)) (now (tally .entry)) ⌝ }
+{
+    Adding {
+        before: c_report::report_in(numbers, lines),
+        scan: scan::scan_of(adding[0], adding[1], adding[2], adding[3]),
+        count: adding[4] as usize,
+        kept: adding[5],
+        loose: adding[6],
+        over: adding[7] != 0,
+        lines: *tally,
+    }
+}
+
+// What is known beside the report.
+fn store(a: Adding, adding: &mut [u64; NUMBERS], tally: &mut [u64; c_report::LINES])
+    ensures { λ _. ⌜ tallyAt (now (adding .exit)) (now (tally .exit)) ≡ addingOf a .tally ⌝ }
+{
+    let s = a.scan;
+    let stage = s.stage;
+    *adding = [
+        s.blocks as u64,
+        s.rows as u64,
+        scan::stage_number(stage),
+        scan::stage_position(stage),
+        a.count as u64,
+        a.kept,
+        a.loose,
+        bit(a.over),
+    ];
+    let all = a.lines;
+    *tally = all;
+}
+
+fn bit(b: bool) -> u64
+    ensures { λ r. ⌜ not (eqb r 0) ≡ b ⌝ }
+{
+    if b {
+        return 1;
+    }
+    0
+}

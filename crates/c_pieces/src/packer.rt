@@ -1,0 +1,59 @@
+// A damaged archive packed anew, or rows of some transmitters removed, in pieces.
+ghost use mathlib.Core.Path.{_≡_};
+ghost use Rattle.c_pieces.specs.Packer.{packingAt, packCall, packEnd};
+
+// Rows that wait, and blocks written.
+pub const NUMBERS: usize = 2;
+
+pub const WAITING: usize = repack::PENDING_LENGTH;
+
+// The sound blocks of a piece: 11, 16, 10, 6.
+pub fn feed(
+    numbers: &mut [u64; NUMBERS],
+    waiting: &mut [u8; WAITING],
+    piece: &[u8],
+    identities: &[u32],
+    out: &mut [u8],
+    positions: &mut [u64],
+    dropped: &mut usize,
+) -> u8
+    ensures { λ r. ⌜ record {
+      number = r;
+      count = now (dropped .exit);
+      next = packingAt (now (numbers .exit)) (now (waiting .exit));
+      output = now (out .exit);
+      positions = now (positions .exit);
+    }
+        ≡ packCall (now (numbers .entry)) (now (waiting .entry)) (now (piece .entry)) (now (identities .entry)) (now (out .entry))
+        (now (positions .entry)) ⌝ }
+{
+    let done = repack::pack(
+        waiting,
+        numbers[0] as usize,
+        numbers[1] as usize,
+        piece,
+        identities,
+        out,
+        positions,
+    );
+    let answer = done.answer;
+    *numbers = [done.used as u64, done.next as u64];
+    *dropped = done.dropped;
+    c_archive::taken_number(answer)
+}
+
+// The last block, where rows wait, and its length: 11, 6.
+pub fn end(
+    numbers: &[u64; NUMBERS],
+    waiting: &[u8; WAITING],
+    out: &mut [u8],
+    length: &mut usize,
+) -> u8
+    ensures { λ r. ⌜ record { number = r; length = now (length .exit); output = now (out .exit) }
+        ≡ packEnd (now (numbers .entry)) (now (waiting .entry)) (now (out .entry)) ⌝ }
+{
+    let done = repack::finish(waiting, numbers[0] as usize, numbers[1] as usize, out);
+    let answer = done.answer;
+    *length = done.len;
+    c_archive::taken_number(answer)
+}
