@@ -1,5 +1,4 @@
 -- The calls over a whole buffer: the cases of `feedOf`, `openOf`, `appendAtOf`, `rowAtOf` and `appendOf`, each from the facts that its tests give.
--- Assumes nothing.
 use Prim.Native.Nat.{ℕ, _+_, _-_, _*_, _/_, _%_, _^_, _≤_, _<_}
 use native.Mathlib.Omega.{arith}
 use mathlib.Core.Path.{_≡_, refl, sym, ap, ap₂, _∙_}
@@ -20,7 +19,7 @@ use Rattle.layout.specs.Block.{cellsPerBlock, blockLength}
 use Rattle.buffers.proofs.Segments.{part-length}
 use Rattle.archive_model.specs.Row.{Row}
 use Rattle.archive_model.specs.Buffer.{Found, At, None, maxBlocks, maxRows, isWhole, blocksIn, rowsIn, mismatch, Scan, scanBlocks}
-use Rattle.archive_model.specs.Append.{Opening, Appended, Feeding, refused, stored, found, verdict, openOf, isNext, blockAt, putRow, putRowOf, appendOf, appendAtOf, feedOf, rowAtOf}
+use Rattle.archive_model.specs.Append.{Opening, Appended, Feeding, refusedAppend, stored, found, verdict, openOf, isNext, blockAt, putRow, putRowOf, appendOf, appendAtOf, feedOf, rowAtOf}
 use Rattle.archive_model.proofs.Cursor.{cursor}
 use Rattle.archive.specs.declared.Opened.the-variants as opened
 use Rattle.archive.specs.declared.Outcome.{Outcome}
@@ -93,13 +92,13 @@ module _ (buffer : List ℕ) (n : ℕ) (r : Row) where
   abbrev block : List ℕ
   block = blockAt k buffer
 
-  pub at-size : isWhole (length buffer) ≡ false → refused (numberOf Size) 0 buffer ≡ appendAtOf buffer n r
+  pub at-size : isWhole (length buffer) ≡ false → refusedAppend (numberOf Size) 0 buffer ≡ appendAtOf buffer n r
   unfolding appendAtOf
   at-size h = rw h
 
   module _ (whole : isWhole (length buffer) ≡ true) where
     pub at-out : length buffer / blockLength ≤ k
-        → cond (not (isValid (r .bytes))) (refused (checkOf (r .bytes)) 0 buffer) (refused (numberOf ShortOutput) 0 buffer) ≡ appendAtOf buffer n r
+        → cond (not (isValid (r .bytes))) (refusedAppend (checkOf (r .bytes)) 0 buffer) (refusedAppend (numberOf ShortOutput) 0 buffer) ≡ appendAtOf buffer n r
     unfolding appendAtOf
     at-out h = rw (whole, le-ltb k (length buffer / blockLength) h)
 
@@ -140,11 +139,11 @@ module _ (buffer : List ℕ) (n : ℕ) (r : Row) where
           (by-next (isNext n block) (isValid (r .bytes)))
         where
           by-next : (a b : Bool)
-              → replaced (cond (not a) (refused (numberOf Mismatch) k block) (cond (not b) (refused (checkOf (r .bytes)) 0 block) (stored (putRow n r block))))
-              ≡ cond (not a) (refused (numberOf Mismatch) k buffer)
-              (cond (not b) (refused (checkOf (r .bytes)) 0 buffer) (stored (take (blockLength * k) buffer ++ putRow n r block ++ drop (blockLength * k + blockLength) buffer)))
-          by-next false b = ap (refused (numberOf Mismatch) k) with-same
-          by-next true false = ap (refused (checkOf (r .bytes)) 0) with-same
+              → replaced (cond (not a) (refusedAppend (numberOf Mismatch) k block) (cond (not b) (refusedAppend (checkOf (r .bytes)) 0 block) (stored (putRow n r block))))
+              ≡ cond (not a) (refusedAppend (numberOf Mismatch) k buffer)
+              (cond (not b) (refusedAppend (checkOf (r .bytes)) 0 buffer) (stored (take (blockLength * k) buffer ++ putRow n r block ++ drop (blockLength * k + blockLength) buffer)))
+          by-next false b = ap (refusedAppend (numberOf Mismatch) k) with-same
+          by-next true false = ap (refusedAppend (checkOf (r .bytes)) 0) with-same
           by-next true true = ap stored (with-new (putRow n r block))
 
       pub at-put : (out : Outcome) (ys : List ℕ) → appendResult out ys ≡ putRowOf (part (blockLength * k) (blockLength * k + blockLength - blockLength * k) buffer) n r
@@ -196,14 +195,14 @@ module _ (buffer : List ℕ) where
 module _ (buffer : List ℕ) (r : Row) where
   -- what is refused by the verdict
   append-not : (number position : ℕ) → (number ≡ verdict buffer .number) × (position ≡ verdict buffer .position) × (eqb (verdict buffer .number) 0 ≡ false)
-      → refused number position buffer ≡ appendOf buffer r
+      → refusedAppend number position buffer ≡ appendOf buffer r
   unfolding appendOf
-  append-not number position v = rw (v .2) (ap₂ (λ (x y : ℕ). refused x y buffer) (v .0) (v .1))
+  append-not number position v = rw (v .2) (ap₂ (λ (x y : ℕ). refusedAppend x y buffer) (v .0) (v .1))
 
-  pub append-refused : (why : Refusal) → openResult (opened.Refused why) ≡ openOf buffer → refused (numberOf why) 0 buffer ≡ appendOf buffer r
+  pub append-refused : (why : Refusal) → openResult (opened.Refused why) ≡ openOf buffer → refusedAppend (numberOf why) 0 buffer ≡ appendOf buffer r
   append-refused why e = append-not (numberOf why) 0 (opened-refused buffer why e)
 
-  pub append-damaged : (k : ℕ) → openResult (opened.Damaged k) ≡ openOf buffer → refused (numberOf Mismatch) k buffer ≡ appendOf buffer r
+  pub append-damaged : (k : ℕ) → openResult (opened.Damaged k) ≡ openOf buffer → refusedAppend (numberOf Mismatch) k buffer ≡ appendOf buffer r
   append-damaged k e = append-not (numberOf Mismatch) k (opened-damaged buffer k e)
 
   pub append-rows : (n : ℕ) → openResult (opened.Rows n) ≡ openOf buffer → r .time < 2 ^ 64 → appendAtOf buffer n r ≡ appendOf buffer r

@@ -1,6 +1,5 @@
 -- A cell, as the code reads it.
 --     used-is, bytes-shown, long-row     the bytes that a cell shows; one that says too many holds no row
--- Assumes nothing.
 use Prim.Native.Nat.{ℕ, _+_, _-_, _≤_, _<_}
 use native.Mathlib.Omega.{arith}
 use mathlib.Core.Path.{_≡_, sym, _∙_}

@@ -1,4 +1,4 @@
--- A row put into its block: the cases of `putRowOf`, each from the facts that its tests give. Assumes nothing.
+-- A row put into its block: the cases of `putRowOf`, each from the facts that its tests give.
 use Prim.Native.Nat.{ℕ, _-_, _/_, _≤_, _<_}
 use mathlib.Core.Path.{_≡_}
 use mathlib.Core.Bool.{true, false}
@@ -13,25 +13,25 @@ use Rattle.erp1.proofs.Checks.{not-valid}
 use Rattle.layout.specs.Block.{cellsPerBlock, blockLength}
 use Rattle.archive_model.specs.Row.{Row}
 use Rattle.archive_model.specs.Buffer.{maxRows}
-use Rattle.archive_model.specs.Append.{refused, stored, isNext, putRow, putRowOf}
+use Rattle.archive_model.specs.Append.{refusedAppend, stored, isNext, putRow, putRowOf}
 
 module _ (block : List ℕ) (n : ℕ) (r : Row) where
-  pub put-size : (length block ≡ blockLength → ⊥) → refused (numberOf Size) 0 block ≡ putRowOf block n r
+  pub put-size : (length block ≡ blockLength → ⊥) → refusedAppend (numberOf Size) 0 block ≡ putRowOf block n r
   unfolding putRowOf
   put-size h = rw (ne-eqb (length block) blockLength h)
 
   module _ (long : length block ≡ blockLength) where
-    pub put-far : maxRows ≤ n → refused (numberOf Size) 0 block ≡ putRowOf block n r
+    pub put-far : maxRows ≤ n → refusedAppend (numberOf Size) 0 block ≡ putRowOf block n r
     unfolding putRowOf
     put-far h = rw (eq-eqb (length block) blockLength long, le-ltb n maxRows h)
 
     module _ (near : n < maxRows) where
-      pub put-other : isNext n block ≡ false → refused (numberOf Mismatch) (n / cellsPerBlock) block ≡ putRowOf block n r
+      pub put-other : isNext n block ≡ false → refusedAppend (numberOf Mismatch) (n / cellsPerBlock) block ≡ putRowOf block n r
       unfolding putRowOf
       put-other h = rw (eq-eqb (length block) blockLength long, lt-ltb n maxRows near, h)
 
       module _ (next : isNext n block ≡ true) where
-        pub put-invalid : (why : Refusal) → numberOf why ≡ checkOf (r .bytes) → refused (numberOf why) 0 block ≡ putRowOf block n r
+        pub put-invalid : (why : Refusal) → numberOf why ≡ checkOf (r .bytes) → refusedAppend (numberOf why) 0 block ≡ putRowOf block n r
         unfolding putRowOf
         put-invalid why e = rw (eq-eqb (length block) blockLength long, lt-ltb n maxRows near, next, not-valid (r .bytes) why e, e)
 

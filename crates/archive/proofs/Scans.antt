@@ -3,7 +3,6 @@
 --     stage-wrong, stage-number, stage-short, stage-full      what a block makes of the stage where all before it are full
 --     scanned-blank, scanned                                  one block more
 --     blocks-next, rest-first, rest-next, rest-none           the loop over the blocks: a turn's count; its start, a turn, its end
--- Assumes nothing.
 use Prim.Native.Nat.{ℕ, suc, _+_, _-_, _*_, _/_, _≤_, _<_}
 use native.Mathlib.Numerals.{add-one}
 use native.Mathlib.Omega.{arith}

@@ -4,7 +4,6 @@
 --     not-sound                                                  a block that fails a test is not sound
 --     sound-gap, sound-cells, sound-zeros, sound-crc             what a sound block passes
 --     tested                                                     a block that passes all is sound
--- Assumes nothing.
 use Prim.Native.Nat.{ℕ, zero, suc, _+_, _-_, _*_, _≤_, _<_}
 use native.Mathlib.Nat.{zero-add}
 use native.Mathlib.Numerals.{add-one}

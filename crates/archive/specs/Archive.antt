@@ -1,4 +1,4 @@
--- What the calls over an archive show (document 02, A2). Assumes nothing.
+-- What the calls over an archive show (document 02, A2).
 use Prim.Native.Nat.{ℕ, _-_, _*_}
 use mathlib.Core.Path.{_≡_}
 use mathlib.Core.Bool.{Bool, cond, not, _&&_}
@@ -13,7 +13,7 @@ use Rattle.buffers.specs.Buffer.{part, resized}
 use Rattle.layout.specs.Block.{blockLength, blockCell}
 use Rattle.archive_model.specs.Row.{Row, rowCell, rowIn, rowCount, isRow, isSound}
 use Rattle.archive_model.specs.Buffer as buffer
-use Rattle.archive_model.specs.Append.{Opening, Appended, Feeding, ReadRow, refused, noRow}
+use Rattle.archive_model.specs.Append.{Opening, Appended, Feeding, ReadRow, refusedAppend, noRow}
 use Rattle.archive.specs.declared.Opened.{Opened}
 use Rattle.archive.specs.declared.Opened.the-variants as opened
 use Rattle.archive.specs.declared.Outcome.{Outcome}
@@ -90,7 +90,7 @@ blocksFrom piece a n = map (λ k. part (blockLength * k) blockLength piece) (upF
 
 -- a row that has no block: the check's, then 6
 abbrev pub NoBlock : List ℕ → Outcome → Type 0
-NoBlock bytes r = (old : List ℕ) → appendResult r old ≡ cond (not (isValid bytes)) (refused (checkOf bytes) 0 old) (refused (numberOf ShortOutput) 0 old)
+NoBlock bytes r = (old : List ℕ) → appendResult r old ≡ cond (not (isValid bytes)) (refusedAppend (checkOf bytes) 0 old) (refusedAppend (numberOf ShortOutput) 0 old)
 
 -- no row, and why
 abbrev pub noRowFor : Refusal → ReadRow

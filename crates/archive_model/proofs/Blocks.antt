@@ -4,7 +4,6 @@
 --     written-length, written-number, written-count, written-cell     what stands in a block whose rows are short enough
 --     rows-back       and the rows of a block from the block
 --     block-sound     which is sound, and says its number
--- Assumes nothing.
 use Prim.Native.Nat.{ℕ, suc, _+_, _-_, _^_, _≤_, _<_}
 use native.Mathlib.Nat.{zero-add}
 use native.Mathlib.Omega.{arith}

@@ -3,7 +3,6 @@
 --     rows-in         the rows that it says
 --     no-mismatch     every block matches
 --     blank-count, not-blank     an all-zero block says no rows, and one with a row is not all zero
--- Assumes nothing.
 use Prim.Native.Nat.{ℕ, zero, suc, _+_, _-_, _*_, _/_, _^_, _≤_, _<_, min}
 use native.Mathlib.Nat.{zero-add, add-comm, mul-suc, mul-zero}
 use native.Mathlib.Decide.{decLt}

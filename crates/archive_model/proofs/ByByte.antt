@@ -1,7 +1,6 @@
 -- The layout of a block, byte by byte.
 --     laid-row     a row in its cell
 --     laid         a block
--- Assumes nothing.
 use Prim.Native.Nat.{ℕ, _+_, _-_, _*_, _≤_, _<_}
 use native.Mathlib.Omega.{arith}
 use mathlib.Core.Path.{_≡_, refl, sym, ap, _∙_}

@@ -1,4 +1,4 @@
--- The claims on archives. Assumes nothing.
+-- The claims on archives.
 use Prim.Native.Nat.{ℕ, _+_, _-_, _*_, _/_, _^_}
 use native.Mathlib.Omega.{arith}
 use mathlib.Core.Path.{_≡_, refl, sym, ap, _∙_}

@@ -3,7 +3,6 @@
 --     verdict-facts                     what a verdict of 0 says
 --     cursor                            the two appends are one
 --     appended, append-kept             after it the archive holds one row more, or is as it was
--- Assumes nothing.
 use Prim.Native.Nat.{ℕ, zero, suc, _+_, _-_, _*_, _/_, _%_, _^_, _≤_, _<_}
 use native.Mathlib.Decide.{decLt}
 use native.Mathlib.Omega.{arith}
@@ -29,7 +28,7 @@ use Rattle.buffers.proofs.Buffer.{padded-length}
 use Rattle.layout.proofs.Cell.{cell-length}
 use Rattle.archive_model.specs.Row.{Row, rowLast, rowCell, rowsHeader, rowsBlock, blockNumber, rowCount, isBlank}
 use Rattle.archive_model.specs.Buffer.{Found, At, None, rowsAt, bufferOf, maxBlocks, isWhole, rowsIn, mismatch}
-use Rattle.archive_model.specs.Append.{Appended, refused, stored, found, verdict, rowNumber, appendOf, blockAt, putRow, isNext, appendAtOf}
+use Rattle.archive_model.specs.Append.{Appended, refusedAppend, stored, found, verdict, rowNumber, appendOf, blockAt, putRow, isNext, appendAtOf}
 use Rattle.archive_model.proofs.Blocks.{Fit, Fits, short, shorts, header-length, each, number-back, count-back}
 use Rattle.archive_model.proofs.Buffers.{map-same, flatten-append, pieces, blank, blank-is, group-length, group-few, group-fits, used-block, free-block, buffer-length, rows-in, no-mismatch}
 use Rattle.archive_model.proofs.Exact.{exact, exact-fits, exact-few, fits-append}
@@ -256,7 +255,7 @@ module _ (rows : List Row) (m : ℕ) (fit : Fits rows) (fits : length rows ≤ c
 
     -- the last three cases of both
     abbrev answer : Bool → Bool → Appended
-    answer valid free = cond (not valid) (refused (checkOf (r .bytes)) 0 buffer) (cond (not free) (refused (numberOf ShortOutput) 0 buffer) (stored (bufferOf (blockLength * m) (rows ++ (r ∷ [])))))
+    answer valid free = cond (not valid) (refusedAppend (checkOf (r .bytes)) 0 buffer) (cond (not free) (refusedAppend (numberOf ShortOutput) 0 buffer) (stored (bufferOf (blockLength * m) (rows ++ (r ∷ [])))))
 
     append-is : (free : Bool) → leb (cellsPerBlock * (length buffer / blockLength)) n ≡ not free → appendOf buffer r ≡ answer (isValid (r .bytes)) free
     unfolding appendOf
@@ -264,9 +263,9 @@ module _ (rows : List Row) (m : ℕ) (fit : Fits rows) (fits : length rows ≤ c
         rw (written-verdict rows m fit fits mb, rows-in rows m fit fits, e, buffer-length rows m fit fits) (go (checkOf (r .bytes)) free)
       where
         go : (c : ℕ) (f : Bool)
-            → cond (not (eqb (cond (not (eqb c 0)) c (cond (not f) (numberOf ShortOutput) 0)) 0)) (refused (cond (not (eqb c 0)) c (cond (not f) (numberOf ShortOutput) 0)) 0 buffer)
+            → cond (not (eqb (cond (not (eqb c 0)) c (cond (not f) (numberOf ShortOutput) 0)) 0)) (refusedAppend (cond (not (eqb c 0)) c (cond (not f) (numberOf ShortOutput) 0)) 0 buffer)
             (stored (bufferOf (blockLength * m) (rows ++ (r ∷ []))))
-            ≡ cond (not (eqb c 0)) (refused c 0 buffer) (cond (not f) (refused (numberOf ShortOutput) 0 buffer) (stored (bufferOf (blockLength * m) (rows ++ (r ∷ [])))))
+            ≡ cond (not (eqb c 0)) (refusedAppend c 0 buffer) (cond (not f) (refusedAppend (numberOf ShortOutput) 0 buffer) (stored (bufferOf (blockLength * m) (rows ++ (r ∷ [])))))
         go zero true = refl
         go zero false = refl
         go (suc c) f =
@@ -281,7 +280,7 @@ module _ (rows : List Row) (m : ℕ) (fit : Fits rows) (fits : length rows ≤ c
     unfolding appendAtOf
     at-in h t =
         rw (whole, count, lt-ltb k m h, is-next h mb)
-        (by-test {X = cond (not (isValid (r .bytes))) (refused (checkOf (r .bytes)) 0 buffer)
+        (by-test {X = cond (not (isValid (r .bytes))) (refusedAppend (checkOf (r .bytes)) 0 buffer)
         (stored (take (blockLength * k) buffer ++ putRow n r (blockAt k buffer) ++ drop (blockLength * k + blockLength) buffer))
         ≡ answer (isValid (r .bytes)) true} (isValid (r .bytes))
         (λ v. rw v (ap stored (buffer-more r (record { valid = v; time = t }) h)))
@@ -363,8 +362,8 @@ append-kept buffer r h =
     go (not (eqb (verdict buffer .number) 0)) (not (eqb (rowNumber buffer r) 0)) h
   where
     go : (a b : Bool)
-        → (cond a (refused (verdict buffer .number) (verdict buffer .position) buffer) (cond b (refused (rowNumber buffer r) 0 buffer) (stored (bufferOf (length buffer) (rowsIn buffer ++ (r ∷ []))))) .number ≡ 0 → ⊥)
-        → cond a (refused (verdict buffer .number) (verdict buffer .position) buffer) (cond b (refused (rowNumber buffer r) 0 buffer) (stored (bufferOf (length buffer) (rowsIn buffer ++ (r ∷ []))))) .buffer ≡ buffer
+        → (cond a (refusedAppend (verdict buffer .number) (verdict buffer .position) buffer) (cond b (refusedAppend (rowNumber buffer r) 0 buffer) (stored (bufferOf (length buffer) (rowsIn buffer ++ (r ∷ []))))) .number ≡ 0 → ⊥)
+        → cond a (refusedAppend (verdict buffer .number) (verdict buffer .position) buffer) (cond b (refusedAppend (rowNumber buffer r) 0 buffer) (stored (bufferOf (length buffer) (rowsIn buffer ++ (r ∷ []))))) .buffer ≡ buffer
     go true b n = refl
     go false true n = refl
     go false false n = absurd (n refl)

@@ -3,7 +3,6 @@
 --     Good, Shape, shape                  what it means for blocks that none of them does not match
 --     exact                               the buffer is what is written of its rows
 --     exact-fits, exact-few               which fit, and are at most 15 for each block
--- Assumes nothing.
 use Prim.Native.Nat.{ℕ, zero, suc, _+_, _-_, _*_, _/_, _^_, _≤_, _<_}
 use native.Mathlib.Nat.{zero-add, add-zero, add-suc, suc-add}
 use native.Mathlib.Decide.{decLt}

@@ -1,4 +1,4 @@
--- The transmitter of a valid row is its TXID. Assumes nothing.
+-- The transmitter of a valid row is its TXID.
 use Prim.Native.Nat.{ℕ, _-_, _≤_}
 use native.Mathlib.Omega.{arith}
 use mathlib.Core.Path.{_≡_, refl, sym, ap, _∙_}

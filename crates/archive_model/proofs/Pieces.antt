@@ -2,7 +2,6 @@
 --     scan-append     the blocks of two pieces, one after the other
 --     scan-found      what is found from the start is the first mismatch
 --     scan-rows       and where there is none, the rows are those of all blocks
--- Assumes nothing.
 use Prim.Native.Nat.{ℕ, suc, _+_, _-_}
 use native.Mathlib.Nat.{zero-add}
 use native.Mathlib.Numerals.{add-one}

@@ -1,6 +1,5 @@
 -- Row i of an archive stands in block i / 15, in its cell i % 15.
 --     row-at       what is answered, of a buffer that was written
--- Assumes nothing.
 use Prim.Native.Nat.{ℕ, _+_, _-_, _*_, _/_, _%_, _≤_, _<_}
 use native.Mathlib.Decide.{decLt}
 use native.Mathlib.Omega.{arith}

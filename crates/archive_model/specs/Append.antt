@@ -1,4 +1,4 @@
--- Opening an archive and appending a row, for every buffer (document 02, A2). Assumes nothing.
+-- Opening an archive and appending a row, for every buffer (document 02, A2).
 use Prim.Native.Nat.{ℕ, _+_, _-_, _*_, _/_, _%_}
 use mathlib.Core.Bool.{Bool, false, cond, not, _&&_}
 use mathlib.Core.List.{List, [], _∷_, _++_}
@@ -52,8 +52,8 @@ rowNumber buffer r =
     0)
 
 -- a refusal, beside which the buffer is as it was
-abbrev pub refused : ℕ → ℕ → List ℕ → Appended
-refused number position buffer = record { number = number; position = position; buffer = buffer }
+abbrev pub refusedAppend : ℕ → ℕ → List ℕ → Appended
+refusedAppend number position buffer = record { number = number; position = position; buffer = buffer }
 
 -- done, and the buffer afterwards
 abbrev pub stored : List ℕ → Appended
@@ -61,8 +61,8 @@ stored buffer = record { number = 0; position = 0; buffer = buffer }
 
 unfoldable pub appendOf : List ℕ → Row → Appended
 appendOf buffer r =
-    cond (not (eqb (verdict buffer .number) 0)) (refused (verdict buffer .number) (verdict buffer .position) buffer)
-    (cond (not (eqb (rowNumber buffer r) 0)) (refused (rowNumber buffer r) 0 buffer)
+    cond (not (eqb (verdict buffer .number) 0)) (refusedAppend (verdict buffer .number) (verdict buffer .position) buffer)
+    (cond (not (eqb (rowNumber buffer r) 0)) (refusedAppend (rowNumber buffer r) 0 buffer)
     (stored (bufferOf (length buffer) (rowsIn buffer ++ (r ∷ [])))))
 
 -- ---- row n of an archive stands in block n / 15, in its cell n % 15: so the number of rows says where the next one goes
@@ -88,9 +88,9 @@ isNext n block =
 -- row n put into its block by itself: 16 for another length or an n that no archive has, 12 at its position, the check's
 unfoldable pub putRowOf : List ℕ → ℕ → Row → Appended
 putRowOf block n r =
-    cond (not (eqb (length block) blockLength && ltb n maxRows)) (refused (numberOf Size) 0 block)
-    (cond (not (isNext n block)) (refused (numberOf Mismatch) (n / cellsPerBlock) block)
-    (cond (not (isValid (r .bytes))) (refused (checkOf (r .bytes)) 0 block)
+    cond (not (eqb (length block) blockLength && ltb n maxRows)) (refusedAppend (numberOf Size) 0 block)
+    (cond (not (isNext n block)) (refusedAppend (numberOf Mismatch) (n / cellsPerBlock) block)
+    (cond (not (isValid (r .bytes))) (refusedAppend (checkOf (r .bytes)) 0 block)
     (stored (putRow n r block))))
 
 abbrev pub isInside : ℕ → List ℕ → Bool
@@ -99,10 +99,10 @@ isInside n buffer = ltb (n / cellsPerBlock) (length buffer / blockLength)
 -- a row appended as row n, which looks at one block and no other
 unfoldable pub appendAtOf : List ℕ → ℕ → Row → Appended
 appendAtOf buffer n r =
-    cond (not (isWhole (length buffer))) (refused (numberOf Size) 0 buffer)
-    (cond (isInside n buffer && not (isNext n (blockAt (n / cellsPerBlock) buffer))) (refused (numberOf Mismatch) (n / cellsPerBlock) buffer)
-    (cond (not (isValid (r .bytes))) (refused (checkOf (r .bytes)) 0 buffer)
-    (cond (not (isInside n buffer)) (refused (numberOf ShortOutput) 0 buffer)
+    cond (not (isWhole (length buffer))) (refusedAppend (numberOf Size) 0 buffer)
+    (cond (isInside n buffer && not (isNext n (blockAt (n / cellsPerBlock) buffer))) (refusedAppend (numberOf Mismatch) (n / cellsPerBlock) buffer)
+    (cond (not (isValid (r .bytes))) (refusedAppend (checkOf (r .bytes)) 0 buffer)
+    (cond (not (isInside n buffer)) (refusedAppend (numberOf ShortOutput) 0 buffer)
     (stored
     (take (blockLength * (n / cellsPerBlock)) buffer
     ++ putRow n r (blockAt (n / cellsPerBlock) buffer)

@@ -1,4 +1,4 @@
--- The buffer of an archive: what it holds, and the first block that does not match (document 02, A2). Assumes nothing.
+-- The buffer of an archive: what it holds, and the first block that does not match (document 02, A2).
 use Prim.Native.Nat.{ℕ, suc, _+_, _-_, _*_, _/_, _%_, _^_}
 use mathlib.Core.Bool.{Bool, false, cond, not, _&&_}
 use mathlib.Core.List.{List, [], _∷_, map, flatten}

@@ -1,4 +1,4 @@
--- What is proved of archives (document 02, A2). Assumes nothing.
+-- What is proved of archives (document 02, A2).
 use Prim.Native.Nat.{ℕ, _+_, _-_, _*_, _/_, _%_, _^_, _≤_, _<_}
 use mathlib.Core.Path.{_≡_}
 use mathlib.Core.Bool.{Bool, true, false, cond, _&&_}

@@ -1,4 +1,4 @@
--- Rows of an archive and the blocks that hold them (document 02, A2). Assumes nothing.
+-- Rows of an archive and the blocks that hold them (document 02, A2).
 use Prim.Native.Nat.{ℕ, _+_}
 use mathlib.Core.Bool.{Bool, true, cond, _&&_}
 use mathlib.Core.List.{List, [], _∷_, _++_, map}

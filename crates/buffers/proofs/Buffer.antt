@@ -5,7 +5,6 @@
 --     resized-more                                     one number more, which a loop puts
 --     resized-back                                     a list, zero filled, and its front again
 --     overwritten-fits, overwritten-not                a buffer of the right length, and one of another
--- Assumes nothing.
 use mathlib.Core.Path.{_≡_, refl, sym, _∙_}
 use mathlib.Core.List.{List, [], _∷_, _++_, append-assoc}
 use Prim.Native.Nat.{ℕ, zero, suc, _+_, _-_, _≤_}

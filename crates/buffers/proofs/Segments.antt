@@ -13,7 +13,6 @@
 --     fill, turn, turned                      a turn of a loop that fills, or lends a segment at a time; where that loop ends
 --     begun-length, within, lent              what the needs about lengths ask on the way
 --     Writing, packed                         the same with its lists packed up, for a place where they are long to write
--- Assumes nothing.
 use mathlib.Core.Path.{_≡_, refl, sym, ap, _∙_}
 use mathlib.Core.List.{List, [], _∷_, _++_, append-assoc, append-nil, flatten}
 use Prim.Native.Nat.{ℕ, zero, suc, _+_, _-_, _*_, _≤_, _<_, min}

@@ -1,4 +1,4 @@
--- What a lent buffer shows, and what it holds after it is written. Assumes nothing.
+-- What a lent buffer shows, and what it holds after it is written.
 use mathlib.Core.Bool.{cond}
 use mathlib.Core.List.{List}
 use Prim.Native.Nat.{ℕ}

@@ -1,4 +1,4 @@
--- What the contract of a burst ensures is what a history asks of it. Assumes nothing.
+-- What the contract of a burst ensures is what a history asks of it.
 use Prim.Native.Nat.{ℕ}
 use mathlib.Core.Path.{_≡_}
 use mathlib.Core.List.{List, _∷_, map}

@@ -1,4 +1,4 @@
--- What is done with a burst, by each test. Assumes nothing.
+-- What is done with a burst, by each test.
 use mathlib.Core.Path.{_≡_, refl, sym, _∙_}
 use mathlib.Core.Bool.{Bool, true, false}
 use Prim.Native.Nat.{ℕ, _≤_, _<_}
@@ -15,7 +15,7 @@ use Rattle.burst.specs.declared.Handed.{Handed}
 use Rattle.burst.specs.declared.Handed.the-variants.{Done, Refused}
 use Rattle.burst.specs.declared.Plan.{Plan}
 use Rattle.model.specs.Burst.{maxBurst, callNumber, burstNumber}
-use Rattle.burst.specs.Records.{Planned}
+use Rattle.burst.specs.Private.{Planned}
 
 module _ (c : Collector) (setting n m : ℕ) (fit : Bool) (e : fit ≡ acceptable (viewOf c)) (fits : Fits (viewOf c)) where
   abbrev plan : ℕ → Handed → Plan

@@ -1,7 +1,6 @@
 -- What holds at each turn of the loop over a list of receptions: what is left of them leads to the whole list's end.
 --     Going        i receptions are taken, at these arrays, this summary and this list of replies
 --     starts, turns, ends      it holds before the loop, from one turn to the next, and says the result after it
--- Assumes nothing.
 use mathlib.Core.Path.{_≡_, refl, sym, _∙_, ap, subst}
 use Prim.Native.Nat.{ℕ, _+_, _^_, _≤_, _<_, zero-le}
 use native.Mathlib.Nat.{le-antisymm}
@@ -20,7 +19,8 @@ use Rattle.collector.specs.Admission.{viewIn}
 use Rattle.burst.specs.declared.Reception.{Reception}
 use Rattle.burst.specs.declared.Reply.{Reply}
 use Rattle.burst.specs.declared.Stepped.{Stepped}
-use Rattle.burst.specs.Records.{receptionOf, repliedOf, StepResult, steppedOf, admittedWith, after, replies, Delivered}
+use Rattle.burst.specs.Records.{receptionOf, repliedOf}
+use Rattle.burst.specs.Private.{StepResult, steppedOf, admittedWith, after, replies, Delivered}
 use Rattle.model.specs.History.{Timely}
 use Rattle.model.specs.Burst.{Replied}
 

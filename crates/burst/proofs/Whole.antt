@@ -1,5 +1,5 @@
 -- A burst as the model says it: records that are admitted one by one, at a state that was tested once, are steps; and what is planned, delivered and finished
--- is the burst's result. Assumes nothing.
+-- is the burst's result.
 use mathlib.Core.Path.{_≡_, refl, sym, _∙_, ap}
 use mathlib.Core.Bool.{Bool, true, false, cond}
 use mathlib.Core.List.{List, [], _∷_, _++_, map}
@@ -23,7 +23,8 @@ use Rattle.burst.specs.declared.Plan.{Plan}
 use Rattle.burst.specs.declared.Within.{Within}
 use Rattle.model.specs.History.{Timely}
 use Rattle.model.specs.Burst.{Replied, replyWith, afterAll, repliesTo, burstNumber, taken, burstOf}
-use Rattle.burst.specs.Records.{receptionOf, repliedOf, handedNumber, Bursts, after, replies, Delivered, Planned, Finished, WithinOf}
+use Rattle.burst.specs.Records.{receptionOf, repliedOf, handedNumber, Bursts, WithinOf}
+use Rattle.burst.specs.Private.{after, replies, Delivered, Planned, Finished}
 
 -- ---- records one by one
 

@@ -12,7 +12,8 @@ ghost use Prim.Native.Nat.{_≤_, min};
 ghost use lib.ListN.{length};
 ghost use Rattle.collector.specs.Collector.{columns};
 ghost use Rattle.collector.specs.Admission.{viewIn};
-ghost use Rattle.burst.specs.Records.{receptionOf, Bursts, steppedOf, admittedWith, sizeOf, Delivered, Planned, Finished, listed, WithinOf};
+ghost use Rattle.burst.specs.Records.{receptionOf, Bursts, listed, WithinOf};
+ghost use Rattle.burst.specs.Private.{steppedOf, admittedWith, sizeOf, Delivered, Planned, Finished};
 
 // The most receptions of a burst.
 pub const MAX_BURST: usize = 256;

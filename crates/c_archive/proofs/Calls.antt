@@ -1,4 +1,4 @@
--- Records by their fields; a row of another size, and of the right size; a row's bytes, cut and zero filled. Assumes nothing.
+-- Records by their fields; a row of another size, and of the right size; a row's bytes, cut and zero filled.
 use mathlib.Core.Path.{_≡_, refl, sym, ap, ap₂, _∙_}
 use mathlib.Core.Bool.{Bool}
 use mathlib.Core.List.{List, [], _∷_, _++_}

@@ -1,4 +1,4 @@
--- What the calls answer, and what they leave in what they are lent; most are the calls of archive_model and repack_model as they are. Assumes nothing.
+-- What the calls answer, and what they leave in what they are lent; most are the calls of archive_model and repack_model as they are.
 use Prim.Native.Nat.{ℕ}
 use mathlib.Core.Bool.{cond, not}
 use mathlib.Core.List.{List, [], _∷_, _++_}

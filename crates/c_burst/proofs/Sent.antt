@@ -1,7 +1,6 @@
 -- One reception of a burst.
 --     sent-few      what is sent has at most 21 bytes
 --     answered      the reply and the next state are those of a step
--- Assumes nothing.
 use mathlib.Core.Path.{_≡_, refl, sym, ap, _∙_}
 use mathlib.Core.Bool.{Bool, true, false, cond, not, _&&_, _||_}
 use mathlib.Core.List.{List, []}
@@ -11,7 +10,7 @@ use lib.Dec.{ltb}
 use lib.ListN.{length, getD, drop, replicate, length-drop}
 use borrow.Author.Tests.{ltb-false}
 use Rattle.erp1.specs.Subtelegram.{minLength, maxLength}
-use Rattle.layout.specs.Buffer.{part}
+use Rattle.buffers.specs.Buffer.{part}
 use Rattle.telegram.specs.Repeater.{levelOf, repeats, raisedOf, relayOf}
 use Rattle.telegram.specs.Output.{Result, written}
 use Rattle.telegram.proofs.Frames.{frame-written}
@@ -21,10 +20,9 @@ use Rattle.model.specs.View.{Reception, View}
 use Rattle.model.specs.Acceptable.{acceptable}
 use Rattle.model.specs.Step.{Outcome, step}
 use Rattle.model.specs.Burst.{replyWith}
-use Rattle.collector.specs.Merging.{relayedFor}
-use Rattle.collector.specs.Admission.{admission}
+use Rattle.collector.specs.Admission.{relayedFor, admission}
 use Rattle.collector.proofs.Stepping.{admission-fit}
-use Rattle.burst.specs.Records.{sizeOf, StepResult, admittedWith}
+use Rattle.burst.specs.Private.{sizeOf, StepResult, admittedWith}
 use Rattle.burst.proofs.Records.{sent-with, handed}
 use Rattle.c_layout.specs.Frame.{frameLength}
 use Rattle.c_burst.specs.Bytes.{receptionIn, replyBytes}

@@ -2,7 +2,6 @@
 --     sized-other, sized-same, frames-are       a frame for each moment, or not
 --     call-short, call-many, call-setting, call-done     the number by its tests
 --     called                        what a call without a refusal says of its numbers
--- Assumes nothing.
 use Prim.Native.Nat.{ℕ, _*_, _/_, _%_, _≤_, _<_}
 use native.Mathlib.Omega.{arith}
 use native.Mathlib.Decide.{decLt}

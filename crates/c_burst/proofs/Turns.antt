@@ -2,7 +2,6 @@
 --     receptions-count, reception-get     how many receptions there are, and each of them
 --     Going                               i receptions are taken, and their replies written
 --     starts, turns, ends                 it holds before the loop, from one turn to the next, and says the result after it
--- Assumes nothing.
 use mathlib.Core.Path.{_≡_, refl, sym, ap, _∙_}
 use mathlib.Core.Bool.{true}
 use mathlib.Core.List.{List, [], _∷_, _++_, map, flatten, append-assoc, append-nil}
@@ -14,8 +13,8 @@ use lib.ListN.{length, getD, take, drop, length-map, drop-of-length-le}
 use lib.Seq.{drop-cons}
 use Rattle.lists.specs.Lists.{upFrom}
 use Rattle.lists.proofs.UpFrom.{length-upFrom, getD-upFrom}
-use Rattle.layout.specs.Buffer.{part}
-use Rattle.layout.proofs.Segments.{Begun, begin, lend, done}
+use Rattle.buffers.specs.Buffer.{part}
+use Rattle.buffers.proofs.Segments.{Begun, begin, lend, done}
 use Rattle.model.specs.View.{Reception, View}
 use Rattle.model.specs.Step.{step}
 use Rattle.model.specs.Burst.{Replied, replyWith, afterAll, repliesTo}

@@ -1,4 +1,4 @@
--- A burst by its answers: a wrong size, a refusal, and the receptions taken. Assumes nothing.
+-- A burst by its answers: a wrong size, a refusal, and the receptions taken.
 use Prim.Native.Nat.{ℕ, suc, _*_, _/_}
 use native.Mathlib.Omega.{arith}
 use mathlib.Core.Path.{_≡_, refl, sym, ap, ap₂, subst, _∙_}

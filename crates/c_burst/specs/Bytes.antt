@@ -1,11 +1,11 @@
--- The bytes of the receptions of a burst and of the replies to them (document 02, A1 and A7). Assumes nothing.
+-- The bytes of the receptions of a burst and of the replies to them (document 02, A1 and A7).
 use Prim.Native.Nat.{ℕ, _*_, _%_}
 use mathlib.Core.Bool.{Bool, _&&_}
 use mathlib.Core.List.{List, [], _∷_, _++_, map}
 use lib.Dec.{eqb}
 use lib.ListN.{length, getD, drop}
 use Rattle.lists.specs.Lists.{upFrom}
-use Rattle.layout.specs.Buffer.{part, resized}
+use Rattle.buffers.specs.Buffer.{part, resized}
 use Rattle.model.specs.Answer.{shownNumber}
 use Rattle.model.specs.View.{Reception}
 use Rattle.model.specs.Burst.{Replied}

@@ -1,4 +1,4 @@
--- What a burst answers, and what it leaves in what it is lent (document 02, A1 and A7). Assumes nothing.
+-- What a burst answers, and what it leaves in what it is lent (document 02, A1 and A7).
 use Prim.Native.Nat.{ℕ, _*_, _/_}
 use mathlib.Core.Path.{_≡_}
 use mathlib.Core.Bool.{cond, not}

@@ -1,5 +1,4 @@
 -- The calls by what is tested: a slice of another size, and one of the right size; how long what is read and sent is.
--- Assumes nothing.
 use mathlib.Core.Path.{_≡_, refl, sym, ap, _∙_}
 use mathlib.Core.Bool.{not, _&&_}
 use mathlib.Core.List.{List, [], _∷_, _++_}

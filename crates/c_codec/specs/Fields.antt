@@ -1,4 +1,4 @@
--- The fields of a telegram in 26 bytes. Assumes nothing.
+-- The fields of a telegram in 26 bytes.
 use Prim.Native.Nat.{ℕ}
 use mathlib.Core.Bool.{not}
 use mathlib.Core.List.{List, [], _∷_, _++_}

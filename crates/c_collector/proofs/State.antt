@@ -3,7 +3,6 @@
 --     numbers-counted   the numbers of what a state holds beside its columns are those of the state
 --     taken             one reception, admitted as the test of the state says
 --     totals-shown, totals-refused     the totals by the test of the state
--- Assumes nothing.
 use Prim.Native.Nat.{ℕ}
 use native.Mathlib.Omega.{arith}
 use mathlib.Core.Path.{_≡_, refl, sym, ap, _∙_}

@@ -1,4 +1,4 @@
--- What the calls answer, and what they leave in what they are lent. Assumes nothing.
+-- What the calls answer, and what they leave in what they are lent.
 use Prim.Native.Nat.{ℕ, _+_, _*_}
 use mathlib.Core.Path.{_≡_}
 use mathlib.Core.Bool.{false, cond, not}

@@ -1,4 +1,4 @@
--- A collector in five arrays of numbers: what they say. Assumes nothing.
+-- A collector in five arrays of numbers: what they say.
 use Prim.Native.Nat.{ℕ}
 use mathlib.Core.List.{List, [], _∷_}
 use lib.ListN.{length, getD}

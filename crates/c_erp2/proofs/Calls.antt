@@ -1,4 +1,4 @@
--- The calls by what is tested: fields of another size, and of the right size; how long what is read is. Assumes nothing.
+-- The calls by what is tested: fields of another size, and of the right size; how long what is read is.
 use mathlib.Core.Path.{_≡_}
 use mathlib.Core.List.{List, [], _∷_}
 use Prim.Native.Nat.{ℕ, _<_}

@@ -1,4 +1,4 @@
--- The fields of an ERP2 telegram but its IDs in 276 bytes. Assumes nothing.
+-- The fields of an ERP2 telegram but its IDs in 276 bytes.
 use Prim.Native.Nat.{ℕ}
 use mathlib.Core.Bool.{Bool, not}
 use mathlib.Core.List.{List, [], _∷_, _++_}

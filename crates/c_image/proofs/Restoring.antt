@@ -1,6 +1,5 @@
 -- Restores of five arrays by their cases. An image is accepted alike whatever acceptable state it is restored to, also a fresh one.
 --     refused-state, refused-image, restored     what each return has to show
--- Assumes nothing.
 use Prim.Native.Nat.{ℕ}
 use mathlib.Core.Path.{_≡_, refl, sym, ap, _∙_}
 use mathlib.Core.Bool.{true, false}

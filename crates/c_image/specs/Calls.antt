@@ -1,4 +1,4 @@
--- What a restore leaves in the five arrays of a collector (document 01, "Parked collector"). Assumes nothing.
+-- What a restore leaves in the five arrays of a collector (document 01, "Parked collector").
 use Prim.Native.Nat.{ℕ}
 use mathlib.Core.Path.{_≡_}
 use mathlib.Core.List.{List}

@@ -1,4 +1,4 @@
--- What the calls for other languages share. Assumes nothing.
+-- What the calls for other languages share.
 use Prim.Native.Nat.{ℕ}
 use mathlib.Core.Bool.{Bool, cond}
 use mathlib.Core.List.{List, [], _∷_, _++_}

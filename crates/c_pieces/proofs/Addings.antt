@@ -1,6 +1,5 @@
 -- An archive that is added in pieces, in lent arrays.
 --     feed-report     a piece leaves the report as it is
--- Assumes nothing.
 use Prim.Native.Nat.{ℕ}
 use mathlib.Core.Path.{_≡_, refl}
 use mathlib.Core.Bool.{Bool, true, false, cond, not}

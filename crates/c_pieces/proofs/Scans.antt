@@ -2,7 +2,6 @@
 --     stage-filling, stage-short, stage-ended, stage-wrong     the cases of `stageAt`
 --     end-not, end-wrong, end-done                             those of `scanEnd`
 --     stage-back                                               a stage is read back
--- Assumes nothing.
 use Prim.Native.Nat.{ℕ, zero, suc, _≤_, _<_}
 use native.Mathlib.Omega.{arith}
 use mathlib.Core.Path.{_≡_, refl, sym, ap, _∙_}

@@ -1,4 +1,4 @@
--- An archive that is added to a report in pieces, in two arrays beside the two of the report. Assumes nothing.
+-- An archive that is added to a report in pieces, in two arrays beside the two of the report.
 use Prim.Native.Nat.{ℕ}
 use mathlib.Core.Bool.{not}
 use mathlib.Core.List.{List}

@@ -1,4 +1,4 @@
--- An archive that is packed anew in pieces, in two numbers and the bytes of the rows that wait. Assumes nothing.
+-- An archive that is packed anew in pieces, in two numbers and the bytes of the rows that wait.
 use Prim.Native.Nat.{ℕ}
 use mathlib.Core.List.{List}
 use lib.ListN.{getD}

@@ -1,4 +1,4 @@
--- A scan of an archive's blocks in four numbers, and what the calls leave in them. Assumes nothing.
+-- A scan of an archive's blocks in four numbers, and what the calls leave in them.
 use Prim.Native.Nat.{ℕ}
 use mathlib.Core.Bool.{cond, not}
 use mathlib.Core.List.{List, [], _∷_}

@@ -54,7 +54,7 @@ pub fn end(
     position: &mut usize,
 ) -> u8
     ensures { λ r. ⌜ model.answer r (now (position .exit)) (reportAt (now (numbers .exit)) (now (lines .exit)))
-        ≡ pieces.endOf (addingAt (now (numbers .entry)) (now (lines .entry)) (now (adding .entry)) (now (tally .entry))) ⌝ }
+        ≡ pieces.endedOf (addingAt (now (numbers .entry)) (now (lines .entry)) (now (adding .entry)) (now (tally .entry))) ⌝ }
 {
     let a = adding_in(numbers, lines, adding, tally);
     let added = a.end();

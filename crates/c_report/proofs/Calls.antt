@@ -1,4 +1,4 @@
--- Answers by their fields. Assumes nothing.
+-- Answers by their fields.
 use mathlib.Core.Path.{_≡_}
 use Prim.Native.Nat.{ℕ}
 use Rattle.report_model.specs.Report as model

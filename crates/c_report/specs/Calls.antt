@@ -1,4 +1,4 @@
--- A report in two arrays of numbers, and what the calls leave in them. Assumes nothing.
+-- A report in two arrays of numbers, and what the calls leave in them.
 use Prim.Native.Nat.{ℕ}
 use mathlib.Core.List.{List, [], _∷_}
 use lib.ListN.{getD}

@@ -1,5 +1,5 @@
 -- Document 01, "Cases, P marks those proved", as document 02 changes them, with figures of document 02: each row is what a definition gives, and
--- what the documents say. Behind these stand three rows of our own on ERP2 telegrams. Assumes nothing.
+-- what the documents say. Behind these stand three rows of our own on ERP2 telegrams.
 use Prim.Native.Nat.{ℕ, _+_}
 use mathlib.Core.List.{List, [], _∷_, _++_}
 use mathlib.Core.Bool.{cond}

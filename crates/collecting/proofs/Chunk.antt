@@ -1,4 +1,4 @@
--- What is kept of a chunk whose lines were taken. Assumes nothing.
+-- What is kept of a chunk whose lines were taken.
 use mathlib.Core.Path.{_≡_, refl, sym, _∙_}
 use mathlib.Core.Bool.{true}
 use mathlib.Core.List.{List, [], _∷_}
@@ -10,11 +10,11 @@ use lib.Seq.{sets, sets-eq, take-append-seam, take-nil}
 use borrow.Author.Tests.{le-leb}
 use borrow.Rule.Slice.PartMut.{midOf, putMid, take-put, same-len-mid}
 use Rattle.line_input.specs.Reading.{lineLimit}
-use Rattle.streams.specs.Chunks.{within, fresh, feed, feedText}
+use Rattle.streams.specs.Chunks.{inLine, atLineStart, feed, feedText}
 use Rattle.streams.specs.Collect.{Phase, collect}
-use Rattle.streams.specs.Buffer.{isOpen, keptOf, Carried}
+use Rattle.streams.specs.Buffer.{isUnended, keptLine, Carried}
 use Rattle.streams.proofs.Segments.{Drained, left, open-front}
-use Rattle.collecting.specs.Session.{Receiver, merging}
+use Rattle.collecting.specs.Session.{Receiver, modelCollector}
 use Rattle.collecting.specs.Program.{Kept}
 
 -- a part of the front is the front of a part
@@ -38,8 +38,8 @@ still-kept {kept} k {buffer} read h e =
 -- ---- what is kept of a chunk
 
 module _ (buffer : List ℕ) (used end : ℕ) (fits : end ≤ length buffer) (ordered : used ≤ end) where
-  kept-rest : keptOf buffer used end ≡ take lineLimit (drop used (take end buffer))
-  unfolding keptOf
+  kept-rest : keptLine buffer used end ≡ take lineLimit (drop used (take end buffer))
+  unfolding keptLine
   kept-rest = rw (le-leb end (length buffer) fits, le-leb used end ordered, drop-take buffer used end)
 
   module _ {buffer' : List ℕ} {kept : ℕ} (c : Carried buffer used end buffer' kept) where
@@ -59,14 +59,14 @@ module _ (buffer : List ℕ) (used end : ℕ) (fits : end ≤ length buffer) (or
         omega (arith, length-take lineLimit (drop used (take end buffer)))
 
     -- it has no newline, where what was left had none
-    pub kept-open : isOpen (drop used (take end buffer)) ≡ true → isOpen (take kept buffer') ≡ true
+    pub kept-open : isUnended (drop used (take end buffer)) ≡ true → isUnended (take kept buffer') ≡ true
     kept-open o = rw kept-front (open-front lineLimit (drop used (take end buffer)) o)
 
-    pub chunk-position : (s₀ s : Phase Receiver) → feed (collect merging) lineLimit (fresh s₀) (take used (take end buffer)) ≡ fresh s
-        → isOpen (drop used (take end buffer)) ≡ true → feed (collect merging) lineLimit (fresh s₀) (take end buffer) ≡ within s (take kept buffer')
+    pub chunk-position : (s₀ s : Phase Receiver) → feed (collect modelCollector) lineLimit (atLineStart s₀) (take used (take end buffer)) ≡ atLineStart s
+        → isUnended (drop used (take end buffer)) ≡ true → feed (collect modelCollector) lineLimit (atLineStart s₀) (take end buffer) ≡ inLine s (take kept buffer')
     chunk-position s₀ s e o =
         let t = take end buffer in
-        let d : Drained (collect merging) lineLimit s₀ (take used t) s (feedText (collect merging) lineLimit (fresh s₀) (take used t)) =
+        let d : Drained (collect modelCollector) lineLimit s₀ (take used t) s (feedText (collect modelCollector) lineLimit (atLineStart s₀) (take used t)) =
         record { state = e; text = refl }
         in
-        rw kept-front ((rw (take-append-drop used t) at (left (collect merging) lineLimit d (drop used t) o)) .0)
+        rw kept-front ((rw (take-append-drop used t) at (left (collect modelCollector) lineLimit d (drop used t) o)) .0)

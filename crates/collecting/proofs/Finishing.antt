@@ -1,4 +1,4 @@
--- The end of a run: what is kept of a line, with a newline behind it, is one more line. Assumes nothing.
+-- The end of a run: what is kept of a line, with a newline behind it, is one more line.
 use mathlib.Core.Path.{_≡_, refl, sym, ap, _∙_}
 use mathlib.Core.Bool.{Bool, true, false, cond}
 use mathlib.Core.List.{List, [], _∷_, _++_}
@@ -13,13 +13,13 @@ use Rattle.line_input.specs.Reading.{lineLimit}
 use Rattle.buffers.specs.Printed.{Printed, PrintedIfFits}
 use Rattle.line_output.specs.Longest.{longestTotals}
 use Rattle.buffers.proofs.Stores.{then, if-fits}
-use Rattle.streams.specs.Chunks.{Position, within, fresh, feed, lastText, endText}
+use Rattle.streams.specs.Chunks.{Position, inLine, atLineStart, feed, lastText, endText}
 use Rattle.streams.specs.Collect.{Phase, starting, running, over, collect, endOf, nextPhase, phaseText}
-use Rattle.streams.specs.Buffer.{isOpen}
+use Rattle.streams.specs.Buffer.{isUnended}
 use Rattle.streams.proofs.Limit.{bounded}
 use Rattle.streams.proofs.Segments.{Drained, none, more, feed-open, open-front}
 use Rattle.collecting.specs.declared.Progress.{Progress}
-use Rattle.collecting.specs.Session.{Receiver, merging, phaseOf, longestLine, longestEnd, Ran}
+use Rattle.collecting.specs.Session.{Receiver, modelCollector, phaseOf, longestLine, longestEnd, Ran}
 use Rattle.collecting.specs.Program.{longestFinish, Kept}
 use Rattle.collecting.proofs.Taking.{same-length}
 
@@ -31,7 +31,7 @@ end-short over = omega arith
 -- ---- nothing is kept
 
 pub no-line-kept : (s : Phase Receiver) (buffer : List ℕ) {out out' : List ℕ} {kept r : ℕ} → kept ≡ 0 → longestFinish ≤ length out
-    → PrintedIfFits out 0 (longestEnd s) (endOf merging s) out' r → Printed out 0 (endText (collect merging) (within s (take kept buffer))) longestFinish out' r
+    → PrintedIfFits out 0 (longestEnd s) (endOf modelCollector s) out' r → Printed out 0 (endText (collect modelCollector) (inLine s (take kept buffer))) longestFinish out' r
 unfolding lastText
 no-line-kept s buffer e h p =
     let b = end-short s in
@@ -41,24 +41,24 @@ no-line-kept s buffer e h p =
 -- ---- a line is kept
 
 -- a text that ends with a newline is not open
-not-open : (l : List ℕ) → isOpen (l ++ (newline ∷ [])) ≡ false
-unfolding isOpen
+not-open : (l : List ℕ) → isUnended (l ++ (newline ∷ [])) ≡ false
+unfolding isUnended
 not-open [] = refl
 not-open (c ∷ l) = go (eqb c newline) (not-open l)
   where
-    go : (t : Bool) → isOpen (l ++ (newline ∷ [])) ≡ false → cond t false (isOpen (l ++ (newline ∷ []))) ≡ false
+    go : (t : Bool) → isUnended (l ++ (newline ∷ [])) ≡ false → cond t false (isUnended (l ++ (newline ∷ []))) ≡ false
     go true e = refl
     go false e = e
 
 -- a part of a line is no whole line
-part-is-none : (s s' : Phase Receiver) (l : List ℕ) → isOpen l ≡ true → feed (collect merging) lineLimit (fresh s) l ≡ fresh s' → length l ≡ 0
+part-is-none : (s s' : Phase Receiver) (l : List ℕ) → isUnended l ≡ true → feed (collect modelCollector) lineLimit (atLineStart s) l ≡ atLineStart s' → length l ≡ 0
 part-is-none s s' l o e =
-    let f = rw (take-nil {A = ℕ} lineLimit) at (feed-open (collect merging) lineLimit l [] s o) in
+    let f = rw (take-nil {A = ℕ} lineLimit) at (feed-open (collect modelCollector) lineLimit l [] s o) in
     let k : take lineLimit l ≡ [] = ap (λ (a : Position (Phase Receiver)). a .line) (sym f ∙ e) in
     let n = ap length k in
     omega (arith, length-take lineLimit l)
 
-module _ (s : Phase Receiver) (l : List ℕ) (o : isOpen l ≡ true) (full : 0 < length l) {out out₁ : List ℕ} (p : Progress)
+module _ (s : Phase Receiver) (l : List ℕ) (o : isUnended l ≡ true) (full : 0 < length l) {out out₁ : List ℕ} (p : Progress)
     (capacity : longestLine ≤ length out) (r : Ran s (l ++ (newline ∷ [])) out out₁ p) where
   -- the line is taken
   all-used : p .used ≡ suc (length l)
@@ -67,7 +67,7 @@ module _ (s : Phase Receiver) (l : List ℕ) (o : isOpen l ≡ true) (full : 0 <
       go : (t : Bool) → leb (p .used) (length l) ≡ t → p .used ≡ suc (length l)
       go true e =
           let h = leb-true (p .used) (length l) e in
-          let part : feed (collect merging) lineLimit (fresh s) (take (p .used) l) ≡ fresh (phaseOf (p .session)) =
+          let part : feed (collect modelCollector) lineLimit (atLineStart s) (take (p .used) l) ≡ atLineStart (phaseOf (p .session)) =
           rw (take-append-le (p .used) l (newline ∷ []) h) at (r .fed .state)
           in
           let n = part-is-none s (phaseOf (p .session)) (take (p .used) l) (open-front (p .used) l o) part in
@@ -80,18 +80,18 @@ module _ (s : Phase Receiver) (l : List ℕ) (o : isOpen l ≡ true) (full : 0 <
   whole : take (p .used) (l ++ (newline ∷ [])) ≡ l ++ (newline ∷ [])
   whole = rw all-used (take-all (suc (length l)) (l ++ (newline ∷ [])) (omega (arith, length-append l (newline ∷ []))))
 
-  taken : Drained (collect merging) lineLimit s (l ++ (newline ∷ [])) (nextPhase merging s l) (phaseText merging s l)
-  taken = more (collect merging) lineLimit (bounded merging) (none (collect merging) lineLimit s) l o
+  taken : Drained (collect modelCollector) lineLimit s (l ++ (newline ∷ [])) (nextPhase modelCollector s l) (phaseText modelCollector s l)
+  taken = more (collect modelCollector) lineLimit (bounded modelCollector) (none (collect modelCollector) lineLimit s) l o
 
-  next-taken : phaseOf (p .session) ≡ nextPhase merging s l
+  next-taken : phaseOf (p .session) ≡ nextPhase modelCollector s l
   next-taken = ap (λ (a : Position (Phase Receiver)). a .state) (sym (rw whole at (r .fed .state)) ∙ taken .state)
 
-  text-taken : Printed out 0 (phaseText merging s l) (length out) out₁ (p .written)
+  text-taken : Printed out 0 (phaseText modelCollector s l) (length out) out₁ (p .written)
   text-taken = rw (taken .text) at (rw whole at (r .fed .output))
 
   then-end : {out₂ : List ℕ} {n : ℕ} → length l ≤ lineLimit → longestFinish ≤ length out
-      → PrintedIfFits out₁ (p .written) (longestEnd (phaseOf (p .session))) (endOf merging (phaseOf (p .session))) out₂ n
-      → Printed out 0 (phaseText merging s l ++ endOf merging (nextPhase merging s l)) longestFinish out₂ n
+      → PrintedIfFits out₁ (p .written) (longestEnd (phaseOf (p .session))) (endOf modelCollector (phaseOf (p .session))) out₂ n
+      → Printed out 0 (phaseText modelCollector s l ++ endOf modelCollector (nextPhase modelCollector s l)) longestFinish out₂ n
   then-end few room q =
       let same = same-length text-taken in
       let short = end-short (phaseOf (p .session)) in
@@ -103,15 +103,15 @@ module _ (s : Phase Receiver) (l : List ℕ) (o : isOpen l ≡ true) (full : 0 <
       rw (sym next-taken) (record { bytes = t .bytes; next = t .next; short = omega (arith, e .short) })
 
 last-full : (s : Phase Receiver) (l : List ℕ) → 0 < length l
-    → lastText (collect merging) s l ≡ phaseText merging s l ++ endOf merging (nextPhase merging s l)
+    → lastText (collect modelCollector) s l ≡ phaseText modelCollector s l ++ endOf modelCollector (nextPhase modelCollector s l)
 unfolding lastText
 last-full s [] h = absurd (omega arith)
 last-full s (c ∷ l) h = refl
 
 pub line-kept : (s : Phase Receiver) (buffer : List ℕ) {kept n : ℕ} {out out₁ out₂ : List ℕ} (p : Progress) → Kept kept buffer → (kept ≡ 0 → ⊥)
     → longestFinish ≤ length out → Ran s (take (kept + 1 - 0) (set buffer kept newline)) out out₁ p
-    → PrintedIfFits out₁ (p .written) (longestEnd (phaseOf (p .session))) (endOf merging (phaseOf (p .session))) out₂ n
-    → Printed out 0 (endText (collect merging) (within s (take kept buffer))) longestFinish out₂ n
+    → PrintedIfFits out₁ (p .written) (longestEnd (phaseOf (p .session))) (endOf modelCollector (phaseOf (p .session))) out₂ n
+    → Printed out 0 (endText (collect modelCollector) (inLine s (take kept buffer))) longestFinish out₂ n
 line-kept s buffer {kept} p k nonzero room r q =
     let l = take kept buffer in
     let fits : kept < length buffer = omega (arith, k .few, k .fits) in

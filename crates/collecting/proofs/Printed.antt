@@ -1,5 +1,5 @@
 -- What `collect` prints is the reference model's: a line takes the model's view to its view after one more reception (`same-step`), and the time
--- of a line is a number of 64 bits, so that no view is left that the model's theorem does not speak of. Assumes nothing.
+-- of a line is a number of 64 bits, so that no view is left that the model's theorem does not speak of.
 use Prim.Native.Nat.{ℕ, _^_, _<_}
 use mathlib.Core.Path.{_≡_, refl, sym, ap, ap₂, _∙_}
 use mathlib.Core.Bool.{Bool, true, false, not, _&&_}
@@ -18,7 +18,7 @@ use Rattle.model.proofs.Simulation.{same-sent, same-step, good-after}
 use Rattle.model.proofs.Theorem.{fresh-model}
 use Rattle.line_input.specs.declared.Setting.{Setting}
 use Rattle.line_input.specs.Decimal.{isDigit, decimalOf, hasLeadingZero, isNumber, isTime}
-use Rattle.line_input.specs.Reading.{Reading, reception, bad, settingOf, readingOf}
+use Rattle.line_input.specs.Reading.{Reading, reception, bad, settingOf, lineReading}
 use Rattle.line_input.proofs.Whole.{said}
 use Rattle.line_output.specs.Text.{rowText, badText}
 use Rattle.streams.specs.Lines.{linesOf, after, written, outputOf}
@@ -27,7 +27,7 @@ use Rattle.streams.specs.Collect.{Phase, starting, running, over, afterFirst, f
 use Rattle.streams.proofs.Limit.{collected-in-pieces}
 use Rattle.collecting.specs.Printed.{rowOf, sentBytes, totalsLine, receptionAt, rowAfter, pastAfterLine, rowsAfter, pastAfterLines}
 use Rattle.collecting.specs.Printed.{printedWith, printedFor, printedOf}
-use Rattle.collecting.specs.Session.{Receiver, merging}
+use Rattle.collecting.specs.Session.{Receiver, modelCollector}
 use Rattle.collecting.specs.Claims.{CollectPrints}
 
 -- ---- the time of a reception
@@ -38,14 +38,14 @@ time-small s e =
     let t = both (ltb 0 (length s) && not (hasLeadingZero s)) (isNumber s) e in
     ltb-true (decimalOf s) (2 ^ 64) (both (all isDigit s) (ltb (decimalOf s) (2 ^ 64)) (t .1) .1)
 
-said-small : (l : List ℕ) {t : ℕ} {bs : List ℕ} → readingOf l ≡ reception t bs → t < 2 ^ 64
+said-small : (l : List ℕ) {t : ℕ} {bs : List ℕ} → lineReading l ≡ reception t bs → t < 2 ^ 64
 said-small l e = let w = said l e in rw (w .saysTime) at (time-small (w .digits) (w .isTimely))
 
 -- ---- the lines after the first
 
 -- what is written for lines and at the end
 abbrev writtenFrom : Phase Receiver → List (List ℕ) → List ℕ
-writtenFrom s ls = written (collect merging) s ls ++ endOf merging (after (collect merging) s ls)
+writtenFrom s ls = written (collect modelCollector) s ls ++ endOf modelCollector (after (collect modelCollector) s ls)
 
 module _ (setting : ℕ) where
   -- the run where the reference model was handed these receptions
@@ -54,11 +54,11 @@ module _ (setting : ℕ) where
 
   -- a line was taken: its row, and the run after it
   record Took (past : List Reception) (a : Reading) : Type 0 where
-    row : lineText merging (at past) a ≡ rowAfter setting past a
-    next : afterLine merging (at past) a ≡ at (pastAfterLine past a)
+    row : lineText modelCollector (at past) a ≡ rowAfter setting past a
+    next : afterLine modelCollector (at past) a ≡ at (pastAfterLine past a)
     good : Good (modelView (logOf (pastAfterLine past a)))
 
-  took : (past : List Reception) (l : List ℕ) → Good (modelView (logOf past)) → (a : Reading) → readingOf l ≡ a → Took past a
+  took : (past : List Reception) (l : List ℕ) → Good (modelView (logOf past)) → (a : Reading) → lineReading l ≡ a → Took past a
   took past l g bad e = record { row = refl; next = refl; good = g }
   took past l g (reception t bs) e =
       let r = receptionAt t bs in
@@ -82,13 +82,13 @@ module _ (setting : ℕ) where
   unfolding written after joined rowsAfter pastAfterLines
   rows [] past g = no-lines past
   rows (l ∷ ls) past g =
-      let a = readingOf l in
+      let a = lineReading l in
       let w = took past l g a refl in
       let more = pastAfterLine past a in
       let row = rowAfter setting past a in
-      ap₂ (λ (x : List ℕ) (c : Receiver). (x ++ written (collect merging) (running c) ls) ++ endOf merging (after (collect merging) (running c) ls))
+      ap₂ (λ (x : List ℕ) (c : Receiver). (x ++ written (collect modelCollector) (running c) ls) ++ endOf modelCollector (after (collect modelCollector) (running c) ls))
       (w .row) (w .next)
-      ∙ append-assoc row (written (collect merging) (running (at more)) ls) (endOf merging (after (collect merging) (running (at more)) ls))
+      ∙ append-assoc row (written (collect modelCollector) (running (at more)) ls) (endOf modelCollector (after (collect modelCollector) (running (at more)) ls))
       ∙ ap (λ (x : List ℕ). row ++ x) (rows ls more (w .good))
       ∙ sym (append-assoc row (joined (rowsAfter setting more ls)) (totalsLine (totalsOf (logOf (pastAfterLines more ls)))))
 
@@ -100,13 +100,13 @@ over-silent [] = refl
 over-silent (l ∷ ls) = over-silent ls
 
 first-line : (s : Setting) (ls : List (List ℕ))
-    → (firstText merging s ++ written (collect merging) (afterFirst merging s) ls)
-    ++ endOf merging (after (collect merging) (afterFirst merging s) ls)
+    → (firstText modelCollector s ++ written (collect modelCollector) (afterFirst modelCollector s) ls)
+    ++ endOf modelCollector (after (collect modelCollector) (afterFirst modelCollector s) ls)
     ≡ printedWith s ls
 first-line (Setting.Level n) ls =
     ap (λ (v : View). writtenFrom (running (record { setting = n; view = v })) ls) fresh-model ∙ rows n ls [] (rw fresh-model at good-fresh)
 first-line Setting.Bad ls =
-    append-assoc badText (written (collect merging) over ls) (endOf merging (after (collect merging) over ls))
+    append-assoc badText (written (collect modelCollector) over ls) (endOf modelCollector (after (collect modelCollector) over ls))
     ∙ ap (λ (x : List ℕ). badText ++ x) (over-silent ls)
 
 whole-input : (ls : List (List ℕ)) → writtenFrom starting ls ≡ printedFor ls
@@ -114,9 +114,9 @@ unfolding written after
 whole-input [] = refl
 whole-input (l ∷ ls) = first-line (settingOf l) ls
 
-collected-printed : (input : List ℕ) → collected merging input ≡ printedOf input
+collected-printed : (input : List ℕ) → collected modelCollector input ≡ printedOf input
 unfolding collected outputOf printedOf
 collected-printed input = whole-input (linesOf input)
 
 pub collect-prints : CollectPrints
-collect-prints xs = collected-in-pieces merging xs ∙ collected-printed (joined xs)
+collect-prints xs = collected-in-pieces modelCollector xs ∙ collected-printed (joined xs)

@@ -1,4 +1,4 @@
--- Lines taken by a session: none, one from the start of the input, one more, and what is sent for one. Assumes nothing.
+-- Lines taken by a session: none, one from the start of the input, one more, and what is sent for one.
 use mathlib.Core.Path.{_≡_, refl, sym, ap, _∙_}
 use mathlib.Core.Bool.{Bool, true, false, cond, not, _&&_, _||_, false≢true}
 use mathlib.Core.List.{List, [], _∷_}
@@ -19,11 +19,10 @@ use Rattle.model.specs.Answer.{Shown, isKept}
 use Rattle.model.specs.View as view
 use Rattle.model.specs.View.{View}
 use Rattle.model.specs.Step.{Outcome, sentFor}
-use Rattle.collector.specs.Merging.{relayedFor}
-use Rattle.collector.specs.Admission.{admission}
+use Rattle.collector.specs.Admission.{relayedFor, admission}
 use Rattle.collector.proofs.Sending.{relayed-sent}
 use Rattle.line_input.specs.Ascii.{newline, space}
-use Rattle.line_input.specs.Reading.{readingOf, reception, bad}
+use Rattle.line_input.specs.Reading.{lineReading, reception, bad}
 use Rattle.line_input.proofs.Pairs.{leading-hex}
 use Rattle.line_input.proofs.Long.{long-time}
 use Rattle.line_input.proofs.Whole.{Said}
@@ -33,43 +32,43 @@ use Rattle.buffers.specs.Printed.{Printed}
 use Rattle.line_output.specs.Longest.{longestNumber}
 use Rattle.streams.specs.Chunks.{feedText}
 use Rattle.streams.specs.Collect.{Phase, running, collect, phaseText, nextPhase}
-use Rattle.streams.specs.Buffer.{isOpen, Fed}
+use Rattle.streams.specs.Buffer.{isUnended, Fed}
 use Rattle.streams.proofs.Segments.{open-whole}
 use Rattle.streams.proofs.Limit.{bounded}
 use Rattle.streams.proofs.Takes.{found, fed-none, fed-next}
 use Rattle.collecting.specs.declared.Session.{Session}
 use Rattle.collecting.specs.declared.Progress.{Progress}
 use Rattle.collecting.specs.Printed.{rowOf, sentBytes}
-use Rattle.collecting.specs.Session.{Receiver, merging, taken, phaseOf, longestLine, Ran}
+use Rattle.collecting.specs.Session.{Receiver, modelCollector, takenAt, phaseOf, longestLine, Ran}
 
 -- ---- none
 
 pub none-taken : {s : Phase Receiver} {x : Session} {r : Progress} (input out : List ℕ) → phaseOf x ≡ s → r ≡ record { session = x; used = 0; written = 0 }
-    → (longestLine ≤ length out → isOpen input ≡ true) → Ran s input out out r
-none-taken {s} input out e k h = rw k (record { within = omega arith; fed = rw e (fed-none (collect merging) (bounded merging) s out); short = omega arith; rest = λ z l. h l })
+    → (longestLine ≤ length out → isUnended input ≡ true) → Ran s input out out r
+none-taken {s} input out e k h = rw k (record { within = omega arith; fed = rw e (fed-none (collect modelCollector) (bounded modelCollector) s out); short = omega arith; rest = λ z l. h l })
 
 -- nothing is written for no line
-pub none-written : {s s' : Phase Receiver} {out out' : List ℕ} {n : ℕ} (input : List ℕ) {at : ℕ} → Fed (collect merging) s (take at input) out s' out' n
+pub none-written : {s s' : Phase Receiver} {out out' : List ℕ} {n : ℕ} (input : List ℕ) {at : ℕ} → Fed (collect modelCollector) s (take at input) out s' out' n
     → at ≡ 0 → n ≡ 0
 unfolding feedText
 none-written input f e = (rw e at f) .output .next
 
 -- a search from the start of the input found no newline
-pub no-line : (input : List ℕ) {n : ℕ} → n ≡ 0 + indexOf newline (slice 0 (length input) input) → length input ≤ n → isOpen input ≡ true
+pub no-line : (input : List ℕ) {n : ℕ} → n ≡ 0 + indexOf newline (slice 0 (length input) input) → length input ≤ n → isUnended input ≡ true
 no-line input e h = let k = found input 0 e in open-whole input (omega arith)
 
 -- what is left from the start on is all
-pub open-from-start : (input : List ℕ) (at : ℕ) → at ≡ 0 → isOpen (drop at input) ≡ true → isOpen input ≡ true
+pub open-from-start : (input : List ℕ) (at : ℕ) → at ≡ 0 → isUnended (drop at input) ≡ true → isUnended input ≡ true
 open-from-start input at e o = rw e at o
 
 -- ---- one
 
 -- the first line of the input
 pub one-line : (s : Phase Receiver) {out out' : List ℕ} {most r : ℕ} (input : List ℕ) {n : ℕ} → n ≡ 0 + indexOf newline (slice 0 (length input) input)
-    → n < length input → Printed out 0 (phaseText merging s (take (n - 0) input)) most out' r → r ≤ length out
-    → Fed (collect merging) s (take (n + 1) input) out (nextPhase merging s (take (n - 0) input)) out' r
+    → n < length input → Printed out 0 (phaseText modelCollector s (take (n - 0) input)) most out' r → r ≤ length out
+    → Fed (collect modelCollector) s (take (n + 1) input) out (nextPhase modelCollector s (take (n - 0) input)) out' r
 one-line s {out} input {n} e h q fits =
-    fed-next (collect merging) (bounded merging) input 0 n (fed-none (collect merging) (bounded merging) s out) (found input 0 e) h (omega arith) q fits
+    fed-next (collect modelCollector) (bounded modelCollector) input 0 n (fed-none (collect modelCollector) (bounded modelCollector) s out) (found input 0 e) h (omega arith) q fits
 
 -- the line from `at` on
 abbrev pub lineAt : List ℕ → ℕ → List ℕ
@@ -77,31 +76,31 @@ lineAt input at = take (indexOf newline (drop at input)) (drop at input)
 
 -- it has `used` characters with its newline
 module _ {c₀ c : Receiver} {out₀ out out' : List ℕ} {to most r : ℕ} (input : List ℕ) (at used : ℕ)
-    (f : Fed (collect merging) (running c₀) (take at input) out₀ (running c) out to)
+    (f : Fed (collect modelCollector) (running c₀) (take at input) out₀ (running c) out to)
     (h : (indexOf newline (drop at input) < length (drop at input)) × (used ≡ indexOf newline (drop at input) + 1)) (l : at ≤ length input)
     (fits : r ≤ length out₀) where
-  taken-line : Printed out to (phaseText merging (running c) (lineAt input at)) most out' r
-      → Fed (collect merging) (running c₀) (take (at + used) input) out₀ (nextPhase merging (running c) (lineAt input at)) out' r
+  taken-line : Printed out to (phaseText modelCollector (running c) (lineAt input at)) most out' r
+      → Fed (collect modelCollector) (running c₀) (take (at + used) input) out₀ (nextPhase modelCollector (running c) (lineAt input at)) out' r
   taken-line q =
       let k = indexOf newline (drop at input) in
       let within : at + k < length input = omega (arith, h .0, length-drop at input) in
       let same : at + k - at ≡ k = omega arith in
       let end : at + used ≡ at + k + 1 = omega (arith, h .1) in
-      let printed : Printed out to (phaseText merging (running c) (take (at + k - at) (drop at input))) most out' r = rw same q in
-      rw end (rw same at (fed-next (collect merging) (bounded merging) input at (at + k) f refl within l printed fits))
+      let printed : Printed out to (phaseText modelCollector (running c) (take (at + k - at) (drop at input))) most out' r = rw same q in
+      rw end (rw same at (fed-next (collect modelCollector) (bounded modelCollector) input at (at + k) f refl within l printed fits))
 
-  pub bad-line : readingOf (lineAt input at) ≡ bad → Printed out to badText most out' r
-      → Fed (collect merging) (running c₀) (take (at + used) input) out₀ (running c) out' r
+  pub bad-line : lineReading (lineAt input at) ≡ bad → Printed out to badText most out' r
+      → Fed (collect modelCollector) (running c₀) (take (at + used) input) out₀ (running c) out' r
   bad-line b q =
-      let w : Printed out to (phaseText merging (running c) (lineAt input at)) most out' r = rw b q in
+      let w : Printed out to (phaseText modelCollector (running c) (lineAt input at)) most out' r = rw b q in
       rw b at (taken-line w)
 
-  pub reception-line : {t : ℕ} {bs time sent : List ℕ} (o : Outcome) → readingOf (lineAt input at) ≡ reception t bs → o ≡ taken (c .view) t bs → time ≡ decimalText t
+  pub reception-line : {t : ℕ} {bs time sent : List ℕ} (o : Outcome) → lineReading (lineAt input at) ≡ reception t bs → o ≡ takenAt (c .view) t bs → time ≡ decimalText t
       → sent ≡ sentBytes (sentFor (c .setting) (o .answer) (record { bytes = bs; time = t }))
       → Printed out to (rowBehind time (rowOf (o .answer)) sent) most out' r
-      → Fed (collect merging) (running c₀) (take (at + used) input) out₀ (running (record { setting = c .setting; view = o .next })) out' r
+      → Fed (collect modelCollector) (running c₀) (take (at + used) input) out₀ (running (record { setting = c .setting; view = o .next })) out' r
   reception-line o b k e s q =
-      let w : Printed out to (phaseText merging (running c) (lineAt input at)) most out' r = rw b (rw (s, e, k) at q) in
+      let w : Printed out to (phaseText modelCollector (running c) (lineAt input at)) most out' r = rw b (rw (s, e, k) at q) in
       rw k (rw b at (taken-line w))
 
 -- ---- the time of a line is printed as it stands there

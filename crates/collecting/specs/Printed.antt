@@ -1,5 +1,5 @@
 -- What `collect` prints for an input, by the reference model (document 01, "Cases" and "One history, and the clerk who writes it down"; the
--- setting is the run's, document 02, A7). Assumes nothing.
+-- setting is the run's, document 02, A7).
 use Prim.Native.Nat.{ℕ}
 use mathlib.Core.List.{List, [], _∷_, _++_}
 use lib.ListN.{take}
@@ -9,7 +9,7 @@ use Rattle.model.specs.Answer as answer
 use Rattle.model.specs.View.{Reception}
 use Rattle.model.specs.Reference.{totalsOf, answerTo, sentWith, logOf}
 use Rattle.line_input.specs.declared.Setting.{Setting}
-use Rattle.line_input.specs.Reading.{Reading, reception, bad, settingOf, readingOf}
+use Rattle.line_input.specs.Reading.{Reading, reception, bad, settingOf, lineReading}
 use Rattle.line_output.specs.declared.Row.{Row}
 use Rattle.line_output.specs.Text.{rowText, badText, totalsText}
 use Rattle.streams.specs.Lines.{linesOf}
@@ -54,12 +54,12 @@ pastAfterLine past bad = past
 -- the rows of lines, one for each
 unfoldable pub rowsAfter : (setting : ℕ) → List Reception → List (List ℕ) → List (List ℕ)
 rowsAfter setting past [] = []
-rowsAfter setting past (l ∷ ls) = rowAfter setting past (readingOf l) ∷ rowsAfter setting (pastAfterLine past (readingOf l)) ls
+rowsAfter setting past (l ∷ ls) = rowAfter setting past (lineReading l) ∷ rowsAfter setting (pastAfterLine past (lineReading l)) ls
 
 -- the receptions handed over after lines
 unfoldable pub pastAfterLines : List Reception → List (List ℕ) → List Reception
 pastAfterLines past [] = past
-pastAfterLines past (l ∷ ls) = pastAfterLines (pastAfterLine past (readingOf l)) ls
+pastAfterLines past (l ∷ ls) = pastAfterLines (pastAfterLine past (lineReading l)) ls
 
 -- "`level N`, then lines of time and hex": a row for each line, and the totals; "a first line .. other than level 0, 1 or 2 prints BAD alone"
 abbrev pub printedWith : Setting → List (List ℕ) → List ℕ

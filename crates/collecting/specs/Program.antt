@@ -1,4 +1,4 @@
--- What the program does between a read and the next one, and at the end. Assumes nothing.
+-- What the program does between a read and the next one, and at the end.
 use Prim.Native.Nat.{ℕ, _+_, _*_, _≤_, _<_}
 use mathlib.Core.Path.{_≡_}
 use mathlib.Core.Bool.{Bool, true, false}
@@ -6,13 +6,13 @@ use mathlib.Core.List.{List}
 use lib.ListN.{length, take, drop}
 use Rattle.line_input.specs.Reading.{lineLimit}
 use Rattle.line_output.specs.Longest.{longestTotals}
-use Rattle.streams.specs.Chunks.{within, fresh, feed}
+use Rattle.streams.specs.Chunks.{inLine, atLineStart, feed}
 use Rattle.streams.specs.Collect.{Phase, collect}
-use Rattle.streams.specs.Buffer.{isOpen}
+use Rattle.streams.specs.Buffer.{isUnended}
 use Rattle.collecting.specs.declared.program.Next.{Next}
 use Rattle.collecting.specs.declared.program.Turn.{Turn}
 use Rattle.collecting.specs.declared.program.Drain.{Drain}
-use Rattle.collecting.specs.Session.{Receiver, merging, phaseOf, longestLine}
+use Rattle.collecting.specs.Session.{Receiver, modelCollector, phaseOf, longestLine}
 
 -- a last line of which `lineLimit` characters were kept, and the totals, are shorter
 abbrev pub longestFinish : ℕ
@@ -29,16 +29,16 @@ isSound Next.NotWritten = false
 pub record Kept (n : ℕ) (buffer : List ℕ) : Type 0 where
   pub few : n ≤ lineLimit
   pub fits : lineLimit < length buffer
-  pub line : isOpen (take n buffer) ≡ true
+  pub line : isUnended (take n buffer) ≡ true
 
 -- all whole lines of the input were taken from phase s on, if their text was written
 pub record Drained (s : Phase Receiver) (input : List ℕ) (r : Drain) : Type 0 where
   pub within : r .used ≤ length input
-  pub state : r .written ≡ true → feed (collect merging) lineLimit (fresh s) (take (r .used) input) ≡ fresh (phaseOf (r .session))
-  pub rest : r .written ≡ true → isOpen (drop (r .used) input) ≡ true
+  pub state : r .written ≡ true → feed (collect modelCollector) lineLimit (atLineStart s) (take (r .used) input) ≡ atLineStart (phaseOf (r .session))
+  pub rest : r .written ≡ true → isUnended (drop (r .used) input) ≡ true
 
 -- a chunk was taken from phase s on, if its text was written: the session and what is kept are where the run then stands
 pub record Chunked (s : Phase Receiver) (text buffer' : List ℕ) (r : Turn) : Type 0 where
   pub few : r .kept ≤ lineLimit
-  pub line : isSound (r .next) ≡ true → isOpen (take (r .kept) buffer') ≡ true
-  pub position : isSound (r .next) ≡ true → feed (collect merging) lineLimit (fresh s) text ≡ within (phaseOf (r .session)) (take (r .kept) buffer')
+  pub line : isSound (r .next) ≡ true → isUnended (take (r .kept) buffer') ≡ true
+  pub position : isSound (r .next) ≡ true → feed (collect modelCollector) lineLimit (atLineStart s) text ≡ inLine (phaseOf (r .session)) (take (r .kept) buffer')

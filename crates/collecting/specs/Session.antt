@@ -1,4 +1,4 @@
--- The program `collect` over the collector of the model (document 01, "Cases"), and what a session says of its run. Assumes nothing.
+-- The program `collect` over the collector of the model (document 01, "Cases"), and what a session says of its run.
 use Prim.Native.Nat.{ℕ, _*_, _≤_}
 use mathlib.Core.Path.{_≡_}
 use mathlib.Core.Bool.{true}
@@ -10,7 +10,7 @@ use Rattle.model.specs.Step.{Outcome, step, sentFor}
 use Rattle.collector.specs.Collector.{viewOf}
 use Rattle.line_output.specs.Longest.{longestNumber, longestRow, longestTotals}
 use Rattle.streams.specs.Collect.{Collector, Phase, starting, running, over, collect}
-use Rattle.streams.specs.Buffer.{isOpen, Fed}
+use Rattle.streams.specs.Buffer.{isUnended, Fed}
 use Rattle.collecting.specs.declared.Stage.{Stage}
 use Rattle.collecting.specs.declared.Session.{Session}
 use Rattle.collecting.specs.declared.Progress.{Progress}
@@ -19,20 +19,20 @@ use Rattle.collecting.specs.Printed.{rowOf, sentBytes, totalsLine, recep
 -- ---- the model's collector
 
 -- one reception
-abbrev pub taken : View → ℕ → List ℕ → Outcome
-taken v time bytes = step v (receptionAt time bytes)
+abbrev pub takenAt : View → ℕ → List ℕ → Outcome
+takenAt v time bytes = step v (receptionAt time bytes)
 
 -- the collector, with the setting that its caller keeps (document 02, A7)
 pub record Receiver : Type 0 where
   pub setting : ℕ
   pub view : View
 
-abbrev pub merging : Collector Receiver
-merging = record {
+abbrev pub modelCollector : Collector Receiver
+modelCollector = record {
   fresh = λ setting. record { setting = setting; view = fresh };
-  next = λ c time bytes. record { setting = c .setting; view = taken (c .view) time bytes .next };
-  answer = λ c time bytes. rowOf (taken (c .view) time bytes .answer);
-  sent = λ c time bytes. sentBytes (sentFor (c .setting) (taken (c .view) time bytes .answer) (receptionAt time bytes));
+  next = λ c time bytes. record { setting = c .setting; view = takenAt (c .view) time bytes .next };
+  answer = λ c time bytes. rowOf (takenAt (c .view) time bytes .answer);
+  sent = λ c time bytes. sentBytes (sentFor (c .setting) (takenAt (c .view) time bytes .answer) (receptionAt time bytes));
   totals = λ c. totalsLine (c .view .totals);
 }
 
@@ -59,9 +59,9 @@ longestEnd over = 0
 -- at the front of the output; where none was taken though the longest row fits, there is none.
 pub record RanTo (s : Phase Receiver) (input out out' : List ℕ) (s' : Phase Receiver) (used written : ℕ) : Type 0 where
   pub within : used ≤ length input
-  pub fed : Fed (collect merging) s (take used input) out s' out' written
+  pub fed : Fed (collect modelCollector) s (take used input) out s' out' written
   pub short : written ≤ longestLine * used
-  pub rest : used ≡ 0 → longestLine ≤ length out → isOpen input ≡ true
+  pub rest : used ≡ 0 → longestLine ≤ length out → isUnended input ≡ true
 
 abbrev pub Ran : (s : Phase Receiver) (input out out' : List ℕ) (r : Progress) → Type 0
 Ran s input out out' r = RanTo s input out out' (phaseOf (r .session)) (r .used) (r .written)

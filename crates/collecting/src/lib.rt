@@ -16,14 +16,13 @@ ghost use Prim.Native.Nat.{ℕ, _+_, _≤_};
 ghost use lib.ListN.{length};
 ghost use Rattle.model.specs.Answer.{shownOf};
 ghost use Rattle.collector.specs.Collector.{columns, viewOf};
-ghost use Rattle.collector.specs.Merging.{relayedFor};
-ghost use Rattle.collector.specs.Admission.{viewIn, Tested};
+ghost use Rattle.collector.specs.Admission.{relayedFor, viewIn, Tested};
 ghost use Rattle.line_output.specs.Text.{rowBehind};
 ghost use Rattle.buffers.specs.Printed.{Printed, PrintedIfFits};
 ghost use Rattle.line_output.specs.Longest.{longestNumber};
 ghost use Rattle.streams.specs.Collect.{starting, running, over, afterFirst, firstText, endOf};
 ghost use Rattle.collecting.specs.Printed.{rowOf};
-ghost use Rattle.collecting.specs.Session.{merging, phaseOf, longestLine, longestEnd, RanTo, Ran};
+ghost use Rattle.collecting.specs.Session.{modelCollector, phaseOf, longestLine, longestEnd, RanTo, Ran};
 
 // Where a run stands: before its first line, past a right one, or ended by a wrong one.
 pub enum Stage {
@@ -88,7 +87,7 @@ impl Session {
 
     // The end of the output: BAD where there was no line, the totals after a run, nothing after one that was ended.
     pub fn put_end(self, out: &mut [u8], at: usize) -> usize
-        ensures { λ r. ⌜ PrintedIfFits (now (out .entry)) at (longestEnd (phaseOf self)) (endOf merging (phaseOf self)) (now (out .exit)) r ⌝ }
+        ensures { λ r. ⌜ PrintedIfFits (now (out .entry)) at (longestEnd (phaseOf self)) (endOf modelCollector (phaseOf self)) (now (out .exit)) r ⌝ }
     {
         let stage = self.stage;
         let c = self.collector;
@@ -145,7 +144,7 @@ fn nothing(s: Session) -> Progress
 
 // A level is the run's setting, any other line ends the run.
 fn begin(setting: Setting) -> Session
-    ensures { λ r. ⌜ phaseOf r ≡ afterFirst merging setting ⌝ }
+    ensures { λ r. ⌜ phaseOf r ≡ afterFirst modelCollector setting ⌝ }
 {
     match setting {
         Setting::Level(n) => {
@@ -169,7 +168,7 @@ fn begin(setting: Setting) -> Session
 
 fn put_first(out: &mut [u8], setting: Setting) -> usize
     requires { ⌜ longestLine ≤ length (now out) ⌝ }
-    ensures { λ r. ⌜ Printed (now (out .entry)) 0 (firstText merging setting) longestLine (now (out .exit)) r ⌝ }
+    ensures { λ r. ⌜ Printed (now (out .entry)) 0 (firstText modelCollector setting) longestLine (now (out .exit)) r ⌝ }
 {
     match setting {
         Setting::Level(_) => 0,

@@ -9,10 +9,10 @@ ghost use mathlib.Core.Path.{_≡_};
 ghost use mathlib.Core.Bool.{true};
 ghost use Prim.Native.Nat.{_≤_};
 ghost use lib.ListN.{length, take};
-ghost use Rattle.streams.specs.Chunks.{endText, within};
+ghost use Rattle.streams.specs.Chunks.{endText, inLine};
 ghost use Rattle.streams.specs.Collect.{collect};
 ghost use Rattle.buffers.specs.Printed.{Printed};
-ghost use Rattle.collecting.specs.Session.{merging, phaseOf, longestLine};
+ghost use Rattle.collecting.specs.Session.{modelCollector, phaseOf, longestLine};
 ghost use Rattle.collecting.specs.Program.{longestFinish, isSound, Kept, Drained, Chunked};
 
 // What comes after a chunk.
@@ -198,7 +198,7 @@ fn complain(message: &[u8]) {
 // Writes the end of the output: what is kept of a line counts as one more.
 fn finish(s: Session, kept: usize, buffer: &mut [u8], out: &mut [u8]) -> usize
     requires { ⌜ Kept kept (now buffer) × (longestFinish ≤ length (now out)) ⌝ }
-    ensures { λ r. ⌜ Printed (now (out .entry)) 0 (endText (collect merging) (within (phaseOf s) (take kept (now (buffer .entry))))) longestFinish (now (out .exit)) r ⌝ }
+    ensures { λ r. ⌜ Printed (now (out .entry)) 0 (endText (collect modelCollector) (inLine (phaseOf s) (take kept (now (buffer .entry))))) longestFinish (now (out .exit)) r ⌝ }
 {
     if kept == 0 {
         return s.put_end(out, 0);

@@ -1,5 +1,4 @@
 -- The test of a state by its parts: the times, telegrams each new after those before it, and totals that are summed.
--- Assumes nothing.
 use Prim.Native.Nat.{ℕ, _+_, _-_, _≤_, _<_}
 use native.Mathlib.Omega.{arith}
 use mathlib.Core.Path.{_≡_, refl, sym, _∙_, ap}
@@ -16,7 +15,8 @@ use Rattle.model.specs.declared.Totals.{Totals}
 use Rattle.model.specs.View.{Entry, View, openedBy, capacity, isOpen}
 use Rattle.model.specs.Acceptable.{isCopyOf, isEntry, mayFollow, isSummed, acceptable}
 use Rattle.collector.specs.Collector.{Columns, entryAt, entriesAt}
-use Rattle.collector.specs.Acceptable.{areTimely, areTelegrams, hasCopy, isRepeatedAt, shownAt}
+use Rattle.collector.specs.Admission.{hasCopy}
+use Rattle.collector.specs.Private.{areTimely, areTelegrams, isRepeatedAt, shownAt}
 use Rattle.collector.proofs.Inside.{same-test, fails, all-inside, pairwise-inside, none-any}
 use Rattle.collector.proofs.Times.{isOrdered}
 use Rattle.collector.proofs.Arrays.{entries-none, entries-more, entries-inside}

@@ -1,5 +1,5 @@
 -- One reception at any state whose entries and totals can be counted on, from what the code's steps tell: the answer, that there is room where it is
--- kept, and the next state. Assumes nothing.
+-- kept, and the next state.
 use Prim.Native.Nat.{ℕ, _-_, _*_, _≤_, _<_}
 use native.Mathlib.Omega.{arith}
 use mathlib.Core.Path.{_≡_, refl, sym, _∙_, ap}
@@ -27,10 +27,8 @@ use Rattle.collector.specs.declared.merging.Admitted.{Admitted}
 use Rattle.collector.specs.declared.merging.Judged.{Judged}
 use Rattle.collector.specs.declared.merging.Decision.{Decision}
 use Rattle.collector.specs.Collector.{Columns, columns, entriesAt}
-use Rattle.collector.specs.Acceptable.{hasCopy}
-use Rattle.collector.specs.Merging.{receptionCheck, answerFor, JudgedBy, Expired, moved, Changed}
-use Rattle.collector.specs.Admission.{viewIn, admittedOf, isSafe, numberOn, latestAfter, leftAfter, answerOn, entriesWith}
-use Rattle.collector.specs.Admission.{admitted, notAdmitted, admission, Admits, unchanged, changed, Whole, Decides}
+use Rattle.collector.specs.Admission.{hasCopy, receptionCheck, answerFor, viewIn, admittedOf, isSafe, numberOn, latestAfter, leftAfter, answerOn, entriesWith, admitted, notAdmitted, admission, Admits}
+use Rattle.collector.specs.Private.{JudgedBy, Expired, moved, Changed, unchanged, changed, Whole, Decides}
 use Rattle.collector.proofs.Arrays.{entries-length, left-length, found-known}
 use Rattle.collector.proofs.Moving.{creditIf, addIf, changed-entries, expired-open}
 

@@ -1,4 +1,4 @@
--- The entries that columns show: one more, one inside, and which are copies of a reception. Assumes nothing.
+-- The entries that columns show: one more, one inside, and which are copies of a reception.
 use Prim.Native.Nat.{ℕ, suc, _+_, _-_, _*_, _≤_, _<_}
 use native.Mathlib.Nat.{zero-add}
 use native.Mathlib.Omega.{arith}
@@ -24,7 +24,8 @@ use Rattle.telegram.specs.Repeater.{levelOf}
 use Rattle.model.specs.View.{Reception, Entry, txMaturity}
 use Rattle.model.specs.Acceptable.{isEcho, isCopyOf}
 use Rattle.collector.specs.Collector.{Columns, entryAt, entriesAt}
-use Rattle.collector.specs.Acceptable.{hasCopy, lastCopy, shownAt}
+use Rattle.collector.specs.Admission.{hasCopy}
+use Rattle.collector.specs.Private.{lastCopy, shownAt}
 use Rattle.collector.proofs.Inside.{any-last}
 
 -- the bytes of an entry, as the code lends them

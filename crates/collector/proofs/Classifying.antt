@@ -1,4 +1,4 @@
--- A reception's answer by the parts that the code finds it by, and the next state by that answer. Assumes nothing.
+-- A reception's answer by the parts that the code finds it by, and the next state by that answer.
 use Prim.Native.Nat.{ℕ, _+_, _≤_, _<_}
 use native.Mathlib.Omega.{arith}
 use mathlib.Core.Path.{_≡_, sym, _∙_, ap}
@@ -18,8 +18,8 @@ use Rattle.model.specs.Answer.{Kept, Copy, Loose, Refused, isCopy, shownOf}
 use Rattle.model.specs.View.{Reception, Entry, capacity}
 use Rattle.model.specs.Step.{maxCount}
 use Rattle.collector.specs.declared.merging.Judged.{Judged}
-use Rattle.collector.specs.Acceptable.{hasCopy}
-use Rattle.collector.specs.Merging.{receptionCheck, answerFor, JudgedBy, Countable}
+use Rattle.collector.specs.Admission.{hasCopy, receptionCheck, answerFor}
+use Rattle.collector.specs.Private.{JudgedBy, Countable}
 
 -- ---- the tests before the open telegrams are looked at
 

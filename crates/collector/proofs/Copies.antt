@@ -1,4 +1,4 @@
--- What two of one telegram share: their length, and every byte before STATUS. Assumes nothing.
+-- What two of one telegram share: their length, and every byte before STATUS.
 use Prim.Native.Nat.{ℕ, _+_, _-_, _*_, _≤_, _<_}
 use native.Mathlib.Omega.{arith}
 use mathlib.Core.Path.{_≡_, sym, _∙_, ap, subst}
@@ -18,7 +18,7 @@ use Rattle.erp1.proofs.Checks.{front-at}
 use Rattle.buffers.specs.Buffer.{part, resized}
 use Rattle.buffers.proofs.Segments.{part-at}
 use Rattle.buffers.proofs.Buffer.{resized-length, padded-at}
-use Rattle.collector.specs.Acceptable.{shownAt}
+use Rattle.collector.specs.Private.{shownAt}
 use Rattle.collector.proofs.Inside.{fails}
 
 module _ (a b : List ℕ) (same : isSame a b ≡ true) where

@@ -1,4 +1,4 @@
--- A state's counts have 16 bits by their type, and its numbers 64: what the laws of a step ask of a state. Assumes nothing.
+-- A state's counts have 16 bits by their type, and its numbers 64: what the laws of a step ask of a state.
 use Prim.Native.Nat.{ℕ, zero, suc, _^_, _<_}
 use native.Mathlib.Omega.{arith}
 use mathlib.Core.Path.{_≡_, refl, ap}

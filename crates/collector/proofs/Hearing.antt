@@ -1,4 +1,4 @@
--- How often a telegram was heard, by the tests that the code makes. Assumes nothing.
+-- How often a telegram was heard, by the tests that the code makes.
 use Prim.Native.Nat.{ℕ, _≤_, _<_}
 use native.Mathlib.Omega.{arith}
 use mathlib.Core.Path.{_≡_, _∙_, ap}

@@ -1,4 +1,4 @@
--- What tests over a list say of an element inside it, and of one more at its end. Assumes nothing.
+-- What tests over a list say of an element inside it, and of one more at its end.
 use mathlib.Core.Path.{_≡_, refl, sym, ap}
 use mathlib.Core.Bool.{Bool, true, false, not, _&&_, _||_, false≢true}
 use mathlib.Core.List.{List, [], _∷_, _++_, List·Memᴰ·head, Memᴰ·append-right}

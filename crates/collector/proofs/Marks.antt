@@ -1,4 +1,4 @@
--- Marks: the same telegrams have the same, so that an entry whose mark no entry before it has is no copy of one. Assumes nothing.
+-- Marks: the same telegrams have the same, so that an entry whose mark no entry before it has is no copy of one.
 use Prim.Native.Nat.{ℕ, zero, suc, _+_, _-_, _*_, _≤_, _<_}
 use native.Mathlib.Decide.{decLt}
 use native.Mathlib.Numerals.{add-one}
@@ -20,7 +20,8 @@ use Rattle.model.specs.View.{openedBy}
 use Rattle.model.specs.Acceptable.{isCopyOf}
 use Rattle.model.proofs.Check.{valid-length}
 use Rattle.collector.specs.Collector.{Columns, entryAt, entriesAt}
-use Rattle.collector.specs.Acceptable.{hasCopy, shownAt, marks, markOf, MarkedAs, Repeated, isRepeatedAt}
+use Rattle.collector.specs.Admission.{hasCopy}
+use Rattle.collector.specs.Private.{shownAt, marks, markOf, MarkedAs, Repeated, isRepeatedAt}
 use Rattle.collector.proofs.Inside.{fails}
 use Rattle.collector.proofs.Arrays.{not-same, has-none, has-more}
 use Rattle.collector.proofs.Copies.{same-length, same-at}

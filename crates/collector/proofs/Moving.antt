@@ -1,5 +1,4 @@
 -- Entries that are no longer open, those that are moved to the front, and one that is put after them: what the entries then are.
--- Assumes nothing.
 use Prim.Native.Nat.{ℕ, zero, suc, _+_, _-_, _*_, _≤_, _<_}
 use native.Mathlib.Nat.{zero-add, add-zero, add-comm, add-suc, suc-add, le-refl}
 use native.Mathlib.Numerals.{add-one}
@@ -26,9 +25,8 @@ use Rattle.model.specs.Step.{plusIf, credit}
 use Rattle.model.proofs.Copies.{length-credit, credit-at}
 use Rattle.collector.specs.declared.merging.Decision.{Decision}
 use Rattle.collector.specs.Collector.{Columns, columns, entryAt, entriesAt}
-use Rattle.collector.specs.Acceptable.{lastCopy}
-use Rattle.collector.specs.Merging.{Expired, moved, setIf, moreIf, putIf}
-use Rattle.collector.specs.Admission.{openFrom, changed, Whole}
+use Rattle.collector.specs.Admission.{openFrom}
+use Rattle.collector.specs.Private.{lastCopy, Expired, moved, setIf, moreIf, putIf, changed, Whole}
 use Rattle.collector.proofs.Arrays.{noEntry, entries-length, entry-get, entries-more}
 
 -- ---- the loop that moves, over an array of any numbers: the first i stand there, and the others are as they were

@@ -1,5 +1,5 @@
 -- What is sent for a reception that was admitted: one that is kept is valid, so that bytes which are not checked again give what the repeater step
--- gives. Assumes nothing.
+-- gives.
 use Prim.Native.Nat.{ℕ}
 use mathlib.Core.Path.{_≡_}
 use mathlib.Core.Bool.{Bool, true, false, cond, not, _&&_, false≢true}
@@ -16,8 +16,7 @@ use Rattle.model.specs.Answer.{Shown, isKept}
 use Rattle.model.specs.View.{Reception, View}
 use Rattle.refusal.specs.declared.Refusal.the-variants.{Full, NotAccepted}
 use Rattle.model.specs.Step.{maxCount, sentFor}
-use Rattle.collector.specs.Merging.{relayedFor}
-use Rattle.collector.specs.Admission.{isSafe, admitted, notAdmitted, admission}
+use Rattle.collector.specs.Admission.{relayedFor, isSafe, admitted, notAdmitted, admission}
 use Rattle.collector.proofs.Admitting.{kept-room}
 
 -- ---- the two ways out of `relay_kept`

@@ -1,5 +1,5 @@
 -- A reception that is admitted as the test of the state says is a step of the model: the times of an acceptable state never fall, so that its open
--- telegrams are those from the first open one on, and at its latest time all are open. Assumes nothing.
+-- telegrams are those from the first open one on, and at its latest time all are open.
 use Prim.Native.Nat.{ℕ, _-_, _^_, _<_}
 use native.Mathlib.Omega.{arith}
 use mathlib.Core.Path.{_≡_, refl, sym, _∙_, ap}
@@ -19,9 +19,7 @@ use Rattle.model.specs.Acceptable.{isCopyOf, isEntry, mayFollow, acceptable}
 use Rattle.model.specs.Step.{Outcome, maxCount, isKnown, isCrowded, classify, tally, entriesAfter, advance, step}
 use Rattle.model.proofs.Returns.{step-unacceptable}
 use Rattle.model.proofs.Invariant.{good-acceptable, good-of, good-advance, classified}
-use Rattle.collector.specs.Acceptable.{hasCopy}
-use Rattle.collector.specs.Merging.{receptionCheck, answerFor}
-use Rattle.collector.specs.Admission.{isSafe, numberOn, latestAfter, openFrom, leftAfter, answerOn, entriesWith, admitted, notAdmitted, admission, Tested, ToldRightly}
+use Rattle.collector.specs.Admission.{hasCopy, receptionCheck, answerFor, isSafe, numberOn, latestAfter, openFrom, leftAfter, answerOn, entriesWith, admitted, notAdmitted, admission, Tested, ToldRightly}
 use Rattle.collector.proofs.Accepting.{accepted-few, accepted-each, accepted-order, accepted-summed}
 
 -- ---- the open telegrams

@@ -1,5 +1,4 @@
 -- The times of entries rise from the maturity before the latest time up to it: the test that the code makes in one pass.
--- Assumes nothing.
 use Prim.Native.Nat.{ℕ, zero, suc, _+_, _-_, _≤_, _<_}
 use native.Mathlib.Numerals.{add-one}
 use native.Mathlib.Omega.{arith}
@@ -15,7 +14,7 @@ use Rattle.lists.proofs.Choice.{both}
 use Rattle.lists.proofs.Tests.{and-true, all-both}
 use Rattle.model.specs.View.{Entry, maturity, isOpen}
 use Rattle.collector.specs.Collector.{Columns, entryAt, entriesAt}
-use Rattle.collector.specs.Acceptable.{areTimely}
+use Rattle.collector.specs.Private.{areTimely}
 use Rattle.collector.proofs.Inside.{same-test}
 
 -- lo, the times and hi never fall

@@ -1,28 +1,50 @@
 -- One reception at a state that was found acceptable or not, whatever it is: for a run of receptions, of which the first state alone is tested
--- (document 01, "Merging"). Assumes nothing.
-use Prim.Native.Nat.{ℕ, _+_, _*_, _^_, _≤_, _<_}
-use mathlib.Core.Path.{_≡_}
-use mathlib.Core.Bool.{Bool, true, false, cond, not, _&&_}
-use mathlib.Core.List.{List, [], _∷_, _++_}
-use lib.Dec.{leb, eqb}
+-- (document 01, "Merging").
+use Prim.Native.Nat.{ℕ, _+_, _<_, _^_}
+use mathlib.Core.List.{List, [], _++_, _∷_}
 use lib.ListN.{length}
+use Rattle.lists.specs.Lists.{any}
+use Rattle.erp1.specs.Subtelegram.{isValid, checkOf}
+use Rattle.model.specs.View.{Entry, View, Reception, isOpen, capacity, capped, opened}
+use Rattle.collector.specs.declared.Collector.{Collector}
+use mathlib.Core.Path.{_≡_}
+use mathlib.Core.Bool.{Bool, false, not, _&&_, cond}
+use lib.Dec.{leb, ltb, eqb}
+use Rattle.model.specs.Acceptable.{isCopyOf, isSummed, acceptable}
 use Rattle.refusal.specs.Number.{numberOf}
+use Rattle.refusal.specs.declared.Refusal.the-variants as refusal
+use Rattle.telegram.specs.Repeater.{relayOf}
+use Rattle.model.specs.Answer.{Shown, Kept, Copy, Loose, Refused, isKept, isReceived, shownOf}
+use Rattle.model.specs.Step.{Outcome, maxCount, step, tally, credit}
 use Rattle.refusal.specs.declared.Refusal.{Refusal}
 use Rattle.refusal.specs.declared.Refusal.the-variants.{Full, NotAccepted}
-use Rattle.erp1.specs.Subtelegram.{maxLength}
-use Rattle.model.specs.declared.Answer.the-variants as answer
-use Rattle.model.specs.Answer.{Shown, Kept, Copy, Loose, Refused, isReceived, shownOf}
-use Rattle.model.specs.View.{Reception, Entry, View, opened, capacity, capped, isOpen}
-use Rattle.model.specs.Acceptable.{isCopyOf, isSummed, acceptable}
 use Rattle.model.specs.Exact.{Fits}
-use Rattle.model.specs.Step.{Outcome, maxCount, tally, credit, step}
-use Rattle.collector.specs.declared.Collector.{Collector}
 use Rattle.collector.specs.declared.merging.Summary.{Summary}
 use Rattle.collector.specs.declared.merging.Admitted.{Admitted}
-use Rattle.collector.specs.declared.merging.Decision.{Decision}
 use Rattle.collector.specs.Collector.{Columns, viewAt}
-use Rattle.collector.specs.Acceptable.{hasCopy}
-use Rattle.collector.specs.Merging.{receptionCheck, answerFor, moved, setIf, moreIf, putIf}
+
+-- ---- one reception
+
+-- "Only KEPT is ever repeated": what is sent for bytes that got this answer and need no check
+unfoldable pub relayedFor : ℕ → Shown → List ℕ → List ℕ
+relayedFor setting a bytes = cond (isKept a) (relayOf setting bytes) []
+
+-- the tests before the open telegrams are looked at, in their order: the check's number, 7; 0 if both pass
+unfoldable pub receptionCheck : ℕ → Reception → ℕ
+receptionCheck latest r =
+    cond (not (isValid (r .bytes))) (checkOf (r .bytes))
+    (cond (ltb (r .time) latest) (numberOf refusal.Late)
+    0)
+
+-- the answer by that number, whether the same telegram is open, and whether 64 are
+unfoldable pub answerFor : ℕ → Bool → Bool → Shown
+answerFor number known crowded = cond (eqb number 0) (cond known Copy (cond crowded Loose Kept)) (Refused number)
+
+-- one of the entries is the same telegram as r
+unfoldable pub hasCopy : List Entry → Reception → Bool
+hasCopy l r = any (λ e. isCopyOf e r) l
+
+-- ---- at a state in its parts
 
 -- what the columns and the fields beside them say
 abbrev pub viewIn : Columns → Summary → View
@@ -104,37 +126,6 @@ pub record Admits (fit : Bool) (a : Columns) (s : Summary) (r : Reception) (a' :
   pub outcome : admittedOf a' d ≡ admission fit (viewIn a s) r
   -- at 8 and 11 every element is as it was
   pub stays : isReceived (shownOf (d .answer)) ≡ false → (a' ≡ a) × (d .summary ≡ s)
-
--- ---- what private functions say
-
--- nothing is changed
-abbrev pub unchanged : Summary → Refusal → Decision
-unchanged s why = record { gone = 0; left = 0; heard = false; entry = 0; kept = false; summary = s; answer = answer.Refused why }
-
--- the columns, changed one by one as it was decided
-abbrev pub changed : Decision → Reception → Columns → Columns
-changed d r a = record {
-  times = setIf (d .kept) (d .left) (r .time) (moved (d .gone) (d .left) (a .times));
-  lens = setIf (d .kept) (d .left) (length (r .bytes)) (moved (d .gone) (d .left) (a .lens));
-  bytes = putIf (d .kept) (maxLength * d .left) (r .bytes) (moved (maxLength * d .gone) (maxLength * d .left) (a .bytes));
-  copies = setIf (d .kept) (d .left) 0 (moreIf (d .heard) (d .entry) (moved (d .gone) (d .left) (a .copies)));
-}
-
--- arrays that hold 64 entries
-pub record Whole (a : Columns) : Type 0 where
-  pub times : length (a .times) ≡ capacity
-  pub lens : length (a .lens) ≡ capacity
-  pub bytes : length (a .bytes) ≡ maxLength * capacity
-  pub copies : length (a .copies) ≡ capacity
-
--- what is decided can be carried out, and is what `admit` makes of the columns
-pub record Decides (fit : Bool) (a : Columns) (s : Summary) (r : Reception) (d : Decision) : Type 0 where
-  pub few : d .gone + d .left ≤ capacity
-  pub room : d .kept ≡ true → (d .left < capacity) × (length (r .bytes) ≤ maxLength)
-  pub inside : d .heard ≡ true → d .entry < capacity
-  pub admits : Whole a → Admits fit a s r (changed d r a) (record { summary = d .summary; answer = d .answer })
-
--- ---- a run
 
 -- fit says whether a state is acceptable, whose numbers have 64 bits: what is known of the first state of a run, and of every next one
 pub record Tested (fit : Bool) (v : View) : Type 0 where

@@ -1,4 +1,4 @@
--- What a state of the collector says, as the model speaks of it. Assumes nothing.
+-- What a state of the collector says, as the model speaks of it, and what `take` gives (document 01, "Merging").
 use Prim.Native.Nat.{ℕ, _*_}
 use mathlib.Core.List.{List, map}
 use lib.ListN.{getD}
@@ -6,8 +6,13 @@ use Rattle.lists.specs.Lists.{upFrom}
 use Rattle.erp1.specs.Subtelegram.{maxLength}
 use Rattle.buffers.specs.Buffer.{part, resized}
 use Rattle.model.specs.declared.Totals.{Totals}
-use Rattle.model.specs.View.{Entry, View}
+use Rattle.model.specs.View.{Entry, View, Reception}
 use Rattle.collector.specs.declared.Collector.{Collector}
+use mathlib.Core.Path.{_≡_}
+use mathlib.Core.Bool.{false}
+use Rattle.model.specs.Answer.{isReceived, shownOf}
+use Rattle.model.specs.Step.{Outcome, step}
+use Rattle.collector.specs.declared.Taken.{Taken}
 
 -- the arrays of the entries: entry i has element i of each, and the 21 bytes from 21 i
 pub record Columns : Type 0 where
@@ -42,3 +47,12 @@ columnsOf c = columns (c .times) (c .lens) (c .bytes) (c .copies)
 
 unfoldable pub viewOf : Collector → View
 viewOf c = viewAt (columnsOf c) (c .count) (c .latest) (c .totals)
+
+-- the answer of each call, and what the next state says
+abbrev pub outcomeOf : Taken → Outcome
+outcomeOf r = record { answer = shownOf (r .answer); next = viewOf (r .next) }
+
+-- what `take` gives: the step, and beside 8 and 11 the very state that was handed in
+pub record Takes (c : Collector) (r : Reception) (t : Taken) : Type 0 where
+  pub outcome : outcomeOf t ≡ step (viewOf c) r
+  pub stays : isReceived (shownOf (t .answer)) ≡ false → t .next ≡ c

@@ -1,4 +1,4 @@
--- How often a telegram was heard (document 02, A8): what the call shows. Assumes nothing.
+-- How often a telegram was heard (document 02, A8): what the call shows.
 use Prim.Native.Nat.{ℕ}
 use Rattle.refusal.specs.Number.{numberOf}
 use Rattle.model.specs.Heard.{HeardResult}

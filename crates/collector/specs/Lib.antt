@@ -1,5 +1,4 @@
 pub mod Collector
-pub mod Acceptable
-pub mod Merging
 pub mod Admission
+pub mod Private
 pub mod Heard

@@ -11,7 +11,7 @@ ghost use Rattle.erp1.specs.Subtelegram.{minLength, maxLength};
 ghost use Rattle.model.specs.View.{capacity};
 ghost use Rattle.model.specs.Acceptable.{isSummed, acceptable};
 ghost use Rattle.collector.specs.Collector.{Columns, columns, entriesAt, viewAt};
-ghost use Rattle.collector.specs.Acceptable.{areTimely, areTelegrams, isRepeatedAt, shownAt, marks, markOf, MarkedAs, Repeated};
+ghost use Rattle.collector.specs.Private.{areTimely, areTelegrams, isRepeatedAt, shownAt, marks, markOf, MarkedAs, Repeated};
 
 // The size of the table of marks.
 const MARKS: usize = 1024;

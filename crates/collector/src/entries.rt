@@ -14,8 +14,7 @@ ghost use Rattle.erp1.specs.Same.{isSame};
 ghost use Rattle.telegram.specs.Repeater.{levelOf};
 ghost use Rattle.model.specs.View.{capacity, txMaturity, capped};
 ghost use Rattle.collector.specs.Collector.{columns, entriesAt};
-ghost use Rattle.collector.specs.Acceptable.{lastCopy, shownAt};
-ghost use Rattle.collector.specs.Merging.{Expired, moved, setIf, moreIf, putIf, Changed};
+ghost use Rattle.collector.specs.Private.{lastCopy, shownAt, Expired, moved, setIf, moreIf, putIf, Changed};
 
 // Which of the entries after the first `gone` of `count` is the last that a reception is a copy of, counted from the first of these, or how many they
 // are where it is of none; no number of copies is looked at.

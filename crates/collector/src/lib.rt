@@ -13,8 +13,7 @@ ghost use mathlib.Core.Path.{_≡_};
 ghost use Rattle.model.specs.View as model;
 ghost use Rattle.model.specs.Heard.{copiesOf};
 ghost use Rattle.refusal.specs.Number.{numberOf};
-ghost use Rattle.collector.specs.Collector.{columns, viewOf};
-ghost use Rattle.collector.specs.Merging.{Takes};
+ghost use Rattle.collector.specs.Collector.{columns, viewOf, Takes};
 ghost use Rattle.collector.specs.Admission.{collectorOf};
 ghost use Rattle.collector.specs.Heard.{heardOf};
 

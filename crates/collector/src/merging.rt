@@ -19,8 +19,8 @@ ghost use Rattle.model.specs.View.{capacity};
 ghost use Rattle.model.specs.Acceptable.{isSummed};
 ghost use Rattle.model.specs.Step.{maxCount, plusIf, tally};
 ghost use Rattle.collector.specs.Collector.{columns, entriesAt};
-ghost use Rattle.collector.specs.Merging.{relayedFor, receptionCheck, JudgedBy, Countable};
-ghost use Rattle.collector.specs.Admission.{Admits, Decides, unchanged};
+ghost use Rattle.collector.specs.Admission.{relayedFor, receptionCheck, Admits};
+ghost use Rattle.collector.specs.Private.{JudgedBy, Countable, Decides, unchanged};
 
 // What a state holds beside its entries' arrays.
 pub struct Summary {

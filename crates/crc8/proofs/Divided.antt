@@ -1,4 +1,4 @@
--- `remainderOf` is the remainder of polynomial division: one test that antt computes over the 256 bytes. Assumes nothing.
+-- `remainderOf` is the remainder of polynomial division: one test that antt computes over the 256 bytes.
 use mathlib.Core.Bool.{Bool, _&&_}
 use Prim.Native.Nat.{ℕ, _*_, _^_, _<_}
 use lib.Dec.{T, eqb, ltb, eqb→eq, ltb→lt}

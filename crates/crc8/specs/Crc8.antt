@@ -1,5 +1,5 @@
 -- CRC-8 as source document 001, 3.3.3 has it: a polynomial over GF(2) is a number whose bit k is its coefficient of x^k,
--- and addition and subtraction are XOR. Assumes nothing.
+-- and addition and subtraction are XOR.
 use Prim.Native.Nat.{ℕ, zero, suc, _+_, _*_, _/_, _%_, _^_}
 use mathlib.Core.List.{List, [], _∷_}
 use mathlib.Core.Bool.{Bool}

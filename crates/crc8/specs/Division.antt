@@ -1,4 +1,4 @@
--- What is claimed of the remainder: it is that of polynomial division. proofs/Divided.antt has the theorem. Assumes nothing.
+-- What is claimed of the remainder: it is that of polynomial division. proofs/Divided.antt has the theorem.
 use mathlib.Core.Path.{_≡_}
 use Prim.Native.Nat.{ℕ, zero, suc, _+_, _*_, _^_, _<_}
 use lib.Bits.{bitXor}

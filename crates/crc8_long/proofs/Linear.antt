@@ -1,7 +1,6 @@
 -- The remainder is linear: that of a sum is the sum of the remainders. So several bytes can be taken at once, each through a table of its own.
 --     xor-assoc, xor-middle     the sum of polynomials
 --     remainder-xor             linearity
--- Assumes nothing.
 use mathlib.Core.Path.{_≡_, refl, sym, ap, ap₂, _∙_}
 use Prim.Native.Nat.{ℕ, zero, suc, _+_, _*_, _/_, _%_, _^_, _<_}
 use native.Mathlib.Nat.{mod-lt, zero-mul, add-zero}

@@ -3,7 +3,6 @@
 --     crc-at         a byte, looked up by itself, and those after it
 --     eight-is       eight bytes, each looked up by itself
 --     crc-part       a part, and what follows it
--- Assumes nothing.
 use mathlib.Core.Path.{_≡_, refl, sym, ap, _∙_}
 use mathlib.Core.List.{List, [], _∷_, _++_}
 use Prim.Native.Nat.{ℕ, zero, suc, _+_, _-_, _≤_}

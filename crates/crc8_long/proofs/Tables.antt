@@ -1,6 +1,5 @@
 -- What the tables hold, from the one test that antt computes.
 --     tables-entry     entry 256 j + b is the remainder of b times x^(8 (j + 1)): table j + 1 is table j, one division further
--- Assumes nothing.
 use mathlib.Core.Path.{_≡_, refl, sym, ap, _∙_}
 use mathlib.Core.Bool.{true}
 use mathlib.Core.List.{List, _++_, map, map-id}

@@ -1,4 +1,4 @@
--- The tables of a CRC that takes eight bytes at a time: what private functions say. The contract is `crc8`'s. Assumes nothing.
+-- The tables of a CRC that takes eight bytes at a time: what private functions say. The contract is `crc8`'s.
 use Prim.Native.Nat.{ℕ, zero, suc}
 use mathlib.Core.Bool.{Bool, _&&_}
 use mathlib.Core.List.{List, _++_, map}

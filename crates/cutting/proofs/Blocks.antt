@@ -2,7 +2,6 @@
 --     rows-kept                 with another count and zeros behind its first rows a sound block is what is written of them
 --     first-none, first-some    the two cases of `firstRows`
 --     block-size, block-unsound, block-few, block-has, block-done     the cases of `cutBlockOf`, each from the facts that its tests give
--- Assumes nothing.
 use Prim.Native.Nat.{ℕ, _+_, _-_, _*_, _≤_, _<_}
 use native.Mathlib.Omega.{arith}
 use mathlib.Core.Path.{_≡_, refl, sym, ap, ap₂, _∙_}
@@ -17,12 +16,12 @@ use Rattle.lists.proofs.Tests.{by-test}
 use Rattle.lists.proofs.UpFrom.{length-upFrom, upFrom-add}
 use Rattle.refusal.specs.Number.{numberOf}
 use Rattle.refusal.specs.declared.Refusal.the-variants.{Mismatch, Size}
-use Rattle.layout.specs.Buffer.{part}
+use Rattle.buffers.specs.Buffer.{part}
 use Rattle.layout.specs.BigEndian.{be}
 use Rattle.layout.specs.Cell.{cellLength}
 use Rattle.layout.specs.Header.{headerLength}
 use Rattle.layout.specs.Block.{cellsPerBlock, bodyLength, blockLength, sealed, blockOf, blockCell}
-use Rattle.layout.proofs.Segments.{left, last, whole, part-join}
+use Rattle.buffers.proofs.Segments.{left, last, whole, part-join}
 use Rattle.layout.proofs.BigEndian.{be-length}
 use Rattle.archive_model.specs.Row.{Row, rowCell, rowsHeader, rowsBlock, blockNumber, rowCount, rowIn, rowsOf, isSound}
 use Rattle.archive_model.proofs.Blocks.{head-part}

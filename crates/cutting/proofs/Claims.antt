@@ -1,4 +1,4 @@
--- The claims on rows taken back. Assumes nothing.
+-- The claims on rows taken back.
 use Prim.Native.Nat.{ℕ, _+_, _-_, _*_, _/_, _%_, _≤_, _<_}
 use native.Mathlib.Omega.{arith}
 use mathlib.Core.Path.{_≡_, refl, sym, ap, ap₂, _∙_}

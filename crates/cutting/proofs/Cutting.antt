@@ -3,7 +3,6 @@
 --     first-fits                the first of rows that fit
 --     after-is                  the buffer, part by part
 --     CutDone, cut-is, cut-done     what a cut that is answered 0 says
--- Assumes nothing.
 use Prim.Native.Nat.{ℕ, zero, suc, _+_, _-_, _*_, _/_, _%_, _^_, _≤_, _<_}
 use native.Mathlib.Nat.{zero-add}
 use native.Mathlib.Omega.{arith}
@@ -18,12 +17,12 @@ use Rattle.lists.specs.Lists.{padded, upFrom}
 use Rattle.lists.proofs.Tests.{by-test}
 use Rattle.refusal.specs.Number.{numberOf}
 use Rattle.refusal.specs.declared.Refusal.the-variants.{Argument}
-use Rattle.layout.specs.Buffer.{part}
+use Rattle.buffers.specs.Buffer.{part}
 use Rattle.layout.specs.Block.{cellsPerBlock, blockLength}
-use Rattle.layout.proofs.Segments.{part-take}
+use Rattle.buffers.proofs.Segments.{part-take}
 use Rattle.archive_model.specs.Row.{Row, rowsBlock, blockNumber, rowCount, rowsOf, isSound}
 use Rattle.archive_model.specs.Buffer.{blocksFor, rowsAt, bufferOf, maxBlocks, rowsIn}
-use Rattle.archive_model.specs.Append.{verdict, refused, stored, blockAt}
+use Rattle.archive_model.specs.Append.{verdict, refusedAppend, stored, blockAt}
 use Rattle.archive_model.proofs.Blocks.{Fits, noRow, number-back, count-back, rows-back, block-sound}
 use Rattle.archive_model.proofs.Buffers.{map-same, pieces, blank, blank-is, group-length, group-few, group-fits, used-block, free-block, buffer-length, rows-in}
 use Rattle.archive_model.proofs.Cursor.{written-verdict, blocks-of, is-exact, rows-fit, rows-few}
@@ -169,7 +168,7 @@ module _ (m : ℕ) (buffer : List ℕ) where
   unfolding cutOf
   cut-is v h = rw (v, le-ltb (length rows-now) m h)
 
-  pub cut-over : verdict buffer .number ≡ 0 → length rows-now < m → refused (numberOf Argument) 0 buffer ≡ cutOf m buffer
+  pub cut-over : verdict buffer .number ≡ 0 → length rows-now < m → refusedAppend (numberOf Argument) 0 buffer ≡ cutOf m buffer
   unfolding cutOf
   cut-over v h = rw (v, lt-ltb (length rows-now) m h)
 
@@ -183,7 +182,7 @@ module _ (m : ℕ) (buffer : List ℕ) where
   cut-done z = go (eqb (verdict buffer .number) 0) (ltb (length rows-now) m) refl refl z
     where
       go : (a b : Bool) → eqb (verdict buffer .number) 0 ≡ a → ltb (length rows-now) m ≡ b
-          → cond (not a) (refused (verdict buffer .number) (verdict buffer .position) buffer) (cond b (refused (numberOf Argument) 0 buffer) (stored remaining)) .number
+          → cond (not a) (refusedAppend (verdict buffer .number) (verdict buffer .position) buffer) (cond b (refusedAppend (numberOf Argument) 0 buffer) (stored remaining)) .number
           ≡ 0
           → CutDone
       go false b e f q = absurd (eqb-false (verdict buffer .number) 0 e q)
@@ -247,6 +246,6 @@ module _ (m : ℕ) (buffer : List ℕ) where
 
   -- a buffer that is no archive
   pub cut-not : (number position : ℕ) → (number ≡ verdict buffer .number) × (position ≡ verdict buffer .position) × (eqb (verdict buffer .number) 0 ≡ false)
-      → refused number position buffer ≡ cutOf m buffer
+      → refusedAppend number position buffer ≡ cutOf m buffer
   unfolding cutOf
-  cut-not number position v = rw (v .2) (ap₂ (λ (x y : ℕ). refused x y buffer) (v .0) (v .1))
+  cut-not number position v = rw (v .2) (ap₂ (λ (x y : ℕ). refusedAppend x y buffer) (v .0) (v .1))

@@ -1,8 +1,8 @@
--- What the calls show, and what private functions say. Assumes nothing.
+-- What the calls show, and what private functions say.
 use Prim.Native.Nat.{ℕ, _+_, _-_, _*_}
 use mathlib.Core.List.{List, [], _∷_, _++_}
 use Rattle.lists.specs.Lists.{padded}
-use Rattle.layout.specs.Buffer.{part}
+use Rattle.buffers.specs.Buffer.{part}
 use Rattle.layout.specs.Cell.{cellLength}
 use Rattle.layout.specs.Header.{headerLength}
 use Rattle.layout.specs.Block.{bodyLength, sealed}

@@ -1,4 +1,4 @@
--- What is proved of rows taken back. Assumes nothing.
+-- What is proved of rows taken back.
 use Prim.Native.Nat.{ℕ, _+_, _-_, _*_, _/_, _%_, _≤_, _<_}
 use mathlib.Core.Path.{_≡_}
 use mathlib.Core.List.{List, _++_}

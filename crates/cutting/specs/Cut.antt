@@ -1,4 +1,4 @@
--- Rows taken back: an archive cut after its first rows, whole in its buffer or at one block, in the layout of document 02, A2. Assumes nothing.
+-- Rows taken back: an archive cut after its first rows, whole in its buffer or at one block, in the layout of document 02, A2.
 use Prim.Native.Nat.{ℕ}
 use mathlib.Core.Bool.{cond, not, _&&_}
 use mathlib.Core.List.{List}
@@ -9,15 +9,15 @@ use Rattle.refusal.specs.declared.Refusal.the-variants.{Argument, Mismatch, Siz
 use Rattle.layout.specs.Block.{blockLength}
 use Rattle.archive_model.specs.Row.{rowsBlock, blockNumber, rowCount, rowsOf, isSound}
 use Rattle.archive_model.specs.Buffer.{rowsIn, bufferOf}
-use Rattle.archive_model.specs.Append.{verdict, Appended, refused, stored}
+use Rattle.archive_model.specs.Append.{verdict, Appended, refusedAppend, stored}
 
 -- ---- an archive
 
 -- 16, 12 with its position, 10 for more rows than it has; else its first m rows in the same buffer
 unfoldable pub cutOf : ℕ → List ℕ → Appended
 cutOf m buffer =
-    cond (not (eqb (verdict buffer .number) 0)) (refused (verdict buffer .number) (verdict buffer .position) buffer)
-    (cond (ltb (length (rowsIn buffer)) m) (refused (numberOf Argument) 0 buffer)
+    cond (not (eqb (verdict buffer .number) 0)) (refusedAppend (verdict buffer .number) (verdict buffer .position) buffer)
+    (cond (ltb (length (rowsIn buffer)) m) (refusedAppend (numberOf Argument) 0 buffer)
     (stored (bufferOf (length buffer) (take m (rowsIn buffer)))))
 
 -- ---- one block

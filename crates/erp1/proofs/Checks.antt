@@ -1,4 +1,4 @@
--- The cases of `hashOf` and `checkOf`, each from the facts that its tests give, and what holds of a valid subtelegram. Assumes nothing.
+-- The cases of `hashOf` and `checkOf`, each from the facts that its tests give, and what holds of a valid subtelegram.
 use mathlib.Core.Path.{_≡_, refl, sym, ap, _∙_}
 use mathlib.Core.Bool.{false, _&&_}
 use mathlib.Core.List.{List, [], _∷_}

@@ -1,4 +1,4 @@
--- The cases of `isSame`, each from the facts that its tests give. Assumes nothing.
+-- The cases of `isSame`, each from the facts that its tests give.
 use mathlib.Core.Path.{_≡_, refl}
 use mathlib.Core.Bool.{true, false}
 use mathlib.Core.List.{List, [], _∷_}

@@ -1,4 +1,4 @@
--- Joining the parts of STATUS undoes its splitting. Assumes nothing.
+-- Joining the parts of STATUS undoes its splitting.
 use mathlib.Core.Path.{_≡_, refl}
 use mathlib.Core.Bool.{Bool, true, false}
 use Prim.Native.Nat.{ℕ, _<_, _/_}

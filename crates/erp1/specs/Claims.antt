@@ -1,4 +1,4 @@
--- What is claimed of STATUS: proofs/Statuses.antt has the theorem. Assumes nothing.
+-- What is claimed of STATUS: proofs/Statuses.antt has the theorem.
 use mathlib.Core.Path.{_≡_}
 use Prim.Native.Nat.{ℕ, _<_}
 use Rattle.erp1.specs.Status.{splitOf, joinOf}

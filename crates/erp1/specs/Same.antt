@@ -1,4 +1,4 @@
--- When two subtelegrams are the same telegram (document 01, "Merging"). Assumes nothing.
+-- When two subtelegrams are the same telegram (document 01, "Merging").
 use Prim.Native.Nat.{ℕ}
 use mathlib.Core.Bool.{Bool, _&&_}
 use mathlib.Core.List.{List}

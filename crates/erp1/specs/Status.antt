@@ -1,4 +1,4 @@
--- The byte STATUS (source document 001, Tables 3 and 4; document 01, "Repeater step"). Assumes nothing.
+-- The byte STATUS (source document 001, Tables 3 and 4; document 01, "Repeater step").
 use Prim.Native.Nat.{ℕ, _+_, _*_, _/_, _%_}
 use mathlib.Core.Bool.{cond}
 use lib.Dec.{eqb}

@@ -1,4 +1,4 @@
--- ERP1 subtelegrams, as lists of bytes (document 01, "Subtelegram"). Assumes nothing.
+-- ERP1 subtelegrams, as lists of bytes (document 01, "Subtelegram").
 use Prim.Native.Nat.{ℕ, _+_, _-_, _%_}
 use mathlib.Core.Bool.{Bool, cond, not, _&&_, _||_}
 use mathlib.Core.List.{List, [], _∷_, _++_}

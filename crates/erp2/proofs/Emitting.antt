@@ -1,4 +1,4 @@
--- What building answers: refused before the output is looked at, for lack of room, or written. Assumes nothing.
+-- What building answers: refused before the output is looked at, for lack of room, or written.
 use mathlib.Core.Path.{_≡_, refl, sym, ap, _∙_}
 use mathlib.Core.Bool.{Bool, true, false, cond, not, _&&_, _||_}
 use mathlib.Core.List.{List, _∷_, _++_}
@@ -15,7 +15,7 @@ use Rattle.telegram.specs.Output.{Result, refused, written}
 use Rattle.erp2_model.specs.declared.Telegram.{Telegram}
 use Rattle.erp2_model.specs.Header.{isReserved}
 use Rattle.erp2_model.specs.Sizes.{longSizes, overhead}
-use Rattle.erp2_model.specs.Building.{isShortForm, sizesFor, sizeOf, isUnholdable, isAgainstHeader, isMisfitting, rowBytes, bodyOf, sealOf, bytesOf, buildOf}
+use Rattle.erp2_model.specs.Building.{isShortForm, sizesFor, sizeOf, isUnholdable, isAgainstHeader, isMisfitting, rowBytes, bodyOf, sealOf, erp2Bytes, buildOf}
 use Rattle.erp2_model.specs.Claims.{Shaped}
 use Rattle.erp2_model.specs.Bounds.{Buildable}
 use Rattle.erp2.specs.Private.{admissionOf, sealBy, rowWritten, Laid}
@@ -40,7 +40,7 @@ build-refused t out why e =
     (refused-number why) e
 
 module _ (t : Telegram) (v : Buildable t) (out : List ℕ) where
-  admitted-build : buildOf t out ≡ cond (ltb (length out) (1 + sizeOf t)) (refused (numberOf ShortOutput) out) (written (bytesOf t) out)
+  admitted-build : buildOf t out ≡ cond (ltb (length out) (1 + sizeOf t)) (refused (numberOf ShortOutput) out) (written (erp2Bytes t) out)
   unfolding buildOf
   admitted-build = rw (v .holds, v .agrees, v .allowed, v .fits)
 
@@ -60,10 +60,10 @@ module _ (t : Telegram) (v : Buildable t) (out : List ℕ) where
     by-form-seal false f = rw f
 
     -- the row, written, is the telegram
-    row-built : rowWritten t (sizesFor t) out ≡ bytesOf t ++ drop (length (bytesOf t)) out
-    unfolding rowWritten bytesOf bodyOf sizeOf
+    row-built : rowWritten t (sizesFor t) out ≡ erp2Bytes t ++ drop (length (erp2Bytes t)) out
+    unfolding rowWritten erp2Bytes bodyOf sizeOf
     row-built =
-        let n : 1 + overhead (sizesFor t) + t .len ≡ length (bytesOf t) = omega (arith, built-length t lengths) in
+        let n : 1 + overhead (sizesFor t) + t .len ≡ length (erp2Bytes t) = omega (arith, built-length t lengths) in
         ap (λ (x : List ℕ). ((overhead (sizesFor t) + t .len) ∷ (rowBytes t (sizesFor t) ++ x)) ++ drop (1 + overhead (sizesFor t) + t .len) out)
         (by-form-seal (isShortForm t) refl)
         ∙ ap (λ (m : ℕ). ((overhead (sizesFor t) + t .len) ∷ (rowBytes t (sizesFor t) ++ sealOf t)) ++ drop m out) n
@@ -73,7 +73,7 @@ module _ (t : Telegram) (v : Buildable t) (out : List ℕ) where
     build-done h n e last f =
         let l = built-length t lengths in
         ap (λ (m : ℕ). record { number = 0; len = m; output = last }) (e ∙ sym l)
-        ∙ ap (λ (xs : List ℕ). record { number = 0; len = length (bytesOf t); output = xs }) (f ∙ row-built)
+        ∙ ap (λ (xs : List ℕ). record { number = 0; len = length (erp2Bytes t); output = xs }) (f ∙ row-built)
         ∙ sym (admitted-build ∙ rw (le-ltb (length out) (1 + sizeOf t) h))
 
 -- a telegram that can be built fits, and an output with room for it

@@ -1,4 +1,4 @@
--- What is written part by part is the row. Assumes nothing.
+-- What is written part by part is the row.
 use mathlib.Core.Path.{_≡_, ap, _∙_}
 use mathlib.Core.List.{List, [], _∷_, _++_, append-assoc, append-nil}
 use Prim.Native.Nat.{ℕ, _+_, _-_, _≤_, _<_}

@@ -21,7 +21,7 @@ ghost use Rattle.layout.specs.BigEndian.{unbe};
 ghost use Rattle.erp1.specs.Subtelegram.{checkedNumber};
 ghost use Rattle.erp2_model.specs.Header.{headerOf, headerByte, extensionByte};
 ghost use Rattle.erp2_model.specs.Sizes.{maxShort, shortOriginators, originators, shortSizes, longSizes, overhead as overheadOf};
-ghost use Rattle.erp2_model.specs.Reading.{sizesIn, rowOf, fieldsOf, checkOf, readingOf, readOf, noTelegram};
+ghost use Rattle.erp2_model.specs.Reading.{sizesIn, rowOf, fieldsOf, checkOf, shownErp2Reading, readOf, noTelegram};
 ghost use Rattle.erp2_model.specs.Building.{sizesFor, isUnholdable, differ as differing, isAgainstHeader, isMisfitting, buildOf};
 ghost use Rattle.telegram.specs.Output.{resultOf};
 ghost use Rattle.erp2_model.specs.Bounds.{Fitting, Placed, Buildable};
@@ -45,7 +45,7 @@ const EXTENDED_TYPE: u8 = 15;
 // Reads a length byte and Data_PL. Refused, in this order: a wrong length (1), and of a long form a wrong CRC (13), a reserved address
 // control (14), fields that do not fit (15); then all is zero.
 pub fn read(bytes: &[u8]) -> Reading
-    ensures { λ r. ⌜ readingOf r ≡ readOf (now (bytes .entry)) ⌝ }
+    ensures { λ r. ⌜ shownErp2Reading r ≡ readOf (now (bytes .entry)) ⌝ }
 {
     let checked = check(bytes);
     match checked {

@@ -1,4 +1,4 @@
--- What is read can be built: no test of building refuses it. Assumes nothing.
+-- What is read can be built: no test of building refuses it.
 use mathlib.Core.Path.{_≡_, refl, ap}
 use mathlib.Core.Bool.{Bool, true, false, cond, not, _&&_, _||_, and-false}
 use mathlib.Core.List.{List}

@@ -1,4 +1,4 @@
--- The bits of a header and of an extended header, as bytes and back. Assumes nothing.
+-- The bits of a header and of an extended header, as bytes and back.
 use mathlib.Core.Path.{_≡_, refl}
 use mathlib.Core.Bool.{Bool, true, false, cond}
 use Prim.Native.Nat.{ℕ, _+_, _-_, _*_, _/_, _%_, _<_}

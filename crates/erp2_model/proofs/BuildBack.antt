@@ -1,4 +1,4 @@
--- What is built reads back: for each form, its check passes and its fields are those of the telegram. Assumes nothing.
+-- What is built reads back: for each form, its check passes and its fields are those of the telegram.
 use mathlib.Core.Path.{_≡_, refl, sym, ap, _∙_}
 use mathlib.Core.Bool.{Bool, true, false, cond, not}
 use mathlib.Core.List.{List, [], _∷_, _++_}
@@ -24,7 +24,7 @@ use Rattle.erp2_model.specs.declared.Telegram.{Telegram}
 use Rattle.erp2_model.specs.Header.{headerOf, headerByte, isReserved, isTypeExtended, isAddressed, extensionOf, extensionByte}
 use Rattle.erp2_model.specs.Sizes.{shortSizes, longSizes, overhead, extensionAt}
 use Rattle.erp2_model.specs.Reading.{maxData, maxOptional, lengthByte, isShort, headerIn, sizesIn, fieldsOf, checkOf, noHeader, noExtension, noSubtype, noDestination}
-use Rattle.erp2_model.specs.Building.{isShortForm, sizesFor, sizeOf, dataOf, optionalOf, bodyOf, sealOf, bytesOf}
+use Rattle.erp2_model.specs.Building.{isShortForm, sizesFor, sizeOf, dataOf, optionalOf, bodyOf, sealOf, erp2Bytes}
 use Rattle.erp2_model.specs.Bounds.{Buildable}
 use Rattle.erp2_model.specs.Claims.{Shaped, normalOf}
 use Rattle.erp2_model.proofs.Bits.{header-forth, header-lt}
@@ -47,8 +47,8 @@ none : (n : ℕ) → unbe (be 0 n) ≡ 0
 unfolding be unbe unbeFrom
 none n = refl
 
-length-built : (t : Telegram) → lengthByte (bytesOf t) ≡ sizeOf t
-unfolding bytesOf
+length-built : (t : Telegram) → lengthByte (erp2Bytes t) ≡ sizeOf t
+unfolding erp2Bytes
 length-built t = refl
 
 rest-built : (t : Telegram) → sizeOf t - overhead (sizesFor t) ≡ t .len
@@ -56,13 +56,13 @@ unfolding sizeOf
 rest-built t = omega arith
 
 module _ (t : Telegram) (shape : Shaped t) (f : isShortForm t ≡ true) (v : Short t) (l : Lengths t) where
-  short-is : isShort (bytesOf t) ≡ true
+  short-is : isShort (erp2Bytes t) ≡ true
   short-is = rw (length-built t) (le-leb (sizeOf t) 6 (omega (arith, v .size, v .most)))
 
-  short-sizes : sizesIn (bytesOf t) ≡ sizesFor t
+  short-sizes : sizesIn (erp2Bytes t) ≡ sizesFor t
   short-sizes = rw (short-is, length-built t, v .size, f) refl
 
-  short-checks : checkOf (bytesOf t) ≡ 0
+  short-checks : checkOf (erp2Bytes t) ≡ 0
   unfolding checkOf
   short-checks =
       rw (
@@ -73,7 +73,7 @@ module _ (t : Telegram) (shape : Shaped t) (f : isShortForm t ≡ true) (v : Sho
         le-leb (sizeOf t) 6 (omega (arith, v .size, v .most)),
       )
 
-  short-fields : fieldsOf (bytesOf t) ≡ normalOf t
+  short-fields : fieldsOf (erp2Bytes t) ≡ normalOf t
   unfolding fieldsOf
   short-fields =
       let a : unbe (headerField t) ≡ 0 = rw f (none _) in
@@ -106,7 +106,7 @@ module _ (t : Telegram) (shape : Shaped t) (f : isShortForm t ≡ true) (v : Sho
       )
 
 module _ (t : Telegram) (shape : Shaped t) (f : isShortForm t ≡ false) (v : Long t) (l : Lengths t) where
-  long-is : isShort (bytesOf t) ≡ false
+  long-is : isShort (erp2Bytes t) ≡ false
   long-is = rw (length-built t) (lt-leb (sizeOf t) 6 (omega (arith, v .low)))
 
   header-read : unbe (headerField t) ≡ headerByte (t .header)
@@ -115,12 +115,12 @@ module _ (t : Telegram) (shape : Shaped t) (f : isShortForm t ≡ false) (v : Lo
   one-header : sizesFor t .header ≡ 1
   one-header = rw f refl
 
-  first-byte : getD (bytesOf t) 1 0 ≡ headerByte (t .header)
+  first-byte : getD (erp2Bytes t) 1 0 ≡ headerByte (t .header)
   first-byte =
-      sym (field-one 1 (bytesOf t) (rw (built-length t l) (omega (arith, v .low))))
-      ∙ ap unbe (ap (λ (w : ℕ). part 1 w (bytesOf t)) (sym one-header) ∙ part-header t) ∙ header-read
+      sym (field-one 1 (erp2Bytes t) (rw (built-length t l) (omega (arith, v .low))))
+      ∙ ap unbe (ap (λ (w : ℕ). part 1 w (erp2Bytes t)) (sym one-header) ∙ part-header t) ∙ header-read
 
-  header-is : headerIn (bytesOf t) ≡ t .header
+  header-is : headerIn (erp2Bytes t) ≡ t .header
   header-is = rw first-byte (header-forth (t .header) (omega (arith, v .control)) (v .kind))
 
   -- where there is an extended header
@@ -134,24 +134,24 @@ module _ (t : Telegram) (shape : Shaped t) (f : isShortForm t ≡ false) (v : Lo
     extension-read : unbe (extensionField t) ≡ extensionByte (t .extension)
     extension-read = rw one-extension (unbe-be 1 (extensionByte (t .extension)) (omega (arith, v .hops there, v .announced there)))
 
-    second-byte : getD (bytesOf t) 2 0 ≡ extensionByte (t .extension)
+    second-byte : getD (erp2Bytes t) 2 0 ≡ extensionByte (t .extension)
     second-byte =
         let two : extensionAt (sizesFor t) ≡ 2 = rw one-header refl in
-        sym (field-one 2 (bytesOf t) (rw (built-length t l) (omega (arith, v .low))))
-        ∙ ap unbe (ap (λ (w : ℕ). part 2 w (bytesOf t)) (sym one-extension)
-        ∙ ap (λ (a : ℕ). part a (sizesFor t .extension) (bytesOf t)) (sym two) ∙ part-extension t)
+        sym (field-one 2 (erp2Bytes t) (rw (built-length t l) (omega (arith, v .low))))
+        ∙ ap unbe (ap (λ (w : ℕ). part 2 w (erp2Bytes t)) (sym one-extension)
+        ∙ ap (λ (a : ℕ). part a (sizesFor t .extension) (erp2Bytes t)) (sym two) ∙ part-extension t)
         ∙ extension-read
 
-  optional-is : (x : Bool) → t .header .extended ≡ x → cond x (getD (bytesOf t) 2 0 % 16) 0 ≡ cond x (t .extension .announced) 0
+  optional-is : (x : Bool) → t .header .extended ≡ x → cond x (getD (erp2Bytes t) 2 0 % 16) 0 ≡ cond x (t .extension .announced) 0
   optional-is true e = rw (second-byte e) (omega (arith, v .hops (there e), v .announced (there e)))
   optional-is false e = refl
 
-  announced-sizes : longSizes (headerIn (bytesOf t)) (getD (bytesOf t) 2 0 % 16) ≡ sizesFor t
+  announced-sizes : longSizes (headerIn (erp2Bytes t)) (getD (erp2Bytes t) 2 0 % 16) ≡ sizesFor t
   announced-sizes =
       rw f
-      (ap (λ (h : Header). longSizes h (getD (bytesOf t) 2 0 % 16)) header-is ∙ ap (withOptional (t .header)) (optional-is (t .header .extended) refl))
+      (ap (λ (h : Header). longSizes h (getD (erp2Bytes t) 2 0 % 16)) header-is ∙ ap (withOptional (t .header)) (optional-is (t .header .extended) refl))
 
-  long-sizes : sizesIn (bytesOf t) ≡ sizesFor t
+  long-sizes : sizesIn (erp2Bytes t) ≡ sizesFor t
   long-sizes = rw long-is announced-sizes
 
   -- each optional field, there or not
@@ -231,7 +231,7 @@ module _ (t : Telegram) (shape : Shaped t) (f : isShortForm t ≡ false) (v : Lo
   header-built : headerOf (unbe (headerField t)) ≡ t .header
   header-built = ap headerOf header-read ∙ header-forth (t .header) (omega (arith, v .control)) (v .kind)
 
-  long-fields : fieldsOf (bytesOf t) ≡ normalOf t
+  long-fields : fieldsOf (erp2Bytes t) ≡ normalOf t
   unfolding fieldsOf
   long-fields =
       let d : unbe (originatorField t) ≡ t .originator = rw f (unbe-be (longSizes (t .header) 0 .originator) (t .originator) (v .originator)) in
@@ -259,12 +259,12 @@ module _ (t : Telegram) (shape : Shaped t) (f : isShortForm t ≡ false) (v : Lo
   unfolding bodyOf sizeOf
   body-length = simp (length-append, be-length, l .payload, l .optional) (rw f (omega arith))
 
-  behind : part 1 (sizeOf t - 1) (bytesOf t) ≡ bodyOf t
-  unfolding bytesOf
+  behind : part 1 (sizeOf t - 1) (erp2Bytes t) ≡ bodyOf t
+  unfolding erp2Bytes
   behind = take-at (bodyOf t) (sealOf t) (sizeOf t - 1) (omega (arith, body-length))
 
-  last-byte : getD (bytesOf t) (sizeOf t) 0 ≡ crcOf (bodyOf t)
-  unfolding bytesOf
+  last-byte : getD (erp2Bytes t) (sizeOf t) 0 ≡ crcOf (bodyOf t)
+  unfolding erp2Bytes
   last-byte =
       let s : sealOf t ≡ crcOf (bodyOf t) ∷ [] = rw f in
       ap (λ (x : List ℕ). getD (sizeOf t ∷ (bodyOf t ++ x)) (sizeOf t) 0) s
@@ -274,11 +274,11 @@ module _ (t : Telegram) (shape : Shaped t) (f : isShortForm t ≡ false) (v : Lo
   unfolding sizeOf
   room = omega arith
 
-  long-checks : checkOf (bytesOf t) ≡ 0
+  long-checks : checkOf (erp2Bytes t) ≡ 0
   unfolding checkOf
   long-checks =
-      let open-address : isReserved (headerIn (bytesOf t)) ≡ false = ap isReserved header-is ∙ lt-leb 4 (t .header .control) (v .control) in
-      let fit : ltb (sizeOf t) (overhead (longSizes (headerIn (bytesOf t)) (getD (bytesOf t) 2 0 % 16))) ≡ false
+      let open-address : isReserved (headerIn (erp2Bytes t)) ≡ false = ap isReserved header-is ∙ lt-leb 4 (t .header .control) (v .control) in
+      let fit : ltb (sizeOf t) (overhead (longSizes (headerIn (erp2Bytes t)) (getD (erp2Bytes t) 2 0 % 16))) ≡ false
       = ap (λ (y : Sizes). ltb (sizeOf t) (overhead y)) announced-sizes ∙ le-ltb (sizeOf t) (overhead (sizesFor t)) room in
       rw (
         length-built t,
@@ -296,8 +296,8 @@ module _ (t : Telegram) (shape : Shaped t) (f : isShortForm t ≡ false) (v : Lo
 -- ---- both forms
 
 pub record Reads (t : Telegram) : Type 0 where
-  pub checks : checkOf (bytesOf t) ≡ 0
-  pub fields : fieldsOf (bytesOf t) ≡ normalOf t
+  pub checks : checkOf (erp2Bytes t) ≡ 0
+  pub fields : fieldsOf (erp2Bytes t) ≡ normalOf t
 
 pub built-reads : (t : Telegram) → Shaped t → Buildable t → (x : Bool) → isShortForm t ≡ x → Reads t
 built-reads t shape b true f =

@@ -1,5 +1,4 @@
 -- The answers of the check, one for each of its tests in their order: what was tested before passed, and what comes after may be either.
--- Assumes nothing.
 use mathlib.Core.Path.{_≡_}
 use mathlib.Core.Bool.{or-true}
 use mathlib.Core.List.{List}

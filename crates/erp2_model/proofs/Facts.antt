@@ -1,4 +1,4 @@
--- What a telegram says that can be built: the tests as inequalities, for each form, and how long its parts are. Assumes nothing.
+-- What a telegram says that can be built: the tests as inequalities, for each form, and how long its parts are.
 use mathlib.Core.Path.{_≡_, refl}
 use mathlib.Core.Bool.{Bool, true, false, cond, not, _&&_, _||_, true≢false}
 use mathlib.Core.List.{List}
@@ -16,18 +16,18 @@ use Rattle.telegram.specs.Output.{written}
 use Rattle.erp2_model.specs.declared.Telegram.{Telegram}
 use Rattle.erp2_model.specs.Header.{isReserved, isTypeExtended, isAddressed}
 use Rattle.erp2_model.specs.Sizes.{shortSizes, longSizes, overhead}
-use Rattle.erp2_model.specs.Building.{isShortForm, sizesFor, sizeOf, differ, isUnholdable, isAgainstHeader, isMisfitting, dataOf, optionalOf, sealOf, bytesOf, buildOf}
+use Rattle.erp2_model.specs.Building.{isShortForm, sizesFor, sizeOf, differ, isUnholdable, isAgainstHeader, isMisfitting, dataOf, optionalOf, sealOf, erp2Bytes, buildOf}
 use Rattle.erp2_model.specs.Bounds.{Buildable}
 use Rattle.erp2_model.specs.Claims.{Shaped}
 use Rattle.erp2_model.proofs.Lookups.{originator-low}
 
-pub build-facts : (t : Telegram) (out : List ℕ) → buildOf t out .number ≡ 0 → Buildable t × (buildOf t out ≡ written (bytesOf t) out)
+pub build-facts : (t : Telegram) (out : List ℕ) → buildOf t out .number ≡ 0 → Buildable t × (buildOf t out ≡ written (erp2Bytes t) out)
 unfolding buildOf
 build-facts t out e =
     let p = unrefused (isUnholdable t || isAgainstHeader t) _ out _ (refused-number Argument) e in
     let q = unrefused (not (isShortForm t) && isReserved (t .header)) _ out _ (refused-number ReservedAddress) (p .1) in
     let r = unrefused (isMisfitting t) _ out _ (refused-number Misfit) (q .1) in
-    let u = unrefused (ltb (length out) (1 + sizeOf t)) _ out (written (bytesOf t) out) (refused-number ShortOutput) (r .1) in
+    let u = unrefused (ltb (length out) (1 + sizeOf t)) _ out (written (erp2Bytes t) out) (refused-number ShortOutput) (r .1) in
     let w = neither (isUnholdable t) (isAgainstHeader t) (p .0) in
     (record { holds = w .0; agrees = w .1; allowed = q .0; fits = r .0 }, rw (p .0, q .0, r .0, u .0))
 

@@ -1,4 +1,4 @@
--- The tables of sizes, looked up: a test that every entry passes, and the default too, holds of each lookup. Assumes nothing.
+-- The tables of sizes, looked up: a test that every entry passes, and the default too, holds of each lookup.
 use mathlib.Core.Path.{_≡_, refl}
 use mathlib.Core.Bool.{Bool, true, false, cond}
 use mathlib.Core.List.{List, [], _∷_}

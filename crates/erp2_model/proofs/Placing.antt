@@ -1,4 +1,4 @@
--- The sizes of a list that fits are small, and its fields fill it. Assumes nothing.
+-- The sizes of a list that fits are small, and its fields fill it.
 use mathlib.Core.Path.{_≡_, refl}
 use mathlib.Core.Bool.{Bool, true, false}
 use mathlib.Core.List.{List}

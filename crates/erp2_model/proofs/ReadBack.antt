@@ -1,4 +1,4 @@
--- What is read builds the same bytes: each field is a part of the list, and parts one after the other are one part. Assumes nothing.
+-- What is read builds the same bytes: each field is a part of the list, and parts one after the other are one part.
 use mathlib.Core.Path.{_≡_, refl, sym, ap, _∙_}
 use mathlib.Core.Bool.{Bool, true, false, cond}
 use mathlib.Core.List.{List, [], _∷_, _++_, append-nil}
@@ -16,7 +16,7 @@ use Rattle.layout.proofs.BigEndian.{field-back, field-one}
 use Rattle.erp2_model.specs.declared.Sizes.{Sizes}
 use Rattle.erp2_model.specs.Sizes.{longSizes, overhead, extensionAt, subtypeAt, originatorAt, destinationAt, payloadAt}
 use Rattle.erp2_model.specs.Reading.{maxData, maxOptional, lengthByte, isShort, headerIn, sizesIn, fieldsOf}
-use Rattle.erp2_model.specs.Building.{isShortForm, sizesFor, sizeOf, bodyOf, bytesOf}
+use Rattle.erp2_model.specs.Building.{isShortForm, sizesFor, sizeOf, bodyOf, erp2Bytes}
 use Rattle.erp2_model.proofs.Lookups.{short-fits}
 use Rattle.erp2_model.proofs.Bits.{header-back, extension-back}
 use Rattle.erp2_model.proofs.Sound.{Sound}
@@ -132,15 +132,15 @@ module _ (s : List ℕ) (v : Sound s) where
         let behind = take-all (lengthByte s) (drop 1 s) (rw length-drop (omega (arith, v .long))) in
         sym (drop-cons s 0 0 (omega (arith, v .long)) ∙ ap (λ (l : List ℕ). lengthByte s ∷ l) (sym behind))
 
-    crc-short : isShort s ≡ true → bytesOf (fieldsOf s) ≡ s
-    unfolding bytesOf
+    crc-short : isShort s ≡ true → erp2Bytes (fieldsOf s) ≡ s
+    unfolding erp2Bytes
     crc-short h =
         let n : inFront ≡ lengthByte s
         = rw h (omega (arith, short-fits (lengthByte s))) in
         rw (length-read, body-read, n, form-short h) (ap (λ (l : List ℕ). lengthByte s ∷ l) (append-nil (part 1 (lengthByte s) s)) ∙ whole)
 
-    crc-long : isShort s ≡ false → bytesOf (fieldsOf s) ≡ s
-    unfolding bytesOf
+    crc-long : isShort s ≡ false → erp2Bytes (fieldsOf s) ≡ s
+    unfolding erp2Bytes
     crc-long h =
         let low = leb-false (lengthByte s) 6 h in
         let n : inFront ≡ lengthByte s - 1
@@ -150,10 +150,10 @@ module _ (s : List ℕ) (v : Sound s) where
         let m : lengthByte s - 1 + 1 ≡ lengthByte s = omega arith in
         rw (length-read, body-read, n, form-long h, last, part-join 1 (lengthByte s - 1) 1 (lengthByte s) s (omega arith), m) whole
 
-    by-form-bytes : (x : Bool) → isShort s ≡ x → bytesOf (fieldsOf s) ≡ s
+    by-form-bytes : (x : Bool) → isShort s ≡ x → erp2Bytes (fieldsOf s) ≡ s
     by-form-bytes true h = crc-short h
     by-form-bytes false h = crc-long h
 
     -- what is read builds the same bytes
-    pub bytes-read : bytesOf (fieldsOf s) ≡ s
+    pub bytes-read : erp2Bytes (fieldsOf s) ≡ s
     bytes-read = by-form-bytes (isShort s) refl

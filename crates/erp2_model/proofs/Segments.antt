@@ -1,5 +1,5 @@
 -- A telegram's bytes as a list of segments, one for each field: the part where a field stands is the field. One law over the segments and an
--- index (`part-nth`) says it of each. Assumes nothing.
+-- index (`part-nth`) says it of each.
 use mathlib.Core.Path.{_≡_}
 use mathlib.Core.List.{List, [], _∷_, _++_, append-assoc, append-nil, flatten}
 use Prim.Native.Nat.{ℕ, _+_}
@@ -13,7 +13,7 @@ use Rattle.erp2_model.specs.declared.Telegram.{Telegram}
 use Rattle.erp2_model.specs.declared.Sizes.{Sizes}
 use Rattle.erp2_model.specs.Header.{headerByte, extensionByte}
 use Rattle.erp2_model.specs.Sizes.{extensionAt, subtypeAt, originatorAt, destinationAt, payloadAt}
-use Rattle.erp2_model.specs.Building.{sizesFor, sizeOf, dataOf, optionalOf, bodyOf, sealOf, bytesOf}
+use Rattle.erp2_model.specs.Building.{sizesFor, sizeOf, dataOf, optionalOf, bodyOf, sealOf, erp2Bytes}
 use Rattle.erp2_model.proofs.Facts.{Lengths}
 
 joined : (l : ℕ) (A B C D E F G H : List ℕ) → l ∷ ((A ++ B ++ C ++ D ++ E ++ F ++ G) ++ H) ≡ flatten ((l ∷ []) ∷ A ∷ B ∷ C ∷ D ∷ E ∷ F ∷ G ∷ H ∷ [])
@@ -43,11 +43,11 @@ module _ (t : Telegram) where
   segments =
       (sizeOf t ∷ []) ∷ headerField ∷ extensionField ∷ subtypeField ∷ originatorField ∷ destinationField ∷ dataOf t ∷ optionalOf t ∷ sealOf t ∷ []
 
-  is-segments : bytesOf t ≡ flatten segments
-  unfolding bytesOf bodyOf
+  is-segments : erp2Bytes t ≡ flatten segments
+  unfolding erp2Bytes bodyOf
   is-segments = joined (sizeOf t) headerField extensionField subtypeField originatorField destinationField (dataOf t) (optionalOf t) (sealOf t)
 
-  segment : (k a n : ℕ) → start k segments ≡ a → length (getD segments k []) ≡ n → part a n (bytesOf t) ≡ getD segments k []
+  segment : (k a n : ℕ) → start k segments ≡ a → length (getD segments k []) ≡ n → part a n (erp2Bytes t) ≡ getD segments k []
   segment k a n e h = rw is-segments (part-nth k segments a n e h)
 
   -- ---- how long each is
@@ -69,19 +69,19 @@ module _ (t : Telegram) where
 
   -- ---- where each stands
 
-  pub part-header : part 1 (z .header) (bytesOf t) ≡ headerField
+  pub part-header : part 1 (z .header) (erp2Bytes t) ≡ headerField
   part-header = segment 1 1 (z .header) (omega arith) header-length
 
-  pub part-extension : part (extensionAt z) (z .extension) (bytesOf t) ≡ extensionField
+  pub part-extension : part (extensionAt z) (z .extension) (erp2Bytes t) ≡ extensionField
   part-extension = segment 2 (extensionAt z) (z .extension) (omega (arith, header-length)) extension-length
 
-  pub part-subtype : part (subtypeAt z) (z .subtype) (bytesOf t) ≡ subtypeField
+  pub part-subtype : part (subtypeAt z) (z .subtype) (erp2Bytes t) ≡ subtypeField
   part-subtype = segment 3 (subtypeAt z) (z .subtype) (omega (arith, header-length, extension-length)) subtype-length
 
-  pub part-originator : part (originatorAt z) (z .originator) (bytesOf t) ≡ originatorField
+  pub part-originator : part (originatorAt z) (z .originator) (erp2Bytes t) ≡ originatorField
   part-originator = segment 4 (originatorAt z) (z .originator) (omega (arith, header-length, extension-length, subtype-length)) originator-length
 
-  pub part-destination : part (destinationAt z) (z .destination) (bytesOf t) ≡ destinationField
+  pub part-destination : part (destinationAt z) (z .destination) (erp2Bytes t) ≡ destinationField
   part-destination =
       segment 5 (destinationAt z) (z .destination) (omega (arith, header-length, extension-length, subtype-length, originator-length))
       destination-length
@@ -91,12 +91,12 @@ module _ (t : Telegram) where
   data-start = omega (arith, header-length, extension-length, subtype-length, originator-length, destination-length)
 
   module _ (l : Lengths t) where
-    pub part-payload : part (payloadAt z) (t .len) (bytesOf t) ≡ dataOf t
+    pub part-payload : part (payloadAt z) (t .len) (erp2Bytes t) ≡ dataOf t
     part-payload = segment 6 (payloadAt z) (t .len) data-start (l .payload)
 
-    pub part-optional : part (payloadAt z + t .len) (z .optional) (bytesOf t) ≡ optionalOf t
+    pub part-optional : part (payloadAt z + t .len) (z .optional) (erp2Bytes t) ≡ optionalOf t
     part-optional = segment 7 (payloadAt z + t .len) (z .optional) (omega (arith, data-start, l .payload)) (l .optional)
 
-    pub built-length : length (bytesOf t) ≡ 1 + sizeOf t
-    unfolding bytesOf bodyOf sizeOf
+    pub built-length : length (erp2Bytes t) ≡ 1 + sizeOf t
+    unfolding erp2Bytes bodyOf sizeOf
     built-length = simp (length-append, be-length, l .payload, l .optional, l .seal) (omega arith)

@@ -1,4 +1,4 @@
--- What a check that passes says of a list. Assumes nothing.
+-- What a check that passes says of a list.
 use mathlib.Core.Path.{_≡_, refl, sym, _∙_}
 use mathlib.Core.Bool.{Bool, true, false, cond, not, true≢false}
 use mathlib.Core.List.{List}

@@ -1,4 +1,4 @@
--- The claims of specs/Claims.antt. Assumes nothing.
+-- The claims of specs/Claims.antt.
 use mathlib.Core.Path.{_≡_, refl, sym, ap, _∙_}
 use mathlib.Core.List.{List}
 use Prim.Native.Nat.{ℕ, _+_, _-_, _^_, _≤_, _<_}
@@ -15,7 +15,7 @@ use Rattle.erp2_model.specs.declared.Telegram.{Telegram}
 use Rattle.erp2_model.specs.declared.Sizes.{Sizes}
 use Rattle.erp2_model.specs.Sizes.{overhead, subtypeAt, destinationAt, payloadAt}
 use Rattle.erp2_model.specs.Reading.{maxData, maxOptional, lengthByte, sizesIn, fieldsOf, Read, readOf}
-use Rattle.erp2_model.specs.Building.{isShortForm, bytesOf, buildOf}
+use Rattle.erp2_model.specs.Building.{isShortForm, erp2Bytes, buildOf}
 use Rattle.erp2_model.specs.Bounds.{Placed}
 use Rattle.erp2_model.specs.Claims.{BuildRead, Shaped, normalOf, ReadBuilt, NormalRead, Figures}
 use Rattle.erp2_model.proofs.Sound.{Sound, check-facts}
@@ -38,7 +38,7 @@ unfolding readOf
 read-built t shape out e =
     let b = build-facts t out e in
     let r = built-reads t shape (b .0) (isShortForm t) refl in
-    let s : resultBytes (buildOf t out) ≡ bytesOf t = ap resultBytes (b .1) ∙ written-bytes (bytesOf t) out in
+    let s : resultBytes (buildOf t out) ≡ erp2Bytes t = ap resultBytes (b .1) ∙ written-bytes (erp2Bytes t) out in
     rw (s, r .checks) (ap (λ (u : Telegram). record { number = 0; telegram = u }) (r .fields))
 
 -- ---- what is read is in normal form

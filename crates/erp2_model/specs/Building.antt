@@ -1,4 +1,4 @@
--- Building the list of the length byte and Data_PL (document 02, A4; source document 004, 4.4 to 4.6). Assumes nothing.
+-- Building the list of the length byte and Data_PL (document 02, A4; source document 004, 4.4 to 4.6).
 use Prim.Native.Nat.{ℕ, _+_, _^_}
 use mathlib.Core.Bool.{Bool, cond, not, _&&_, _||_}
 use mathlib.Core.List.{List, [], _∷_, _++_}
@@ -78,8 +78,8 @@ abbrev pub sealOf : Telegram → List ℕ
 sealOf t = cond (isShortForm t) [] (crcOf (bodyOf t) ∷ [])
 
 -- every byte of a telegram: the length byte, and Data_PL
-unfoldable pub bytesOf : Telegram → List ℕ
-bytesOf t = sizeOf t ∷ (bodyOf t ++ sealOf t)
+unfoldable pub erp2Bytes : Telegram → List ℕ
+erp2Bytes t = sizeOf t ∷ (bodyOf t ++ sealOf t)
 
 -- ---- what building answers: the refusals of document 02, A4, in their order: 10, 14, 15, 6
 
@@ -89,4 +89,4 @@ buildOf t output =
     (cond (not (isShortForm t) && isReserved (t .header)) (refused (numberOf ReservedAddress) output)
     (cond (isMisfitting t) (refused (numberOf Misfit) output)
     (cond (ltb (length output) (1 + sizeOf t)) (refused (numberOf ShortOutput) output)
-    (written (bytesOf t) output))))
+    (written (erp2Bytes t) output))))

@@ -1,5 +1,5 @@
 -- What is claimed of reading and building, for every list of bytes and every telegram (document 02, A4: "Both round trips hold, with the presence
--- of each optional field part of what was read"): proofs/Theorems.antt has the theorems. Assumes nothing.
+-- of each optional field part of what was read"): proofs/Theorems.antt has the theorems.
 use mathlib.Core.Path.{_≡_}
 use mathlib.Core.Bool.{true, false, cond}
 use mathlib.Core.List.{List, [], _∷_, map}

@@ -1,4 +1,4 @@
--- The bits of the header and of the extended header (source document 004, figures 11 and 12). Bit 7 is the highest. Assumes nothing.
+-- The bits of the header and of the extended header (source document 004, figures 11 and 12). Bit 7 is the highest.
 use Prim.Native.Nat.{ℕ, _+_, _*_, _/_, _%_}
 use mathlib.Core.Bool.{Bool, cond}
 use lib.Dec.{leb, eqb}

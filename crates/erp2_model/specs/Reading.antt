@@ -1,4 +1,4 @@
--- Reading the list of the length byte and Data_PL (document 02, A4; source document 004, 4.4 to 4.6). Assumes nothing.
+-- Reading the list of the length byte and Data_PL (document 02, A4; source document 004, 4.4 to 4.6).
 use Prim.Native.Nat.{ℕ, _+_, _-_, _%_}
 use mathlib.Core.Bool.{Bool, false, cond, not, _||_}
 use mathlib.Core.List.{List}
@@ -125,8 +125,8 @@ pub record Read : Type 0 where
   pub number : ℕ
   pub telegram : Telegram
 
-abbrev pub readingOf : Reading → Read
-readingOf r = record { number = checkedNumber (r .checked); telegram = r .telegram }
+abbrev pub shownErp2Reading : Reading → Read
+shownErp2Reading r = record { number = checkedNumber (r .checked); telegram = r .telegram }
 
 unfoldable pub readOf : List ℕ → Read
 readOf s = record { number = checkOf s; telegram = cond (eqb (checkOf s) 0) (fieldsOf s) noTelegram }

@@ -1,5 +1,5 @@
 -- How many bytes each field has, and where it starts (source document 004, figures 9 to 11). A field that is not there has 0 bytes, so that one
--- order of fields serves the short form and every long one. Assumes nothing.
+-- order of fields serves the short form and every long one.
 use Prim.Native.Nat.{ℕ, _+_}
 use mathlib.Core.Bool.{cond}
 use mathlib.Core.List.{List, [], _∷_}

@@ -1,7 +1,6 @@
 -- The model's theorem, for the code's states.
 --     take-shows, checkpoint-shows, restore-shows, cut-shows, ask-shows     what the contract of a call ensures is what a history asks of it
 --     collector-histories, collector-divisions                   the theorem, and that any division of receptions is answered alike
--- Assumes nothing.
 use Prim.Native.Nat.{ℕ}
 use mathlib.Core.Path.{_≡_, ap, _∙_}
 use mathlib.Core.Bool.{cond}
@@ -26,8 +25,7 @@ use Rattle.collector.specs.declared.Taken.{Taken}
 use Rattle.collector.specs.declared.Heard.{Heard}
 use Rattle.image.specs.declared.Saved.{Saved}
 use Rattle.image.specs.declared.Restored.{Restored}
-use Rattle.collector.specs.Collector.{viewOf}
-use Rattle.collector.specs.Merging.{outcomeOf}
+use Rattle.collector.specs.Collector.{viewOf, outcomeOf}
 use Rattle.collector.specs.Heard.{askedNumber, heardOf}
 use Rattle.image.specs.Checkpoint.{savedNumber, checkpointResult, loadedNumber, restoreResult}
 use Rattle.image.specs.Histories.{CollectorHistories, CollectorDivisions}

@@ -1,4 +1,4 @@
--- The model's laws of the state that is left, and of one transmitter among others, for the code's states. Assumes nothing.
+-- The model's laws of the state that is left, and of one transmitter among others, for the code's states.
 use Rattle.model.proofs.States.{states-left}
 use Rattle.model.proofs.Struck.{states-isolated}
 use Rattle.collector.specs.Collector.{viewOf}

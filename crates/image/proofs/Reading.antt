@@ -3,7 +3,6 @@
 --     Reading                           the first i entries are read
 --     reading-none, reading-more        at the start, and after a turn of the loop
 --     reading-all                       what the arrays then say
--- Assumes nothing.
 use Prim.Native.Nat.{ℕ, _+_, _-_, _*_, _/_, _%_, _≤_, _<_}
 use native.Mathlib.Nat.{zero-add}
 use native.Mathlib.Numerals.{add-one}
@@ -24,7 +23,7 @@ use Rattle.model.specs.View.{capacity}
 use Rattle.model.specs.Image.{imageLength, blockIn, entryIn}
 use Rattle.collector.specs.Collector.{Columns, entryAt, entriesAt}
 use Rattle.collector.proofs.Arrays.{noEntry}
-use Rattle.image.specs.Checkpoint.{blockCount, cellIn, entriesIn}
+use Rattle.image.specs.Private.{blockCount, cellIn, entriesIn}
 
 pub block-long : (image : List ℕ) (k : ℕ) → length image ≡ imageLength → k < blockCount → length (blockIn k image) ≡ blockLength
 block-long image k l h = part-length (blockLength * k) blockLength image (omega arith)

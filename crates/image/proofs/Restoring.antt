@@ -2,7 +2,6 @@
 --     readable                                           what the first test says
 --     restore-unreadable, restore-other, restore-done    what each return has to show
 --     stayed                                             a refusal
--- Assumes nothing.
 use Prim.Native.Nat.{ℕ, _≤_}
 use mathlib.Core.Path.{_≡_, sym, _∙_}
 use mathlib.Core.Bool.{true, false, false≢true}
@@ -20,7 +19,8 @@ use Rattle.telegram.specs.Repeater.{maxSetting}
 use Rattle.model.specs.View.{View, capacity}
 use Rattle.model.specs.Acceptable.{acceptable}
 use Rattle.model.specs.Image.{RestoreResult, imageLength, settingIn, countIn, entryIn, parse, accepts, restoreOf}
-use Rattle.image.specs.Checkpoint.{loadedNumber, Restores, isImageOf, isReadable, entriesIn}
+use Rattle.image.specs.Checkpoint.{loadedNumber, Restores}
+use Rattle.image.specs.Private.{isImageOf, isReadable, entriesIn}
 use Rattle.image.specs.declared.Restored.{Restored}
 use Rattle.collector.specs.declared.Collector.{Collector}
 use Rattle.collector.specs.Collector.{viewOf}

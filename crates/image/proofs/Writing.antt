@@ -5,7 +5,6 @@
 --     block-written                  a block of these cells is block k
 --     writable-part                  what the writer of a block passes on
 --     writable-state                 an acceptable state can be written
--- Assumes nothing.
 use Prim.Native.Nat.{ℕ, _+_, _-_, _*_, _≤_, _<_, min}
 use native.Mathlib.Nat.{zero-add}
 use native.Mathlib.Omega.{arith}
@@ -33,7 +32,7 @@ use Rattle.model.specs.Image.{entryCell, blockAt}
 use Rattle.model.proofs.Check.{valid-length}
 use Rattle.model.proofs.Invariant.{entry-valid}
 use Rattle.collector.specs.Collector.{Columns, entryAt, entriesAt, viewAt}
-use Rattle.image.specs.Checkpoint.{blockCount, entriesFrom, blockWith, Writable}
+use Rattle.image.specs.Private.{blockCount, entriesFrom, blockWith, Writable}
 use Rattle.collector.proofs.Arrays as arrays
 use Rattle.collector.proofs.Arrays.{noEntry, entry-get}
 

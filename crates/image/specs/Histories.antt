@@ -1,4 +1,4 @@
--- The whole history of the code's own states (document 01, "One history, and the clerk who writes it down"). Assumes nothing.
+-- The whole history of the code's own states (document 01, "One history, and the clerk who writes it down").
 use Rattle.model.specs.States.{StatesAgree, StatesDivide}
 use Rattle.collector.specs.Collector.{viewOf}
 

@@ -1,4 +1,4 @@
--- One noisy sensor does not touch another's rows (document 02, A13), in the code's own states. Assumes nothing.
+-- One noisy sensor does not touch another's rows (document 02, A13), in the code's own states.
 use Rattle.model.specs.States.{StatesLeft}
 use Rattle.model.specs.Isolation.{StatesIsolated}
 use Rattle.collector.specs.Collector.{viewOf}

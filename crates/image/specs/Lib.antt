@@ -1,3 +1,4 @@
 pub mod Checkpoint
+pub mod Private
 pub mod Histories
 pub mod Isolation

@@ -25,7 +25,8 @@ ghost use Rattle.model.specs.Image as model;
 ghost use Rattle.model.specs.Image.{imageLength, entryCell, imageWith, blockIn, usedIn, firstIn, secondIn, countIn, totalsIn, checkpointOf};
 ghost use Rattle.collector.specs.Collector.{columns, entriesAt, viewAt, viewOf};
 ghost use Rattle.collector.specs.Admission.{viewIn};
-ghost use Rattle.image.specs.Checkpoint.{checkpointResult, loadedNumber, Restores, blockCount, cellsLength, entriesFrom, blockWith, Writable, isImageOf, isReadable, cellIn, entriesIn};
+ghost use Rattle.image.specs.Checkpoint.{checkpointResult, loadedNumber, Restores};
+ghost use Rattle.image.specs.Private.{blockCount, cellsLength, entriesFrom, blockWith, Writable, isImageOf, isReadable, cellIn, entriesIn};
 
 // How many blocks an image has.
 const BLOCKS: usize = 5;

@@ -5,7 +5,6 @@
 --     field-lt, field-back      the same of a part of a list; field-one of a single byte
 --     be-set                    how a writer that goes from the last byte to the first proceeds
 --     unbe-more, digit-lt       how a reader that goes from the first to the last does, and what bounds it
--- Assumes nothing.
 use mathlib.Core.Path.{_≡_, refl, sym, ap, _∙_}
 use mathlib.Core.List.{List, [], _∷_, _++_}
 use Prim.Native.Nat.{ℕ, zero, suc, _+_, _-_, _*_, _/_, _%_, _^_, _≤_, _<_}

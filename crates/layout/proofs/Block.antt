@@ -2,7 +2,6 @@
 --     block-length, block-crc                    a block has 512 bytes, and the last is the CRC of those before it
 --     block-header, block-cell, block-unused     what is read is what was written; a cell past those used is zero
 --     seal-not, seal-set, seal-front, seal-written     sealing: refused; in place; after all before it was written; the same, header and cells
--- Assumes nothing.
 use mathlib.Core.Path.{_≡_, refl, sym, ap, _∙_}
 use mathlib.Core.List.{List, [], _∷_, _++_, append-assoc, flatten}
 use Prim.Native.Nat.{ℕ, _+_, _-_, _*_, _≤_, _<_}

@@ -3,7 +3,6 @@
 --     cell-time, cell-used, cell-field, cell-bytes, cell-last     what is read is what was written
 --     cell-time-lt                      a time that is read fits 64 bits, whatever was written
 --     put-fits, put-long, put-other     a cell put into 32 bytes; refused, as its bytes are too many, or the buffer has another length
--- Assumes nothing.
 use mathlib.Core.Path.{_≡_, ap, ap₂, _∙_}
 use mathlib.Core.List.{List, [], _∷_, _++_}
 use Prim.Native.Nat.{ℕ, _^_, _≤_, _<_}

@@ -1,4 +1,4 @@
--- Numbers as bytes, the highest first (document 01, "Parked collector": numbers are big-endian), over any width. Assumes nothing.
+-- Numbers as bytes, the highest first (document 01, "Parked collector": numbers are big-endian), over any width.
 use mathlib.Core.List.{List, [], _∷_, _++_}
 use Prim.Native.Nat.{ℕ, zero, suc, _+_, _*_, _/_, _%_, _<_}
 use lib.ListN.{getD}

@@ -1,5 +1,5 @@
 -- A block of 512 bytes: a header of 24, fifteen cells of 32, zeros, and the CRC of all before it (document 01, "Parked collector";
--- document 02, A2 with another header). Assumes nothing.
+-- document 02, A2 with another header).
 use mathlib.Core.List.{List, [], _∷_, _++_, flatten}
 use Prim.Native.Nat.{ℕ, _+_, _*_}
 use lib.ListN.{take}

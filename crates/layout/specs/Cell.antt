@@ -1,4 +1,4 @@
--- The 32 bytes of an entry (document 01, "Parked collector"), which rows of an archive share (document 02, A2). Assumes nothing.
+-- The 32 bytes of an entry (document 01, "Parked collector"), which rows of an archive share (document 02, A2).
 use mathlib.Core.Bool.{cond}
 use mathlib.Core.List.{List, [], _∷_, _++_}
 use Prim.Native.Nat.{ℕ}

@@ -1,4 +1,4 @@
--- What the answer of `parse` and the bytes that it writes tell its caller. Assumes nothing.
+-- What the answer of `parse` and the bytes that it writes tell its caller.
 use mathlib.Core.Path.{_≡_, refl, ap, _∙_}
 use mathlib.Core.Bool.{true, false, true≢false, false≢true}
 use mathlib.Core.List.{List, []}
@@ -8,14 +8,14 @@ use lib.ListN.{length, take, length-append, length-replicate}
 use Rattle.bytes.specs.Bytes.{indexOf}
 use Rattle.lists.proofs.Padded.{take-padded}
 use Rattle.line_input.specs.Ascii.{newline}
-use Rattle.line_input.specs.Reading.{reception, bad, readingOf, frontOf, lineOf, bytesIn}
+use Rattle.line_input.specs.Reading.{reception, bad, lineReading, frontOf, lineOf, bytesIn}
 use Rattle.line_input.specs.declared.Line.{Line}
 use Rattle.line_input.proofs.Pairs.{hexed, leading-hex}
 use Rattle.line_input.proofs.Starts.{by-cases}
 use Rattle.line_input.proofs.Whole.{said}
 
 -- a reception has 64 bytes at most
-few-bytes : (l : List ℕ) {time : ℕ} {bytes : List ℕ} → readingOf l ≡ reception time bytes → length bytes ≤ 64
+few-bytes : (l : List ℕ) {time : ℕ} {bytes : List ℕ} → lineReading l ≡ reception time bytes → length bytes ≤ 64
 few-bytes l e =
     let w = said l e in
     omega (arith, hexed (w .hex) (w .isRight) .short, leading-hex (w .hex) [] (w .isRight) .1, ap length (w .saysBytes))
@@ -47,19 +47,19 @@ module _ (text : List ℕ) where
         (λ t bs h q v. (h, refl))
         (rw (e .0) at u))
 
-    pub said-bad : (r .used ≡ 0 → ⊥) → r .ok ≡ false → readingOf (take (indexOf newline text) text) ≡ bad
+    pub said-bad : (r .used ≡ 0 → ⊥) → r .ok ≡ false → lineReading (take (indexOf newline text) text) ≡ bad
     said-bad u f =
-        by-cases text (λ x. (lineOf x .used ≡ 0 → ⊥) → lineOf x .ok ≡ false → readingOf line ≡ bad)
+        by-cases text (λ x. (lineOf x .used ≡ 0 → ⊥) → lineOf x .ok ≡ false → lineReading line ≡ bad)
         (λ h v g. absurd (v refl))
         (λ h q v g. q)
         (λ t bs h q v g. absurd (true≢false g))
         (rw (e .0) at u)
         (rw (e .0) at f)
 
-    pub said-reception : r .ok ≡ true → readingOf (take (indexOf newline text) text) ≡ reception (r .time) (take (r .len) bytes)
+    pub said-reception : r .ok ≡ true → lineReading (take (indexOf newline text) text) ≡ reception (r .time) (take (r .len) bytes)
     said-reception f =
         rw (e .0, e .1)
-        (by-cases text (λ x. lineOf x .ok ≡ true → readingOf line ≡ reception (lineOf x .time) (take (lineOf x .len) (bytesIn x)))
+        (by-cases text (λ x. lineOf x .ok ≡ true → lineReading line ≡ reception (lineOf x .time) (take (lineOf x .len) (bytesIn x)))
         (λ h g. absurd (false≢true g))
         (λ h q g. absurd (false≢true g))
         (λ t bs h q g. q ∙ rw (take-padded 64 bs))

@@ -1,4 +1,4 @@
--- Laws of decimal digits: reading them one after the other gives the number that they say. Assumes nothing.
+-- Laws of decimal digits: reading them one after the other gives the number that they say.
 use mathlib.Core.Path.{_≡_, refl, _∙_}
 use mathlib.Core.Bool.{Bool, true, false, _&&_, and-false}
 use mathlib.Core.List.{List, [], _∷_}

@@ -1,4 +1,4 @@
--- A line of `lineLimit` characters or more is BAD, whatever it holds, so its front says what it says. Assumes nothing.
+-- A line of `lineLimit` characters or more is BAD, whatever it holds, so its front says what it says.
 use mathlib.Core.Path.{_≡_, refl, sym, ap, _∙_}
 use mathlib.Core.Bool.{Bool, true, false, cond, not, _&&_, and-false}
 use mathlib.Core.List.{List, [], _∷_}
@@ -13,8 +13,8 @@ use Rattle.bytes.specs.Bytes.{indexOf}
 use Rattle.lists.specs.Lists.{all, equal}
 use Rattle.line_input.specs.Ascii.{space, digit0}
 use Rattle.line_input.specs.Decimal.{isDigit, decimalOf, isNumber, isTime}
-use Rattle.line_input.specs.Hex.{isHex, bytesOf}
-use Rattle.line_input.specs.Reading.{reception, bad, readingOf, levelLine, settingOf, lineLimit}
+use Rattle.line_input.specs.Hex.{isHex, hexBytes}
+use Rattle.line_input.specs.Reading.{reception, bad, lineReading, levelLine, settingOf, lineLimit}
 use Rattle.line_input.specs.Claims.{LongLines, FrontsTell}
 use Rattle.line_input.specs.declared.Setting.{Setting}
 use Rattle.line_input.proofs.Pairs.{too-long}
@@ -43,15 +43,15 @@ long-time (c ∷ d ∷ s) h = go (eqb c digit0) refl (leb digit0 c) refl
         let big = first-value c (d ∷ s) 20 (omega (arith, eqb-false c 48 p, leb-true 48 c q)) (omega arith) in
         rw (le-ltb (decimalOf (c ∷ d ∷ s)) (2 ^ 64) (omega (arith, big)), and-false (ltb c 58 && all isDigit (d ∷ s)), and-false (some && true))
 
-long-line : (l : List ℕ) → lineLimit ≤ length l → readingOf l ≡ bad
-unfolding readingOf
+long-line : (l : List ℕ) → lineLimit ≤ length l → lineReading l ≡ bad
+unfolding lineReading
 long-line l h = go (ltb k (length l)) refl (ltb k 21) refl
   where
     k : ℕ
     k = indexOf space l
 
     go : (t : Bool) → ltb k (length l) ≡ t → (u : Bool) → ltb k 21 ≡ u
-        → cond (t && isTime (take k l) && isHex (drop (suc k) l)) (reception (decimalOf (take k l)) (bytesOf (drop (suc k) l))) bad ≡ bad
+        → cond (t && isTime (take k l) && isHex (drop (suc k) l)) (reception (decimalOf (take k l)) (hexBytes (drop (suc k) l))) bad ≡ bad
     go false p u q = refl
     go true p true q =
         let e : 128 < length (drop (suc k) l) = simp length-drop (omega (arith, ltb-true k 21 q)) in
@@ -86,4 +86,4 @@ pub long-lines : LongLines
 long-lines l h = record { reading = long-line l h; setting = long-setting l h }
 
 pub fronts-tell : FrontsTell
-fronts-tell l = record { reading = front readingOf bad long-line l; setting = front settingOf Setting.Bad long-setting l }
+fronts-tell l = record { reading = front lineReading bad long-line l; setting = front settingOf Setting.Bad long-setting l }

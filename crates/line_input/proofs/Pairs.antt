@@ -1,5 +1,5 @@
 -- Laws of hexadecimal digits: storing the bytes of their pairs one after the other gives those of all, and what the pairs at the front of a
--- text are. Assumes nothing.
+-- text are.
 use mathlib.Core.Path.{_≡_, refl, sym, ap, _∙_}
 use mathlib.Core.Bool.{Bool, true, false, cond, _&&_, _||_, and-false}
 use mathlib.Core.List.{List, [], _∷_, _++_}
@@ -16,7 +16,7 @@ use Rattle.lists.proofs.Choice.{neither, both}
 use Rattle.lists.proofs.Padded.{padded-sets}
 use Rattle.lists.proofs.Tests.{by-test}
 use Rattle.line_input.specs.Ascii.{newline}
-use Rattle.line_input.specs.Hex.{nibbleOf, isHexDigit, isHex, bytesOf, leadingBytes, Decoded}
+use Rattle.line_input.specs.Hex.{nibbleOf, isHexDigit, isHex, hexBytes, leadingBytes, Decoded}
 
 pub too-long : (s : List ℕ) → 128 < length s → isHex s ≡ false
 unfolding isHex
@@ -40,8 +40,8 @@ unfolding isHex
 is-hex {s} h = rw (le-leb (length s) 128 (h .short), eq-eqb (length s % 2) 0 (h .even), h .digits)
 
 -- two digits for each byte
-length-bytes : (s : List ℕ) (n : ℕ) → length s ≡ n + n → length (bytesOf s) ≡ n
-unfolding bytesOf
+length-bytes : (s : List ℕ) (n : ℕ) → length s ≡ n + n → length (hexBytes s) ≡ n
+unfolding hexBytes
 length-bytes [] n e = omega arith
 length-bytes (a ∷ []) n e = absurd (omega arith)
 length-bytes (a ∷ b ∷ s) zero e = absurd (omega arith)
@@ -68,8 +68,8 @@ no-pair (suc n) (a ∷ []) h = refl
 no-pair (suc n) (a ∷ b ∷ s) h = absurd (omega arith)
 
 -- n pairs at most, and a newline behind them
-leading-all : (n m : ℕ) (h r : List ℕ) → m ≤ n → length h ≡ m + m → all isHexDigit h ≡ true → leadingBytes n (h ++ (newline ∷ r)) ≡ bytesOf h
-unfolding leadingBytes bytesOf nibbleOf
+leading-all : (n m : ℕ) (h r : List ℕ) → m ≤ n → length h ≡ m + m → all isHexDigit h ≡ true → leadingBytes n (h ++ (newline ∷ r)) ≡ hexBytes h
+unfolding leadingBytes hexBytes nibbleOf
 leading-all zero m [] r l e a = refl
 leading-all (suc n) m [] [] l e a = refl
 leading-all (suc n) m [] (b ∷ r) l e a = refl
@@ -82,7 +82,7 @@ leading-all (suc n) (suc m) (x ∷ y ∷ h) r l e a =
     rw (p .0, q .0, leading-all n m h r (omega arith) (omega arith) (q .1))
 
 -- bytes, and a newline behind them
-pub leading-hex : (h r : List ℕ) → isHex h ≡ true → (leadingBytes 64 (h ++ (newline ∷ r)) ≡ bytesOf h) × (2 * length (bytesOf h) ≡ length h)
+pub leading-hex : (h r : List ℕ) → isHex h ≡ true → (leadingBytes 64 (h ++ (newline ∷ r)) ≡ hexBytes h) × (2 * length (hexBytes h) ≡ length h)
 leading-hex h r e =
     let w = hexed h e in
     let pairs : length h ≡ length h / 2 + length h / 2 = omega arith in
@@ -95,10 +95,10 @@ pub record Leading (n : ℕ) (s : List ℕ) : Type 0 where
   pub parts : s ≡ hex ++ rest
   pub digits : all isHexDigit hex ≡ true
   pub count : length hex ≡ 2 * length (leadingBytes n s)
-  pub says : bytesOf hex ≡ leadingBytes n s
+  pub says : hexBytes hex ≡ leadingBytes n s
 
 pub leading : (n : ℕ) (s : List ℕ) → Leading n s
-unfolding leadingBytes bytesOf
+unfolding leadingBytes hexBytes
 leading zero s = record { hex = []; rest = s; parts = refl; digits = refl; count = refl; says = refl }
 leading (suc n) [] = record { hex = []; rest = []; parts = refl; digits = refl; count = refl; says = refl }
 leading (suc n) (a ∷ []) = record { hex = []; rest = a ∷ []; parts = refl; digits = refl; count = refl; says = refl }

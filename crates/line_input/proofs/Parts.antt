@@ -1,5 +1,5 @@
 -- The parts of a line as they are read from the start of a text: k digits that say the time t, and m bytes behind the space. The line says a
--- reception exactly where a newline stands behind these. Assumes nothing.
+-- reception exactly where a newline stands behind these.
 use mathlib.Core.Path.{_≡_, sym, ap, _∙_}
 use mathlib.Core.Bool.{true}
 use mathlib.Core.List.{List, [], _∷_, _++_, append-assoc}
@@ -10,7 +10,7 @@ use lib.ListN.{length, getD, take, drop, length-append, length-drop}
 use lib.Seq.{split-at, take-all, length-take-le, drop-append-add, getD-at}
 use Rattle.line_input.specs.Ascii.{newline, space}
 use Rattle.line_input.specs.Decimal.{timedOf}
-use Rattle.line_input.specs.Hex.{bytesOf, leadingBytes, Decoded}
+use Rattle.line_input.specs.Hex.{hexBytes, leadingBytes, Decoded}
 use Rattle.line_input.specs.Reading.{frontOf, lineOf, bytesIn}
 use Rattle.line_input.specs.declared.Timed.{Timed}
 use Rattle.line_input.proofs.Pairs.{Leading, leading-hex, leading, leading-right}
@@ -67,7 +67,7 @@ module _ (text : List ℕ) {t k : ℕ} (timed : Timed.At t k ≡ timedOf text) w
         let left = w .hex ++ (newline ∷ w .rest) in
         let after : behind ≡ left = rw (w .parts, here) (drop-append-add (w .digits) (space ∷ left) 1) in
         let x = leading-hex (w .hex) (w .rest) (w .isRight) in
-        let same : m ≡ length (bytesOf (w .hex)) = decoded .answer ∙ ap (λ (s : List ℕ). length (leadingBytes 64 s)) after ∙ ap length (x .0) in
+        let same : m ≡ length (hexBytes (w .hex)) = decoded .answer ∙ ap (λ (s : List ℕ). length (leadingBytes 64 s)) after ∙ ap length (x .0) in
         let at : length (line w) ≡ k + 1 + 2 * m = omega (arith, length-line w) in
         (rw (line-first w) (simp length-append (omega arith)), rw (line-first w) (getD-at (line w) newline (w .rest) 0 (k + 1 + 2 * m) at))
 

@@ -1,4 +1,4 @@
--- The line at the start of a text says a reception exactly where the text starts with a time, a space, bytes and a newline. Assumes nothing.
+-- The line at the start of a text says a reception exactly where the text starts with a time, a space, bytes and a newline.
 use mathlib.Core.Path.{_≡_, refl, sym, ap, _∙_}
 use mathlib.Core.Bool.{Bool, true, false, cond}
 use mathlib.Core.List.{List, _∷_, _++_, append-assoc}
@@ -12,8 +12,8 @@ use borrow.Author.Tests.{lt-ltb, le-ltb, ltb-true, ltb-false}
 use Rattle.bytes.specs.Bytes.{indexOf, indexAfter, slice}
 use Rattle.line_input.specs.Ascii.{newline, space}
 use Rattle.line_input.specs.Decimal.{isDigit, decimalOf, isTime, timedOf}
-use Rattle.line_input.specs.Hex.{nibbleOf, isHexDigit, isHex, bytesOf}
-use Rattle.line_input.specs.Reading.{Reading, reception, bad, readingOf, Front, ended, unended, frontOf, badFront, lineOf, bytesIn}
+use Rattle.line_input.specs.Hex.{nibbleOf, isHexDigit, isHex, hexBytes}
+use Rattle.line_input.specs.Reading.{Reading, reception, bad, lineReading, Front, ended, unended, frontOf, badFront, lineOf, bytesIn}
 use Rattle.line_input.specs.declared.Line.{Line}
 use Rattle.line_input.specs.declared.Timed.{Timed}
 use Rattle.line_input.proofs.Pairs.{hexed}
@@ -47,7 +47,7 @@ module _ {text : List ℕ} (w : Starts text) where
       let past-digits = index-past newline isDigit refl (w .digits) (space ∷ (w .hex ++ behind)) (time-digits (w .digits) (w .isTimely)) in
       rw (w .parts, past-digits, past-hex) (omega (arith, length-line))
 
-  pub front-reception : frontOf text ≡ ended (length line) (reception (decimalOf (w .digits)) (bytesOf (w .hex)))
+  pub front-reception : frontOf text ≡ ended (length line) (reception (decimalOf (w .digits)) (hexBytes (w .hex)))
   unfolding frontOf
   front-reception =
       let short : length line < length text = rw line-first (simp length-append (omega arith)) in
@@ -64,18 +64,18 @@ module _ (text : List ℕ) where
   n = indexOf newline text
 
   -- what holds in each of them holds
-  pub by-cases : (P : Front → Type 0) → (length text ≤ n → P unended) → (n < length text → readingOf (take n text) ≡ bad → P (ended n bad))
-      → ((t : ℕ) (bs : List ℕ) → n < length text → readingOf (take n text) ≡ reception t bs → P (ended n (reception t bs))) → P (frontOf text)
+  pub by-cases : (P : Front → Type 0) → (length text ≤ n → P unended) → (n < length text → lineReading (take n text) ≡ bad → P (ended n bad))
+      → ((t : ℕ) (bs : List ℕ) → n < length text → lineReading (take n text) ≡ reception t bs → P (ended n (reception t bs))) → P (frontOf text)
   unfolding frontOf
-  by-cases P a b c = go (ltb n (length text)) refl (readingOf (take n text)) refl
+  by-cases P a b c = go (ltb n (length text)) refl (lineReading (take n text)) refl
     where
-      go : (t : Bool) → ltb n (length text) ≡ t → (x : Reading) → readingOf (take n text) ≡ x → P (cond t (ended n x) unended)
+      go : (t : Bool) → ltb n (length text) ≡ t → (x : Reading) → lineReading (take n text) ≡ x → P (cond t (ended n x) unended)
       go false p x q = a (ltb-false n (length text) p)
       go true p bad q = b (ltb-true n (length text) p) q
       go true p (reception t bs) q = c t bs (ltb-true n (length text) p) q
 
   -- every line that says a reception is made so
-  starts-so : {t : ℕ} {bs : List ℕ} → n < length text → readingOf (take n text) ≡ reception t bs → Starts text
+  starts-so : {t : ℕ} {bs : List ℕ} → n < length text → lineReading (take n text) ≡ reception t bs → Starts text
   starts-so h e =
       let w = said (take n text) e in
       let behind = newline ∷ drop (suc n) text in

@@ -1,4 +1,4 @@
--- Laws of the time at the start of a text: reading digits up to the first space gives the time that they say. Assumes nothing.
+-- Laws of the time at the start of a text: reading digits up to the first space gives the time that they say.
 use mathlib.Core.Path.{_≡_, sym, _∙_}
 use mathlib.Core.Bool.{Bool, true, false, not, _&&_, and-false}
 use mathlib.Core.List.{List, _∷_, _++_}

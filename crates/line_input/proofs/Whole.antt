@@ -1,4 +1,4 @@
--- A line says a reception exactly where it is a time, one space and bytes. Assumes nothing.
+-- A line says a reception exactly where it is a time, one space and bytes.
 use mathlib.Core.Path.{_≡_, refl, sym, ap, _∙_}
 use mathlib.Core.Bool.{Bool, true, false, not, _&&_, false≢true}
 use mathlib.Core.List.{List, [], _∷_, _++_}
@@ -15,8 +15,8 @@ use Rattle.lists.specs.Lists.{all}
 use Rattle.lists.proofs.Choice.{both, cond-yes}
 use Rattle.line_input.specs.Ascii.{space}
 use Rattle.line_input.specs.Decimal.{isDigit, decimalOf, hasLeadingZero, isNumber, isTime}
-use Rattle.line_input.specs.Hex.{bytesOf, isHex}
-use Rattle.line_input.specs.Reading.{reception, bad, readingOf}
+use Rattle.line_input.specs.Hex.{hexBytes, isHex}
+use Rattle.line_input.specs.Reading.{reception, bad, lineReading}
 
 -- ---- the first space
 
@@ -54,8 +54,8 @@ space-behind s h e = index-past space isDigit refl s (space ∷ h) (time-digits 
 
 -- ---- both ways
 
-pub joined : (s h : List ℕ) → isTime s ≡ true → isHex h ≡ true → readingOf (s ++ (space ∷ h)) ≡ reception (decimalOf s) (bytesOf h)
-unfolding readingOf
+pub joined : (s h : List ℕ) → isTime s ≡ true → isHex h ≡ true → lineReading (s ++ (space ∷ h)) ≡ reception (decimalOf s) (hexBytes h)
+unfolding lineReading
 joined s h t x =
     let l = s ++ (space ∷ h) in
     let behind : drop (suc (length s)) l ≡ h = rw (sym (add-one (length s))) (drop-append-add s (space ∷ h) 1) in
@@ -79,10 +79,10 @@ pub record Said (l : List ℕ) (time : ℕ) (bytes : List ℕ) : Type 0 where
   pub isTimely : isTime digits ≡ true
   pub isRight : isHex hex ≡ true
   pub saysTime : decimalOf digits ≡ time
-  pub saysBytes : bytesOf hex ≡ bytes
+  pub saysBytes : hexBytes hex ≡ bytes
 
-pub said : (l : List ℕ) {time : ℕ} {bytes : List ℕ} → readingOf l ≡ reception time bytes → Said l time bytes
-unfolding readingOf
+pub said : (l : List ℕ) {time : ℕ} {bytes : List ℕ} → lineReading l ≡ reception time bytes → Said l time bytes
+unfolding lineReading
 said l {time} {bytes} e =
     let k = indexOf space l in
     let a = ltb k (length l) in

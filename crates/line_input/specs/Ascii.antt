@@ -1,4 +1,4 @@
--- The characters that the lines of `collect` are made of, by their ASCII codes. Assumes nothing.
+-- The characters that the lines of `collect` are made of, by their ASCII codes.
 use Prim.Native.Nat.{ℕ, _+_}
 use mathlib.Core.Bool.{Bool, _&&_}
 use lib.Dec.{leb, ltb}

@@ -1,14 +1,14 @@
--- What is claimed of long lines: proofs/Long.antt has the theorems. Assumes nothing.
+-- What is claimed of long lines: proofs/Long.antt has the theorems.
 use mathlib.Core.Path.{_≡_}
 use mathlib.Core.List.{List}
 use Prim.Native.Nat.{ℕ, _≤_}
 use lib.ListN.{length, take}
 use Rattle.line_input.specs.declared.Setting.{Setting}
-use Rattle.line_input.specs.Reading.{bad, settingOf, readingOf, lineLimit}
+use Rattle.line_input.specs.Reading.{bad, settingOf, lineReading, lineLimit}
 
 -- a line of 150 characters or more says nothing, neither as the first line nor later
 pub record SaysNothing (l : List ℕ) : Type 0 where
-  pub reading : readingOf l ≡ bad
+  pub reading : lineReading l ≡ bad
   pub setting : settingOf l ≡ Setting.Bad
 
 abbrev pub LongLines : Type 0
@@ -16,7 +16,7 @@ LongLines = (l : List ℕ) → lineLimit ≤ length l → SaysNothing l
 
 -- so that the first 150 characters of a line tell what it says
 pub record ToldByFront (l : List ℕ) : Type 0 where
-  pub reading : readingOf (take lineLimit l) ≡ readingOf l
+  pub reading : lineReading (take lineLimit l) ≡ lineReading l
   pub setting : settingOf (take lineLimit l) ≡ settingOf l
 
 abbrev pub FrontsTell : Type 0

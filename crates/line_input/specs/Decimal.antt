@@ -1,4 +1,4 @@
--- Decimal numbers (document 01, "Cases": a decimal 64-bit time without leading zeros). Assumes nothing.
+-- Decimal numbers (document 01, "Cases": a decimal 64-bit time without leading zeros).
 use Prim.Native.Nat.{ℕ, _+_, _-_, _*_, _^_}
 use mathlib.Core.Bool.{Bool, false, cond, not, _&&_}
 use mathlib.Core.List.{List, [], _∷_}

@@ -1,4 +1,4 @@
--- Bytes in hexadecimal (document 01, "Cases": 0 to 64 bytes of two hex digits each in either case). Assumes nothing.
+-- Bytes in hexadecimal (document 01, "Cases": 0 to 64 bytes of two hex digits each in either case).
 use mathlib.Core.Path.{_≡_}
 use Prim.Native.Nat.{ℕ, zero, suc, _+_, _-_, _*_, _%_}
 use mathlib.Core.Bool.{Bool, cond, _&&_}
@@ -28,10 +28,10 @@ unfoldable pub isHex : List ℕ → Bool
 isHex s = leb (length s) (2 * maxBytes) && eqb (length s % 2) 0 && all isHexDigit s
 
 -- the bytes that pairs of digits say, the high digit first
-unfoldable pub bytesOf : List ℕ → List ℕ
-bytesOf [] = []
-bytesOf (a ∷ []) = []
-bytesOf (a ∷ b ∷ s) = (nibbleOf a * 16 + nibbleOf b) ∷ bytesOf s
+unfoldable pub hexBytes : List ℕ → List ℕ
+hexBytes [] = []
+hexBytes (a ∷ []) = []
+hexBytes (a ∷ b ∷ s) = (nibbleOf a * 16 + nibbleOf b) ∷ hexBytes s
 
 -- the bytes of the pairs of digits at the front of a text, n at most
 unfoldable pub leadingBytes : ℕ → List ℕ → List ℕ

@@ -1,4 +1,4 @@
--- What the lines say that `collect` reads (document 01, "Cases"). Assumes nothing.
+-- What the lines say that `collect` reads (document 01, "Cases").
 use Prim.Native.Nat.{ℕ, suc, _+_}
 use mathlib.Core.Bool.{true, false, cond, _&&_}
 use mathlib.Core.List.{List, [], _∷_}
@@ -8,7 +8,7 @@ use Rattle.bytes.specs.Bytes.{indexOf}
 use Rattle.lists.specs.Lists.{equal, padded}
 use Rattle.line_input.specs.Ascii.{newline, space, digit0}
 use Rattle.line_input.specs.Decimal.{decimalOf, isTime}
-use Rattle.line_input.specs.Hex.{maxBytes, bytesOf, isHex}
+use Rattle.line_input.specs.Hex.{maxBytes, hexBytes, isHex}
 use Rattle.line_input.specs.declared.Setting.{Setting}
 use Rattle.line_input.specs.declared.Line.{Line}
 
@@ -34,11 +34,11 @@ pub data Reading : Type 0 where
   bad : Reading
 
 -- a later line: the time up to the first space, and the bytes after it; any other is BAD
-unfoldable pub readingOf : List ℕ → Reading
-readingOf l =
+unfoldable pub lineReading : List ℕ → Reading
+lineReading l =
     let k = indexOf space l in
     cond (ltb k (length l) && isTime (take k l) && isHex (drop (suc k) l))
-    (reception (decimalOf (take k l)) (bytesOf (drop (suc k) l)))
+    (reception (decimalOf (take k l)) (hexBytes (drop (suc k) l)))
     bad
 
 -- a line this long is BAD, whatever else it has: 20 digits, a space and 128 digits are 149
@@ -54,7 +54,7 @@ pub data Front : Type 0 where
 unfoldable pub frontOf : List ℕ → Front
 frontOf text =
     let n = indexOf newline text in
-    cond (ltb n (length text)) (ended n (readingOf (take n text))) unended
+    cond (ltb n (length text)) (ended n (lineReading (take n text))) unended
 
 -- the same for a line that is known to be BAD
 unfoldable pub badFront : List ℕ → Front

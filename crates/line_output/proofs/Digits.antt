@@ -1,4 +1,4 @@
--- Laws of the digits of a number: writing them from the last one on gives all. Assumes nothing.
+-- Laws of the digits of a number: writing them from the last one on gives all.
 use mathlib.Core.Path.{_≡_, _∙_}
 use mathlib.Core.List.{List, [], _∷_, _++_, append-assoc, append-nil}
 use Prim.Native.Nat.{ℕ, zero, suc, _+_, _-_, _*_, _/_, _%_, _^_, _<_, _≤_}

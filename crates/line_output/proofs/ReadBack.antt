@@ -1,4 +1,4 @@
--- What is printed reads back: a number as a time, bytes as bytes, and both as the line of a reception. Assumes nothing.
+-- What is printed reads back: a number as a time, bytes as bytes, and both as the line of a reception.
 use mathlib.Core.Path.{_≡_, refl, sym, ap, ap₂, _∙_}
 use mathlib.Core.Bool.{Bool, true, false, cond, not, _&&_, and-false, false≢true}
 use mathlib.Core.List.{List, [], _∷_, _++_}
@@ -14,7 +14,7 @@ use Rattle.lists.proofs.Choice.{both, and-left, and-right}
 use Rattle.lists.proofs.Tests.{and-true, by-test, all-last, all-getD}
 use Rattle.lists.proofs.Table.{at}
 use Rattle.line_input.specs.Decimal.{isDigit, decimalOf, hasLeadingZero, isNumber, isTime}
-use Rattle.line_input.specs.Hex.{nibbleOf, isHexDigit, isHex, bytesOf}
+use Rattle.line_input.specs.Hex.{nibbleOf, isHexDigit, isHex, hexBytes}
 use Rattle.line_input.specs.Reading.{reception}
 use Rattle.line_input.proofs.Digits.{leading-zero}
 use Rattle.line_input.proofs.Long.{first-value, long-time}
@@ -159,8 +159,8 @@ told : (b : Bool) → b ≡ true → T b
 told true e = tt
 told false e = absurd (false≢true e)
 
-bytes-back : (bs : List ℕ) → T (areBytes bs) → bytesOf (hexText bs) ≡ bs
-unfolding bytesOf hexText
+bytes-back : (bs : List ℕ) → T (areBytes bs) → hexBytes (hexText bs) ≡ bs
+unfolding hexBytes hexText
 bytes-back [] t = refl
 bytes-back (b ∷ bs) t =
     let h = ltb→lt b 256 (and-left (ltb b 256) (areBytes bs) t) in

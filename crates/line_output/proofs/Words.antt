@@ -1,4 +1,4 @@
--- Hex digits as they are stored, and the words of an answer. Assumes nothing.
+-- Hex digits as they are stored, and the words of an answer.
 use mathlib.Core.Path.{_≡_, refl}
 use mathlib.Core.List.{List, [], _∷_, _++_}
 use Prim.Native.Nat.{ℕ, suc, _+_, _*_, _/_, _%_, _<_}

@@ -1,4 +1,4 @@
--- What is printed reads back: proofs/ReadBack.antt has the theorems. Assumes nothing.
+-- What is printed reads back: proofs/ReadBack.antt has the theorems.
 use mathlib.Core.Path.{_≡_}
 use mathlib.Core.Bool.{Bool, true}
 use mathlib.Core.List.{List, _∷_, _++_}
@@ -8,8 +8,8 @@ use lib.ListN.{length}
 use Rattle.lists.specs.Lists.{all}
 use Rattle.line_input.specs.Ascii.{space}
 use Rattle.line_input.specs.Decimal.{decimalOf, isTime}
-use Rattle.line_input.specs.Hex.{maxBytes, isHex, bytesOf}
-use Rattle.line_input.specs.Reading.{reception, readingOf}
+use Rattle.line_input.specs.Hex.{maxBytes, isHex, hexBytes}
+use Rattle.line_input.specs.Reading.{reception, lineReading}
 use Rattle.line_output.specs.Text.{decimalText, hexText}
 
 -- a printed number of 64 bits is a time, and says the number
@@ -31,7 +31,7 @@ areBytes bs = all (λ b. ltb b 256) bs
 -- printed bytes, at most 64, are bytes in hexadecimal, and say the bytes
 pub record BytesRead (bs : List ℕ) : Type 0 where
   pub hex : isHex (hexText bs) ≡ true
-  pub value : bytesOf (hexText bs) ≡ bs
+  pub value : hexBytes (hexText bs) ≡ bs
 
 abbrev pub BytesBack : Type 0
 BytesBack = (bs : List ℕ) → areBytes bs ≡ true → length bs ≤ maxBytes → BytesRead bs
@@ -39,4 +39,4 @@ BytesBack = (bs : List ℕ) → areBytes bs ≡ true → length bs ≤ maxBytes 
 -- the line of a time and bytes says the two
 abbrev pub LinesBack : Type 0
 LinesBack = (n : ℕ) (bs : List ℕ) → n < 2 ^ 64 → areBytes bs ≡ true → length bs ≤ maxBytes
-    → readingOf (decimalText n ++ (space ∷ hexText bs)) ≡ reception n bs
+    → lineReading (decimalText n ++ (space ∷ hexText bs)) ≡ reception n bs

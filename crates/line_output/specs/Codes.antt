@@ -1,4 +1,4 @@
--- A text as the ASCII codes of its characters. Assumes nothing.
+-- A text as the ASCII codes of its characters.
 use mathlib.Core.List.{List, [], _∷_}
 use Prim.Native.Nat.{ℕ, zero, suc, _+_}
 use Prim.Native.Char.{code}

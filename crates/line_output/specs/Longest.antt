@@ -1,4 +1,4 @@
--- How long the lines are that `collect` writes. Assumes nothing.
+-- How long the lines are that `collect` writes.
 use Prim.Native.Nat.{ℕ, _+_, _*_}
 
 -- no number of 64 bits is longer

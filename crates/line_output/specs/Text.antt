@@ -1,4 +1,4 @@
--- The lines that `collect` writes (document 01, "Cases"). Assumes nothing.
+-- The lines that `collect` writes (document 01, "Cases").
 use Prim.Native.Nat.{ℕ, zero, suc, _+_, _-_, _/_, _%_}
 use mathlib.Core.Bool.{cond}
 use mathlib.Core.List.{List, [], _∷_, _++_}

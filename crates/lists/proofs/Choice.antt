@@ -1,4 +1,4 @@
--- What a choice by a test says of its test, and what the tests joined by `&&` and `||` say of each. Assumes nothing.
+-- What a choice by a test says of its test, and what the tests joined by `&&` and `||` say of each.
 use mathlib.Core.Path.{_≡_, refl}
 use mathlib.Core.Bool.{Bool, true, false, cond, _&&_, _||_, true≢false, false≢true}
 use lib.Dec.{T}

@@ -1,4 +1,4 @@
--- The test of two lists of numbers says that they are equal. Assumes nothing.
+-- The test of two lists of numbers says that they are equal.
 use mathlib.Core.Path.{_≡_, refl, sym, ap, ap₂, subst, _∙_}
 use mathlib.Core.Bool.{Bool, true, false, _&&_, and-true, and-false, and-assoc}
 use mathlib.Core.List.{List, [], _∷_}

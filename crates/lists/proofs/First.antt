@@ -1,4 +1,4 @@
--- `firstOf`: a walk over a list turn by turn, with the test of all beside it, and that it names the first element that passes. Assumes nothing.
+-- `firstOf`: a walk over a list turn by turn, with the test of all beside it, and that it names the first element that passes.
 use mathlib.Core.Path.{_≡_, refl, sym, ap, _∙_}
 use mathlib.Core.Bool.{Bool, true, false, cond, not, _&&_, _||_, true≢false}
 use mathlib.Core.List.{List, [], _∷_}

@@ -1,4 +1,4 @@
--- `lastIndex`: that it names the last element that passes, and the length where none does. Assumes nothing.
+-- `lastIndex`: that it names the last element that passes, and the length where none does.
 use Prim.Native.Nat.{ℕ, zero, suc, _<_, zero-le, suc-le-suc}
 use native.Mathlib.Nat.{not-suc-le-zero, le-of-suc-le-suc}
 use mathlib.Core.Path.{_≡_, refl, ap}

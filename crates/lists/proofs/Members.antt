@@ -1,4 +1,4 @@
--- Members of a list: what a test of all says of each, that an index in range gives one, and that each has an index. Assumes nothing.
+-- Members of a list: what a test of all says of each, that an index in range gives one, and that each has an index.
 use mathlib.Core.Path.{_≡_, refl, sym, _∙_, ap}
 use mathlib.Core.Bool.{Bool, true}
 use mathlib.Core.List.{List, [], _∷_, List·Memᴰ, List·Memᴰ·head, List·Memᴰ·tail}

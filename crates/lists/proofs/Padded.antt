@@ -1,4 +1,4 @@
--- A list with zeros up to n: as stores into n zeros, and its front. Assumes nothing.
+-- A list with zeros up to n: as stores into n zeros, and its front.
 use mathlib.Core.Path.{_≡_}
 use mathlib.Core.List.{List}
 use Prim.Native.Nat.{ℕ, zero, suc, _-_, _≤_}

@@ -1,4 +1,4 @@
--- `pairwise` of two lists put together and of what `keep` leaves. Assumes nothing.
+-- `pairwise` of two lists put together and of what `keep` leaves.
 use mathlib.Core.Path.{_≡_, refl}
 use mathlib.Core.Bool.{Bool, true, false, cond}
 use mathlib.Core.List.{List, [], _∷_, _++_, List·Memᴰ, List·Memᴰ·head, List·Memᴰ·tail, List·Memᴰ·append-cases}

@@ -1,5 +1,4 @@
 -- What follows by the two outcomes of a test, and what tests over a list say of what is kept of it and of one with an element more at its end.
--- Assumes nothing.
 use Prim.Native.Nat.{ℕ, zero, suc, _+_, _≤_, _<_, zero-le}
 use native.Mathlib.Nat.{not-suc-le-zero, le-of-suc-le-suc}
 use native.Mathlib.Omega.{arith}

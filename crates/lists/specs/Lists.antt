@@ -1,4 +1,4 @@
--- Lists: what the definitions of the other crates say with them, beside what the logic's own library has. Assumes nothing.
+-- Lists: what the definitions of the other crates say with them, beside what the logic's own library has.
 use Prim.Native.Nat.{ℕ, zero, suc, _+_, _-_}
 use mathlib.Core.Bool.{Bool, true, false, cond, _&&_, _||_}
 use mathlib.Core.List.{List, [], _∷_, _++_}

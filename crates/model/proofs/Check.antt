@@ -1,4 +1,4 @@
--- What the check's number tells: a valid subtelegram has at most 21 bytes, and one that is not has 1, 2, 3 or 13. Assumes nothing.
+-- What the check's number tells: a valid subtelegram has at most 21 bytes, and one that is not has 1, 2, 3 or 13.
 use Prim.Native.Nat.{ℕ, _≤_}
 use mathlib.Core.Path.{_≡_, refl, sym}
 use mathlib.Core.Bool.{Bool, true, false, cond, not, _&&_, _||_, false≢true}

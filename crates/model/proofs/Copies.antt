@@ -3,7 +3,6 @@
 --     length-credit, all-credit, pairwise-credit     what a credit leaves as it is
 --     keep-credit, credit-and, keep-other            the telegram that is credited is one of those that are kept, or is not
 --     credit-cap, cap-small                          the ceiling
--- Assumes nothing.
 use Prim.Native.Nat.{ℕ, zero, suc, _+_, _<_}
 use native.Mathlib.Nat.{not-suc-le-zero, le-of-suc-le-suc, suc-inj}
 use native.Mathlib.Omega.{arith}

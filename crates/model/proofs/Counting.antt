@@ -1,5 +1,5 @@
 -- What the numbers of copies say: of each telegram ever opened the number is that of its Copy answers, since each Copy answer is given where an open
--- telegram passes, and the last of these is credited. Assumes nothing.
+-- telegram passes, and the last of these is credited.
 use Prim.Native.Nat.{ℕ, suc, _+_, _-_, _≤_, _<_}
 use native.Mathlib.Nat.{zero-add}
 use native.Mathlib.Decide.{decLt}

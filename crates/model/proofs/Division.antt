@@ -1,5 +1,5 @@
 -- The same receptions are answered alike in any two histories: the replies in what the reference model says of a history are its replies to the
--- receptions alone. Assumes nothing.
+-- receptions alone.
 use Prim.Native.Nat.{ℕ, suc}
 use mathlib.Core.Path.{_≡_, refl, sym, _∙_, ap, ap₂}
 use mathlib.Core.List.{List, [], _∷_, _++_, map, append-nil}

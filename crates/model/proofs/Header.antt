@@ -1,7 +1,6 @@
 -- Headers of a checkpoint's blocks: what is read of one that was written, where its numbers fit.
 --     header-length                                             a header has 24 bytes
 --     header-index, header-used, header-first, header-second    what is read is what was written
--- Assumes nothing.
 use mathlib.Core.Path.{_≡_, refl, ap, _∙_}
 use mathlib.Core.List.{List, [], _∷_, _++_}
 use Prim.Native.Nat.{ℕ, _^_, _<_}

@@ -3,7 +3,6 @@
 --     blocks-long, image-length        a block has 512 bytes, and an image 2,560
 --     parse-image, accepts-image       what a checkpoint writes is read back, and accepted where it is acceptable
 --     exact                            and nothing else is
--- Assumes nothing.
 use Prim.Native.Nat.{ℕ, zero, suc, _+_, _-_, _*_, _/_, _%_, _^_, _≤_, _<_, min}
 use native.Mathlib.Nat.{div-add-mod, sub-zero, zero-add}
 use native.Mathlib.Omega.{arith}

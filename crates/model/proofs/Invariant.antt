@@ -1,5 +1,4 @@
 -- Every view that a collector started fresh comes to is acceptable, with numbers of 64 bits: a step keeps it so.
--- Assumes nothing.
 use Prim.Native.Nat.{ℕ, _+_, _-_, _^_, _≤_, _<_}
 use native.Mathlib.Omega.{arith}
 use mathlib.Core.Path.{_≡_, refl}

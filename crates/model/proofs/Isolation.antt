@@ -3,7 +3,6 @@
 --     kept-of            the telegrams opened by X, with their numbers
 --     same-answer        a reception of X is answered alike
 --     answers-isolated, entries-isolated     the claims
--- Assumes nothing.
 use Prim.Native.Nat.{ℕ, suc, _+_, _≤_, _<_, zero-le, max}
 use native.Mathlib.Omega.{arith}
 use native.Mathlib.Nat.{max-eq-left}

@@ -1,5 +1,5 @@
 -- Of telegrams in order of time the latest decides, and is credited: where an earlier one is no more than 40 ms back, so is it. The reference
--- model's are in order, since one that it answers Kept is not behind. Assumes nothing.
+-- model's are in order, since one that it answers Kept is not behind.
 use Prim.Native.Nat.{ℕ, _+_, _-_, _≤_, max}
 use native.Mathlib.Omega.{arith}
 use mathlib.Core.Path.{_≡_, refl, sym, _∙_, ap}

@@ -1,5 +1,4 @@
 -- What the code's early returns show, by the cases of the definitions: a state that is not acceptable, and the two outcomes of a checkpoint.
--- Assumes nothing.
 use Prim.Native.Nat.{ℕ, _≤_, _<_}
 use mathlib.Core.Path.{_≡_}
 use mathlib.Core.Bool.{true, false}

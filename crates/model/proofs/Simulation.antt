@@ -1,5 +1,4 @@
 -- A step from the reference model's view gives its answer, and its view after one more reception.
--- Assumes nothing.
 use Prim.Native.Nat.{ℕ, _+_, _-_, _^_, _≤_, _<_, max}
 use native.Mathlib.Omega.{arith}
 use native.Mathlib.Nat.{max-eq-left}

@@ -1,5 +1,4 @@
 -- What states show is what their views show, and so what the reference model says; the state that calls leave is the reference model's.
--- Assumes nothing.
 use mathlib.Core.Path.{_≡_, refl, sym, _∙_, ap, ap₂}
 use mathlib.Core.List.{List, [], _∷_, _++_, map}
 use Prim.Native.Nat.{ℕ}

@@ -1,5 +1,5 @@
 -- A history and X's receptions alone, in the states of an implementation: the replies and the entries are the reference model's, in which X is
--- isolated. Assumes nothing.
+-- isolated.
 use Prim.Native.Nat.{ℕ}
 use mathlib.Core.Path.{_≡_, refl, sym, _∙_, ap, ap₂}
 use mathlib.Core.Bool.{Bool, true, false, cond, false≢true}

@@ -1,5 +1,4 @@
 -- The whole history: what a collector shows is what the reference model says, and what the uncut run shows.
--- Assumes nothing.
 use Prim.Native.Nat.{ℕ, _≤_}
 use native.Mathlib.Omega.{arith}
 use mathlib.Core.Path.{_≡_, refl, sym, _∙_, ap, ap₂}

@@ -1,4 +1,4 @@
--- What a state or an image must fulfil (document 01, "Parked collector": "Reload accepts exactly .."). Assumes nothing.
+-- What a state or an image must fulfil (document 01, "Parked collector": "Reload accepts exactly ..").
 use Prim.Native.Nat.{ℕ, _+_, _-_}
 use mathlib.Core.Bool.{Bool, not, _&&_, _||_}
 use lib.Dec.{leb, eqb}

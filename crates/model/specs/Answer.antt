@@ -1,4 +1,4 @@
--- What a caller sees of the answer to a reception (document 01, "Merging" and "Numbers a caller sees"). Assumes nothing.
+-- What a caller sees of the answer to a reception (document 01, "Merging" and "Numbers a caller sees").
 use Prim.Native.Nat.{ℕ}
 use mathlib.Core.Bool.{Bool, true, false, not, _||_}
 use lib.Dec.{eqb}

@@ -1,4 +1,4 @@
--- Receptions handed over in one list with a repeater setting, and a second list for the replies (document 02, A1 and A7). Assumes nothing.
+-- Receptions handed over in one list with a repeater setting, and a second list for the replies (document 02, A1 and A7).
 use mathlib.Core.Bool.{cond, not}
 use mathlib.Core.List.{List, [], _∷_, _++_}
 use Prim.Native.Nat.{ℕ}

@@ -1,4 +1,4 @@
--- What the numbers of copies say (document 02, A8). Assumes nothing.
+-- What the numbers of copies say (document 02, A8).
 use Prim.Native.Nat.{ℕ, _+_, _-_, _<_}
 use mathlib.Core.Path.{_≡_}
 use mathlib.Core.Bool.{true, _&&_}

@@ -1,5 +1,5 @@
 -- "Demand 3 then reads over bursts cut at any record" (document 02, A1): the same receptions in the same order, at the same settings, are answered
--- alike, however they are divided into calls and whatever stands between these. Assumes nothing.
+-- alike, however they are divided into calls and whatever stands between these.
 use Prim.Native.Nat.{ℕ}
 use mathlib.Core.Path.{_≡_}
 use mathlib.Core.List.{List, [], _∷_, _++_, map}

@@ -1,5 +1,5 @@
 -- "Reload accepts exactly ..": what a checkpoint writes, or wrote when the setting stood in it, and nothing else (document 01, "Parked collector";
--- document 02, A7). Assumes nothing.
+-- document 02, A7).
 use Prim.Native.Nat.{ℕ, _*_, _^_, _≤_, _<_}
 use mathlib.Core.Path.{_≡_}
 use mathlib.Core.Bool.{Bool, true, false, _&&_}

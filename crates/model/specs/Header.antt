@@ -1,4 +1,4 @@
--- The first 24 bytes of a checkpoint's block (document 01, "Parked collector"). Assumes nothing.
+-- The first 24 bytes of a checkpoint's block (document 01, "Parked collector").
 use mathlib.Core.List.{List, [], _∷_, _++_}
 use Prim.Native.Nat.{ℕ}
 use lib.ListN.{getD, replicate}

@@ -1,4 +1,4 @@
--- How often a telegram was heard (document 02, A8): the number of copies of an open telegram, asked for by its index. Assumes nothing.
+-- How often a telegram was heard (document 02, A8): the number of copies of an open telegram, asked for by its index.
 use Prim.Native.Nat.{ℕ}
 use mathlib.Core.Bool.{cond, not}
 use mathlib.Core.List.{List, map}

@@ -1,5 +1,5 @@
 -- Histories (document 01, "One history, and the clerk who writes it down"): what a collector shows through a whole list of calls is what
--- the reference model says, and what the uncut run shows. Assumes nothing.
+-- the reference model says, and what the uncut run shows.
 use Prim.Native.Nat.{ℕ, _≤_, _<_, _^_}
 use mathlib.Core.Path.{_≡_}
 use mathlib.Core.Bool.{false, cond, _&&_}

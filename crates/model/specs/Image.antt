@@ -1,4 +1,4 @@
--- The parked collector (document 01): its image, the checkpoint that writes it and the restore that reads it. Assumes nothing.
+-- The parked collector (document 01): its image, the checkpoint that writes it and the restore that reads it.
 use Prim.Native.Nat.{ℕ, _+_, _*_, _/_, _%_}
 use mathlib.Core.Bool.{Bool, cond, not, _&&_}
 use mathlib.Core.List.{List, [], _∷_, _++_, map, flatten}

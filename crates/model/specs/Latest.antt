@@ -1,6 +1,6 @@
 -- Document 02, A6, in its own words: "a valid level 0 reception more than 40 ms after the opening of the latest open same telegram is not a
 -- COPY of it", and "Every COPY, at level 0 too, belongs to the latest opening". `isCopyOf` asks each open telegram, and `credit` the last of which
--- it is a copy; in the order in which they are opened they agree with the latest same one. Assumes nothing.
+-- it is a copy; in the order in which they are opened they agree with the latest same one.
 use mathlib.Core.Path.{_≡_}
 use Prim.Native.Nat.{ℕ}
 use mathlib.Core.Bool.{true, false}

@@ -1,6 +1,5 @@
 -- The reference model, document 01's clerk ("One history, and the clerk who writes it down"): it is fed the
 -- receptions in order, and nothing else, and keeps them all, each with the answer that it gave. Receptions and log are newest first.
--- Assumes nothing.
 use Prim.Native.Nat.{ℕ, _+_, max}
 use mathlib.Core.Bool.{Bool, cond, not, _&&_}
 use mathlib.Core.List.{List, [], _∷_, _++_, map}

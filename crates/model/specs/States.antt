@@ -1,5 +1,4 @@
 -- The same of an implementation: of its states and answers nothing is known but what its contracts say, which speak of a state's view.
--- Assumes nothing.
 use Prim.Native.Nat.{ℕ}
 use mathlib.Core.Path.{_≡_}
 use mathlib.Core.List.{List, [], _∷_}

@@ -1,6 +1,5 @@
 -- One reception (document 01, "Merging"): the answer, the next state with its counts of copies (document 02, A8), and the telegram to send (A7: a
 -- call of its own).
--- Assumes nothing.
 use Prim.Native.Nat.{ℕ, _+_, _-_, _^_}
 use mathlib.Core.Bool.{Bool, cond, not}
 use mathlib.Core.List.{List, [], _∷_, _++_}

@@ -1,4 +1,4 @@
--- What a state of the collector says (document 01, "Merging"). Assumes nothing.
+-- What a state of the collector says (document 01, "Merging").
 use Prim.Native.Nat.{ℕ, _-_, min}
 use mathlib.Core.Bool.{Bool}
 use mathlib.Core.List.{List, []}

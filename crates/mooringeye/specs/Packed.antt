@@ -1,4 +1,4 @@
--- Answers as one number. Assumes nothing.
+-- Answers as one number.
 use Prim.Native.Nat.{ℕ, _+_, _*_}
 use Rattle.slots.specs.declared.SlotPlan.{SlotPlan}
 use Rattle.slots.specs.Plan.{Answer}

@@ -98,7 +98,7 @@ pub extern "C" fn mooringeye_report_end(
     position: &mut usize,
 ) -> u8
     ensures { λ r. ⌜ model.answer r (now (position .exit)) (reportAt (now (numbers .exit)) (now (lines .exit)))
-        ≡ pieces.endOf (addingAt (now (numbers .entry)) (now (lines .entry)) (now (adding .entry)) (now (tally .entry))) ⌝ }
+        ≡ pieces.endedOf (addingAt (now (numbers .entry)) (now (lines .entry)) (now (adding .entry)) (now (tally .entry))) ⌝ }
 {
     adding::end(numbers, lines, adding, tally, position)
 }

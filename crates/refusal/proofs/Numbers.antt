@@ -1,4 +1,4 @@
--- No refusal has the number 0. Assumes nothing.
+-- No refusal has the number 0.
 use mathlib.Core.Path.{_≡_}
 use Prim.Native.Nat.{_<_}
 use native.Mathlib.Omega.{arith}

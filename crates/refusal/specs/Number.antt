@@ -1,4 +1,4 @@
--- The number of each refusal: the table of document 01, "Numbers a caller sees", and the numbers that document 02 adds. Assumes nothing.
+-- The number of each refusal: the table of document 01, "Numbers a caller sees", and the numbers that document 02 adds.
 use Prim.Native.Nat.{ℕ}
 use Rattle.refusal.specs.declared.Refusal.{Refusal}
 use Rattle.refusal.specs.declared.Refusal.the-variants.{Length, Sum, Nested, NotAddressed, TooLong, ShortOutput, Late, Full, NoPlan, Argument, NotAccepted, Mismatch, Crc, ReservedAddress, Misfit, Size, Transmitters, Unlawful, Overlap}

@@ -2,7 +2,6 @@
 --     used-bounds, identity-shown           a valid row has 8 to 21 bytes; the four before its STATUS and HASH
 --     copied                                what a copy of the same length leaves
 --     row-at, kept-first, kept-turn, kept-end     the loop over the cells of a block: a cell's row; its start, a turn, its end
--- Assumes nothing.
 use Prim.Native.Nat.{ℕ, zero, suc, _+_, _-_, _*_, _≤_, _<_}
 use native.Mathlib.Nat.{zero-add}
 use native.Mathlib.Numerals.{add-one}

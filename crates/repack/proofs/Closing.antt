@@ -3,7 +3,6 @@
 --     counted                         how many cells were packed
 --     closed-archive                  a packing that is closed is the archive of the rows that stay
 --     salvaged-rows, salvaged-few, salvage-done, salvage-size, salvage-short, salvage-list     the answers of salvage
--- Assumes nothing.
 use Prim.Native.Nat.{ℕ, _+_, _-_, _*_, _/_, _%_, _≤_, _<_}
 use native.Mathlib.Nat.{zero-add}
 use native.Mathlib.Decide.{decLt}

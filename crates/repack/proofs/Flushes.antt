@@ -1,6 +1,5 @@
 -- A block put of the first 15 of some cells, where there are so many.
 --     flush-few, flush-full       what waits and what is put, of fewer than 15 cells and of 15 to 29
--- Assumes nothing.
 use Prim.Native.Nat.{ℕ, zero, suc, _+_, _-_, _*_, _/_, _%_, _≤_, _<_}
 use native.Mathlib.Nat.{zero-add, suc-add}
 use native.Mathlib.Omega.{arith}

@@ -2,7 +2,6 @@
 --     packing-other, packing-many, packing-far      the test of a packer
 --     pack-no, pack-odd, pack-far, pack-identities, pack-short, pack-list, pack-done     the answers to a piece
 --     finish-no, finish-none, finish-short, finish-last     the answers at the end
--- Assumes nothing.
 use Prim.Native.Nat.{ℕ, _+_, _*_, _/_, _%_, _≤_, _<_}
 use native.Mathlib.Omega.{arith}
 use mathlib.Core.Path.{_≡_, refl, sym, ap, ap₂, _∙_}

@@ -2,7 +2,6 @@
 --     removed-rows, removed-few       how many rows stay
 --     remove-done                     an archive that was packed anew and closed
 --     remove-many, remove-not         more than 32 identities; a buffer that is no archive
--- Assumes nothing.
 use Prim.Native.Nat.{ℕ, _+_, _-_, _*_, _/_, _≤_, _<_}
 use native.Mathlib.Omega.{arith}
 use mathlib.Core.Path.{_≡_, refl, sym, ap, ap₂, _∙_}

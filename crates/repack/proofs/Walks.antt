@@ -2,7 +2,6 @@
 --     kept-block                              the cells that stay of one block
 --     Walking, walk-start, walk-turn, walk-end     what is written and what waits: what is left brings it to the whole
 --     Listing, list-start, list-turn, list-end     the positions of the dropped blocks so far
--- Assumes nothing.
 use Prim.Native.Nat.{ℕ, zero, suc, _+_, _-_, _*_, _/_, _%_, _≤_, _<_}
 use native.Mathlib.Nat.{zero-add, add-zero}
 use native.Mathlib.Numerals.{add-one}

@@ -2,7 +2,6 @@
 --     in-use-few, in-use-block, in-use-count      the blocks in use: they lie in the buffer, and each is sound
 --     in-use-cells                                what stays of their rows is what stays of the archive's
 --     removed-rows, removed-few, remove-done, remove-many, remove-damaged, remove-refused     the answers of removal
--- Assumes nothing.
 use Prim.Native.Nat.{ℕ, _+_, _-_, _*_, _/_, _^_, _≤_, _<_}
 use native.Mathlib.Nat.{zero-add}
 use native.Mathlib.Omega.{arith}

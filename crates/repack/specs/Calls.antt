@@ -1,4 +1,4 @@
--- What the calls of salvage and removal show (document 02, A9 and A11). Assumes nothing.
+-- What the calls of salvage and removal show (document 02, A9 and A11).
 use Prim.Native.Nat.{ℕ, _+_, _-_, _*_, _/_, _%_, _≤_, _<_}
 use mathlib.Core.Path.{_≡_}
 use mathlib.Core.Bool.{Bool, true, cond, not}

@@ -3,7 +3,6 @@
 --     cells-block-length, few-blocks, one-block, push-none      a block's length; few cells: they wait, or fill one block
 --     block-cells, archive-cells      a block and an archive by their cells
 --     pieces-packed                   the claim
--- Assumes nothing.
 use Prim.Native.Nat.{ℕ, zero, suc, _+_, _-_, _*_, _/_, _%_, _≤_, _<_}
 use native.Mathlib.Nat.{zero-add, add-zero, add-suc, suc-add, add-assoc}
 use native.Mathlib.Decide.{decLt}

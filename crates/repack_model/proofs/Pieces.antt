@@ -1,7 +1,6 @@
 -- What stays of a buffer's rows, block by block and piece by piece.
 --     keptIn, kept-next, kept-none    the cells that stay of some blocks; of one block more, and of none
 --     pieces-packed                   pieces are the whole
--- Assumes nothing.
 use Prim.Native.Nat.{ℕ, zero, suc, _+_, _-_, _*_, _/_, _%_, _≤_, _<_}
 use native.Mathlib.Nat.{zero-add, add-zero}
 use native.Mathlib.Omega.{arith}

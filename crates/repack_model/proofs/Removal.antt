@@ -1,7 +1,6 @@
 -- The claims on removal.
 --     Gone, gone          what the number 0 says
 --     remains, removed-again, freed, then-append, both-lists     the claims
--- Assumes nothing.
 use Prim.Native.Nat.{ℕ, zero, suc, _+_, _-_, _*_, _/_, _≤_, _<_}
 use native.Mathlib.Nat.{zero-add}
 use native.Mathlib.Omega.{arith}

@@ -3,7 +3,6 @@
 --     sound-rows-fit, sound-rows-few  the rows of its sound blocks fit, and are at most 15 a block
 --     accounted                       every block is kept, dropped or all zero
 --     intact-rows, intact-dropped     in an archive every row is in a sound block, and no block is dropped
--- Assumes nothing.
 use Prim.Native.Nat.{ℕ, zero, suc, _+_, _*_, _/_, _≤_, _<_}
 use native.Mathlib.Nat.{zero-add}
 use native.Mathlib.Omega.{arith}

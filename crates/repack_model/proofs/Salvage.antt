@@ -1,7 +1,6 @@
 -- The claims on salvage.
 --     Done, done              what the number 0 says
 --     kept, intact, salvaged-again, untouched     the claims; `accounted` stands in Rows
--- Assumes nothing.
 use Prim.Native.Nat.{ℕ, _+_, _-_, _*_, _/_, _%_, _≤_, _<_}
 use native.Mathlib.Omega.{arith}
 use mathlib.Core.Path.{_≡_, refl, sym, ap, ap₂, _∙_}

@@ -1,4 +1,4 @@
--- What is proved of salvage and of removal (document 02, A9 and A11). Assumes nothing.
+-- What is proved of salvage and of removal (document 02, A9 and A11).
 use Prim.Native.Nat.{ℕ, _+_, _*_, _/_, _%_, _≤_, _<_}
 use mathlib.Core.Path.{_≡_}
 use mathlib.Core.Bool.{true}

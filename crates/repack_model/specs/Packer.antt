@@ -1,5 +1,5 @@
 -- The packer of salvage and removal: rows that stay are packed "so that only the last block is short" and renumbered from 0, the whole at once
--- or in pieces (document 02, A9 and A11). Assumes nothing.
+-- or in pieces (document 02, A9 and A11).
 use Prim.Native.Nat.{ℕ, _+_, _*_, _/_, _%_}
 use mathlib.Core.Bool.{Bool, cond, not, _&&_, _||_}
 use mathlib.Core.List.{List, [], _∷_, _++_, map, flatten}

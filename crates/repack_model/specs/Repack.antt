@@ -1,4 +1,4 @@
--- Salvage (document 02, A9) and the removal of identities (A11). Assumes nothing.
+-- Salvage (document 02, A9) and the removal of identities (A11).
 use Prim.Native.Nat.{ℕ, _-_, _/_}
 use mathlib.Core.Bool.{Bool, cond, not, _||_}
 use mathlib.Core.List.{List, _++_, map, flatten}

@@ -2,7 +2,6 @@
 --     Filled, filled-start, filled-next, filled-end      records read one after the other into the first
 --     receptions-are, places-are                         what both lists hold
 --     cells, cells-length, cell-at                       the places of the second, as they are written
--- Assumes nothing.
 use Prim.Native.Nat.{ℕ, zero, suc, _+_, _-_, _*_, _/_, _≤_, _<_, min}
 use native.Mathlib.Nat.{zero-add}
 use native.Mathlib.Numerals.{add-one}

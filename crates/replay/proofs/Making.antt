@@ -2,7 +2,6 @@
 --     answered, loaded, delivered, heard, seen      receptions, restores, bursts, asks, looks
 --     saved-output, saved                     a checkpoint, whose output is written before its head
 --     image-lent, cut-made                    a cut: the image in the first cell, and the second cell
--- Assumes nothing.
 use Prim.Native.Nat.{ℕ, _+_, _-_, _≤_, _<_, min}
 use native.Mathlib.Omega.{arith}
 use mathlib.Core.Path.{_≡_, refl, sym, ap, _∙_}
@@ -22,7 +21,7 @@ use Rattle.model.specs.Burst.{Replied, BurstResult, burstOf}
 use Rattle.model.specs.Heard.{HeardResult, copiesOf}
 use Rattle.model.specs.History.{Call, Receive, Checkpoint, Restore, Cut, Burst, Ask, Look, Answered, Wrote, Restored, Delivered, Heard, Looked, run}
 use Rattle.replay_model.specs.Operation.{saving}
-use Rattle.replay_model.specs.Record.{headOf, bytesOf, recordOf}
+use Rattle.replay_model.specs.Record.{headOf, seenBytes, recordOf}
 use Rattle.replay_model.proofs.Parts.{record-one, record-two}
 use Rattle.replay_model.proofs.Lengths.{head-length, checkpoint-length}
 use Rattle.replay.specs.Calls.{numberAt, maxOutput, outputIn}
@@ -30,28 +29,28 @@ use Rattle.replay.specs.Replay.{wroteOf}
 
 module _ (v : View) where
   pub answered : (setting : ℕ) (r : Reception) (o : Outcome) (sent : Frame) → o ≡ step v r → sent ≡ sentFor setting (o .answer) r
-      → bytesOf (Answered (o .answer) sent (o .next .totals)) ≡ recordOf (run v (Receive setting r ∷ []))
+      → seenBytes (Answered (o .answer) sent (o .next .totals)) ≡ recordOf (run v (Receive setting r ∷ []))
   answered setting r o sent e f =
-      ap (λ (s : Frame). bytesOf (Answered (o .answer) s (o .next .totals))) f
-      ∙ ap (λ (p : Outcome). bytesOf (Answered (p .answer) (sentFor setting (p .answer) r) (p .next .totals))) e ∙ record-one _
+      ap (λ (s : Frame). seenBytes (Answered (o .answer) s (o .next .totals))) f
+      ∙ ap (λ (p : Outcome). seenBytes (Answered (p .answer) (sentFor setting (p .answer) r) (p .next .totals))) e ∙ record-one _
 
   pub loaded : (image : List ℕ) (q : RestoreResult) → q ≡ restoreOf v image
-      → bytesOf (Restored (q .number) (q .next .totals)) ≡ recordOf (run v (Restore image ∷ []))
-  loaded image q e = ap (λ (p : RestoreResult). bytesOf (Restored (p .number) (p .next .totals))) e ∙ record-one _
+      → seenBytes (Restored (q .number) (q .next .totals)) ≡ recordOf (run v (Restore image ∷ []))
+  loaded image q e = ap (λ (p : RestoreResult). seenBytes (Restored (p .number) (p .next .totals))) e ∙ record-one _
 
   pub delivered : (setting : ℕ) (rs : List Reception) (places : List Replied) (b : BurstResult) → b ≡ burstOf setting v rs places
-      → bytesOf (Delivered (b .number) (b .replies) (b .next .totals)) ≡ recordOf (run v (Burst setting rs places ∷ []))
-  delivered setting rs places b e = ap (λ (p : BurstResult). bytesOf (Delivered (p .number) (p .replies) (p .next .totals))) e ∙ record-one _
+      → seenBytes (Delivered (b .number) (b .replies) (b .next .totals)) ≡ recordOf (run v (Burst setting rs places ∷ []))
+  delivered setting rs places b e = ap (λ (p : BurstResult). seenBytes (Delivered (p .number) (p .replies) (p .next .totals))) e ∙ record-one _
 
-  pub heard : (k : ℕ) (a : HeardResult) → a ≡ copiesOf v k → bytesOf (Heard (a .number) (a .copies) (v .totals)) ≡ recordOf (run v (Ask k ∷ []))
-  heard k a e = ap (λ (p : HeardResult). bytesOf (Heard (p .number) (p .copies) (v .totals))) e ∙ record-one _
+  pub heard : (k : ℕ) (a : HeardResult) → a ≡ copiesOf v k → seenBytes (Heard (a .number) (a .copies) (v .totals)) ≡ recordOf (run v (Ask k ∷ []))
+  heard k a e = ap (λ (p : HeardResult). seenBytes (Heard (p .number) (p .copies) (v .totals))) e ∙ record-one _
 
-  pub seen : bytesOf (Looked (v .totals)) ≡ recordOf (run v (Look ∷ []))
+  pub seen : seenBytes (Looked (v .totals)) ≡ recordOf (run v (Look ∷ []))
   seen = record-one _
 
   -- ---- a checkpoint
 
-  pub saved : (output : List ℕ) → bytesOf (wroteOf v output) ≡ recordOf (run v (Checkpoint output ∷ []))
+  pub saved : (output : List ℕ) → seenBytes (wroteOf v output) ≡ recordOf (run v (Checkpoint output ∷ []))
   saved output = record-one _
 
 -- the output that a record says is as long as what stands behind the head of its cell
@@ -82,23 +81,23 @@ module _ (v : View) (entry ys : List ℕ) (fill number : ℕ) (room : 58 ≤ len
   pub saved-output : record { number = number; output = ys } ≡ checkpointOf v (replicate (length (part 58 (58 + rest - 58) entry)) fill)
       → length ys ≡ length (part 58 (58 + rest - 58) entry) → (exit : List ℕ)
       → Begun lent-output (headOf saving number (v .totals) ++ be 8 rest) 58 exit
-      → exit ≡ bytesOf (wroteOf v (replicate rest fill))
-  unfolding bytesOf
+      → exit ≡ seenBytes (wroteOf v (replicate rest fill))
+  unfolding seenBytes
   saved-output e q exit b =
       let l : length (part 58 (58 + rest - 58) entry) ≡ rest = part-length 58 (58 + rest - 58) entry (omega arith) ∙ omega arith in
       let f : record { number = number; output = ys } ≡ checkpointOf v (replicate rest fill) = rw l at e in
       let k : rest ≡ length ys = sym (q ∙ l) in
       b .is ∙ ap (λ (x : List ℕ). headOf saving number (v .totals) ++ be 8 rest ++ x) past-head
       ∙ ap (λ (n : ℕ). headOf saving number (v .totals) ++ be 8 n ++ ys) k
-      ∙ ap (λ (p : CheckpointResult). bytesOf (Wrote (p .number) (p .output) (v .totals))) f
+      ∙ ap (λ (p : CheckpointResult). seenBytes (Wrote (p .number) (p .output) (v .totals))) f
 
 -- ---- a cut
 
 module _ (v : View) (output : List ℕ) where
   -- the image in the first cell, as the code lends it
-  pub image-lent : (rest xs : List ℕ) (m : ℕ) → xs ≡ bytesOf (wroteOf v output) ++ rest → m ≡ min imageLength (length output)
+  pub image-lent : (rest xs : List ℕ) (m : ℕ) → xs ≡ seenBytes (wroteOf v output) ++ rest → m ≡ min imageLength (length output)
       → part 58 (58 + m - 58) xs ≡ take imageLength (checkpointOf v output .output)
-  unfolding bytesOf
+  unfolding seenBytes
   image-lent rest xs m w e =
       let p = checkpointOf v output .output in
       let front = headOf saving (checkpointOf v output .number) (v .totals) ++ be 8 (length p) in
@@ -109,6 +108,6 @@ module _ (v : View) (output : List ℕ) where
       (take-append-le (min imageLength (length p)) p rest (omega arith) ∙ take-clamped imageLength p)
 
   pub cut-made : (q : RestoreResult) → q ≡ restoreOf fresh (take imageLength (checkpointOf v output .output))
-      → bytesOf (wroteOf v output) ++ bytesOf (Restored (q .number) (q .next .totals)) ≡ recordOf (run v (Cut output ∷ []))
+      → seenBytes (wroteOf v output) ++ seenBytes (Restored (q .number) (q .next .totals)) ≡ recordOf (run v (Cut output ∷ []))
   cut-made q e =
-      ap (λ (p : RestoreResult). bytesOf (wroteOf v output) ++ bytesOf (Restored (p .number) (p .next .totals))) e ∙ record-two _ _
+      ap (λ (p : RestoreResult). seenBytes (wroteOf v output) ++ seenBytes (Restored (p .number) (p .next .totals))) e ∙ record-two _ _

@@ -5,7 +5,6 @@
 --     lent-record, record-length       record i
 --     calls-more, calls-all            the calls of all records, one more at a time
 --     sizes-more, sizes-lent           and how long their record is
--- Assumes nothing.
 use Prim.Native.Nat.{ℕ, _+_, _-_, _*_, _/_, _≤_, _<_, min}
 use native.Mathlib.Nat.{zero-add}
 use native.Mathlib.Numerals.{add-one}

@@ -3,7 +3,6 @@
 --     enough                      there is room for a call more
 --     ran, refused                all of them, and none of them
 --     replays                     from a fresh collector: by the whole-history theorem
--- Assumes nothing.
 use Prim.Native.Nat.{ℕ, _+_, _-_, _*_, _/_, _≤_, _<_}
 use native.Mathlib.Omega.{arith}
 use mathlib.Core.Path.{_≡_, refl, sym, ap, _∙_}

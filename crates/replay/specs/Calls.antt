@@ -1,5 +1,5 @@
 -- The calls that lent bytes say: records of 64 bytes, and beside them the bytes of images and the receptions of bursts. Byte 0 is the operation; a
--- number has eight bytes. Assumes nothing.
+-- number has eight bytes.
 use Prim.Native.Nat.{ℕ, _*_, _/_, min}
 use mathlib.Core.Bool.{cond}
 use mathlib.Core.List.{List, map}

@@ -1,5 +1,5 @@
 -- What a replay of calls ensures: the record that it writes is that of what a collector shows, and so the reference model's (document 01, "One
--- history, and the clerk who writes it down"). Assumes nothing.
+-- history, and the clerk who writes it down").
 use Prim.Native.Nat.{ℕ}
 use mathlib.Core.Path.{_≡_}
 use mathlib.Core.List.{List, [], _∷_}

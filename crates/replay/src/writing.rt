@@ -20,7 +20,7 @@ ghost use Rattle.collector.specs.Collector.{viewOf};
 ghost use Rattle.collector.specs.Heard.{askedNumber};
 ghost use Rattle.image.specs.Checkpoint.{savedNumber, loadedNumber, checkpointResult};
 ghost use Rattle.burst.specs.Records.{repliedOf, handedNumber, listed};
-ghost use Rattle.replay_model.specs.Record.{headLength, countLength, replyLength, headOf, formOf, replyOf, bytesOf};
+ghost use Rattle.replay_model.specs.Record.{headLength, countLength, replyLength, headOf, formOf, replyOf, seenBytes};
 ghost use Rattle.replay.specs.Replay.{wroteOf};
 
 // The operation, the number and the totals; with a length behind them; a reply; all of an answer.
@@ -34,7 +34,7 @@ pub(crate) const ANSWERED: usize = HEAD + REPLY;
 
 pub(crate) fn put_answered(out: &mut [u8], answer: Answer, sent: Frame, totals: Totals)
     requires { ⌜ length (now out) ≡ headLength + replyLength ⌝ }
-    ensures { λ _. ⌜ now (out .exit) ≡ bytesOf (Answered (shownOf answer) sent totals) ⌝ }
+    ensures { λ _. ⌜ now (out .exit) ≡ seenBytes (Answered (shownOf answer) sent totals) ⌝ }
 {
     let number = number_of(answer);
     put_head(&mut out[0..HEAD], crate::RECEIVING, number, totals);
@@ -44,7 +44,7 @@ pub(crate) fn put_answered(out: &mut [u8], answer: Answer, sent: Frame, totals: 
 // A checkpoint into all that stands behind the length, each byte of which is `fill` before.
 pub(crate) fn put_wrote(out: &mut [u8], c: Collector, fill: u8)
     requires { ⌜ headLength + countLength ≤ length (now out) ⌝ }
-    ensures { λ _. ⌜ now (out .exit) ≡ bytesOf (wroteOf (viewOf c) (replicate (length (now (out .entry)) - (headLength + countLength)) fill)) ⌝ }
+    ensures { λ _. ⌜ now (out .exit) ≡ seenBytes (wroteOf (viewOf c) (replicate (length (now (out .entry)) - (headLength + countLength)) fill)) ⌝ }
 {
     let n = out.len() - BODY;
     let answer = save_into(&mut out[BODY..BODY + n], c, fill);
@@ -70,7 +70,7 @@ fn set_all(out: &mut [u8], fill: u8)
 
 pub(crate) fn put_restored(out: &mut [u8], answer: Loaded, totals: Totals)
     requires { ⌜ length (now out) ≡ headLength ⌝ }
-    ensures { λ _. ⌜ now (out .exit) ≡ bytesOf (Restored (loadedNumber answer) totals) ⌝ }
+    ensures { λ _. ⌜ now (out .exit) ≡ seenBytes (Restored (loadedNumber answer) totals) ⌝ }
 {
     let number = loaded_number(answer);
     put_head(out, crate::RESTORING, number, totals);
@@ -85,7 +85,7 @@ pub(crate) fn put_delivered(
     totals: Totals,
 )
     requires { ⌜ (m ≤ listed) × (length (now out) ≡ headLength + countLength + replyLength * m) ⌝ }
-    ensures { λ _. ⌜ now (out .exit) ≡ bytesOf (Delivered (handedNumber answer) (map repliedOf (take m replies)) totals) ⌝ }
+    ensures { λ _. ⌜ now (out .exit) ≡ seenBytes (Delivered (handedNumber answer) (map repliedOf (take m replies)) totals) ⌝ }
 {
     let number = handed_number(answer);
     put_head(&mut out[0..HEAD], crate::DELIVERING, number, totals);
@@ -107,7 +107,7 @@ fn put_replies(out: &mut [u8], replies: [Reply; LISTED], m: usize)
 
 pub(crate) fn put_heard(out: &mut [u8], answer: Asked, copies: u16, totals: Totals)
     requires { ⌜ length (now out) ≡ headLength + countLength ⌝ }
-    ensures { λ _. ⌜ now (out .exit) ≡ bytesOf (Heard (askedNumber answer) copies totals) ⌝ }
+    ensures { λ _. ⌜ now (out .exit) ≡ seenBytes (Heard (askedNumber answer) copies totals) ⌝ }
 {
     let number = asked_number(answer);
     put_head(&mut out[0..HEAD], crate::ASKING, number, totals);

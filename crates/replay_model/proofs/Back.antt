@@ -3,7 +3,6 @@
 --     reply-back, replies-back       replies, in front of anything
 --     seen-back                      a cell
 --     reads-back                     so records of things that differ differ
--- Assumes nothing.
 use Prim.Native.Nat.{ℕ, zero, suc, _+_, _^_, _<_}
 use native.Mathlib.Omega.{arith}
 use mathlib.Core.Path.{_≡_, refl, sym, ap, ap₂, _∙_}
@@ -24,7 +23,7 @@ use Rattle.model.specs.Answer.{Shown, Kept, Copy, Loose, Refused, shownNumber}
 use Rattle.model.specs.Burst.{Replied}
 use Rattle.model.specs.History.{Seen, Answered, Wrote, Restored, Delivered, Heard, Looked}
 use Rattle.replay_model.specs.Operation.{looking, receiving, saving, restoring, delivering, asking}
-use Rattle.replay_model.specs.Record.{headOf, formOf, replyOf, bytesOf, recordOf}
+use Rattle.replay_model.specs.Record.{headOf, formOf, replyOf, seenBytes, recordOf}
 use Rattle.replay_model.specs.Claims.{WholeTotals, WholeFrame, WholeReplies, Whole, AllWhole, ReadsBack}
 use Rattle.replay_model.proofs.Lengths.{head-length, reply-length}
 use Rattle.replay_model.proofs.Sizes.{seen-length}
@@ -187,8 +186,8 @@ module _ (m : ℕ) (y : List ℕ) where
   count-past : drop 8 (be 8 m ++ y) ≡ y
   count-past = drop-at (be 8 m) y 8 (be-length 8 m)
 
-seen-back : (s : Seen) (x : List ℕ) → Whole s → seenIn (bytesOf s ++ x) ≡ record { seen = s; rest = x }
-unfolding bytesOf bodyIn
+seen-back : (s : Seen) (x : List ℕ) → Whole s → seenIn (seenBytes s ++ x) ≡ record { seen = s; rest = x }
+unfolding seenBytes bodyIn
 seen-back (Answered a sent n) x w =
     let r : Replied = record { answer = a; sent = sent } in
     rw (
@@ -232,7 +231,7 @@ seen-back (Looked n) x w = head-back looking 0 n x w
 
 -- ---- records
 
-some : (s : Seen) → 0 < length (bytesOf s)
+some : (s : Seen) → 0 < length (seenBytes s)
 some (Answered a sent n) = rw seen-length (omega arith)
 some (Wrote number output n) = rw seen-length (omega arith)
 some (Restored number n) = rw seen-length (omega arith)

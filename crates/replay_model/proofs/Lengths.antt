@@ -1,5 +1,4 @@
 -- How long the parts of a record are, and what calls show: a checkpoint leaves an output its length, and a burst a list its places.
--- Assumes nothing.
 use Prim.Native.Nat.{ℕ, zero, suc, _+_, _-_, _*_, _≤_, _<_}
 use native.Mathlib.Nat.{mul-suc, mul-zero}
 use native.Mathlib.Omega.{arith}

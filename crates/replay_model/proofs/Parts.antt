@@ -1,4 +1,4 @@
--- Calls in two parts: what is seen of them, the state after them, and the record. Assumes nothing.
+-- Calls in two parts: what is seen of them, the state after them, and the record.
 use mathlib.Core.Path.{_≡_, refl, sym, ap, ap₂, _∙_}
 use mathlib.Core.List.{List, [], _∷_, _++_, append-assoc, append-nil, map, flatten}
 use lib.ListN.{take}
@@ -7,7 +7,7 @@ use Rattle.model.specs.Step.{step}
 use Rattle.model.specs.Image.{imageLength, checkpointOf, restoreOf}
 use Rattle.model.specs.Burst.{burstOf}
 use Rattle.model.specs.History.{Call, Receive, Checkpoint, Restore, Cut, Burst, Ask, Look, Seen, run}
-use Rattle.replay_model.specs.Record.{bytesOf, recordOf}
+use Rattle.replay_model.specs.Record.{seenBytes, recordOf}
 use Rattle.replay_model.specs.Replay.{after, afterCalls}
 use Rattle.replay_model.specs.Claims.{InParts}
 
@@ -29,17 +29,17 @@ after-append v (k ∷ h) g = after-append (after v k) h g
 pub record-append : (l m : List Seen) → recordOf (l ++ m) ≡ recordOf l ++ recordOf m
 unfolding recordOf flatten
 record-append [] m = refl
-record-append (s ∷ l) m = rw (record-append l m) (sym (append-assoc (bytesOf s) (recordOf l) (recordOf m)))
+record-append (s ∷ l) m = rw (record-append l m) (sym (append-assoc (seenBytes s) (recordOf l) (recordOf m)))
 
 -- the record of one thing seen
-pub record-one : (s : Seen) → bytesOf s ≡ recordOf (s ∷ [])
+pub record-one : (s : Seen) → seenBytes s ≡ recordOf (s ∷ [])
 unfolding recordOf flatten
-record-one s = sym (append-nil (bytesOf s))
+record-one s = sym (append-nil (seenBytes s))
 
 -- and of two
-pub record-two : (s t : Seen) → bytesOf s ++ bytesOf t ≡ recordOf (s ∷ t ∷ [])
+pub record-two : (s t : Seen) → seenBytes s ++ seenBytes t ≡ recordOf (s ∷ t ∷ [])
 unfolding recordOf flatten
-record-two s t = ap (λ (l : List _). bytesOf s ++ l) (sym (append-nil (bytesOf t)))
+record-two s t = ap (λ (l : List _). seenBytes s ++ l) (sym (append-nil (seenBytes t)))
 
 pub in-parts : InParts
 in-parts v h g = ap recordOf (run-append v h g) ∙ record-append (run v h) (run (afterCalls v h) g)

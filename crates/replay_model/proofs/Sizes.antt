@@ -1,7 +1,6 @@
 -- How long a record is, told by the calls alone.
 --     sized                       the record of any calls
 --     size-append, size-part      of calls in two parts, and of the first of them
--- Assumes nothing.
 use Prim.Native.Nat.{ℕ, _+_, _*_, _≤_}
 use native.Mathlib.Omega.{arith}
 use mathlib.Core.Path.{_≡_, refl, sym, ap, _∙_}
@@ -14,7 +13,7 @@ use Rattle.model.specs.Image.{imageLength, checkpointOf, restoreOf}
 use Rattle.model.specs.Burst.{burstOf}
 use Rattle.model.specs.History.{Call, Receive, Checkpoint, Restore, Cut, Burst, Ask, Look, run}
 use Rattle.model.specs.History.{Seen, Answered, Wrote, Restored, Delivered, Heard, Looked}
-use Rattle.replay_model.specs.Record.{bytesOf, recordOf}
+use Rattle.replay_model.specs.Record.{seenBytes, recordOf}
 use Rattle.replay_model.specs.Replay.{after, sizeOf, sizeOfAll}
 use Rattle.replay_model.specs.Claims.{Sized}
 use Rattle.replay_model.proofs.Lengths.{head-length, reply-length, replies-length, checkpoint-length, burst-length}
@@ -29,8 +28,8 @@ seenLength (Delivered number replies n) = 58 + 31 * length replies
 seenLength (Heard number copies n) = 58
 seenLength (Looked n) = 50
 
-pub seen-length : (s : Seen) → length (bytesOf s) ≡ seenLength s
-unfolding bytesOf
+pub seen-length : (s : Seen) → length (seenBytes s) ≡ seenLength s
+unfolding seenBytes
 seen-length (Answered a sent n) = simp (length-append, head-length, reply-length)
 seen-length (Wrote number output n) = simp (length-append, head-length, be-length)
 seen-length (Restored number n) = head-length _ _ _

@@ -1,5 +1,4 @@
 -- What the reference model says of a history is never cut: its totals are those of a good view, and what it sends has at most 21 bytes.
--- Assumes nothing.
 use Prim.Native.Nat.{ℕ, zero, suc, _+_, _-_, _^_, _≤_, _<_, min}
 use native.Mathlib.Omega.{arith}
 use mathlib.Core.Path.{_≡_, refl, ap}

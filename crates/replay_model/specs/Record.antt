@@ -1,4 +1,4 @@
--- The bytes of what is seen of calls: a cell for each thing seen (document 01, "Compared are .."). Assumes nothing.
+-- The bytes of what is seen of calls: a cell for each thing seen (document 01, "Compared are ..").
 use Prim.Native.Nat.{ℕ}
 use mathlib.Core.List.{List, [], _∷_, _++_, map, flatten}
 use lib.ListN.{length}
@@ -42,13 +42,13 @@ replyOf r = (formOf (r .answer) ∷ shownNumber (r .answer) ∷ []) ++ be 8 (r .
 -- ---- the cells
 
 -- after the head a reception has its reply, a checkpoint every byte of its output, a burst every place of its second list, and an ask the copies
-unfoldable pub bytesOf : Seen → List ℕ
-bytesOf (Answered a sent n) = headOf receiving (shownNumber a) n ++ replyOf (record { answer = a; sent = sent })
-bytesOf (Wrote number output n) = headOf saving number n ++ be 8 (length output) ++ output
-bytesOf (Restored number n) = headOf restoring number n
-bytesOf (Delivered number replies n) = headOf delivering number n ++ be 8 (length replies) ++ flatten (map replyOf replies)
-bytesOf (Heard number copies n) = headOf asking number n ++ be 8 copies
-bytesOf (Looked n) = headOf looking 0 n
+unfoldable pub seenBytes : Seen → List ℕ
+seenBytes (Answered a sent n) = headOf receiving (shownNumber a) n ++ replyOf (record { answer = a; sent = sent })
+seenBytes (Wrote number output n) = headOf saving number n ++ be 8 (length output) ++ output
+seenBytes (Restored number n) = headOf restoring number n
+seenBytes (Delivered number replies n) = headOf delivering number n ++ be 8 (length replies) ++ flatten (map replyOf replies)
+seenBytes (Heard number copies n) = headOf asking number n ++ be 8 copies
+seenBytes (Looked n) = headOf looking 0 n
 
 unfoldable pub recordOf : List Seen → List ℕ
-recordOf l = flatten (map bytesOf l)
+recordOf l = flatten (map seenBytes l)

@@ -1,4 +1,4 @@
--- A replay of calls: the record that it writes into an output, and the state that it comes to. Assumes nothing.
+-- A replay of calls: the record that it writes into an output, and the state that it comes to.
 use Prim.Native.Nat.{ℕ, _+_, _*_}
 use mathlib.Core.Bool.{cond}
 use mathlib.Core.List.{List, [], _∷_}

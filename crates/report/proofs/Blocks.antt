@@ -6,7 +6,6 @@
 --     sane-next                              no number goes past its end
 --     blocks-next, blocks-end                the loop over blocks
 --     start-sane, going-sane                 before the first block, and between pieces
--- Assumes nothing.
 use Prim.Native.Nat.{ℕ, zero, suc, _+_, _-_, _*_, _/_, _%_, _≤_, _<_}
 use native.Mathlib.Numerals.{add-one}
 use native.Mathlib.Decide.{decLt}

@@ -1,4 +1,4 @@
--- The calls: each of their ends is one case of its definition. Assumes nothing.
+-- The calls: each of their ends is one case of its definition.
 use Prim.Native.Nat.{ℕ, _+_, _-_, _*_, _/_, _%_, _≤_, _<_}
 use native.Mathlib.Omega.{arith}
 use mathlib.Core.Path.{_≡_}
@@ -13,7 +13,7 @@ use Rattle.layout.specs.Block.{blockLength, cellsPerBlock}
 use Rattle.archive_model.specs.Buffer.{None, maxBlocks, maxRows, isWhole, blocksIn, Scan}
 use Rattle.archive_model.specs.Append.{verdict, isScan}
 use Rattle.report_model.specs.Report.{Report, maxArchives, maxLines, isTally, isReport, answer, addOf, shareOf, lineOfReport, noLine}
-use Rattle.report_model.specs.Pieces.{Tally, addBlocks, closed, closing, Adding, adding, rowsSoFar, isAdding, isPiece, fed, feedOf, endOf}
+use Rattle.report_model.specs.Pieces.{Tally, addBlocks, closed, closing, Adding, adding, rowsSoFar, isAdding, isPiece, fed, feedOf, endedOf}
 
 module _ (s : Report) (t : Tally) where
   pub closed-full : maxArchives ≤ s .archives → answer (numberOf Argument) 0 s ≡ closed s t None
@@ -119,8 +119,8 @@ module _ (a : Adding) where
     unfolding feedOf
     feed-not piece = rw no
 
-    pub end-not : answer (numberOf NotAccepted) 0 (a .report) ≡ endOf a
-    unfolding endOf
+    pub end-not : answer (numberOf NotAccepted) 0 (a .report) ≡ endedOf a
+    unfolding endedOf
     end-not = rw no
 
   module _ (yes : isAdding a ≡ true) where
@@ -132,8 +132,8 @@ module _ (a : Adding) where
     unfolding feedOf
     feed-done piece h t e = rw (yes, h, e)
 
-    pub end-done : closing (a .report) (a .tally) ≡ endOf a
-    unfolding endOf
+    pub end-done : closing (a .report) (a .tally) ≡ endedOf a
+    unfolding endedOf
     end-done = rw yes
 
 module _ (blocks len : ℕ) where

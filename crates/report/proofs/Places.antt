@@ -2,7 +2,6 @@
 --     Bracket, bracket-start, bracket-half, bracket-place                 the search
 --     Shifting, shift-none, shift-more, shifted                           the gap
 --     joined-there, put-there, no-room                                    the three ends of `add_row`
--- Assumes nothing.
 use Prim.Native.Nat.{ℕ, zero, suc, _+_, _-_, _*_, _≤_, _<_}
 use native.Mathlib.Decide.{decLt}
 use native.Mathlib.Nat.{zero-add}

@@ -3,7 +3,6 @@
 --     before-none, before-more   the line after it
 --     line-of                    a line by its numbers
 --     rest-first, rest-next, rest-end     the loop: its start, a turn, its end
--- Assumes nothing.
 use Prim.Native.Nat.{ℕ, suc, _+_, _-_, _^_, _≤_, _<_}
 use native.Mathlib.Omega.{arith}
 use mathlib.Core.Path.{_≡_, refl, sym, ap, _∙_}

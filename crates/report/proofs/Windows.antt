@@ -3,7 +3,6 @@
 --     lines-same                                        equal lines, at the same place or another
 --     ordered-of, total-at                              rising identities, and the rows of one line among all
 --     stored-line                                       five numbers written one after the other
--- Assumes nothing.
 use Prim.Native.Nat.{ℕ, zero, suc, _+_, _-_, _*_, _≤_, _<_}
 use native.Mathlib.Nat.{zero-add, add-zero, add-suc, suc-add}
 use native.Mathlib.Omega.{arith}

@@ -1,4 +1,4 @@
--- The lines of a report in one array of numbers (document 02, A12): what it shows, and what the functions over it say. Assumes nothing.
+-- The lines of a report in one array of numbers (document 02, A12): what it shows, and what the functions over it say.
 use Prim.Native.Nat.{ℕ, _+_, _*_, _^_, _≤_, _<_}
 use mathlib.Core.Path.{_≡_}
 use mathlib.Core.Bool.{Bool, true, cond, _&&_, _||_}

@@ -1,4 +1,4 @@
--- What the calls over a report show (document 02, A12). Assumes nothing.
+-- What the calls over a report show (document 02, A12).
 use Prim.Native.Nat.{ℕ, _+_, _*_, _≤_}
 use mathlib.Core.Path.{_≡_}
 use mathlib.Core.Bool.{true, false}

@@ -20,7 +20,7 @@ ghost use Rattle.archive_model.specs.Append.{isScan};
 ghost use Rattle.archive.specs.Archive.{scanOf};
 ghost use Rattle.report_model.specs.Report as model;
 ghost use Rattle.archive_model.specs.Buffer.{None, isWhole, maxBlocks};
-ghost use Rattle.report_model.specs.Pieces.{closed, closing, startAdding, isAdding, fed, feedOf, endOf};
+ghost use Rattle.report_model.specs.Pieces.{closed, closing, startAdding, isAdding, fed, feedOf, endedOf};
 ghost use Rattle.report.specs.Lines.{linesLength};
 ghost use Rattle.report.specs.Report.{reportOf, addedResult, shareResult, lineResult, tallyOf, addingOf, feedResult, keptWith, noLineFor, Starts};
 
@@ -206,7 +206,7 @@ impl Adding {
 
     // What `add` answers for all pieces that were taken, as one archive. Refused: 11, 12 with the position, 10, 17; then the report is as it was.
     pub fn end(self) -> Added
-        ensures { λ r. ⌜ addedResult r ≡ endOf (addingOf self) ⌝ }
+        ensures { λ r. ⌜ addedResult r ≡ endedOf (addingOf self) ⌝ }
     {
         let before = self.before;
         if !is_adding(self) {

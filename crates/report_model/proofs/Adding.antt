@@ -5,7 +5,6 @@
 --     pieces-blocks                  the blocks of two pieces
 --     Reached, reached-next          after the pieces that make a buffer
 --     pieces-are-whole               the claim
--- Assumes nothing.
 use Prim.Native.Nat.{ℕ, zero, suc, _+_, _*_, _/_, _%_, _≤_, _<_}
 use native.Mathlib.Nat.{zero-add, add-zero, add-suc}
 use native.Mathlib.Omega.{arith}
@@ -32,7 +31,7 @@ use Rattle.archive_model.specs.Append.{isScan}
 use Rattle.archive_model.proofs.Buffers.{map-same}
 use Rattle.archive_model.proofs.Pieces.{rows-count}
 use Rattle.report_model.specs.Report.{Line, Report, maxLines, lineOf, addRows, keptIn, looseIn, isLine, isRising, sumOf, isTally, isReport, addOf}
-use Rattle.report_model.specs.Pieces.{Tally, startTally, countedRows, counted, addBlock, addBlocks, closing, Adding, adding, startAdding, rowsSoFar, isAdding, isPiece, fed, feedOf, endOf}
+use Rattle.report_model.specs.Pieces.{Tally, startTally, countedRows, counted, addBlock, addBlocks, closing, Adding, adding, startAdding, rowsSoFar, isAdding, isPiece, fed, feedOf, endedOf}
 use Rattle.report_model.specs.Claims.{areBytes, feedAll, fedPieces, PiecesAreWhole}
 use Rattle.report_model.proofs.Lines.{all-added, rising-added, kept-added, loose-added, kinds}
 use Rattle.report_model.proofs.Additions.{facts, report-tally, line-joined}
@@ -241,8 +240,8 @@ module _ (s : Report) (yes : isReport s ≡ true) where
   reached-first = record { is = refl; goes = start-going s yes; whole = refl; blocks = refl }
 
   module _ (done : List ℕ) (a : Adding) (r : Reached s done a) where
-    reached-end : endOf a ≡ addOf s done
-    unfolding endOf
+    reached-end : endedOf a ≡ addOf s done
+    unfolding endedOf
     reached-end = rw (r .goes) (ap (λ (b : Adding). closing (b .report) (b .tally)) (r .is) ∙ closing-is s done yes (r .whole))
 
     module _ (p : List ℕ) where
@@ -273,23 +272,23 @@ module _ (s : Report) (yes : isReport s ≡ true) where
       fed-not h = rw (r .goes, h)
 
   pieces-from : (pieces : List (List ℕ)) (done : List ℕ) (a : Adding) → Reached s done a → all areBytes pieces ≡ true
-      → (isAdding (feedAll a pieces) ≡ true) × (endOf (feedAll a pieces) ≡ addOf s (done ++ flatten (fedPieces a pieces)))
+      → (isAdding (feedAll a pieces) ≡ true) × (endedOf (feedAll a pieces) ≡ addOf s (done ++ flatten (fedPieces a pieces)))
   unfolding flatten
   pieces-from [] done a r bytes = (r .goes, reached-end done a r ∙ ap (addOf s) (sym (append-nil done)))
   pieces-from (p ∷ ps) done a r bytes =
       let w = both (areBytes p) (all areBytes ps) bytes in
-      by-test {X = (isAdding (feedAll a (p ∷ ps)) ≡ true) × (endOf (feedAll a (p ∷ ps)) ≡ addOf s (done ++ flatten (fedPieces a (p ∷ ps))))} (isPiece (a .tally .scan) p)
+      by-test {X = (isAdding (feedAll a (p ∷ ps)) ≡ true) × (endedOf (feedAll a (p ∷ ps)) ≡ addOf s (done ++ flatten (fedPieces a (p ∷ ps))))} (isPiece (a .tally .scan) p)
       (λ t.
       let b = adding (a .report) (addBlocks (a .tally) (blocksIn p)) in
       let one = fed-one a b p ps (fed-next done a r p t) in
       let more = pieces-from ps (done ++ p) b (reached-next done a r p (w .0) t) (w .1) in (
         ap isAdding (one .0) ∙ more .0,
-        ap endOf (one .0) ∙ more .1 ∙ ap (addOf s) (append-assoc done p (flatten (fedPieces b ps))) ∙ ap (λ (l : List (List ℕ)). addOf s (done ++ flatten l)) (sym (one .1)),
+        ap endedOf (one .0) ∙ more .1 ∙ ap (addOf s) (append-assoc done p (flatten (fedPieces b ps))) ∙ ap (λ (l : List (List ℕ)). addOf s (done ++ flatten l)) (sym (one .1)),
       ))
       (λ f.
       let none = fed-none a Size p ps (fed-not done a r p f) in
       let more = pieces-from ps done a r (w .1) in
-      (ap isAdding (none .0) ∙ more .0, ap endOf (none .0) ∙ more .1 ∙ ap (λ (l : List (List ℕ)). addOf s (done ++ flatten l)) (sym (none .1))))
+      (ap isAdding (none .0) ∙ more .0, ap endedOf (none .0) ∙ more .1 ∙ ap (λ (l : List (List ℕ)). addOf s (done ++ flatten l)) (sym (none .1))))
 
 -- ---- a report that no archives give
 
@@ -305,16 +304,16 @@ start-not : (s : Report) → isReport s ≡ false → isAdding (startAdding s) �
 unfolding isAdding
 start-not s f = rw f
 
-end-not : (s : Report) (buffer : List ℕ) → isReport s ≡ false → endOf (startAdding s) ≡ addOf s buffer
-unfolding endOf addOf
+end-not : (s : Report) (buffer : List ℕ) → isReport s ≡ false → endedOf (startAdding s) ≡ addOf s buffer
+unfolding endedOf addOf
 end-not s buffer f = rw (start-not s f, f)
 
 pub pieces-are-whole : PiecesAreWhole
 pieces-are-whole s pieces bytes =
-    by-test {X = (isAdding (feedAll (startAdding s) pieces) ≡ isReport s) × (endOf (feedAll (startAdding s) pieces) ≡ addOf s (flatten (fedPieces (startAdding s) pieces)))} (isReport s)
+    by-test {X = (isAdding (feedAll (startAdding s) pieces) ≡ isReport s) × (endedOf (feedAll (startAdding s) pieces) ≡ addOf s (flatten (fedPieces (startAdding s) pieces)))} (isReport s)
     (λ t.
     let r = pieces-from s t pieces [] (startAdding s) (reached-first s t) bytes in
     (r .0 ∙ sym t, r .1))
     (λ f.
     let k = stuck pieces (startAdding s) (start-not s f) in
-    (ap isAdding (k .0) ∙ start-not s f ∙ sym f, ap endOf (k .0) ∙ end-not s (flatten (fedPieces (startAdding s) pieces)) f))
+    (ap isAdding (k .0) ∙ start-not s f ∙ sym f, ap endedOf (k .0) ∙ end-not s (flatten (fedPieces (startAdding s) pieces)) f))

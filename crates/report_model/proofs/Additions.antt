@@ -2,7 +2,6 @@
 --     Passed, passed, facts     the parts of `isReport`
 --     Taken, taken, is-taken    the tests of `addOf`, both ways
 --     added-report              a report with an archive more is a report
--- Assumes nothing.
 use Prim.Native.Nat.{ℕ, _+_, _*_, _-_, _^_, _<_, _≤_, min, max}
 use mathlib.Core.Path.{_≡_, refl, sym, ap, _∙_}
 use mathlib.Core.Bool.{Bool, true, false, cond, _||_}

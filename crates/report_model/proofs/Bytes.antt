@@ -3,7 +3,6 @@
 --     unbe-bytes                 what bytes spell
 --     known                      what is known of the rows of an archive
 --     blocks-bytes, cell-lines   its blocks are bytes, and each row of such a block gives a line
--- Assumes nothing.
 use Prim.Native.Nat.{ℕ, zero, suc, _+_, _*_, _-_, _/_, _^_, _<_, _≤_}
 use native.Mathlib.Nat.{pow-suc, pow-le-pow-right, add-zero}
 use native.Mathlib.Omega.{arith}

@@ -1,4 +1,4 @@
--- The claims on reports. Assumes nothing.
+-- The claims on reports.
 use Prim.Native.Nat.{ℕ, _+_, _*_, _/_, _%_, _<_, _≤_}
 use native.Mathlib.Nat.{div-add-mod', mod-lt, div-le-of-le-mul, add-mul, one-mul}
 use native.Mathlib.Omega.{arith}

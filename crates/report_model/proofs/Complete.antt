@@ -1,5 +1,5 @@
 -- What is not refused with 11 is what some archives give: the rows of its lines, cut into archives of the most rows that one has, and empty ones
--- behind them. Nothing of such an archive is computed. Assumes nothing.
+-- behind them. Nothing of such an archive is computed.
 use Prim.Native.Nat.{ℕ, zero, suc, _+_, _*_, _^_, _<_, _≤_}
 use native.Mathlib.Omega.{arith}
 use mathlib.Core.Path.{_≡_, refl, sym, ap, _∙_, subst}

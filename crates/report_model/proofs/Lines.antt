@@ -3,7 +3,6 @@
 --     rising-insert, rising-added
 --     sum-insert, sum-added      sums
 --     more-insert, more-added    lines never become fewer
--- Assumes nothing.
 use Prim.Native.Nat.{ℕ, suc, _+_, _<_, _≤_}
 use mathlib.Core.Path.{_≡_, refl, ap, _∙_}
 use mathlib.Core.Bool.{Bool, true, false, cond, not}

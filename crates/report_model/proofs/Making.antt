@@ -3,7 +3,6 @@
 --     insert-twice                 two lines of one transmitter, one after the other
 --     rows-line                    the rows of a line give it
 --     rows-lines                   and those of all lines give them
--- Assumes nothing.
 use Prim.Native.Nat.{ℕ, zero, suc, _+_, _-_, _^_, _<_, _≤_, min, max}
 use native.Mathlib.Omega.{arith}
 use mathlib.Core.Path.{_≡_, refl, sym, ap, _∙_}

@@ -3,7 +3,6 @@
 --     insert-comm                         two lines are inserted in either order
 --     add-insert, add-comm-rows           rows and a line, and rows and rows
 --     add-append, add-first, add-none     rows put together, one row more, and none
--- Assumes nothing.
 use Prim.Native.Nat.{ℕ, _<_, _≤_}
 use mathlib.Core.Path.{_≡_, refl, sym, ap, _∙_, subst}
 use mathlib.Core.List.{List, [], _∷_, _++_}

@@ -2,7 +2,6 @@
 --     tally-rows        a tally after some blocks, by the rows of all of them
 --     rows-counted      the rows of a buffer that matches are those that its blocks add
 --     closing-is        the answer
--- Assumes nothing.
 use Prim.Native.Nat.{ℕ, suc, _+_, _<_, _≤_}
 use native.Mathlib.Omega.{arith}
 use mathlib.Core.Path.{_≡_, refl, sym, ap, ap₂, _∙_}

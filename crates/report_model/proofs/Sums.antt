@@ -3,7 +3,6 @@
 --     given-counts            what the rows of one transmitter give
 --     line-counts             so does every line
 --     any-added               which transmitters have a line
--- Assumes nothing.
 use Prim.Native.Nat.{ℕ, _+_, _<_, _≤_, min, max}
 use native.Mathlib.Decide.{decLt}
 use native.Mathlib.Omega.{arith}

@@ -1,4 +1,4 @@
--- What is proved of reports (document 02, A12). Assumes nothing.
+-- What is proved of reports (document 02, A12).
 use Prim.Native.Nat.{ℕ, _+_, _*_, _≤_, _<_}
 use mathlib.Core.Path.{_≡_}
 use mathlib.Core.Bool.{Bool, true, cond, _&&_}
@@ -10,7 +10,7 @@ use Rattle.archive_model.specs.Row.{Row}
 use Rattle.archive_model.specs.Buffer.{rowsIn}
 use Rattle.archive_model.specs.Identity.{identityOf}
 use Rattle.report_model.specs.Report.{Line, Report, emptyReport, keptIn, looseIn, isRising, isReport, addOf, shareOf}
-use Rattle.report_model.specs.Pieces.{Adding, startAdding, isAdding, feedOf, endOf}
+use Rattle.report_model.specs.Pieces.{Adding, startAdding, isAdding, feedOf, endedOf}
 
 -- ---- archives handed in one after another
 
@@ -112,4 +112,4 @@ abbrev pub PiecesAreWhole : Type 0
 PiecesAreWhole =
     (s : Report) (pieces : List (List ℕ)) → all areBytes pieces ≡ true
     → (isAdding (feedAll (startAdding s) pieces) ≡ isReport s)
-    × (endOf (feedAll (startAdding s) pieces) ≡ addOf s (flatten (fedPieces (startAdding s) pieces)))
+    × (endedOf (feedAll (startAdding s) pieces) ≡ addOf s (flatten (fedPieces (startAdding s) pieces)))

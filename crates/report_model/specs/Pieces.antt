@@ -1,4 +1,4 @@
--- An archive that is added block by block, so that it is read once: what is known after some blocks. Assumes nothing.
+-- An archive that is added block by block, so that it is read once: what is known after some blocks.
 use Prim.Native.Nat.{ℕ, _+_, _*_}
 use mathlib.Core.Bool.{Bool, true, false, cond, not, _&&_, _||_}
 use mathlib.Core.List.{List, [], _∷_}
@@ -97,5 +97,5 @@ feedOf a piece =
     (fed 0 (adding (a .report) (addBlocks (a .tally) (blocksIn piece)))))
 
 -- 11, then as `addOf` answers: 12, 10, 17, or the report
-unfoldable pub endOf : Adding → Addition
-endOf a = cond (not (isAdding a)) (answer (numberOf NotAccepted) 0 (a .report)) (closing (a .report) (a .tally))
+unfoldable pub endedOf : Adding → Addition
+endedOf a = cond (not (isAdding a)) (answer (numberOf NotAccepted) 0 (a .report)) (closing (a .report) (a .tally))

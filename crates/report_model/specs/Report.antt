@@ -1,4 +1,4 @@
--- The yearly sheet (document 02, A12), here a report: what it says, adding an archive, and its share of receptions. Assumes nothing.
+-- The yearly sheet (document 02, A12), here a report: what it says, adding an archive, and its share of receptions.
 use Prim.Native.Nat.{ℕ, _+_, _*_, _/_, _^_, min, max}
 use mathlib.Core.Bool.{Bool, cond, not, _&&_, _||_}
 use mathlib.Core.List.{List, [], _∷_}

@@ -1,5 +1,5 @@
 -- The sameness rule by fields is document 01's. Where all before STATUS is equal, the fields are, but for STATUS; and fields that are equal
--- are written as the same bytes before STATUS. Assumes nothing.
+-- are written as the same bytes before STATUS.
 use mathlib.Core.Path.{_≡_, refl, sym, ap, subst, _∙_}
 use mathlib.Core.Bool.{Bool, true, false, cond, not, _&&_, and-true, and-false, false≢true}
 use mathlib.Core.List.{List, [], _∷_, _++_}
@@ -17,7 +17,7 @@ use Rattle.erp1.specs.Subtelegram.{hashOf, bodyOf, statusOf, sealedOf, isAddres
 use Rattle.erp1.specs.Same.{isSame}
 use Rattle.erp1.proofs.Checks.{Sound, check-facts}
 use Rattle.telegram.specs.declared.fields.Telegram.{Telegram}
-use Rattle.telegram.specs.Fields.{plainFields, addressedFields, fieldsOf, dataOf, headOf, idsOf, bytesOf, isUnbuildable, Buildable, Shaped, normalOf}
+use Rattle.telegram.specs.Fields.{plainFields, addressedFields, fieldsOf, dataOf, headOf, idsOf, telegramBytes, isUnbuildable, Buildable, Shaped, normalOf}
 use Rattle.sameness.specs.Sameness.{isSameAddress, isSameData, isSameTelegram, SameByFields}
 use Rattle.telegram.proofs.Parts.{body-more}
 use Rattle.telegram.proofs.Reading.{fields-fit}
@@ -36,7 +36,7 @@ writtenOf t = frontOf t ++ (t .status ∷ [])
 
 module _ (s : List ℕ) (v : Sound s) where
   front-fields : frontOf (fieldsOf s) ≡ beforeStatus s
-  unfolding bytesOf
+  unfolding telegramBytes
   front-fields =
       let t = fieldsOf s in
       sym (body-more (frontOf t) (t .status))
@@ -44,7 +44,7 @@ module _ (s : List ℕ) (v : Sound s) where
       ∙ ap (λ (l : List ℕ). beforeStatus l) (read-builds s v)
 
   front-length : length (frontOf (fieldsOf s)) + 2 ≡ length s
-  unfolding bytesOf
+  unfolding telegramBytes
   front-length =
       let t = fieldsOf s in
       let status = length-append (frontOf t) (t .status ∷ []) in
@@ -53,7 +53,7 @@ module _ (s : List ℕ) (v : Sound s) where
       sym whole ∙ ap length (read-builds s v)
 
   rebuilt : sealedOf (beforeStatus s ++ (fieldsOf s .status ∷ [])) ≡ s
-  unfolding bytesOf
+  unfolding telegramBytes
   rebuilt = rw (← front-fields) (read-builds s v)
 
 status-fields : (s : List ℕ) → fieldsOf s .status ≡ statusOf s
@@ -89,8 +89,8 @@ module _ (a b : List ℕ) (va : Sound a) (vb : Sound b) (front : beforeStatus a 
   abbrev other : Telegram
   other = withStatus (fieldsOf a) (fieldsOf b .status)
 
-  other-bytes : bytesOf other ≡ b
-  unfolding bytesOf
+  other-bytes : telegramBytes other ≡ b
+  unfolding telegramBytes
   other-bytes = rw (front-fields a va, front) (rebuilt b vb)
 
   other-shaped : Shaped other

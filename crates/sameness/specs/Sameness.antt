@@ -1,5 +1,5 @@
 -- The sameness rule in the order of document 02, A5: transmitter, type, plain or addressed and to whom, data with its length, the upper bits of
--- STATUS. Of valid subtelegrams it says what document 01's rule says (`isSame` of erp1). Assumes nothing.
+-- STATUS. Of valid subtelegrams it says what document 01's rule says (`isSame` of erp1).
 use mathlib.Core.Path.{_≡_}
 use mathlib.Core.Bool.{Bool, true, cond, not, _&&_}
 use mathlib.Core.List.{List}

@@ -1,5 +1,5 @@
 -- The check accepts exactly the sites that fit: a lawful plan keeps its own transmissions apart, and repeaters that do not clash, pair by pair, are
--- transmissions that are apart, pair by pair. Assumes nothing.
+-- transmissions that are apart, pair by pair.
 use mathlib.Core.Path.{_≡_, refl, sym, ap, _∙_}
 use mathlib.Core.Bool.{Bool, true, false, cond, not, _&&_, _||_}
 use mathlib.Core.List.{List, [], _∷_, flatMap, List·Memᴰ}

@@ -1,4 +1,4 @@
--- The answers of the check, one for each of its returns. Assumes nothing.
+-- The answers of the check, one for each of its returns.
 use mathlib.Core.Path.{_≡_, refl, sym, ap, _∙_}
 use mathlib.Core.Bool.{Bool, true, false, not, or-true}
 use mathlib.Core.List.{List}

@@ -1,4 +1,4 @@
--- Repeaters read from bytes one after the other into an array. Assumes nothing.
+-- Repeaters read from bytes one after the other into an array.
 use mathlib.Core.Path.{_≡_, refl, sym, ap, ap₂, _∙_}
 use mathlib.Core.List.{List, [], _∷_, _++_, map, map-append}
 use Prim.Native.Nat.{ℕ, suc, _+_, _-_, _*_, _/_, _≤_, _<_, min}

@@ -1,5 +1,5 @@
 -- 18 names the first unlawful plan and 19 the first pair that clashes, and only these; the plan that a draw picks is a site of its own. What
--- `pairOf` names is shown by induction over the repeaters, with indices counted from the first of them. Assumes nothing.
+-- `pairOf` names is shown by induction over the repeaters, with indices counted from the first of them.
 use mathlib.Core.Path.{_≡_, refl, sym, ap, ap₂, subst, _∙_}
 use mathlib.Core.Bool.{Bool, true, false, cond, not, _&&_, _||_}
 use mathlib.Core.List.{List, [], _∷_}

@@ -1,5 +1,5 @@
 -- The repeaters of a site as bytes, nine for each: rule, level, duration in four from the highest, first, second and third slot. A layout of
--- this house, for callers in C. Assumes nothing.
+-- this house, for callers in C.
 use mathlib.Core.Bool.{cond}
 use mathlib.Core.List.{List, map, _++_}
 use Prim.Native.Nat.{ℕ, _+_, _-_, _*_, _/_, _%_, min}

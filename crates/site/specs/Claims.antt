@@ -1,4 +1,4 @@
--- What the check of a site is claimed to say (document 02, A14): proofs/Accepts.antt and proofs/Named.antt have the theorems. Assumes nothing.
+-- What the check of a site is claimed to say (document 02, A14): proofs/Accepts.antt and proofs/Named.antt have the theorems.
 use mathlib.Core.Path.{_≡_}
 use mathlib.Core.Bool.{Bool, true, false, not}
 use mathlib.Core.List.{List, _∷_, flatMap}

@@ -1,5 +1,4 @@
 -- The slot plans of a whole site (document 02, A14): what each repeater sends, when two of them clash, and the answer of the check.
--- Assumes nothing.
 use mathlib.Core.Bool.{Bool, cond, not, _&&_, _||_}
 use mathlib.Core.List.{List, [], _∷_}
 use Prim.Native.Nat.{ℕ, suc, _+_}

@@ -1,4 +1,4 @@
--- The search among the plans with given first two slots. Assumes nothing.
+-- The search among the plans with given first two slots.
 use mathlib.Core.Path.{_≡_, ap}
 use mathlib.Core.Bool.{true, false}
 use mathlib.Core.List.{map}

@@ -1,4 +1,4 @@
--- A search through blocks of plans, one after the other: how many plans were passed, and what stands at index k. Assumes nothing.
+-- A search through blocks of plans, one after the other: how many plans were passed, and what stands at index k.
 use mathlib.Core.Path.{_≡_, _∙_}
 use mathlib.Core.List.{List, _++_, flatMap, append-nil}
 use Prim.Native.Nat.{ℕ, suc, _+_, _-_, _≤_, _<_}

@@ -1,5 +1,4 @@
 -- A draw gets a lawful plan, and 9 only where there is none: what it picks is a member of `plans`, and each member is picked by its index.
--- Assumes nothing.
 use mathlib.Core.Path.{_≡_, refl, ap, subst}
 use mathlib.Core.Bool.{Bool, true, false}
 use mathlib.Core.List.{List, [], _∷_, List·Memᴰ·not-nil}

@@ -1,4 +1,4 @@
--- The plan that a draw picks, found by one search or two. Assumes nothing.
+-- The plan that a draw picks, found by one search or two.
 use mathlib.Core.Path.{_≡_, ap, sym}
 use Prim.Native.Nat.{ℕ, _%_, _≤_, _<_}
 use mathlib.Core.List.{List}
@@ -9,7 +9,7 @@ use borrow.Author.Tests.{ne-eqb, eq-eqb}
 use Rattle.refusal.specs.declared.Refusal.the-variants.{NoPlan}
 use Rattle.slots.specs.declared.SlotPlan.{SlotPlan}
 use Rattle.slots.specs.declared.Lookup.the-variants.{Found, Counted}
-use Rattle.slots.specs.Plan.{drawn, refused, planned}
+use Rattle.slots.specs.Plan.{drawn, noPlan, planned}
 use Rattle.slots.specs.Search.{lookupOf}
 use Rattle.slots.proofs.Lookups.{is-found, is-counted}
 
@@ -25,7 +25,7 @@ module _ (ps : List SlotPlan) (draw : ℕ) where
   drawn-first f = picked draw (sym (mod-eq-of-lt (is-found ps draw f .0))) f
 
   module _ {n : ℕ} (e : Counted n ≡ lookupOf ps draw) where
-    pub drawn-none : n < 1 → refused NoPlan ≡ drawn ps draw
+    pub drawn-none : n < 1 → noPlan NoPlan ≡ drawn ps draw
     unfolding drawn
     drawn-none z = let w = is-counted ps draw e in rw (eq-eqb (length ps) 0 (omega arith))
 

@@ -1,4 +1,4 @@
--- `plans` lists the lawful plans: it is made by keeping these among all candidates, which stand in order. Assumes nothing.
+-- `plans` lists the lawful plans: it is made by keeping these among all candidates, which stand in order.
 use mathlib.Core.Path.{_≡_, refl, sym, ap}
 use mathlib.Core.Bool.{Bool, true, false, cond, or-true}
 use mathlib.Core.List.{List, [], _∷_, map, flatMap, List·Memᴰ, List·Memᴰ·head, Memᴰ·map, Memᴰ·of-map}

@@ -1,4 +1,4 @@
--- The two answers of a search, and what each tells of the list and the index. Assumes nothing.
+-- The two answers of a search, and what each tells of the list and the index.
 use mathlib.Core.Path.{_≡_}
 use mathlib.Core.List.{List}
 use Prim.Native.Nat.{ℕ, _≤_, _<_}

@@ -1,4 +1,4 @@
--- What a lawful plan's test says part by part, and what the test of a third slot says of it. Assumes nothing.
+-- What a lawful plan's test says part by part, and what the test of a third slot says of it.
 use mathlib.Core.Path.{_≡_, refl, sym, _∙_}
 use mathlib.Core.Bool.{Bool, true, false, cond, _&&_}
 use Prim.Native.Nat.{ℕ, _≤_}

@@ -1,4 +1,4 @@
--- The lawful plans, block by block, as the search meets them. Assumes nothing.
+-- The lawful plans, block by block, as the search meets them.
 use mathlib.Core.Path.{_≡_, refl, ap, _∙_}
 use mathlib.Core.Bool.{Bool, true, false, cond, _&&_}
 use mathlib.Core.List.{List, [], map, flatMap}

@@ -1,4 +1,4 @@
--- The third slots that may follow a second one: with a start and an end between two bounds they are consecutive. Assumes nothing.
+-- The third slots that may follow a second one: with a start and an end between two bounds they are consecutive.
 use mathlib.Core.Path.{_≡_}
 use mathlib.Core.Bool.{Bool, true, false, _&&_, and-false}
 use mathlib.Core.List.{[]}

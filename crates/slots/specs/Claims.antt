@@ -1,5 +1,5 @@
 -- What `plans` and `drawn` are claimed to be, for every rule, and what a call is claimed to answer (document 01, "Slot plan"):
--- proofs/Listed.antt and proofs/Chosen.antt have the theorems. Assumes nothing.
+-- proofs/Listed.antt and proofs/Chosen.antt have the theorems.
 use mathlib.Core.Path.{_≡_}
 use mathlib.Core.Bool.{Bool, true, false, _&&_, _||_}
 use mathlib.Core.List.{List, List·Memᴰ}
@@ -9,7 +9,7 @@ use Rattle.lists.specs.Lists.{pairwise}
 use Rattle.refusal.specs.declared.Refusal.the-variants.{NoPlan, Argument}
 use Rattle.slots.specs.declared.Rule.{Rule}
 use Rattle.slots.specs.declared.SlotPlan.{SlotPlan}
-use Rattle.slots.specs.Plan.{standardRule, lawful, plans, Answer, planned, refused, drawn, allowed, planOf}
+use Rattle.slots.specs.Plan.{standardRule, lawful, plans, Answer, planned, noPlan, drawn, allowed, planOf}
 
 -- by first, then second, then third slot
 abbrev pub precedes : SlotPlan → SlotPlan → Bool
@@ -35,7 +35,7 @@ PlansListed = (r : Rule) (d : ℕ) → Listed r d (plans r d)
 -- an answer to a draw: a lawful plan, or 9, and then no plan is lawful
 pub data Chosen (r : Rule) (d : ℕ) : Answer → Type 0 where
   one : {p : SlotPlan} → lawful r d p ≡ true → Chosen r d (planned p)
-  none : ((p : SlotPlan) → lawful r d p ≡ false) → Chosen r d (refused NoPlan)
+  none : ((p : SlotPlan) → lawful r d p ≡ false) → Chosen r d (noPlan NoPlan)
 
 -- so is what a draw picks
 abbrev pub DrawnChosen : Type 0
@@ -49,7 +49,7 @@ LawfulDrawn = (r : Rule) (d : ℕ) (p : SlotPlan) → lawful r d p ≡ true → 
 
 -- an answer to a call: 10 where an argument is not allowed; else a lawful plan, or 9, and then no plan is lawful
 pub record ChosenAt (level d : ℕ) (a : Answer) : Type 0 where
-  pub argument : allowed level d ≡ false → a ≡ refused Argument
+  pub argument : allowed level d ≡ false → a ≡ noPlan Argument
   pub chosen : allowed level d ≡ true → Chosen (standardRule level) d a
 
 -- so is every answer

@@ -1,5 +1,5 @@
 -- Slot plans (document 01, "Slot plan"): the rule of a level, when a plan is lawful, all lawful plans in order, and the plan that a draw
--- picks. Assumes nothing.
+-- picks.
 use mathlib.Core.Bool.{Bool, true, not, cond, _&&_}
 use mathlib.Core.List.{List, [], _∷_, map, flatMap}
 use Prim.Native.Nat.{ℕ, _+_, _-_, _*_, _%_}
@@ -114,20 +114,20 @@ pub record Answer : Type 0 where
   pub slots : SlotPlan
 
 -- beside a refusal the slots are zero
-abbrev pub refused : Refusal → Answer
-refused e = record { number = numberOf e; slots = plan 0 0 0 }
+abbrev pub noPlan : Refusal → Answer
+noPlan e = record { number = numberOf e; slots = plan 0 0 0 }
 
 abbrev pub planned : SlotPlan → Answer
 planned p = record { number = 0; slots = p }
 
 abbrev pub answerOf : Planned → Answer
 answerOf (Slots p) = planned p
-answerOf (Refused e) = refused e
+answerOf (Refused e) = noPlan e
 
 -- of N plans the one with index draw mod N, counted from 0; 9 where N = 0
 unfoldable pub drawn : List SlotPlan → ℕ → Answer
 drawn ps draw =
-    cond (eqb (length ps) 0) (refused NoPlan)
+    cond (eqb (length ps) 0) (noPlan NoPlan)
     (planned (getD ps (draw % length ps) (plan 0 0 0)))
 
 abbrev pub isLevel : ℕ → Bool
@@ -142,5 +142,5 @@ allowed level d = isLevel level && isDuration d
 
 unfoldable pub planOf : ℕ → ℕ → ℕ → Answer
 planOf level d draw =
-    cond (not (allowed level d)) (refused Argument)
+    cond (not (allowed level d)) (noPlan Argument)
     (drawn (plans (standardRule level) d) draw)

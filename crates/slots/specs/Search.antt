@@ -1,4 +1,4 @@
--- What the search inside the crate finds: the contracts of its private functions cite these, and no public contract does. Assumes nothing.
+-- What the search inside the crate finds: the contracts of its private functions cite these, and no public contract does.
 use mathlib.Core.Path.{_≡_}
 use mathlib.Core.Bool.{Bool, cond, _&&_}
 use mathlib.Core.List.{List, [], map, flatMap}

@@ -1,4 +1,4 @@
--- What is kept of a line that has not ended. Assumes nothing.
+-- What is kept of a line that has not ended.
 use mathlib.Core.Path.{_≡_, sym}
 use mathlib.Core.Bool.{and-false}
 use mathlib.Core.List.{List, []}
@@ -9,18 +9,18 @@ use lib.ListN.{length, take, drop, length-drop}
 use lib.Seq.{sets, take-take, take-all, length-take-le}
 use borrow.Author.Tests.{le-leb, lt-leb}
 use Rattle.line_input.specs.Reading.{lineLimit}
-use Rattle.streams.specs.Buffer.{keptOf, Carried}
+use Rattle.streams.specs.Buffer.{keptLine, Carried}
 
 module _ (buffer : List ℕ) (from end : ℕ) where
-  no-end : length buffer < end → keptOf buffer from end ≡ []
-  unfolding keptOf
+  no-end : length buffer < end → keptLine buffer from end ≡ []
+  unfolding keptLine
   no-end h = rw (lt-leb end (length buffer) h)
 
-  no-start : end < from → keptOf buffer from end ≡ []
-  unfolding keptOf
+  no-start : end < from → keptLine buffer from end ≡ []
+  unfolding keptLine
   no-start h = rw (lt-leb from end h, and-false (leb end (length buffer)))
 
-  nothing : keptOf buffer from end ≡ [] → Carried buffer from end buffer 0
+  nothing : keptLine buffer from end ≡ [] → Carried buffer from end buffer 0
   nothing e = record { bytes = rw e; count = rw e }
 
   pub past-buffer : length buffer < end → Carried buffer from end buffer 0
@@ -33,7 +33,7 @@ module _ (buffer : List ℕ) (from end : ℕ) where
   module _ (within : end ≤ length buffer) (ordered : from ≤ end) {n r : ℕ} {new : List ℕ}
       (moved : (new ≡ sets buffer 0 (take n (drop from buffer))) × (r ≡ n)) (fits : from + n ≤ end) where
     something : take lineLimit (take (end - from) (drop from buffer)) ≡ take n (drop from buffer) → Carried buffer from end new r
-    unfolding keptOf
+    unfolding keptLine
     something e =
         let l : length (take n (drop from buffer)) ≡ n = length-take-le n (drop from buffer) (simp length-drop (omega arith)) in
         record {

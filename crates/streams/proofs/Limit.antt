@@ -1,4 +1,4 @@
--- `collect` can tell a line by its first `lineLimit` characters, so the theorem on pieces holds of it. Assumes nothing.
+-- `collect` can tell a line by its first `lineLimit` characters, so the theorem on pieces holds of it.
 use mathlib.Core.Path.{_≡_, refl}
 use mathlib.Core.List.{List}
 use Prim.Native.Nat.{ℕ}

@@ -1,4 +1,4 @@
--- Cutting the input into pieces changes nothing, and neither does keeping only the front of a long line. Assumes nothing.
+-- Cutting the input into pieces changes nothing, and neither does keeping only the front of a long line.
 use mathlib.Core.Path.{_≡_, refl, sym, ap, _∙_}
 use mathlib.Core.Bool.{Bool, true, false, cond}
 use mathlib.Core.List.{List, [], _∷_, _++_, append-assoc, append-nil}
@@ -8,7 +8,7 @@ use lib.Dec.{eqb}
 use lib.ListN.{take}
 use Rattle.line_input.specs.Ascii.{newline}
 use Rattle.streams.specs.Lines.{prepend, linesOf, Program, after, written, outputOf}
-use Rattle.streams.specs.Chunks.{Position, Bounded, fresh, fed, fedText, feed, feedText, feedAll, feedAllText, lastText, endText, joined, within}
+use Rattle.streams.specs.Chunks.{Position, Bounded, atLineStart, fed, fedText, feed, feedText, feedAll, feedAllText, lastText, endText, joined, inLine}
 use Rattle.streams.specs.Claims.{InPieces}
 
 -- ---- the lines of a text behind a part of a line
@@ -88,7 +88,7 @@ module _ {S : Type 0} (p : Program S) (n : ℕ) (b : Bounded p (suc n)) where
   forLines : S → List (List ℕ) → List ℕ
   forLines s ls = written p s ls ++ p .end (after p s ls)
 
-  ends : (s : S) (r : List ℕ) → fromPosition (within s (take (suc n) r)) [] ≡ forLines s (alone r)
+  ends : (s : S) (r : List ℕ) → fromPosition (inLine s (take (suc n) r)) [] ≡ forLines s (alone r)
   unfolding fromPosition forLines feed feedText lastText written after alone
   ends s [] = refl
   ends s (x ∷ r) = rw (b .next s (x ∷ r), b .text s (x ∷ r), append-nil (p .text s (x ∷ r)))
@@ -103,26 +103,26 @@ module _ {S : Type 0} (p : Program S) (n : ℕ) (b : Bounded p (suc n)) where
   unfolding forLines written after
   lines-next s l ls = append-assoc (p .text s l) (written p (p .next s l) ls) (p .end (after p (p .next s l) ls))
 
-  whole : (input r : List ℕ) (s : S) → fromPosition (within s (take (suc n) r)) input ≡ forLines s (linesFrom r input)
+  whole : (input r : List ℕ) (s : S) → fromPosition (inLine s (take (suc n) r)) input ≡ forLines s (linesFrom r input)
   unfolding linesFrom
   whole [] r s = ends s r
   whole (c ∷ input) r s =
-      position-next (within s (take (suc n) r)) c input ∙ go (eqb c newline) (whole input [] (p .next s r)) (whole input (r ++ (c ∷ [])) s)
+      position-next (inLine s (take (suc n) r)) c input ∙ go (eqb c newline) (whole input [] (p .next s r)) (whole input (r ++ (c ∷ [])) s)
     where
       k : List ℕ
       k = take (suc n) r
 
-      go : (t : Bool) → fromPosition (fresh (p .next s r)) input ≡ forLines (p .next s r) (linesFrom [] input)
-          → fromPosition (within s (take (suc n) (r ++ (c ∷ [])))) input ≡ forLines s (linesFrom (r ++ (c ∷ [])) input)
-          → cond t (p .text s k) [] ++ fromPosition (cond t (fresh (p .next s k)) (within s (take (suc n) (k ++ (c ∷ []))))) input
+      go : (t : Bool) → fromPosition (atLineStart (p .next s r)) input ≡ forLines (p .next s r) (linesFrom [] input)
+          → fromPosition (inLine s (take (suc n) (r ++ (c ∷ [])))) input ≡ forLines s (linesFrom (r ++ (c ∷ [])) input)
+          → cond t (p .text s k) [] ++ fromPosition (cond t (atLineStart (p .next s k)) (inLine s (take (suc n) (k ++ (c ∷ []))))) input
           ≡ forLines s (cond t (r ∷ linesFrom [] input) (linesFrom (r ++ (c ∷ [])) input))
       go true e f = rw (b .text s r, b .next s r, e) (sym (lines-next s r (linesFrom [] input)))
       go false e f = rw (front-more (suc n) r c) f
 
-  pub one-piece : (s : S) (input : List ℕ) → feedText p (suc n) (fresh s) input ++ endText p (feed p (suc n) (fresh s) input) ≡ outputOf p s input
+  pub one-piece : (s : S) (input : List ℕ) → feedText p (suc n) (atLineStart s) input ++ endText p (feed p (suc n) (atLineStart s) input) ≡ outputOf p s input
   unfolding outputOf fromPosition forLines
   one-piece s input = whole input [] s ∙ rw (lines-from input [], glued-none (linesOf input))
 
 pub in-pieces : {S : Type 0} (p : Program S) (limit : ℕ) → InPieces p limit
 in-pieces p zero h b s xs = absurd (omega arith)
-in-pieces p (suc n) h b s xs = rw (text-joined p (suc n) xs (fresh s), feed-joined p (suc n) xs (fresh s)) (one-piece p n b s (joined xs))
+in-pieces p (suc n) h b s xs = rw (text-joined p (suc n) xs (atLineStart s), feed-joined p (suc n) xs (atLineStart s)) (one-piece p n b s (joined xs))

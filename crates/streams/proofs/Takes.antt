@@ -1,4 +1,4 @@
--- Taking whole lines from one buffer into another, one after the other. Assumes nothing.
+-- Taking whole lines from one buffer into another, one after the other.
 use mathlib.Core.Path.{_≡_, refl, _∙_}
 use mathlib.Core.List.{List, []}
 use Prim.Native.Nat.{ℕ, _+_, _-_, _<_, _≤_}
@@ -11,7 +11,7 @@ use Rattle.line_input.specs.Reading.{lineLimit}
 use Rattle.buffers.specs.Printed.{Printed}
 use Rattle.buffers.proofs.Stores.{then}
 use Rattle.streams.specs.Lines.{Program}
-use Rattle.streams.specs.Chunks.{Bounded, fresh, feed, feedText}
+use Rattle.streams.specs.Chunks.{Bounded, atLineStart, feed, feedText}
 use Rattle.streams.specs.Buffer.{Fed}
 use Rattle.streams.proofs.Segments.{Drained, more, open-before, up-to-newline}
 
@@ -36,7 +36,7 @@ module _ {S : Type 0} (p : Program S) (b : Bounded p lineLimit) where
       let first : k ≡ indexOf newline d = omega arith in
       let next : n + 1 ≡ at + k + 1 = omega arith in
       let cut = up-to-newline input at k first (simp length-drop (omega arith)) in
-      let before : Drained p lineLimit s₀ (take at input) s (feedText p lineLimit (fresh s₀) (take at input)) = record { state = f .state; text = refl } in
+      let before : Drained p lineLimit s₀ (take at input) s (feedText p lineLimit (atLineStart s₀) (take at input)) = record { state = f .state; text = refl } in
       let x = more p lineLimit b before (take k d) (rw first (open-before d)) in
       let t = then (f .output) q in
       record {

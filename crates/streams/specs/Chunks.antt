@@ -1,4 +1,4 @@
--- The same program on a text that comes in pieces, with a part of a line kept between them. Assumes nothing.
+-- The same program on a text that comes in pieces, with a part of a line kept between them.
 use mathlib.Core.Path.{_≡_}
 use Prim.Native.Nat.{ℕ}
 use mathlib.Core.Bool.{cond}
@@ -19,16 +19,16 @@ pub record Bounded {S : Type 0} (p : Program S) (limit : ℕ) : Type 0 where
   pub text : (s : S) (l : List ℕ) → p .text s (take limit l) ≡ p .text s l
 
 -- with a part of a line, and at the start of one
-abbrev pub within : {S : Type 0} → S → List ℕ → Position S
-within s l = record { state = s; line = l }
+abbrev pub inLine : {S : Type 0} → S → List ℕ → Position S
+inLine s l = record { state = s; line = l }
 
-abbrev pub fresh : {S : Type 0} → S → Position S
-fresh s = within s []
+abbrev pub atLineStart : {S : Type 0} → S → Position S
+atLineStart s = inLine s []
 
 module _ {S : Type 0} (p : Program S) (limit : ℕ) where
   -- one character: a newline ends the line, any other is kept, up to `limit` of a line
   abbrev pub fed : Position S → ℕ → Position S
-  fed a c = cond (eqb c newline) (fresh (p .next (a .state) (a .line))) (within (a .state) (take limit (a .line ++ (c ∷ []))))
+  fed a c = cond (eqb c newline) (atLineStart (p .next (a .state) (a .line))) (inLine (a .state) (take limit (a .line ++ (c ∷ []))))
 
   abbrev pub fedText : Position S → ℕ → List ℕ
   fedText a c = cond (eqb c newline) (p .text (a .state) (a .line)) []

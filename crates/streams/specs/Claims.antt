@@ -1,16 +1,16 @@
 -- What is claimed of programs over lines whose input comes in pieces: proofs/Pieces.antt, proofs/Limit.antt and proofs/Ended.antt have the
--- theorems. Assumes nothing.
+-- theorems.
 use mathlib.Core.Path.{_≡_}
 use Prim.Native.Nat.{ℕ, _<_}
 use mathlib.Core.List.{List, [], _++_}
 use Rattle.line_input.specs.Reading.{lineLimit}
 use Rattle.streams.specs.Lines.{Program, outputOf}
-use Rattle.streams.specs.Chunks.{Bounded, within, fresh, feed, feedText, feedAll, feedAllText, endText, joined}
+use Rattle.streams.specs.Chunks.{Bounded, inLine, atLineStart, feed, feedText, feedAll, feedAllText, endText, joined}
 use Rattle.streams.specs.Collect.{Collector, starting, over, collect, collected}
 
 -- what is written for the pieces, and then at the end
 abbrev pub piecesText : {S : Type 0} → Program S → ℕ → S → List (List ℕ) → List ℕ
-piecesText p limit s xs = feedAllText p limit (fresh s) xs ++ endText p (feedAll p limit (fresh s) xs)
+piecesText p limit s xs = feedAllText p limit (atLineStart s) xs ++ endText p (feedAll p limit (atLineStart s) xs)
 
 -- where a program can tell a line by its front, this is what it writes for the whole text
 abbrev pub InPieces : {S : Type 0} → Program S → ℕ → Type 0
@@ -22,8 +22,8 @@ CollectedInPieces m = (xs : List (List ℕ)) → piecesText (collect m) lineLimi
 
 -- a run that a wrong first line ended writes nothing more, whatever comes and however it is cut, so that reading may end there
 pub record Ended {C : Type 0} (m : Collector C) (line input : List ℕ) : Type 0 where
-  pub silent : feedText (collect m) lineLimit (within over line) input ≡ []
-  pub noEnd : endText (collect m) (feed (collect m) lineLimit (within over line) input) ≡ []
+  pub silent : feedText (collect m) lineLimit (inLine over line) input ≡ []
+  pub noEnd : endText (collect m) (feed (collect m) lineLimit (inLine over line) input) ≡ []
 
 abbrev pub StaysEnded : {C : Type 0} → Collector C → Type 0
 StaysEnded m = (line input : List ℕ) → Ended m line input

@@ -1,8 +1,8 @@
--- The program `collect` (document 01, "Cases"), over any collector. Assumes nothing.
+-- The program `collect` (document 01, "Cases"), over any collector.
 use Prim.Native.Nat.{ℕ}
 use mathlib.Core.List.{List, []}
 use Rattle.line_input.specs.declared.Setting.{Setting}
-use Rattle.line_input.specs.Reading.{Reading, reception, bad, settingOf, readingOf}
+use Rattle.line_input.specs.Reading.{Reading, reception, bad, settingOf, lineReading}
 use Rattle.line_output.specs.declared.Row.{Row}
 use Rattle.line_output.specs.Text.{rowText, badText}
 use Rattle.streams.specs.Lines.{Program, outputOf}
@@ -42,12 +42,12 @@ module _ {C : Type 0} (m : Collector C) where
 
   abbrev pub nextPhase : Phase C → List ℕ → Phase C
   nextPhase starting l = afterFirst (settingOf l)
-  nextPhase (running c) l = running (afterLine c (readingOf l))
+  nextPhase (running c) l = running (afterLine c (lineReading l))
   nextPhase over l = over
 
   abbrev pub phaseText : Phase C → List ℕ → List ℕ
   phaseText starting l = firstText (settingOf l)
-  phaseText (running c) l = lineText c (readingOf l)
+  phaseText (running c) l = lineText c (lineReading l)
   phaseText over l = []
 
   -- the end: BAD where there was no line, the totals after a run, nothing after one that was ended

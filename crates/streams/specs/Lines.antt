@@ -1,4 +1,4 @@
--- A program that reads lines, and what it writes for a whole text. Assumes nothing.
+-- A program that reads lines, and what it writes for a whole text.
 use Prim.Native.Nat.{ℕ}
 use mathlib.Core.Bool.{cond}
 use mathlib.Core.List.{List, [], _∷_, _++_}

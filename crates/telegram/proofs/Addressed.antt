@@ -1,4 +1,4 @@
--- The cases of `encapsulateOf` and `decapsulateOf`. Assumes nothing.
+-- The cases of `encapsulateOf` and `decapsulateOf`.
 use mathlib.Core.Path.{_≡_, refl}
 use mathlib.Core.Bool.{Bool, true, false, cond, not}
 use mathlib.Core.List.{List}

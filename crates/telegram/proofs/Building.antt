@@ -1,4 +1,4 @@
--- The cases of `admissionOf` and `buildOf`, and the lengths of a telegram that can be built. Assumes nothing.
+-- The cases of `admissionOf` and `buildOf`, and the lengths of a telegram that can be built.
 use mathlib.Core.Path.{_≡_, refl, _∙_}
 use mathlib.Core.Bool.{Bool, true, false, _||_}
 use mathlib.Core.List.{List}
@@ -17,7 +17,7 @@ use Rattle.telegram.proofs.Frames.{unrefused}
 use Rattle.telegram.specs.declared.fields.Telegram.{Telegram}
 use Rattle.telegram.specs.declared.frame.Built.the-variants.{Refused}
 use Rattle.telegram.specs.Output.{resultOf, putOf}
-use Rattle.telegram.specs.Fields.{maxData, dataOf, headOf, idsOf, bytesOf, isUnbuildable, buildOf, admissionOf, Buildable, Shaped}
+use Rattle.telegram.specs.Fields.{maxData, dataOf, headOf, idsOf, telegramBytes, isUnbuildable, buildOf, admissionOf, Buildable, Shaped}
 
 -- ---- the lengths of what is built
 
@@ -31,17 +31,17 @@ module _ (t : Telegram) (shape : Shaped t) (high : t .len ≤ maxData) where
   pub ids-plain : t .addressed ≡ false → length (idsOf t) ≡ 4
   ids-plain e = rw e (shape .txid)
 
-  pub bytes-addressed : t .addressed ≡ true → length (bytesOf t) ≡ t .len + 12
-  unfolding bytesOf
+  pub bytes-addressed : t .addressed ≡ true → length (telegramBytes t) ≡ t .len + 12
+  unfolding telegramBytes
   bytes-addressed e = simp (length-append, data-length, ids-addressed e, e) (omega arith)
 
-  pub bytes-plain : t .addressed ≡ false → length (bytesOf t) ≡ t .len + 7
-  unfolding bytesOf
+  pub bytes-plain : t .addressed ≡ false → length (telegramBytes t) ≡ t .len + 7
+  unfolding telegramBytes
   bytes-plain e = simp (length-append, data-length, ids-plain e, e) (omega arith)
 
   -- the parts of what is built
-  pub bytes-length : length (bytesOf t) ≡ length (headOf t) + t .len + length (idsOf t) + 2
-  unfolding bytesOf
+  pub bytes-length : length (telegramBytes t) ≡ length (headOf t) + t .len + length (idsOf t) + 2
+  unfolding telegramBytes
   bytes-length = simp (length-append, data-length) (omega arith)
 
 -- ---- the cases of `admissionOf`
@@ -62,16 +62,16 @@ module _ (t : Telegram) where
       outer-rorg h = simp (le-ltb _ _ low, le-ltb _ _ high, eq-eqb _ _ h)
 
       module _ (inner : t .rorg ≡ addressed → ⊥) where
-        pub too-long : maxLength < length (bytesOf t) → numberOf TooLong ≡ admissionOf t
+        pub too-long : maxLength < length (telegramBytes t) → numberOf TooLong ≡ admissionOf t
         unfolding admissionOf isUnbuildable
         too-long h = simp (le-ltb _ _ low, le-ltb _ _ high, ne-eqb _ _ inner, lt-ltb _ _ h)
 
-        pub admitted : length (bytesOf t) ≤ maxLength → 0 ≡ admissionOf t
+        pub admitted : length (telegramBytes t) ≤ maxLength → 0 ≡ admissionOf t
         unfolding admissionOf isUnbuildable
         admitted h = simp (le-ltb _ _ low, le-ltb _ _ high, ne-eqb _ _ inner, le-ltb _ _ h)
 
   -- and back
-  pub buildable-fields : isUnbuildable t ≡ false → length (bytesOf t) ≤ maxLength → Buildable t
+  pub buildable-fields : isUnbuildable t ≡ false → length (telegramBytes t) ≤ maxLength → Buildable t
   unfolding isUnbuildable
   buildable-fields e h =
       let first = neither (ltb (t .len) 1 || ltb maxData (t .len)) (eqb (t .rorg) addressed) e in
@@ -89,21 +89,21 @@ module _ (t : Telegram) where
 module _ (t : Telegram) (out : List ℕ) where
   pub build-refused : (why : Refusal) → numberOf why ≡ admissionOf t → resultOf (Refused why) out ≡ buildOf t out
   unfolding admissionOf buildOf putOf
-  build-refused why e = go (isUnbuildable t) (ltb maxLength (length (bytesOf t))) refl refl
+  build-refused why e = go (isUnbuildable t) (ltb maxLength (length (telegramBytes t))) refl refl
     where
-      go : (a b : Bool) → isUnbuildable t ≡ a → ltb maxLength (length (bytesOf t)) ≡ b → resultOf (Refused why) out ≡ buildOf t out
+      go : (a b : Bool) → isUnbuildable t ≡ a → ltb maxLength (length (telegramBytes t)) ≡ b → resultOf (Refused why) out ≡ buildOf t out
       go true b p q = let n : numberOf why ≡ numberOf Argument = rw p at e in rw (p, n)
       go false true p q = let n : numberOf why ≡ numberOf TooLong = rw (p, q) at e in rw (p, q, n)
       go false false p q = let n : numberOf why ≡ 0 = rw (p, q) at e in absurd (refused-number why n)
 
-  pub build-facts : buildOf t out .number ≡ 0 → (isUnbuildable t ≡ false) × (putOf (bytesOf t) out .number ≡ 0)
+  pub build-facts : buildOf t out .number ≡ 0 → (isUnbuildable t ≡ false) × (putOf (telegramBytes t) out .number ≡ 0)
   unfolding buildOf
-  build-facts e = unrefused (isUnbuildable t) _ out (putOf (bytesOf t) out) (refused-number Argument) e
+  build-facts e = unrefused (isUnbuildable t) _ out (putOf (telegramBytes t) out) (refused-number Argument) e
 
-  pub build-fields : isUnbuildable t ≡ false → buildOf t out ≡ putOf (bytesOf t) out
+  pub build-fields : isUnbuildable t ≡ false → buildOf t out ≡ putOf (telegramBytes t) out
   unfolding buildOf
   build-fields e = rw e
 
-  pub build-put : admissionOf t ≡ 0 → putOf (bytesOf t) out ≡ buildOf t out
+  pub build-put : admissionOf t ≡ 0 → putOf (telegramBytes t) out ≡ buildOf t out
   unfolding admissionOf buildOf
   build-put e = rw (cond-no (isUnbuildable t) (refused-number Argument) e .0)

@@ -1,4 +1,4 @@
--- Lists that are zero filled to a length: one element more, and a list more. Assumes nothing.
+-- Lists that are zero filled to a length: one element more, and a list more.
 use mathlib.Core.Path.{_≡_, refl, sym, ap, _∙_}
 use mathlib.Core.Bool.{Bool, true, false, cond}
 use mathlib.Core.List.{List, [], _∷_, _++_, append-assoc, append-nil}

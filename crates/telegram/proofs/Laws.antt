@@ -1,4 +1,4 @@
--- The claims of specs/Claims.antt: each codec undoes the other, as whole answers, and what a repeater sends. Assumes nothing.
+-- The claims of specs/Claims.antt: each codec undoes the other, as whole answers, and what a repeater sends.
 use mathlib.Core.Path.{_≡_, refl, sym, ap, _∙_}
 use mathlib.Core.Bool.{Bool, true, false}
 use mathlib.Core.List.{List, []}
@@ -12,7 +12,7 @@ use Rattle.erp1.specs.Subtelegram.{maxLength, checkOf, statusOf, isValid}
 use Rattle.erp1.proofs.Checks.{check-facts}
 use Rattle.telegram.specs.declared.fields.Telegram.{Telegram}
 use Rattle.telegram.specs.Output.{Result, written, resultBytes, putOf}
-use Rattle.telegram.specs.Fields.{fieldsOf, Read, readOf, bytesOf, isUnbuildable, buildOf, Buildable, Shaped, normalOf}
+use Rattle.telegram.specs.Fields.{fieldsOf, Read, readOf, telegramBytes, isUnbuildable, buildOf, Buildable, Shaped, normalOf}
 use Rattle.telegram.specs.Addressing.{addressedTo, unaddressed, encapsulated, decapsulated, encapsulateOf, decapsulateOf}
 use Rattle.telegram.specs.Frame.{frameOf}
 use Rattle.telegram.specs.Repeater.{levelOf, maxSetting, repeats, repeatOf, repeatResult, RaisedFrom}
@@ -41,11 +41,11 @@ written-bytes xs out = take-append-seam xs _
 pub read-built : ReadBuilt
 read-built t shape out e =
     let f = build-facts t out e in
-    let p = put-facts (bytesOf t) out (f .1) in
-    let made = build-fields t out (f .0) ∙ put-written (bytesOf t) out (p .0) (p .1) in
+    let p = put-facts (telegramBytes t) out (f .1) in
+    let made = build-fields t out (f .0) ∙ put-written (telegramBytes t) out (p .0) (p .1) in
     let b = buildable-fields t (f .0) (p .0) in
-    ap (λ (r : Result). readOf (resultBytes r)) made ∙ ap readOf (written-bytes (bytesOf t) out)
-    ∙ read-fields (bytesOf t) (built-valid t shape b) ∙ ap (λ (u : Telegram). record { number = 0; telegram = u }) (built-reads t shape b)
+    ap (λ (r : Result). readOf (resultBytes r)) made ∙ ap readOf (written-bytes (telegramBytes t) out)
+    ∙ read-fields (telegramBytes t) (built-valid t shape b) ∙ ap (λ (u : Telegram). record { number = 0; telegram = u }) (built-reads t shape b)
 
 -- what is read builds the same bytes
 pub build-read : BuildRead
@@ -59,14 +59,14 @@ build-read s out e h =
 
 -- what was written is removed from, and encapsulated again
 module _ (t : Telegram) (shape : Shaped t) (b : Buildable t) (s last : List ℕ) (high : length s ≤ maxLength) (h : length s ≤ length last) where
-  removed : t .addressed ≡ true → bytesOf (unaddressed t) ≡ s → decapsulateOf (bytesOf t) last ≡ written s last
+  removed : t .addressed ≡ true → telegramBytes (unaddressed t) ≡ s → decapsulateOf (telegramBytes t) last ≡ written s last
   removed a e =
-      sym (decapsulate-put (bytesOf t) last (built-valid t shape b) (built-flag t shape b ∙ a))
+      sym (decapsulate-put (telegramBytes t) last (built-valid t shape b) (built-flag t shape b ∙ a))
       ∙ ap (λ (xs : List ℕ). putOf xs last) (built-decapsulated t shape b ∙ e) ∙ put-written s last high h
 
-  addressed-again : (to : List ℕ) → t .addressed ≡ false → bytesOf (addressedTo t to) ≡ s → encapsulateOf (bytesOf t) to last ≡ written s last
+  addressed-again : (to : List ℕ) → t .addressed ≡ false → telegramBytes (addressedTo t to) ≡ s → encapsulateOf (telegramBytes t) to last ≡ written s last
   addressed-again to a e =
-      sym (encapsulate-put (bytesOf t) last (built-valid t shape b) to (built-flag t shape b ∙ a))
+      sym (encapsulate-put (telegramBytes t) last (built-valid t shape b) to (built-flag t shape b ∙ a))
       ∙ ap (λ (xs : List ℕ). putOf xs last) (built-encapsulated t shape b to ∙ e) ∙ put-written s last high h
 
 -- removal gives back what was encapsulated

@@ -1,4 +1,4 @@
--- The layout of a subtelegram: a list made of its fields, and the fields as parts of a list. Assumes nothing.
+-- The layout of a subtelegram: a list made of its fields, and the fields as parts of a list.
 use mathlib.Core.Path.{_≡_, refl, sym, ap, _∙_}
 use mathlib.Core.List.{List, [], _∷_, _++_, append-assoc}
 use Prim.Native.Nat.{ℕ, _+_, _-_, _≤_, _<_}
@@ -8,17 +8,17 @@ use native.Mathlib.Numerals.{add-one}
 use lib.ListN.{length, getD, take, length-append}
 use lib.Seq.{take-at, drop-at, getD-at, take-add, take-suc}
 use Rattle.erp1.specs.Subtelegram.{hashOf, bodyOf, lastOf, sealedOf}
-use Rattle.telegram.specs.Fields.{part}
+use Rattle.telegram.specs.Fields.{between}
 
 -- ---- a list's parts, put together
-pub take-part : (a b : ℕ) (s : List ℕ) → a ≤ b → take a s ++ part a b s ≡ take b s
+pub take-part : (a b : ℕ) (s : List ℕ) → a ≤ b → take a s ++ between a b s ≡ take b s
 take-part a b s h = sym (take-add a (b - a) s) ∙ ap (λ (n : ℕ). take n s) (add-sub-of-le h)
 
 pub take-next : (a b : ℕ) (s : List ℕ) → a + 1 ≡ b → a < length s → take a s ++ (getD s a 0 ∷ []) ≡ take b s
 take-next a b s e h = sym (take-suc s a 0 h) ∙ ap (λ (n : ℕ). take n s) (sym (add-one a) ∙ e)
 
 -- ---- a part of a list that is put together
-part-at : (p m q s : List ℕ) (a b : ℕ) → s ≡ p ++ (m ++ q) → length p ≡ a → a + length m ≡ b → part a b s ≡ m
+part-at : (p m q s : List ℕ) (a b : ℕ) → s ≡ p ++ (m ++ q) → length p ≡ a → a + length m ≡ b → between a b s ≡ m
 part-at p m q s a b e h k = rw (e, drop-at p (m ++ q) a h) (take-at m q (b - a) (omega arith))
 
 -- ---- a list with one element more, and so a sealed one, which has the right HASH
@@ -43,15 +43,15 @@ module _ (H D E X : List ℕ) (st : ℕ) where
   unfolding laid
   laid-length = simp length-append (omega arith)
 
-  pub laid-data : (a b : ℕ) → length H ≡ a → a + length D ≡ b → part a b laid ≡ D
+  pub laid-data : (a b : ℕ) → length H ≡ a → a + length D ≡ b → between a b laid ≡ D
   unfolding laid
   laid-data a b e k = part-at H D ((E ++ X) ++ (st ∷ hashOf bodyLaid ∷ [])) laid a b (simp append-assoc) e k
 
-  pub laid-destid : (a b : ℕ) → length H + length D ≡ a → a + length E ≡ b → part a b laid ≡ E
+  pub laid-destid : (a b : ℕ) → length H + length D ≡ a → a + length E ≡ b → between a b laid ≡ E
   unfolding laid
   laid-destid a b e k = part-at (H ++ D) E (X ++ (st ∷ hashOf bodyLaid ∷ [])) laid a b (simp append-assoc) (length-append H D ∙ e) k
 
-  pub laid-txid : (a b : ℕ) → length H + length D + length E ≡ a → a + length X ≡ b → part a b laid ≡ X
+  pub laid-txid : (a b : ℕ) → length H + length D + length E ≡ a → a + length X ≡ b → between a b laid ≡ X
   unfolding laid
   laid-txid a b e k =
       part-at ((H ++ D) ++ E) X (st ∷ hashOf bodyLaid ∷ []) laid a b (simp append-assoc) (simp length-append e) k

@@ -1,4 +1,4 @@
--- The cases of `fieldsOf` and `readOf`, and what a reading says of the check and the fields. Assumes nothing.
+-- The cases of `fieldsOf` and `readOf`, and what a reading says of the check and the fields.
 use mathlib.Core.Path.{_≡_, refl, sym, ap, _∙_}
 use mathlib.Core.Bool.{Bool, true, false, cond}
 use mathlib.Core.List.{List, _++_}
@@ -16,7 +16,7 @@ use Rattle.erp1.specs.Subtelegram.{addressed, checkOf, checkedNumber, isAddress
 use Rattle.erp1.proofs.Checks.{Sound, told-valid, told-refused, not-valid}
 use Rattle.telegram.specs.declared.fields.Telegram.{Telegram}
 use Rattle.telegram.specs.declared.fields.Reading.{Reading}
-use Rattle.telegram.specs.Fields.{maxData, isUnbuildable, plainFields, addressedFields, fieldsOf, noTelegram, Read, readingOf, readOf}
+use Rattle.telegram.specs.Fields.{maxData, isUnbuildable, plainFields, addressedFields, fieldsOf, noTelegram, Read, shownReading, readOf}
 
 -- a copy into zeros
 pub padded-copy : (m : ℕ) (xs last : List ℕ) → last ≡ take (length xs) xs ++ drop (length xs) (replicate m 0) → last ≡ padded m xs
@@ -40,16 +40,16 @@ module _ (s : List ℕ) where
       go true = refl
       go false = refl
 
-  pub read-valid : (t : Telegram) → checkOf s ≡ 0 → t ≡ fieldsOf s → readingOf (record { checked = Valid; telegram = t }) ≡ readOf s
+  pub read-valid : (t : Telegram) → checkOf s ≡ 0 → t ≡ fieldsOf s → shownReading (record { checked = Valid; telegram = t }) ≡ readOf s
   unfolding readOf
   read-valid t e f = rw (e, f)
 
   pub read-refused : (t : Telegram) (why : Refusal) → numberOf why ≡ checkOf s → t ≡ noTelegram
-      → readingOf (record { checked = Refused why; telegram = t }) ≡ readOf s
+      → shownReading (record { checked = Refused why; telegram = t }) ≡ readOf s
   unfolding readOf
   read-refused t why e f = rw (not-valid s why e, e, f)
 
-  module _ (r : Reading) (e : readingOf r ≡ readOf s) where
+  module _ (r : Reading) (e : shownReading r ≡ readOf s) where
     read-number : checkedNumber (r .checked) ≡ checkOf s
     unfolding readOf
     read-number = ap (λ (x : Read). x .number) e

@@ -1,4 +1,4 @@
--- The cases of the repeater step, and what is sent: a valid telegram, the same but for its level and HASH. Assumes nothing.
+-- The cases of the repeater step, and what is sent: a valid telegram, the same but for its level and HASH.
 use mathlib.Core.Path.{_≡_, refl, sym, _∙_}
 use mathlib.Core.Bool.{Bool, true, false, not, and-false, true≢false}
 use mathlib.Core.List.{List, [], _∷_, _++_, append-assoc}

@@ -1,4 +1,4 @@
--- What is built is valid and reads back, what is read builds the same bytes, and an address is put on and taken off. Assumes nothing.
+-- What is built is valid and reads back, what is read builds the same bytes, and an address is put on and taken off.
 use mathlib.Core.Path.{_≡_, refl, sym, ap, _∙_}
 use mathlib.Core.Bool.{Bool, true, false}
 use mathlib.Core.List.{List, [], _∷_, _++_, append-assoc}
@@ -11,7 +11,7 @@ use Rattle.lists.specs.Lists.{padded}
 use Rattle.erp1.specs.Subtelegram.{addressed, bodyOf, lastOf, statusOf, isAddressed, checkOf, sealedOf}
 use Rattle.erp1.proofs.Checks.{Sound, check-plain, check-addressed, status-at}
 use Rattle.telegram.specs.declared.fields.Telegram.{Telegram}
-use Rattle.telegram.specs.Fields.{maxData, part, plainFields, addressedFields, fieldsOf, dataOf, bytesOf, Buildable, Shaped, normalOf}
+use Rattle.telegram.specs.Fields.{maxData, between, plainFields, addressedFields, fieldsOf, dataOf, telegramBytes, Buildable, Shaped, normalOf}
 use Rattle.telegram.specs.Addressing.{addressedTo, unaddressed, encapsulated, decapsulated}
 use Rattle.telegram.proofs.Reading.{fields-plain, fields-addressed, fields-flag}
 use Rattle.telegram.proofs.Building.{data-length, bytes-addressed}
@@ -72,19 +72,19 @@ module _ (t : Telegram) (shape : Shaped t) (a : Buildable t) where
   long : length (dataOf t) ≡ t .len
   long = data-length t shape (a .high)
 
-  laid-plain : t .addressed ≡ false → bytesOf t ≡ laid (t .rorg ∷ []) (dataOf t) [] (t .txid) (t .status)
-  unfolding bytesOf laid
+  laid-plain : t .addressed ≡ false → telegramBytes t ≡ laid (t .rorg ∷ []) (dataOf t) [] (t .txid) (t .status)
+  unfolding telegramBytes laid
   laid-plain e = rw e
 
-  laid-addressed : t .addressed ≡ true → bytesOf t ≡ laid (addressed ∷ t .rorg ∷ []) (dataOf t) (t .destid) (t .txid) (t .status)
-  unfolding bytesOf laid
+  laid-addressed : t .addressed ≡ true → telegramBytes t ≡ laid (addressed ∷ t .rorg ∷ []) (dataOf t) (t .destid) (t .txid) (t .status)
+  unfolding telegramBytes laid
   laid-addressed e = rw e
 
   -- what is built is valid
-  pub built-valid : checkOf (bytesOf t) ≡ 0
+  pub built-valid : checkOf (telegramBytes t) ≡ 0
   built-valid = go (t .addressed) refl
     where
-      go : (b : Bool) → t .addressed ≡ b → checkOf (bytesOf t) ≡ 0
+      go : (b : Bool) → t .addressed ≡ b → checkOf (telegramBytes t) ≡ 0
       go false e =
           rw (laid-plain e)
           (sym (plain-valid (t .rorg) (dataOf t) (t .txid) (t .status) (omega (arith, long, a .low)) (shape .txid) (a .inner) (omega (arith, long, a .high))))
@@ -94,10 +94,10 @@ module _ (t : Telegram) (shape : Shaped t) (a : Buildable t) where
           (omega (arith, long, a .fits, bytes-addressed t shape (a .high) e))))
 
   -- and reads back
-  pub built-reads : fieldsOf (bytesOf t) ≡ normalOf t
+  pub built-reads : fieldsOf (telegramBytes t) ≡ normalOf t
   built-reads = go (t .addressed) refl
     where
-      go : (b : Bool) → t .addressed ≡ b → fieldsOf (bytesOf t) ≡ normalOf t
+      go : (b : Bool) → t .addressed ≡ b → fieldsOf (telegramBytes t) ≡ normalOf t
       go false e =
           rw (laid-plain e, plain-fields (t .rorg) (dataOf t) (t .txid) (t .status) (omega (arith, long, a .low)) (shape .txid) (a .inner), long, e) refl
       go true e =
@@ -107,11 +107,11 @@ module _ (t : Telegram) (shape : Shaped t) (a : Buildable t) where
 padded-length : (m : ℕ) (xs : List ℕ) → length xs ≤ m → length (padded m xs) ≡ m
 padded-length m xs h = simp (length-append, length-replicate) (omega arith)
 
-part-length : (p q : ℕ) (s : List ℕ) → p ≤ q → q ≤ length s → length (part p q s) ≡ q - p
+part-length : (p q : ℕ) (s : List ℕ) → p ≤ q → q ≤ length s → length (between p q s) ≡ q - p
 part-length p q s h k = length-take-le (q - p) (drop p s) (simp length-drop (omega arith))
 
-data-is : (p q n : ℕ) (s : List ℕ) → n ≡ q - p → p ≤ q → q ≤ length s → take n (padded maxData (part p q s)) ≡ part p q s
-data-is p q n s e h k = take-at (part p q s) _ n (part-length p q s h k ∙ sym e)
+data-is : (p q n : ℕ) (s : List ℕ) → n ≡ q - p → p ≤ q → q ≤ length s → take n (padded maxData (between p q s)) ≡ between p q s
+data-is p q n s e h k = take-at (between p q s) _ n (part-length p q s h k ∙ sym e)
 
 module _ (s : List ℕ) (v : Sound s) where
   -- all bytes but the last, and the last
@@ -123,7 +123,7 @@ module _ (s : List ℕ) (v : Sound s) where
 
   -- the last fields: from TXID on
   tail-is : (front : List ℕ) → front ≡ take (length s - 6) s
-      → (front ++ part (length s - 6) (length s - 2) s) ++ (statusOf s ∷ []) ≡ bodyOf s
+      → (front ++ between (length s - 6) (length s - 2) s) ++ (statusOf s ∷ []) ≡ bodyOf s
   tail-is front e =
       rw (e, take-part (length s - 6) (length s - 2) s (omega arith), status-at s (omega (arith, v .low)))
       (take-next (length s - 2) (length s - 1) s (omega (arith, v .low)) (omega (arith, v .low)))
@@ -138,35 +138,35 @@ module _ (s : List ℕ) (v : Sound s) where
   plain-front : (getD s 0 0 ∷ []) ++ dataOf (plainFields s) ≡ take (length s - 6) s
   plain-front =
       rw (data-is 1 (length s - 6) (length s - 7) s (omega arith) (omega (arith, v .low)) (omega arith))
-      (ap (λ (l : List ℕ). l ++ part 1 (length s - 6) s) one ∙ take-part 1 (length s - 6) s (omega (arith, v .low)))
+      (ap (λ (l : List ℕ). l ++ between 1 (length s - 6) s) one ∙ take-part 1 (length s - 6) s (omega (arith, v .low)))
 
-  plain-bytes : bytesOf (plainFields s) ≡ s
-  unfolding bytesOf
+  plain-bytes : telegramBytes (plainFields s) ≡ s
+  unfolding telegramBytes
   plain-bytes = body-is _ (tail-is _ plain-front)
 
   module _ (first : getD s 0 0 ≡ addressed) where
     -- the head, DATA and DESTID
-    addressed-front : ((addressed ∷ getD s 1 0 ∷ []) ++ dataOf (addressedFields s)) ++ part (length s - 10) (length s - 6) s ≡ take (length s - 6) s
+    addressed-front : ((addressed ∷ getD s 1 0 ∷ []) ++ dataOf (addressedFields s)) ++ between (length s - 10) (length s - 6) s ≡ take (length s - 6) s
     addressed-front =
         let l = v .inner first .0 in
         rw (data-is 2 (length s - 10) (length s - 12) s (omega arith) (omega arith) (omega arith))
-        (ap (λ (l : List ℕ). (l ++ part 2 (length s - 10) s) ++ part (length s - 10) (length s - 6) s) (rw first at two)
-        ∙ ap (λ (l : List ℕ). l ++ part (length s - 10) (length s - 6) s) (take-part 2 (length s - 10) s (omega arith))
+        (ap (λ (l : List ℕ). (l ++ between 2 (length s - 10) s) ++ between (length s - 10) (length s - 6) s) (rw first at two)
+        ∙ ap (λ (l : List ℕ). l ++ between (length s - 10) (length s - 6) s) (take-part 2 (length s - 10) s (omega arith))
         ∙ take-part (length s - 10) (length s - 6) s (omega arith))
 
-    addressed-bytes : bytesOf (addressedFields s) ≡ s
-    unfolding bytesOf
+    addressed-bytes : telegramBytes (addressedFields s) ≡ s
+    unfolding telegramBytes
     addressed-bytes =
         body-is _
         (ap (λ (l : List ℕ). l ++ (statusOf s ∷ []))
-        (sym (append-assoc ((addressed ∷ getD s 1 0 ∷ []) ++ dataOf (addressedFields s)) (part (length s - 10) (length s - 6) s) (part (length s - 6) (length s - 2) s)))
+        (sym (append-assoc ((addressed ∷ getD s 1 0 ∷ []) ++ dataOf (addressedFields s)) (between (length s - 10) (length s - 6) s) (between (length s - 6) (length s - 2) s)))
         ∙ tail-is _ addressed-front)
 
   -- what is read builds the same bytes
-  pub read-builds : bytesOf (fieldsOf s) ≡ s
+  pub read-builds : telegramBytes (fieldsOf s) ≡ s
   read-builds = go (isAddressed s) refl
     where
-      go : (b : Bool) → isAddressed s ≡ b → bytesOf (fieldsOf s) ≡ s
+      go : (b : Bool) → isAddressed s ≡ b → telegramBytes (fieldsOf s) ≡ s
       go true e = rw (← fields-addressed s (eqb-true _ _ e)) (addressed-bytes (eqb-true _ _ e))
       go false e = rw (← fields-plain s (eqb-false _ _ e)) plain-bytes
 
@@ -178,14 +178,14 @@ module _ (s : List ℕ) (v : Sound s) where
       go true e =
           let l = v .inner (eqb-true _ _ e) .0 in
           rw (← fields-addressed s (eqb-true _ _ e)) (record {
-            payload = padded-length maxData (part 2 (length s - 10) s) (rw (part-length 2 (length s - 10) s (omega arith) (omega arith)) (omega (arith, v .high)));
+            payload = padded-length maxData (between 2 (length s - 10) s) (rw (part-length 2 (length s - 10) s (omega arith) (omega arith)) (omega (arith, v .high)));
             destid = part-length (length s - 10) (length s - 6) s (omega arith) (omega arith) ∙ omega arith;
             txid = part-length (length s - 6) (length s - 2) s (omega arith) (omega arith) ∙ omega arith;
           })
       go false e =
           let l = v .low in
           rw (← fields-plain s (eqb-false _ _ e)) (record {
-            payload = padded-length maxData (part 1 (length s - 6) s) (rw (part-length 1 (length s - 6) s (omega arith) (omega arith)) (omega (arith, v .high)));
+            payload = padded-length maxData (between 1 (length s - 6) s) (rw (part-length 1 (length s - 6) s (omega arith) (omega arith)) (omega (arith, v .high)));
             destid = refl;
             txid = part-length (length s - 6) (length s - 2) s (omega arith) (omega arith) ∙ omega arith;
           })
@@ -193,28 +193,28 @@ module _ (s : List ℕ) (v : Sound s) where
 -- ---- the address of what was built, put on and taken off
 
 module _ (t : Telegram) where
-  unaddressed-same : t .addressed ≡ false → bytesOf (unaddressed t) ≡ bytesOf t
-  unfolding bytesOf
+  unaddressed-same : t .addressed ≡ false → telegramBytes (unaddressed t) ≡ telegramBytes t
+  unfolding telegramBytes
   unaddressed-same e = rw e
 
-  addressed-same : t .addressed ≡ true → bytesOf (addressedTo t (t .destid)) ≡ bytesOf t
-  unfolding bytesOf
+  addressed-same : t .addressed ≡ true → telegramBytes (addressedTo t (t .destid)) ≡ telegramBytes t
+  unfolding telegramBytes
   addressed-same e = rw e
 
   module _ (shape : Shaped t) (a : Buildable t) where
-    pub built-flag : isAddressed (bytesOf t) ≡ t .addressed
-    built-flag = sym (fields-flag (bytesOf t)) ∙ ap (λ (u : Telegram). u .addressed) (built-reads t shape a)
+    pub built-flag : isAddressed (telegramBytes t) ≡ t .addressed
+    built-flag = sym (fields-flag (telegramBytes t)) ∙ ap (λ (u : Telegram). u .addressed) (built-reads t shape a)
 
     pub normal-data : dataOf (normalOf t) ≡ dataOf t
     normal-data = take-at (dataOf t) _ (t .len) (data-length t shape (a .high))
 
-    pub built-decapsulated : decapsulated (bytesOf t) ≡ bytesOf (unaddressed t)
-    unfolding bytesOf
-    built-decapsulated = ap (λ (u : Telegram). bytesOf (unaddressed u)) (built-reads t shape a) ∙ rw normal-data
+    pub built-decapsulated : decapsulated (telegramBytes t) ≡ telegramBytes (unaddressed t)
+    unfolding telegramBytes
+    built-decapsulated = ap (λ (u : Telegram). telegramBytes (unaddressed u)) (built-reads t shape a) ∙ rw normal-data
 
-    pub built-encapsulated : (to : List ℕ) → encapsulated (bytesOf t) to ≡ bytesOf (addressedTo t to)
-    unfolding bytesOf
-    built-encapsulated to = ap (λ (u : Telegram). bytesOf (addressedTo u to)) (built-reads t shape a) ∙ rw normal-data
+    pub built-encapsulated : (to : List ℕ) → encapsulated (telegramBytes t) to ≡ telegramBytes (addressedTo t to)
+    unfolding telegramBytes
+    built-encapsulated to = ap (λ (u : Telegram). telegramBytes (addressedTo u to)) (built-reads t shape a) ∙ rw normal-data
 
 -- a subtelegram with its own address, or none, is itself
 module _ (s : List ℕ) (v : Sound s) where

@@ -1,4 +1,4 @@
--- Addressed encapsulation and its removal (document 01, "Subtelegram"; 001, 4.3.2): STATUS is kept and HASH renewed. Assumes nothing.
+-- Addressed encapsulation and its removal (document 01, "Subtelegram"; 001, 4.3.2): STATUS is kept and HASH renewed.
 use Prim.Native.Nat.{ℕ}
 use mathlib.Core.Bool.{Bool, true, false, cond, not}
 use mathlib.Core.List.{List}
@@ -8,7 +8,7 @@ use Rattle.refusal.specs.declared.Refusal.the-variants.{Nested, NotAddressed}
 use Rattle.erp1.specs.Subtelegram.{checkOf, isAddressed, isValid}
 use Rattle.telegram.specs.declared.fields.Telegram.{Telegram}
 use Rattle.telegram.specs.Output.{Result, refused, putOf}
-use Rattle.telegram.specs.Fields.{fieldsOf, bytesOf}
+use Rattle.telegram.specs.Fields.{fieldsOf, telegramBytes}
 
 -- a telegram with another address, or none; all else is kept, STATUS too
 abbrev pub withAddress : Telegram → Bool → List ℕ → Telegram
@@ -30,11 +30,11 @@ unaddressed t = withAddress t false (replicate 4 0)
 
 -- the bytes of s, encapsulated for a DESTID
 abbrev pub encapsulated : List ℕ → List ℕ → List ℕ
-encapsulated s to = bytesOf (addressedTo (fieldsOf s) to)
+encapsulated s to = telegramBytes (addressedTo (fieldsOf s) to)
 
 -- the bytes that s carries, as a plain telegram
 abbrev pub decapsulated : List ℕ → List ℕ
-decapsulated s = bytesOf (unaddressed (fieldsOf s))
+decapsulated s = telegramBytes (unaddressed (fieldsOf s))
 
 -- encapsulating, in document 01's order: the check's own, 3, 5, 6
 unfoldable pub encapsulateOf : List ℕ → List ℕ → List ℕ → Result

@@ -1,5 +1,5 @@
 -- What is claimed of the codec and of the repeater step: proofs/Laws.antt has the theorems. Each codec undoes the other, as whole answers: the
--- number, the length and every byte of the output. Assumes nothing.
+-- number, the length and every byte of the output.
 use mathlib.Core.Path.{_≡_}
 use mathlib.Core.List.{List, []}
 use Prim.Native.Nat.{ℕ, _≤_, _<_}

@@ -1,4 +1,4 @@
--- The fields of a subtelegram: what reading answers, and what building writes (document 01, "Subtelegram"). Assumes nothing.
+-- The fields of a subtelegram: what reading answers, and what building writes (document 01, "Subtelegram").
 use Prim.Native.Nat.{ℕ, _-_, _≤_}
 use mathlib.Core.Path.{_≡_}
 use mathlib.Core.Bool.{Bool, true, false, cond, _||_}
@@ -18,8 +18,8 @@ abbrev pub maxData : ℕ
 maxData = 14
 
 -- the elements of s from one index up to another
-abbrev pub part : ℕ → ℕ → List ℕ → List ℕ
-part from to s = take (to - from) (drop from s)
+abbrev pub between : ℕ → ℕ → List ℕ → List ℕ
+between from to s = take (to - from) (drop from s)
 
 -- ---- reading
 
@@ -27,11 +27,11 @@ part from to s = take (to - from) (drop from s)
 abbrev pub plainFields : List ℕ → Telegram
 plainFields s = record {
   rorg = getD s 0 0;
-  payload = padded maxData (part 1 (length s - 6) s);
+  payload = padded maxData (between 1 (length s - 6) s);
   len = length s - 7;
   addressed = false;
   destid = replicate 4 0;
-  txid = part (length s - 6) (length s - 2) s;
+  txid = between (length s - 6) (length s - 2) s;
   status = statusOf s;
 }
 
@@ -39,11 +39,11 @@ plainFields s = record {
 abbrev pub addressedFields : List ℕ → Telegram
 addressedFields s = record {
   rorg = getD s 1 0;
-  payload = padded maxData (part 2 (length s - 10) s);
+  payload = padded maxData (between 2 (length s - 10) s);
   len = length s - 12;
   addressed = true;
-  destid = part (length s - 10) (length s - 6) s;
-  txid = part (length s - 6) (length s - 2) s;
+  destid = between (length s - 10) (length s - 6) s;
+  txid = between (length s - 6) (length s - 2) s;
   status = statusOf s;
 }
 
@@ -68,8 +68,8 @@ pub record Read : Type 0 where
   pub number : ℕ
   pub telegram : Telegram
 
-abbrev pub readingOf : Reading → Read
-readingOf r = record { number = checkedNumber (r .checked); telegram = r .telegram }
+abbrev pub shownReading : Reading → Read
+shownReading r = record { number = checkedNumber (r .checked); telegram = r .telegram }
 
 unfoldable pub readOf : List ℕ → Read
 readOf s = record { number = checkOf s; telegram = cond (isValid s) (fieldsOf s) noTelegram }
@@ -87,8 +87,8 @@ abbrev pub idsOf : Telegram → List ℕ
 idsOf t = cond (t .addressed) (t .destid ++ t .txid) (t .txid)
 
 -- every byte of a telegram: [0xA6,] RORG, DATA, [DESTID,] TXID, STATUS, HASH
-unfoldable pub bytesOf : Telegram → List ℕ
-bytesOf t = sealedOf (((headOf t ++ dataOf t) ++ idsOf t) ++ (t .status ∷ []))
+unfoldable pub telegramBytes : Telegram → List ℕ
+telegramBytes t = sealedOf (((headOf t ++ dataOf t) ++ idsOf t) ++ (t .status ∷ []))
 
 -- "DATA not 1 to 14 or RORG 0xA6 when building"
 unfoldable pub isUnbuildable : Telegram → Bool
@@ -96,18 +96,18 @@ isUnbuildable t = ltb (t .len) 1 || ltb maxData (t .len) || eqb (t .rorg) addres
 
 -- building, in document 01's order: 10, 5, 6
 unfoldable pub buildOf : Telegram → List ℕ → Result
-buildOf t output = cond (isUnbuildable t) (refused (numberOf Argument) output) (putOf (bytesOf t) output)
+buildOf t output = cond (isUnbuildable t) (refused (numberOf Argument) output) (putOf (telegramBytes t) output)
 
 -- the refusals that do not look at the output (10, 5), which a private function tests; 0 for none
 unfoldable pub admissionOf : Telegram → ℕ
-admissionOf t = cond (isUnbuildable t) (numberOf Argument) (cond (ltb maxLength (length (bytesOf t))) (numberOf TooLong) 0)
+admissionOf t = cond (isUnbuildable t) (numberOf Argument) (cond (ltb maxLength (length (telegramBytes t))) (numberOf TooLong) 0)
 
 -- what holds of a telegram that can be built
 pub record Buildable (t : Telegram) : Type 0 where
   pub low : 1 ≤ t .len
   pub high : t .len ≤ maxData
   pub inner : t .rorg ≡ addressed → ⊥
-  pub fits : length (bytesOf t) ≤ maxLength
+  pub fits : length (telegramBytes t) ≤ maxLength
 
 -- ---- what the round trips speak of
 

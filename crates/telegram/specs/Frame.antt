@@ -1,4 +1,4 @@
--- A frame: the bytes of a subtelegram by value, zero filled to 21, with their length. Assumes nothing.
+-- A frame: the bytes of a subtelegram by value, zero filled to 21, with their length.
 use Prim.Native.Nat.{ℕ, _+_}
 use mathlib.Core.Path.{_≡_}
 use mathlib.Core.List.{List, _++_}

@@ -1,5 +1,4 @@
 -- What a call answers that writes a subtelegram into a lent output, and what the output then holds (document 01, "Numbers a caller sees").
--- Assumes nothing.
 use Prim.Native.Nat.{ℕ}
 use mathlib.Core.Bool.{cond}
 use mathlib.Core.List.{List, _++_}

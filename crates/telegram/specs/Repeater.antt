@@ -1,4 +1,4 @@
--- The repeater step (document 01, "Repeater step"; 001, Table 5). Assumes nothing.
+-- The repeater step (document 01, "Repeater step"; 001, Table 5).
 use Prim.Native.Nat.{ℕ, _+_}
 use mathlib.Core.Path.{_≡_}
 use mathlib.Core.Bool.{Bool, true, cond, not, _&&_, _||_}

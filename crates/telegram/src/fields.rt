@@ -6,7 +6,7 @@ ghost use Rattle.lists.specs.Lists.{padded};
 ghost use Rattle.erp1.specs.Subtelegram.{minLength, maxLength, minAddressedLength, checkedNumber};
 ghost use Rattle.telegram.specs.Frame.{frameOf, Extended};
 ghost use Rattle.telegram.specs.Output.{resultOf};
-ghost use Rattle.telegram.specs.Fields.{maxData, noTelegram, plainFields, addressedFields, readingOf, readOf, admissionOf, Buildable, headOf, idsOf, bytesOf, buildOf};
+ghost use Rattle.telegram.specs.Fields.{maxData, noTelegram, plainFields, addressedFields, shownReading, readOf, admissionOf, Buildable, headOf, idsOf, telegramBytes, buildOf};
 use crate::frame;
 use crate::frame::Built;
 use crate::frame::Frame;
@@ -39,7 +39,7 @@ pub struct Reading {
 
 // Checks a subtelegram and reads its fields.
 pub fn read(bytes: &[u8]) -> Reading
-    ensures { λ r. ⌜ readingOf r ≡ readOf (now (bytes .entry)) ⌝ }
+    ensures { λ r. ⌜ shownReading r ≡ readOf (now (bytes .entry)) ⌝ }
 {
     let checked = erp1::check(bytes);
     match checked {
@@ -179,7 +179,7 @@ fn admission(t: Telegram) -> Checked
 // The frame of a telegram that can be built.
 fn frame_of(t: Telegram) -> Frame
     requires { ⌜ Buildable t ⌝ }
-    ensures { λ r. ⌜ r ≡ frameOf (bytesOf t) ⌝ }
+    ensures { λ r. ⌜ r ≡ frameOf (telegramBytes t) ⌝ }
 {
     let n = t.len;
     let payload = t.payload;

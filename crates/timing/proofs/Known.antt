@@ -1,4 +1,4 @@
--- What the test of a rule and a level says. Assumes nothing.
+-- What the test of a rule and a level says.
 use mathlib.Core.Path.{_≡_}
 use mathlib.Core.Bool.{true}
 use Prim.Native.Nat.{ℕ}

@@ -1,5 +1,5 @@
 -- What a draw picks under a named rule is lawful there, and has as many transmissions as were asked for; each lawful plan is picked. What is to
--- be shown is that the third slot reads 255 just where two are asked for, a fact about the rows of the table. Assumes nothing.
+-- be shown is that the third slot reads 255 just where two are asked for, a fact about the rows of the table.
 use mathlib.Core.Path.{_≡_, refl, sym, ap, subst, _∙_}
 use mathlib.Core.Bool.{Bool, true, false, cond, not, _&&_, _||_}
 use Prim.Native.Nat.{ℕ, _≤_, _<_}

@@ -1,5 +1,5 @@
 -- What a draw gets under a named rule, that the standard rule is document 01's, and that compressed level 2 has no plan: each from the laws of
--- `drawn` and `plans`, which hold of every rule. Assumes nothing.
+-- `drawn` and `plans`, which hold of every rule.
 use mathlib.Core.Bool.{and-true, and-false}
 use mathlib.Core.List.{flatMap}
 use Prim.Native.Nat.{zero, suc}

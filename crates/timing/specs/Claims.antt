@@ -1,17 +1,17 @@
 -- What is claimed of plans under the three rules (document 02, A10): proofs/Laws.antt and proofs/Lawful.antt have the theorems. That `plans`
--- lists the lawful plans and that a draw picks one of them is claimed once, of every rule, in slots. Assumes nothing.
+-- lists the lawful plans and that a draw picks one of them is claimed once, of every rule, in slots.
 use mathlib.Core.Path.{_≡_}
 use mathlib.Core.Bool.{true, false}
 use Prim.Native.Nat.{ℕ}
 use Rattle.refusal.specs.declared.Refusal.the-variants.{NoPlan, Argument}
 use Rattle.slots.specs.declared.SlotPlan.{SlotPlan}
-use Rattle.slots.specs.Plan.{isDuration, Answer, planned, refused, planOf}
+use Rattle.slots.specs.Plan.{isDuration, Answer, planned, noPlan, planOf}
 use Rattle.slots.specs.Claims.{Chosen}
 use Rattle.timing.specs.Rules.{offerOf, ruleOf, isAllowed, planBy, transmissionsOf, isLawfulBy}
 
 -- an answer to a call: 10 where an argument is not allowed; else a lawful plan, or 9, and then no plan is lawful
 pub record ChosenBy (rule level n d : ℕ) (a : Answer) : Type 0 where
-  pub argument : isAllowed rule level n d ≡ false → a ≡ refused Argument
+  pub argument : isAllowed rule level n d ≡ false → a ≡ noPlan Argument
   pub chosen : isAllowed rule level n d ≡ true → Chosen (ruleOf rule level n) d a
 
 abbrev pub PlanByChosen : Type 0
@@ -36,4 +36,4 @@ StandardSame = (level d draw : ℕ) → planBy 0 level (offerOf 0 level .most) d
 
 -- "then 9, also for compressed level 2"
 abbrev pub CompressedLevel2 : Type 0
-CompressedLevel2 = (d draw : ℕ) → isDuration d ≡ true → planBy 1 2 2 d draw ≡ refused NoPlan
+CompressedLevel2 = (d draw : ℕ) → isDuration d ≡ true → planBy 1 2 2 d draw ≡ noPlan NoPlan

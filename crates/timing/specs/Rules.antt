@@ -1,5 +1,5 @@
 -- The three timing rules (document 02, A10; source documents 000 and 004, 5.1): their ranges, pauses, last ends and numbers of
--- transmissions, and the plan that a draw picks. Assumes nothing.
+-- transmissions, and the plan that a draw picks.
 use mathlib.Core.Bool.{Bool, cond, not, _&&_}
 use mathlib.Core.List.{List, [], _∷_}
 use Prim.Native.Nat.{ℕ, _≤_}
@@ -9,7 +9,7 @@ use Rattle.refusal.specs.declared.Refusal.the-variants.{Argument}
 use Rattle.slots.specs.declared.SlotRange.{SlotRange}
 use Rattle.slots.specs.declared.Rule.{Rule}
 use Rattle.slots.specs.declared.SlotPlan.{SlotPlan}
-use Rattle.slots.specs.Plan.{range, none, noSlot, standardRanges, isLevel, isDuration, lawful, plans, Answer, refused, drawn}
+use Rattle.slots.specs.Plan.{range, none, noSlot, standardRanges, isLevel, isDuration, lawful, plans, Answer, noPlan, drawn}
 use Rattle.timing.specs.declared.Offer.{Offer}
 
 -- ---- the rules, by number: 0 standard, 1 compressed, 2 with a pause
@@ -86,7 +86,7 @@ isAllowed rule level n d = isDuration d && (isKnown rule level && isOffered rule
 -- "refusals: 10 .., then 9"
 unfoldable pub planBy : ℕ → ℕ → ℕ → ℕ → ℕ → Answer
 planBy rule level n d draw =
-    cond (not (isAllowed rule level n d)) (refused Argument)
+    cond (not (isAllowed rule level n d)) (noPlan Argument)
     (drawn (plans (ruleOf rule level n) d) draw)
 
 -- two where the third slot reads 255

@@ -1,4 +1,4 @@
--- `archive::after_blank` meets its contract: each arm is one case. Assumes nothing.
+-- `archive::after_blank` meets its contract: each arm is one case.
 use mathlib.Core.Path.{sym, ap}
 use borrow.Author.Needs.{needs}
 use Rattle.archive_model.specs.Buffer as buffer

@@ -1,4 +1,4 @@
--- `archive::after_block` meets its contract: each arm is one case. Assumes nothing.
+-- `archive::after_block` meets its contract: each arm is one case.
 use mathlib.Core.Path.{_≡_, sym, ap, _∙_}
 use borrow.Author.Needs.{needs}
 use denote.Ref.{now}

@@ -1,4 +1,4 @@
--- `archive::append` meets its contract: the archive is opened, and the row put at its cursor. Assumes nothing.
+-- `archive::append` meets its contract: the archive is opened, and the row put at its cursor.
 use mathlib.Core.Path.{sym, ap, _∙_}
 use native.Mathlib.Omega.{arith}
 use borrow.Author.Needs.{needs}

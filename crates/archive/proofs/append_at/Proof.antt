@@ -1,4 +1,4 @@
--- `archive::append_at` meets its contract: the block of row n is lent, and the rest of the buffer stays. Assumes nothing.
+-- `archive::append_at` meets its contract: the block of row n is lent, and the rest of the buffer stays.
 use mathlib.Core.Path.{_≡_, sym, _∙_}
 use mathlib.Core.Bool.{true}
 use native.Mathlib.Omega.{arith}

@@ -1,4 +1,4 @@
--- `archive::are_written` meets its contract. The invariant: what is left decides the whole; the measure: the cells left. Assumes nothing.
+-- `archive::are_written` meets its contract. The invariant: what is left decides the whole; the measure: the cells left.
 use mathlib.Core.Path.{_≡_, sym, ap, _∙_}
 use mathlib.Core.Bool.{Bool, true, false, _&&_}
 use Prim.Native.Nat.{_+_, _-_, _*_, _≤_}

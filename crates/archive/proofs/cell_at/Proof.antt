@@ -1,4 +1,4 @@
--- `archive::cell_at` meets its contract. Assumes nothing.
+-- `archive::cell_at` meets its contract.
 use Prim.Native.Nat.{_+_, _*_}
 use borrow.Author.Needs.{needs}
 use Rattle.layout.specs.Cell.{cellLength}

@@ -1,4 +1,4 @@
--- `archive::is_loose` meets its contract. Assumes nothing.
+-- `archive::is_loose` meets its contract.
 use mathlib.Core.Path.{ap}
 use Prim.Native.Nat.{ℕ}
 use borrow.Author.Needs.{needs}

@@ -1,4 +1,4 @@
--- `archive::is_next` meets its contract. Assumes nothing.
+-- `archive::is_next` meets its contract.
 use borrow.Author.Needs.{needs}
 use borrow.Author.Tests.{eq-eqb, ne-eqb}
 use Rattle.archive.proofs.is_next.Statement.{statement}

@@ -1,4 +1,4 @@
--- `archive::is_row` meets its contract: a length over 21 is refused before the bytes are looked at. Assumes nothing.
+-- `archive::is_row` meets its contract: a length over 21 is refused before the bytes are looked at.
 use mathlib.Core.Path.{_≡_, sym, ap, _∙_}
 use native.Mathlib.Omega.{arith}
 use borrow.Author.Needs.{needs}

@@ -1,4 +1,4 @@
--- `archive::is_whole` meets its contract. Assumes nothing.
+-- `archive::is_whole` meets its contract.
 use borrow.Author.Tests.{eq-eqb, ne-eqb}
 use Rattle.archive_model.specs.Buffer.{isWhole}
 use Rattle.archive.proofs.is_whole.Statement.{statement}

@@ -1,4 +1,4 @@
--- `archive::is_written` meets its contract: each return is one case of the test of a cell. Assumes nothing.
+-- `archive::is_written` meets its contract: each return is one case of the test of a cell.
 use mathlib.Core.Path.{_≡_, sym, ap, _∙_}
 use mathlib.Core.Bool.{Bool, true, false, not, _&&_}
 use Prim.Native.Nat.{ℕ, _+_, _-_, _≤_}

@@ -1,4 +1,4 @@
--- `archive::next_stage` meets its contract: each return is one case. Assumes nothing.
+-- `archive::next_stage` meets its contract: each return is one case.
 use mathlib.Core.Path.{_≡_, sym, _∙_}
 use borrow.Author.Needs.{needs}
 use denote.Ref.{now}

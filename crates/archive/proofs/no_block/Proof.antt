@@ -1,4 +1,4 @@
--- `archive::no_block` meets its contract. Assumes nothing.
+-- `archive::no_block` meets its contract.
 use borrow.Author.Needs.{needs}
 use borrow.Author.Tests.{eq-eqb}
 use Rattle.erp1.proofs.Checks.{told-valid, told-refused, not-valid}

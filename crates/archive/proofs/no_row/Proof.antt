@@ -1,4 +1,4 @@
--- `archive::no_row` meets its contract. Assumes nothing.
+-- `archive::no_row` meets its contract.
 use mathlib.Core.Path.{refl}
 use Rattle.buffers.specs.Buffer.{resized}
 use Rattle.archive.specs.Archive.{readResult}

@@ -1,4 +1,4 @@
--- `archive::number_of` meets its contract: the four bytes that are lent are all that is read. Assumes nothing.
+-- `archive::number_of` meets its contract: the four bytes that are lent are all that is read.
 use mathlib.Core.Path.{ap, _∙_}
 use native.Mathlib.Omega.{arith}
 use borrow.Author.Needs.{needs}

@@ -1,4 +1,4 @@
--- `archive::open` meets its contract: a scan of all blocks says what the definition of the first mismatch does. Assumes nothing.
+-- `archive::open` meets its contract: a scan of all blocks says what the definition of the first mismatch does.
 use mathlib.Core.Path.{_≡_, sym, ap, _∙_}
 use mathlib.Core.Bool.{true}
 use native.Mathlib.Omega.{arith}

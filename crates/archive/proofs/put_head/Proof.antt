@@ -1,4 +1,4 @@
--- `archive::put_head` meets its contract: a step for each part that is lent and each byte that is stored. Assumes nothing.
+-- `archive::put_head` meets its contract: a step for each part that is lent and each byte that is stored.
 use native.Mathlib.Omega.{arith}
 use borrow.Author.Needs.{needs}
 use denote.Ref.{now}

@@ -1,4 +1,4 @@
--- `archive::put_row` meets its contract: each return is one case of `putRowOf`. Assumes nothing.
+-- `archive::put_row` meets its contract: each return is one case of `putRowOf`.
 use mathlib.Core.Path.{_≡_, sym, ap, _∙_}
 use mathlib.Core.Bool.{true}
 use borrow.Author.Needs.{needs}

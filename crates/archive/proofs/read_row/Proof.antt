@@ -1,4 +1,4 @@
--- `archive::read_row` meets its contract: the field is copied whole. Assumes nothing.
+-- `archive::read_row` meets its contract: the field is copied whole.
 use mathlib.Core.Path.{_≡_, ap, _∙_}
 use mathlib.Core.Bool.{Bool}
 use mathlib.Core.List.{List}

@@ -1,4 +1,4 @@
--- `archive::row_at` meets its contract: each return is one case of `rowAtOf`. Assumes nothing.
+-- `archive::row_at` meets its contract: each return is one case of `rowAtOf`.
 use mathlib.Core.Path.{_≡_, sym, ap, _∙_}
 use mathlib.Core.Bool.{true}
 use mathlib.Core.List.{List}

@@ -1,4 +1,4 @@
--- `archive::rows_found` meets its contract: each arm is one case. Assumes nothing.
+-- `archive::rows_found` meets its contract: each arm is one case.
 use mathlib.Core.Path.{_≡_, sym, ap}
 use borrow.Author.Needs.{needs}
 use Rattle.archive_model.specs.Buffer as buffer

@@ -1,4 +1,4 @@
--- `archive::scan_block` meets its contract: an all-zero block, and any other. Assumes nothing.
+-- `archive::scan_block` meets its contract: an all-zero block, and any other.
 use mathlib.Core.Path.{sym, _∙_}
 use native.Mathlib.Omega.{arith}
 use borrow.Author.Needs.{needs}

@@ -1,5 +1,5 @@
 -- `archive::scan_blocks` meets its contract. The invariant: the blocks that are left bring the scan so far to the end of the whole; the
--- measure: the blocks left. Assumes nothing.
+-- measure: the blocks left.
 use mathlib.Core.Path.{_≡_, sym, ap, _∙_}
 use Prim.Native.Nat.{_+_, _-_, _*_, _/_, _≤_}
 use native.Mathlib.Omega.{arith}

@@ -1,4 +1,4 @@
--- `archive::sound` meets its contract: a sound block passes each test, and one that passes all is sound. Assumes nothing.
+-- `archive::sound` meets its contract: a sound block passes each test, and one that passes all is sound.
 use mathlib.Core.Path.{_≡_, sym, ap, _∙_}
 use mathlib.Core.Bool.{Bool, true, false, cond}
 use Prim.Native.Nat.{ℕ, _+_, _-_, _*_}

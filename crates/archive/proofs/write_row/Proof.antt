@@ -1,4 +1,4 @@
--- `archive::write_row` meets its contract: a step for each part that is lent, and those between them stay. Assumes nothing.
+-- `archive::write_row` meets its contract: a step for each part that is lent, and those between them stay.
 use mathlib.Core.Path.{_≡_, refl, _∙_}
 use mathlib.Core.Bool.{Bool}
 use mathlib.Core.List.{List, _++_}

@@ -1,4 +1,4 @@
--- `archive_run::calls` is safe and ends: the count of what is left falls. Assumes nothing.
+-- `archive_run::calls` is safe and ends: the count of what is left falls.
 use mathlib.Core.Path.{_≡_, refl}
 use Prim.Native.Nat.{_≤_}
 use native.Mathlib.Omega.{arith}

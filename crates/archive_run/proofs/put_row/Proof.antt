@@ -1,4 +1,4 @@
--- `archive_run::put_row` is safe: a row has 21 bytes. Assumes nothing.
+-- `archive_run::put_row` is safe: a row has 21 bytes.
 use mathlib.Core.Path.{_≡_}
 use lib.ListN.{length}
 use native.Mathlib.Omega.{arith}

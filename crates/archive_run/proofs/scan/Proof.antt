@@ -1,4 +1,4 @@
--- `archive_run::scan` is safe and ends: what is left of the buffer gets less. Assumes nothing.
+-- `archive_run::scan` is safe and ends: what is left of the buffer gets less.
 use Prim.Native.Nat.{_-_, _≤_, _<_}
 use native.Mathlib.Omega.{arith}
 use borrow.Author.Needs.{needs}

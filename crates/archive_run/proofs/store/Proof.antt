@@ -1,4 +1,4 @@
--- `archive_run::store` is safe and ends: the bytes left get fewer. Assumes nothing.
+-- `archive_run::store` is safe and ends: the bytes left get fewer.
 use mathlib.Core.Path.{_≡_, refl, _∙_}
 use Prim.Native.Nat.{_-_, _≤_}
 use native.Mathlib.Omega.{arith}

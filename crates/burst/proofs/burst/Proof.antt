@@ -1,7 +1,6 @@
 -- `burst::burst` meets its contract: a walk of its MIR, by hand, with no branch. All that it knows of `prepare`, `deliver` and `finish` is that each meets its contract.
 -- The four arrays are copied out of the state into locals; each is lent for a lifetime of its own (`LendArray.antt`'s `laid`), and comes back once that is over (`lifted`). The first list is
 -- copied, one of the two for the exit, and the second is given up to `deliver` for good: what `deliver` says of its last elements is what this function says of them. What all that means is `Whole.antt`'s `whole`.
--- Assumes nothing.
 use mathlib.Core.Path.{_≡_, refl, ap, subst}
 use Prim.Native.Nat.{ℕ, _+_, _-_, _*_, _≤_}
 use mathlib.Core.Bool.{Bool}
@@ -55,7 +54,8 @@ use Rattle.burst.specs.declared.Reply.{Reply}
 use Rattle.burst.specs.declared.Handed.{Handed}
 use Rattle.burst.specs.declared.Plan.{Plan}
 use Rattle.burst.specs.declared.Bursted.{Bursted}
-use Rattle.burst.specs.Records.{Bursts, Delivered, Planned, Finished}
+use Rattle.burst.specs.Records.{Bursts}
+use Rattle.burst.specs.Private.{Delivered, Planned, Finished}
 use Rattle.collector.proofs.Counts.{same}
 use Rattle.collector.proofs.Collector as C
 use Rattle.collector.proofs.Collector.Laws as C′

@@ -1,7 +1,6 @@
 -- `burst::burst_fronts` meets its contract: a walk of its MIR, by hand. Two local arrays of structs are cut in two (`LendArray.antt`'s `parted`); the front of the first is lent as `&`, that of the
 -- second as `&mut`, each for a lifetime that is made for the call, and once those are ended the arrays are whole again (`rejoined`).
 -- All that it knows of `burst` and of `both` is that each meets its contract. `both`, which is covered, makes the struct that holds an array, so that the walk need not.
--- Assumes nothing.
 use mathlib.Core.Path.{_≡_, refl, sym, _∙_, ap, subst}
 use Prim.Native.Nat.{ℕ, _+_, _-_, _*_, _≤_}
 use mathlib.Core.List.{List, [], _∷_, _++_, map}

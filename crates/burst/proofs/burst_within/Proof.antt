@@ -1,4 +1,4 @@
--- `burst::burst_within` meets its contract. Assumes nothing.
+-- `burst::burst_within` meets its contract.
 use borrow.Author.Needs.{needs}
 use Rattle.burst.proofs.burst_within.Statement.{statement}
 use Rattle.burst.proofs.burst_within.Tie as tie

@@ -1,5 +1,4 @@
 -- `burst_bench::bursts_from` is safe and ends. The loop's invariant: i is at most the rounds; the measure is what is left of them.
--- Assumes nothing.
 use Prim.Native.Nat.{_≤_, _-_}
 use borrow.Author.Needs.{needs}
 use Rattle.burst_bench.proofs.bursts_from.Statement.{statement}

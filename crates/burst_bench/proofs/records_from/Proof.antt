@@ -1,5 +1,4 @@
 -- `burst_bench::records_from` is safe and ends. The loop's invariant: the index is at most 256; the measure is what is left of it.
--- Assumes nothing.
 use Prim.Native.Nat.{_≤_, _-_}
 use borrow.Author.Needs.{needs}
 use native.Mathlib.Omega.{arith}

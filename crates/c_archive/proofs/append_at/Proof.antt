@@ -1,4 +1,4 @@
--- `c_archive::append_at` meets its contract. Assumes nothing.
+-- `c_archive::append_at` meets its contract.
 use mathlib.Core.Path.{_∙_}
 use borrow.Author.Needs.{needs}
 use Rattle.c_archive.proofs.append_at.Statement.{statement}

@@ -1,4 +1,4 @@
--- `c_archive::cut_block` meets its contract. Assumes nothing.
+-- `c_archive::cut_block` meets its contract.
 use borrow.Author.Needs.{needs}
 use Rattle.c_archive.proofs.cut_block.Statement.{statement}
 use Rattle.c_archive.proofs.cut_block.Tie as tie

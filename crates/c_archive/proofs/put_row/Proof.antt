@@ -1,4 +1,4 @@
--- `c_archive::put_row` meets its contract. Assumes nothing.
+-- `c_archive::put_row` meets its contract.
 use mathlib.Core.Path.{_∙_}
 use borrow.Author.Needs.{needs}
 use Rattle.c_archive.proofs.put_row.Statement.{statement}

@@ -1,4 +1,4 @@
--- `c_archive::row_at` meets its contract: a step for the byte that is stored and for the part that is lent. Assumes nothing.
+-- `c_archive::row_at` meets its contract: a step for the byte that is stored and for the part that is lent.
 use mathlib.Core.Path.{_≡_, _∙_, ap}
 use Prim.Native.Nat.{_-_, min}
 use native.Mathlib.Omega.{arith}

@@ -1,8 +1,8 @@
--- `c_archive::settle` meets its contract: each arm is what `appendResult` says of it. Assumes nothing.
+-- `c_archive::settle` meets its contract: each arm is what `appendResult` says of it.
 use mathlib.Core.Path.{_∙_, ap, sym}
 use Prim.Native.Nat.{ℕ}
 use borrow.Author.Needs.{needs}
-use Rattle.archive_model.specs.Append.{refused}
+use Rattle.archive_model.specs.Append.{refusedAppend}
 use Rattle.archive.specs.declared.Outcome.{Outcome}
 use Rattle.archive.specs.Archive.{appendResult}
 use Rattle.c_archive.proofs.settle.Statement.{statement}
@@ -13,12 +13,12 @@ returns c buffer = ap (λ (o : Outcome). appendResult o buffer) (sym (c .enum-to
 
 returns-2 : tie.Need-returns-2
 returns-2 c buffer =
-    ap (λ (n : ℕ). refused n (c .before .before .outcome .given .0 .0) buffer) (c .number .ensures)
+    ap (λ (n : ℕ). refusedAppend n (c .before .before .outcome .given .0 .0) buffer) (c .number .ensures)
     ∙ ap (λ (o : Outcome). appendResult o buffer) (sym (c .before .before .outcome .given .1))
 
 returns-3 : tie.Need-returns-3
 returns-3 c buffer =
-    ap (λ (n : ℕ). refused n 0 buffer) (c .number2 .ensures) ∙ ap (λ (o : Outcome). appendResult o buffer) (sym (c .before .before .outcome2 .given .1))
+    ap (λ (n : ℕ). refusedAppend n 0 buffer) (c .number2 .ensures) ∙ ap (λ (o : Outcome). appendResult o buffer) (sym (c .before .before .outcome2 .given .1))
 
 pub settle-spec : {M : Type 1} → statement M
 settle-spec =

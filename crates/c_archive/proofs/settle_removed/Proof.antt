@@ -1,4 +1,4 @@
--- `c_archive::settle_removed` meets its contract: each arm is what `removeResult` says of it. Assumes nothing.
+-- `c_archive::settle_removed` meets its contract: each arm is what `removeResult` says of it.
 use mathlib.Core.Path.{_∙_, ap, sym}
 use mathlib.Core.List.{List}
 use Prim.Native.Nat.{ℕ}

@@ -1,4 +1,4 @@
--- `c_archive::taken_number` meets its contract: each arm is what `takenNumber` says of it. Assumes nothing.
+-- `c_archive::taken_number` meets its contract: each arm is what `takenNumber` says of it.
 use mathlib.Core.Path.{_∙_, ap, sym}
 use borrow.Author.Needs.{needs}
 use Rattle.archive.specs.Archive.{takenNumber}

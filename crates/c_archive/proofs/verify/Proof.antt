@@ -1,4 +1,4 @@
--- `c_archive::verify` meets its contract: each arm is what `openResult` says of it. Assumes nothing.
+-- `c_archive::verify` meets its contract: each arm is what `openResult` says of it.
 use mathlib.Core.Path.{_∙_, ap, sym}
 use Prim.Native.Nat.{ℕ}
 use borrow.Author.Needs.{needs}

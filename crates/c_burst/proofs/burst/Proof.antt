@@ -1,4 +1,4 @@
--- `c_burst::burst` meets its contract: a case for each answer. Assumes nothing.
+-- `c_burst::burst` meets its contract: a case for each answer.
 use mathlib.Core.Path.{_≡_, sym, subst, _∙_}
 use mathlib.Core.Bool.{true}
 use Prim.Native.Nat.{_/_}

@@ -1,4 +1,4 @@
--- `c_burst::call_number` meets its contract: each return is one outcome of the tests. Assumes nothing.
+-- `c_burst::call_number` meets its contract: each return is one outcome of the tests.
 use mathlib.Core.Path.{_∙_}
 use borrow.Author.Needs.{needs}
 use Rattle.c_burst.proofs.Sizes.{call-short, call-many, call-setting, call-done}

@@ -1,11 +1,11 @@
 -- `c_burst::deliver` meets its contract. The invariant: the first i receptions are taken and answered, and what is left leads to the end; the measure:
--- the receptions left. Assumes nothing.
+-- the receptions left.
 use mathlib.Core.Path.{_≡_, refl, sym, ap, _∙_}
 use mathlib.Core.List.{List}
 use Prim.Native.Nat.{ℕ, _-_, _*_, _^_, _≤_, _<_}
 use native.Mathlib.Omega.{arith}
 use lib.ListN.{length, getD}
-use Rattle.layout.proofs.Segments.{begun-length, within, lent, part-length, part-ends}
+use Rattle.buffers.proofs.Segments.{begun-length, within, lent, part-length, part-ends}
 use Rattle.model.specs.Burst.{maxBurst}
 use Rattle.collector.specs.Collector.{columns}
 use Rattle.collector.specs.Admission.{viewIn}

@@ -1,4 +1,4 @@
--- `c_burst::is_sized` meets its contract. Assumes nothing.
+-- `c_burst::is_sized` meets its contract.
 use borrow.Author.Needs.{needs}
 use Rattle.c_burst.proofs.Sizes.{sized-other, sized-same}
 use Rattle.c_burst.proofs.is_sized.Statement.{statement}

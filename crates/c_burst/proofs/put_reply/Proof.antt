@@ -1,11 +1,11 @@
--- `c_burst::put_reply` meets its contract: a step for each byte that is stored, and for the part that is lent. Assumes nothing.
+-- `c_burst::put_reply` meets its contract: a step for each byte that is stored, and for the part that is lent.
 use mathlib.Core.Path.{_≡_, _∙_}
 use native.Mathlib.Omega.{arith}
 use borrow.Author.Needs.{needs}
 use denote.Ref.{now}
 use lib.ListN.{length}
-use Rattle.layout.proofs.Segments.{Writing, packed, begin, begun-length, within, lent, store, lend, done}
-use Rattle.layout.proofs.Buffer.{overwritten-fits}
+use Rattle.buffers.proofs.Segments.{Writing, packed, begin, begun-length, within, lent, store, lend, done}
+use Rattle.buffers.proofs.Buffer.{overwritten-fits}
 use Rattle.c_layout.specs.Frame.{frameLength, frameBytes}
 use Rattle.c_burst.specs.Bytes.{replyBytes}
 use Rattle.c_burst.proofs.put_reply.Statement.{statement}

@@ -1,4 +1,4 @@
--- `c_burst::summary_of` meets its contract: what is known of each number by its type. Assumes nothing.
+-- `c_burst::summary_of` meets its contract: what is known of each number by its type.
 use mathlib.Core.Path.{_≡_, ap, subst}
 use mathlib.Core.List.{List}
 use Prim.Native.Nat.{ℕ, _^_, _<_}

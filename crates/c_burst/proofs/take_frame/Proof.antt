@@ -1,4 +1,4 @@
--- `c_burst::take_frame` meets its contract: the bytes handed over are answered like the frame. Assumes nothing.
+-- `c_burst::take_frame` meets its contract: the bytes handed over are answered like the frame.
 use borrow.Author.Needs.{needs}
 use denote.Ref.{now}
 use Rattle.c_burst.proofs.Sent.{sent-few, answered}

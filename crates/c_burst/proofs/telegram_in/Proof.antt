@@ -1,4 +1,4 @@
--- `c_burst::telegram_in` meets its contract: no bytes of a length over 21, else as many as it says. Assumes nothing.
+-- `c_burst::telegram_in` meets its contract: no bytes of a length over 21, else as many as it says.
 use mathlib.Core.Path.{_≡_}
 use Prim.Native.Nat.{_+_, _-_}
 use native.Mathlib.Omega.{arith}

@@ -1,4 +1,4 @@
--- `c_codec::build` meets its contract. Assumes nothing.
+-- `c_codec::build` meets its contract.
 use mathlib.Core.Path.{_∙_, ap}
 use borrow.Author.Needs.{needs}
 use denote.Ref.{now}

@@ -1,4 +1,4 @@
--- `c_codec::decapsulate` meets its contract. Assumes nothing.
+-- `c_codec::decapsulate` meets its contract.
 use mathlib.Core.Path.{_∙_}
 use borrow.Author.Needs.{needs}
 use Rattle.c_codec.proofs.decapsulate.Statement.{statement}

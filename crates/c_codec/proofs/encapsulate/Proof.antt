@@ -1,4 +1,4 @@
--- `c_codec::encapsulate` meets its contract. Assumes nothing.
+-- `c_codec::encapsulate` meets its contract.
 use mathlib.Core.Path.{_∙_, ap}
 use mathlib.Core.List.{List}
 use Prim.Native.Nat.{ℕ}

@@ -1,4 +1,4 @@
--- `c_codec::put_fields` meets its contract: a step for each byte that is stored and each part that is lent. Assumes nothing.
+-- `c_codec::put_fields` meets its contract: a step for each byte that is stored and each part that is lent.
 use mathlib.Core.Path.{_≡_, _∙_}
 use native.Mathlib.Omega.{arith}
 use borrow.Author.Needs.{needs}

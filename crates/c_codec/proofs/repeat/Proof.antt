@@ -1,4 +1,4 @@
--- `c_codec::repeat` meets its contract: what is sent fits a byte's length. Assumes nothing.
+-- `c_codec::repeat` meets its contract: what is sent fits a byte's length.
 use mathlib.Core.Path.{_≡_, _∙_, ap, ap₂}
 use native.Mathlib.Omega.{arith}
 use borrow.Author.Needs.{needs}

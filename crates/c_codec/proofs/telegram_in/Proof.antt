@@ -1,4 +1,4 @@
--- `c_codec::telegram_in` meets its contract. Assumes nothing.
+-- `c_codec::telegram_in` meets its contract.
 use mathlib.Core.Path.{_≡_, _∙_}
 use native.Mathlib.Omega.{arith}
 use borrow.Author.Needs.{needs}

@@ -1,4 +1,4 @@
--- `c_collector::fresh` meets its contract: by computation. Assumes nothing.
+-- `c_collector::fresh` meets its contract: by computation.
 use mathlib.Core.Path.{refl}
 use Rattle.model.specs.View.{fresh}
 use Rattle.collector.specs.Collector.{entriesAt}

@@ -1,4 +1,4 @@
--- `c_collector::is_acceptable` meets its contract: the numbers are those of the state. Assumes nothing.
+-- `c_collector::is_acceptable` meets its contract: the numbers are those of the state.
 use mathlib.Core.Path.{ap, _∙_}
 use borrow.Author.Needs.{needs}
 use denote.Ref.{now}

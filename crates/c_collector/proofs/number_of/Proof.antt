@@ -1,4 +1,4 @@
--- `c_collector::number_of` meets its contract: each arm is what `shownNumber` says of it. Assumes nothing.
+-- `c_collector::number_of` meets its contract: each arm is what `shownNumber` says of it.
 use mathlib.Core.Path.{sym, ap, _∙_}
 use borrow.Author.Needs.{needs}
 use Rattle.model.specs.Answer.{shownOf, shownNumber}

@@ -1,4 +1,4 @@
--- `c_collector::take` meets its contract: the reception is admitted as the test of the state says. Assumes nothing.
+-- `c_collector::take` meets its contract: the reception is admitted as the test of the state says.
 use borrow.Author.Needs.{needs}
 use Rattle.c_collector.proofs.State.{taken}
 use Rattle.c_collector.proofs.take.Statement.{statement}

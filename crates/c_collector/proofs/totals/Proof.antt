@@ -1,4 +1,4 @@
--- `c_collector::totals` meets its contract: a case for each answer. Assumes nothing.
+-- `c_collector::totals` meets its contract: a case for each answer.
 use mathlib.Core.Path.{sym, _∙_}
 use borrow.Author.Needs.{needs}
 use borrow.Author.Tests.{not-true, not-false}

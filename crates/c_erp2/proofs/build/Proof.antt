@@ -1,4 +1,4 @@
--- `c_erp2::build` meets its contract. Assumes nothing.
+-- `c_erp2::build` meets its contract.
 use mathlib.Core.Path.{_∙_, ap}
 use borrow.Author.Needs.{needs}
 use denote.Ref.{now}

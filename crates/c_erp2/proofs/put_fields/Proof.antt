@@ -1,4 +1,4 @@
--- `c_erp2::put_fields` meets its contract: a step for each part that is lent. Assumes nothing.
+-- `c_erp2::put_fields` meets its contract: a step for each part that is lent.
 use mathlib.Core.Path.{_≡_, _∙_}
 use native.Mathlib.Omega.{arith}
 use borrow.Author.Needs.{needs}

@@ -1,4 +1,4 @@
--- `c_erp2::put_head` meets its contract: a step for each byte that is stored. Assumes nothing.
+-- `c_erp2::put_head` meets its contract: a step for each byte that is stored.
 use mathlib.Core.Path.{_≡_, _∙_}
 use native.Mathlib.Omega.{arith}
 use borrow.Author.Needs.{needs}

@@ -1,4 +1,4 @@
--- `c_erp2::read` meets its contract: data that is read fits a byte's length. Assumes nothing.
+-- `c_erp2::read` meets its contract: data that is read fits a byte's length.
 use mathlib.Core.Path.{_≡_, _∙_, ap}
 use Prim.Native.Nat.{_<_}
 use native.Mathlib.Omega.{arith}

@@ -1,4 +1,4 @@
--- `c_erp2::telegram_in` meets its contract. Assumes nothing.
+-- `c_erp2::telegram_in` meets its contract.
 use mathlib.Core.Path.{_≡_, _∙_}
 use native.Mathlib.Omega.{arith}
 use borrow.Author.Needs.{needs}

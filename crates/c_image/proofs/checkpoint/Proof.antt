@@ -1,4 +1,4 @@
--- `c_image::checkpoint` meets its contract: it is that of the state that the arrays hold. Assumes nothing.
+-- `c_image::checkpoint` meets its contract: it is that of the state that the arrays hold.
 use mathlib.Core.Path.{_≡_, ap, _∙_}
 use borrow.Author.Needs.{needs}
 use denote.Ref.{now}

@@ -1,4 +1,4 @@
--- `c_image::put_state` meets its contract: the four arrays are copied, and the numbers stored. Assumes nothing.
+-- `c_image::put_state` meets its contract: the four arrays are copied, and the numbers stored.
 use mathlib.Core.Path.{ap}
 use mathlib.Core.List.{List}
 use Prim.Native.Nat.{ℕ}

@@ -1,4 +1,4 @@
--- `c_image::restore` meets its contract: a case for each answer. Assumes nothing.
+-- `c_image::restore` meets its contract: a case for each answer.
 use mathlib.Core.Path.{_≡_, sym, _∙_}
 use mathlib.Core.Bool.{true}
 use borrow.Author.Needs.{needs}

@@ -1,4 +1,4 @@
--- `c_image::saved_number` meets its contract: each arm is what `savedNumber` says of it. Assumes nothing.
+-- `c_image::saved_number` meets its contract: each arm is what `savedNumber` says of it.
 use mathlib.Core.Path.{sym, ap, _∙_}
 use borrow.Author.Needs.{needs}
 use Rattle.image.specs.Checkpoint.{savedNumber}

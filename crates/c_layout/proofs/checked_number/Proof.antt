@@ -1,4 +1,4 @@
--- `c_layout::checked_number` meets its contract: each arm is what `checkedNumber` says of it. Assumes nothing.
+-- `c_layout::checked_number` meets its contract: each arm is what `checkedNumber` says of it.
 use mathlib.Core.Path.{_∙_, ap, sym}
 use borrow.Author.Needs.{needs}
 use Rattle.erp1.specs.Subtelegram.{checkedNumber}

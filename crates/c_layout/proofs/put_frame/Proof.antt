@@ -1,4 +1,4 @@
--- `c_layout::put_frame` meets its contract: a step for the byte that is stored and for the part that is lent. Assumes nothing.
+-- `c_layout::put_frame` meets its contract: a step for the byte that is stored and for the part that is lent.
 use mathlib.Core.Path.{sym, _∙_}
 use native.Mathlib.Omega.{arith}
 use borrow.Author.Needs.{needs}

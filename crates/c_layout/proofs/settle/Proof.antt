@@ -1,4 +1,4 @@
--- `c_layout::settle` meets its contract: each arm is what `resultOf` says of it. Assumes nothing.
+-- `c_layout::settle` meets its contract: each arm is what `resultOf` says of it.
 use mathlib.Core.Path.{_∙_, ap, sym}
 use mathlib.Core.List.{List}
 use Prim.Native.Nat.{ℕ}

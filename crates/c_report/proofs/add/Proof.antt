@@ -1,4 +1,4 @@
--- `c_report::add` meets its contract. Assumes nothing.
+-- `c_report::add` meets its contract.
 use mathlib.Core.Path.{_∙_, ap}
 use borrow.Author.Needs.{needs}
 use denote.Ref.{now}

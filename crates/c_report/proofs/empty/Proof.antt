@@ -1,4 +1,4 @@
--- `c_report::empty` meets its contract. Assumes nothing.
+-- `c_report::empty` meets its contract.
 use mathlib.Core.Path.{_∙_}
 use borrow.Author.Needs.{needs}
 use Rattle.c_report.proofs.empty.Statement.{statement}

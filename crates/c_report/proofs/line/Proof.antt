@@ -1,4 +1,4 @@
--- `c_report::line` meets its contract. Assumes nothing.
+-- `c_report::line` meets its contract.
 use mathlib.Core.Path.{_∙_, ap}
 use borrow.Author.Needs.{needs}
 use Rattle.report_model.specs.Report as model

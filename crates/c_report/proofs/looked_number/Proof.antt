@@ -1,4 +1,4 @@
--- `c_report::looked_number` meets its contract: each arm is what `lookedNumber` says of it. Assumes nothing.
+-- `c_report::looked_number` meets its contract: each arm is what `lookedNumber` says of it.
 use mathlib.Core.Path.{_∙_, ap, sym}
 use borrow.Author.Needs.{needs}
 use Rattle.report.specs.Report.{lookedNumber}

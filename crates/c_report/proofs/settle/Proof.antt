@@ -1,4 +1,4 @@
--- `c_report::settle` meets its contract: each arm is what `outcomeNumber` and `outcomePosition` say of it. Assumes nothing.
+-- `c_report::settle` meets its contract: each arm is what `outcomeNumber` and `outcomePosition` say of it.
 use mathlib.Core.Path.{_∙_, ap, sym}
 use borrow.Author.Needs.{needs}
 use Rattle.report.specs.Report.{outcomeNumber, outcomePosition}

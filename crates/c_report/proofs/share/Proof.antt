@@ -1,4 +1,4 @@
--- `c_report::share` meets its contract: each arm is what `shareResult` says of it. Assumes nothing.
+-- `c_report::share` meets its contract: each arm is what `shareResult` says of it.
 use mathlib.Core.Path.{_∙_, ap, sym}
 use Prim.Native.Nat.{ℕ}
 use borrow.Author.Needs.{needs}

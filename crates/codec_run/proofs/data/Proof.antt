@@ -1,4 +1,4 @@
--- `codec_run::data` is safe: DATA's array has 14 bytes. Assumes nothing.
+-- `codec_run::data` is safe: DATA's array has 14 bytes.
 use mathlib.Core.Path.{_≡_}
 use lib.ListN.{length}
 use native.Mathlib.Omega.{arith}

@@ -1,4 +1,4 @@
--- `codec_run::records` is safe and ends: the count of what is left falls. Assumes nothing.
+-- `codec_run::records` is safe and ends: the count of what is left falls.
 use borrow.Author.Needs.{needs}
 use native.Mathlib.Omega.{arith}
 use Rattle.codec_run.proofs.records.Statement.{statement}

@@ -1,5 +1,4 @@
 -- `codec_run::repeated` is safe and ends. The loop's invariant: the index is at most n; the measure is what is left of it.
--- Assumes nothing.
 use Prim.Native.Nat.{_≤_, _<_, _-_, _%_}
 use mathlib.Core.Path.{_≡_}
 use lib.ListN.{length}

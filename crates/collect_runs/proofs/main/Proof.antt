@@ -1,4 +1,4 @@
--- `collect_runs::main` is safe and ends. The measure is the number of arguments left. Assumes nothing.
+-- `collect_runs::main` is safe and ends. The measure is the number of arguments left.
 use Prim.Native.Nat.{_-_}
 use borrow.Author.Needs.{needs}
 use Rattle.collect_runs.proofs.main.Statement.{statement}

@@ -1,4 +1,4 @@
--- `collecting::begin` meets its contract, from what a fresh collector says. Assumes nothing.
+-- `collecting::begin` meets its contract, from what a fresh collector says.
 use mathlib.Core.Path.{ap}
 use borrow.Author.Needs.{needs}
 use Rattle.model.specs.View.{View}

@@ -1,4 +1,4 @@
--- `collecting::first_line` meets its contract: without a whole line, or where a row might not fit, nothing is taken; else one line. Assumes nothing.
+-- `collecting::first_line` meets its contract: without a whole line, or where a row might not fit, nothing is taken; else one line.
 use native.Mathlib.Omega.{arith}
 use borrow.Author.Needs.{needs}
 use denote.Ref.{now}

@@ -1,4 +1,4 @@
--- `collecting::later_lines` meets its contract: the state's parts are the state, and its test is made. Assumes nothing.
+-- `collecting::later_lines` meets its contract: the state's parts are the state, and its test is made.
 use borrow.Author.Needs.{needs}
 use Rattle.model.specs.Exact.{Fits}
 use Rattle.collector.specs.Collector.{viewOf}

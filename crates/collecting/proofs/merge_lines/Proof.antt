@@ -1,5 +1,5 @@
 -- `collecting::merge_lines` meets its contract. The invariant: the lines up to `at` were taken, what they give stands before `to`, and the test of
--- the state says what it said. The measure is what is left of the input. Assumes nothing.
+-- the state says what it said. The measure is what is left of the input.
 use mathlib.Core.Path.{_≡_, refl, ap, _∙_}
 use mathlib.Core.List.{List}
 use Prim.Native.Nat.{ℕ, _+_, _-_, _*_, _^_, _<_, _≤_}
@@ -15,7 +15,7 @@ use Rattle.collector.specs.Collector.{columns}
 use Rattle.collector.specs.Admission.{viewIn, admittedOf, Tested}
 use Rattle.collector.proofs.Stepping.{admission-fit, tested-next}
 use Rattle.line_input.specs.Ascii.{newline}
-use Rattle.line_input.specs.Reading.{readingOf, reception, frontOf, lineOf, bytesIn}
+use Rattle.line_input.specs.Reading.{lineReading, reception, frontOf, lineOf, bytesIn}
 use Rattle.line_input.proofs.Answers.{len-fits, bytes-fill, said-open, said-ended, said-bad, said-reception}
 use Rattle.line_input.proofs.Whole.{said}
 use Rattle.line_output.specs.Text.{decimalText}
@@ -25,7 +25,7 @@ use Rattle.streams.specs.Buffer.{Fed}
 use Rattle.streams.proofs.Segments.{open-whole}
 use Rattle.streams.proofs.Limit.{bounded}
 use Rattle.streams.proofs.Takes.{fed-none}
-use Rattle.collecting.specs.Session.{merging, taken, longestLine}
+use Rattle.collecting.specs.Session.{modelCollector, takenAt, longestLine}
 use Rattle.collecting.proofs.Taking.{lineAt, none-written, open-from-start, bad-line, reception-line, time-room, time-short, time-text, same-length, relayed-bytes}
 use Rattle.collecting.proofs.merge_lines.Statement.{statement}
 use Rattle.collecting.proofs.merge_lines.Tie as tie
@@ -37,14 +37,14 @@ Inv-loop fit setting times₀ lens₀ entries₀ copies₀ input out₀ summary�
     × (length out ≡ length out₀)
     × (to ≤ longestLine * at)
     × Tested fit (viewIn (columns times lens entries copies) summary)
-    × Fed (collect merging) (running (record { setting = setting; view = viewIn (columns times₀ lens₀ entries₀ copies₀) summary₀ })) (take at input) out₀
+    × Fed (collect modelCollector) (running (record { setting = setting; view = viewIn (columns times₀ lens₀ entries₀ copies₀) summary₀ })) (take at input) out₀
     (running (record { setting = setting; view = viewIn (columns times lens entries copies) summary })) out to
 
 abbrev μ-loop : tie.MeasureT-loop
 μ-loop fit setting times₀ lens₀ entries₀ copies₀ input out₀ summary₀ bytes₀ at₀ to₀ times lens entries copies out summary bytes at to = length input - at
 
 loop-holds : tie.Need-loop-holds Inv-loop μ-loop
-loop-holds c = (omega arith, omega arith, refl, omega arith, c .before .before .pre, fed-none (collect merging) (bounded merging) _ _)
+loop-holds c = (omega arith, omega arith, refl, omega arith, c .before .before .pre, fed-none (collect modelCollector) (bounded modelCollector) _ _)
 
 -- ---- the line that was read
 
@@ -116,7 +116,7 @@ rest c = drop (here c .loop .at) (input (here c))
 abbrev bytes : tie.Else2 Inv-loop μ-loop → List ℕ
 bytes c = take (parsed c .parse .result .len) (parsed c .parse .last .1 .0)
 
-says : (c : tie.Else2 Inv-loop μ-loop) → readingOf (lineAt (input (here c)) (here c .loop .at)) ≡ reception (parsed c .parse .result .time) (bytes c)
+says : (c : tie.Else2 Inv-loop μ-loop) → lineReading (lineAt (input (here c)) (here c .loop .at)) ≡ reception (parsed c .parse .result .time) (bytes c)
 says c = said-reception _ (answer (parsed c)) (not-false _ (c .if2 .left))
 
 long : (c : tie.Else2 Inv-loop μ-loop) → length (bytes c) ≡ parsed c .parse .result .len

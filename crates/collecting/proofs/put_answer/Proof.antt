@@ -1,4 +1,4 @@
--- `collecting::put_answer` meets its contract: what is sent has no more bytes than its array. Assumes nothing.
+-- `collecting::put_answer` meets its contract: what is sent has no more bytes than its array.
 use mathlib.Core.Path.{_≡_, ap, _∙_}
 use mathlib.Core.List.{List}
 use Prim.Native.Nat.{ℕ, _-_, _≤_}
@@ -9,7 +9,7 @@ use denote.Ref.{now}
 use Rattle.telegram.specs.Output.{Result}
 use Rattle.telegram.proofs.Frames.{written-length}
 use Rattle.model.specs.Answer.{shownOf}
-use Rattle.collector.specs.Merging.{relayedFor}
+use Rattle.collector.specs.Admission.{relayedFor}
 use Rattle.buffers.proofs.Stores.{loosened, if-fits}
 use Rattle.collecting.proofs.Taking.{relayed-short, sent-front}
 use Rattle.collecting.proofs.put_answer.Statement.{statement}

@@ -1,4 +1,4 @@
--- `collecting::put_first` meets its contract: a level says nothing, any other first line is BAD. Assumes nothing.
+-- `collecting::put_first` meets its contract: a level says nothing, any other first line is BAD.
 use mathlib.Core.Path.{refl}
 use native.Mathlib.Omega.{arith}
 use borrow.Author.Needs.{needs}

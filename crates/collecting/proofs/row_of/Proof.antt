@@ -1,4 +1,4 @@
--- `collecting::row_of` meets its contract: a refusal is shown by its number. Assumes nothing.
+-- `collecting::row_of` meets its contract: a refusal is shown by its number.
 use mathlib.Core.Path.{ap}
 use borrow.Author.Needs.{needs}
 use Rattle.line_output.specs.declared.Row.{Row}

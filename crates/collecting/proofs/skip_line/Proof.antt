@@ -1,4 +1,4 @@
--- `collecting::skip_line` meets its contract: in a run that is over a line changes nothing and says nothing. Assumes nothing.
+-- `collecting::skip_line` meets its contract: in a run that is over a line changes nothing and says nothing.
 use mathlib.Core.Path.{refl}
 use mathlib.Core.List.{[]}
 use native.Mathlib.Omega.{arith}

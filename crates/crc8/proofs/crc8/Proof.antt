@@ -1,5 +1,4 @@
 -- `crc8::crc8` meets its contract. The loop's invariant: going on from `crc` with the bytes that are left gives the CRC of all.
--- Assumes nothing.
 use Prim.Native.Nat.{ℕ, _≤_, _<_, _+_, _-_}
 use mathlib.Core.Path.{_≡_, refl}
 use native.Mathlib.Omega.{arith}

@@ -1,4 +1,4 @@
--- `crc8::step` meets its contract: the index is below 256, and the table passes the test of its rule. Assumes nothing.
+-- `crc8::step` meets its contract: the index is below 256, and the table passes the test of its rule.
 use Prim.Native.Nat.{_<_}
 use native.Mathlib.Omega.{arith}
 use lib.Bits.{bitXor, xor-lt}

@@ -1,4 +1,4 @@
--- `crc8_long::crc8_long` meets its contract: the tables pass their test, which antt computes. Assumes nothing.
+-- `crc8_long::crc8_long` meets its contract: the tables pass their test, which antt computes.
 use mathlib.Core.Path.{refl}
 use borrow.Author.Needs.{needs}
 use Rattle.lists.specs.Lists.{upFrom}

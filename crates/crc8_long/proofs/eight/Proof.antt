@@ -1,4 +1,4 @@
--- `crc8_long::eight` meets its contract: each byte is looked up by itself, and the remainder is linear. Assumes nothing.
+-- `crc8_long::eight` meets its contract: each byte is looked up by itself, and the remainder is linear.
 use borrow.Author.Needs.{needs}
 use denote.Ref.{now}
 use Rattle.crc8_long.proofs.Several.{eight-is}

@@ -1,4 +1,4 @@
--- `crc8_long::power` meets its contract: the entry that is read is the one that the test speaks of. Assumes nothing.
+-- `crc8_long::power` meets its contract: the entry that is read is the one that the test speaks of.
 use native.Mathlib.Numerals.{add-one}
 use borrow.Author.Needs.{needs}
 use denote.Ref.{now}

@@ -1,5 +1,5 @@
 -- `crc8_long::rest` meets its contract. The invariant: going on from `crc` with the bytes that are left gives the CRC of all; the measure:
--- the bytes left. Assumes nothing.
+-- the bytes left.
 use Prim.Native.Nat.{ℕ, _≤_, _<_, _+_, _-_}
 use mathlib.Core.Path.{_≡_, refl}
 use mathlib.Core.List.{List}

@@ -1,4 +1,4 @@
--- `cutting::cut` meets its contract: the archive is opened, and cut. Assumes nothing.
+-- `cutting::cut` meets its contract: the archive is opened, and cut.
 use mathlib.Core.Path.{sym, ap, _∙_}
 use borrow.Author.Needs.{needs}
 use denote.Ref.{now}

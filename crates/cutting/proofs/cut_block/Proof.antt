@@ -1,4 +1,4 @@
--- `cutting::cut_block` meets its contract: each return is one case of `cutBlockOf`. Assumes nothing.
+-- `cutting::cut_block` meets its contract: each return is one case of `cutBlockOf`.
 use mathlib.Core.Path.{_≡_, sym, ap, _∙_}
 use mathlib.Core.Bool.{true}
 use mathlib.Core.List.{List}

@@ -1,4 +1,4 @@
--- `cutting::cut_from` meets its contract: fewer rows, as many, or more. Assumes nothing.
+-- `cutting::cut_from` meets its contract: fewer rows, as many, or more.
 use mathlib.Core.Path.{_≡_, sym, ap, _∙_}
 use native.Mathlib.Omega.{arith}
 use borrow.Author.Needs.{needs}

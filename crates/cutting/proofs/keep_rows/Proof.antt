@@ -1,4 +1,4 @@
--- `cutting::keep_rows` meets its contract: the count is stored, the part behind the rows cleared, and what is between stays. Assumes nothing.
+-- `cutting::keep_rows` meets its contract: the count is stored, the part behind the rows cleared, and what is between stays.
 use mathlib.Core.Path.{_≡_, _∙_}
 use Prim.Native.Nat.{ℕ, _+_, _*_}
 use native.Mathlib.Omega.{arith}
@@ -7,7 +7,7 @@ use denote.Ref.{now}
 use Rattle.layout.specs.Cell.{cellLength}
 use Rattle.layout.specs.Header.{headerLength}
 use Rattle.layout.specs.Block.{bodyLength}
-use Rattle.layout.proofs.Segments.{Writing, packed, begin, begun-length, within, store, skip, wipe}
+use Rattle.buffers.proofs.Segments.{Writing, packed, begin, begun-length, within, store, skip, wipe}
 use Rattle.layout.proofs.Block.{seal-front}
 use Rattle.cutting.specs.Calls.{keptRows}
 use Rattle.cutting.proofs.keep_rows.Statement.{statement}

@@ -1,4 +1,4 @@
--- `cutting::shorten` meets its contract: no row, or some. Assumes nothing.
+-- `cutting::shorten` meets its contract: no row, or some.
 use mathlib.Core.Path.{_≡_, sym, ap, _∙_}
 use mathlib.Core.List.{List}
 use Prim.Native.Nat.{ℕ}

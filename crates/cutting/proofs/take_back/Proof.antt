@@ -1,4 +1,4 @@
--- `cutting::take_back` meets its contract: the block where the rows end is cut, what is behind it cleared, and what is before it stays. Assumes nothing.
+-- `cutting::take_back` meets its contract: the block where the rows end is cut, what is behind it cleared, and what is before it stays.
 use mathlib.Core.Path.{_≡_, refl, _∙_}
 use Prim.Native.Nat.{ℕ, _+_, _*_, _/_, _%_, _≤_}
 use native.Mathlib.Omega.{arith}
@@ -6,7 +6,7 @@ use borrow.Author.Needs.{needs}
 use denote.Ref.{now}
 use lib.ListN.{length}
 use Rattle.layout.specs.Block.{cellsPerBlock, blockLength}
-use Rattle.layout.proofs.Segments.{part-ends, Writing, packed, begin, begun-length, within, lend, skip, wipe, done}
+use Rattle.buffers.proofs.Segments.{part-ends, Writing, packed, begin, begun-length, within, lend, skip, wipe, done}
 use Rattle.archive_model.proofs.Cursor.{rows-few}
 use Rattle.cutting.proofs.Cutting.{cut-enough, cut-written}
 use Rattle.cutting.proofs.take_back.Statement.{statement}

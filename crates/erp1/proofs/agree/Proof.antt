@@ -1,5 +1,5 @@
 -- `erp1::agree` meets its contract. The loop's invariant: whether the first n bytes agree is whether the first i do.
--- The measure is i. Assumes nothing.
+-- The measure is i.
 use Prim.Native.Nat.{_≤_}
 use mathlib.Core.Path.{_≡_, refl, sym, _∙_}
 use native.Mathlib.Omega.{arith}

@@ -1,4 +1,4 @@
--- `erp1::check` meets its contract: each return is one case of `checkOf`. Assumes nothing.
+-- `erp1::check` meets its contract: each return is one case of `checkOf`.
 use mathlib.Core.Path.{ap, _∙_}
 use native.Mathlib.Omega.{arith}
 use borrow.Author.Needs.{needs}

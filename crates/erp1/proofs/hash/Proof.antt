@@ -1,4 +1,4 @@
--- `erp1::hash` meets its contract: of no bytes STATUS reads 0, so the sum is asked, which is 0. Assumes nothing.
+-- `erp1::hash` meets its contract: of no bytes STATUS reads 0, so the sum is asked, which is 0.
 use mathlib.Core.Path.{_∙_}
 use borrow.Author.Needs.{needs}
 use borrow.Author.Tests.{eqb-true, eqb-false}

@@ -1,4 +1,4 @@
--- `erp1::same` meets its contract: each return is one case of `isSame`. Assumes nothing.
+-- `erp1::same` meets its contract: each return is one case of `isSame`.
 use mathlib.Core.Path.{_∙_}
 use native.Mathlib.Omega.{arith}
 use borrow.Author.Needs.{needs}

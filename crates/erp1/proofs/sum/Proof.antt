@@ -1,5 +1,5 @@
 -- `erp1::sum` meets its contract. The loop's invariant: the sum so far and that of the bytes left agree with the whole sum, modulo 256.
--- The measure is what is left of the length. Assumes nothing.
+-- The measure is what is left of the length.
 use Prim.Native.Nat.{ℕ, _≤_, _<_, _+_, _-_, _%_}
 use mathlib.Core.Path.{_≡_}
 use mathlib.Core.List.{List}

@@ -1,4 +1,4 @@
--- `erp1::wrong_hash` meets its contract, a case for each selector. Assumes nothing.
+-- `erp1::wrong_hash` meets its contract, a case for each selector.
 use borrow.Author.Needs.{needs}
 use Rattle.erp1.proofs.wrong_hash.Statement.{statement}
 use Rattle.erp1.proofs.wrong_hash.Tie as tie

@@ -1,4 +1,4 @@
--- `erp2_run::data` is safe: its array has 250 bytes. Assumes nothing.
+-- `erp2_run::data` is safe: its array has 250 bytes.
 use mathlib.Core.Path.{_≡_}
 use lib.ListN.{length}
 use native.Mathlib.Omega.{arith}

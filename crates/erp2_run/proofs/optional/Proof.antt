@@ -1,4 +1,4 @@
--- `erp2_run::optional` is safe: its array has 15 bytes. Assumes nothing.
+-- `erp2_run::optional` is safe: its array has 15 bytes.
 use mathlib.Core.Path.{_≡_}
 use lib.ListN.{length}
 use native.Mathlib.Omega.{arith}

@@ -1,4 +1,4 @@
--- `erp2_run::records` is safe and ends: the count of what is left falls. Assumes nothing.
+-- `erp2_run::records` is safe and ends: the count of what is left falls.
 use borrow.Author.Needs.{needs}
 use native.Mathlib.Omega.{arith}
 use Rattle.erp2_run.proofs.records.Statement.{statement}

@@ -1,4 +1,4 @@
--- `history_run::histories` is safe and ends: the count of what is left falls. Assumes nothing.
+-- `history_run::histories` is safe and ends: the count of what is left falls.
 use borrow.Author.Needs.{needs}
 use native.Mathlib.Omega.{arith}
 use Rattle.history_run.proofs.histories.Statement.{statement}

@@ -1,4 +1,4 @@
--- `image::block_in` meets its contract. Assumes nothing.
+-- `image::block_in` meets its contract.
 use Prim.Native.Nat.{_*_}
 use borrow.Author.Needs.{needs}
 use Rattle.layout.specs.Block.{blockLength}

@@ -1,4 +1,4 @@
--- `image::cell_in` meets its contract: a block has 512 bytes, and the cell lies in it. Assumes nothing.
+-- `image::cell_in` meets its contract: a block has 512 bytes, and the cell lies in it.
 use mathlib.Core.Path.{_≡_, ap, _∙_}
 use Prim.Native.Nat.{_+_, _*_, _/_, _%_}
 use native.Mathlib.Omega.{arith}

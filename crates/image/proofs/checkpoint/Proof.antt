@@ -1,4 +1,4 @@
--- `image::checkpoint` meets its contract: it lends the parts of its state. Assumes nothing.
+-- `image::checkpoint` meets its contract: it lends the parts of its state.
 use borrow.Author.Needs.{needs}
 use Rattle.collector.specs.Collector.{viewOf}
 use Rattle.image.proofs.checkpoint.Statement.{statement}

@@ -1,4 +1,4 @@
--- `image::checkpoint_at` meets its contract: a case for each answer. Assumes nothing.
+-- `image::checkpoint_at` meets its contract: a case for each answer.
 use mathlib.Core.Path.{_≡_, sym, ap, _∙_}
 use mathlib.Core.Bool.{true}
 use borrow.Author.Needs.{needs}

@@ -1,4 +1,4 @@
--- `image::count_in` meets its contract. Assumes nothing.
+-- `image::count_in` meets its contract.
 use mathlib.Core.Path.{ap₂}
 use Prim.Native.Nat.{_+_}
 use borrow.Author.Needs.{needs}

@@ -1,4 +1,4 @@
--- `image::first_in` meets its contract. Assumes nothing.
+-- `image::first_in` meets its contract.
 use mathlib.Core.Path.{ap, _∙_}
 use borrow.Author.Needs.{needs}
 use Rattle.model.specs.Header.{headerFirst}

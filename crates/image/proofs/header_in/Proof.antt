@@ -1,4 +1,4 @@
--- `image::header_in` meets its contract: a block has 512 bytes, and its header lies in it. Assumes nothing.
+-- `image::header_in` meets its contract: a block has 512 bytes, and its header lies in it.
 use mathlib.Core.Path.{_≡_, ap, _∙_}
 use native.Mathlib.Omega.{arith}
 use borrow.Author.Needs.{needs}

@@ -1,4 +1,4 @@
--- `image::is_image_of` meets its contract: the state is tested, its image written once more, and compared. Assumes nothing.
+-- `image::is_image_of` meets its contract: the state is tested, its image written once more, and compared.
 use mathlib.Core.Path.{_≡_, sym, ap, _∙_}
 use mathlib.Core.Bool.{true}
 use mathlib.Core.List.{List, append-nil}

@@ -1,4 +1,4 @@
--- `image::is_readable` meets its contract. Assumes nothing.
+-- `image::is_readable` meets its contract.
 use mathlib.Core.Path.{ap, ap₂}
 use mathlib.Core.Bool.{_&&_}
 use Prim.Native.Nat.{ℕ}

@@ -1,10 +1,10 @@
--- `image::parse` meets its contract, field by field. Assumes nothing.
+-- `image::parse` meets its contract, field by field.
 use mathlib.Core.Path.{refl, ap, _∙_}
 use borrow.Author.Needs.{needs}
 use denote.Ref.{now}
 use Rattle.model.specs.Image.{parse}
 use Rattle.collector.specs.Collector.{viewOf}
-use Rattle.image.specs.Checkpoint.{entriesIn}
+use Rattle.image.specs.Private.{entriesIn}
 use Rattle.image.proofs.parse.Statement.{statement}
 use Rattle.image.proofs.parse.Tie as tie
 

@@ -1,5 +1,4 @@
 -- `image::put_block` meets its contract: the header, the cells with the zeros after them, the CRC.
--- Assumes nothing.
 use mathlib.Core.Path.{_∙_}
 use mathlib.Core.List.{map}
 use Prim.Native.Nat.{_*_}
@@ -14,7 +13,7 @@ use Rattle.model.proofs.Header.{header-length}
 use Rattle.layout.proofs.Block.{seal-written}
 use Rattle.model.specs.Image.{entryCell}
 use Rattle.collector.specs.Collector.{Columns, columns}
-use Rattle.image.specs.Checkpoint.{entriesFrom}
+use Rattle.image.specs.Private.{entriesFrom}
 use Rattle.image.proofs.Writing.{writable-part, block-written}
 use Rattle.image.proofs.put_block.Statement.{statement}
 use Rattle.image.proofs.put_block.Tie as tie

@@ -1,5 +1,5 @@
 -- `image::put_cells` meets its contract. The invariant: the first i cells are written, and the rest is as it was; the measure: the
--- cells left. Assumes nothing.
+-- cells left.
 use mathlib.Core.Path.{_≡_, refl, sym, ap, _∙_}
 use mathlib.Core.List.{List, map, flatten}
 use Prim.Native.Nat.{ℕ, _+_, _-_, _*_, _≤_}
@@ -14,7 +14,7 @@ use Rattle.buffers.proofs.Segments.{Writing, packed, Begun, begin, begun-length
 use Rattle.buffers.proofs.Buffer.{resized-length}
 use Rattle.layout.proofs.Cell.{put-fits}
 use Rattle.model.specs.Image.{entryCell}
-use Rattle.image.specs.Checkpoint.{cellsLength, entriesFrom}
+use Rattle.image.specs.Private.{cellsLength, entriesFrom}
 use Rattle.collector.specs.Collector.{Columns, columns}
 use Rattle.collector.proofs.Arrays.{bytes-shown}
 use Rattle.image.proofs.Writing.{entries-length, cell-read}

@@ -1,4 +1,4 @@
--- `image::put_header` meets its contract: a step for each part that is lent and each byte that is stored. Assumes nothing.
+-- `image::put_header` meets its contract: a step for each part that is lent and each byte that is stored.
 use mathlib.Core.Path.{sym, _∙_}
 use native.Mathlib.Omega.{arith}
 use borrow.Author.Needs.{needs}

@@ -1,5 +1,5 @@
 -- `image::put_image` meets its contract. The invariant: the first k blocks are written, and the rest is as it was; the measure: the
--- blocks left. Assumes nothing.
+-- blocks left.
 use mathlib.Core.Path.{_≡_, refl, _∙_}
 use mathlib.Core.List.{List, [], _∷_, _++_, flatten}
 use Prim.Native.Nat.{ℕ, zero, suc, _+_, _-_, _*_, _≤_, _<_}
@@ -11,7 +11,7 @@ use Rattle.buffers.proofs.Segments.{Begun, begin, begun-length, within, lent, t
 use Rattle.model.specs.View.{Entry}
 use Rattle.model.specs.Image.{blockAt, imageWith}
 use Rattle.collector.specs.Collector.{columns, entriesAt}
-use Rattle.image.specs.Checkpoint.{blockWith}
+use Rattle.image.specs.Private.{blockWith}
 use Rattle.image.proofs.put_image.Statement.{statement}
 use Rattle.image.proofs.put_image.Tie as tie
 

@@ -1,5 +1,4 @@
 -- `image::read_entries` meets its contract. The invariant: the first i entries are read; the measure: the entries left.
--- Assumes nothing.
 use mathlib.Core.Path.{refl, ap, ap₂, _∙_}
 use Prim.Native.Nat.{_-_, _≤_}
 use native.Mathlib.Omega.{arith}

@@ -1,4 +1,4 @@
--- `image::restore` meets its contract: a case for each answer, in the order of the tests. Assumes nothing.
+-- `image::restore` meets its contract: a case for each answer, in the order of the tests.
 use native.Mathlib.Omega.{arith}
 use mathlib.Core.Path.{_≡_, refl, sym, ap, ap₂, _∙_}
 use mathlib.Core.Bool.{true}
@@ -14,7 +14,7 @@ use Rattle.model.specs.Acceptable.{acceptable}
 use Rattle.model.specs.Image.{imageLength, settingIn, countIn, parse}
 use Rattle.model.proofs.Returns.{restore-unacceptable}
 use Rattle.collector.specs.Collector.{viewOf}
-use Rattle.image.specs.Checkpoint.{isImageOf}
+use Rattle.image.specs.Private.{isImageOf}
 use Rattle.image.proofs.Restoring.{restoredWith, readable, restore-unreadable, restore-other, restore-done, stayed}
 use Rattle.image.proofs.restore.Statement.{statement}
 use Rattle.image.proofs.restore.Tie as tie

@@ -1,4 +1,4 @@
--- `image::second_in` meets its contract. Assumes nothing.
+-- `image::second_in` meets its contract.
 use mathlib.Core.Path.{ap, _∙_}
 use borrow.Author.Needs.{needs}
 use Rattle.model.specs.Header.{headerSecond}

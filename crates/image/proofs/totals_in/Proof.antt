@@ -1,4 +1,4 @@
--- `image::totals_in` meets its contract, field by field. Assumes nothing.
+-- `image::totals_in` meets its contract, field by field.
 use borrow.Author.Needs.{needs}
 use Rattle.model.specs.Image.{totalsIn}
 use Rattle.image.proofs.totals_in.Statement.{statement}

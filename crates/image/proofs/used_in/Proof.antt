@@ -1,4 +1,4 @@
--- `image::used_in` meets its contract. Assumes nothing.
+-- `image::used_in` meets its contract.
 use mathlib.Core.Path.{ap, _∙_}
 use native.Mathlib.Omega.{arith}
 use borrow.Author.Needs.{needs}

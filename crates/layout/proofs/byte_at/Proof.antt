@@ -1,4 +1,4 @@
--- `layout::byte_at` meets its contract: past the end a list reads as its default. Assumes nothing.
+-- `layout::byte_at` meets its contract: past the end a list reads as its default.
 use mathlib.Core.Path.{sym}
 use native.Mathlib.Omega.{arith}
 use borrow.Author.Needs.{needs}

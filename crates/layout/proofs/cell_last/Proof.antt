@@ -1,4 +1,4 @@
--- `layout::cell_last` meets its contract: the part that is lent is the last two bytes, however long the cell is. Assumes nothing.
+-- `layout::cell_last` meets its contract: the part that is lent is the last two bytes, however long the cell is.
 use mathlib.Core.Path.{_≡_, ap, _∙_}
 use mathlib.Core.List.{List}
 use Prim.Native.Nat.{ℕ, _-_, min}

@@ -1,5 +1,4 @@
 -- `layout::clear` meets its contract. The invariant: the first i bytes are zero, and the rest is as it was; the measure: the bytes left.
--- Assumes nothing.
 use mathlib.Core.Path.{_≡_}
 use Prim.Native.Nat.{_-_, _≤_}
 use native.Mathlib.Omega.{arith}

@@ -1,4 +1,4 @@
--- `layout::copy_field` meets its contract: the part that is lent is the cell's field, however long the cell is. Assumes nothing.
+-- `layout::copy_field` meets its contract: the part that is lent is the cell's field, however long the cell is.
 use mathlib.Core.Path.{_≡_, ap, _∙_}
 use mathlib.Core.List.{List}
 use Prim.Native.Nat.{ℕ, _-_, min}

@@ -1,4 +1,4 @@
--- `layout::number_at` meets its contract: past the end no bytes spell 0, and else the rest of the list is read. Assumes nothing.
+-- `layout::number_at` meets its contract: past the end no bytes spell 0, and else the rest of the list is read.
 use mathlib.Core.Path.{_≡_, ap, _∙_}
 use mathlib.Core.List.{List}
 use Prim.Native.Nat.{ℕ, _-_, _≤_}

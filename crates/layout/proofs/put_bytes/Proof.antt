@@ -1,5 +1,5 @@
 -- `layout::put_bytes` meets its contract. The invariant: the first i bytes are those of the resized list, and the rest is as it was; the
--- measure: the bytes left. Assumes nothing.
+-- measure: the bytes left.
 use mathlib.Core.Path.{_≡_}
 use mathlib.Core.List.{[], _∷_, _++_}
 use Prim.Native.Nat.{_+_, _-_, _≤_}

@@ -1,4 +1,4 @@
--- `layout::put_cell` meets its contract: a step for each part that is lent and each byte that is stored. Assumes nothing.
+-- `layout::put_cell` meets its contract: a step for each part that is lent and each byte that is stored.
 use mathlib.Core.Path.{_≡_, sym, _∙_}
 use mathlib.Core.List.{List, [], _∷_, _++_}
 use Prim.Native.Nat.{ℕ, _≤_}

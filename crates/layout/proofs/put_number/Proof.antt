@@ -1,5 +1,5 @@
 -- `layout::put_number` meets its contract, from the last byte to the first. The invariant: what is left of the number, then the bytes from i
--- on, are the number's bytes; the measure: i. Assumes nothing.
+-- on, are the number's bytes; the measure: i.
 use mathlib.Core.Path.{_≡_, sym, _∙_}
 use mathlib.Core.List.{_++_, append-nil}
 use Prim.Native.Nat.{_≤_}

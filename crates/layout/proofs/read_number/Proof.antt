@@ -1,5 +1,4 @@
 -- `layout::read_number` meets its contract. The invariant: n is what the first i bytes spell, and below 256 ^ i; the measure: the bytes left.
--- Assumes nothing.
 use mathlib.Core.Path.{_≡_, refl}
 use Prim.Native.Nat.{_+_, _-_, _^_, _≤_, _<_, min}
 use native.Mathlib.Omega.{arith}

@@ -1,4 +1,4 @@
--- `layout::seal` meets its contract: the byte that is stored is the CRC of those before it. Assumes nothing.
+-- `layout::seal` meets its contract: the byte that is stored is the CRC of those before it.
 use mathlib.Core.Path.{sym}
 use native.Mathlib.Omega.{arith}
 use borrow.Author.Needs.{needs}

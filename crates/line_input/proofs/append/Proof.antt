@@ -1,4 +1,4 @@
--- `line_input::append` meets its contract: each test is one of those of `appended`, and no step passes 64 bits. Assumes nothing.
+-- `line_input::append` meets its contract: each test is one of those of `appended`, and no step passes 64 bits.
 use Prim.Native.Nat.{_+_, _-_, _*_, _^_}
 use native.Mathlib.Omega.{arith}
 use borrow.Author.Needs.{needs}

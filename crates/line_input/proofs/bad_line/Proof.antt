@@ -1,4 +1,4 @@
--- `line_input::bad_line` meets its contract: the newline is the first one. Assumes nothing.
+-- `line_input::bad_line` meets its contract: the newline is the first one.
 use mathlib.Core.Path.{refl}
 use borrow.Author.Needs.{needs}
 use Rattle.line_input.proofs.Starts.{found-whole, not-ended, ended-bad}

@@ -1,5 +1,5 @@
 -- `line_input::decode` meets its contract. The invariant: the count and the stores of the pairs that are left are those of all.
--- The measure is what is left of the limit. Assumes nothing.
+-- The measure is what is left of the limit.
 use mathlib.Core.Path.{_≡_, refl}
 use Prim.Native.Nat.{ℕ, min, _-_, _/_, _≤_}
 use native.Mathlib.Omega.{arith}

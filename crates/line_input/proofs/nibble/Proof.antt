@@ -1,4 +1,4 @@
--- `line_input::nibble` meets its contract: the table passes the test of its rule. Assumes nothing.
+-- `line_input::nibble` meets its contract: the table passes the test of its rule.
 use borrow.Author.Needs.{needs}
 use Rattle.lists.proofs.Table.{table-entry}
 use Rattle.line_input.specs.Hex.{nibbleOf}

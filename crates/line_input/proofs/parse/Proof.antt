@@ -1,5 +1,5 @@
 -- `line_input::parse` meets its contract: the time and the bytes are read by their own rules, and what has no newline behind them is no
--- reception. Assumes nothing.
+-- reception.
 use mathlib.Core.Path.{_≡_, sym, _∙_}
 use mathlib.Core.List.{List}
 use Prim.Native.Nat.{ℕ, _+_, _*_, _<_, _≤_}

@@ -1,4 +1,4 @@
--- `line_input::parse_setting` meets its contract: the three comparisons are those of `settingOf`. Assumes nothing.
+-- `line_input::parse_setting` meets its contract: the three comparisons are those of `settingOf`.
 use mathlib.Core.Path.{_∙_}
 use borrow.Author.Needs.{needs}
 use Rattle.lists.proofs.Equal.{equal-said}

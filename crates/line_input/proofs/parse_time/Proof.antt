@@ -1,5 +1,5 @@
 -- `line_input::parse_time` meets its contract. The invariant: going on from `time` with what is left up to the first space gives the time
--- of all up to there. The measure is what is left of the length. Assumes nothing.
+-- of all up to there. The measure is what is left of the length.
 use mathlib.Core.Path.{_≡_, sym, _∙_}
 use mathlib.Core.List.{List}
 use Prim.Native.Nat.{ℕ, _-_, _<_, _≤_}

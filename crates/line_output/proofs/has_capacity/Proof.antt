@@ -1,4 +1,4 @@
--- `line_output::has_capacity` meets its contract: each test leaves less than is asked for, and the last one enough. Assumes nothing.
+-- `line_output::has_capacity` meets its contract: each test leaves less than is asked for, and the last one enough.
 use mathlib.Core.Path.{sym}
 use Prim.Native.Nat.{ℕ, _+_, _*_}
 use native.Mathlib.Omega.{arith}

@@ -1,4 +1,4 @@
--- `line_output::hex_digit` meets its contract: the table passes the test of its rule. Assumes nothing.
+-- `line_output::hex_digit` meets its contract: the table passes the test of its rule.
 use borrow.Author.Needs.{needs}
 use Rattle.lists.proofs.Table.{table-entry}
 use Rattle.line_output.specs.Text.{hexDigitOf}

@@ -1,5 +1,5 @@
 -- `line_output::spell` meets its contract. The loop's invariant: the digits of the rest, in front of those stored, are all of them.
--- The measure is the rest. Assumes nothing.
+-- The measure is the rest.
 use mathlib.Core.Path.{_≡_, sym, _∙_}
 use mathlib.Core.List.{_++_}
 use Prim.Native.Nat.{ℕ, _-_, _/_, _%_, _^_, _<_, _≤_}

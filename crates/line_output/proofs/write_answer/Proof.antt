@@ -1,4 +1,4 @@
--- `line_output::write_answer` meets its contract: each arm writes its own word. Assumes nothing.
+-- `line_output::write_answer` meets its contract: each arm writes its own word.
 use native.Mathlib.Omega.{arith}
 use borrow.Author.Needs.{needs}
 use Rattle.line_output.specs.Text.{answerText}

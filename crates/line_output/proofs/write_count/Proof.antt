@@ -1,4 +1,4 @@
--- `line_output::write_count` meets its contract: the name, and then the number. Assumes nothing.
+-- `line_output::write_count` meets its contract: the name, and then the number.
 use native.Mathlib.Omega.{arith}
 use borrow.Author.Needs.{needs}
 use Rattle.buffers.proofs.Stores.{then}

@@ -1,4 +1,4 @@
--- `line_output::write_decimal` meets its contract: the digits stand at the end of their array. Assumes nothing.
+-- `line_output::write_decimal` meets its contract: the digits stand at the end of their array.
 use mathlib.Core.Path.{sym, _∙_}
 use native.Mathlib.Omega.{arith}
 use borrow.Author.Needs.{needs}

@@ -1,4 +1,4 @@
--- `line_output::write_row` meets its contract: the four parts, one after the other. Assumes nothing.
+-- `line_output::write_row` meets its contract: the four parts, one after the other.
 use native.Mathlib.Omega.{arith}
 use borrow.Author.Needs.{needs}
 use Rattle.line_output.specs.Text.{rowBehind}

@@ -1,4 +1,4 @@
--- `line_output::write_totals` meets its contract: the six counts and the line's end, one after the other. Assumes nothing.
+-- `line_output::write_totals` meets its contract: the six counts and the line's end, one after the other.
 use native.Mathlib.Omega.{arith}
 use borrow.Author.Needs.{needs}
 use Rattle.line_output.specs.Text.{totalsText}

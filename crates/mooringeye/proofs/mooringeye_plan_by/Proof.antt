@@ -1,4 +1,4 @@
--- `mooringeye::mooringeye_plan_by` meets its contract: what `plan_by` answers is packed. Assumes nothing.
+-- `mooringeye::mooringeye_plan_by` meets its contract: what `plan_by` answers is packed.
 use mathlib.Core.Path.{_∙_, ap}
 use borrow.Author.Needs.{needs}
 use Rattle.mooringeye.specs.Packed.{packed}

@@ -1,5 +1,4 @@
 -- `mooringeye::mooringeye_site` meets its contract: each arm packs what `verdictOf` says of it; a repeater that is named has a small index.
--- Assumes nothing.
 use mathlib.Core.Path.{_≡_, _∙_, ap, sym, subst}
 use mathlib.Core.List.{List}
 use Prim.Native.Nat.{ℕ, _+_, _*_, _/_, _%_, _≤_, zero-le}

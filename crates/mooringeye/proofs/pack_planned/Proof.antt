@@ -1,4 +1,4 @@
--- `mooringeye::pack_planned` meets its contract: each arm packs what `answerOf` says of it. Assumes nothing.
+-- `mooringeye::pack_planned` meets its contract: each arm packs what `answerOf` says of it.
 use mathlib.Core.Path.{_∙_, ap, sym}
 use Prim.Native.Nat.{ℕ}
 use borrow.Author.Needs.{needs}

@@ -1,4 +1,4 @@
--- `refusal::number` meets its contract: in each arm the refusal is known, and so is its number. Assumes nothing.
+-- `refusal::number` meets its contract: in each arm the refusal is known, and so is its number.
 use mathlib.Core.Path.{sym, ap}
 use borrow.Author.Needs.{needs}
 use Rattle.refusal.specs.Number.{numberOf}

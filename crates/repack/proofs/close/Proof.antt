@@ -1,4 +1,4 @@
--- `repack::close` meets its contract: zeros alone, or the last block and zeros. Assumes nothing.
+-- `repack::close` meets its contract: zeros alone, or the last block and zeros.
 use mathlib.Core.Path.{_≡_, refl, sym, ap, _∙_}
 use mathlib.Core.List.{List}
 use Prim.Native.Nat.{ℕ, _+_, _-_, _*_, _≤_}

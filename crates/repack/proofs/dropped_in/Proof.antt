@@ -1,4 +1,4 @@
--- `repack::dropped_in` meets its contract. The invariant: those so far and those that are left are all; the measure: the blocks left. Assumes nothing.
+-- `repack::dropped_in` meets its contract. The invariant: those so far and those that are left are all; the measure: the blocks left.
 use mathlib.Core.Path.{_≡_, refl, sym, ap, _∙_}
 use mathlib.Core.Bool.{Bool, true, false, cond}
 use mathlib.Core.List.{List}

@@ -1,4 +1,4 @@
--- `repack::dropped_one` meets its contract: a sound block, an all-zero one, one that is dropped. Assumes nothing.
+-- `repack::dropped_one` meets its contract: a sound block, an all-zero one, one that is dropped.
 use mathlib.Core.Path.{_≡_, refl, sym, _∙_}
 use native.Mathlib.Omega.{arith}
 use borrow.Author.Needs.{needs}

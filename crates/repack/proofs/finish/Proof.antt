@@ -1,4 +1,4 @@
--- `repack::finish` meets its contract: a packer that is not accepted, no cell, too short an output, the last block. Assumes nothing.
+-- `repack::finish` meets its contract: a packer that is not accepted, no cell, too short an output, the last block.
 use mathlib.Core.Path.{_≡_, refl, sym, ap, _∙_}
 use mathlib.Core.Bool.{true}
 use mathlib.Core.List.{List, _++_}

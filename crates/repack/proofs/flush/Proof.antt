@@ -1,4 +1,4 @@
--- `repack::flush` meets its contract: fewer than 15 cells wait on; else one block is put. Assumes nothing.
+-- `repack::flush` meets its contract: fewer than 15 cells wait on; else one block is put.
 use mathlib.Core.Path.{_≡_, refl, sym, ap, _∙_}
 use native.Mathlib.Omega.{arith}
 use borrow.Author.Needs.{needs}

@@ -1,4 +1,4 @@
--- `repack::identity_of` meets its contract. Assumes nothing.
+-- `repack::identity_of` meets its contract.
 use native.Mathlib.Omega.{arith}
 use mathlib.Core.Path.{_≡_, _∙_}
 use Prim.Native.Nat.{_≤_}

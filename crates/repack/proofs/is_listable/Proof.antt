@@ -1,4 +1,4 @@
--- `repack::is_listable` meets its contract: no more blocks are dropped than there are. Assumes nothing.
+-- `repack::is_listable` meets its contract: no more blocks are dropped than there are.
 use mathlib.Core.Path.{_≡_, sym, ap, _∙_}
 use native.Mathlib.Omega.{arith}
 use Prim.Native.Nat.{ℕ}

@@ -1,4 +1,4 @@
--- `repack::is_listed` meets its contract. The invariant: what is left decides; the measure: the identities left. Assumes nothing.
+-- `repack::is_listed` meets its contract. The invariant: what is left decides; the measure: the identities left.
 use Prim.Native.Nat.{ℕ, _-_, _≤_}
 use mathlib.Core.Path.{_≡_, refl, sym, _∙_}
 use native.Mathlib.Omega.{arith}

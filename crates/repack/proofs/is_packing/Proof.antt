@@ -1,4 +1,4 @@
--- `repack::is_packing` meets its contract. Assumes nothing.
+-- `repack::is_packing` meets its contract.
 use native.Mathlib.Omega.{arith}
 use borrow.Author.Needs.{needs}
 use denote.Ref.{now}

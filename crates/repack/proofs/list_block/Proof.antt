@@ -1,4 +1,4 @@
--- `repack::list_block` meets its contract: a sound block, an all-zero one, one that is dropped. Assumes nothing.
+-- `repack::list_block` meets its contract: a sound block, an all-zero one, one that is dropped.
 use mathlib.Core.Path.{_≡_, refl, sym, ap, _∙_}
 use mathlib.Core.Bool.{Bool, true, cond}
 use Prim.Native.Nat.{_<_}

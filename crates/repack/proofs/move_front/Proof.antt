@@ -1,4 +1,4 @@
--- `repack::move_front` meets its contract: the cells behind the first 15 are copied out, and in again. Assumes nothing.
+-- `repack::move_front` meets its contract: the cells behind the first 15 are copied out, and in again.
 use mathlib.Core.Path.{_≡_, refl, sym, ap, _∙_}
 use native.Mathlib.Omega.{arith}
 use borrow.Author.Needs.{needs}

@@ -1,4 +1,4 @@
--- `repack::pack` meets its contract: each refusal is one case, and else the walk gives the answer. Assumes nothing.
+-- `repack::pack` meets its contract: each refusal is one case, and else the walk gives the answer.
 use mathlib.Core.Path.{_≡_, refl, sym, ap, ap₂, _∙_}
 use mathlib.Core.Bool.{true, false}
 use mathlib.Core.List.{List}

@@ -1,5 +1,5 @@
 -- `repack::pack_blocks` meets its contract. The invariant: `Walking` and `Listing`, what is left brings both to the whole; the measure: the blocks
--- left. Assumes nothing.
+-- left.
 use mathlib.Core.Path.{_≡_, refl, sym, ap, _∙_}
 use mathlib.Core.List.{List}
 use Prim.Native.Nat.{ℕ, _+_, _-_, _*_, _/_, _≤_}

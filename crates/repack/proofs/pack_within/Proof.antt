@@ -1,5 +1,5 @@
 -- `repack::pack_within` meets its contract. The invariant: `Walking` over the blocks in use, whose output is the archive's own buffer; the measure:
--- the blocks left. Assumes nothing.
+-- the blocks left.
 use mathlib.Core.Path.{_≡_, refl, sym, ap, _∙_}
 use mathlib.Core.List.{List}
 use Prim.Native.Nat.{ℕ, _+_, _-_, _*_, _/_, _≤_, _<_}

@@ -1,4 +1,4 @@
--- `repack::push_cell` meets its contract: the cell is left out, or copied behind those that wait. Assumes nothing.
+-- `repack::push_cell` meets its contract: the cell is left out, or copied behind those that wait.
 use mathlib.Core.Path.{_≡_, refl, sym, ap, _∙_}
 use mathlib.Core.Bool.{Bool, true, false, cond}
 use mathlib.Core.List.{List, [], _++_, append-nil}

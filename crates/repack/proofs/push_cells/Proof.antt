@@ -1,5 +1,5 @@
 -- `repack::push_cells` meets its contract. The invariant: what waits with the cells that are left is what waited with all; the measure: the cells
--- left. Assumes nothing.
+-- left.
 use mathlib.Core.Path.{_≡_, refl, sym, ap, _∙_}
 use mathlib.Core.List.{List, _++_, append-assoc, append-nil}
 use Prim.Native.Nat.{ℕ, _+_, _-_, _*_, _≤_}

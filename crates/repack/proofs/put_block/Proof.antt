@@ -1,4 +1,4 @@
--- `repack::put_block` meets its contract: a step for each part that is lent and each byte that is stored. Assumes nothing.
+-- `repack::put_block` meets its contract: a step for each part that is lent and each byte that is stored.
 use mathlib.Core.Path.{_≡_, refl, sym, _∙_}
 use mathlib.Core.List.{List}
 use Prim.Native.Nat.{ℕ, _+_, _/_}

@@ -1,4 +1,4 @@
--- `repack::remove` meets its contract: the archive is opened, and the listed rows are removed from it. Assumes nothing.
+-- `repack::remove` meets its contract: the archive is opened, and the listed rows are removed from it.
 use mathlib.Core.Path.{sym, ap, _∙_}
 use native.Mathlib.Omega.{arith}
 use borrow.Author.Needs.{needs}

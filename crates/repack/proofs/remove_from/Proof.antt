@@ -1,5 +1,5 @@
 -- `repack::remove_from` meets its contract: more than 32 identities are refused, and else the walk and the closing give the archive without the rows
--- that are listed. Assumes nothing.
+-- that are listed.
 use mathlib.Core.Path.{_≡_, refl, sym, ap, _∙_}
 use mathlib.Core.List.{List}
 use Prim.Native.Nat.{ℕ, _+_, _*_, _/_, _≤_}

@@ -1,4 +1,4 @@
--- `repack::salvage` meets its contract: each refusal is one case, and else the walk and the closing give the archive. Assumes nothing.
+-- `repack::salvage` meets its contract: each refusal is one case, and else the walk and the closing give the archive.
 use mathlib.Core.Path.{_≡_, refl, sym, ap, _∙_}
 use mathlib.Core.Bool.{Bool, true, false}
 use mathlib.Core.List.{List, []}

@@ -1,5 +1,5 @@
 -- `replay::all` meets its contract. The invariant: the record of the first i calls is written, and the state is that after them; the measure: the
--- calls left. Assumes nothing.
+-- calls left.
 use mathlib.Core.Path.{_≡_, refl, _∙_}
 use Prim.Native.Nat.{_+_, _-_, _*_, _/_, _≤_}
 use native.Mathlib.Omega.{arith}

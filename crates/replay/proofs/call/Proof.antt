@@ -1,4 +1,4 @@
--- `replay::call` meets its contract: a case for each call. Assumes nothing.
+-- `replay::call` meets its contract: a case for each call.
 use Prim.Native.Nat.{ℕ}
 use mathlib.Core.List.{List, []}
 use borrow.Author.Needs.{needs}

@@ -1,4 +1,4 @@
--- `replay::fits` meets its contract. The invariant: what is left is what the first i calls leave; the measure: the calls left. Assumes nothing.
+-- `replay::fits` meets its contract. The invariant: what is left is what the first i calls leave; the measure: the calls left.
 use mathlib.Core.Path.{_≡_, sym}
 use mathlib.Core.List.{[]}
 use Prim.Native.Nat.{_+_, _-_, _*_, _/_, _≤_}

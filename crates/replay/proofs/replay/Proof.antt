@@ -1,4 +1,4 @@
--- `replay::replay` meets its contract: what any collector shows, of one started fresh. Assumes nothing.
+-- `replay::replay` meets its contract: what any collector shows, of one started fresh.
 use borrow.Author.Needs.{needs}
 use Rattle.replay.proofs.Running.{replays}
 use Rattle.replay.proofs.replay.Statement.{statement}

@@ -1,4 +1,4 @@
--- `replay::resume` meets its contract: all calls, or none where the output is too short. Assumes nothing.
+-- `replay::resume` meets its contract: all calls, or none where the output is too short.
 use mathlib.Core.Path.{_≡_, refl, sym, _∙_}
 use mathlib.Core.List.{[]}
 use Prim.Native.Nat.{_<_}

@@ -1,4 +1,4 @@
--- `report::close` meets its contract. Assumes nothing.
+-- `report::close` meets its contract.
 use borrow.Author.Needs.{needs}
 use mathlib.Core.Path.{_≡_, sym, ap, _∙_}
 use Rattle.archive_model.specs.Buffer.{stageFound}

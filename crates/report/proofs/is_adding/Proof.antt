@@ -1,4 +1,4 @@
--- `report::is_adding` meets its contract: each return is one test of the definition. Assumes nothing.
+-- `report::is_adding` meets its contract: each return is one test of the definition.
 use Prim.Native.Nat.{_+_, _^_, _≤_, _<_}
 use native.Mathlib.Omega.{arith}
 use borrow.Author.Needs.{needs}

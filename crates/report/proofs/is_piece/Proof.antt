@@ -1,4 +1,4 @@
--- `report::is_piece` meets its contract. Assumes nothing.
+-- `report::is_piece` meets its contract.
 use borrow.Author.Needs.{needs}
 use Rattle.report.proofs.Calls.{piece-odd, piece-whole}
 use Rattle.report.proofs.is_piece.Statement.{statement}

@@ -1,4 +1,4 @@
--- `report::is_report` meets its contract: each return is one test of the definition. Assumes nothing.
+-- `report::is_report` meets its contract: each return is one test of the definition.
 use native.Mathlib.Omega.{arith}
 use borrow.Author.Needs.{needs}
 use mathlib.Core.Path.{_∙_}

@@ -1,4 +1,4 @@
--- `report::is_scan` meets its contract. Assumes nothing.
+-- `report::is_scan` meets its contract.
 use borrow.Author.Needs.{needs}
 use Rattle.archive.specs.Archive.{scanOf}
 use Rattle.report.proofs.Calls.{scan-many, scan-dense}

@@ -1,4 +1,4 @@
--- `report::rows_of` meets its contract. Assumes nothing.
+-- `report::rows_of` meets its contract.
 use Prim.Native.Nat.{ℕ, _+_}
 use borrow.Author.Needs.{needs}
 use mathlib.Core.Path.{sym, ap}

@@ -1,4 +1,4 @@
--- `report::start` meets its contract. Assumes nothing.
+-- `report::start` meets its contract.
 use borrow.Author.Needs.{needs}
 use Rattle.report.specs.Lines.{linesOf}
 use mathlib.Core.Bool.{false}

@@ -1,4 +1,4 @@
--- `report::sum_up` meets its contract. Assumes nothing.
+-- `report::sum_up` meets its contract.
 use borrow.Author.Needs.{needs}
 use mathlib.Core.Path.{_∙_}
 use Rattle.report.specs.Report.{reportOf, tallyOf}

@@ -1,4 +1,4 @@
--- `rules_run::at` is safe and ends. The invariant: the index is at most 9; the measure: the draws left. Assumes nothing.
+-- `rules_run::at` is safe and ends. The invariant: the index is at most 9; the measure: the draws left.
 use Prim.Native.Nat.{_≤_, _-_}
 use borrow.Author.Needs.{needs}
 use Rattle.rules_run.proofs.at.Statement.{statement}

@@ -1,4 +1,4 @@
--- `rules_run::durations` is safe and ends. The invariant: the index is at most 39; the measure: the durations left. Assumes nothing.
+-- `rules_run::durations` is safe and ends. The invariant: the index is at most 39; the measure: the durations left.
 use Prim.Native.Nat.{_≤_, _-_}
 use borrow.Author.Needs.{needs}
 use Rattle.rules_run.proofs.durations.Statement.{statement}

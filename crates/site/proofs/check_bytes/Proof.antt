@@ -1,4 +1,4 @@
--- `site::check_bytes` meets its contract: what is read is checked, and nothing else is looked at. Assumes nothing.
+-- `site::check_bytes` meets its contract: what is read is checked, and nothing else is looked at.
 use mathlib.Core.Path.{ap, _∙_}
 use borrow.Author.Needs.{needs}
 use borrow.Author.Tests.{eq-eqb, ne-eqb}

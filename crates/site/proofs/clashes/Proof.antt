@@ -1,4 +1,4 @@
--- `site::clashes` meets its contract: the transmissions of the one are tried one after the other, a third only where there is one. Assumes nothing.
+-- `site::clashes` meets its contract: the transmissions of the one are tried one after the other, a third only where there is one.
 use mathlib.Core.Bool.{or-false}
 use borrow.Author.Needs.{needs}
 use borrow.Author.Tests.{eq-eqb, ne-eqb}

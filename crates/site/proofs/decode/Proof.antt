@@ -1,5 +1,4 @@
 -- `site::decode` meets its contract: the repeaters before i are read. The invariant is `Filled`; the measure: the repeaters left.
--- Assumes nothing.
 use mathlib.Core.Path.{_≡_}
 use Prim.Native.Nat.{_+_, _-_, _*_, _<_, _≤_}
 use native.Mathlib.Omega.{arith}

@@ -1,4 +1,4 @@
--- `site::hits` meets its contract: those of the repeater are tried one after the other, a third only where there is one. Assumes nothing.
+-- `site::hits` meets its contract: those of the repeater are tried one after the other, a third only where there is one.
 use mathlib.Core.Bool.{or-false}
 use borrow.Author.Needs.{needs}
 use borrow.Author.Tests.{eq-eqb, ne-eqb}

@@ -1,4 +1,4 @@
--- `site::is_in_range` meets its contract: `is_known` answers for rule and level, and the rest is the test of a duration. Assumes nothing.
+-- `site::is_in_range` meets its contract: `is_known` answers for rule and level, and the rest is the test of a duration.
 use mathlib.Core.Path.{ap}
 use mathlib.Core.Bool.{Bool, _&&_}
 use borrow.Author.Needs.{needs}

@@ -1,4 +1,4 @@
--- `site::overlaps` meets its contract: starts and ends are those of the definition. Assumes nothing.
+-- `site::overlaps` meets its contract: starts and ends are those of the definition.
 use borrow.Author.Needs.{needs}
 use Rattle.site.proofs.overlaps.Statement.{statement}
 use Rattle.site.proofs.overlaps.Tie as tie

@@ -1,4 +1,4 @@
--- `site::read_one` meets its contract: each byte is read where the layout has it. Assumes nothing.
+-- `site::read_one` meets its contract: each byte is read where the layout has it.
 use borrow.Author.Needs.{needs}
 use Rattle.site.proofs.read_one.Statement.{statement}
 use Rattle.site.proofs.read_one.Tie as tie

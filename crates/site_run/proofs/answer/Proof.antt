@@ -1,4 +1,4 @@
--- `site_run::answer` is safe: a byte fits. Assumes nothing.
+-- `site_run::answer` is safe: a byte fits.
 use native.Mathlib.Omega.{arith}
 use borrow.Author.Needs.{needs}
 use Rattle.site_run.proofs.answer.Statement.{statement}

@@ -1,4 +1,4 @@
--- `site_run::records` is safe and ends: the count of what is left falls. Assumes nothing.
+-- `site_run::records` is safe and ends: the count of what is left falls.
 use borrow.Author.Needs.{needs}
 use native.Mathlib.Omega.{arith}
 use Rattle.site_run.proofs.records.Statement.{statement}

@@ -1,5 +1,5 @@
 -- `slots::choose` meets its contract: where the first search does not reach the draw's index, its count gives the index that the second
--- looks up, which is in the list. Assumes nothing.
+-- looks up, which is in the list.
 use mathlib.Core.Path.{_≡_, _∙_, sym}
 use borrow.Author.Needs.{needs}
 use Rattle.slots.specs.declared.Lookup.the-variants.{Counted}

@@ -1,4 +1,4 @@
--- `slots::plan` meets its contract: its test is `allowed`. Assumes nothing.
+-- `slots::plan` meets its contract: its test is `allowed`.
 use mathlib.Core.Path.{_∙_, ap}
 use borrow.Author.Needs.{needs}
 use borrow.Author.Tests.{leb-true, not-false}

@@ -1,4 +1,4 @@
--- `slots::search_after` meets its contract: its three answers are those of `After`. Assumes nothing.
+-- `slots::search_after` meets its contract: its three answers are those of `After`.
 use mathlib.Core.Path.{_≡_, _∙_, sym}
 use mathlib.Core.Bool.{true}
 use borrow.Author.Needs.{needs}

@@ -1,4 +1,4 @@
--- `slots::third_follows` meets its contract: `thirdFollows` goes by the same test of the range. Assumes nothing.
+-- `slots::third_follows` meets its contract: `thirdFollows` goes by the same test of the range.
 use borrow.Author.Needs.{needs}
 use borrow.Author.Tests.{lt-ltb, le-ltb}
 use Rattle.slots.specs.Search.{thirdFollows}

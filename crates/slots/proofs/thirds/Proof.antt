@@ -1,4 +1,4 @@
--- `slots::thirds` meets its contract: each answer is a case of `Third`. Assumes nothing.
+-- `slots::thirds` meets its contract: each answer is a case of `Third`.
 use borrow.Author.Needs.{needs}
 use Rattle.slots.proofs.Third.{none-fits, none-late, third-too-long, third-none, third-some}
 use Rattle.slots.proofs.thirds.Statement.{statement}

@@ -1,4 +1,4 @@
--- `slots_run::multiples` is safe and ends. The invariant: the factor is at most 85; the measure: the factors left. Assumes nothing.
+-- `slots_run::multiples` is safe and ends. The invariant: the factor is at most 85; the measure: the factors left.
 use Prim.Native.Nat.{_≤_, _-_}
 use borrow.Author.Needs.{needs}
 use Rattle.slots_run.proofs.multiples.Statement.{statement}

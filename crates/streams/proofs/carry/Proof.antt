@@ -1,4 +1,4 @@
--- `streams::carry` meets its contract: without such a part nothing is kept, else all of it or its front. Assumes nothing.
+-- `streams::carry` meets its contract: without such a part nothing is kept, else all of it or its front.
 use mathlib.Core.Path.{refl}
 use native.Mathlib.Omega.{arith}
 use borrow.Author.Needs.{needs}

@@ -1,4 +1,4 @@
--- `streams::shift` meets its contract. The invariant: i characters are moved. The measure is how many are left. Assumes nothing.
+-- `streams::shift` meets its contract. The invariant: i characters are moved. The measure is how many are left.
 use mathlib.Core.Path.{_≡_, refl}
 use Prim.Native.Nat.{_-_, _≤_}
 use native.Mathlib.Omega.{arith}

@@ -1,5 +1,4 @@
 -- `take_bench::bench_test` is safe and ends. The loop's invariant: i is at most the rounds; the measure is what is left of them.
--- Assumes nothing.
 use Prim.Native.Nat.{_≤_, _-_}
 use borrow.Author.Needs.{needs}
 use Rattle.take_bench.proofs.bench_test.Statement.{statement}

@@ -1,5 +1,5 @@
 -- `test_io::decode` is safe and ends. The loop's invariant: the index is at most the length, which stays, and the line is twice as long; the
--- measure is what is left of it. Assumes nothing.
+-- measure is what is left of it.
 use Prim.Native.Nat.{_≤_, _-_, _*_}
 use mathlib.Core.Path.{_≡_}
 use native.Mathlib.Omega.{arith}

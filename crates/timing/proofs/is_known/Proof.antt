@@ -1,4 +1,4 @@
--- `timing::is_known` meets its contract: its test is the definition's. Assumes nothing.
+-- `timing::is_known` meets its contract: its test is the definition's.
 use borrow.Author.Needs.{needs}
 use Rattle.timing.proofs.is_known.Statement.{statement}
 use Rattle.timing.proofs.is_known.Tie as tie

@@ -1,4 +1,4 @@
--- `timing::is_lawful_by` meets its contract: each return is a case of `isLawfulBy`, in its order. Assumes nothing.
+-- `timing::is_lawful_by` meets its contract: each return is a case of `isLawfulBy`, in its order.
 use mathlib.Core.Path.{sym, _∙_, ap}
 use borrow.Author.Needs.{needs}
 use borrow.Author.Tests.{not-true, not-false}

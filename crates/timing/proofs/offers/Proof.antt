@@ -1,4 +1,4 @@
--- `timing::offers` meets its contract: the tables of code and definition read the same by computation. Assumes nothing.
+-- `timing::offers` meets its contract: the tables of code and definition read the same by computation.
 use borrow.Author.Needs.{needs}
 use Rattle.timing.proofs.offers.Statement.{statement}
 use Rattle.timing.proofs.offers.Tie as tie

@@ -1,5 +1,4 @@
 -- `timing::plan_by` meets its contract: its three tests are those of `isAllowed`, and `choose` draws under the rule that was looked up.
--- Assumes nothing.
 use mathlib.Core.Path.{_≡_, sym, _∙_, ap}
 use mathlib.Core.Bool.{true, false, and-false}
 use borrow.Author.Needs.{needs}

@@ -1,4 +1,4 @@
--- `timing::rule_of` meets its contract: the tables of code and definition read the same by computation. Assumes nothing.
+-- `timing::rule_of` meets its contract: the tables of code and definition read the same by computation.
 use borrow.Author.Needs.{needs}
 use borrow.Author.Tests.{eq-eqb, ne-eqb}
 use Rattle.timing.proofs.rule_of.Statement.{statement}

@@ -1,4 +1,4 @@
--- `timing::transmissions_of` meets its contract: its test is the definition's. Assumes nothing.
+-- `timing::transmissions_of` meets its contract: its test is the definition's.
 use borrow.Author.Tests.{eq-eqb, ne-eqb}
 use Rattle.timing.proofs.transmissions_of.Statement.{statement}
 use Rattle.timing.proofs.transmissions_of.Tie as tie

@@ -1,4 +1,4 @@
--- `archive::Scan::feed` meets its contract: each return is one case of `feedOf`. Assumes nothing.
+-- `archive::Scan::feed` meets its contract: each return is one case of `feedOf`.
 use mathlib.Core.Path.{_∙_}
 use borrow.Author.Needs.{needs}
 use denote.Ref.{now}

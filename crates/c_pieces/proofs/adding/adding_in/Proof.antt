@@ -1,4 +1,4 @@
--- `c_pieces::adding::adding_in` meets its contract. Assumes nothing.
+-- `c_pieces::adding::adding_in` meets its contract.
 use borrow.Author.Needs.{needs}
 use Rattle.c_pieces.proofs.adding.adding_in.Statement.{statement}
 use Rattle.c_pieces.proofs.adding.adding_in.Tie as tie

@@ -1,4 +1,4 @@
--- `c_pieces::adding::feed` meets its contract. Assumes nothing.
+-- `c_pieces::adding::feed` meets its contract.
 use mathlib.Core.Path.{_≡_, sym, ap, ap₂, _∙_}
 use Prim.Native.Nat.{ℕ}
 use borrow.Author.Needs.{needs}

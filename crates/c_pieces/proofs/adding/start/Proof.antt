@@ -1,4 +1,4 @@
--- `c_pieces::adding::start` meets its contract. Assumes nothing.
+-- `c_pieces::adding::start` meets its contract.
 use mathlib.Core.Path.{_≡_, ap, _∙_}
 use borrow.Author.Needs.{needs}
 use denote.Ref.{now}

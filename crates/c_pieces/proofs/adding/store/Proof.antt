@@ -1,4 +1,4 @@
--- `c_pieces::adding::store` meets its contract. Assumes nothing.
+-- `c_pieces::adding::store` meets its contract.
 use borrow.Author.Needs.{needs}
 use Rattle.archive.specs.Archive.{stageOf}
 use Rattle.c_pieces.proofs.Scans.{stage-back}

@@ -1,4 +1,4 @@
--- `c_pieces::packer::end` meets its contract. Assumes nothing.
+-- `c_pieces::packer::end` meets its contract.
 use borrow.Author.Needs.{needs}
 use Rattle.c_pieces.proofs.packer.end.Statement.{statement}
 use Rattle.c_pieces.proofs.packer.end.Tie as tie

@@ -1,4 +1,4 @@
--- `c_pieces::packer::feed` meets its contract. Assumes nothing.
+-- `c_pieces::packer::feed` meets its contract.
 use borrow.Author.Needs.{needs}
 use Rattle.c_pieces.proofs.packer.feed.Statement.{statement}
 use Rattle.c_pieces.proofs.packer.feed.Tie as tie

@@ -1,4 +1,4 @@
--- `c_pieces::scan::end` meets its contract: each return is one case of `scanEnd`. Assumes nothing.
+-- `c_pieces::scan::end` meets its contract: each return is one case of `scanEnd`.
 use mathlib.Core.Path.{_≡_, sym, ap, _∙_}
 use mathlib.Core.Bool.{true}
 use Prim.Native.Nat.{ℕ}

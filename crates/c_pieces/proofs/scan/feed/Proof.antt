@@ -1,4 +1,4 @@
--- `c_pieces::scan::feed` meets its contract. Assumes nothing.
+-- `c_pieces::scan::feed` meets its contract.
 use mathlib.Core.Path.{_≡_, ap, _∙_}
 use mathlib.Core.List.{List}
 use Prim.Native.Nat.{ℕ}

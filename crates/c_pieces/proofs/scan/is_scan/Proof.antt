@@ -1,4 +1,4 @@
--- `c_pieces::scan::is_scan` meets its contract. Assumes nothing.
+-- `c_pieces::scan::is_scan` meets its contract.
 use borrow.Author.Needs.{needs}
 use Rattle.archive_model.specs.Buffer.{Filling}
 use Rattle.report.proofs.Calls.{scan-many, scan-dense}

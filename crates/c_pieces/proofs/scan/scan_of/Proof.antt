@@ -1,4 +1,4 @@
--- `c_pieces::scan::scan_of` meets its contract. Assumes nothing.
+-- `c_pieces::scan::scan_of` meets its contract.
 use mathlib.Core.Path.{ap}
 use borrow.Author.Needs.{needs}
 use Rattle.archive_model.specs.Buffer.{Stage}

@@ -1,4 +1,4 @@
--- `c_pieces::scan::stage_of` meets its contract. Assumes nothing.
+-- `c_pieces::scan::stage_of` meets its contract.
 use Rattle.c_pieces.proofs.Scans.{stage-filling, stage-short, stage-ended, stage-wrong}
 use Rattle.c_pieces.proofs.scan.stage_of.Statement.{statement}
 use Rattle.c_pieces.proofs.scan.stage_of.Tie as tie

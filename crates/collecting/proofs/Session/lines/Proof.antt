@@ -1,4 +1,4 @@
--- `collecting::Session::lines` meets its contract, stage by stage. Assumes nothing.
+-- `collecting::Session::lines` meets its contract, stage by stage.
 use borrow.Author.Needs.{needs}
 use denote.Ref.{now}
 use Rattle.collecting.proofs.Session.lines.Statement.{statement}

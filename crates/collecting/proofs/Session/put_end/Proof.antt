@@ -1,4 +1,4 @@
--- `collecting::Session::put_end` meets its contract, stage by stage. Assumes nothing.
+-- `collecting::Session::put_end` meets its contract, stage by stage.
 use Prim.Native.Nat.{_+_}
 use lib.Dec.{leb}
 use lib.ListN.{length}

@@ -1,4 +1,4 @@
--- `collecting::program::end` is safe: where nothing failed, what `finish` asks holds. Assumes nothing.
+-- `collecting::program::end` is safe: where nothing failed, what `finish` asks holds.
 use borrow.Author.Needs.{needs}
 use Rattle.collecting.proofs.program.end.Statement.{statement}
 use Rattle.collecting.proofs.program.end.Tie as tie

@@ -1,4 +1,4 @@
--- `collecting::program::finish` meets its contract: nothing is kept, or what is kept is one more line. Assumes nothing.
+-- `collecting::program::finish` meets its contract: nothing is kept, or what is kept is one more line.
 use native.Mathlib.Omega.{arith}
 use lib.ListN.{length-set}
 use borrow.Author.Needs.{needs}

@@ -1,4 +1,4 @@
--- `collecting::program::is_read` meets its contract. Assumes nothing.
+-- `collecting::program::is_read` meets its contract.
 use mathlib.Core.Path.{_≡_}
 use Prim.Native.Nat.{ℕ}
 use native.Mathlib.Omega.{arith}

@@ -1,4 +1,4 @@
--- `collecting::program::next_after` meets its contract: only a failed write is not sound. Assumes nothing.
+-- `collecting::program::next_after` meets its contract: only a failed write is not sound.
 use mathlib.Core.Path.{sym}
 use borrow.Author.Needs.{needs}
 use borrow.Author.Tests.{not-true, not-false}

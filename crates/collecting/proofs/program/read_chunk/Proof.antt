@@ -1,4 +1,4 @@
--- `collecting::program::read_chunk` meets its contract: reading behind what is kept leaves it as it is. Assumes nothing.
+-- `collecting::program::read_chunk` meets its contract: reading behind what is kept leaves it as it is.
 use Prim.Native.Nat.{_-_}
 use lib.ListN.{length}
 use borrow.Author.Needs.{needs}

@@ -1,11 +1,11 @@
 -- `collecting::program::read_chunks` is safe and ends. The invariant: what is kept of a line stands at the front of the buffer.
--- The measure is the count of turns left. Assumes nothing.
+-- The measure is the count of turns left.
 use mathlib.Core.Path.{_≡_, refl}
 use native.Mathlib.Omega.{arith}
 use lib.ListN.{length}
 use borrow.Author.Tests.{not-false}
 use borrow.Author.Needs.{needs}
-use Rattle.streams.specs.Buffer.{isOpen}
+use Rattle.streams.specs.Buffer.{isUnended}
 use Rattle.collecting.specs.Program.{Kept}
 use Rattle.collecting.proofs.program.read_chunks.Statement.{statement}
 use Rattle.collecting.proofs.program.read_chunks.Tie as tie
@@ -18,7 +18,7 @@ abbrev μ-loop : tie.MeasureT-loop
 μ-loop input buffer₀ out₀ s₀ kept₀ left₀ buffer out s kept left = left
 
 loop-holds : tie.Need-loop-holds Inv-loop μ-loop
-unfolding isOpen
+unfolding isUnended
 loop-holds c =
     let h = c .before .before .before .pre in
     (refl, refl, record { few = omega arith; fits = omega arith; line = refl })

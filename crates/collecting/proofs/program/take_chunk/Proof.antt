@@ -1,4 +1,4 @@
--- `collecting::program::take_chunk` meets its contract, from what `take_lines` and `carry` say. Assumes nothing.
+-- `collecting::program::take_chunk` meets its contract, from what `take_lines` and `carry` say.
 use mathlib.Core.Path.{_≡_, sym, _∙_}
 use mathlib.Core.Bool.{true}
 use Prim.Native.Nat.{_-_, _≤_}

@@ -1,5 +1,5 @@
 -- `collecting::program::take_lines` meets its contract. The invariant: the lines of the first `at` bytes were taken.
--- The measure is what is left of the input. Assumes nothing.
+-- The measure is what is left of the input.
 use mathlib.Core.Path.{_≡_, refl}
 use mathlib.Core.Bool.{true, false}
 use Prim.Native.Nat.{ℕ, _-_, _≤_}
@@ -8,10 +8,10 @@ use lib.ListN.{length, take, drop, length-drop}
 use borrow.Author.Needs.{needs}
 use denote.Ref.{now}
 use Rattle.line_input.specs.Reading.{lineLimit}
-use Rattle.streams.specs.Chunks.{fresh, feed}
+use Rattle.streams.specs.Chunks.{atLineStart, feed}
 use Rattle.streams.specs.Collect.{collect}
 use Rattle.buffers.proofs.Stores.{take-rest}
-use Rattle.collecting.specs.Session.{merging, phaseOf, Ran}
+use Rattle.collecting.specs.Session.{modelCollector, phaseOf, Ran}
 use Rattle.collecting.proofs.Draining.{more-taken, none-more, none-left}
 use Rattle.collecting.proofs.program.take_lines.Statement.{statement}
 use Rattle.collecting.proofs.program.take_lines.Tie as tie
@@ -21,7 +21,7 @@ failed e = let z : _≡_ {A = ℕ} 0 1 = cc in absurd (omega arith)
 
 abbrev Inv-loop : tie.InvT-loop
 Inv-loop input out₀ s₀ at₀ out s at =
-    (at ≤ length input) × (length out ≡ length out₀) × (feed (collect merging) lineLimit (fresh (phaseOf s₀)) (take at input) ≡ fresh (phaseOf s))
+    (at ≤ length input) × (length out ≡ length out₀) × (feed (collect modelCollector) lineLimit (atLineStart (phaseOf s₀)) (take at input) ≡ atLineStart (phaseOf s))
 
 abbrev μ-loop : tie.MeasureT-loop
 μ-loop input out₀ s₀ at₀ out s at = length input - at

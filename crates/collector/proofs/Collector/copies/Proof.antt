@@ -1,4 +1,4 @@
--- `collector::Collector::copies` meets its contract: a case for each answer. Assumes nothing.
+-- `collector::Collector::copies` meets its contract: a case for each answer.
 use Prim.Native.Nat.{_≤_}
 use mathlib.Core.Path.{_≡_, sym, _∙_}
 use mathlib.Core.Bool.{true}

@@ -1,4 +1,4 @@
--- `collector::Collector::fresh` meets its contract: with a count of 0 no entry shows. Assumes nothing.
+-- `collector::Collector::fresh` meets its contract: with a count of 0 no entry shows.
 use mathlib.Core.Path.{refl}
 use Rattle.lists.specs.Lists.{upFrom}
 use Rattle.model.specs.View.{fresh}

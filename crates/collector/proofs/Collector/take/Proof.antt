@@ -1,12 +1,12 @@
 -- `collector::Collector::take` meets its contract: what is decided as the test of the state says, carried out column by column, is a step.
--- Assumes nothing.
 use mathlib.Core.Path.{_∙_}
 use borrow.Author.Needs.{needs}
 use denote.Ref.{now}
 use Rattle.model.specs.View.{Reception}
 use Rattle.collector.specs.declared.merging.Summary.{Summary}
 use Rattle.collector.specs.Collector.{columnsOf, viewOf}
-use Rattle.collector.specs.Admission.{collectorOf, Decides}
+use Rattle.collector.specs.Admission.{collectorOf}
+use Rattle.collector.specs.Private.{Decides}
 use Rattle.collector.proofs.Admitting.{carried-out}
 use Rattle.collector.proofs.Stepping.{admission-fit}
 use Rattle.collector.proofs.Collector.take.Statement.{statement}

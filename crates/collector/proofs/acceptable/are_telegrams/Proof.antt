@@ -1,5 +1,5 @@
 -- `collector::acceptable::are_telegrams` meets its contract. The loop's invariant: the first i entries are valid, no two the same telegram,
--- and their marks are seen. The measure is the number of entries left. Assumes nothing.
+-- and their marks are seen. The measure is the number of entries left.
 use Prim.Native.Nat.{ℕ, _-_, _≤_}
 use mathlib.Core.Path.{_≡_, sym, ap, _∙_}
 use mathlib.Core.Bool.{true}
@@ -10,7 +10,7 @@ use denote.Ref.{now}
 use lib.ListN.{getD}
 use Rattle.erp1.specs.Subtelegram.{isValid}
 use Rattle.collector.specs.Collector.{Columns, columns, entriesAt}
-use Rattle.collector.specs.Acceptable.{areTelegrams, shownAt}
+use Rattle.collector.specs.Private.{areTelegrams, shownAt}
 use Rattle.collector.proofs.Accepting.{telegrams-none, telegrams-more, telegrams-not, new-not-valid, new-repeated, new-both}
 use Rattle.collector.proofs.Marks.{Marked, marked-none, marked-more, valid-len, is-known, not-known, new-mark}
 use Rattle.collector.proofs.acceptable.are_telegrams.Statement.{statement}

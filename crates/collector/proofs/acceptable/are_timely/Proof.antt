@@ -1,5 +1,5 @@
 -- `collector::acceptable::are_timely` meets its contract. The loop's invariant: the times rise from the maturity before the latest up to
--- it, if those from i on rise from the one before them. The measure is the number of times left. Assumes nothing.
+-- it, if those from i on rise from the one before them. The measure is the number of times left.
 use Prim.Native.Nat.{ℕ, _-_, _≤_}
 use mathlib.Core.Path.{_≡_, sym, _∙_}
 use native.Mathlib.Omega.{arith}
@@ -10,7 +10,7 @@ use lib.ListN.{length, take}
 use lib.Seq.{slice}
 use Rattle.model.specs.View.{maturity}
 use Rattle.collector.specs.Collector.{Columns, entriesAt}
-use Rattle.collector.specs.Acceptable.{areTimely}
+use Rattle.collector.specs.Private.{areTimely}
 use Rattle.collector.proofs.Times.{rising, timely-by, rising-not, rising-more, rising-end}
 use Rattle.collector.proofs.acceptable.are_timely.Statement.{statement}
 use Rattle.collector.proofs.acceptable.are_timely.Tie as tie

@@ -1,4 +1,4 @@
--- `collector::acceptable::is_acceptable` meets its contract: each return is one case of the test. Assumes nothing.
+-- `collector::acceptable::is_acceptable` meets its contract: each return is one case of the test.
 use mathlib.Core.Path.{_≡_, refl, sym, _∙_}
 use mathlib.Core.Bool.{true}
 use mathlib.Core.List.{List}
@@ -7,7 +7,7 @@ use borrow.Author.Needs.{needs}
 use borrow.Author.Tests.{not-true, not-false}
 use denote.Ref.{now}
 use Rattle.collector.specs.Collector.{Columns, columns, entriesAt}
-use Rattle.collector.specs.Acceptable.{areTimely, areTelegrams}
+use Rattle.collector.specs.Private.{areTimely, areTelegrams}
 use Rattle.collector.proofs.Arrays.{entries-length}
 use Rattle.collector.proofs.Accepting.{too-many, not-timely, not-telegrams, not-summed, all-passed}
 use Rattle.collector.proofs.acceptable.is_acceptable.Statement.{statement}

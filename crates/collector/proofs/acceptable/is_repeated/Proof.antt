@@ -1,4 +1,4 @@
--- `collector::acceptable::is_repeated` meets its contract: nothing is searched where the mark was not seen. Assumes nothing.
+-- `collector::acceptable::is_repeated` meets its contract: nothing is searched where the mark was not seen.
 use mathlib.Core.Path.{_≡_, refl, ap, _∙_}
 use Prim.Native.Nat.{ℕ, _*_}
 use native.Mathlib.Omega.{arith}
@@ -8,7 +8,7 @@ use lib.ListN.{length, getD}
 use Rattle.erp1.specs.Subtelegram.{maxLength}
 use Rattle.buffers.specs.Buffer.{part, resized}
 use Rattle.buffers.proofs.Buffer.{resized-length}
-use Rattle.collector.specs.Acceptable.{shownAt}
+use Rattle.collector.specs.Private.{shownAt}
 use Rattle.collector.proofs.Arrays.{entries-length, found-known}
 use Rattle.collector.proofs.acceptable.is_repeated.Statement.{statement}
 use Rattle.collector.proofs.acceptable.is_repeated.Tie as tie

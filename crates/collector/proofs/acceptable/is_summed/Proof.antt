@@ -1,4 +1,4 @@
--- `collector::acceptable::is_summed` meets its contract: what is left of received is none after the last. Assumes nothing.
+-- `collector::acceptable::is_summed` meets its contract: what is left of received is none after the last.
 use native.Mathlib.Omega.{arith}
 use Rattle.collector.proofs.Accepting.{summed-not, summed-left}
 use Rattle.collector.proofs.acceptable.is_summed.Statement.{statement}

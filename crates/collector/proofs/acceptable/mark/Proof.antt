@@ -1,10 +1,10 @@
--- `collector::acceptable::mark` meets its contract: three bytes, weighted, are far below the range. Assumes nothing.
+-- `collector::acceptable::mark` meets its contract: three bytes, weighted, are far below the range.
 use Prim.Native.Nat.{_-_, _<_}
 use native.Mathlib.Omega.{arith}
 use borrow.Author.Needs.{needs}
 use denote.Ref.{now}
 use lib.ListN.{length}
-use Rattle.collector.specs.Acceptable.{markOf}
+use Rattle.collector.specs.Private.{markOf}
 use Rattle.collector.proofs.acceptable.mark.Statement.{statement}
 use Rattle.collector.proofs.acceptable.mark.Tie as tie
 

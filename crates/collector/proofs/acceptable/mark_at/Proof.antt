@@ -1,4 +1,4 @@
--- `collector::acceptable::mark_at` meets its contract: the entry's length and the check say whether it is valid. Assumes nothing.
+-- `collector::acceptable::mark_at` meets its contract: the entry's length and the check say whether it is valid.
 use mathlib.Core.Path.{_≡_, ap, _∙_}
 use Prim.Native.Nat.{ℕ, _*_}
 use native.Mathlib.Omega.{arith}
@@ -7,7 +7,7 @@ use denote.Ref.{now}
 use Rattle.erp1.specs.Subtelegram.{maxLength}
 use Rattle.erp1.proofs.Checks.{check-facts, told-valid, told-refused, not-valid}
 use Rattle.buffers.specs.Buffer.{part, resized}
-use Rattle.collector.specs.Acceptable.{shownAt}
+use Rattle.collector.specs.Private.{shownAt}
 use Rattle.collector.proofs.Marks.{no-mark, long-not-valid, has-mark}
 use Rattle.collector.proofs.acceptable.mark_at.Statement.{statement}
 use Rattle.collector.proofs.acceptable.mark_at.Tie as tie

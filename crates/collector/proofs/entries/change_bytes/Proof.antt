@@ -1,4 +1,4 @@
--- `collector::entries::change_bytes` meets its contract. Assumes nothing.
+-- `collector::entries::change_bytes` meets its contract.
 use native.Mathlib.Omega.{arith}
 use borrow.Author.Tests.{not-true, not-false}
 use Rattle.collector.proofs.entries.change_bytes.Statement.{statement}

@@ -1,4 +1,4 @@
--- `collector::entries::change_lens` meets its contract. Assumes nothing.
+-- `collector::entries::change_lens` meets its contract.
 use native.Mathlib.Omega.{arith}
 use borrow.Author.Needs.{needs}
 use borrow.Author.Tests.{not-true, not-false}

@@ -1,4 +1,4 @@
--- `collector::entries::credit` meets its contract. Assumes nothing.
+-- `collector::entries::credit` meets its contract.
 use native.Mathlib.Omega.{arith}
 use borrow.Author.Needs.{needs}
 use borrow.Author.Tests.{not-true, not-false}

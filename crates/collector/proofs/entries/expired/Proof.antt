@@ -1,5 +1,5 @@
 -- `collector::entries::expired` meets its contract. The loop's invariant: none of the first i is open.
--- The measure is the number of times left. Assumes nothing.
+-- The measure is the number of times left.
 use Prim.Native.Nat.{ℕ, _-_, _≤_, _<_}
 use mathlib.Core.Path.{_≡_}
 use mathlib.Core.Bool.{false}

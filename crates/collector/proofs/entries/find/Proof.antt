@@ -1,5 +1,5 @@
 -- `collector::entries::find` meets its contract. The loop's invariant: none of the entries from i on is a copy, whatever their counts are.
--- The measure is i. Assumes nothing.
+-- The measure is i.
 use Prim.Native.Nat.{ℕ, _-_, _≤_, _<_}
 use native.Mathlib.Decide.{decLt}
 use mathlib.Core.Path.{_≡_, refl, sym, _∙_}

@@ -1,5 +1,5 @@
 -- `collector::entries::holds` meets its contract: an entry with another last byte of TXID, or of another length, is another telegram, and else
--- `same` says it. Assumes nothing.
+-- `same` says it.
 use mathlib.Core.Path.{sym, _∙_}
 use Prim.Native.Nat.{_-_}
 use native.Mathlib.Omega.{arith}

@@ -1,4 +1,4 @@
--- `collector::entries::is_echo` meets its contract. Assumes nothing.
+-- `collector::entries::is_echo` meets its contract.
 use borrow.Author.Needs.{needs}
 use Rattle.collector.proofs.entries.is_echo.Statement.{statement}
 use Rattle.collector.proofs.entries.is_echo.Tie as tie

@@ -1,4 +1,4 @@
--- `collector::entries::is_original` meets its contract: STATUS is the last byte but one. Assumes nothing.
+-- `collector::entries::is_original` meets its contract: STATUS is the last byte but one.
 use native.Mathlib.Omega.{arith}
 use borrow.Author.Needs.{needs}
 use denote.Ref.{now}

@@ -1,5 +1,4 @@
 -- `collector::entries::one_more` meets its contract: the numbers say it, so that a wrong ceiling is refused by the number where it fails.
--- Assumes nothing.
 use native.Mathlib.Omega.{arith}
 use Rattle.collector.proofs.entries.one_more.Statement.{statement}
 use Rattle.collector.proofs.entries.one_more.Tie as tie

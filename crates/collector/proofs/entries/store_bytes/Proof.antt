@@ -1,4 +1,4 @@
--- `collector::entries::store_bytes` meets its contract. Assumes nothing.
+-- `collector::entries::store_bytes` meets its contract.
 use native.Mathlib.Omega.{arith}
 use borrow.Author.Needs.{needs}
 use denote.Ref.{now}

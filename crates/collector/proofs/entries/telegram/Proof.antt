@@ -1,4 +1,4 @@
--- `collector::entries::telegram` meets its contract: a length that is not over 21 cuts the 21 bytes. Assumes nothing.
+-- `collector::entries::telegram` meets its contract: a length that is not over 21 cuts the 21 bytes.
 use native.Mathlib.Omega.{arith}
 use borrow.Author.Needs.{needs}
 use denote.Ref.{now}

@@ -1,9 +1,9 @@
--- `collector::merging::admit` meets its contract: what is decided is carried out, column by column. Assumes nothing.
+-- `collector::merging::admit` meets its contract: what is decided is carried out, column by column.
 use borrow.Author.Needs.{needs}
 use denote.Ref.{now}
 use Rattle.model.specs.View.{Reception}
 use Rattle.collector.specs.Collector.{Columns, columns}
-use Rattle.collector.specs.Admission.{Decides}
+use Rattle.collector.specs.Private.{Decides}
 use Rattle.collector.proofs.Admitting.{carried-out}
 use Rattle.collector.proofs.merging.admit.Statement.{statement}
 use Rattle.collector.proofs.merging.admit.Tie as tie

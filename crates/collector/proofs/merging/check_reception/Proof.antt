@@ -1,4 +1,4 @@
--- `collector::merging::check_reception` meets its contract: each return is one case of `receptionCheck`. Assumes nothing.
+-- `collector::merging::check_reception` meets its contract: each return is one case of `receptionCheck`.
 use mathlib.Core.Path.{_≡_, _∙_}
 use mathlib.Core.Bool.{true}
 use borrow.Author.Needs.{needs}

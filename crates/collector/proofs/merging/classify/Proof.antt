@@ -1,5 +1,4 @@
 -- `collector::merging::classify` meets its contract: each return is one case of `answerFor`, whatever the counts of the entries are.
--- Assumes nothing.
 use Prim.Native.Nat.{ℕ, _-_}
 use mathlib.Core.Path.{_≡_, refl, sym, _∙_, ap}
 use mathlib.Core.List.{List}
@@ -13,7 +12,7 @@ use Rattle.erp1.specs.Subtelegram.{checkedNumber}
 use Rattle.model.specs.declared.Answer.the-variants as answer
 use Rattle.model.specs.View.{Reception, Entry}
 use Rattle.collector.specs.Collector.{Columns, columns, entriesAt}
-use Rattle.collector.specs.Acceptable.{hasCopy}
+use Rattle.collector.specs.Admission.{hasCopy}
 use Rattle.collector.proofs.Arrays.{left-length, found-known}
 use Rattle.collector.proofs.Classifying.{answer-refused, answer-copy, answer-loose, answer-kept, judged-other}
 use Rattle.collector.proofs.merging.classify.Statement.{statement}

@@ -1,4 +1,4 @@
--- `collector::merging::count_after` meets its contract. Assumes nothing.
+-- `collector::merging::count_after` meets its contract.
 use native.Mathlib.Omega.{arith}
 use borrow.Author.Tests.{not-true, not-false}
 use Rattle.collector.proofs.merging.count_after.Statement.{statement}

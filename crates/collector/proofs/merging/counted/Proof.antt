@@ -1,4 +1,4 @@
--- `collector::merging::counted` meets its contract: no total is at its end, for none is above the sum. Assumes nothing.
+-- `collector::merging::counted` meets its contract: no total is at its end, for none is above the sum.
 use borrow.Author.Needs.{needs}
 use Rattle.collector.proofs.Classifying.{below}
 use Rattle.collector.proofs.merging.counted.Statement.{statement}

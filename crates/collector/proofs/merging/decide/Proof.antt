@@ -1,4 +1,4 @@
--- `collector::merging::decide` meets its contract: the steps of `admitted` are decided, or 11 or 8 and nothing. Assumes nothing.
+-- `collector::merging::decide` meets its contract: the steps of `admitted` are decided, or 11 or 8 and nothing.
 use Prim.Native.Nat.{ℕ, _-_, _<_}
 use mathlib.Core.Path.{sym, _∙_}
 use mathlib.Core.List.{List, []}
@@ -12,8 +12,8 @@ use Rattle.erp1.specs.Subtelegram.{checkedNumber}
 use Rattle.model.specs.View.{Reception}
 use Rattle.model.specs.Step.{maxCount}
 use Rattle.collector.specs.Collector.{Columns, columns, entriesAt}
-use Rattle.collector.specs.Merging.{JudgedBy}
 use Rattle.collector.specs.Admission.{viewIn}
+use Rattle.collector.specs.Private.{JudgedBy}
 use Rattle.collector.proofs.Admitting.{Fit, Looked, passed-valid, valid-fits, fit-says, not-accepted, all-full, is-taken}
 use Rattle.collector.proofs.Admitting.{decides-nothing, room, decides}
 use Rattle.collector.proofs.merging.decide.Statement.{statement}

@@ -1,4 +1,4 @@
--- `collector::merging::is_damaged` meets its contract. Assumes nothing.
+-- `collector::merging::is_damaged` meets its contract.
 use borrow.Author.Needs.{needs}
 use Rattle.collector.proofs.merging.is_damaged.Statement.{statement}
 use Rattle.collector.proofs.merging.is_damaged.Tie as tie

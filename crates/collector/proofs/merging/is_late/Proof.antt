@@ -1,4 +1,4 @@
--- `collector::merging::is_late` meets its contract. Assumes nothing.
+-- `collector::merging::is_late` meets its contract.
 use borrow.Author.Needs.{needs}
 use Rattle.collector.proofs.merging.is_late.Statement.{statement}
 use Rattle.collector.proofs.merging.is_late.Tie as tie

@@ -1,4 +1,4 @@
--- `collector::merging::is_received` meets its contract. Assumes nothing.
+-- `collector::merging::is_received` meets its contract.
 use borrow.Author.Needs.{needs}
 use Rattle.collector.proofs.merging.is_received.Statement.{statement}
 use Rattle.collector.proofs.merging.is_received.Tie as tie

@@ -1,4 +1,4 @@
--- `collector::merging::is_safe` meets its contract. Assumes nothing.
+-- `collector::merging::is_safe` meets its contract.
 use borrow.Author.Needs.{needs}
 use Rattle.collector.proofs.merging.is_safe.Statement.{statement}
 use Rattle.collector.proofs.merging.is_safe.Tie as tie

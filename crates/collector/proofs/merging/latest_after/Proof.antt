@@ -1,4 +1,4 @@
--- `collector::merging::latest_after` meets its contract: a refusal's number is not 0. Assumes nothing.
+-- `collector::merging::latest_after` meets its contract: a refusal's number is not 0.
 use borrow.Author.Needs.{needs}
 use borrow.Author.Tests.{ne-eqb}
 use Rattle.refusal.proofs.Numbers.{refused-number}

@@ -1,4 +1,4 @@
--- `collector::merging::number_of` meets its contract: in each arm the answer is known, and so is its number. Assumes nothing.
+-- `collector::merging::number_of` meets its contract: in each arm the answer is known, and so is its number.
 use mathlib.Core.Path.{sym, ap, _∙_}
 use borrow.Author.Needs.{needs}
 use Rattle.model.specs.Answer.{shownNumber, shownOf}

@@ -1,4 +1,4 @@
--- `collector::merging::one_more` meets its contract. Assumes nothing.
+-- `collector::merging::one_more` meets its contract.
 use native.Mathlib.Omega.{arith}
 use borrow.Author.Tests.{not-true, not-false}
 use Rattle.collector.proofs.merging.one_more.Statement.{statement}

@@ -1,4 +1,4 @@
--- `collector::merging::relay_kept` meets its contract. Assumes nothing.
+-- `collector::merging::relay_kept` meets its contract.
 use mathlib.Core.Path.{sym, _∙_}
 use borrow.Author.Needs.{needs}
 use borrow.Author.Tests.{not-true, not-false}

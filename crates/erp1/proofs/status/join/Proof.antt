@@ -1,4 +1,4 @@
--- `erp1::status::join` meets its contract, a case for each selector. Assumes nothing.
+-- `erp1::status::join` meets its contract, a case for each selector.
 use borrow.Author.Needs.{needs}
 use Rattle.erp1.proofs.status.join.Statement.{statement}
 use Rattle.erp1.proofs.status.join.Tie as tie

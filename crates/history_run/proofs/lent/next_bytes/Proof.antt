@@ -1,5 +1,4 @@
 -- `lent::next_bytes` is safe and ends. The loop's invariant: the buffer has its length; the measure is what is left of the bytes.
--- Assumes nothing.
 use Prim.Native.Nat.{_≤_, _-_}
 use mathlib.Core.Path.{_≡_}
 use lib.ListN.{length}

@@ -1,5 +1,5 @@
 -- `lent::next_records` is safe and ends. The loop's invariant: the index is at most the count, and the buffer has its length; the measure is what is
--- left of the count. Assumes nothing.
+-- left of the count.
 use Prim.Native.Nat.{_≤_, _-_}
 use mathlib.Core.Path.{_≡_}
 use lib.ListN.{length}

@@ -1,5 +1,4 @@
 -- `shown::put_delivered` is safe and ends. The loop's invariant: the index is at most the count; the measure is what is left of it.
--- Assumes nothing.
 use Prim.Native.Nat.{_≤_, _-_}
 use borrow.Author.Needs.{needs}
 use native.Mathlib.Omega.{arith}

@@ -1,5 +1,4 @@
 -- `shown::put_digest` is safe and ends. The loop's invariant: the index is at most the length; the measure is what is left of it.
--- Assumes nothing.
 use Prim.Native.Nat.{_≤_, _-_}
 use mathlib.Core.Path.{_≡_}
 use lib.ListN.{length}

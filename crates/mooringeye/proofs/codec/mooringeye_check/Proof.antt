@@ -1,4 +1,4 @@
--- `mooringeye::codec::mooringeye_check` meets its contract. Assumes nothing.
+-- `mooringeye::codec::mooringeye_check` meets its contract.
 use mathlib.Core.Path.{_∙_}
 use borrow.Author.Needs.{needs}
 use Rattle.mooringeye.proofs.codec.mooringeye_check.Statement.{statement}

@@ -1,4 +1,4 @@
--- `replay::calls::asked` meets its contract: by what `copies` ensures. Assumes nothing.
+-- `replay::calls::asked` meets its contract: by what `copies` ensures.
 use mathlib.Core.Path.{_≡_, refl, ap, _∙_}
 use borrow.Author.Needs.{needs}
 use denote.Ref.{now}

@@ -1,4 +1,4 @@
--- `replay::calls::burst_in` meets its contract: by what `burst_within` ensures. Assumes nothing.
+-- `replay::calls::burst_in` meets its contract: by what `burst_within` ensures.
 use mathlib.Core.Path.{_≡_, refl, ap, _∙_}
 use mathlib.Core.List.{map}
 use Prim.Native.Nat.{ℕ, min}

@@ -1,4 +1,4 @@
--- `replay::calls::cut` meets its contract: by what `checkpoint`, `fresh` and `restore` ensure. Assumes nothing.
+-- `replay::calls::cut` meets its contract: by what `checkpoint`, `fresh` and `restore` ensure.
 use mathlib.Core.Path.{_≡_, refl, sym, ap, _∙_}
 use mathlib.Core.List.{List}
 use Prim.Native.Nat.{ℕ, _+_, _-_}
@@ -13,7 +13,7 @@ use Rattle.model.specs.Image.{RestoreResult, imageLength, checkpointOf, restore
 use Rattle.model.specs.History.{Restored}
 use Rattle.collector.specs.Collector.{viewOf}
 use Rattle.image.specs.Checkpoint.{loadedNumber, restoreResult}
-use Rattle.replay_model.specs.Record.{bytesOf}
+use Rattle.replay_model.specs.Record.{seenBytes}
 use Rattle.replay.specs.Calls.{outputIn}
 use Rattle.replay.specs.Replay.{wroteOf}
 use Rattle.replay.proofs.Making.{output-is, image-lent, cut-made}
@@ -52,8 +52,8 @@ first c =
     let h = room at in
     let v = viewOf (start at .args .c) in
     packed
-    (lend (begin out) _ (bytesOf (wroteOf v (output at))) (end at)
-    (c .put-wrote .ensures ∙ ap (λ (o : List ℕ). bytesOf (wroteOf v o)) (output-is (now (start at .args .r)) (part 0 (end at - 0) out)
+    (lend (begin out) _ (seenBytes (wroteOf v (output at))) (end at)
+    (c .put-wrote .ensures ∙ ap (λ (o : List ℕ). seenBytes (wroteOf v o)) (output-is (now (start at .args .r)) (part 0 (end at - 0) out)
     (first-room at ∙ omega (arith, output-length at))))
     (c .put-wrote .kept .0) (omega arith) (omega arith))
 
@@ -80,7 +80,7 @@ returns c =
     let at = lengths (put t) in
     let h = room at in
     let v = viewOf (start at .args .c) in
-    let both = lend (first (put t) .begun) _ (bytesOf (Restored (loadedNumber (t .restore .result .answer)) (t .restore .result .next .totals)))
+    let both = lend (first (put t) .begun) _ (seenBytes (Restored (loadedNumber (t .restore .result .answer)) (t .restore .result .next .totals)))
     (end at + 50)
     (second .put-restored .ensures) (second .put-restored .kept .0) (omega arith) (omega arith) in
     record {

@@ -1,4 +1,4 @@
--- `replay::calls::delivered` meets its contract: by what `burst_within` ensures. Assumes nothing.
+-- `replay::calls::delivered` meets its contract: by what `burst_within` ensures.
 use mathlib.Core.Path.{_≡_, ap, _∙_}
 use borrow.Author.Needs.{needs}
 use denote.Ref.{now}

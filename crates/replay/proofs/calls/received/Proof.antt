@@ -1,4 +1,4 @@
--- `replay::calls::received` meets its contract: by what `take` and `repeat` ensure. Assumes nothing.
+-- `replay::calls::received` meets its contract: by what `take` and `repeat` ensure.
 use mathlib.Core.Path.{_≡_, refl, ap, ap₂, _∙_}
 use mathlib.Core.Bool.{cond}
 use mathlib.Core.List.{[]}
@@ -10,8 +10,7 @@ use Rattle.telegram.specs.Repeater.{repeatOf}
 use Rattle.buffers.specs.Buffer.{part}
 use Rattle.model.specs.Answer.{isKept, shownOf}
 use Rattle.model.specs.Step.{Outcome, step, sentFor}
-use Rattle.collector.specs.Collector.{viewOf}
-use Rattle.collector.specs.Merging.{outcomeOf}
+use Rattle.collector.specs.Collector.{viewOf, outcomeOf}
 use Rattle.replay.specs.Calls.{settingIn, receptionIn}
 use Rattle.replay.proofs.Records.{bytes-lent}
 use Rattle.replay.proofs.Making.{answered}

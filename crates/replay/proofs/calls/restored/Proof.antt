@@ -1,4 +1,4 @@
--- `replay::calls::restored` meets its contract: by what `restore` ensures. Assumes nothing.
+-- `replay::calls::restored` meets its contract: by what `restore` ensures.
 use mathlib.Core.Path.{_≡_, ap, _∙_}
 use borrow.Author.Needs.{needs}
 use denote.Ref.{now}

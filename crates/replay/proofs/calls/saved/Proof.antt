@@ -1,10 +1,10 @@
--- `replay::calls::saved` meets its contract: by what `checkpoint` ensures. Assumes nothing.
+-- `replay::calls::saved` meets its contract: by what `checkpoint` ensures.
 use mathlib.Core.Path.{refl, ap, _∙_}
 use mathlib.Core.List.{List}
 use borrow.Author.Needs.{needs}
 use denote.Ref.{now}
 use Rattle.collector.specs.Collector.{viewOf}
-use Rattle.replay_model.specs.Record.{bytesOf}
+use Rattle.replay_model.specs.Record.{seenBytes}
 use Rattle.replay.specs.Calls.{outputIn}
 use Rattle.replay.specs.Replay.{wroteOf}
 use Rattle.replay.proofs.Making.{output-is, saved}
@@ -18,7 +18,7 @@ returns c =
     let a = start .args in
     let v = viewOf (a .c) in
     record {
-      bytes = put .put-wrote .ensures ∙ ap (λ (output : List _). bytesOf (wroteOf v output)) (output-is (now (a .r)) (now (a .out))
+      bytes = put .put-wrote .ensures ∙ ap (λ (output : List _). seenBytes (wroteOf v output)) (output-is (now (a .r)) (now (a .out))
           (start .pre .1)) ∙ saved v (outputIn (now (a .r)));
       next = refl;
     }

@@ -1,4 +1,4 @@
--- `replay::calls::sent_for` meets its contract: only KEPT is ever repeated. Assumes nothing.
+-- `replay::calls::sent_for` meets its contract: only KEPT is ever repeated.
 use mathlib.Core.Path.{ap, _∙_}
 use borrow.Author.Needs.{needs}
 use denote.Ref.{now}

@@ -1,4 +1,4 @@
--- `replay::reading::form_in` meets its contract: a test for each form. Assumes nothing.
+-- `replay::reading::form_in` meets its contract: a test for each form.
 use borrow.Author.Tests.{ne-eqb}
 use Rattle.replay.proofs.reading.form_in.Statement.{statement}
 use Rattle.replay.proofs.reading.form_in.Tie as tie

@@ -1,4 +1,4 @@
--- `replay::reading::reception_in` meets its contract. Assumes nothing.
+-- `replay::reading::reception_in` meets its contract.
 use mathlib.Core.Path.{_∙_}
 use native.Mathlib.Omega.{arith}
 use borrow.Author.Needs.{needs}

@@ -1,4 +1,4 @@
--- `replay::reading::receptions_in` meets its contract. The invariant: the first i are read; the measure: the records left. Assumes nothing.
+-- `replay::reading::receptions_in` meets its contract. The invariant: the first i are read; the measure: the records left.
 use mathlib.Core.Path.{_≡_}
 use Prim.Native.Nat.{_-_}
 use native.Mathlib.Omega.{arith}

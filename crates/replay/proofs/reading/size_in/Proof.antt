@@ -1,4 +1,4 @@
--- `replay::reading::size_in` meets its contract: a case for each call. Assumes nothing.
+-- `replay::reading::size_in` meets its contract: a case for each call.
 use mathlib.Core.List.{[]}
 use native.Mathlib.Omega.{arith}
 use borrow.Author.Needs.{needs}

@@ -1,4 +1,4 @@
--- `replay::reading::window` meets its contract. Assumes nothing.
+-- `replay::reading::window` meets its contract.
 use borrow.Author.Needs.{needs}
 use denote.Ref.{now}
 use Rattle.replay.proofs.Records.{window-is}

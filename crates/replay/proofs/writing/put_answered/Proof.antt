@@ -1,4 +1,4 @@
--- `replay::writing::put_answered` meets its contract: a step for each part that is lent. Assumes nothing.
+-- `replay::writing::put_answered` meets its contract: a step for each part that is lent.
 use mathlib.Core.Path.{_∙_}
 use native.Mathlib.Omega.{arith}
 use borrow.Author.Needs.{needs}
@@ -6,7 +6,7 @@ use denote.Ref.{now}
 use Rattle.buffers.proofs.Segments.{Writing, packed, begin, lend, done}
 use Rattle.model.specs.Answer.{shownOf, shownNumber}
 use Rattle.replay_model.specs.Operation.{receiving}
-use Rattle.replay_model.specs.Record.{headOf, replyOf, bytesOf}
+use Rattle.replay_model.specs.Record.{headOf, replyOf, seenBytes}
 use Rattle.replay.proofs.writing.put_answered.Statement.{statement}
 use Rattle.replay.proofs.writing.put_answered.Tie as tie
 
@@ -28,7 +28,7 @@ step2 c =
     packed (lend (step1 at .begun) _ _ 81 (c .put-reply .ensures) (c .put-reply .kept .0) (omega arith) (omega arith))
 
 returns : tie.Need-returns
-unfolding bytesOf
+unfolding seenBytes
 returns c = done (step2 (c .before .before) .begun) (omega arith)
 
 pub put-answered-spec : {M : Type 1} → statement M

@@ -1,4 +1,4 @@
--- `replay::writing::put_delivered` meets its contract: a step for each part that is lent. Assumes nothing.
+-- `replay::writing::put_delivered` meets its contract: a step for each part that is lent.
 use mathlib.Core.Path.{_≡_, refl, _∙_}
 use mathlib.Core.List.{map}
 use Prim.Native.Nat.{_+_, _*_}
@@ -10,7 +10,7 @@ use Rattle.layout.specs.BigEndian.{be}
 use Rattle.buffers.proofs.Segments.{Writing, packed, begin, begun-length, within, lend, lend-sized, lent, done}
 use Rattle.burst.specs.Records.{repliedOf, handedNumber}
 use Rattle.replay_model.specs.Operation.{delivering}
-use Rattle.replay_model.specs.Record.{headOf, bytesOf}
+use Rattle.replay_model.specs.Record.{headOf, seenBytes}
 use Rattle.replay.proofs.Filling.{replies-length}
 use Rattle.replay.proofs.writing.put_delivered.Statement.{statement}
 use Rattle.replay.proofs.writing.put_delivered.Tie as tie
@@ -53,7 +53,7 @@ replies-requires c κs =
     (s .pre .0, lent (step2 number .begun) (31 * s .args .m) (58 + 31 * s .args .m) refl (omega (arith, s .pre .1)))
 
 returns : tie.Need-returns
-unfolding bytesOf
+unfolding seenBytes
 returns c =
     let put = c .before .before in
     let at = head put in

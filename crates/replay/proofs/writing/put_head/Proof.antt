@@ -1,4 +1,4 @@
--- `replay::writing::put_head` meets its contract: a step for each byte that is stored and each part that is lent. Assumes nothing.
+-- `replay::writing::put_head` meets its contract: a step for each byte that is stored and each part that is lent.
 use native.Mathlib.Omega.{arith}
 use borrow.Author.Needs.{needs}
 use denote.Ref.{now}

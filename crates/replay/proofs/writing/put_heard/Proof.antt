@@ -1,4 +1,4 @@
--- `replay::writing::put_heard` meets its contract: a step for each part that is lent. Assumes nothing.
+-- `replay::writing::put_heard` meets its contract: a step for each part that is lent.
 use mathlib.Core.Path.{_∙_}
 use native.Mathlib.Omega.{arith}
 use borrow.Author.Needs.{needs}
@@ -7,7 +7,7 @@ use Rattle.layout.specs.BigEndian.{be}
 use Rattle.buffers.proofs.Segments.{Writing, packed, begin, lend, lend-sized, done}
 use Rattle.collector.specs.Heard.{askedNumber}
 use Rattle.replay_model.specs.Operation.{asking}
-use Rattle.replay_model.specs.Record.{headOf, bytesOf}
+use Rattle.replay_model.specs.Record.{headOf, seenBytes}
 use Rattle.replay.proofs.writing.put_heard.Statement.{statement}
 use Rattle.replay.proofs.writing.put_heard.Tie as tie
 
@@ -31,7 +31,7 @@ step2 c =
     (omega arith) (omega arith))
 
 returns : tie.Need-returns
-unfolding bytesOf
+unfolding seenBytes
 returns c = done (step2 (c .before .before) .begun) (omega arith)
 
 pub put-heard-spec : {M : Type 1} → statement M

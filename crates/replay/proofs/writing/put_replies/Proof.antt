@@ -1,4 +1,4 @@
--- `replay::writing::put_replies` meets its contract. The invariant: the first i places are written; the measure: the places left. Assumes nothing.
+-- `replay::writing::put_replies` meets its contract. The invariant: the first i places are written; the measure: the places left.
 use mathlib.Core.Path.{_≡_, sym, _∙_}
 use mathlib.Core.List.{map, flatten}
 use Prim.Native.Nat.{_-_, _*_, _+_, _≤_}

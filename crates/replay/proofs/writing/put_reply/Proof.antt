@@ -1,4 +1,4 @@
--- `replay::writing::put_reply` meets its contract: a step for each byte that is stored and each part that is lent. Assumes nothing.
+-- `replay::writing::put_reply` meets its contract: a step for each byte that is stored and each part that is lent.
 use mathlib.Core.Path.{_∙_}
 use mathlib.Core.List.{[], _∷_, _++_}
 use native.Mathlib.Omega.{arith}

@@ -1,13 +1,13 @@
--- `replay::writing::put_restored` meets its contract. Assumes nothing.
+-- `replay::writing::put_restored` meets its contract.
 use mathlib.Core.Path.{_∙_}
 use borrow.Author.Needs.{needs}
 use Rattle.replay_model.specs.Operation.{restoring}
-use Rattle.replay_model.specs.Record.{headOf, bytesOf}
+use Rattle.replay_model.specs.Record.{headOf, seenBytes}
 use Rattle.replay.proofs.writing.put_restored.Statement.{statement}
 use Rattle.replay.proofs.writing.put_restored.Tie as tie
 
 returns : tie.Need-returns
-unfolding bytesOf
+unfolding seenBytes
 returns c =
     let put = c .before .before in
     let number = put .before .before in

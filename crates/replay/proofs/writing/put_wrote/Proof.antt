@@ -1,4 +1,4 @@
--- `replay::writing::put_wrote` meets its contract: the output is lent first, and then the head before it. Assumes nothing.
+-- `replay::writing::put_wrote` meets its contract: the output is lent first, and then the head before it.
 use mathlib.Core.Path.{_∙_}
 use native.Mathlib.Omega.{arith}
 use borrow.Author.Needs.{needs}

@@ -1,4 +1,4 @@
--- `replay::writing::save_into` meets its contract: by what `checkpoint` ensures. Assumes nothing.
+-- `replay::writing::save_into` meets its contract: by what `checkpoint` ensures.
 use mathlib.Core.Path.{ap, _∙_}
 use borrow.Author.Needs.{needs}
 use Rattle.model.specs.Image.{checkpointOf}

@@ -1,5 +1,5 @@
 -- `replay::writing::set_all` meets its contract. The invariant: the first i bytes are set, and the rest is as it was; the measure:
--- the bytes left. Assumes nothing.
+-- the bytes left.
 use mathlib.Core.Path.{_≡_}
 use Prim.Native.Nat.{_-_, _≤_}
 use native.Mathlib.Omega.{arith}

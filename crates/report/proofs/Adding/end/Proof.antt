@@ -1,4 +1,4 @@
--- `report::Adding::end` meets its contract. Assumes nothing.
+-- `report::Adding::end` meets its contract.
 use borrow.Author.Needs.{needs}
 use mathlib.Core.Path.{sym, ap, _∙_}
 use borrow.Author.Tests.{not-true, not-false}

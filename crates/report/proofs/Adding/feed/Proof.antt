@@ -1,4 +1,4 @@
--- `report::Adding::feed` meets its contract: each return is one case of `feedOf`. Assumes nothing.
+-- `report::Adding::feed` meets its contract: each return is one case of `feedOf`.
 use native.Mathlib.Omega.{arith}
 use borrow.Author.Needs.{needs}
 use denote.Ref.{now}

@@ -1,4 +1,4 @@
--- `report::Adding::start` meets its contract. Assumes nothing.
+-- `report::Adding::start` meets its contract.
 use borrow.Author.Needs.{needs}
 use mathlib.Core.Path.{ap}
 use mathlib.Core.Bool.{false}

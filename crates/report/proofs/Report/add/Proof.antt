@@ -1,4 +1,4 @@
--- `report::Report::add` meets its contract: the tally of all blocks is what the definition answers by. Assumes nothing.
+-- `report::Report::add` meets its contract: the tally of all blocks is what the definition answers by.
 use native.Mathlib.Omega.{arith}
 use borrow.Author.Needs.{needs}
 use denote.Ref.{now}

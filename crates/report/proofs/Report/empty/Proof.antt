@@ -1,4 +1,4 @@
--- `report::Report::empty` meets its contract. Assumes nothing.
+-- `report::Report::empty` meets its contract.
 use borrow.Author.Needs.{needs}
 use Rattle.report.proofs.Windows.{lines-none}
 use Rattle.report.proofs.Report.empty.Statement.{statement}

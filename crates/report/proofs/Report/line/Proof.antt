@@ -1,4 +1,4 @@
--- `report::Report::line` meets its contract. Assumes nothing.
+-- `report::Report::line` meets its contract.
 use native.Mathlib.Omega.{arith}
 use borrow.Author.Needs.{needs}
 use mathlib.Core.Path.{_≡_, sym, ap, _∙_}

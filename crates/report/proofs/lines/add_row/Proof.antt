@@ -1,5 +1,4 @@
 -- `report::lines::add_row` meets its contract: the row is joined to its line, or there is no room, or a gap is made for a new line.
--- Assumes nothing.
 use Prim.Native.Nat.{ℕ, _<_}
 use native.Mathlib.Omega.{arith}
 use mathlib.Core.Path.{_≡_, sym, ap, _∙_}

@@ -1,5 +1,5 @@
 -- `report::lines::are_lines` meets its contract. The invariant: what is left of lines and totals decides the whole; the measure: the lines
--- left. Assumes nothing.
+-- left.
 use native.Mathlib.Omega.{arith}
 use denote.Ref.{now}
 use mathlib.Core.Path.{_≡_, sym, ap, _∙_}

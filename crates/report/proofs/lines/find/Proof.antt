@@ -1,5 +1,5 @@
 -- `report::lines::find` meets its contract. The invariant: lines before `low` are below the identity, lines from `low + size` on are not; the
--- order of the lines settles all on one side of the last line of a half. The measure is `size`. Assumes nothing.
+-- order of the lines settles all on one side of the last line of a half. The measure is `size`.
 use Prim.Native.Nat.{ℕ, _+_, _-_, _/_}
 use native.Mathlib.Omega.{arith}
 use denote.Ref.{now}

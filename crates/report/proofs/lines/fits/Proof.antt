@@ -1,4 +1,4 @@
--- `report::lines::fits` meets its contract. Assumes nothing.
+-- `report::lines::fits` meets its contract.
 use borrow.Author.Needs.{needs}
 use denote.Ref.{now}
 use mathlib.Core.Path.{ap₂, _∙_}

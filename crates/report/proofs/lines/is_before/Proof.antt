@@ -1,4 +1,4 @@
--- `report::lines::is_before` meets its contract. Assumes nothing.
+-- `report::lines::is_before` meets its contract.
 use borrow.Author.Needs.{needs}
 use denote.Ref.{now}
 use Rattle.report.proofs.Testing.{before-none, before-more}

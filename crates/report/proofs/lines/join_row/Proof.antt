@@ -1,4 +1,4 @@
--- `report::lines::join_row` meets its contract. Assumes nothing.
+-- `report::lines::join_row` meets its contract.
 use Prim.Native.Nat.{_+_, _*_, _≤_}
 use native.Mathlib.Omega.{arith}
 use mathlib.Core.Bool.{Bool, true, false, cond}

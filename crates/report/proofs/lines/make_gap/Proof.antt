@@ -1,5 +1,5 @@
 -- `report::lines::make_gap` meets its contract. The invariant: what stood from i on stands five further, and all before that is as it was; the
--- measure is i. Assumes nothing.
+-- measure is i.
 use native.Mathlib.Omega.{arith}
 use denote.Ref.{now}
 use Rattle.report.proofs.Places.{Shifting, shift-none, shift-more, shifted}

@@ -1,4 +1,4 @@
--- `report::lines::step` meets its contract. Assumes nothing.
+-- `report::lines::step` meets its contract.
 use Prim.Native.Nat.{ℕ}
 use borrow.Author.Needs.{needs}
 use mathlib.Core.Path.{sym, ap}

@@ -1,4 +1,4 @@
--- `report::lines::store_line` meets its contract: five numbers one after the other. Assumes nothing.
+-- `report::lines::store_line` meets its contract: five numbers one after the other.
 use native.Mathlib.Omega.{arith}
 use borrow.Author.Needs.{needs}
 use denote.Ref.{now}

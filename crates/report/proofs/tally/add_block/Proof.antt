@@ -1,4 +1,4 @@
--- `report::tally::add_block` meets its contract: what the scan of the block tells is how many of its rows count. Assumes nothing.
+-- `report::tally::add_block` meets its contract: what the scan of the block tells is how many of its rows count.
 use native.Mathlib.Omega.{arith}
 use borrow.Author.Needs.{needs}
 use denote.Ref.{now}

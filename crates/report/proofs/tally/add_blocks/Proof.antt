@@ -1,5 +1,5 @@
 -- `report::tally::add_blocks` meets its contract. The invariant: the blocks that are left bring the tally so far to that of the whole; the
--- measure: the blocks left. Assumes nothing.
+-- measure: the blocks left.
 use native.Mathlib.Omega.{arith}
 use denote.Ref.{now}
 use mathlib.Core.Path.{_≡_, sym, ap, _∙_}

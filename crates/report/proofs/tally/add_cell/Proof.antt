@@ -1,4 +1,4 @@
--- `report::tally::add_cell` meets its contract. Assumes nothing.
+-- `report::tally::add_cell` meets its contract.
 use borrow.Author.Needs.{needs}
 use mathlib.Core.Bool.{cond}
 use Rattle.report.proofs.Windows.{inserted-as}

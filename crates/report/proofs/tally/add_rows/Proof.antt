@@ -1,5 +1,5 @@
 -- `report::tally::add_rows` meets its contract. The invariant: the rows that are left bring the lines so far to those of the whole; the
--- measure: the rows left. Assumes nothing.
+-- measure: the rows left.
 use native.Mathlib.Omega.{arith}
 use denote.Ref.{now}
 use mathlib.Core.Path.{sym, ap, _∙_}

@@ -1,4 +1,4 @@
--- `report::tally::identity_of` meets its contract. Assumes nothing.
+-- `report::tally::identity_of` meets its contract.
 use native.Mathlib.Omega.{arith}
 use borrow.Author.Needs.{needs}
 use denote.Ref.{now}

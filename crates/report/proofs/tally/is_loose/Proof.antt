@@ -1,4 +1,4 @@
--- `report::tally::is_loose` meets its contract. Assumes nothing.
+-- `report::tally::is_loose` meets its contract.
 use borrow.Author.Needs.{needs}
 use mathlib.Core.Path.{ap}
 use Prim.Native.Nat.{ℕ}

@@ -1,5 +1,4 @@
 -- `report::tally::loose_rows` meets its contract. The invariant: those counted and those left are all; the measure: the rows left.
--- Assumes nothing.
 use native.Mathlib.Omega.{arith}
 use borrow.Author.Needs.{needs}
 use denote.Ref.{now}

@@ -1,4 +1,4 @@
--- `telegram::addressing::decapsulate` meets its contract: the fields that were read are built again, with no address. Assumes nothing.
+-- `telegram::addressing::decapsulate` meets its contract: the fields that were read are built again, with no address.
 use mathlib.Core.Path.{_∙_}
 use borrow.Author.Needs.{needs}
 use Rattle.telegram.proofs.Reading.{reads-valid, reads-refused, reads-fields, reads-flag}

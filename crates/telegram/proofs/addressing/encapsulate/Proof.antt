@@ -1,4 +1,4 @@
--- `telegram::addressing::encapsulate` meets its contract: the fields that were read are built again, addressed. Assumes nothing.
+-- `telegram::addressing::encapsulate` meets its contract: the fields that were read are built again, addressed.
 use mathlib.Core.Path.{_∙_}
 use borrow.Author.Needs.{needs}
 use Rattle.telegram.proofs.Reading.{reads-valid, reads-refused, reads-fields, reads-flag}

@@ -1,4 +1,4 @@
--- `telegram::fields::addressed_fields` meets its contract. Assumes nothing.
+-- `telegram::fields::addressed_fields` meets its contract.
 use native.Mathlib.Omega.{arith}
 use borrow.Author.Needs.{needs}
 use denote.Ref.{now}

@@ -1,4 +1,4 @@
--- `telegram::fields::admission` meets its contract: each return is one case of `admissionOf`. Assumes nothing.
+-- `telegram::fields::admission` meets its contract: each return is one case of `admissionOf`.
 use native.Mathlib.Omega.{arith}
 use borrow.Author.Needs.{needs}
 use Rattle.telegram.specs.Fields.{Shaped}

@@ -1,4 +1,4 @@
--- `telegram::fields::build` meets its contract: what is admitted fits a frame, which is then written. Assumes nothing.
+-- `telegram::fields::build` meets its contract: what is admitted fits a frame, which is then written.
 use mathlib.Core.Path.{_≡_, sym, ap, _∙_}
 use native.Mathlib.Omega.{arith}
 use borrow.Author.Needs.{needs}

@@ -1,9 +1,9 @@
--- `telegram::fields::frame_of` meets its contract: the parts are put one after the other, and all of them fit. Assumes nothing.
+-- `telegram::fields::frame_of` meets its contract: the parts are put one after the other, and all of them fit.
 use native.Mathlib.Omega.{arith}
 use borrow.Author.Needs.{needs}
 use Prim.Native.Nat.{_+_, _≤_}
 use lib.ListN.{length, length-take}
-use Rattle.telegram.specs.Fields.{headOf, idsOf, bytesOf, Shaped}
+use Rattle.telegram.specs.Fields.{headOf, idsOf, telegramBytes, Shaped}
 use Rattle.telegram.proofs.Frames.{frame-len}
 use Rattle.telegram.proofs.Building.{bytes-length}
 use Rattle.telegram.proofs.fields.frame_of.Statement.{statement}
@@ -42,7 +42,7 @@ sealed-requires c κs =
     omega (arith, start-length s, frame-len _ _ (c .before .before .before .before .head .ensures), c .before .before .append .ensures .len, c .before .with-ids .ensures .len, c .push .ensures .len, length-take (s .args .t .len) (s .args .t .payload))
 
 returns : tie.Need-returns
-unfolding bytesOf
+unfolding telegramBytes
 returns c =
     let w = c .before .before in
     c .sealed .ensures _ (c .before .push .ensures .bytes _ (w .with-ids .ensures .bytes _ (w .before .append .ensures .bytes _ (w .before .before .before .head .ensures))))

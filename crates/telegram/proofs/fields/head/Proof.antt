@@ -1,4 +1,4 @@
--- `telegram::fields::head` meets its contract. Assumes nothing.
+-- `telegram::fields::head` meets its contract.
 use native.Mathlib.Omega.{arith}
 use borrow.Author.Needs.{needs}
 use mathlib.Core.List.{[]}

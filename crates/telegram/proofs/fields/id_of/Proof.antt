@@ -1,4 +1,4 @@
--- `telegram::fields::id_of` meets its contract. Assumes nothing.
+-- `telegram::fields::id_of` meets its contract.
 use mathlib.Core.Path.{_∙_}
 use mathlib.Core.List.{append-nil}
 use native.Mathlib.Nat.{sub-self}

@@ -1,4 +1,4 @@
--- `telegram::fields::payload_of` meets its contract. Assumes nothing.
+-- `telegram::fields::payload_of` meets its contract.
 use borrow.Author.Needs.{needs}
 use denote.Ref.{now}
 use Rattle.telegram.proofs.Reading.{padded-copy}

@@ -1,4 +1,4 @@
--- `telegram::fields::read` meets its contract: what the check says gives the lengths that reading the fields asks for. Assumes nothing.
+-- `telegram::fields::read` meets its contract: what the check says gives the lengths that reading the fields asks for.
 use mathlib.Core.Path.{_≡_, _∙_}
 use native.Mathlib.Omega.{arith}
 use borrow.Author.Needs.{needs}

@@ -1,4 +1,4 @@
--- `telegram::fields::with_ids` meets its contract. Assumes nothing.
+-- `telegram::fields::with_ids` meets its contract.
 use native.Mathlib.Omega.{arith}
 use borrow.Author.Needs.{needs}
 use mathlib.Core.Path.{_≡_}

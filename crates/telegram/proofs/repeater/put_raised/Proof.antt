@@ -1,4 +1,4 @@
--- `telegram::repeater::put_raised` meets its contract: all before STATUS, the raised STATUS and HASH stand at the front. Assumes nothing.
+-- `telegram::repeater::put_raised` meets its contract: all before STATUS, the raised STATUS and HASH stand at the front.
 use Prim.Native.Nat.{_-_}
 use native.Mathlib.Omega.{arith}
 use borrow.Author.Needs.{needs}

@@ -1,4 +1,4 @@
--- `telegram::repeater::raised_status` meets its contract: a level is below 16, so that one more fits a byte. Assumes nothing.
+-- `telegram::repeater::raised_status` meets its contract: a level is below 16, so that one more fits a byte.
 use mathlib.Core.Path.{ap, _∙_}
 use native.Mathlib.Omega.{arith}
 use borrow.Author.Needs.{needs}

@@ -1,4 +1,4 @@
--- `telegram::repeater::refused` meets its contract: the empty frame beside the refusal. Assumes nothing.
+-- `telegram::repeater::refused` meets its contract: the empty frame beside the refusal.
 use mathlib.Core.Path.{ap}
 use borrow.Author.Needs.{needs}
 use Rattle.telegram.specs.declared.frame.Frame.{Frame}

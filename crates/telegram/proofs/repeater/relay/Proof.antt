@@ -1,4 +1,4 @@
--- `telegram::repeater::relay` meets its contract: each return is one case of `relayOf`. Assumes nothing.
+-- `telegram::repeater::relay` meets its contract: each return is one case of `relayOf`.
 use mathlib.Core.Path.{_≡_, sym, ap, _∙_}
 use mathlib.Core.List.{List}
 use Prim.Native.Nat.{ℕ}

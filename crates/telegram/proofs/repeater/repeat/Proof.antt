@@ -1,4 +1,4 @@
--- `telegram::repeater::repeat` meets its contract: each way out is one case of `repeatResult`. Assumes nothing.
+-- `telegram::repeater::repeat` meets its contract: each way out is one case of `repeatResult`.
 use mathlib.Core.Path.{ap, _∙_}
 use borrow.Author.Needs.{needs}
 use Rattle.telegram.specs.declared.frame.Frame.{Frame}

@@ -1,4 +1,4 @@
--- `telegram::frame::Frame::push` meets its contract. Assumes nothing.
+-- `telegram::frame::Frame::push` meets its contract.
 use borrow.Author.Needs.{needs}
 use Rattle.telegram.proofs.Frames.{frame-push}
 use Rattle.telegram.proofs.frame.Frame.push.Statement.{statement}

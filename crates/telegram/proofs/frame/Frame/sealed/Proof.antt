@@ -1,4 +1,4 @@
--- `telegram::frame::Frame::sealed` meets its contract. Assumes nothing.
+-- `telegram::frame::Frame::sealed` meets its contract.
 use native.Mathlib.Omega.{arith}
 use borrow.Author.Needs.{needs}
 use Prim.Native.Nat.{ℕ}
