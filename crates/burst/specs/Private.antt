@@ -3,9 +3,8 @@ use mathlib.Core.Path.{_≡_}
 use mathlib.Core.Bool.{Bool, cond}
 use mathlib.Core.List.{List, [], _∷_, _++_, map}
 use Prim.Native.Nat.{ℕ, _+_, _≤_}
-use lib.Dec.{ltb, eqb}
+use lib.Dec.{eqb}
 use lib.ListN.{take, drop}
-use Rattle.erp1.specs.Subtelegram.{maxLength}
 use Rattle.model.specs.View as view
 use Rattle.model.specs.View.{View}
 use Rattle.collector.specs.declared.Collector.{Collector}
@@ -21,10 +20,6 @@ use Rattle.burst.specs.declared.Plan.{Plan}
 use Rattle.model.specs.History.{Timely}
 use Rattle.model.specs.Burst.{Replied, replyWith, burstNumber}
 use Rattle.burst.specs.Records.{receptionOf, repliedOf, handedNumber}
-
--- how many bytes the code hands over of a record
-abbrev pub sizeOf : ℕ → ℕ
-sizeOf len = cond (ltb maxLength len) 0 len
 
 -- the reply to one reception, and the next state
 pub record StepResult : Type 0 where

@@ -1,9 +1,12 @@
 -- The records that a burst is handed over in, and what it gives (document 02, A1 and A7).
 use mathlib.Core.Path.{_≡_}
+use mathlib.Core.Bool.{cond}
 use mathlib.Core.List.{List, map}
 use Prim.Native.Nat.{ℕ, _+_}
+use lib.Dec.{ltb}
 use lib.ListN.{take, drop}
 use Rattle.refusal.specs.Number.{numberOf}
+use Rattle.erp1.specs.Subtelegram.{maxLength}
 use Rattle.buffers.specs.Buffer.{resized}
 use Rattle.model.specs.Answer.{shownOf}
 use Rattle.model.specs.View as view
@@ -16,11 +19,14 @@ use Rattle.burst.specs.declared.Handed.the-variants.{Done, Refused}
 use Rattle.burst.specs.declared.Bursted.{Bursted}
 use Rattle.burst.specs.declared.Within.{Within}
 use Rattle.model.specs.Burst.{Replied, maxBurst, BurstResult, burstOf}
-use Rattle.burst.specs.Private.{after, replies}
 
 -- what a record hands over: as many bytes as its length says, so that a length over 21 fails the check with 1
 abbrev pub receptionOf : Reception → view.Reception
 receptionOf r = record { bytes = resized (r .len) (r .bytes); time = r .time }
+
+-- how many bytes the code hands over of a record
+abbrev pub sizeOf : ℕ → ℕ
+sizeOf len = cond (ltb maxLength len) 0 len
 
 -- what is shown of a reply
 abbrev pub repliedOf : Reply → Replied

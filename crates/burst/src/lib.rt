@@ -10,10 +10,11 @@ use telegram::repeater::MAX_SETTING;
 ghost use mathlib.Core.Path.{_≡_};
 ghost use Prim.Native.Nat.{_≤_, min};
 ghost use lib.ListN.{length};
+ghost use Rattle.erp1.specs.Subtelegram.{maxLength};
 ghost use Rattle.collector.specs.Collector.{columns};
 ghost use Rattle.collector.specs.Admission.{viewIn};
-ghost use Rattle.burst.specs.Records.{receptionOf, Bursts, listed, WithinOf};
-ghost use Rattle.burst.specs.Private.{steppedOf, admittedWith, sizeOf, Delivered, Planned, Finished};
+ghost use Rattle.burst.specs.Records.{receptionOf, Bursts, listed, WithinOf, sizeOf};
+ghost use Rattle.burst.specs.Private.{steppedOf, admittedWith, Delivered, Planned, Finished};
 
 // The most receptions of a burst.
 pub const MAX_BURST: usize = 256;
@@ -85,7 +86,7 @@ fn take_record<'a>(
 
 // How many bytes are handed over: none of a record whose length is over 21.
 fn size(len: u8) -> usize
-    ensures { λ r. ⌜ (r ≡ sizeOf len) × (r ≤ 21) ⌝ }
+    ensures { λ r. ⌜ (r ≡ sizeOf len) × (r ≤ maxLength) ⌝ }
 {
     let n = wide(len);
     if Collector::MAX_LEN < n {

@@ -23,7 +23,7 @@ ghost use Rattle.model.specs.Exact.{Fits};
 ghost use Rattle.model.specs.Burst.{maxBurst, callNumber};
 ghost use Rattle.collector.specs.Collector.{columns};
 ghost use Rattle.collector.specs.Admission.{viewIn, Tested};
-ghost use Rattle.burst.specs.Private.{sizeOf};
+ghost use Rattle.burst.specs.Records.{sizeOf};
 ghost use Rattle.c_layout.specs.Frame.{frameLength};
 ghost use Rattle.c_collector.specs.State.{arrays, summaryIn, stateAt};
 ghost use Rattle.c_burst.specs.Bytes.{receptionIn, receptionsIn, replyLength, replyBytes, isSized};
