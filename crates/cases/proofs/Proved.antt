@@ -12,7 +12,7 @@ use Rattle.telegram.specs.Fields.{fieldsOf, telegramBytes}
 use Rattle.telegram.specs.Repeater.{relayOf, repeatOf}
 use Rattle.layout.specs.BigEndian.{be, unbe, unbeFrom}
 use Rattle.erp2_model.specs.Reading.{checkOf as erp2Check, fieldsOf as erp2Fields, readOf}
-use Rattle.erp2_model.specs.Building.{sizeOf, isUnholdable, isAgainstHeader, isMisfitting, bodyOf, telegramBytes as erp2Bytes, buildOf}
+use Rattle.erp2_model.specs.Building.{sizeOf, isUnholdable, isAgainstHeader, isMisfitting, bodyOf, erp2Bytes, buildOf}
 use Rattle.slots.specs.Plan.{plans, candidates, lawful}
 use Rattle.model.specs.View.{fresh}
 use Rattle.model.specs.Acceptable.{isCopyOf, acceptable}
