@@ -1,5 +1,5 @@
 -- The tests of a burst's sizes and arguments, by what the code tests.
---     sized-other, sized-same, frames-are       a frame for each moment, or not
+--     sized-other, sized-same, records-are       a frame for each moment, or not
 --     call-short, call-many, call-setting, call-done     the number by its tests
 --     called                        what a call without a refusal says of its numbers
 use Prim.Native.Nat.{ℕ, _*_, _/_, _%_, _≤_, _<_}
@@ -19,20 +19,20 @@ use Rattle.model.specs.Burst.{maxBurst, callNumber}
 use Rattle.c_layout.specs.Frame.{frameLength}
 use Rattle.c_burst.specs.Bytes.{isSized}
 
-module _ (moments frames places : ℕ) where
-  pub sized-other : (frames / 22 ≡ moments → ⊥) → false ≡ isSized moments frames places
-  sized-other other = rw (ne-eqb frames (22 * moments) (λ e. other (omega arith)))
+module _ (moments records places : ℕ) where
+  pub sized-other : (records / 22 ≡ moments → ⊥) → false ≡ isSized moments records places
+  sized-other other = rw (ne-eqb records (22 * moments) (λ e. other (omega arith)))
 
-  pub sized-same : frames / 22 ≡ moments → eqb (frames % 22) 0 && eqb (places % 24) 0 ≡ isSized moments frames places
+  pub sized-same : records / 22 ≡ moments → eqb (records % 22) 0 && eqb (places % 24) 0 ≡ isSized moments records places
   sized-same e = ap (λ (b : Bool). b && eqb (places % 24) 0) same
     where
-      same : eqb (frames % 22) 0 ≡ eqb frames (22 * moments)
-      same = by-test (eqb (frames % 22) 0)
-          (λ t. let z : frames % 22 ≡ 0 = eqb-true (frames % 22) 0 t in t ∙ sym (eq-eqb frames (22 * moments) (omega arith)))
-          (λ t. t ∙ sym (ne-eqb frames (22 * moments) (λ s. eqb-false (frames % 22) 0 t (omega arith))))
+      same : eqb (records % 22) 0 ≡ eqb records (22 * moments)
+      same = by-test (eqb (records % 22) 0)
+          (λ t. let z : records % 22 ≡ 0 = eqb-true (records % 22) 0 t in t ∙ sym (eq-eqb records (22 * moments) (omega arith)))
+          (λ t. t ∙ sym (ne-eqb records (22 * moments) (λ s. eqb-false (records % 22) 0 t (omega arith))))
 
-  pub frames-are : isSized moments frames places ≡ true → frames ≡ frameLength * moments
-  frames-are e = eqb-true frames (frameLength * moments) (both (eqb frames (frameLength * moments)) _ e .0)
+  pub records-are : isSized moments records places ≡ true → records ≡ frameLength * moments
+  records-are e = eqb-true records (frameLength * moments) (both (eqb records (frameLength * moments)) _ e .0)
 
 module _ (setting n m : ℕ) where
   pub call-short : m < n → numberOf ShortOutput ≡ callNumber setting n m

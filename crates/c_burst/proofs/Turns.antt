@@ -1,4 +1,4 @@
--- What holds at each turn of the loop over the frames: what is left of them leads to the whole list's end.
+-- What holds at each turn of the loop over the records: what is left of them leads to the whole list's end.
 --     receptions-count, reception-get     how many receptions there are, and each of them
 --     Going                               i receptions are taken, and their replies written
 --     starts, turns, ends                 it holds before the loop, from one turn to the next, and says the result after it
@@ -28,15 +28,15 @@ use Rattle.c_burst.specs.Calls.{Answered, Delivered}
 pub noReception : Reception
 noReception = record { bytes = []; time = 0 }
 
-module _ (moments frames : List ℕ) where
+module _ (moments records : List ℕ) where
   abbrev at : ℕ → Reception
-  at i = receptionIn (part (frameLength * i) frameLength frames) (getD moments i 0)
+  at i = receptionIn (part (frameLength * i) frameLength records) (getD moments i 0)
 
-  pub receptions-count : length (receptionsIn moments frames) ≡ length moments
+  pub receptions-count : length (receptionsIn moments records) ≡ length moments
   unfolding receptionsIn
   receptions-count = length-map (upFrom 0 (length moments)) at ∙ length-upFrom 0 (length moments)
 
-  pub reception-get : (i : ℕ) → i < length moments → getD (receptionsIn moments frames) i noReception ≡ at i
+  pub reception-get : (i : ℕ) → i < length moments → getD (receptionsIn moments records) i noReception ≡ at i
   unfolding receptionsIn
   reception-get i h = getD-upFrom at 0 (length moments) i noReception h ∙ ap at (zero-add i)
 

@@ -31,27 +31,27 @@ unfolding repliesTo
 replies-count setting v [] = refl
 replies-count setting v (r ∷ rs) = ap suc (replies-count setting (step v r .next) rs)
 
-module _ (s : Arrays) (setting : ℕ) (moments frames old : List ℕ) where
+module _ (s : Arrays) (setting : ℕ) (moments records old : List ℕ) where
   abbrev v : View
   v = stateAt s
 
   abbrev rs : List Reception
-  rs = receptionsIn moments frames
+  rs = receptionsIn moments records
 
   abbrev room : ℕ
   room = length old / replyLength
 
   abbrev Gives : ℕ → Arrays → List ℕ → Type 0
-  Gives number s' new = Bursts s setting moments frames old number s' new
+  Gives number s' new = Bursts s setting moments records old number s' new
 
-  pub wrong-size : isSized (length moments) (length frames) (length old) ≡ false → Gives wrongSize s old
+  pub wrong-size : isSized (length moments) (length records) (length old) ≡ false → Gives wrongSize s old
   unfolding burstCall
   wrong-size bad = record { result = rw bad; counted = λ e. absurd (wrong e); stays = λ _. refl }
     where
       wrong : wrongSize ≡ 0 → ⊥
       wrong e = absurd (omega arith)
 
-  module _ (sized : isSized (length moments) (length frames) (length old) ≡ true) where
+  module _ (sized : isSized (length moments) (length records) (length old) ≡ true) where
     -- what a burst with this number shows
     shown : ℕ → BurstCall
     shown number =
@@ -62,9 +62,9 @@ module _ (s : Arrays) (setting : ℕ) (moments frames old : List ℕ) where
           next = afterAll v t;
         }
 
-    call-is : shown (burstNumber setting v (length moments) room) ≡ burstCall setting v moments frames old
+    call-is : shown (burstNumber setting v (length moments) room) ≡ burstCall setting v moments records old
     unfolding burstCall shown
-    call-is = rw sized (ap₂ (λ (n m : ℕ). shown (burstNumber setting v n m)) (sym (receptions-count moments frames)) (sym (length-replicate room anyPlace)))
+    call-is = rw sized (ap₂ (λ (n m : ℕ). shown (burstNumber setting v n m)) (sym (receptions-count moments records)) (sym (length-replicate room anyPlace)))
 
     -- nothing is taken beside a refusal
     pub refused : (n : ℕ) → n ≡ burstNumber setting v (length moments) room → (n ≡ 0 → ⊥) → Gives n s old
@@ -103,13 +103,13 @@ module _ (s : Arrays) (setting : ℕ) (moments frames old : List ℕ) where
           d : Delivered setting v rs old new (viewIn a next)
           d = subst (λ (x : Summary). Delivered setting (viewIn (columnsAt s) x) rs old new (viewIn a next)) same delivered
 
-          done : shown 0 ≡ burstCall setting v moments frames old
+          done : shown 0 ≡ burstCall setting v moments records old
           done = ap shown (sym (sym same-number ∙ z)) ∙ call-is
 
           fronts : take (length rs) (repliesTo setting v rs ++ drop (length rs) (replicate room anyPlace)) ≡ repliesTo setting v rs
           fronts = take-at (repliesTo setting v rs) (drop (length rs) (replicate room anyPlace)) (length rs) (replies-count setting v rs)
 
-          whole : record { number = 0; replies = new; next = viewIn a (summaryIn numbers) } ≡ burstCall setting v moments frames old
+          whole : record { number = 0; replies = new; next = viewIn a (summaryIn numbers) } ≡ burstCall setting v moments records old
           whole =
               ap (λ (l : List ℕ). record { number = 0; replies = new; next = viewIn a (summaryIn l) }) stored
               ∙ ap₂ (λ (l : List ℕ) (u : View). record { number = 0; replies = l; next = u }) (d .replied) (d .stepped)

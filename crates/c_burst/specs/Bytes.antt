@@ -18,7 +18,7 @@ receptionIn frame time = record { bytes = resized (getD frame 0 0) (drop 1 frame
 
 -- the receptions of a list of moments, each with its frame
 unfoldable pub receptionsIn : List ℕ → List ℕ → List Reception
-receptionsIn moments frames = map (λ i. receptionIn (part (frameLength * i) frameLength frames) (getD moments i 0)) (upFrom 0 (length moments))
+receptionsIn moments records = map (λ i. receptionIn (part (frameLength * i) frameLength records) (getD moments i 0)) (upFrom 0 (length moments))
 
 -- "kind, number, and the telegram to send": 24 bytes
 abbrev pub replyLength : ℕ
@@ -29,4 +29,4 @@ replyBytes r = (kindOf (r .answer) ∷ shownNumber (r .answer) ∷ []) ++ frameB
 
 -- a frame for each moment, and whole places
 abbrev pub isSized : ℕ → ℕ → ℕ → Bool
-isSized moments frames places = eqb frames (frameLength * moments) && eqb (places % replyLength) 0
+isSized moments records places = eqb records (frameLength * moments) && eqb (places % replyLength) 0

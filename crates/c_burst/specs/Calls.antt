@@ -29,16 +29,16 @@ repliesWith n replies old = flatten (map replyBytes (take n replies)) ++ drop (r
 
 -- sizes first; then as `burstOf` says, whose second list has as many places as there are bytes for
 unfoldable pub burstCall : ℕ → View → List ℕ → List ℕ → List ℕ → BurstCall
-burstCall setting v moments frames old =
-    cond (not (isSized (length moments) (length frames) (length old))) (record { number = wrongSize; replies = old; next = v })
-    (let rs = receptionsIn moments frames in
+burstCall setting v moments records old =
+    cond (not (isSized (length moments) (length records) (length old))) (record { number = wrongSize; replies = old; next = v })
+    (let rs = receptionsIn moments records in
     let b = burstOf setting v rs (replicate (length old / replyLength) anyPlace) in
     record { number = b .number; replies = repliesWith (length (taken (b .number) rs)) (b .replies) old; next = b .next })
 
 -- a burst in the arrays before and after it
-pub record Bursts (s : Arrays) (setting : ℕ) (moments frames old : List ℕ) (number : ℕ) (s' : Arrays) (new : List ℕ) : Type 0 where
-  pub result : record { number = number; replies = new; next = stateAt s' } ≡ burstCall setting (stateAt s) moments frames old
-  pub counted : number ≡ 0 → s' .numbers ≡ numbersOf (burstCall setting (stateAt s) moments frames old .next)
+pub record Bursts (s : Arrays) (setting : ℕ) (moments records old : List ℕ) (number : ℕ) (s' : Arrays) (new : List ℕ) : Type 0 where
+  pub result : record { number = number; replies = new; next = stateAt s' } ≡ burstCall setting (stateAt s) moments records old
+  pub counted : number ≡ 0 → s' .numbers ≡ numbersOf (burstCall setting (stateAt s) moments records old .next)
   -- beside any other number than 0 every number of the five arrays is as it was
   pub stays : (number ≡ 0 → ⊥) → s' ≡ s
 

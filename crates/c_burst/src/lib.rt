@@ -1,4 +1,5 @@
 // A burst of receptions at a collector in five lent arrays, as other languages call it.
+use burst::MAX_BURST;
 use c_collector::BYTES;
 use c_collector::CAPACITY;
 use c_collector::NUMBERS;
@@ -29,9 +30,6 @@ ghost use Rattle.c_collector.specs.State.{arrays, summaryIn, stateAt};
 ghost use Rattle.c_burst.specs.Bytes.{receptionIn, receptionsIn, replyLength, replyBytes, isSized};
 ghost use Rattle.c_burst.specs.Calls.{Bursts, Answered, Delivered};
 
-// The most receptions of a burst.
-const MAX_BURST: usize = 256;
-
 // The kind and the number of an answer, and the frame of what is sent.
 const REPLY_LENGTH: usize = 2 + FRAME_LENGTH;
 
@@ -44,16 +42,16 @@ pub fn burst(
     numbers: &mut [u64; NUMBERS],
     setting: u8,
     moments: &[u64],
-    frames: &[u8],
+    records: &[u8],
     replies: &mut [u8],
 ) -> u8
     ensures { λ r. ⌜ Bursts (arrays (now (times .entry)) (now (lengths .entry)) (now (bytes .entry)) (now (copies .entry)) (now (numbers .entry)))
-        setting (now (moments .entry)) (now (frames .entry)) (now (replies .entry)) r
+        setting (now (moments .entry)) (now (records .entry)) (now (replies .entry)) r
         (arrays (now (times .exit)) (now (lengths .exit)) (now (bytes .exit)) (now (copies .exit)) (now (numbers .exit))) (now (replies .exit)) ⌝ }
 {
     let n = moments.len();
     let room = replies.len();
-    if !is_sized(n, frames.len(), room) {
+    if !is_sized(n, records.len(), room) {
         return WRONG_SIZE;
     }
     if !c_collector::is_acceptable(times, lengths, bytes, numbers) {
@@ -72,7 +70,7 @@ pub fn burst(
         summary,
         setting,
         moments,
-        frames,
+        records,
         replies,
     );
     c_collector::store(next, numbers);
@@ -80,13 +78,13 @@ pub fn burst(
 }
 
 // Whether there is a frame for each moment, and whole places.
-fn is_sized(moments: usize, frames: usize, places: usize) -> bool
-    ensures { λ r. ⌜ r ≡ isSized moments frames places ⌝ }
+fn is_sized(moments: usize, records: usize, places: usize) -> bool
+    ensures { λ r. ⌜ r ≡ isSized moments records places ⌝ }
 {
-    if frames / FRAME_LENGTH != moments {
+    if records / FRAME_LENGTH != moments {
         return false;
     }
-    (frames % FRAME_LENGTH == 0) & (places % REPLY_LENGTH == 0)
+    (records % FRAME_LENGTH == 0) & (places % REPLY_LENGTH == 0)
 }
 
 // What a burst is refused for at an acceptable state: 6, 10; 0 if for nothing.
@@ -113,7 +111,7 @@ fn summary_of(copies: &[u16], numbers: &[u64; NUMBERS]) -> Summary
     c_collector::summary_in(numbers)
 }
 
-// Takes the receptions of all frames, the reply to each at its place.
+// Takes the receptions of all records, the reply to each at its place.
 fn deliver(
     times: &mut [u64; CAPACITY],
     lengths: &mut [u8; CAPACITY],
@@ -122,14 +120,14 @@ fn deliver(
     summary: Summary,
     setting: u8,
     moments: &[u64],
-    frames: &[u8],
+    records: &[u8],
     replies: &mut [u8],
 ) -> Summary
-    requires { ⌜ (length (now moments) ≤ maxBurst) × (length (now frames) ≡ frameLength * length (now moments))
+    requires { ⌜ (length (now moments) ≤ maxBurst) × (length (now records) ≡ frameLength * length (now moments))
         × (replyLength * length (now moments) ≤ length (now replies))
         × Tested true (viewIn (columns (now times) (now lengths) (now bytes) (now copies)) summary) ⌝ }
     ensures { λ r. ⌜ Delivered setting (viewIn (columns (now (times .entry)) (now (lengths .entry)) (now (bytes .entry)) (now (copies .entry))) summary)
-        (receptionsIn (now (moments .entry)) (now (frames .entry))) (now (replies .entry)) (now (replies .exit))
+        (receptionsIn (now (moments .entry)) (now (records .entry))) (now (replies .entry)) (now (replies .exit))
         (viewIn (columns (now (times .exit)) (now (lengths .exit)) (now (bytes .exit)) (now (copies .exit))) r) ⌝ }
 {
     let mut s = summary;
@@ -141,7 +139,7 @@ fn deliver(
             copies,
             s,
             setting,
-            &frames[FRAME_LENGTH * i..FRAME_LENGTH * i + FRAME_LENGTH],
+            &records[FRAME_LENGTH * i..FRAME_LENGTH * i + FRAME_LENGTH],
             moments[i],
             &mut replies[REPLY_LENGTH * i..REPLY_LENGTH * i + REPLY_LENGTH],
         );

@@ -119,11 +119,11 @@ pub extern "C" fn mooringeye_collector_burst(
     numbers: &mut [u64; NUMBERS],
     setting: u8,
     moments: &[u64],
-    frames: &[u8],
+    records: &[u8],
     replies: &mut [u8],
 ) -> u8
     ensures { λ r. ⌜ Bursts (arrays (now (times .entry)) (now (lengths .entry)) (now (bytes .entry)) (now (copies .entry)) (now (numbers .entry)))
-        setting (now (moments .entry)) (now (frames .entry)) (now (replies .entry)) r
+        setting (now (moments .entry)) (now (records .entry)) (now (replies .entry)) r
         (arrays (now (times .exit)) (now (lengths .exit)) (now (bytes .exit)) (now (copies .exit)) (now (numbers .exit))) (now (replies .exit)) ⌝ }
 {
     c_burst::burst(
@@ -134,7 +134,7 @@ pub extern "C" fn mooringeye_collector_burst(
         numbers,
         setting,
         moments,
-        frames,
+        records,
         replies,
     )
 }

@@ -13,7 +13,7 @@ use Rattle.collector.specs.declared.merging.Summary.{Summary}
 use Rattle.collector.specs.Admission.{viewIn, Tested}
 use Rattle.c_collector.specs.State.{Arrays, arrays, columnsAt, stateAt}
 use Rattle.c_burst.specs.Bytes.{replyLength, isSized}
-use Rattle.c_burst.proofs.Sizes.{called, frames-are}
+use Rattle.c_burst.proofs.Sizes.{called, records-are}
 use Rattle.c_burst.proofs.Whole.{wrong-size, refused-state, refused-call, all-taken}
 use Rattle.c_burst.proofs.burst.Statement.{statement}
 use Rattle.c_burst.proofs.burst.Tie as tie
@@ -29,7 +29,7 @@ lent s =
 abbrev entry1 : tie.Else1 → tie.Start
 entry1 c = c .before .before .before .before .before
 
-sized : (c : tie.Else1) → let a = entry1 c .args in isSized (length (now (a .moments))) (length (now (a .frames))) (length (now (a .replies))) ≡ true
+sized : (c : tie.Else1) → let a = entry1 c .args in isSized (length (now (a .moments))) (length (now (a .records))) (length (now (a .replies))) ≡ true
 sized c = sym (c .before .is-sized .ensures) ∙ not-false _ (c .if1 .left)
 
 abbrev after-sized : tie.After-is-acceptable → tie.Else1
@@ -81,7 +81,7 @@ deliver-requires c κs =
     let e = after-tests k in
     let a = entry3 k .args in
     let few = called (a .setting) _ _ (allowed e) in
-    (few .1, frames-are _ _ (length (now (a .replies))) (sized (after-sized (e .before .before .before))), omega (arith, few .0), tested k)
+    (few .1, records-are _ _ (length (now (a .replies))) (sized (after-sized (e .before .before .before))), omega (arith, few .0), tested k)
 
 returns-4 : tie.Need-returns-4
 returns-4 c =
@@ -90,7 +90,7 @@ returns-4 c =
     let e = after-tests k in
     let s = entry3 k in
     let a = s .args in
-    all-taken (lent s) (a .setting) (now (a .moments)) (now (a .frames)) (now (a .replies)) (sized (after-sized (e .before .before .before))) (acceptable-here (e .before .before)) (allowed e) _
+    all-taken (lent s) (a .setting) (now (a .moments)) (now (a .records)) (now (a .replies)) (sized (after-sized (e .before .before .before))) (acceptable-here (e .before .before)) (allowed e) _
     (k .summary-of .ensures .0) _ _ _ (d .deliver .ensures) _ (c .store .ensures)
 
 pub burst-spec : {M : Type 1} → statement M

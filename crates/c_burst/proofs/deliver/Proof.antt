@@ -16,12 +16,12 @@ use Rattle.c_burst.proofs.deliver.Statement.{statement}
 use Rattle.c_burst.proofs.deliver.Tie as tie
 
 abbrev Inv-loop : tie.InvT-loop
-Inv-loop times₀ lengths₀ bytes₀ copies₀ setting moments frames replies₀ s₀ i₀ i-end times lengths bytes copies replies s i =
+Inv-loop times₀ lengths₀ bytes₀ copies₀ setting moments records replies₀ s₀ i₀ i-end times lengths bytes copies replies s i =
     (i ≤ length moments) × (length moments ≤ maxBurst)
-    × Going setting (viewIn (columns times₀ lengths₀ bytes₀ copies₀) s₀) (receptionsIn moments frames) replies₀ i (viewIn (columns times lengths bytes copies) s) replies
+    × Going setting (viewIn (columns times₀ lengths₀ bytes₀ copies₀) s₀) (receptionsIn moments records) replies₀ i (viewIn (columns times lengths bytes copies) s) replies
 
 abbrev μ-loop : tie.MeasureT-loop
-μ-loop times₀ lengths₀ bytes₀ copies₀ setting moments frames replies₀ s₀ i₀ i-end times lengths bytes copies replies s i = length moments - i
+μ-loop times₀ lengths₀ bytes₀ copies₀ setting moments records replies₀ s₀ i₀ i-end times lengths bytes copies replies s i = length moments - i
 
 loop-holds : tie.Need-loop-holds Inv-loop μ-loop
 loop-holds c =
@@ -33,8 +33,8 @@ take-frame-requires c κs =
     let at = c .before .before .before .before .before .before .before .before in
     let s = at .before .before .before .before in
     let from = frameLength * at .loop .i in
-    let frames = s .args .frames .now in
-    (ap length (part-ends from frameLength frames) ∙ part-length from frameLength frames (omega (arith, s .pre .1)), lent (at .loop .inv .2 .written) replyLength _ refl (omega (arith, s .pre .2)), sym (at .loop .inv .2 .tested .said))
+    let records = s .args .records .now in
+    (ap length (part-ends from frameLength records) ∙ part-length from frameLength records (omega (arith, s .pre .1)), lent (at .loop .inv .2 .written) replyLength _ refl (omega (arith, s .pre .2)), sym (at .loop .inv .2 .tested .said))
 
 loop-again : tie.Need-loop-again Inv-loop μ-loop
 loop-again c =
@@ -45,12 +45,12 @@ loop-again c =
     let s = at .before .before .before .before in
     let i = at .loop .i in
     let moments = s .args .moments .now in
-    let frames = s .args .frames .now in
-    let count = receptions-count moments frames in (
+    let records = s .args .records .now in
+    let count = receptions-count moments records in (
       omega arith,
       at .loop .inv .1,
       turns _ _ _ _ (at .loop .inv .2) (omega (arith, count)) _
-          (reception-get moments frames i (omega arith) ∙ ap (λ (f : List ℕ). receptionIn f (getD moments i 0)) (sym (part-ends (frameLength * i) frameLength frames)))
+          (reception-get moments records i (omega arith) ∙ ap (λ (f : List ℕ). receptionIn f (getD moments i 0)) (sym (part-ends (frameLength * i) frameLength records)))
           (omega (arith, known .shared-slice-known3 .given i))
           (omega (arith, count, s .pre .2))
           _
@@ -62,7 +62,7 @@ loop-again c =
 returns : tie.Need-returns Inv-loop μ-loop
 returns c =
     let a = c .before .before .before .before .before .args in
-    ends _ _ _ _ (c .before .loop .inv .2) (omega (arith, receptions-count (a .moments .now) (a .frames .now)))
+    ends _ _ _ _ (c .before .loop .inv .2) (omega (arith, receptions-count (a .moments .now) (a .records .now)))
 
 pub deliver-spec : {M : Type 1} → statement M
 deliver-spec =
