@@ -131,7 +131,9 @@ fn said((numbers, lines): &Report) -> (Vec<u64>, Vec<u64>) {
 fn adding_in_pieces_is_adding() {
     let mut report: Report = ([0; raw::REPORT_NUMBERS], [0; raw::REPORT_LINES]);
     let mut answers = [0; 256];
-    for buffer in buffers().into_iter().filter(|b| b.len() % BLOCK == 0) {
+    // Archives of no rows at the end, so that there are more than 64.
+    let empty = std::iter::repeat_n(vec![0; BLOCK], 70);
+    for buffer in buffers().into_iter().filter(|b| b.len() % BLOCK == 0).chain(empty) {
         let (mut whole, mut position, mut other) = (report, 7, 7);
         let number = raw::report_add(&mut whole.0, &mut whole.1, &buffer, &mut position);
         answers[usize::from(number)] += 1;
@@ -142,11 +144,11 @@ fn adding_in_pieces_is_adding() {
         }
         let end = raw::report_end(&mut report.0, &mut report.1, &adding, &tally, &mut other);
         assert_eq!((end, other, said(&report)), (number, position, said(&whole)));
-        if report.0[0] == 64 && answers[10] > 3 {
+        if number == 17 {
             report = ([0; raw::REPORT_NUMBERS], [0; raw::REPORT_LINES]);
         }
     }
-    assert!(answers[0] > 100 && answers[10] > 3 && answers[12] > 100, "{answers:?}");
+    assert!(answers[0] > 50 && answers[10] > 50 && answers[12] > 100 && answers[17] > 0, "{answers:?}");
     // A report that was changed in between no longer fits.
     let (mut adding, mut tally) = ([0; raw::ADDING_NUMBERS], [0; raw::REPORT_LINES]);
     raw::report_start(&report.0, &report.1, &mut adding, &mut tally);
