@@ -28,7 +28,7 @@ use Rattle.collector.specs.declared.merging.Judged.{Judged}
 use Rattle.collector.specs.declared.merging.Decision.{Decision}
 use Rattle.collector.specs.Collector.{Columns, columns, entriesAt}
 use Rattle.collector.specs.Admission.{hasCopy, receptionCheck, answerFor, viewIn, admittedOf, isSafe, numberOn, latestAfter, leftAfter, answerOn, entriesWith, admitted, notAdmitted, admission, Admits}
-use Rattle.collector.specs.Private.{JudgedBy, Expired, moved, Changed, unchanged, changed, Whole, Decides}
+use Rattle.collector.specs.Private.{JudgedBy, Expired, moved, Becomes, unchanged, changed, Whole, Decides}
 use Rattle.collector.proofs.Arrays.{entries-length, left-length, found-known}
 use Rattle.collector.proofs.Moving.{creditIf, addIf, changed-entries, expired-open}
 
@@ -228,8 +228,8 @@ module _ {a : Columns} {s : Summary} {r : Reception} {n time gone : ℕ} (k : Lo
 -- ---- what is decided is carried out, column by column
 
 pub carried-out : {fit : Bool} {a a' : Columns} {s : Summary} {r : Reception} {d : Decision} → Decides fit a s r d
-    → Changed capacity (a .times) (a' .times) (changed d r a .times) → Changed capacity (a .lens) (a' .lens) (changed d r a .lens)
-    → Changed (maxLength * capacity) (a .bytes) (a' .bytes) (changed d r a .bytes) → Changed capacity (a .copies) (a' .copies) (changed d r a .copies)
+    → Becomes capacity (a .times) (a' .times) (changed d r a .times) → Becomes capacity (a .lens) (a' .lens) (changed d r a .lens)
+    → Becomes (maxLength * capacity) (a .bytes) (a' .bytes) (changed d r a .bytes) → Becomes capacity (a .copies) (a' .copies) (changed d r a .copies)
     → Admits fit a s r a' (record { summary = d .summary; answer = d .answer })
 carried-out {fit} {a} {a'} {s} {r} {d} k times lens bytes copies =
     let whole : Whole a = record { times = times .long; lens = lens .long; bytes = bytes .long; copies = copies .long } in

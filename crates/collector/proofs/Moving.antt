@@ -1,4 +1,4 @@
--- Entries that are no longer open, those that are moved to the front, and one that is put after them: what the entries then are.
+-- What one reception makes of the entries: those no longer open, those moved to the front, one that is heard again, and one that is put behind them.
 use Prim.Native.Nat.{ℕ, zero, suc, _+_, _-_, _*_, _≤_, _<_}
 use native.Mathlib.Nat.{zero-add, add-zero, add-comm, add-suc, suc-add, le-refl}
 use native.Mathlib.Numerals.{add-one}
@@ -150,9 +150,6 @@ more-length true i l = length-set l i _
 more-length false i l = refl
 
 module _ (a : Columns) (i n : ℕ) (r : Reception) (long : n ≤ length (a .copies)) where
-  abbrev counted : List ℕ
-  counted = set (a .copies) i (capped (getD (a .copies) i 0 + 1))
-
   -- entry k after it
   credited-at : (k : ℕ) → k < n
       → entryAt (moreCopies true i a) k ≡ cond (eqb k i) (recount (λ c. capped (c + 1)) (entryAt a k)) (entryAt a k)
@@ -276,26 +273,21 @@ module _ (a : Columns) (whole : Whole a) (d : Decision) (count : ℕ) (size : d 
 
   moved-all-four : entriesAt front (d .left) ≡ drop (d .gone) (entriesAt a count)
   moved-all-four =
-      let k = whole in
       moved-entries (d .gone) (d .left) count a front size (record {
-        times = moved-front (d .gone) (d .left) (a .times) (omega (arith, k .times));
-        lens = moved-front (d .gone) (d .left) (a .lens) (omega (arith, k .lens));
-        bytes = moved-front (maxLength * d .gone) (maxLength * d .left) (a .bytes) (omega (arith, k .bytes));
-        copies = moved-front (d .gone) (d .left) (a .copies) (omega (arith, k .copies));
+        times = moved-front (d .gone) (d .left) (a .times) (omega (arith, whole .times));
+        lens = moved-front (d .gone) (d .left) (a .lens) (omega (arith, whole .lens));
+        bytes = moved-front (maxLength * d .gone) (maxLength * d .left) (a .bytes) (omega (arith, whole .bytes));
+        copies = moved-front (d .gone) (d .left) (a .copies) (omega (arith, whole .copies));
       })
 
   -- each array is as long as it was
-  long-times : length (front .times) ≡ capacity
-  long-times = moved-length (d .gone) (d .left) (a .times) (omega (arith, whole .times)) ∙ whole .times
-
-  long-lens : length (front .lens) ≡ capacity
-  long-lens = moved-length (d .gone) (d .left) (a .lens) (omega (arith, whole .lens)) ∙ whole .lens
-
-  long-bytes : length (front .bytes) ≡ maxLength * capacity
-  long-bytes = moved-length (maxLength * d .gone) (maxLength * d .left) (a .bytes) (omega (arith, whole .bytes)) ∙ whole .bytes
-
-  long-copies : length (front .copies) ≡ capacity
-  long-copies = moved-length (d .gone) (d .left) (a .copies) (omega (arith, whole .copies)) ∙ whole .copies
+  front-whole : Whole front
+  front-whole = record {
+    times = moved-length (d .gone) (d .left) (a .times) (omega (arith, whole .times)) ∙ whole .times;
+    lens = moved-length (d .gone) (d .left) (a .lens) (omega (arith, whole .lens)) ∙ whole .lens;
+    bytes = moved-length (maxLength * d .gone) (maxLength * d .left) (a .bytes) (omega (arith, whole .bytes)) ∙ whole .bytes;
+    copies = moved-length (d .gone) (d .left) (a .copies) (omega (arith, whole .copies)) ∙ whole .copies;
+  }
 
   pub changed-entries : (d .kept ≡ true → (d .left < capacity) × (length (r .bytes) ≤ maxLength))
       → (d .heard ≡ true → d .entry ≡ lastCopy (drop (d .gone) (entriesAt a count)) r)
@@ -303,15 +295,15 @@ module _ (a : Columns) (whole : Whole a) (d : Decision) (count : ℕ) (size : d 
       ≡ addIf (d .kept) (opened r) (creditIf (d .heard) r (drop (d .gone) (entriesAt a count)))
   changed-entries room last =
       put-entries (d .kept) (d .left) r (moreCopies (d .heard) (d .entry) front) (changed d r a) (λ e. room e .1) (record {
-        times = set-put (d .kept) (d .left) (r .time) (front .times) (λ e. omega (arith, room e .0, long-times));
-        lens = set-put (d .kept) (d .left) (length (r .bytes)) (front .lens) (λ e. omega (arith, room e .0, long-lens));
-        bytes = all-put (d .kept) (maxLength * d .left) (r .bytes) (front .bytes) (λ e. omega (arith, room e .0, room e .1, long-bytes));
+        times = set-put (d .kept) (d .left) (r .time) (front .times) (λ e. omega (arith, room e .0, front-whole .times));
+        lens = set-put (d .kept) (d .left) (length (r .bytes)) (front .lens) (λ e. omega (arith, room e .0, front-whole .lens));
+        bytes = all-put (d .kept) (maxLength * d .left) (r .bytes) (front .bytes) (λ e. omega (arith, room e .0, room e .1, front-whole .bytes));
         copies =
             set-put (d .kept) (d .left) 0 (moreIf (d .heard) (d .entry) (front .copies))
-            (λ e. omega (arith, room e .0, more-length (d .heard) (d .entry) (front .copies), long-copies));
+            (λ e. omega (arith, room e .0, more-length (d .heard) (d .entry) (front .copies), front-whole .copies));
       })
       ∙ ap (addIf (d .kept) (opened r))
-      (credited-entries front (d .entry) (d .left) r (omega (arith, long-copies)) (d .heard)
+      (credited-entries front (d .entry) (d .left) r (omega (arith, front-whole .copies)) (d .heard)
       (λ e. last e ∙ ap (λ (l : List Entry). lastCopy l r) (sym moved-all-four))
       ∙ ap (creditIf (d .heard) r) moved-all-four)
 

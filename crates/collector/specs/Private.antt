@@ -96,8 +96,8 @@ moreIf test i l = setIf test i (capped (getD l i 0 + 1)) l
 abbrev pub putIf : Bool → ℕ → List ℕ → List ℕ → List ℕ
 putIf test at xs l = cond test (take at l ++ (xs ++ drop (at + length xs) l)) l
 
--- an array of n elements, which was `old` and is `new`, is what is said
-pub record Changed (n : ℕ) (old new said : List ℕ) : Type 0 where
+-- an array of n elements, `old` before, is now `new`, which is as said
+pub record Becomes (n : ℕ) (old new said : List ℕ) : Type 0 where
   pub long : length old ≡ n
   pub is : new ≡ said
 

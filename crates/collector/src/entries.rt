@@ -14,7 +14,7 @@ ghost use Rattle.erp1.specs.Same.{isSame};
 ghost use Rattle.telegram.specs.Repeater.{levelOf};
 ghost use Rattle.model.specs.View.{capacity, txMaturity, capped};
 ghost use Rattle.collector.specs.Collector.{columns, entriesAt};
-ghost use Rattle.collector.specs.Private.{lastCopy, shownAt, Expired, moved, setIf, moreIf, putIf, Changed};
+ghost use Rattle.collector.specs.Private.{lastCopy, shownAt, Expired, moved, setIf, moreIf, putIf, Becomes};
 
 // Which of the entries after the first `gone` of `count` is the last that a reception is a copy of, counted from the first of these, or how many they
 // are where it is of none; no number of copies is looked at.
@@ -117,7 +117,7 @@ pub(crate) fn change_times(
     time: u64,
 )
     requires { ⌜ (gone + left ≤ capacity) × (kept ≡ true → left < capacity) ⌝ }
-    ensures { λ _. ⌜ Changed capacity (now (times .entry)) (now (times .exit)) (setIf kept left time (moved gone left (now (times .entry)))) ⌝ }
+    ensures { λ _. ⌜ Becomes capacity (now (times .entry)) (now (times .exit)) (setIf kept left time (moved gone left (now (times .entry)))) ⌝ }
 {
     move_times(times, gone, left);
     if !kept {
@@ -134,7 +134,7 @@ pub(crate) fn change_lens(
     received: &[u8],
 )
     requires { ⌜ (gone + left ≤ capacity) × (kept ≡ true → (left < capacity) × (length (now received) ≤ maxLength)) ⌝ }
-    ensures { λ _. ⌜ Changed capacity (now (lens .entry)) (now (lens .exit))
+    ensures { λ _. ⌜ Becomes capacity (now (lens .entry)) (now (lens .exit))
         (setIf kept left (length (now (received .entry))) (moved gone left (now (lens .entry)))) ⌝ }
 {
     move_bytes(lens, gone, left);
@@ -152,7 +152,7 @@ pub(crate) fn change_bytes(
     received: &[u8],
 )
     requires { ⌜ (gone + left ≤ capacity) × (kept ≡ true → (left < capacity) × (length (now received) ≤ maxLength)) ⌝ }
-    ensures { λ _. ⌜ Changed (maxLength * capacity) (now (bytes .entry)) (now (bytes .exit))
+    ensures { λ _. ⌜ Becomes (maxLength * capacity) (now (bytes .entry)) (now (bytes .exit))
         (putIf kept (maxLength * left) (now (received .entry)) (moved (maxLength * gone) (maxLength * left) (now (bytes .entry)))) ⌝ }
 {
     let from = Collector::MAX_LEN * gone;
@@ -173,7 +173,7 @@ pub(crate) fn change_copies(
     kept: bool,
 )
     requires { ⌜ (gone + left ≤ capacity) × (heard ≡ true → entry < capacity) × (kept ≡ true → left < capacity) ⌝ }
-    ensures { λ _. ⌜ Changed capacity (now (copies .entry)) (now (copies .exit))
+    ensures { λ _. ⌜ Becomes capacity (now (copies .entry)) (now (copies .exit))
         (setIf kept left 0 (moreIf heard entry (moved gone left (now (copies .entry))))) ⌝ }
 {
     move_counts(copies, gone, left);
