@@ -1,7 +1,6 @@
 -- An archive verified in pieces: together they answer what they answer as one buffer.
 --     scan-back           a scan is read back from its numbers
 --     pieces-verified     the claim
--- Assumes nothing.
 use Prim.Native.Nat.{ℕ, _+_, _*_, _/_, _%_, _≤_, _<_}
 use native.Mathlib.Omega.{arith}
 use mathlib.Core.Path.{_≡_, refl, sym, ap, ap₂, _∙_}

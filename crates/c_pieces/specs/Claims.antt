@@ -1,5 +1,5 @@
 -- What is proved of an archive that is verified in pieces. (Of pieces that are added to a report `PiecesAreWhole` of report_model says it, and of
--- pieces that are packed `PiecesPacked` of repack_model: the arrays hold what those definitions name.) Assumes nothing.
+-- pieces that are packed `PiecesPacked` of repack_model: the arrays hold what those definitions name.)
 use Prim.Native.Nat.{ℕ}
 use mathlib.Core.Path.{_≡_}
 use mathlib.Core.Bool.{cond}
