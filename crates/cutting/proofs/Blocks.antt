@@ -19,8 +19,7 @@ use Rattle.refusal.specs.declared.Refusal.the-variants.{Mismatch, Size}
 use Rattle.buffers.specs.Buffer.{part}
 use Rattle.layout.specs.BigEndian.{be}
 use Rattle.layout.specs.Cell.{cellLength}
-use Rattle.layout.specs.Header.{headerLength}
-use Rattle.layout.specs.Block.{cellsPerBlock, bodyLength, blockLength, sealed, blockOf, blockCell}
+use Rattle.layout.specs.Block.{headerLength, cellsPerBlock, bodyLength, blockLength, sealed, blockOf, blockCell}
 use Rattle.buffers.proofs.Segments.{left, last, whole, part-join}
 use Rattle.layout.proofs.BigEndian.{be-length}
 use Rattle.archive_model.specs.Row.{Row, rowCell, rowsHeader, rowsBlock, blockNumber, rowCount, rowIn, rowsOf, isSound}

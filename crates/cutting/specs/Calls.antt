@@ -4,8 +4,7 @@ use mathlib.Core.List.{List, [], _∷_, _++_}
 use Rattle.lists.specs.Lists.{padded}
 use Rattle.buffers.specs.Buffer.{part}
 use Rattle.layout.specs.Cell.{cellLength}
-use Rattle.layout.specs.Header.{headerLength}
-use Rattle.layout.specs.Block.{bodyLength, sealed}
+use Rattle.layout.specs.Block.{headerLength, bodyLength, sealed}
 use Rattle.archive.specs.declared.Taken.{Taken}
 use Rattle.archive.specs.Archive.{takenNumber}
 use Rattle.cutting.specs.Cut.{CutBlock}

@@ -5,8 +5,7 @@ use native.Mathlib.Omega.{arith}
 use borrow.Author.Needs.{needs}
 use denote.Ref.{now}
 use Rattle.layout.specs.Cell.{cellLength}
-use Rattle.layout.specs.Header.{headerLength}
-use Rattle.layout.specs.Block.{bodyLength}
+use Rattle.layout.specs.Block.{headerLength, bodyLength}
 use Rattle.buffers.proofs.Segments.{Writing, packed, begin, begun-length, within, store, skip, wipe}
 use Rattle.layout.proofs.Block.{seal-front}
 use Rattle.cutting.specs.Calls.{keptRows}
