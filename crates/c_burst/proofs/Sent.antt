@@ -22,7 +22,8 @@ use Rattle.model.specs.Step.{Outcome, step}
 use Rattle.model.specs.Burst.{replyWith}
 use Rattle.collector.specs.Admission.{relayedFor, admission}
 use Rattle.collector.proofs.Stepping.{admission-fit}
-use Rattle.burst.specs.Private.{sizeOf, StepResult, admittedWith}
+use Rattle.burst.specs.Records.{sizeOf}
+use Rattle.burst.specs.Private.{StepResult, admittedWith}
 use Rattle.burst.proofs.Records.{sent-with, handed}
 use Rattle.c_layout.specs.Frame.{frameLength}
 use Rattle.c_burst.specs.Bytes.{receptionIn, replyBytes}
