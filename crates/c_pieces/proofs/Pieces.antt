@@ -84,7 +84,8 @@ reached-as done s is goes whole blocks = record {
   blocks = blocks;
 }
 
-reached-next : (done numbers p : List ℕ) → Reached done numbers → fits (scanAt numbers) p ≡ true → Reached (done ++ p) (scanNumbers (scanBlocks (scanAt numbers) (blocksIn p)))
+reached-next : (done numbers p : List ℕ) → Reached done numbers → fits (scanAt numbers) p ≡ true
+    → Reached (done ++ p) (scanNumbers (scanBlocks (scanAt numbers) (blocksIn p)))
 unfolding isWhole
 reached-next done numbers p r h =
     let s = scanAt numbers in
@@ -122,10 +123,12 @@ pieces-from (p ∷ ps) done numbers r =
     let next = scanBlocks s (blocksIn p) in
     let one = taken numbers p ps next (feed-taken s p (r .goes) t) in
     ap (λ (l : List ℕ). scanEnd (scanAt l)) (one .0) ∙ pieces-from ps (done ++ p) (scanNumbers next) (reached-next done numbers p r t)
-    ∙ ap openOf (append-assoc done p (flatten (scanned (scanNumbers next) ps))) ∙ ap (λ (l : List (List ℕ)). openOf (done ++ flatten l)) (sym (one .1)))
+    ∙ ap openOf (append-assoc done p (flatten (scanned (scanNumbers next) ps)))
+    ∙ ap (λ (l : List (List ℕ)). openOf (done ++ flatten l)) (sym (one .1)))
     (λ f.
     let none = not-taken numbers p ps s (feed-not s p (r .goes) f) in
-    ap (λ (l : List ℕ). scanEnd (scanAt l)) (none .0) ∙ pieces-from ps done (scanNumbers s) (reached-as done s (r .is) (r .goes) (r .whole) (r .blocks))
+    ap (λ (l : List ℕ). scanEnd (scanAt l)) (none .0)
+    ∙ pieces-from ps done (scanNumbers s) (reached-as done s (r .is) (r .goes) (r .whole) (r .blocks))
     ∙ ap (λ (l : List (List ℕ)). openOf (done ++ flatten l)) (sym (none .1)))
 
 pub pieces-verified : PiecesVerified

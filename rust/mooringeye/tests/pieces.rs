@@ -1,4 +1,4 @@
-//! Archives in pieces: for the archives of the stored records the calls in pieces answer what the calls over a whole buffer do, whatever the pieces are.
+//! Archives in pieces: on the buffers of the stored records these calls answer what the calls over a whole buffer do, whatever the pieces are.
 use mooringeye::raw;
 use std::path::Path;
 
