@@ -1,8 +1,8 @@
 -- No refusal has the number 0.
-use mathlib.Core.Path.{_≡_}
 use Prim.Native.Nat.{_<_}
 use native.Mathlib.Omega.{arith}
 use Rattle.refusal.specs.Number.{numberOf}
+use Rattle.refusal.specs.Claims.{NoneIsDone}
 use Rattle.refusal.specs.declared.Refusal.{Refusal}
 use Rattle.refusal.specs.declared.Refusal.the-variants.{Length, Sum, Nested, NotAddressed, TooLong, ShortOutput, Late, Full, NoPlan, Argument, NotAccepted, Mismatch, Crc, ReservedAddress, Misfit, Size, Transmitters, Unlawful, Overlap}
 
@@ -27,5 +27,5 @@ positive Transmitters = omega arith
 positive Unlawful = omega arith
 positive Overlap = omega arith
 
-pub refused-number : (r : Refusal) → numberOf r ≡ 0 → ⊥
+pub refused-number : NoneIsDone
 refused-number r e = omega (arith, positive r)
