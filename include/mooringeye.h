@@ -104,6 +104,106 @@ uint8_t mooringeye_decapsulate(const uint8_t *bytes, size_t length, uint8_t *out
  * `sent_size` is sizeof(mooringeye_frame). Refused: 10 a setting over 2, the check's own. */
 uint8_t mooringeye_repeat(uint8_t setting, const uint8_t *bytes, size_t length, mooringeye_frame *sent, size_t sent_size);
 
+/* ---- the collector */
+
+enum {
+    MOORINGEYE_CAPACITY = 64,         /* telegrams that can be open */
+    MOORINGEYE_COLLECTOR_NUMBERS = 8,
+    MOORINGEYE_TOTALS = 6,
+    MOORINGEYE_IMAGE = 2560,          /* bytes of a checkpoint */
+    MOORINGEYE_MAX_BURST = 256,       /* receptions of a burst */
+    MOORINGEYE_REPLY = 24             /* sizeof(mooringeye_reply) */
+};
+
+/* The three forms of 0 that a reception can be answered with. */
+enum mooringeye_kind {
+    MOORINGEYE_KEPT = 0,
+    MOORINGEYE_COPY = 1,
+    MOORINGEYE_LOOSE = 2
+};
+
+/* A collector, changed where it lies. Of the open telegrams, in opening order: when each was opened, how often it was heard again, its length, and its
+ * 21 bytes. The numbers: telegrams open, latest time, received, kept, copies, loose, damaged, late. A caller may read it, save it
+ * byte for byte and bring it back; a state that no receptions and no accepted image give is answered with 11 by every call, and stays. */
+typedef struct mooringeye_collector {
+    uint64_t times[MOORINGEYE_CAPACITY];
+    uint64_t numbers[MOORINGEYE_COLLECTOR_NUMBERS];
+    uint16_t copies[MOORINGEYE_CAPACITY];
+    uint8_t lengths[MOORINGEYE_CAPACITY];
+    uint8_t bytes[MOORINGEYE_CAPACITY * MOORINGEYE_MAX_TELEGRAM];
+} mooringeye_collector;
+
+/* The reply to a reception of a burst: the kind (0 beside a refusal), the number, and what a repeater at the burst's setting sends; length 0 for nothing. */
+typedef struct mooringeye_reply {
+    uint8_t kind;
+    uint8_t number;
+    mooringeye_frame sent;
+} mooringeye_reply;
+
+/* The functions below take the five arrays one by one; those after them, which a C program calls, take the struct. */
+
+/* No telegram open, nothing counted: every number of the five arrays is zero. */
+void mooringeye_collector_fresh(uint64_t *times, uint8_t *lengths, uint8_t *bytes, uint16_t *copies, uint64_t *numbers);
+
+/* Takes one reception: its bytes and the moment they were complete. Answers kind x 256 + number: KEPT 0, COPY 256, LOOSE 512, or a refusal.
+ * Refused: 11, 8, and the state is as it was; the check's own 1, 2 or 13, 3, counted DAMAGED; 7 a time before the latest, counted LATE. */
+uint16_t mooringeye_collector_take(uint64_t *times, uint8_t *lengths, uint8_t *bytes, uint16_t *copies, uint64_t *numbers, const uint8_t *received,
+                                   size_t received_length, uint64_t time);
+
+/* Received, kept, copies, loose, damaged, late. Refused: 11, and `totals` is as it was. */
+uint8_t mooringeye_collector_totals(const uint64_t *times, const uint8_t *lengths, const uint8_t *bytes, const uint16_t *copies,
+                                    const uint64_t *numbers, uint64_t *totals);
+
+/* How often the open telegram `index`, in opening order, was heard again. Refused: 11, 10 no such telegram. */
+uint8_t mooringeye_collector_copies(const uint64_t *times, const uint8_t *lengths, const uint8_t *bytes, const uint16_t *copies,
+                                    const uint64_t *numbers, size_t index, uint64_t *heard);
+
+/* The image of the state, into the first 2,560 bytes of `out`. Refused: 11, 6. */
+uint8_t mooringeye_collector_checkpoint(const uint64_t *times, const uint8_t *lengths, const uint8_t *bytes, const uint16_t *copies,
+                                        const uint64_t *numbers, uint8_t *out, size_t out_size);
+
+/* The state that an image of 2,560 bytes holds. Refused: 11 the state or the image is not accepted; then the state is as it was. */
+uint8_t mooringeye_collector_restore(uint64_t *times, uint8_t *lengths, uint8_t *bytes, uint16_t *copies, uint64_t *numbers, const uint8_t *image,
+                                     size_t image_size);
+
+/* Takes up to 256 receptions, one by one: the moment of each, and a record of 22 bytes, its length and its bytes; a length over 21 is answered with 1.
+ * The reply to each stands at its place, places behind them are untouched. `records_size` is 22 for each moment and `replies_size` a multiple of 24,
+ * else the answer is 255. Refused: 11, 6 fewer places than moments, 10 more than 256 or a setting over 2; then the state and the places are as they were. */
+uint8_t mooringeye_collector_burst(uint64_t *times, uint8_t *lengths, uint8_t *bytes, uint16_t *copies, uint64_t *numbers, uint8_t setting,
+                                   const uint64_t *moments, size_t moments_length, const mooringeye_frame *records, size_t records_size,
+                                   mooringeye_reply *replies, size_t replies_size);
+
+static inline void mooringeye_fresh(mooringeye_collector *c) {
+    mooringeye_collector_fresh(c->times, c->lengths, c->bytes, c->copies, c->numbers);
+}
+
+static inline uint16_t mooringeye_take(mooringeye_collector *c, const uint8_t *received, size_t received_length, uint64_t time) {
+    return mooringeye_collector_take(c->times, c->lengths, c->bytes, c->copies, c->numbers, received, received_length, time);
+}
+
+static inline uint8_t mooringeye_totals(const mooringeye_collector *c, uint64_t *totals) {
+    return mooringeye_collector_totals(c->times, c->lengths, c->bytes, c->copies, c->numbers, totals);
+}
+
+static inline uint8_t mooringeye_copies(const mooringeye_collector *c, size_t index, uint64_t *heard) {
+    return mooringeye_collector_copies(c->times, c->lengths, c->bytes, c->copies, c->numbers, index, heard);
+}
+
+static inline uint8_t mooringeye_checkpoint(const mooringeye_collector *c, uint8_t *out, size_t out_size) {
+    return mooringeye_collector_checkpoint(c->times, c->lengths, c->bytes, c->copies, c->numbers, out, out_size);
+}
+
+static inline uint8_t mooringeye_restore(mooringeye_collector *c, const uint8_t *image, size_t image_size) {
+    return mooringeye_collector_restore(c->times, c->lengths, c->bytes, c->copies, c->numbers, image, image_size);
+}
+
+/* `n` receptions, with `places` replies. */
+static inline uint8_t mooringeye_burst(mooringeye_collector *c, uint8_t setting, const uint64_t *moments, const mooringeye_frame *records, size_t n,
+                                       mooringeye_reply *replies, size_t places) {
+    return mooringeye_collector_burst(c->times, c->lengths, c->bytes, c->copies, c->numbers, setting, moments, n, records, n * sizeof *records, replies,
+                                      places * sizeof *replies);
+}
+
 /* ---- ERP2 telegrams */
 
 /* The fields of an ERP2 telegram but its IDs. A flag that is not set makes the values beside it mean nothing, and a short form its header: reading

@@ -12,7 +12,7 @@ extern "C" {
     fn bench_admit(cells: *const u8, len: usize) -> u64;
 }
 
-const MOST: usize = 256;
+pub const MOST: usize = 256;
 
 struct Record {
     bytes: [u8; 21],
@@ -71,7 +71,9 @@ fn walk(collector: &mut Collector, setting: u8, records: &[Record], replies: &mu
     }
 }
 
-fn by_hand(cells: &[u8], size: usize, rounds: usize) -> u64 {
+/// Bursts of the first `size` of the second 256 receptions, each from the state that the first 256 left. A figure of the totals and of one reply
+/// each.
+pub fn by_hand(cells: &[u8], size: usize, rounds: usize) -> u64 {
     let all = records(&cells[..2 * MOST * CELL]);
     let none = Reply {
         answer: 1 << 48,
@@ -100,7 +102,7 @@ fn by_hand(cells: &[u8], size: usize, rounds: usize) -> u64 {
 }
 
 /// Nanoseconds of a burst of so many from the state that 256 receptions left, without what is done once before all bursts.
-fn burst_time(burst: fn(&[u8], usize, usize) -> u64, cells: &[u8], size: usize) -> f64 {
+pub fn burst_time(burst: fn(&[u8], usize, usize) -> u64, cells: &[u8], size: usize) -> f64 {
     const BURSTS: usize = 16;
     let whole = |rounds: usize| {
         time(BURSTS, || {

@@ -13,7 +13,7 @@ extern "C" {
 }
 
 pub const CELL: usize = 32;
-const RECEPTIONS: usize = 4_000;
+pub const RECEPTIONS: usize = 4_000;
 
 fn proved(cells: &[u8]) -> u64 {
     unsafe { bench_take(cells.as_ptr(), cells.len()) }
@@ -29,7 +29,7 @@ fn tests(cells: &[u8], rounds: u64) -> u64 {
 }
 
 /// The receptions of these cells, each with its time.
-fn receptions(cells: &[u8]) -> impl Iterator<Item = (u64, &[u8])> {
+pub fn receptions(cells: &[u8]) -> impl Iterator<Item = (u64, &[u8])> {
     cells.chunks_exact(CELL).map(|cell| {
         let time = u64::from_be_bytes(cell[..8].try_into().unwrap());
         (time, &cell[9..9 + usize::from(cell[8]).min(21)])
@@ -45,7 +45,7 @@ fn weight(answer: Answer) -> u64 {
     }
 }
 
-fn by_hand_in_place(cells: &[u8]) -> u64 {
+pub fn by_hand_in_place(cells: &[u8]) -> u64 {
     let mut collector = Collector::new();
     let mut figure = 0u64;
     for (time, bytes) in receptions(cells) {
@@ -161,11 +161,17 @@ pub fn bench() {
 
 /// The test of the state that these receptions leave behind.
 fn report_test(what: &str, cells: &[u8]) {
-    let run = |tests: fn(&[u8], u64) -> u64| {
-        assert_eq!(tests(cells, 2), 2);
-        time(RECEPTIONS, || {
-            black_box(tests(black_box(cells), black_box(RECEPTIONS as u64)));
-        })
-    };
-    report(what, run(tests), run(tests_by_hand));
+    report(what, test_time(cells), time_of(tests_by_hand, cells));
+}
+
+/// Nanoseconds of the proved test of that state.
+pub fn test_time(cells: &[u8]) -> f64 {
+    time_of(tests, cells)
+}
+
+fn time_of(tests: fn(&[u8], u64) -> u64, cells: &[u8]) -> f64 {
+    assert_eq!(tests(cells, 2), 2);
+    time(RECEPTIONS, || {
+        black_box(tests(black_box(cells), black_box(RECEPTIONS as u64)));
+    })
 }

@@ -6,6 +6,7 @@ mod bursts;
 mod collector;
 mod crc8;
 mod erp2;
+mod interface;
 mod repack;
 mod reports;
 mod site;
@@ -17,6 +18,7 @@ fn main() {
     site::bench();
     collector::bench();
     bursts::bench();
+    interface::bench();
     erp2::bench();
     repack::bench();
     archive::bench();

@@ -2,8 +2,8 @@
  *
  *   archive FILE < ROWS
  *
- * A line of ROWS is a time, KEPT or LOOSE, and the bytes of a subtelegram in hexadecimal digits. A row that is refused is answered with its number. FILE
- * is made with room for 960 rows where it does not exist. */
+ * A line of ROWS is a time, KEPT or LOOSE, and the bytes of a subtelegram in hexadecimal digits. A row that is refused is answered with its number.
+ * FILE is made with room for 960 rows where it does not exist. */
 #include "mooringeye.h"
 
 #include <inttypes.h>

@@ -10,6 +10,15 @@
     'D5090102030401E9'
     >>> mooringeye.plan(0, 1000, 7)
     (0, 1, 27)
+    >>> collector = mooringeye.Collector()
+    >>> [collector.take(telegram, time) for time in (1000, 1012)]
+    ['KEPT', 'COPY']
+    >>> collector.copies(0)
+    1
+    >>> mooringeye.Collector(collector.checkpoint()).totals()["received"]
+    2
+    >>> collector.burst(1, [(telegram, 1200), (telegram, 1000)])
+    [('KEPT', b'\\xd5\\t\\x01\\x02\\x03\\x04\\x01\\xe9'), (7, b'')]
     >>> archive = mooringeye.Archive(bytearray(1024))
     >>> archive.append(1000, False, telegram)
     >>> list(archive) == [(1000, False, telegram)]
@@ -19,14 +28,14 @@
         ...
     mooringeye.Refused: refused with 1
 
-As a program it appends rows to an archive file, and prints all that it has, as examples/c/archive.c does:
+As a program it appends rows to an archive file, and prints all that it has, as examples/c/archive.c does; collect.py beside it is a collector:
 
     python3 examples/python/mooringeye.py FILE < ROWS
 """
 import ctypes
 import os
 import sys
-from ctypes import byref, c_bool, c_size_t, c_uint8, c_uint32, c_uint64, c_void_p
+from ctypes import byref, c_bool, c_size_t, c_uint8, c_uint16, c_uint32, c_uint64, c_void_p
 
 
 def load():
@@ -46,11 +55,19 @@ def _function(name, answer, *parameters):
 
 
 _slice = (c_void_p, c_size_t)
+_arrays = (c_void_p,) * 5
 _crc8 = _function("mooringeye_crc8", c_uint8, *_slice)
 _check = _function("mooringeye_check", c_uint8, *_slice)
 _read = _function("mooringeye_read", c_uint8, *_slice, *_slice)
 _repeat = _function("mooringeye_repeat", c_uint8, c_uint8, *_slice, *_slice)
 _plan = _function("mooringeye_plan", c_uint32, c_uint8, c_uint32, c_uint64)
+_fresh = _function("mooringeye_collector_fresh", None, *_arrays)
+_take = _function("mooringeye_collector_take", c_uint16, *_arrays, *_slice, c_uint64)
+_totals = _function("mooringeye_collector_totals", c_uint8, *_arrays, c_void_p)
+_copies = _function("mooringeye_collector_copies", c_uint8, *_arrays, c_size_t, c_void_p)
+_checkpoint = _function("mooringeye_collector_checkpoint", c_uint8, *_arrays, *_slice)
+_restore = _function("mooringeye_collector_restore", c_uint8, *_arrays, *_slice)
+_burst = _function("mooringeye_collector_burst", c_uint8, *_arrays, c_uint8, *_slice, *_slice, *_slice)
 _verify = _function("mooringeye_archive_verify", c_uint8, *_slice, c_void_p, c_void_p)
 _append_at = _function("mooringeye_archive_append_at", c_uint8, *_slice, c_size_t, *_slice, c_uint64, c_bool, c_void_p)
 _row = _function("mooringeye_archive_row", c_uint8, *_slice, c_size_t, *_slice, c_void_p)
@@ -99,6 +116,53 @@ def plan(level, duration, draw):
     number, first, second, third = _plan(level, duration, draw).to_bytes(4, "big")
     _done(number)
     return first, second, third
+
+
+class Collector:
+    """A collector: started fresh, or restored from the 2,560 bytes of a checkpoint."""
+
+    KINDS = "KEPT", "COPY", "LOOSE"
+    TOTALS = "received", "kept", "copies", "loose", "damaged", "late"
+
+    def __init__(self, image=None):
+        sizes = (c_uint64 * 64, c_uint8 * 64, c_uint8 * 1344, c_uint16 * 64, c_uint64 * 8)
+        self._state = [array() for array in sizes]
+        _fresh(*self._state)
+        if image is not None:
+            _done(_restore(*self._state, bytes(image), len(image)))
+
+    def take(self, data, time):
+        """Takes a reception at a time in milliseconds, and says what it is; raises Refused with 8, the check's number or 7."""
+        kind, number = _take(*self._state, bytes(data), len(data), time).to_bytes(2, "big")
+        _done(number)
+        return self.KINDS[kind]
+
+    def burst(self, setting, receptions):
+        """Takes up to 256 receptions, each its bytes and a time; gives for each its kind, or the number of its refusal, and what a repeater sends."""
+        moments = (c_uint64 * len(receptions))(*(time for _, time in receptions))
+        records = b"".join(bytes([min(len(data), 255)]) + bytes(data)[:21].ljust(21, b"\0") for data, _ in receptions)
+        replies = (c_uint8 * (24 * len(receptions)))()
+        _done(_burst(*self._state, setting, moments, len(moments), records, len(records), replies, len(replies)))
+        each = (bytes(replies[at : at + 24]) for at in range(0, len(replies), 24))
+        return [(number or self.KINDS[kind], bytes(sent[:length])) for kind, number, length, *sent in each]
+
+    def totals(self):
+        """The totals, by name."""
+        totals = (c_uint64 * 6)()
+        _done(_totals(*self._state, totals))
+        return dict(zip(self.TOTALS, totals))
+
+    def copies(self, entry):
+        """How often an open telegram, from 0 in opening order, was heard again; raises Refused with 10 behind the last."""
+        heard = c_uint64()
+        _done(_copies(*self._state, entry, byref(heard)))
+        return heard.value
+
+    def checkpoint(self):
+        """The state as bytes, to be stored and restored."""
+        image = (c_uint8 * 2560)()
+        _done(_checkpoint(*self._state, image, len(image)))
+        return bytes(image)
 
 
 class Archive:

@@ -1,6 +1,7 @@
 // The checkpoint of a collector and its restore (document 01, "Parked collector").
 use collector::Collector;
 use collector::acceptable;
+use collector::merging::Summary;
 use layout::BLOCK_LENGTH;
 use layout::CELL_LENGTH;
 use layout::CELLS_PER_BLOCK;
@@ -21,6 +22,7 @@ ghost use Rattle.model.specs.View.{capacity};
 ghost use Rattle.model.specs.Image as model;
 ghost use Rattle.model.specs.Image.{imageLength, entryCell, imageWith, blockIn, usedIn, firstIn, secondIn, countIn, totalsIn, checkpointOf};
 ghost use Rattle.collector.specs.Collector.{columns, entriesAt, viewAt, viewOf};
+ghost use Rattle.collector.specs.Admission.{viewIn};
 ghost use Rattle.image.specs.Checkpoint.{checkpointResult, loadedNumber, Restores, blockCount, cellsLength, entriesFrom, blockWith, Writable, isImageOf, isReadable, cellIn, entriesIn};
 
 // How many blocks an image has.
@@ -56,7 +58,31 @@ pub struct Restored {
 pub fn checkpoint(c: Collector, out: &mut [u8]) -> Saved
     ensures { λ r. ⌜ checkpointResult r (now (out .exit)) ≡ checkpointOf (viewOf c) (now (out .entry)) ⌝ }
 {
-    if !acceptable::is_acceptable(&c.times, &c.lens, &c.bytes, c.count, c.latest, c.totals) {
+    let totals = c.totals;
+    let summary = Summary {
+        count: c.count,
+        latest: c.latest,
+        totals: totals,
+    };
+    checkpoint_at(&c.times, &c.lens, &c.bytes, &c.copies, summary, out)
+}
+
+// The same of a state that is lent: its entries' arrays, and what it holds beside them.
+pub fn checkpoint_at<'a>(
+    times: &'a [u64; Collector::CAPACITY],
+    lens: &'a [u8; Collector::CAPACITY],
+    bytes: &'a [u8; Collector::CAPACITY * Collector::MAX_LEN],
+    copies: &'a [u16; Collector::CAPACITY],
+    summary: Summary,
+    out: &'a mut [u8],
+) -> Saved
+    ensures { λ r. ⌜ checkpointResult r (now (out .exit))
+        ≡ checkpointOf (viewIn (columns (now (times .entry)) (now (lens .entry)) (now (bytes .entry)) (now (copies .entry))) summary) (now (out .entry)) ⌝ }
+{
+    let count = summary.count;
+    let latest = summary.latest;
+    let totals = summary.totals;
+    if !acceptable::is_acceptable(times, lens, bytes, count, latest, totals) {
         return Saved::Refused(Refusal::NotAccepted);
     }
     if out.len() < IMAGE_LENGTH {
@@ -64,14 +90,14 @@ pub fn checkpoint(c: Collector, out: &mut [u8]) -> Saved
     }
     put_image(
         out,
-        &c.times,
-        &c.lens,
-        &c.bytes,
-        &c.copies,
-        c.count,
-        c.latest,
+        times,
+        lens,
+        bytes,
+        copies,
+        count,
+        latest,
         NO_SETTING,
-        c.totals,
+        totals,
     );
     Saved::Done
 }

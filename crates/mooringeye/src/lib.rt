@@ -2,6 +2,7 @@
 // where the work and its proof are.
 pub mod archive;
 pub mod codec;
+pub mod collector;
 pub mod erp2;
 pub mod plans;
 pub mod report;

@@ -189,13 +189,18 @@ mod tests {
         Row { telegram, time, loose: time % 2 == 1 }
     }
 
+    /// So many blocks, with rows at the times from 0 on.
+    fn filled(blocks: usize, rows: u64) -> Vec<u8> {
+        let mut buffer = vec![0; blocks * Archive::BLOCK];
+        let mut archive = Archive::open(&mut buffer).unwrap();
+        (0..rows).for_each(|i| archive.append(&row(i)).unwrap());
+        buffer
+    }
+
     #[test]
     fn fills_and_refuses() {
-        let mut buffer = vec![0; 2 * Archive::BLOCK];
+        let mut buffer = filled(2, 30);
         let mut archive = Archive::open(&mut buffer).unwrap();
-        for i in 0..30 {
-            archive.append(&row(i)).unwrap();
-        }
         let before = archive.as_bytes().to_vec();
         assert_eq!(archive.append(&row(30)), Err(Refusal::ShortOutput));
         assert_eq!(archive.as_bytes(), before);
@@ -218,11 +223,8 @@ mod tests {
 
     #[test]
     fn removes() {
-        let mut buffer = vec![0; 2 * Archive::BLOCK];
+        let mut buffer = filled(2, 20);
         let mut archive = Archive::open(&mut buffer).unwrap();
-        for i in 0..20 {
-            archive.append(&row(i)).unwrap();
-        }
         assert_eq!(archive.remove(&[0; 33]), Err(Refusal::Argument));
         assert_eq!(archive.remove(&[7; 32]), Ok(0));
         assert_eq!(archive.len(), 20);
@@ -233,11 +235,7 @@ mod tests {
 
     #[test]
     fn salvages() {
-        let mut buffer = vec![0; 4 * Archive::BLOCK];
-        let mut archive = Archive::open(&mut buffer).unwrap();
-        for i in 0..45 {
-            archive.append(&row(i)).unwrap();
-        }
+        let mut buffer = filled(4, 45);
         buffer[600] ^= 1;
         let mut saved = Archive::salvage(&buffer).unwrap();
         assert_eq!((saved.rows, &saved.dropped[..]), (30, &[1][..]));

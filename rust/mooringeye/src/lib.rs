@@ -1,13 +1,15 @@
-//! The proved codec, slot plans, archives and reports of Mooringeye, an EnOcean collector, as Rust types.
+//! Mooringeye, a proved EnOcean collector, as Rust types.
 //!
-//! The work is done by `libmooringeye.a`, whose functions are proved to do what `docs/API.md` says of them, for every input. This crate turns their
-//! numbers into types: [`Telegram`] and [`Fields`] of ERP1, [`Erp2`], [`SlotPlan`] and [`Site`], [`Archive`] with its [`Rows`], and [`Report`].
+//! The work is done by `libmooringeye.a`, whose functions are proved to do what `docs/API.md` says of them, for every input. This crate makes types
+//! of their numbers: the [`Collector`], [`Telegram`] and [`Fields`] of ERP1, [`Erp2`], [`SlotPlan`] and [`Site`], [`Archive`] with its [`Rows`], and
+//! [`Report`].
 //! What is refused comes back as a [`Refusal`], which shows the papers' number.
 //!
 //! `unsafe` stands in one module, [`raw`], which has every call of the library on plain slices.
 #![deny(unsafe_code)]
 
 mod archive;
+mod collector;
 mod erp2;
 mod plans;
 pub mod raw;
@@ -16,6 +18,7 @@ mod report;
 mod telegram;
 
 pub use archive::{Archive, Row, Rows, Salvaged};
+pub use collector::{Answer, Collector, Reception, Reply, Totals};
 pub use erp2::{Erp2, Extension};
 pub use plans::{Assignment, Rule, Site, SlotPlan};
 pub use refusal::{Refusal, Refused};

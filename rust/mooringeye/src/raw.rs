@@ -12,6 +12,18 @@ pub const FRAME: usize = 22;
 pub const ERP2: usize = 276;
 /// The bytes of a row of an archive, its time excepted.
 pub const ROW: usize = 23;
+/// The telegrams that a collector can hold open.
+pub const CAPACITY: usize = 64;
+/// The bytes of those telegrams.
+pub const ENTRY_BYTES: usize = CAPACITY * 21;
+/// The numbers of a collector beside its open telegrams: how many they are, the latest time, and the totals.
+pub const COLLECTOR_NUMBERS: usize = 8;
+/// The totals of a collector.
+pub const TOTALS: usize = 6;
+/// The bytes of a checkpoint.
+pub const IMAGE: usize = 2_560;
+/// The bytes of the reply to a reception of a burst: kind, number and a frame.
+pub const REPLY: usize = 24;
 /// The numbers of a report beside its lines.
 pub const REPORT_NUMBERS: usize = 4;
 /// The numbers of a line of a report.
@@ -21,90 +33,83 @@ pub const REPORT_LINES: usize = 256 * LINE_NUMBERS;
 
 /// The declarations, which `tests/library` compares with the header and with the archive.
 mod c {
+    // What is read, and what is changed.
+    pub type In = *const u8;
+    pub type In16 = *const u16;
+    pub type In32 = *const u32;
+    pub type In64 = *const u64;
+    pub type Out = *mut u8;
+    pub type Out16 = *mut u16;
+    pub type Out32 = *mut u32;
+    pub type Out64 = *mut u64;
+    /// A size, count or position that is handed back.
+    pub type Size = *mut usize;
+
     extern "C" {
         pub fn mooringeye_version() -> u32;
-        pub fn mooringeye_crc8(bytes: *const u8, length: usize) -> u8;
-        pub fn mooringeye_check(bytes: *const u8, length: usize) -> u8;
-        pub fn mooringeye_same(a: *const u8, a_length: usize, b: *const u8, b_length: usize) -> bool;
-        pub fn mooringeye_read(bytes: *const u8, length: usize, fields: *mut u8, fields_size: usize) -> u8;
-        pub fn mooringeye_build(fields: *const u8, fields_size: usize, out: *mut u8, out_size: usize, out_length: *mut usize) -> u8;
-        pub fn mooringeye_encapsulate(bytes: *const u8, length: usize, destid: u32, out: *mut u8, out_size: usize, out_length: *mut usize) -> u8;
-        pub fn mooringeye_decapsulate(bytes: *const u8, length: usize, out: *mut u8, out_size: usize, out_length: *mut usize) -> u8;
-        pub fn mooringeye_repeat(setting: u8, bytes: *const u8, length: usize, sent: *mut u8, sent_size: usize) -> u8;
-        pub fn mooringeye_erp2_read(
-            bytes: *const u8,
-            length: usize,
-            fields: *mut u8,
-            fields_size: usize,
-            originator: *mut u64,
-            destination: *mut u32,
-        ) -> u8;
+        pub fn mooringeye_crc8(bytes: In, len: usize) -> u8;
+        pub fn mooringeye_check(bytes: In, len: usize) -> u8;
+        pub fn mooringeye_same(a: In, a_len: usize, b: In, b_len: usize) -> bool;
+        pub fn mooringeye_read(bytes: In, len: usize, fields: Out, fields_size: usize) -> u8;
+        pub fn mooringeye_build(fields: In, fields_size: usize, out: Out, out_size: usize, out_len: Size) -> u8;
+        pub fn mooringeye_encapsulate(bytes: In, len: usize, destid: u32, out: Out, out_size: usize, out_len: Size) -> u8;
+        pub fn mooringeye_decapsulate(bytes: In, len: usize, out: Out, out_size: usize, out_len: Size) -> u8;
+        pub fn mooringeye_repeat(setting: u8, bytes: In, len: usize, sent: Out, sent_size: usize) -> u8;
+        pub fn mooringeye_erp2_read(bytes: In, len: usize, fields: Out, fields_size: usize, originator: Out64, destination: Out32) -> u8;
         pub fn mooringeye_erp2_build(
-            fields: *const u8,
+            fields: In,
             fields_size: usize,
             originator: u64,
             destination: u32,
-            out: *mut u8,
+            out: Out,
             out_size: usize,
-            out_length: *mut usize,
+            out_len: Size,
         ) -> u8;
         pub fn mooringeye_plan(level: u8, duration: u32, draw: u64) -> u32;
         pub fn mooringeye_plan_by(rule: u8, level: u8, transmissions: u8, duration: u32, draw: u64) -> u32;
         pub fn mooringeye_is_lawful(rule: u8, level: u8, duration: u32, first: u8, second: u8, third: u8) -> bool;
-        pub fn mooringeye_site(repeaters: *const u8, size: usize) -> u32;
-        pub fn mooringeye_archive_verify(buffer: *const u8, size: usize, rows: *mut usize, position: *mut usize) -> u8;
-        pub fn mooringeye_archive_append(
-            buffer: *mut u8,
-            size: usize,
-            bytes: *const u8,
-            length: usize,
-            time: u64,
-            loose: bool,
-            position: *mut usize,
+        pub fn mooringeye_site(repeaters: In, size: usize) -> u32;
+        pub fn mooringeye_collector_fresh(times: Out64, lens: Out, bytes: Out, copies: Out16, numbers: Out64);
+        pub fn mooringeye_collector_take(times: Out64, lens: Out, bytes: Out, copies: Out16, numbers: Out64, heard: In, len: usize, time: u64)
+            -> u16;
+        pub fn mooringeye_collector_totals(times: In64, lens: In, bytes: In, copies: In16, numbers: In64, totals: Out64) -> u8;
+        pub fn mooringeye_collector_copies(times: In64, lens: In, bytes: In, copies: In16, numbers: In64, index: usize, heard: Out64) -> u8;
+        pub fn mooringeye_collector_checkpoint(times: In64, lens: In, bytes: In, copies: In16, numbers: In64, out: Out, out_size: usize) -> u8;
+        pub fn mooringeye_collector_restore(times: Out64, lens: Out, bytes: Out, copies: Out16, numbers: Out64, image: In, image_size: usize) -> u8;
+        pub fn mooringeye_collector_burst(
+            times: Out64,
+            lens: Out,
+            bytes: Out,
+            copies: Out16,
+            numbers: Out64,
+            setting: u8,
+            moments: In64,
+            moments_len: usize,
+            records: In,
+            records_size: usize,
+            replies: Out,
+            replies_size: usize,
         ) -> u8;
-        pub fn mooringeye_archive_append_at(
-            buffer: *mut u8,
-            size: usize,
-            rows: usize,
-            bytes: *const u8,
-            length: usize,
-            time: u64,
-            loose: bool,
-            position: *mut usize,
-        ) -> u8;
-        pub fn mooringeye_archive_put_row(
-            block: *mut u8,
-            size: usize,
-            rows: usize,
-            bytes: *const u8,
-            length: usize,
-            time: u64,
-            loose: bool,
-            position: *mut usize,
-        ) -> u8;
-        pub fn mooringeye_archive_row(buffer: *const u8, size: usize, index: usize, row: *mut u8, row_size: usize, time: *mut u64) -> u8;
+        pub fn mooringeye_archive_verify(buffer: In, size: usize, rows: Size, position: Size) -> u8;
+        pub fn mooringeye_archive_append(buffer: Out, size: usize, bytes: In, len: usize, time: u64, loose: bool, position: Size) -> u8;
+        pub fn mooringeye_archive_append_at(buffer: Out, size: usize, n: usize, bytes: In, len: usize, time: u64, loose: bool, position: Size) -> u8;
+        pub fn mooringeye_archive_put_row(block: Out, size: usize, n: usize, bytes: In, len: usize, time: u64, loose: bool, position: Size) -> u8;
+        pub fn mooringeye_archive_row(buffer: In, size: usize, index: usize, row: Out, row_size: usize, time: Out64) -> u8;
         pub fn mooringeye_archive_salvage(
-            buffer: *const u8,
+            buffer: In,
             size: usize,
-            out: *mut u8,
+            out: Out,
             out_size: usize,
-            positions: *mut u64,
-            positions_length: usize,
-            dropped: *mut usize,
-            rows: *mut usize,
+            positions: Out64,
+            positions_len: usize,
+            dropped: Size,
+            rows: Size,
         ) -> u8;
-        pub fn mooringeye_archive_remove(
-            buffer: *mut u8,
-            size: usize,
-            identities: *const u32,
-            identities_length: usize,
-            freed: *mut usize,
-            position: *mut usize,
-        ) -> u8;
-        pub fn mooringeye_report_empty(numbers: *mut u64, lines: *mut u64);
-        pub fn mooringeye_report_add(numbers: *mut u64, lines: *mut u64, buffer: *const u8, size: usize, position: *mut usize) -> u8;
-        pub fn mooringeye_report_line(numbers: *const u64, lines: *const u64, index: usize, line: *mut u64) -> u8;
-        pub fn mooringeye_report_share(numbers: *const u64, lines: *const u64, received: u64, thousandths: *mut u64) -> u8;
+        pub fn mooringeye_archive_remove(buffer: Out, size: usize, identities: In32, identities_len: usize, freed: Size, position: Size) -> u8;
+        pub fn mooringeye_report_empty(numbers: Out64, lines: Out64);
+        pub fn mooringeye_report_add(numbers: Out64, lines: Out64, buffer: In, size: usize, position: Size) -> u8;
+        pub fn mooringeye_report_line(numbers: In64, lines: In64, index: usize, line: Out64) -> u8;
+        pub fn mooringeye_report_share(numbers: In64, lines: In64, received: u64, thousandths: Out64) -> u8;
     }
 }
 
@@ -202,6 +207,108 @@ pub fn is_lawful(rule: u8, level: u8, duration: u32, first: u8, second: u8, thir
 pub fn site(repeaters: &[u8]) -> u32 {
     // SAFETY: one slice, read only.
     unsafe { c::mooringeye_site(repeaters.as_ptr(), repeaters.len()) }
+}
+
+// ---- the collector
+
+/// The five arrays of a collector, lent to be read.
+pub struct Arrays<'a> {
+    /// When each telegram was opened.
+    pub times: &'a [u64; CAPACITY],
+    /// Their lengths.
+    pub lengths: &'a [u8; CAPACITY],
+    /// Their bytes, 21 each.
+    pub bytes: &'a [u8; ENTRY_BYTES],
+    /// How often each was heard again.
+    pub copies: &'a [u16; CAPACITY],
+    /// Telegrams open, latest time, received, kept, copies, loose, damaged, late.
+    pub numbers: &'a [u64; COLLECTOR_NUMBERS],
+}
+
+/// The five arrays of a collector, lent to be changed.
+pub struct ArraysMut<'a> {
+    /// When each telegram was opened.
+    pub times: &'a mut [u64; CAPACITY],
+    /// Their lengths.
+    pub lengths: &'a mut [u8; CAPACITY],
+    /// Their bytes, 21 each.
+    pub bytes: &'a mut [u8; ENTRY_BYTES],
+    /// How often each was heard again.
+    pub copies: &'a mut [u16; CAPACITY],
+    /// Telegrams open, latest time, received, kept, copies, loose, damaged, late.
+    pub numbers: &'a mut [u64; COLLECTOR_NUMBERS],
+}
+
+impl Arrays<'_> {
+    /// In the order in which every call takes them.
+    fn pointers(&self) -> (c::In64, c::In, c::In, c::In16, c::In64) {
+        (self.times.as_ptr(), self.lengths.as_ptr(), self.bytes.as_ptr(), self.copies.as_ptr(), self.numbers.as_ptr())
+    }
+}
+
+impl ArraysMut<'_> {
+    /// The same arrays, to be read.
+    pub fn shared(&self) -> Arrays<'_> {
+        let ArraysMut { times, lengths, bytes, copies, numbers } = self;
+        Arrays { times, lengths, bytes, copies, numbers }
+    }
+
+    /// In the order in which every call takes them.
+    fn pointers(&mut self) -> (c::Out64, c::Out, c::Out, c::Out16, c::Out64) {
+        (self.times.as_mut_ptr(), self.lengths.as_mut_ptr(), self.bytes.as_mut_ptr(), self.copies.as_mut_ptr(), self.numbers.as_mut_ptr())
+    }
+}
+
+/// A collector with nothing open and nothing counted.
+pub fn collector_fresh(state: &mut ArraysMut<'_>) {
+    let (times, lens, bytes, copies, numbers) = state.pointers();
+    // SAFETY: five arrays of the sizes that the header names, all `&mut`.
+    unsafe { c::mooringeye_collector_fresh(times, lens, bytes, copies, numbers) }
+}
+
+/// A reception: 256 times its kind, plus the number.
+pub fn collector_take(state: &mut ArraysMut<'_>, received: &[u8], time: u64) -> u16 {
+    let (times, lens, bytes, copies, numbers) = state.pointers();
+    // SAFETY: five arrays of the sizes that the header names, all `&mut`, and a slice that is read.
+    unsafe { c::mooringeye_collector_take(times, lens, bytes, copies, numbers, received.as_ptr(), received.len(), time) }
+}
+
+/// The totals: received, kept, copies, loose, damaged, late.
+pub fn collector_totals(state: &Arrays<'_>, totals: &mut [u64; TOTALS]) -> u8 {
+    let (times, lens, bytes, copies, numbers) = state.pointers();
+    // SAFETY: arrays of the sizes that the header names, of which the one that is written is `&mut`.
+    unsafe { c::mooringeye_collector_totals(times, lens, bytes, copies, numbers, totals.as_mut_ptr()) }
+}
+
+/// How often an open telegram was heard again.
+pub fn collector_copies(state: &Arrays<'_>, index: usize, heard: &mut u64) -> u8 {
+    let (times, lens, bytes, copies, numbers) = state.pointers();
+    // SAFETY: five arrays of the sizes that the header names, which are read, and a number that is `&mut`.
+    unsafe { c::mooringeye_collector_copies(times, lens, bytes, copies, numbers, index, heard) }
+}
+
+/// The image of a state, into the first [`IMAGE`] bytes.
+pub fn collector_checkpoint(state: &Arrays<'_>, out: &mut [u8]) -> u8 {
+    let (times, lens, bytes, copies, numbers) = state.pointers();
+    // SAFETY: five arrays of the sizes that the header names, which are read, and a slice that is `&mut`.
+    unsafe { c::mooringeye_collector_checkpoint(times, lens, bytes, copies, numbers, out.as_mut_ptr(), out.len()) }
+}
+
+/// The state of an image.
+pub fn collector_restore(state: &mut ArraysMut<'_>, image: &[u8]) -> u8 {
+    let (times, lens, bytes, copies, numbers) = state.pointers();
+    // SAFETY: five arrays of the sizes that the header names, all `&mut`, and a slice that is read.
+    unsafe { c::mooringeye_collector_restore(times, lens, bytes, copies, numbers, image.as_ptr(), image.len()) }
+}
+
+/// A burst: the moment of each reception, and its frame; [`REPLY`] bytes for each reply.
+pub fn collector_burst(state: &mut ArraysMut<'_>, setting: u8, moments: &[u64], records: &[u8], replies: &mut [u8]) -> u8 {
+    let (times, lens, bytes, copies, numbers) = state.pointers();
+    let (at, n) = (moments.as_ptr(), moments.len());
+    let (from, from_size) = (records.as_ptr(), records.len());
+    let (to, to_size) = (replies.as_mut_ptr(), replies.len());
+    // SAFETY: five arrays of the sizes that the header names and a slice, all `&mut`, and two slices that are read.
+    unsafe { c::mooringeye_collector_burst(times, lens, bytes, copies, numbers, setting, at, n, from, from_size, to, to_size) }
 }
 
 // ---- archives

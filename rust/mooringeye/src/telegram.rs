@@ -104,10 +104,7 @@ impl Telegram {
     }
 
     fn of(bytes: &[u8]) -> Telegram {
-        let mut frame = [0; raw::FRAME];
-        frame[0] = bytes.len() as u8;
-        frame[1..1 + bytes.len()].copy_from_slice(bytes);
-        Telegram { frame }
+        Telegram { frame: frame(bytes) }
     }
 
     fn written(call: impl FnOnce(&mut [u8], &mut usize) -> u8) -> Result<Telegram, Refusal> {
@@ -116,6 +113,16 @@ impl Telegram {
         done(call(&mut out, &mut length))?;
         Ok(Telegram::of(&out[..length]))
     }
+}
+
+/// Bytes as a frame. More than one holds have a length that no telegram has, and the first of them.
+pub(crate) fn frame(bytes: &[u8]) -> [u8; raw::FRAME] {
+    let mut frame = [0; raw::FRAME];
+    frame[0] = u8::try_from(bytes.len()).unwrap_or(u8::MAX);
+    for (to, from) in frame[1..].iter_mut().zip(bytes) {
+        *to = *from;
+    }
+    frame
 }
 
 impl AsRef<[u8]> for Telegram {

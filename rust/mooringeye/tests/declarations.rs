@@ -111,10 +111,13 @@ fn functions(text: &str, word: &str, kinds: impl Fn(&str) -> Vec<String>) -> Fun
     found
 }
 
-/// The declarations of `raw.rs`.
+/// The declarations of `raw.rs`, in which a type may go by a name of its own.
 fn declared() -> Functions {
-    let kinds = |t: &str| vec![if t.starts_with('*') { "pointer".into() } else { t.to_string() }];
-    functions(&bare(&text("rust/mooringeye/src/raw.rs")), "pub fn ", kinds)
+    let text = bare(&text("rust/mooringeye/src/raw.rs"));
+    let named: BTreeMap<&str, &str> =
+        text.split("type ").skip(1).filter_map(|t| t.split(';').next().and_then(|t| t.split_once(" = "))).filter(|(n, _)| !n.contains(' ')).collect();
+    let kinds = |t: &str| vec![if named.get(t).unwrap_or(&t).starts_with('*') { "pointer".into() } else { t.to_string() }];
+    functions(&text, "pub fn ", kinds)
 }
 
 /// The exports of crate `mooringeye`: a slice is a pointer and a length, any other reference a pointer.

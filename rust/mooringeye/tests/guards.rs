@@ -129,3 +129,75 @@ fn sites() {
         });
     }
 }
+
+/// The arrays of a collector, each between guard pages of its own, with this in every number.
+fn arrays(content: u8, end: bool) -> raw::ArraysMut<'static> {
+    let wide = u64::from(content);
+    raw::ArraysMut {
+        times: guarded(&[wide; raw::CAPACITY], end).try_into().unwrap(),
+        lengths: guarded(&[content; raw::CAPACITY], end).try_into().unwrap(),
+        bytes: guarded(&[content; raw::ENTRY_BYTES], end).try_into().unwrap(),
+        copies: guarded(&[u16::from(content); raw::CAPACITY], end).try_into().unwrap(),
+        numbers: guarded(&[wide; raw::COLLECTOR_NUMBERS], end).try_into().unwrap(),
+    }
+}
+
+/// Every call but those that take receptions.
+fn asked(state: &mut raw::ArraysMut<'_>, end: bool) {
+    raw::collector_totals(&state.shared(), guarded(&[0; raw::TOTALS], end).try_into().unwrap());
+    for index in [0, 63, 64, usize::MAX] {
+        raw::collector_copies(&state.shared(), index, &mut guarded(&[0], end)[0]);
+    }
+    for n in [0, 1, raw::IMAGE - 1, raw::IMAGE, raw::IMAGE + 1] {
+        let image = guarded(&vec![0u8; n], end);
+        raw::collector_checkpoint(&state.shared(), image);
+        raw::collector_restore(state, image);
+    }
+}
+
+#[test]
+fn collectors() {
+    both(|end| {
+        let mut state = arrays(0, end);
+        raw::collector_fresh(&mut state);
+        for n in (0..30).chain([1_000]) {
+            for (i, content) in contents(n).iter().enumerate() {
+                raw::collector_take(&mut state, guarded(content, end), (8 * n + i) as u64);
+            }
+        }
+        asked(&mut state, end);
+        // Telegrams until all 64 are open, and some more.
+        for x in 0..80u8 {
+            let mut telegram = [0xF6, 0x50, 0, 0, 0, x, 0x30, 0];
+            telegram[7] = telegram[..7].iter().fold(0u8, |s, b| s.wrapping_add(*b));
+            raw::collector_take(&mut state, guarded(&telegram, end), 9_000);
+        }
+        assert_eq!(state.numbers[0], 64);
+        asked(&mut state, end);
+        // Arrays that no collector has.
+        for content in [1, 21, 64, 65, 0xFF] {
+            let mut other = arrays(content, end);
+            assert_eq!(raw::collector_take(&mut other, guarded(&contents(8)[0], end), 0), 11);
+            asked(&mut other, end);
+        }
+    });
+}
+
+#[test]
+fn bursts() {
+    both(|end| {
+        let mut state = arrays(0, end);
+        for (n, places) in [(0, 0), (1, 0), (1, 1), (7, 9), (256, 256), (257, 257)] {
+            for setting in 0..4 {
+                let moments = guarded(&vec![1_000u64; n], end);
+                let record = [&[8u8][..], &contents(8)[0], &[0xEE; 13]].concat();
+                let (records, replies) = (guarded(&record.repeat(n), end), guarded(&vec![0u8; raw::REPLY * places], end));
+                raw::collector_burst(&mut state, setting, moments, records, replies);
+                // Lists that do not fit one another.
+                raw::collector_burst(&mut state, setting, moments, guarded(&vec![0u8; 22 * n + 1], end), replies);
+                raw::collector_burst(&mut state, setting, guarded(&vec![0; n + 1], end), records, replies);
+                raw::collector_burst(&mut state, setting, moments, records, guarded(&vec![0u8; 24 * places + 23], end));
+            }
+        }
+    });
+}

@@ -3,6 +3,8 @@ use mooringeye::raw;
 use std::fmt::Write;
 use std::path::Path;
 
+mod arrays;
+
 fn stored(name: &str) -> String {
     let path = Path::new(env!("CARGO_MANIFEST_DIR")).join("../../crates").join(name);
     std::fs::read_to_string(&path).unwrap_or_else(|e| panic!("{}: {e}", path.display()))
@@ -30,17 +32,23 @@ fn size(bytes: &[u8]) -> usize {
     number(bytes) as usize
 }
 
-/// Every record answered as the second program has it. The first difference is shown.
-fn compare(name: &str, mut answer: impl FnMut(&[u8]) -> String) {
+/// Every call answered as the second program has it. The first difference is shown. A call may take the records that follow it.
+fn compare_calls(name: &str, mut answer: impl FnMut(&[u8], &mut dyn FnMut() -> Vec<u8>) -> String) {
     let (input, wanted) = (stored(&format!("{name}/stdin")), stored(&format!("{name}/stdout")));
     let mut wanted = wanted.lines();
-    for (i, line) in input.lines().enumerate() {
-        let said = answer(&record(line));
+    let mut lines = input.lines().enumerate();
+    while let Some((i, line)) = lines.next() {
+        let said = answer(&record(line), &mut || record(lines.next().expect("a record that belongs to a call").1));
         for row in said.lines() {
             assert_eq!(Some(row), wanted.next(), "record {} of {name}: {line}", i + 1);
         }
     }
     assert_eq!(wanted.next(), None, "{name}");
+}
+
+/// The same where each record is a call.
+fn compare(name: &str, mut answer: impl FnMut(&[u8]) -> String) {
+    compare_calls(name, |r, _| answer(r));
 }
 
 // ---- subtelegrams
@@ -238,7 +246,7 @@ impl Room {
         let before = self.bytes.clone();
         let answer = raw::archive_append_at(&mut self.bytes, n, bytes, time, loose, &mut position);
         let k = n / 15;
-        if before.len() % 512 == 0 && k < before.len() / 512 {
+        if before.len().is_multiple_of(512) && k < before.len() / 512 {
             let mut block = before[512 * k..512 * k + 512].to_vec();
             let same = raw::archive_put_row(&mut block, n, bytes, time, loose, &mut other);
             assert_eq!((same, other, &block[..]), (answer, position, &self.bytes[512 * k..512 * k + 512]));
@@ -294,4 +302,130 @@ impl Room {
 fn archive_run() {
     let mut room = Room::new();
     compare("archive_run", |r| room.answer(r));
+}
+
+// ---- histories of a collector
+
+/// A history under way.
+struct History {
+    state: raw::ArraysMut<'static>,
+    setting: u8,
+    shown: usize,
+}
+
+const LONGEST: usize = 3_000;
+const LISTED: usize = 259;
+
+fn word(kind: u8, number: u8) -> String {
+    match (kind, number) {
+        (0, 0) => "KEPT".into(),
+        (1, 0) => "COPY".into(),
+        (2, 0) => "LOOSE".into(),
+        (0, n) => n.to_string(),
+        _ => format!("kind {kind} beside {number}"),
+    }
+}
+
+impl History {
+    /// Before its first call, in memory that held something else.
+    fn new() -> History {
+        let mut history = History { state: arrays::arrays(0xEE), setting: 0, shown: 0 };
+        raw::collector_fresh(&mut history.state);
+        history
+    }
+
+    fn answer(&mut self, r: &[u8], more: &mut dyn FnMut() -> Vec<u8>) -> String {
+        let n = number(&r[1..9]);
+        let least = |most: usize| usize::try_from(n).unwrap_or(most).min(most);
+        match r[0] {
+            1 => {
+                raw::collector_fresh(&mut self.state);
+                (self.setting, self.shown) = (r[8], 0);
+                "L 0".into()
+            }
+            2 => self.reception(n, &r[10..10 + usize::from(r[9]).min(28)]),
+            3 => self.checkpoint(least(LONGEST)),
+            4 => {
+                let mut image = [0xEE; raw::IMAGE];
+                let saved = raw::collector_checkpoint(&self.state.shared(), &mut image);
+                raw::collector_fresh(&mut self.state);
+                self.restore(&format!("C {saved}"), &image)
+            }
+            6 => self.burst(r[12], least(LISTED), size(&r[10..12]).min(LISTED), more),
+            7 => {
+                let mut heard = 7;
+                let answer = raw::collector_copies(&self.state.shared(), n as usize, &mut heard);
+                format!("A {answer} {heard}{}", self.totals())
+            }
+            8 => {
+                let n = least(LONGEST);
+                let image: Vec<u8> = (0..n.div_ceil(54)).flat_map(|_| more()[10..].to_vec()).take(n).collect();
+                self.restore("W", &image)
+            }
+            _ => {
+                let mut image = [0xEE; raw::IMAGE];
+                raw::collector_checkpoint(&self.state.shared(), &mut image);
+                let k = least(raw::IMAGE);
+                if let Some(byte) = image.get_mut(k) {
+                    *byte ^= 1;
+                }
+                self.restore("X", &image[..if k < raw::IMAGE { raw::IMAGE } else { raw::IMAGE - 1 }])
+            }
+        }
+    }
+
+    fn totals(&self) -> String {
+        let mut totals = [7; raw::TOTALS];
+        assert_eq!(raw::collector_totals(&self.state.shared(), &mut totals), 0);
+        totals.iter().fold(String::new(), |s, n| format!("{s} {n}"))
+    }
+
+    fn reception(&mut self, time: u64, bytes: &[u8]) -> String {
+        let [kind, number] = raw::collector_take(&mut self.state, bytes, time).to_be_bytes();
+        let mut sent = [0; raw::FRAME];
+        if (kind, number) == (0, 0) {
+            raw::repeat(self.setting, bytes, &mut sent);
+        }
+        let sent = hex(&sent[1..1 + usize::from(sent[0])]);
+        format!("R {} {sent}{}", word(kind, number), self.totals())
+    }
+
+    fn checkpoint(&mut self, n: usize) -> String {
+        let mut out = vec![0xEE; n];
+        let answer = raw::collector_checkpoint(&self.state.shared(), &mut out);
+        let digest = out.iter().fold(0u32, |d, b| d.wrapping_mul(31).wrapping_add(u32::from(*b)));
+        let mut said = format!("P {answer} {digest:08X}{}", self.totals());
+        if answer == 0 && self.shown < 3 {
+            self.shown += 1;
+            write!(said, "\nI {}", hex(&out[..raw::IMAGE])).unwrap();
+        }
+        said
+    }
+
+    fn restore(&mut self, words: &str, image: &[u8]) -> String {
+        let answer = raw::collector_restore(&mut self.state, image);
+        format!("{words} {answer}{}", self.totals())
+    }
+
+    fn burst(&mut self, setting: u8, n: usize, places: usize, more: &mut dyn FnMut() -> Vec<u8>) -> String {
+        let (mut moments, mut records) = (vec![], vec![]);
+        for _ in 0..n {
+            let r = more();
+            moments.push(number(&r[1..9]));
+            records.extend(&r[9..31]);
+        }
+        let mut untouched = vec![2, 0, 21];
+        untouched.resize(raw::REPLY, 0xEE);
+        let mut replies = untouched.repeat(places);
+        let answer = raw::collector_burst(&mut self.state, setting, &moments, &records, &mut replies);
+        replies.chunks_exact(raw::REPLY).fold(format!("B {answer}{}", self.totals()), |said, b| {
+            format!("{said}\nb {} {}", word(b[0], b[1]), hex(&b[3..3 + usize::from(b[2]).min(21)]))
+        })
+    }
+}
+
+#[test]
+fn history_run() {
+    let mut history = History::new();
+    compare_calls("history_run", |r, more| history.answer(r, more));
 }

@@ -1,6 +1,8 @@
 //! Slices of other sizes than a call asks for: 255, and nothing is touched. Empty slices and the longest ones.
 use mooringeye::raw;
 
+mod arrays;
+
 const WRONG: u8 = 255;
 const VALID: [u8; 8] = [0xD5, 0x09, 1, 2, 3, 4, 0, 0xE8];
 
@@ -56,6 +58,108 @@ fn rows() {
     }
 }
 
+/// Arrays of a collector started fresh.
+fn fresh() -> raw::ArraysMut<'static> {
+    let mut state = arrays::arrays(0xEE);
+    raw::collector_fresh(&mut state);
+    state
+}
+
+fn image_of(state: &raw::ArraysMut<'_>) -> [u8; raw::IMAGE] {
+    let mut image = [0xEE; raw::IMAGE];
+    assert_eq!(raw::collector_checkpoint(&state.shared(), &mut image), 0);
+    image
+}
+
+#[test]
+fn images() {
+    let mut state = fresh();
+    assert_eq!(raw::collector_take(&mut state, &VALID, 1_000), 0);
+    let image = image_of(&state);
+    for n in [0, 1, 511, raw::IMAGE - 1] {
+        let mut out = vec![0xEE; n];
+        assert_eq!(raw::collector_checkpoint(&state.shared(), &mut out), 6);
+        assert!(untouched(&out));
+        assert_eq!(raw::collector_restore(&mut state, &image[..n]), 11);
+        assert_eq!(image_of(&state), image);
+    }
+    let mut long = vec![0xEE; 1 << 20];
+    assert_eq!(raw::collector_checkpoint(&state.shared(), &mut long), 0);
+    assert!(long[..raw::IMAGE] == image && untouched(&long[raw::IMAGE..]));
+    assert_eq!(raw::collector_restore(&mut state, &long), 11);
+    assert_eq!(raw::collector_restore(&mut state, &long[..raw::IMAGE + 1]), 11);
+    assert_eq!(image_of(&state), image);
+}
+
+#[test]
+fn bursts() {
+    let mut state = fresh();
+    assert_eq!(raw::collector_take(&mut state, &VALID, 1_000), 0);
+    let before = image_of(&state);
+    let moments = [1_000; 300];
+    let (records, mut replies) = (vec![0xEE; 22 * 300], vec![0xEE; 24 * 300]);
+    let mut refused = |number: u8, setting: u8, n: usize, size: usize, room: usize| {
+        let answer = raw::collector_burst(&mut state, setting, &moments[..n], &records[..size], &mut replies[..room]);
+        assert_eq!(answer, number, "{n} moments, {size} bytes of records, room for {room} bytes of replies");
+        assert_eq!(image_of(&state), before);
+        assert!(untouched(&replies));
+    };
+    for n in [0, 1, 2, 256, 257] {
+        for size in (0..22 * n + 45).step_by(if n < 3 { 1 } else { 11 }).filter(|size| *size != 22 * n) {
+            refused(WRONG, 0, n, size, 24 * n);
+        }
+        for room in (24 * n + 1..24 * n + 24).chain(24 * n + 25..24 * n + 48) {
+            refused(WRONG, 9, n, 22 * n, room);
+        }
+    }
+    refused(6, 9, 2, 44, 0);
+    refused(6, 9, 257, 22 * 257, 24 * 256);
+    refused(10, 0, 257, 22 * 257, 24 * 257);
+    refused(10, 0, 300, 22 * 300, 24 * 300);
+    refused(10, 3, 0, 0, 0);
+    refused(10, 255, 1, 22, 24);
+    refused(0, 2, 0, 0, 0);
+    refused(0, 2, 0, 0, 24 * 300);
+}
+
+#[test]
+fn the_longest_burst() {
+    let mut state = fresh();
+    let record = [&[8][..], &VALID, &[0xEE; 13]].concat();
+    let mut replies = vec![0xEE; 24 * 300];
+    assert_eq!(raw::collector_burst(&mut state, 1, &[1_000; 256], &record.repeat(256), &mut replies), 0);
+    assert!(untouched(&replies[24 * 256..]));
+    assert_eq!(replies[..4], [0, 0, 8, 0xD5]);
+    for reply in replies[24..24 * 256].chunks(24) {
+        assert!(reply[0] == 1 && reply[1..].iter().all(|b| *b == 0));
+    }
+    let mut heard = 7;
+    assert_eq!((raw::collector_copies(&state.shared(), 0, &mut heard), heard), (0, 255));
+    assert_eq!((raw::collector_copies(&state.shared(), 1, &mut heard), heard), (10, 0));
+    assert_eq!((raw::collector_copies(&state.shared(), usize::MAX, &mut heard), heard), (10, 0));
+}
+
+#[test]
+fn arrays_that_no_collector_has() {
+    for content in [1, 8, 64, 0xEE, 0xFF] {
+        let mut state = arrays::arrays(content);
+        let (mut totals, mut heard, mut image) = ([77; raw::TOTALS], 77, [0xEE; raw::IMAGE]);
+        assert_eq!(raw::collector_take(&mut state, &VALID, 1_000), 11);
+        assert_eq!(raw::collector_take(&mut state, &[], 0), 11);
+        assert_eq!((raw::collector_totals(&state.shared(), &mut totals), totals), (11, [77; raw::TOTALS]));
+        assert_eq!((raw::collector_copies(&state.shared(), 0, &mut heard), heard), (11, 0));
+        assert_eq!(raw::collector_checkpoint(&state.shared(), &mut image), 11);
+        assert_eq!(raw::collector_checkpoint(&state.shared(), &mut image[..9]), 11);
+        assert_eq!(raw::collector_restore(&mut state, &image_of(&fresh())), 11);
+        assert_eq!(raw::collector_burst(&mut state, 9, &[1_000], &[0xEE; 22], &mut image[..24]), 11);
+        assert_eq!(raw::collector_burst(&mut state, 9, &[1_000], &[0xEE; 23], &mut image[..24]), WRONG);
+        assert!(untouched(&image));
+        assert!(state.lengths.iter().chain(state.bytes.iter()).all(|b| *b == content));
+        assert!(state.times.iter().chain(state.numbers.iter()).all(|n| *n == u64::from(content)));
+        assert!(state.copies.iter().all(|n| *n == u16::from(content)));
+    }
+}
+
 #[test]
 fn outputs_of_every_length() {
     for n in 0..30 {
@@ -76,6 +180,7 @@ fn nothing_at_all() {
     assert_eq!(raw::encapsulate(&[], 0, &mut [], &mut length), 1);
     assert_eq!(raw::decapsulate(&[], &mut [], &mut length), 1);
     assert_eq!(raw::site(&[]), 0);
+    assert_eq!(raw::collector_take(&mut fresh(), &[], 0), 1);
     assert_eq!((raw::archive_verify(&[], &mut rows, &mut position), rows, position), (0, 0, 0));
     assert_eq!(raw::archive_append(&mut [], &VALID, 0, false, &mut position), 6);
     assert_eq!(raw::archive_put_row(&mut [], 0, &VALID, 0, false, &mut position), 16);
@@ -90,6 +195,7 @@ fn the_longest() {
     let mut fields = [0; raw::FIELDS];
     assert_eq!(raw::read(&long, &mut fields), 1);
     assert_eq!(raw::site(&long) >> 16, 10);
+    assert_eq!(raw::collector_take(&mut fresh(), &long, u64::MAX), 1);
     let mut archive = vec![0; 1 << 22];
     let (mut position, mut rows) = (7, 7);
     let most = archive.len() / 512 * 15;

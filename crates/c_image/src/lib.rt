@@ -1,0 +1,76 @@
+// The checkpoint of a collector in five lent arrays and its restore, as other languages call them.
+use c_collector::BYTES;
+use c_collector::CAPACITY;
+use c_collector::NUMBERS;
+use collector::Collector;
+use collector::merging::Summary;
+use image::Loaded;
+use image::Saved;
+use refusal::Refusal;
+
+// The image of the state, into the first 2,560 bytes: 11, 6; what stands past them stays.
+pub fn checkpoint<'a>(
+    times: &'a [u64; CAPACITY],
+    lengths: &'a [u8; CAPACITY],
+    bytes: &'a [u8; BYTES],
+    copies: &'a [u16; CAPACITY],
+    numbers: &'a [u64; NUMBERS],
+    out: &'a mut [u8],
+) -> u8 {
+    let summary = c_collector::summary_in(numbers);
+    saved_number(image::checkpoint_at(times, lengths, bytes, copies, summary, out))
+}
+
+// The state that an image holds: 11, and then all is as it was.
+pub fn restore(
+    times: &mut [u64; CAPACITY],
+    lengths: &mut [u8; CAPACITY],
+    bytes: &mut [u8; BYTES],
+    copies: &mut [u16; CAPACITY],
+    numbers: &mut [u64; NUMBERS],
+    image: &[u8],
+) -> u8 {
+    if !c_collector::is_acceptable(times, lengths, bytes, numbers) {
+        return refusal::number(Refusal::NotAccepted);
+    }
+    let restored = image::restore(Collector::fresh(), image);
+    let answer = restored.answer;
+    if let Loaded::Refused(why) = answer {
+        return refusal::number(why);
+    }
+    put_state(restored.next, times, lengths, bytes, copies, numbers);
+    0
+}
+
+// Puts a state into the arrays.
+fn put_state(
+    c: Collector,
+    times: &mut [u64; CAPACITY],
+    lengths: &mut [u8; CAPACITY],
+    bytes: &mut [u8; BYTES],
+    copies: &mut [u16; CAPACITY],
+    numbers: &mut [u64; NUMBERS],
+) {
+    let totals = c.totals;
+    let summary = Summary {
+        count: c.count,
+        latest: c.latest,
+        totals: totals,
+    };
+    let opened = c.times;
+    let lens = c.lens;
+    let entries = c.bytes;
+    let heard = c.copies;
+    *times = opened;
+    *lengths = lens;
+    *bytes = entries;
+    *copies = heard;
+    c_collector::store(summary, numbers);
+}
+
+fn saved_number(saved: Saved) -> u8 {
+    match saved {
+        Saved::Done => 0,
+        Saved::Refused(why) => refusal::number(why),
+    }
+}

@@ -1,0 +1,365 @@
+//! The collector: receptions go in, and each is answered KEPT, COPY or LOOSE.
+use crate::raw;
+use crate::refusal::{done, Refusal};
+use crate::telegram::{frame, Telegram};
+use std::fmt;
+
+/// What a reception is.
+///
+/// ```
+/// assert_eq!(mooringeye::Answer::Kept.to_string(), "KEPT");
+/// ```
+#[derive(Clone, Copy, Debug, PartialEq, Eq, Hash)]
+pub enum Answer {
+    /// A telegram of its own: it was not open, or it is an original more than 40 ms after its latest opening.
+    Kept,
+    /// A telegram that is open, heard again.
+    Copy,
+    /// Heard while 64 others are open.
+    Loose,
+}
+
+/// The word that `collect` prints.
+impl fmt::Display for Answer {
+    fn fmt(&self, f: &mut fmt::Formatter<'_>) -> fmt::Result {
+        f.write_str(match self {
+            Answer::Kept => "KEPT",
+            Answer::Copy => "COPY",
+            Answer::Loose => "LOOSE",
+        })
+    }
+}
+
+/// How many receptions there were, and what they were.
+///
+/// ```
+/// use mooringeye::{Collector, Totals};
+///
+/// let mut collector = Collector::new();
+/// assert_eq!(collector.totals(), Totals::default());
+/// collector.take(&[1, 2, 3], 1_000).unwrap_err();
+/// assert_eq!(collector.totals(), Totals { received: 1, damaged: 1, ..Totals::default() });
+/// ```
+#[derive(Clone, Copy, Debug, Default, PartialEq, Eq, Hash)]
+pub struct Totals {
+    /// All receptions that were counted: the sum of the others.
+    pub received: u64,
+    /// Those answered [`Answer::Kept`].
+    pub kept: u64,
+    /// Those answered [`Answer::Copy`].
+    pub copies: u64,
+    /// Those answered [`Answer::Loose`].
+    pub loose: u64,
+    /// Those that the check refused.
+    pub damaged: u64,
+    /// Those refused with [`Refusal::Late`].
+    pub late: u64,
+}
+
+/// A reception of a burst.
+///
+/// ```
+/// let reception = mooringeye::Reception { bytes: &[0xD5, 0x09, 1, 2, 3, 4, 0, 0xE8], time: 1_000 };
+/// assert_eq!(mooringeye::check(reception.bytes), Ok(()));
+/// ```
+#[derive(Clone, Copy, Debug, PartialEq, Eq, Hash)]
+pub struct Reception<'a> {
+    /// What was received, of any length.
+    pub bytes: &'a [u8],
+    /// When its last byte was there, in milliseconds.
+    pub time: u64,
+}
+
+/// The reply to a reception of a burst.
+///
+/// ```
+/// use mooringeye::{Answer, Collector, Reception};
+///
+/// let reception = Reception { bytes: &[0xD5, 0x09, 1, 2, 3, 4, 0, 0xE8], time: 1_000 };
+/// let replies = Collector::new().burst(1, &[reception]).unwrap();
+/// assert_eq!(replies[0].answer, Ok(Answer::Kept));
+/// assert_eq!(replies[0].sent.unwrap().to_string(), "D5090102030401E9");
+/// ```
+#[derive(Clone, Copy, Debug, PartialEq, Eq, Hash)]
+pub struct Reply {
+    /// What [`Collector::take`] answers.
+    pub answer: Result<Answer, Refusal>,
+    /// What a repeater at the burst's setting sends for it.
+    pub sent: Option<Telegram>,
+}
+
+impl Reply {
+    fn of(bytes: &[u8]) -> Reply {
+        let mut sent = [0; raw::FRAME];
+        sent.copy_from_slice(&bytes[2..]);
+        Reply { answer: answer(bytes[0], bytes[1]), sent: Telegram::of_frame(sent) }
+    }
+}
+
+/// A collector. It holds what is open, the totals and nothing else, and is changed where it lies.
+///
+/// ```
+/// use mooringeye::{Answer, Collector, Refusal};
+///
+/// # fn main() -> Result<(), Refusal> {
+/// let press = [0xD5, 0x09, 1, 2, 3, 4, 0, 0xE8];
+/// let mut collector = Collector::new();
+/// assert_eq!(collector.take(&press, 1_000)?, Answer::Kept);
+/// assert_eq!(collector.take(&press, 1_012)?, Answer::Copy);
+/// assert_eq!(collector.take(&press, 999), Err(Refusal::Late));
+/// assert_eq!(collector.copies(0), Some(1));
+///
+/// let image = collector.checkpoint();
+/// let mut restored = Collector::restore(&image)?;
+/// assert_eq!(restored.take(&press, 1_040)?, Answer::Copy);
+/// assert_eq!(restored.totals().copies, 2);
+/// # Ok(())
+/// # }
+/// ```
+#[derive(Clone)]
+#[repr(C)] // as the header has it
+pub struct Collector {
+    times: [u64; raw::CAPACITY],
+    numbers: [u64; raw::COLLECTOR_NUMBERS],
+    copies: [u16; raw::CAPACITY],
+    lengths: [u8; raw::CAPACITY],
+    bytes: [u8; raw::ENTRY_BYTES],
+}
+
+impl Collector {
+    /// How many telegrams can be open.
+    pub const CAPACITY: usize = raw::CAPACITY;
+    /// The bytes of a checkpoint.
+    pub const IMAGE: usize = raw::IMAGE;
+    /// The most receptions of a burst.
+    pub const MAX_BURST: usize = 256;
+
+    /// A collector with nothing open and nothing counted.
+    pub fn new() -> Collector {
+        let mut collector = Collector {
+            times: [0; raw::CAPACITY],
+            numbers: [0; raw::COLLECTOR_NUMBERS],
+            copies: [0; raw::CAPACITY],
+            lengths: [0; raw::CAPACITY],
+            bytes: [0; raw::ENTRY_BYTES],
+        };
+        raw::collector_fresh(&mut collector.arrays_mut());
+        collector
+    }
+
+    /// Takes a reception, whose last byte was there at a time in milliseconds. What is sent on for one that is kept is [`Telegram::repeat`].
+    ///
+    /// Refused: [`Refusal::Full`], and nothing is counted; the check's own, which counts as damaged; [`Refusal::Late`].
+    pub fn take(&mut self, bytes: &[u8], time: u64) -> Result<Answer, Refusal> {
+        let [kind, number] = raw::collector_take(&mut self.arrays_mut(), bytes, time).to_be_bytes();
+        answer(kind, number)
+    }
+
+    /// Takes up to 256 receptions one by one, and answers what each is and what a repeater set to 0 (off), 1 or 2 sends for it. The state is tested
+    /// once, and else it is [`Collector::take`] for each.
+    ///
+    /// Refused, and nothing taken: [`Refusal::Argument`] for more than 256 or another setting.
+    ///
+    /// ```
+    /// use mooringeye::{Answer, Collector, Reception, Refusal};
+    ///
+    /// let press = [0xD5, 0x09, 1, 2, 3, 4, 0, 0xE8];
+    /// let receptions = [1_000, 1_012, 1_011].map(|time| Reception { bytes: &press, time });
+    /// let replies = Collector::new().burst(0, &receptions).unwrap();
+    /// let answers: Vec<_> = replies.iter().map(|r| r.answer).collect();
+    /// assert_eq!(answers, [Ok(Answer::Kept), Ok(Answer::Copy), Err(Refusal::Late)]);
+    /// ```
+    pub fn burst(&mut self, setting: u8, receptions: &[Reception<'_>]) -> Result<Vec<Reply>, Refusal> {
+        let moments: Vec<u64> = receptions.iter().map(|r| r.time).collect();
+        let records: Vec<u8> = receptions.iter().flat_map(|r| frame(r.bytes)).collect();
+        let mut replies = vec![0; raw::REPLY * receptions.len()];
+        done(raw::collector_burst(&mut self.arrays_mut(), setting, &moments, &records, &mut replies))?;
+        Ok(replies.chunks_exact(raw::REPLY).map(Reply::of).collect())
+    }
+
+    /// How many telegrams are open.
+    pub fn open(&self) -> usize {
+        self.numbers[0] as usize
+    }
+
+    /// The latest time of a reception that was neither damaged nor late.
+    pub fn latest(&self) -> u64 {
+        self.numbers[1]
+    }
+
+    /// The totals.
+    pub fn totals(&self) -> Totals {
+        let [_, _, received, kept, copies, loose, damaged, late] = self.numbers;
+        Totals { received, kept, copies, loose, damaged, late }
+    }
+
+    /// How often the open telegram at this place, from 0 in opening order, was heard again, up to 65,535; `None` behind the last.
+    pub fn copies(&self, entry: usize) -> Option<u16> {
+        let mut heard = 0;
+        done(raw::collector_copies(&self.arrays(), entry, &mut heard)).ok()?;
+        Some(u16::try_from(heard).expect("the library counts up to 65,535"))
+    }
+
+    /// The image of this state, to be stored and restored byte for byte.
+    pub fn checkpoint(&self) -> [u8; raw::IMAGE] {
+        let mut image = [0; raw::IMAGE];
+        done(raw::collector_checkpoint(&self.arrays(), &mut image)).expect("a collector's state is acceptable");
+        image
+    }
+
+    /// The collector of an image. Refused: [`Refusal::NotAccepted`] for bytes that no checkpoint writes.
+    ///
+    /// ```
+    /// use mooringeye::{Collector, Refusal};
+    ///
+    /// let mut image = Collector::new().checkpoint();
+    /// assert_eq!(Collector::restore(&image).unwrap(), Collector::new());
+    /// image[100] ^= 1;
+    /// assert_eq!(Collector::restore(&image), Err(Refusal::NotAccepted));
+    /// ```
+    pub fn restore(image: &[u8]) -> Result<Collector, Refusal> {
+        let mut collector = Collector::new();
+        done(raw::collector_restore(&mut collector.arrays_mut(), image))?;
+        Ok(collector)
+    }
+
+    fn arrays(&self) -> raw::Arrays<'_> {
+        let Collector { times, numbers, copies, lengths, bytes } = self;
+        raw::Arrays { times, lengths, bytes, copies, numbers }
+    }
+
+    fn arrays_mut(&mut self) -> raw::ArraysMut<'_> {
+        let Collector { times, numbers, copies, lengths, bytes } = self;
+        raw::ArraysMut { times, lengths, bytes, copies, numbers }
+    }
+}
+
+fn answer(kind: u8, number: u8) -> Result<Answer, Refusal> {
+    done(number)?;
+    Ok(match kind {
+        0 => Answer::Kept,
+        1 => Answer::Copy,
+        2 => Answer::Loose,
+        _ => unreachable!("the library answers the kinds of its header"),
+    })
+}
+
+impl Default for Collector {
+    fn default() -> Collector {
+        Collector::new()
+    }
+}
+
+/// Equal where the checkpoints are: what lies behind the open telegrams is no part of a state.
+impl PartialEq for Collector {
+    fn eq(&self, other: &Collector) -> bool {
+        self.checkpoint() == other.checkpoint()
+    }
+}
+
+impl Eq for Collector {}
+
+impl fmt::Debug for Collector {
+    fn fmt(&self, f: &mut fmt::Formatter<'_>) -> fmt::Result {
+        f.debug_struct("Collector")
+            .field("open", &self.open())
+            .field("latest", &self.latest())
+            .field("totals", &self.totals())
+            .finish_non_exhaustive()
+    }
+}
+
+#[cfg(test)]
+mod tests {
+    use super::*;
+    use crate::Fields;
+
+    /// A telegram of this transmitter.
+    fn telegram(x: u32) -> Telegram {
+        Telegram::build(&Fields { rorg: 0xF6, data: vec![0x50], destid: None, txid: x.to_be_bytes(), status: 0x30 }).unwrap()
+    }
+
+    /// So many telegrams, one a millisecond.
+    fn heard(n: u32) -> Collector {
+        let mut collector = Collector::new();
+        for x in 0..n {
+            collector.take(telegram(x).as_bytes(), u64::from(x)).unwrap();
+        }
+        collector
+    }
+
+    #[test]
+    fn the_memory_is_that_of_the_header() {
+        assert_eq!(std::mem::size_of::<Collector>(), 2_112);
+        assert_eq!(std::mem::align_of::<Collector>(), 8);
+    }
+
+    #[test]
+    fn fills_and_ages() {
+        let mut collector = heard(65);
+        assert_eq!((collector.open(), collector.totals().kept, collector.totals().loose), (64, 64, 1));
+        assert_eq!(collector.take(telegram(24).as_bytes(), 64), Ok(Answer::Copy)); // 40 ms after its opening
+        assert_eq!(collector.take(telegram(23).as_bytes(), 64), Ok(Answer::Loose)); // an original after 41 ms, and no room
+        assert_eq!(collector.take(telegram(99).as_bytes(), 163), Ok(Answer::Kept));
+        assert_eq!((collector.open(), collector.latest()), (2, 163));
+    }
+
+    #[test]
+    fn counts_copies() {
+        let mut collector = heard(3);
+        for _ in 0..5 {
+            assert_eq!(collector.take(telegram(1).as_bytes(), 20), Ok(Answer::Copy));
+        }
+        assert_eq!([0, 1, 2, 3, usize::MAX].map(|i| collector.copies(i)), [Some(0), Some(5), Some(0), None, None]);
+    }
+
+    #[test]
+    fn refusals_are_counted() {
+        let mut collector = heard(3);
+        assert_eq!(collector.take(&[], 20), Err(Refusal::Length));
+        assert_eq!(collector.take(&[0; 8], 0), Err(Refusal::Late));
+        assert_eq!(collector.take(&[1; 8], 20), Err(Refusal::Sum));
+        assert_eq!(collector.take(&vec![0; 1 << 20], 20), Err(Refusal::Length));
+        let totals = Totals { received: 7, kept: 3, damaged: 3, late: 1, ..Totals::default() };
+        assert_eq!(collector.totals(), totals);
+    }
+
+    #[test]
+    fn bursts_are_receptions_one_by_one() {
+        let telegrams: Vec<Telegram> = (0..200).map(|x| telegram(x % 70)).collect();
+        let receptions: Vec<Reception> = telegrams.iter().zip(0..).map(|(t, i)| Reception { bytes: t.as_bytes(), time: i / 2 }).collect();
+        let (mut one_by_one, mut at_once) = (Collector::new(), Collector::new());
+        let replies = at_once.burst(2, &receptions).unwrap();
+        for (reception, reply) in receptions.iter().zip(&replies) {
+            let answer = one_by_one.take(reception.bytes, reception.time);
+            let sent = if answer == Ok(Answer::Kept) { Telegram::new(reception.bytes).unwrap().repeat(2).unwrap() } else { None };
+            assert_eq!(*reply, Reply { answer, sent });
+        }
+        assert_eq!(one_by_one, at_once);
+    }
+
+    #[test]
+    fn refused_bursts_change_nothing() {
+        let mut collector = heard(3);
+        let before = collector.clone();
+        let reception = Reception { bytes: &[9; 300], time: 50 };
+        assert_eq!(collector.burst(3, &[]), Err(Refusal::Argument));
+        assert_eq!(collector.burst(0, &[reception; 257]), Err(Refusal::Argument));
+        assert_eq!(collector, before);
+        assert_eq!(collector.burst(0, &[]), Ok(vec![]));
+        let replies = collector.burst(0, &[reception; 256]).unwrap();
+        assert!(replies.iter().all(|r| *r == Reply { answer: Err(Refusal::Length), sent: None }));
+        assert_eq!(collector.totals().damaged, 256);
+    }
+
+    #[test]
+    fn comes_back_from_its_image() {
+        let collector = heard(70);
+        let image = collector.checkpoint();
+        assert_eq!(Collector::restore(&image).unwrap(), collector);
+        assert_eq!(Collector::restore(&image).unwrap().checkpoint(), image);
+        for wrong in [&[][..], &image[1..], &[0; 2_560], &[0; 2_561]] {
+            assert_eq!(Collector::restore(wrong), Err(Refusal::NotAccepted));
+        }
+    }
+}
