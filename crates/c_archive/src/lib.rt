@@ -15,6 +15,7 @@ ghost use Rattle.archive_model.specs.Append as calls;
 ghost use Rattle.archive.specs.Archive.{openResult, appendResult, rowOf, foundNumber, takenNumber};
 ghost use Rattle.repack_model.specs.Repack as repack;
 ghost use Rattle.repack.specs.Calls.{removeResult};
+ghost use Rattle.cutting.specs.Cut.{cutOf, cutBlockOf};
 ghost use Rattle.c_archive.specs.Calls.{rowLength, rowCall};
 
 // 1 for LOOSE, and the frame of a row.
@@ -130,6 +131,20 @@ pub fn remove(buffer: &mut [u8], identities: &[u32], freed: &mut usize, position
         ≡ repack.removeOf (now (buffer .entry)) (now (identities .entry)) ⌝ }
 {
     settle_removed(repack::remove(buffer, identities), freed, position)
+}
+
+// Leaves the first `rows` rows: 16, 12 with the position, 10.
+pub fn cut(buffer: &mut [u8], rows: usize, position: &mut usize) -> u8
+    ensures { λ r. ⌜ record { number = r; position = now (position .exit); buffer = now (buffer .exit) } ≡ cutOf rows (now (buffer .entry)) ⌝ }
+{
+    settle(cutting::cut(buffer, rows), position)
+}
+
+// The same of one block: 16, 12.
+pub fn cut_block(block: &mut [u8], rows: usize) -> u8
+    ensures { λ r. ⌜ record { number = r; block = now (block .exit) } ≡ cutBlockOf rows (now (block .entry)) ⌝ }
+{
+    taken_number(cutting::cut_block(block, rows))
 }
 
 // The number of a removal, the blocks freed, and the position beside 12.

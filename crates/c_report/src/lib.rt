@@ -87,7 +87,7 @@ pub fn share(
 }
 
 // The report that two arrays hold.
-fn report_in(numbers: &[u64; NUMBERS], lines: &[u64; LINES]) -> Report
+pub fn report_in(numbers: &[u64; NUMBERS], lines: &[u64; LINES]) -> Report
     ensures { λ r. ⌜ reportOf r ≡ reportAt (now (numbers .entry)) (now (lines .entry)) ⌝ }
 {
     Report {
@@ -99,7 +99,7 @@ fn report_in(numbers: &[u64; NUMBERS], lines: &[u64; LINES]) -> Report
     }
 }
 
-fn store(r: Report, numbers: &mut [u64; NUMBERS], lines: &mut [u64; LINES])
+pub fn store(r: Report, numbers: &mut [u64; NUMBERS], lines: &mut [u64; LINES])
     ensures { λ _. ⌜ reportAt (now (numbers .exit)) (now (lines .exit)) ≡ reportOf r ⌝ }
 {
     *numbers = [r.archives as u64, r.count as u64, r.kept, r.loose];
@@ -108,7 +108,7 @@ fn store(r: Report, numbers: &mut [u64; NUMBERS], lines: &mut [u64; LINES])
 }
 
 // The number of an outcome, and the position beside 12.
-fn settle(outcome: Outcome, position: &mut usize) -> u8
+pub fn settle(outcome: Outcome, position: &mut usize) -> u8
     ensures { λ r. ⌜ (r ≡ outcomeNumber outcome) × (now (position .exit) ≡ outcomePosition outcome) ⌝ }
 {
     match outcome {

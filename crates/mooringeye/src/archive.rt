@@ -1,4 +1,6 @@
 // Archive block files in lent buffers: verified, appended to, read by row, salvaged, and rid of the rows of sensors that left.
+use c_pieces::packer;
+use c_pieces::scan;
 ghost use mathlib.Core.Path.{_≡_};
 ghost use Rattle.archive_model.specs.Append as calls;
 ghost use Rattle.repack_model.specs.Repack as repack;
@@ -110,4 +112,63 @@ pub extern "C" fn mooringeye_archive_remove(
         ≡ repack.removeOf (now (buffer .entry)) (now (identities .entry)) ⌝ }
 {
     c_archive::remove(buffer, identities, freed, position)
+}
+
+// Leaves the first `rows` rows of an archive.
+#[no_mangle]
+pub extern "C" fn mooringeye_archive_cut(
+    buffer: &mut [u8],
+    rows: usize,
+    position: &mut usize,
+) -> u8 {
+    c_archive::cut(buffer, rows, position)
+}
+
+// Leaves the first `rows` rows of one block.
+#[no_mangle]
+pub extern "C" fn mooringeye_archive_cut_block(block: &mut [u8], rows: usize) -> u8 {
+    c_archive::cut_block(block, rows)
+}
+
+// ---- in pieces
+
+// The next piece of an archive that is verified.
+#[no_mangle]
+pub extern "C" fn mooringeye_scan_feed(numbers: &mut [u64; scan::NUMBERS], piece: &[u8]) -> u8 {
+    scan::feed(numbers, piece)
+}
+
+// How many rows all pieces have.
+#[no_mangle]
+pub extern "C" fn mooringeye_scan_end(
+    numbers: &[u64; scan::NUMBERS],
+    rows: &mut usize,
+    position: &mut usize,
+) -> u8 {
+    scan::end(numbers, rows, position)
+}
+
+// The next piece of an archive that is packed anew.
+#[no_mangle]
+pub extern "C" fn mooringeye_pack_feed(
+    numbers: &mut [u64; packer::NUMBERS],
+    waiting: &mut [u8; packer::WAITING],
+    piece: &[u8],
+    identities: &[u32],
+    out: &mut [u8],
+    positions: &mut [u64],
+    dropped: &mut usize,
+) -> u8 {
+    packer::feed(numbers, waiting, piece, identities, out, positions, dropped)
+}
+
+// The last block of an archive that is packed anew.
+#[no_mangle]
+pub extern "C" fn mooringeye_pack_end(
+    numbers: &[u64; packer::NUMBERS],
+    waiting: &[u8; packer::WAITING],
+    out: &mut [u8],
+    length: &mut usize,
+) -> u8 {
+    packer::end(numbers, waiting, out, length)
 }

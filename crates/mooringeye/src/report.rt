@@ -1,4 +1,5 @@
 // Reports over archives, in two lent arrays: its four numbers, and five numbers for each line.
+use c_pieces::adding;
 use c_report::LINE_NUMBERS;
 use c_report::LINES;
 use c_report::NUMBERS;
@@ -52,4 +53,41 @@ pub extern "C" fn mooringeye_report_share(
     ensures { λ r. ⌜ record { number = r; thousandths = now (thousandths .exit) } ≡ model.shareOf (reportAt (now (numbers .entry)) (now (lines .entry))) received ⌝ }
 {
     c_report::share(numbers, lines, received, thousandths)
+}
+
+// ---- in pieces
+
+// Before the first piece of an archive.
+#[no_mangle]
+pub extern "C" fn mooringeye_report_start(
+    numbers: &[u64; NUMBERS],
+    lines: &[u64; LINES],
+    adding: &mut [u64; adding::NUMBERS],
+    so_far: &mut [u64; LINES],
+) {
+    adding::start(numbers, lines, adding, so_far);
+}
+
+// The next piece of an archive that is added.
+#[no_mangle]
+pub extern "C" fn mooringeye_report_feed(
+    numbers: &[u64; NUMBERS],
+    lines: &[u64; LINES],
+    adding: &mut [u64; adding::NUMBERS],
+    so_far: &mut [u64; LINES],
+    piece: &[u8],
+) -> u8 {
+    adding::feed(numbers, lines, adding, so_far, piece)
+}
+
+// All pieces added as one archive.
+#[no_mangle]
+pub extern "C" fn mooringeye_report_end(
+    numbers: &mut [u64; NUMBERS],
+    lines: &mut [u64; LINES],
+    adding: &[u64; adding::NUMBERS],
+    so_far: &[u64; LINES],
+    position: &mut usize,
+) -> u8 {
+    adding::end(numbers, lines, adding, so_far, position)
 }

@@ -31,6 +31,15 @@ pub const LINE_NUMBERS: usize = 5;
 /// The numbers of all lines of a report.
 pub const REPORT_LINES: usize = 256 * LINE_NUMBERS;
 
+/// The numbers of a scan.
+pub const SCAN_NUMBERS: usize = 4;
+/// The numbers of a packer.
+pub const PACKER_NUMBERS: usize = 2;
+/// The bytes in which the rows of a packer wait.
+pub const PACKER_BYTES: usize = 960;
+/// The numbers of an archive that is being added to a report.
+pub const ADDING_NUMBERS: usize = 8;
+
 /// The declarations, which `tests/library` compares with the header and with the archive.
 mod c {
     // What is read, and what is changed.
@@ -110,6 +119,27 @@ mod c {
         pub fn mooringeye_report_add(numbers: Out64, lines: Out64, buffer: In, size: usize, position: Size) -> u8;
         pub fn mooringeye_report_line(numbers: In64, lines: In64, index: usize, line: Out64) -> u8;
         pub fn mooringeye_report_share(numbers: In64, lines: In64, received: u64, thousandths: Out64) -> u8;
+        pub fn mooringeye_archive_cut(buffer: Out, size: usize, rows: usize, position: Size) -> u8;
+        pub fn mooringeye_archive_cut_block(block: Out, size: usize, rows: usize) -> u8;
+        pub fn mooringeye_scan_feed(numbers: Out64, piece: In, size: usize) -> u8;
+        pub fn mooringeye_scan_end(numbers: In64, rows: Size, position: Size) -> u8;
+        pub fn mooringeye_report_start(numbers: In64, lines: In64, adding: Out64, so_far: Out64);
+        pub fn mooringeye_report_feed(numbers: In64, lines: In64, adding: Out64, so_far: Out64, piece: In, size: usize) -> u8;
+        pub fn mooringeye_report_end(numbers: Out64, lines: Out64, adding: In64, so_far: In64, position: Size) -> u8;
+        pub fn mooringeye_pack_feed(
+            numbers: Out64,
+            waiting: Out,
+            piece: In,
+            size: usize,
+            identities: In32,
+            identities_len: usize,
+            out: Out,
+            out_size: usize,
+            positions: Out64,
+            positions_len: usize,
+            dropped: Size,
+        ) -> u8;
+        pub fn mooringeye_pack_end(numbers: In64, waiting: In, out: Out, out_size: usize, len: Size) -> u8;
     }
 }
 
@@ -357,6 +387,56 @@ pub fn archive_remove(buffer: &mut [u8], identities: &[u32], freed: &mut usize, 
     unsafe { c::mooringeye_archive_remove(buffer.as_mut_ptr(), buffer.len(), at, count, freed, position) }
 }
 
+/// The first rows of an archive.
+pub fn archive_cut(buffer: &mut [u8], rows: usize, position: &mut usize) -> u8 {
+    // SAFETY: a slice and a number that are `&mut`.
+    unsafe { c::mooringeye_archive_cut(buffer.as_mut_ptr(), buffer.len(), rows, position) }
+}
+
+/// The first rows of one block.
+pub fn archive_cut_block(block: &mut [u8], rows: usize) -> u8 {
+    // SAFETY: a slice that is `&mut`.
+    unsafe { c::mooringeye_archive_cut_block(block.as_mut_ptr(), block.len(), rows) }
+}
+
+// ---- archives in pieces
+
+/// The next piece of an archive that is verified.
+pub fn scan_feed(numbers: &mut [u64; SCAN_NUMBERS], piece: &[u8]) -> u8 {
+    // SAFETY: an array of the size that the header names, which is `&mut`, and a slice that is read.
+    unsafe { c::mooringeye_scan_feed(numbers.as_mut_ptr(), piece.as_ptr(), piece.len()) }
+}
+
+/// What all pieces answer together.
+pub fn scan_end(numbers: &[u64; SCAN_NUMBERS], rows: &mut usize, position: &mut usize) -> u8 {
+    // SAFETY: an array of the size that the header names, which is read, and two numbers that are `&mut`.
+    unsafe { c::mooringeye_scan_end(numbers.as_ptr(), rows, position) }
+}
+
+/// The next piece of an archive that is packed anew.
+pub fn pack_feed(
+    numbers: &mut [u64; PACKER_NUMBERS],
+    waiting: &mut [u8; PACKER_BYTES],
+    piece: &[u8],
+    identities: &[u32],
+    out: &mut [u8],
+    positions: &mut [u64],
+    dropped: &mut usize,
+) -> u8 {
+    let (from, size) = (piece.as_ptr(), piece.len());
+    let (listed, count) = (identities.as_ptr(), identities.len());
+    let (list, most) = (positions.as_mut_ptr(), positions.len());
+    let (state, rows) = (numbers.as_mut_ptr(), waiting.as_mut_ptr());
+    // SAFETY: two slices that are read, and two arrays of the sizes that the header names, two slices and a number that are `&mut`.
+    unsafe { c::mooringeye_pack_feed(state, rows, from, size, listed, count, out.as_mut_ptr(), out.len(), list, most, dropped) }
+}
+
+/// The last block of an archive that is packed anew.
+pub fn pack_end(numbers: &[u64; PACKER_NUMBERS], waiting: &[u8; PACKER_BYTES], out: &mut [u8], length: &mut usize) -> u8 {
+    // SAFETY: two arrays of the sizes that the header names, which are read, and a slice and a number that are `&mut`.
+    unsafe { c::mooringeye_pack_end(numbers.as_ptr(), waiting.as_ptr(), out.as_mut_ptr(), out.len(), length) }
+}
+
 // ---- reports
 
 /// A report of no archive.
@@ -381,4 +461,40 @@ pub fn report_line(numbers: &[u64; REPORT_NUMBERS], lines: &[u64; REPORT_LINES],
 pub fn report_share(numbers: &[u64; REPORT_NUMBERS], lines: &[u64; REPORT_LINES], received: u64, thousandths: &mut u64) -> u8 {
     // SAFETY: two arrays of the sizes that the header names, which are read, and a number that is `&mut`.
     unsafe { c::mooringeye_report_share(numbers.as_ptr(), lines.as_ptr(), received, thousandths) }
+}
+
+/// Before the first piece of an archive that is added.
+pub fn report_start(
+    numbers: &[u64; REPORT_NUMBERS],
+    lines: &[u64; REPORT_LINES],
+    adding: &mut [u64; ADDING_NUMBERS],
+    so_far: &mut [u64; REPORT_LINES],
+) {
+    // SAFETY: arrays of the sizes that the header names, of which those that are written are `&mut`.
+    unsafe { c::mooringeye_report_start(numbers.as_ptr(), lines.as_ptr(), adding.as_mut_ptr(), so_far.as_mut_ptr()) }
+}
+
+/// The next piece of an archive that is added.
+pub fn report_feed(
+    numbers: &[u64; REPORT_NUMBERS],
+    lines: &[u64; REPORT_LINES],
+    adding: &mut [u64; ADDING_NUMBERS],
+    so_far: &mut [u64; REPORT_LINES],
+    piece: &[u8],
+) -> u8 {
+    let (from, size) = (piece.as_ptr(), piece.len());
+    // SAFETY: arrays of the sizes that the header names, of which those that are written are `&mut`, and a slice that is read.
+    unsafe { c::mooringeye_report_feed(numbers.as_ptr(), lines.as_ptr(), adding.as_mut_ptr(), so_far.as_mut_ptr(), from, size) }
+}
+
+/// All pieces added as one archive.
+pub fn report_end(
+    numbers: &mut [u64; REPORT_NUMBERS],
+    lines: &mut [u64; REPORT_LINES],
+    adding: &[u64; ADDING_NUMBERS],
+    so_far: &[u64; REPORT_LINES],
+    position: &mut usize,
+) -> u8 {
+    // SAFETY: arrays of the sizes that the header names, of which those that are written are `&mut`, as is the number.
+    unsafe { c::mooringeye_report_end(numbers.as_mut_ptr(), lines.as_mut_ptr(), adding.as_ptr(), so_far.as_ptr(), position) }
 }

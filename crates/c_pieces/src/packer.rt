@@ -1,0 +1,44 @@
+// A damaged archive packed anew, or rows of some transmitters removed, in pieces.
+
+// Rows that wait, and blocks written.
+pub const NUMBERS: usize = 2;
+
+pub const WAITING: usize = repack::PENDING_LENGTH;
+
+// The sound blocks of a piece: 11, 16, 10, 6.
+pub fn feed(
+    numbers: &mut [u64; NUMBERS],
+    waiting: &mut [u8; WAITING],
+    piece: &[u8],
+    identities: &[u32],
+    out: &mut [u8],
+    positions: &mut [u64],
+    dropped: &mut usize,
+) -> u8 {
+    let done = repack::pack(
+        waiting,
+        numbers[0] as usize,
+        numbers[1] as usize,
+        piece,
+        identities,
+        out,
+        positions,
+    );
+    let answer = done.answer;
+    *numbers = [done.used as u64, done.next as u64];
+    *dropped = done.dropped;
+    crate::taken_number(answer)
+}
+
+// The last block, where rows wait, and its length: 11, 6.
+pub fn end(
+    numbers: &[u64; NUMBERS],
+    waiting: &[u8; WAITING],
+    out: &mut [u8],
+    length: &mut usize,
+) -> u8 {
+    let done = repack::finish(waiting, numbers[0] as usize, numbers[1] as usize, out);
+    let answer = done.answer;
+    *length = done.len;
+    crate::taken_number(answer)
+}

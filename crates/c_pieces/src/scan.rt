@@ -1,0 +1,87 @@
+// An archive verified in pieces.
+use archive::Scan;
+use archive::Stage;
+use layout::CELLS_PER_BLOCK;
+use refusal::Refusal;
+
+// Blocks passed, their rows, the stage, and the position of the block that does not match.
+pub const NUMBERS: usize = 4;
+
+// The blocks of a piece: 11, 16.
+pub fn feed(numbers: &mut [u64; NUMBERS], piece: &[u8]) -> u8 {
+    let s = scan_of(numbers[0], numbers[1], numbers[2], numbers[3]);
+    let fed = s.feed(piece);
+    let answer = fed.answer;
+    let next = fed.next;
+    let stage = next.stage;
+    *numbers = [
+        next.blocks as u64,
+        next.rows as u64,
+        stage_number(stage),
+        stage_position(stage),
+    ];
+    crate::taken_number(answer)
+}
+
+// What all pieces answer together: how many rows; 11, 12 with the position.
+pub fn end(numbers: &[u64; NUMBERS], rows: &mut usize, position: &mut usize) -> u8 {
+    *rows = 0;
+    *position = 0;
+    if !is_scan(numbers[0], numbers[1]) {
+        return refusal::number(Refusal::NotAccepted);
+    }
+    if 2 < numbers[2] {
+        *position = numbers[3] as usize;
+        return refusal::number(Refusal::Mismatch);
+    }
+    *rows = numbers[1] as usize;
+    0
+}
+
+// Whether some blocks give these numbers, as far as they tell.
+fn is_scan(blocks: u64, rows: u64) -> bool {
+    if (archive::MAX_BLOCKS as u64) < blocks {
+        return false;
+    }
+    rows <= CELLS_PER_BLOCK as u64 * blocks
+}
+
+// The scan that four numbers say.
+pub(crate) fn scan_of(blocks: u64, rows: u64, stage: u64, position: u64) -> Scan {
+    Scan {
+        blocks: blocks as usize,
+        rows: rows as usize,
+        stage: stage_of(stage, position),
+    }
+}
+
+fn stage_of(stage: u64, position: u64) -> Stage {
+    if stage == 0 {
+        return Stage::Filling;
+    }
+    if stage == 1 {
+        return Stage::Short;
+    }
+    if stage == 2 {
+        return Stage::Ended;
+    }
+    Stage::Wrong(position as usize)
+}
+
+pub(crate) fn stage_number(stage: Stage) -> u64 {
+    match stage {
+        Stage::Filling => 0,
+        Stage::Short => 1,
+        Stage::Ended => 2,
+        Stage::Wrong(_) => 3,
+    }
+}
+
+pub(crate) fn stage_position(stage: Stage) -> u64 {
+    match stage {
+        Stage::Filling => 0,
+        Stage::Short => 0,
+        Stage::Ended => 0,
+        Stage::Wrong(k) => k as u64,
+    }
+}
