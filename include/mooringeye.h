@@ -107,12 +107,12 @@ uint8_t mooringeye_repeat(uint8_t setting, const uint8_t *bytes, size_t length, 
 /* ---- the collector */
 
 enum {
-    MOORINGEYE_CAPACITY = 64,         /* telegrams that can be open */
+    MOORINGEYE_CAPACITY = 64, /* telegrams that can be open */
     MOORINGEYE_COLLECTOR_NUMBERS = 8,
     MOORINGEYE_TOTALS = 6,
-    MOORINGEYE_IMAGE = 2560,          /* bytes of a checkpoint */
-    MOORINGEYE_MAX_BURST = 256,       /* receptions of a burst */
-    MOORINGEYE_REPLY = 24             /* sizeof(mooringeye_reply) */
+    MOORINGEYE_IMAGE = 2560,    /* bytes of a checkpoint */
+    MOORINGEYE_MAX_BURST = 256, /* receptions of a burst */
+    MOORINGEYE_REPLY = 24       /* sizeof(mooringeye_reply) */
 };
 
 /* The three forms of 0 that a reception can be answered with. */
@@ -122,9 +122,9 @@ enum mooringeye_kind {
     MOORINGEYE_LOOSE = 2
 };
 
-/* A collector, changed where it lies. Of the open telegrams, in opening order: when each was opened, how often it was heard again, its length, and its
- * 21 bytes. The numbers: telegrams open, latest time, received, kept, copies, loose, damaged, late. A caller may read it, save it
- * byte for byte and bring it back; a state that no receptions and no accepted image give is answered with 11 by every call, and stays. */
+/* A collector, changed where it lies. Of each open telegram, in opening order: when it was opened, how often it was heard again, its length, and its
+ * bytes, 21 each; what stands behind the open ones says nothing. The numbers: telegrams open, latest time, received, kept, copies, loose, damaged,
+ * late. A state that no receptions and no accepted image give is answered with 11 by every call, and stays. */
 typedef struct mooringeye_collector {
     uint64_t times[MOORINGEYE_CAPACITY];
     uint64_t numbers[MOORINGEYE_COLLECTOR_NUMBERS];
@@ -133,14 +133,15 @@ typedef struct mooringeye_collector {
     uint8_t bytes[MOORINGEYE_CAPACITY * MOORINGEYE_MAX_TELEGRAM];
 } mooringeye_collector;
 
-/* The reply to a reception of a burst: the kind (0 beside a refusal), the number, and what a repeater at the burst's setting sends; length 0 for nothing. */
+/* The reply to a reception of a burst: the kind (0 beside a refusal), the number, and what a repeater at the burst's setting sends, of length 0 for
+ * nothing. */
 typedef struct mooringeye_reply {
     uint8_t kind;
     uint8_t number;
     mooringeye_frame sent;
 } mooringeye_reply;
 
-/* The functions below take the five arrays one by one; those after them, which a C program calls, take the struct. */
+/* These calls take the five arrays of a collector one by one; the functions after them take the struct, and answer the same. */
 
 /* No telegram open, nothing counted: every number of the five arrays is zero. */
 void mooringeye_collector_fresh(uint64_t *times, uint8_t *lengths, uint8_t *bytes, uint16_t *copies, uint64_t *numbers);
@@ -166,9 +167,9 @@ uint8_t mooringeye_collector_checkpoint(const uint64_t *times, const uint8_t *le
 uint8_t mooringeye_collector_restore(uint64_t *times, uint8_t *lengths, uint8_t *bytes, uint16_t *copies, uint64_t *numbers, const uint8_t *image,
                                      size_t image_size);
 
-/* Takes up to 256 receptions, one by one: the moment of each, and a record of 22 bytes, its length and its bytes; a length over 21 is answered with 1.
- * The reply to each stands at its place, places behind them are untouched. `records_size` is 22 for each moment and `replies_size` a multiple of 24,
- * else the answer is 255. Refused: 11, 6 fewer places than moments, 10 more than 256 or a setting over 2; then the state and the places are as they were. */
+/* Takes up to 256 receptions, one by one: of each its moment and a record of 22 bytes, whose length is answered with 1 where it is over 21. The reply
+ * to each stands at its place; places behind them are untouched. `records_size` is 22 for each moment and `replies_size` a multiple of 24, in bytes.
+ * Refused: 11, 6 fewer places than moments, 10 more than 256 moments or a setting over 2; then the state and the places are as they were. */
 uint8_t mooringeye_collector_burst(uint64_t *times, uint8_t *lengths, uint8_t *bytes, uint16_t *copies, uint64_t *numbers, uint8_t setting,
                                    const uint64_t *moments, size_t moments_length, const mooringeye_frame *records, size_t records_size,
                                    mooringeye_reply *replies, size_t replies_size);
@@ -197,11 +198,11 @@ static inline uint8_t mooringeye_restore(mooringeye_collector *c, const uint8_t 
     return mooringeye_collector_restore(c->times, c->lengths, c->bytes, c->copies, c->numbers, image, image_size);
 }
 
-/* `n` receptions, with `places` replies. */
+/* `n` moments with their records, and so many places for replies. */
 static inline uint8_t mooringeye_burst(mooringeye_collector *c, uint8_t setting, const uint64_t *moments, const mooringeye_frame *records, size_t n,
                                        mooringeye_reply *replies, size_t places) {
-    return mooringeye_collector_burst(c->times, c->lengths, c->bytes, c->copies, c->numbers, setting, moments, n, records, n * sizeof *records, replies,
-                                      places * sizeof *replies);
+    return mooringeye_collector_burst(c->times, c->lengths, c->bytes, c->copies, c->numbers, setting, moments, n, records, n * sizeof *records,
+                                      replies, places * sizeof *replies);
 }
 
 /* ---- ERP2 telegrams */

@@ -1,5 +1,5 @@
-//! Receptions taken one after the other and classified, nothing sent: the proved collector, by value and with the test of its state at each call (`take`), and in
-//! place with none (`admit`), against a hand-written one of the same job each time.
+//! Receptions taken one after the other and classified, nothing sent: the proved collector, by value and with the test of its state at each call
+//! (`take`), and in place with none (`admit`), against a hand-written one of the same job each time.
 use crate::{report, time, Random};
 use collect_rust::collector::{Answer, Collector};
 use collect_rust::hash::{hash, sum};

@@ -3,7 +3,7 @@ use crate::{report, time, Random};
 use collect_rust::hash::crc;
 use std::hint::black_box;
 
-// A slice passes as a pointer and a length. Nothing checks this line against the Rattle source.
+// A slice passes as a pointer and a length. `tests/library` compares this line with the header.
 extern "C" {
     fn mooringeye_crc8(bytes: *const u8, len: usize) -> u8;
 }

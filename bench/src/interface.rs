@@ -5,7 +5,7 @@ use crate::collector::{cells, receptions, test_time, CELL, RECEPTIONS};
 use crate::{bursts, collector, report, time};
 use std::hint::black_box;
 
-// A slice passes as a pointer and a length. Nothing checks these lines against the Rattle source.
+// A slice passes as a pointer and a length. `tests/library` compares these lines with the header.
 extern "C" {
     fn mooringeye_collector_take(
         times: *mut u64,

@@ -2,7 +2,7 @@
 use crate::{report, time};
 use std::hint::black_box;
 
-// Number x 65,536 + repeater x 256 + other. Nothing checks this line against the Rattle source.
+// Number x 65,536 + repeater x 256 + other. `tests/library` compares this line with the header.
 extern "C" {
     fn mooringeye_site(repeaters: *const u8, length: usize) -> u32;
 }

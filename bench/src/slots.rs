@@ -2,7 +2,7 @@
 use crate::{report, time, Random};
 use std::hint::black_box;
 
-// Number, first, second and third slot, a byte each from the highest. Nothing checks these lines against the Rattle source.
+// Number, first, second and third slot, a byte each from the highest. `tests/library` compares these lines with the header.
 extern "C" {
     fn mooringeye_plan(level: u8, duration: u32, draw: u64) -> u32;
     fn mooringeye_plan_by(rule: u8, level: u8, transmissions: u8, duration: u32, draw: u64) -> u32;

@@ -133,7 +133,9 @@ static bool collect(mooringeye_collector *c)
     reception r;
     uint8_t level = next_line(&l) ? parse_level(&l) : UINT8_MAX;
     if (level > 2) {
-        puts("BAD");
+        if (!ferror(stdin)) {
+            puts("BAD");
+        }
         return false;
     }
     while (next_line(&l)) {

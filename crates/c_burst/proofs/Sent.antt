@@ -1,18 +1,34 @@
--- What is sent has at most 21 bytes. Assumes nothing.
-use mathlib.Core.Path.{_≡_, refl, ap}
+-- One reception of a burst.
+--     sent-few      what is sent has at most 21 bytes
+--     answered      the reply and the next state are those of a step
+-- Assumes nothing.
+use mathlib.Core.Path.{_≡_, refl, sym, ap, _∙_}
 use mathlib.Core.Bool.{Bool, true, false, cond, not, _&&_, _||_}
 use mathlib.Core.List.{List, []}
 use Prim.Native.Nat.{ℕ, _≤_}
 use native.Mathlib.Omega.{arith}
 use lib.Dec.{ltb}
-use lib.ListN.{length}
+use lib.ListN.{length, getD, drop, replicate, length-drop}
 use borrow.Author.Tests.{ltb-false}
 use Rattle.erp1.specs.Subtelegram.{minLength, maxLength}
+use Rattle.layout.specs.Buffer.{part}
 use Rattle.telegram.specs.Repeater.{levelOf, repeats, raisedOf, relayOf}
 use Rattle.telegram.specs.Output.{Result, written}
+use Rattle.telegram.proofs.Frames.{frame-written}
 use Rattle.telegram.proofs.Repeating.{raised-length}
 use Rattle.model.specs.Answer.{Shown, isKept}
+use Rattle.model.specs.View.{Reception, View}
+use Rattle.model.specs.Acceptable.{acceptable}
+use Rattle.model.specs.Step.{Outcome, step}
+use Rattle.model.specs.Burst.{replyWith}
 use Rattle.collector.specs.Merging.{relayedFor}
+use Rattle.collector.specs.Admission.{admission}
+use Rattle.collector.proofs.Stepping.{admission-fit}
+use Rattle.burst.specs.Records.{sizeOf, StepResult, admittedWith}
+use Rattle.burst.proofs.Records.{sent-with, handed}
+use Rattle.c_layout.specs.Frame.{frameLength}
+use Rattle.c_burst.specs.Bytes.{receptionIn, replyBytes}
+use Rattle.c_burst.specs.Calls.{Answered}
 
 relay-short : (setting : ℕ) (s : List ℕ) → length (relayOf setting s) ≤ maxLength
 unfolding relayOf
@@ -36,3 +52,28 @@ relayed-short setting a s = go (isKept a)
 pub sent-few : (setting : ℕ) (a : Shown) (s old : List ℕ) {out : List ℕ} {len : ℕ}
     → _≡_ {A = Result} (record { number = 0; len = len; output = out }) (written (relayedFor setting a s) old) → len ≤ maxLength
 sent-few setting a s old e = omega (arith, ap (λ (r : Result). r .len) e, relayed-short setting a s)
+
+module _ (setting : ℕ) (v : View) (ok : acceptable v ≡ true) (frame : List ℕ) (full : length frame ≡ frameLength) (time : ℕ) where
+  abbrev r : Reception
+  r = receptionIn frame time
+
+  -- what is told of the state is right
+  as-step : admittedWith setting true v r ≡ record { reply = replyWith setting (step v r .answer) r; next = step v r .next }
+  as-step = ap (λ (o : Outcome). record { reply = replyWith setting (o .answer) r; next = o .next }) (admission-fit v r true (sym ok))
+
+  pub answered : (bytes : List ℕ) → bytes ≡ part 0 (sizeOf (getD frame 0 0)) (drop 1 frame) → (o : Outcome)
+      → o ≡ admission true v (record { bytes = bytes; time = time }) → (len : ℕ) (out : List ℕ)
+      → _≡_ {A = Result} (record { number = 0; len = len; output = out }) (written (relayedFor setting (o .answer) bytes) (replicate maxLength 0))
+      → (reply : List ℕ) → reply ≡ replyBytes (record { answer = o .answer; sent = record { len = len; bytes = out } })
+      → Answered setting v r reply (o .next)
+  answered bytes e o admits len out relays reply put = record {
+    replied = put ∙ ap (λ (x : StepResult). replyBytes (x .reply)) whole;
+    stepped = ap (λ (x : StepResult). x .next) whole;
+  }
+    where
+      whole : _≡_ {A = StepResult} (record { reply = record { answer = o .answer; sent = record { len = len; bytes = out } }; next = o .next })
+          (record { reply = replyWith setting (step v r .answer) r; next = step v r .next })
+      whole =
+          sent-with setting true v (record { bytes = bytes; time = time }) o (record { len = len; bytes = out }) admits (frame-written _ relays)
+          ∙ ap (λ (l : List ℕ). admittedWith setting true v (record { bytes = l; time = time })) e
+          ∙ handed setting true v (record { bytes = drop 1 frame; len = getD frame 0 0; time = time }) (length-drop 1 frame ∙ omega (arith, full)) ∙ as-step

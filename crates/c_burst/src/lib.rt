@@ -1,4 +1,5 @@
 // A burst of receptions at a collector in five lent arrays, as other languages call it.
+use burst::MAX_BURST;
 use c_collector::BYTES;
 use c_collector::CAPACITY;
 use c_collector::NUMBERS;
@@ -11,16 +12,28 @@ use model::Answer;
 use refusal::Refusal;
 use telegram::repeater::MAX_SETTING;
 ghost use mathlib.Core.Path.{_≡_};
-ghost use Prim.Native.Nat.{_*_, _≤_, _<_};
-ghost use lib.ListN.{length};
-
-// The most receptions of a burst.
-pub const MAX_BURST: usize = 256;
+ghost use mathlib.Core.Bool.{true};
+ghost use mathlib.Core.List.{List};
+ghost use Prim.Native.Nat.{ℕ, _*_, _≤_, _<_};
+ghost use lib.ListN.{length, getD, drop};
+ghost use Rattle.erp1.specs.Subtelegram.{maxLength};
+ghost use Rattle.layout.specs.Buffer.{part};
+ghost use Rattle.model.specs.Answer.{shownOf};
+ghost use Rattle.model.specs.Acceptable.{acceptable};
+ghost use Rattle.model.specs.Exact.{Fits};
+ghost use Rattle.model.specs.Burst.{maxBurst, callNumber};
+ghost use Rattle.collector.specs.Collector.{columns};
+ghost use Rattle.collector.specs.Admission.{viewIn, Tested};
+ghost use Rattle.burst.specs.Records.{sizeOf};
+ghost use Rattle.c_layout.specs.Frame.{frameLength};
+ghost use Rattle.c_collector.specs.State.{arrays, summaryIn, stateAt};
+ghost use Rattle.c_burst.specs.Bytes.{receptionIn, receptionsIn, replyLength, replyBytes, isSized};
+ghost use Rattle.c_burst.specs.Calls.{Bursts, Answered, Delivered};
 
 // The kind and the number of an answer, and the frame of what is sent.
-pub const REPLY_LENGTH: usize = 2 + FRAME_LENGTH;
+const REPLY_LENGTH: usize = 2 + FRAME_LENGTH;
 
-// Takes receptions one by one: 255, then 11, 6, 10; then all is as it was.
+// Takes receptions one by one, with one test of the state: 255, then 11, 6, 10; then all is as it was.
 pub fn burst(
     times: &mut [u64; CAPACITY],
     lengths: &mut [u8; CAPACITY],
@@ -31,31 +44,24 @@ pub fn burst(
     moments: &[u64],
     records: &[u8],
     replies: &mut [u8],
-) -> u8 {
+) -> u8
+    ensures { λ r. ⌜ Bursts (arrays (now (times .entry)) (now (lengths .entry)) (now (bytes .entry)) (now (copies .entry)) (now (numbers .entry)))
+        setting (now (moments .entry)) (now (records .entry)) (now (replies .entry)) r
+        (arrays (now (times .exit)) (now (lengths .exit)) (now (bytes .exit)) (now (copies .exit)) (now (numbers .exit))) (now (replies .exit)) ⌝ }
+{
     let n = moments.len();
-    if records.len() % FRAME_LENGTH != 0 {
-        return WRONG_SIZE;
-    }
-    if records.len() / FRAME_LENGTH != n {
-        return WRONG_SIZE;
-    }
-    if replies.len() % REPLY_LENGTH != 0 {
+    let room = replies.len();
+    if !is_sized(n, records.len(), room) {
         return WRONG_SIZE;
     }
     if !c_collector::is_acceptable(times, lengths, bytes, numbers) {
         return refusal::number(Refusal::NotAccepted);
     }
-    let places = replies.len() / REPLY_LENGTH;
-    if places < n {
-        return refusal::number(Refusal::ShortOutput);
+    let number = call_number(setting, n, room / REPLY_LENGTH);
+    if number != 0 {
+        return number;
     }
-    if MAX_BURST < n {
-        return refusal::number(Refusal::Argument);
-    }
-    if MAX_SETTING < setting {
-        return refusal::number(Refusal::Argument);
-    }
-    let summary = c_collector::summary_in(numbers);
+    let summary = summary_of(copies, numbers);
     let next = deliver(
         times,
         lengths,
@@ -71,7 +77,41 @@ pub fn burst(
     0
 }
 
-// Takes the records one by one, the reply to each at its place.
+// Whether there is a frame for each moment, and whole places.
+fn is_sized(moments: usize, records: usize, places: usize) -> bool
+    ensures { λ r. ⌜ r ≡ isSized moments records places ⌝ }
+{
+    if records / FRAME_LENGTH != moments {
+        return false;
+    }
+    (records % FRAME_LENGTH == 0) & (places % REPLY_LENGTH == 0)
+}
+
+// What a burst is refused for at an acceptable state: 6, 10; 0 if for nothing.
+fn call_number(setting: u8, receptions: usize, places: usize) -> u8
+    ensures { λ r. ⌜ r ≡ callNumber setting receptions places ⌝ }
+{
+    if places < receptions {
+        return refusal::number(Refusal::ShortOutput);
+    }
+    if MAX_BURST < receptions {
+        return refusal::number(Refusal::Argument);
+    }
+    if MAX_SETTING < setting {
+        return refusal::number(Refusal::Argument);
+    }
+    0
+}
+
+// What a state holds beside its columns, whose numbers have the bits of their types: it is known of a slice, and not of an array that is lent.
+fn summary_of(copies: &[u16], numbers: &[u64; NUMBERS]) -> Summary
+    ensures { λ r. ⌜ (r ≡ summaryIn (now (numbers .entry)))
+        × ((times lengths bytes : List ℕ) → Fits (stateAt (arrays times lengths bytes (now (copies .entry)) (now (numbers .entry))))) ⌝ }
+{
+    c_collector::summary_in(numbers)
+}
+
+// Takes the receptions of all records, the reply to each at its place.
 fn deliver(
     times: &mut [u64; CAPACITY],
     lengths: &mut [u8; CAPACITY],
@@ -83,11 +123,16 @@ fn deliver(
     records: &[u8],
     replies: &mut [u8],
 ) -> Summary
-    requires { ⌜ (length (now records) ≡ 22 * length (now moments)) × (24 * length (now moments) ≤ length (now replies)) × (length (now moments) < 1000000) ⌝ }
+    requires { ⌜ (length (now moments) ≤ maxBurst) × (length (now records) ≡ frameLength * length (now moments))
+        × (replyLength * length (now moments) ≤ length (now replies))
+        × Tested true (viewIn (columns (now times) (now lengths) (now bytes) (now copies)) summary) ⌝ }
+    ensures { λ r. ⌜ Delivered setting (viewIn (columns (now (times .entry)) (now (lengths .entry)) (now (bytes .entry)) (now (copies .entry))) summary)
+        (receptionsIn (now (moments .entry)) (now (records .entry))) (now (replies .entry)) (now (replies .exit))
+        (viewIn (columns (now (times .exit)) (now (lengths .exit)) (now (bytes .exit)) (now (copies .exit))) r) ⌝ }
 {
     let mut s = summary;
     for i in 0..moments.len() {
-        s = take_record(
+        s = take_frame(
             times,
             lengths,
             bytes,
@@ -102,8 +147,8 @@ fn deliver(
     s
 }
 
-// Takes the reception of one record, and writes the reply to it. A length over 21 is answered like that of no bytes.
-fn take_record<'a>(
+// Takes the reception of one frame at an acceptable state, and writes the reply to it.
+fn take_frame<'a>(
     times: &'a mut [u64; CAPACITY],
     lengths: &'a mut [u8; CAPACITY],
     bytes: &'a mut [u8; BYTES],
@@ -114,7 +159,11 @@ fn take_record<'a>(
     time: u64,
     reply: &'a mut [u8],
 ) -> Summary
-    requires { ⌜ (length (now frame) ≡ 22) × (length (now reply) ≡ 24) ⌝ }
+    requires { ⌜ (length (now frame) ≡ frameLength) × (length (now reply) ≡ replyLength)
+        × (acceptable (viewIn (columns (now times) (now lengths) (now bytes) (now copies)) summary) ≡ true) ⌝ }
+    ensures { λ r. ⌜ Answered setting (viewIn (columns (now (times .entry)) (now (lengths .entry)) (now (bytes .entry)) (now (copies .entry))) summary)
+        (receptionIn (now (frame .entry)) time) (now (reply .exit))
+        (viewIn (columns (now (times .exit)) (now (lengths .exit)) (now (bytes .exit)) (now (copies .exit))) r) ⌝ }
 {
     let received = telegram_in(frame);
     let done = merging::admit(true, times, lengths, bytes, copies, summary, received, time);
@@ -128,16 +177,18 @@ fn take_record<'a>(
 
 // The kind and the number of an answer, and the frame of what is sent.
 fn put_reply(reply: &mut [u8], answer: Answer, len: usize, sent: &[u8; Collector::MAX_LEN])
-    requires { ⌜ (length (now reply) ≡ 24) × (len ≤ 21) ⌝ }
+    requires { ⌜ (length (now reply) ≡ replyLength) × (len ≤ maxLength) ⌝ }
+    ensures { λ _. ⌜ now (reply .exit) ≡ replyBytes (record { answer = shownOf answer; sent = record { len = len; bytes = now (sent .entry) } }) ⌝ }
 {
     reply[0] = c_collector::kind_of(answer);
     reply[1] = c_collector::number_of(answer);
-    c_layout::put_frame(&mut reply[2..24], len as u8, sent);
+    c_layout::put_frame(&mut reply[2..REPLY_LENGTH], len as u8, sent);
 }
 
-// The bytes that a record hands over: none where its length is over 21.
+// The bytes that a frame hands over: none where its length is over 21, which the check answers alike.
 fn telegram_in(frame: &[u8]) -> &[u8]
-    requires { ⌜ length (now frame) ≡ 22 ⌝ }
+    requires { ⌜ length (now frame) ≡ frameLength ⌝ }
+    ensures { λ r. ⌜ now r ≡ part 0 (sizeOf (getD (now (frame .entry)) 0 0)) (drop 1 (now (frame .entry))) ⌝ }
 {
     let len = wide(frame[0]);
     if Collector::MAX_LEN < len {
@@ -147,6 +198,8 @@ fn telegram_in(frame: &[u8]) -> &[u8]
     &frame[1..end]
 }
 
-fn wide(b: u8) -> usize {
+fn wide(b: u8) -> usize
+    ensures { λ r. ⌜ (r ≡ b) × (r < 256) ⌝ }
+{
     b as usize
 }

@@ -6,6 +6,15 @@ use collector::merging::Summary;
 use model::Answer;
 use model::Totals;
 use refusal::Refusal;
+ghost use mathlib.Core.Path.{_≡_};
+ghost use mathlib.Core.List.{List};
+ghost use Prim.Native.Nat.{ℕ};
+ghost use lib.ListN.{length};
+ghost use Rattle.model.specs.Answer.{shownOf, shownNumber};
+ghost use Rattle.model.specs.Acceptable.{acceptable};
+ghost use Rattle.model.specs.Heard.{copiesOf};
+ghost use Rattle.c_collector.specs.State.{arrays, summaryIn, stateAt, numbersIn};
+ghost use Rattle.c_collector.specs.Calls.{kindOf, answerNumber, Takes, Fresh, totalsCall};
 
 // How many telegrams can be open.
 pub const CAPACITY: usize = Collector::CAPACITY;
@@ -26,7 +35,9 @@ pub fn fresh(
     bytes: &mut [u8; BYTES],
     copies: &mut [u16; CAPACITY],
     numbers: &mut [u64; NUMBERS],
-) {
+)
+    ensures { λ _. ⌜ Fresh (arrays (now (times .exit)) (now (lengths .exit)) (now (bytes .exit)) (now (copies .exit)) (now (numbers .exit))) ⌝ }
+{
     *times = [0u64; CAPACITY];
     *lengths = [0u8; CAPACITY];
     *bytes = [0u8; BYTES];
@@ -34,7 +45,7 @@ pub fn fresh(
     *numbers = [0u64; NUMBERS];
 }
 
-// Takes one reception.
+// Takes one reception: its bytes and the moment they were complete. The state is tested once.
 pub fn take<'a>(
     times: &'a mut [u64; CAPACITY],
     lengths: &'a mut [u8; CAPACITY],
@@ -43,7 +54,11 @@ pub fn take<'a>(
     numbers: &'a mut [u64; NUMBERS],
     received: &'a [u8],
     time: u64,
-) -> u16 {
+) -> u16
+    ensures { λ r. ⌜ Takes (arrays (now (times .entry)) (now (lengths .entry)) (now (bytes .entry)) (now (copies .entry)) (now (numbers .entry)))
+        (record { bytes = now (received .entry); time = time }) r
+        (arrays (now (times .exit)) (now (lengths .exit)) (now (bytes .exit)) (now (copies .exit)) (now (numbers .exit))) ⌝ }
+{
     let summary = summary_in(numbers);
     let fit = is_acceptable(times, lengths, bytes, numbers);
     let done = merging::admit(fit, times, lengths, bytes, copies, summary, received, time);
@@ -58,9 +73,14 @@ pub fn totals<'a>(
     times: &'a [u64; CAPACITY],
     lengths: &'a [u8; CAPACITY],
     bytes: &'a [u8; BYTES],
+    copies: &'a [u16; CAPACITY],
     numbers: &'a [u64; NUMBERS],
     totals: &'a mut [u64; TOTALS],
-) -> u8 {
+) -> u8
+    ensures { λ r. ⌜ record { number = r; values = now (totals .exit) }
+        ≡ totalsCall (stateAt (arrays (now (times .entry)) (now (lengths .entry)) (now (bytes .entry)) (now (copies .entry)) (now (numbers .entry))))
+        (now (totals .entry)) ⌝ }
+{
     if !is_acceptable(times, lengths, bytes, numbers) {
         return refusal::number(Refusal::NotAccepted);
     }
@@ -84,15 +104,15 @@ pub fn copies_of<'a>(
     numbers: &'a [u64; NUMBERS],
     entry: usize,
     heard: &'a mut u64,
-) -> u8 {
+) -> u8
+    ensures { λ r. ⌜ record { number = r; copies = now (heard .exit) }
+        ≡ copiesOf (stateAt (arrays (now (times .entry)) (now (lengths .entry)) (now (bytes .entry)) (now (copies .entry)) (now (numbers .entry)))) entry ⌝ }
+{
     *heard = 0;
     if !is_acceptable(times, lengths, bytes, numbers) {
         return refusal::number(Refusal::NotAccepted);
     }
     if numbers[0] as usize <= entry {
-        return refusal::number(Refusal::Argument);
-    }
-    if CAPACITY <= entry {
         return refusal::number(Refusal::Argument);
     }
     *heard = wide(copies[entry]);
@@ -105,14 +125,26 @@ pub fn is_acceptable<'a>(
     lengths: &'a [u8; CAPACITY],
     bytes: &'a [u8; BYTES],
     numbers: &'a [u64; NUMBERS],
-) -> bool {
+) -> bool
+    ensures { λ r. ⌜ ((copies : List ℕ) → r
+        ≡ acceptable (stateAt (arrays (now (times .entry)) (now (lengths .entry)) (now (bytes .entry)) copies (now (numbers .entry))))) ⌝ }
+{
     let summary = summary_in(numbers);
     let totals = summary.totals;
     acceptable::is_acceptable(times, lengths, bytes, summary.count, summary.latest, totals)
 }
 
-// What eight numbers say.
-pub fn summary_in(numbers: &[u64; NUMBERS]) -> Summary {
+// What eight numbers say. That there are eight is known of a slice, and not of an array that is lent.
+pub fn summary_in(numbers: &[u64; NUMBERS]) -> Summary
+    ensures { λ r. ⌜ (r ≡ summaryIn (now (numbers .entry))) × (length (now (numbers .entry)) ≡ 8) ⌝ }
+{
+    read_numbers(numbers)
+}
+
+fn read_numbers(numbers: &[u64]) -> Summary
+    requires { ⌜ length (now numbers) ≡ 8 ⌝ }
+    ensures { λ r. ⌜ (r ≡ summaryIn (now (numbers .entry))) × (length (now (numbers .entry)) ≡ 8) ⌝ }
+{
     let totals = Totals {
         received: numbers[2],
         kept: numbers[3],
@@ -128,8 +160,10 @@ pub fn summary_in(numbers: &[u64; NUMBERS]) -> Summary {
     }
 }
 
-// The eight numbers.
-pub fn store(summary: Summary, numbers: &mut [u64; NUMBERS]) {
+// Puts the eight numbers of a state.
+pub fn store(summary: Summary, numbers: &mut [u64; NUMBERS])
+    ensures { λ _. ⌜ now (numbers .exit) ≡ numbersIn summary ⌝ }
+{
     let totals = summary.totals;
     *numbers = [
         summary.count as u64,
@@ -143,12 +177,17 @@ pub fn store(summary: Summary, numbers: &mut [u64; NUMBERS]) {
     ];
 }
 
-// 256 x kind + number: the kinds of 0 are KEPT 0, COPY 1 and LOOSE 2.
-fn answer_number(answer: Answer) -> u16 {
+// An answer as one number.
+fn answer_number(answer: Answer) -> u16
+    ensures { λ r. ⌜ r ≡ answerNumber (shownOf answer) ⌝ }
+{
     256 * kind_of(answer) as u16 + number_of(answer) as u16
 }
 
-pub fn kind_of(answer: Answer) -> u8 {
+// KEPT 0, COPY 1, LOOSE 2; 0 beside a refusal.
+pub fn kind_of(answer: Answer) -> u8
+    ensures { λ r. ⌜ r ≡ kindOf (shownOf answer) ⌝ }
+{
     match answer {
         Answer::Kept => 0,
         Answer::Copy => 1,
@@ -157,7 +196,10 @@ pub fn kind_of(answer: Answer) -> u8 {
     }
 }
 
-pub fn number_of(answer: Answer) -> u8 {
+// The number of a refusal, else 0.
+pub fn number_of(answer: Answer) -> u8
+    ensures { λ r. ⌜ r ≡ shownNumber (shownOf answer) ⌝ }
+{
     match answer {
         Answer::Kept => 0,
         Answer::Copy => 0,
@@ -166,6 +208,8 @@ pub fn number_of(answer: Answer) -> u8 {
     }
 }
 
-fn wide(n: u16) -> u64 {
+fn wide(n: u16) -> u64
+    ensures { λ r. ⌜ r ≡ n ⌝ }
+{
     n as u64
 }

@@ -7,6 +7,11 @@ use collector::merging::Summary;
 use image::Loaded;
 use image::Saved;
 use refusal::Refusal;
+ghost use mathlib.Core.Path.{_≡_};
+ghost use Rattle.model.specs.Image.{checkpointOf};
+ghost use Rattle.image.specs.Checkpoint.{savedNumber};
+ghost use Rattle.c_collector.specs.State.{arrays, stateAt};
+ghost use Rattle.c_image.specs.Calls.{Restores, arraysOf};
 
 // The image of the state, into the first 2,560 bytes: 11, 6; what stands past them stays.
 pub fn checkpoint<'a>(
@@ -16,7 +21,10 @@ pub fn checkpoint<'a>(
     copies: &'a [u16; CAPACITY],
     numbers: &'a [u64; NUMBERS],
     out: &'a mut [u8],
-) -> u8 {
+) -> u8
+    ensures { λ r. ⌜ record { number = r; output = now (out .exit) }
+        ≡ checkpointOf (stateAt (arrays (now (times .entry)) (now (lengths .entry)) (now (bytes .entry)) (now (copies .entry)) (now (numbers .entry)))) (now (out .entry)) ⌝ }
+{
     let summary = c_collector::summary_in(numbers);
     saved_number(image::checkpoint_at(times, lengths, bytes, copies, summary, out))
 }
@@ -29,14 +37,17 @@ pub fn restore(
     copies: &mut [u16; CAPACITY],
     numbers: &mut [u64; NUMBERS],
     image: &[u8],
-) -> u8 {
+) -> u8
+    ensures { λ r. ⌜ Restores (arrays (now (times .entry)) (now (lengths .entry)) (now (bytes .entry)) (now (copies .entry)) (now (numbers .entry))) (now (image .entry)) r
+        (arrays (now (times .exit)) (now (lengths .exit)) (now (bytes .exit)) (now (copies .exit)) (now (numbers .exit))) ⌝ }
+{
     if !c_collector::is_acceptable(times, lengths, bytes, numbers) {
         return refusal::number(Refusal::NotAccepted);
     }
     let restored = image::restore(Collector::fresh(), image);
     let answer = restored.answer;
-    if let Loaded::Refused(why) = answer {
-        return refusal::number(why);
+    if let Loaded::Refused(_) = answer {
+        return refusal::number(Refusal::NotAccepted);
     }
     put_state(restored.next, times, lengths, bytes, copies, numbers);
     0
@@ -50,7 +61,9 @@ fn put_state(
     bytes: &mut [u8; BYTES],
     copies: &mut [u16; CAPACITY],
     numbers: &mut [u64; NUMBERS],
-) {
+)
+    ensures { λ _. ⌜ (arrays (now (times .exit)) (now (lengths .exit)) (now (bytes .exit)) (now (copies .exit)) (now (numbers .exit))) ≡ arraysOf c ⌝ }
+{
     let totals = c.totals;
     let summary = Summary {
         count: c.count,
@@ -68,7 +81,9 @@ fn put_state(
     c_collector::store(summary, numbers);
 }
 
-fn saved_number(saved: Saved) -> u8 {
+fn saved_number(saved: Saved) -> u8
+    ensures { λ r. ⌜ r ≡ savedNumber saved ⌝ }
+{
     match saved {
         Saved::Done => 0,
         Saved::Refused(why) => refusal::number(why),

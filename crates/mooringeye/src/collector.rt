@@ -3,6 +3,13 @@ use c_collector::BYTES;
 use c_collector::CAPACITY;
 use c_collector::NUMBERS;
 use c_collector::TOTALS;
+ghost use mathlib.Core.Path.{_≡_};
+ghost use Rattle.model.specs.Heard.{copiesOf};
+ghost use Rattle.model.specs.Image.{checkpointOf};
+ghost use Rattle.c_collector.specs.State.{arrays, stateAt};
+ghost use Rattle.c_collector.specs.Calls.{Takes, Fresh, totalsCall};
+ghost use Rattle.c_image.specs.Calls.{Restores};
+ghost use Rattle.c_burst.specs.Calls.{Bursts};
 
 // A collector with no telegram open and nothing counted.
 #[no_mangle]
@@ -12,7 +19,9 @@ pub extern "C" fn mooringeye_collector_fresh(
     bytes: &mut [u8; BYTES],
     copies: &mut [u16; CAPACITY],
     numbers: &mut [u64; NUMBERS],
-) {
+)
+    ensures { λ _. ⌜ Fresh (arrays (now (times .exit)) (now (lengths .exit)) (now (bytes .exit)) (now (copies .exit)) (now (numbers .exit))) ⌝ }
+{
     c_collector::fresh(times, lengths, bytes, copies, numbers);
 }
 
@@ -26,7 +35,11 @@ pub extern "C" fn mooringeye_collector_take<'a>(
     numbers: &'a mut [u64; NUMBERS],
     received: &'a [u8],
     time: u64,
-) -> u16 {
+) -> u16
+    ensures { λ r. ⌜ Takes (arrays (now (times .entry)) (now (lengths .entry)) (now (bytes .entry)) (now (copies .entry)) (now (numbers .entry)))
+        (record { bytes = now (received .entry); time = time }) r
+        (arrays (now (times .exit)) (now (lengths .exit)) (now (bytes .exit)) (now (copies .exit)) (now (numbers .exit))) ⌝ }
+{
     c_collector::take(times, lengths, bytes, copies, numbers, received, time)
 }
 
@@ -39,8 +52,12 @@ pub extern "C" fn mooringeye_collector_totals<'a>(
     copies: &'a [u16; CAPACITY],
     numbers: &'a [u64; NUMBERS],
     totals: &'a mut [u64; TOTALS],
-) -> u8 {
-    c_collector::totals(times, lengths, bytes, numbers, totals)
+) -> u8
+    ensures { λ r. ⌜ record { number = r; values = now (totals .exit) }
+        ≡ totalsCall (stateAt (arrays (now (times .entry)) (now (lengths .entry)) (now (bytes .entry)) (now (copies .entry)) (now (numbers .entry))))
+        (now (totals .entry)) ⌝ }
+{
+    c_collector::totals(times, lengths, bytes, copies, numbers, totals)
 }
 
 // How often the telegram of an entry was heard again.
@@ -53,7 +70,10 @@ pub extern "C" fn mooringeye_collector_copies<'a>(
     numbers: &'a [u64; NUMBERS],
     entry: usize,
     heard: &'a mut u64,
-) -> u8 {
+) -> u8
+    ensures { λ r. ⌜ record { number = r; copies = now (heard .exit) }
+        ≡ copiesOf (stateAt (arrays (now (times .entry)) (now (lengths .entry)) (now (bytes .entry)) (now (copies .entry)) (now (numbers .entry)))) entry ⌝ }
+{
     c_collector::copies_of(times, lengths, bytes, copies, numbers, entry, heard)
 }
 
@@ -66,7 +86,10 @@ pub extern "C" fn mooringeye_collector_checkpoint<'a>(
     copies: &'a [u16; CAPACITY],
     numbers: &'a [u64; NUMBERS],
     out: &'a mut [u8],
-) -> u8 {
+) -> u8
+    ensures { λ r. ⌜ record { number = r; output = now (out .exit) }
+        ≡ checkpointOf (stateAt (arrays (now (times .entry)) (now (lengths .entry)) (now (bytes .entry)) (now (copies .entry)) (now (numbers .entry)))) (now (out .entry)) ⌝ }
+{
     c_image::checkpoint(times, lengths, bytes, copies, numbers, out)
 }
 
@@ -79,7 +102,10 @@ pub extern "C" fn mooringeye_collector_restore(
     copies: &mut [u16; CAPACITY],
     numbers: &mut [u64; NUMBERS],
     image: &[u8],
-) -> u8 {
+) -> u8
+    ensures { λ r. ⌜ Restores (arrays (now (times .entry)) (now (lengths .entry)) (now (bytes .entry)) (now (copies .entry)) (now (numbers .entry))) (now (image .entry)) r
+        (arrays (now (times .exit)) (now (lengths .exit)) (now (bytes .exit)) (now (copies .exit)) (now (numbers .exit))) ⌝ }
+{
     c_image::restore(times, lengths, bytes, copies, numbers, image)
 }
 
@@ -95,7 +121,11 @@ pub extern "C" fn mooringeye_collector_burst(
     moments: &[u64],
     records: &[u8],
     replies: &mut [u8],
-) -> u8 {
+) -> u8
+    ensures { λ r. ⌜ Bursts (arrays (now (times .entry)) (now (lengths .entry)) (now (bytes .entry)) (now (copies .entry)) (now (numbers .entry)))
+        setting (now (moments .entry)) (now (records .entry)) (now (replies .entry)) r
+        (arrays (now (times .exit)) (now (lengths .exit)) (now (bytes .exit)) (now (copies .exit)) (now (numbers .exit))) (now (replies .exit)) ⌝ }
+{
     c_burst::burst(
         times,
         lengths,

@@ -1,5 +1,5 @@
 //! The header, the declarations of this crate, the sources of the exports and the symbols of the library say the same: names, and of each parameter
-//! whether it is a pointer or which number.
+//! which number it is, or a pointer to which numbers, read or changed.
 use std::collections::BTreeMap;
 use std::path::{Path, PathBuf};
 use std::process::Command;
@@ -50,10 +50,7 @@ fn parenthesis(text: &str, open: usize) -> (&str, &str) {
 
 fn header_kind(declared: &str) -> String {
     let words: Vec<&str> = declared.split(|c: char| !c.is_alphanumeric() && c != '_').filter(|w| !w.is_empty()).collect();
-    if declared.contains('*') {
-        return "pointer".into();
-    }
-    match *words.iter().find(|w| **w != "const").expect("a type") {
+    let number = match *words.iter().find(|w| **w != "const").expect("a type") {
         "uint8_t" => "u8",
         "uint16_t" => "u16",
         "uint32_t" => "u32",
@@ -61,9 +58,14 @@ fn header_kind(declared: &str) -> String {
         "size_t" => "usize",
         "bool" => "bool",
         "void" => "nothing",
+        name if name.starts_with("mooringeye_") => "u8", // its structs that a call takes are bytes
         other => panic!("the header has a type that this test does not know: {other}"),
+    };
+    match (declared.contains('*'), words.contains(&"const")) {
+        (false, _) => number.into(),
+        (true, false) => format!("*mut {number}"),
+        (true, true) => format!("*const {number}"),
     }
-    .into()
 }
 
 /// The prototypes of the header: what ends with a semicolon; functions with a body are none.
@@ -114,22 +116,25 @@ fn functions(text: &str, word: &str, kinds: impl Fn(&str) -> Vec<String>) -> Fun
 /// The declarations of `raw.rs`, in which a type may go by a name of its own.
 fn declared() -> Functions {
     let text = bare(&text("rust/mooringeye/src/raw.rs"));
-    let named: BTreeMap<&str, &str> =
-        text.split("type ").skip(1).filter_map(|t| t.split(';').next().and_then(|t| t.split_once(" = "))).filter(|(n, _)| !n.contains(' ')).collect();
-    let kinds = |t: &str| vec![if named.get(t).unwrap_or(&t).starts_with('*') { "pointer".into() } else { t.to_string() }];
-    functions(&text, "pub fn ", kinds)
+    let names = text.split("type ").skip(1).filter_map(|t| t.split_once(';')?.0.split_once(" = "));
+    let named: BTreeMap<&str, &str> = names.collect();
+    functions(&text, "pub fn ", |t| vec![named.get(t).unwrap_or(&t).to_string()])
 }
 
 /// The exports of crate `mooringeye`: a slice is a pointer and a length, any other reference a pointer.
 fn exported() -> Functions {
     let kind = |t: &str| -> Vec<String> {
         let Some(to) = t.strip_prefix('&') else { return vec![t.to_string()] };
-        let to = to.trim_start_matches(|c: char| c == '\'' || c.is_ascii_lowercase() && to.starts_with('\'')).trim_start();
-        let to = to.strip_prefix("mut ").unwrap_or(to).trim_start();
+        let (word, to) = match to.strip_prefix("mut ") {
+            Some(to) => ("mut", to),
+            None => ("const", to),
+        };
+        let number: String = to.chars().skip_while(|c| *c == '[').take_while(|c| c.is_alphanumeric()).collect();
+        let pointer = format!("*{word} {number}");
         if to.starts_with('[') && !to.contains(';') {
-            vec!["pointer".into(), "usize".into()]
+            vec![pointer, "usize".into()]
         } else {
-            vec!["pointer".into()]
+            vec![pointer]
         }
     };
     let mut all = Functions::new();
@@ -140,50 +145,65 @@ fn exported() -> Functions {
     all
 }
 
-/// The functions that `nm` finds defined.
-fn symbols(words: &[&str], file: &str) -> Vec<String> {
-    let out = Command::new("nm").args(words).arg(library(file)).output().expect("nm runs");
-    assert!(out.status.success(), "nm {file}");
-    let mut names: Vec<String> = String::from_utf8(out.stdout)
-        .unwrap()
-        .lines()
-        .filter_map(|l| l.split_once(" T "))
-        .map(|(_, name)| name.split('@').next().unwrap().to_string())
-        .collect();
-    names.sort();
-    names
+/// What the texts say: this file alone, compiled by `rustc --test`, shows it before the library is built.
+mod sources {
+    use super::*;
+
+    #[test]
+    fn the_header_is_what_is_declared_here() {
+        assert!(header().len() >= 33);
+        assert_eq!(header(), declared());
+    }
+
+    #[test]
+    fn the_header_is_what_is_exported() {
+        assert_eq!(header(), exported());
+    }
+
+    #[test]
+    fn the_benchmarks_declare_what_the_header_has() {
+        let header = header();
+        for entry in std::fs::read_dir(root().join("bench/src")).unwrap() {
+            let path = entry.unwrap().path();
+            for (name, kinds) in functions(&bare(&text(&path)), "fn ", |t| vec![t.to_string()]) {
+                assert_eq!(Some(&kinds), header.get(&name), "{name} in {}", path.display());
+            }
+        }
+    }
 }
 
-fn names(functions: &Functions) -> Vec<String> {
-    functions.keys().cloned().collect()
-}
+/// What was built of them.
+mod built {
+    use super::*;
 
-#[test]
-fn the_header_is_what_is_declared_here() {
-    assert!(header().len() >= 20);
-    assert_eq!(header(), declared());
-}
+    /// The lines of `nm` that name what a file defines.
+    fn defined(words: &[&str], file: &str) -> Vec<String> {
+        let out = Command::new("nm").args(words).arg("--defined-only").arg(library(file)).output().expect("nm runs");
+        assert!(out.status.success(), "nm {file}");
+        String::from_utf8(out.stdout).unwrap().lines().map(String::from).collect()
+    }
 
-#[test]
-fn the_header_is_what_is_exported() {
-    assert_eq!(header(), exported());
-}
+    /// The functions among them.
+    fn symbols(lines: &[String]) -> Vec<String> {
+        let functions = lines.iter().filter_map(|l| l.split_once(" T "));
+        let mut names: Vec<String> = functions.map(|(_, name)| name.split('@').next().unwrap().to_string()).collect();
+        names.sort();
+        names
+    }
 
-#[test]
-fn the_archive_has_these_symbols() {
-    assert_eq!(symbols(&["--defined-only"], "libmooringeye.a"), names(&header()));
-}
+    fn names() -> Vec<String> {
+        header().into_keys().collect()
+    }
 
-#[test]
-fn the_shared_object_exports_these_symbols_and_no_others() {
-    assert_eq!(symbols(&["-D", "--defined-only"], "libmooringeye.so"), names(&header()));
-    let out = Command::new("nm").args(["-D", "--defined-only"]).arg(library("libmooringeye.so")).output().unwrap();
-    assert_eq!(String::from_utf8(out.stdout).unwrap().lines().count(), header().len());
-}
+    #[test]
+    fn the_archive_has_these_symbols() {
+        assert_eq!(symbols(&defined(&[], "libmooringeye.a")), names());
+    }
 
-#[test]
-fn versions_agree() {
-    let text = text("include/mooringeye.h");
-    let line = text.lines().find_map(|l| l.strip_prefix("#define MOORINGEYE_VERSION ")).unwrap();
-    assert_eq!(line.trim().parse(), Ok(mooringeye::version()));
+    #[test]
+    fn the_shared_object_exports_these_symbols_and_no_others() {
+        let lines = defined(&["-D"], "libmooringeye.so");
+        assert_eq!(symbols(&lines), names());
+        assert_eq!(lines.len(), names().len());
+    }
 }

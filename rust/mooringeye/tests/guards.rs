@@ -105,6 +105,9 @@ fn archives_and_reports() {
             raw::archive_verify(buffer, a, b);
             raw::archive_append(buffer, bytes, 1, true, a);
             raw::archive_append_at(buffer, rows, bytes, 1, true, a);
+            for n in [0, 15, usize::MAX] {
+                raw::archive_put_row(guarded(&content[..512.min(content.len())], end), n, bytes, 1, true, a);
+            }
             raw::archive_row(buffer, rows, row, &mut time[0]);
             let (out, list) = (guarded(&content, end), guarded(&vec![0u64; blocks], end));
             raw::archive_salvage(buffer, out, list, a, b);

@@ -1,4 +1,4 @@
-//! Slices of other sizes than a call asks for: 255, and nothing is touched. Empty slices and the longest ones.
+//! Slices of other sizes than a call asks for: 255, and nothing is touched. Empty slices and the longest ones. The version of the interface.
 use mooringeye::raw;
 
 mod arrays;
@@ -208,4 +208,11 @@ fn the_longest() {
     let (mut row, mut time) = ([0; raw::ROW], 0);
     assert_eq!(raw::archive_row(&archive, usize::MAX, &mut row, &mut time), 10);
     assert_eq!((raw::archive_row(&archive, most - 1, &mut row, &mut time), time), (0, most as u64 - 1));
+}
+
+#[test]
+fn the_version_is_that_of_the_header() {
+    let header = include_str!("../../../include/mooringeye.h");
+    let line = header.lines().find_map(|l| l.strip_prefix("#define MOORINGEYE_VERSION ")).unwrap();
+    assert_eq!(line.parse(), Ok(raw::version()));
 }

@@ -1,104 +1,68 @@
-use borrow.Author.Needs.{needs}
-use mathlib.Core.Path.{_≡_, refl}
-use Prim.Native.Nat.{_-_, _≤_, _<_}
-use lib.ListN.{length}
+-- `c_burst::deliver` meets its contract. The invariant: the first i receptions are taken and answered, and what is left leads to the end; the measure:
+-- the receptions left. Assumes nothing.
+use mathlib.Core.Path.{_≡_, refl, sym, ap, _∙_}
+use mathlib.Core.List.{List}
+use Prim.Native.Nat.{ℕ, _-_, _*_, _^_, _≤_, _<_}
 use native.Mathlib.Omega.{arith}
+use lib.ListN.{length, getD}
+use Rattle.layout.proofs.Segments.{begun-length, within, lent, part-length, part-ends}
+use Rattle.model.specs.Burst.{maxBurst}
+use Rattle.collector.specs.Collector.{columns}
+use Rattle.collector.specs.Admission.{viewIn}
+use Rattle.c_layout.specs.Frame.{frameLength}
+use Rattle.c_burst.specs.Bytes.{receptionIn, receptionsIn, replyLength}
+use Rattle.c_burst.proofs.Turns.{Going, starts, turns, ends, receptions-count, reception-get}
 use Rattle.c_burst.proofs.deliver.Statement.{statement}
 use Rattle.c_burst.proofs.deliver.Tie as tie
-use Rattle.c_burst.proofs.deliver.Reads as reads
-use Rattle.c_burst.proofs.deliver.Lts as lts
-use Rattle.c_burst.proofs.take_record.Reads as take-record-reads
 
 abbrev Inv-loop : tie.InvT-loop
 Inv-loop times₀ lengths₀ bytes₀ copies₀ setting moments records replies₀ s₀ i₀ i-end times lengths bytes copies replies s i =
-    (length moments < 1000000) × (i ≤ length moments) × (i-end ≡ length moments) × (length replies ≡ length replies₀)
+    (i ≤ length moments) × (length moments ≤ maxBurst)
+    × Going setting (viewIn (columns times₀ lengths₀ bytes₀ copies₀) s₀) (receptionsIn moments records) replies₀ i (viewIn (columns times lengths bytes copies) s) replies
 
 abbrev μ-loop : tie.MeasureT-loop
 μ-loop times₀ lengths₀ bytes₀ copies₀ setting moments records replies₀ s₀ i₀ i-end times lengths bytes copies replies s i = length moments - i
 
--- src/lib.rt:89:5
 loop-holds : tie.Need-loop-holds Inv-loop μ-loop
-loop-holds c = (omega arith, omega arith, refl, refl)
+loop-holds c =
+    let s = c .before .before .before in
+    (omega arith, s .pre .0, starts _ _ _ _ (s .pre .3))
 
--- src/lib.rt:97:22
-mul-take-record : tie.Need-mul-take-record Inv-loop μ-loop
-mul-take-record c = omega arith
+take-frame-requires : tie.Need-take-frame-requires Inv-loop μ-loop
+take-frame-requires c κs =
+    let at = c .before .before .before .before .before .before .before .before in
+    let s = at .before .before .before .before in
+    let from = frameLength * at .loop .i in
+    let records = s .args .records .now in
+    (ap length (part-ends from frameLength records) ∙ part-length from frameLength records (omega (arith, s .pre .1)), lent (at .loop .inv .2 .written) replyLength _ refl (omega (arith, s .pre .2)), sym (at .loop .inv .2 .tested .said))
 
--- src/lib.rt:97:40
-mul-take-record-2 : tie.Need-mul-take-record-2 Inv-loop μ-loop
-mul-take-record-2 c = omega arith
-
--- src/lib.rt:97:40
-add-take-record : tie.Need-add-take-record Inv-loop μ-loop
-add-take-record c = omega arith
-
--- src/lib.rt:97:13
-sub-take-record : tie.Need-sub-take-record Inv-loop μ-loop
-sub-take-record c = omega arith
-
--- src/lib.rt:97:13
-part-take-record-start : tie.Need-part-take-record-start Inv-loop μ-loop
-part-take-record-start c = omega arith
-
--- src/lib.rt:97:13
-part-take-record-end : tie.Need-part-take-record-end Inv-loop μ-loop
-part-take-record-end c = omega arith
-
--- src/lib.rt:98:13
-mul-take-record-3 : tie.Need-mul-take-record-3 Inv-loop μ-loop
-mul-take-record-3 c = omega arith
-
--- src/lib.rt:98:13
-shared-slice-read-take-record : tie.Need-shared-slice-read-take-record Inv-loop μ-loop
-shared-slice-read-take-record c = omega arith
-
--- src/lib.rt:99:26
-mul-take-record-4 : tie.Need-mul-take-record-4 Inv-loop μ-loop
-mul-take-record-4 c = omega arith
-
--- src/lib.rt:99:44
-mul-take-record-5 : tie.Need-mul-take-record-5 Inv-loop μ-loop
-mul-take-record-5 c = omega arith
-
--- src/lib.rt:99:44
-add-take-record-2 : tie.Need-add-take-record-2 Inv-loop μ-loop
-add-take-record-2 c = omega arith
-
--- src/lib.rt:99:13
-sub-take-record-2 : tie.Need-sub-take-record-2 Inv-loop μ-loop
-sub-take-record-2 c = omega arith
-
--- src/lib.rt:99:13
-part-take-record-start-2 : tie.Need-part-take-record-start-2 Inv-loop μ-loop
-part-take-record-start-2 c = omega arith
-
--- src/lib.rt:99:13
-part-take-record-end-2 : tie.Need-part-take-record-end-2 Inv-loop μ-loop
-part-take-record-end-2 c = omega arith
-
--- src/lib.rt:90:9
-take-record-requires : tie.Need-take-record-requires Inv-loop μ-loop
-take-record-requires c κs = (omega arith, omega arith)
-
--- src/lib.rt:89:9
-add-i : tie.Need-add-i Inv-loop μ-loop
-add-i c = omega arith
-
--- src/lib.rt:89:5
-loop-less : tie.Need-loop-less Inv-loop μ-loop
-loop-less c = omega arith
-
--- src/lib.rt:89:5
 loop-again : tie.Need-loop-again Inv-loop μ-loop
-loop-again c = (omega arith, omega arith, omega arith, omega arith)
+loop-again c =
+    let took = c .before .before in
+    let known = took .before .before in
+    let inside = known .before .before .before .before .before .before in
+    let at = inside .before in
+    let s = at .before .before .before .before in
+    let i = at .loop .i in
+    let moments = s .args .moments .now in
+    let records = s .args .records .now in
+    let count = receptions-count moments records in (
+      omega arith,
+      at .loop .inv .1,
+      turns _ _ _ _ (at .loop .inv .2) (omega (arith, count)) _
+          (reception-get moments records i (omega arith) ∙ ap (λ (f : List ℕ). receptionIn f (getD moments i 0)) (sym (part-ends (frameLength * i) frameLength records)))
+          (omega (arith, known .shared-slice-known3 .given i))
+          (omega (arith, count, s .pre .2))
+          _
+          _
+          (took .take-frame .ensures)
+          (took .take-frame .kept .1 .1 .1 .1 .1 .1 .1 .1 .0),
+    )
 
--- src/lib.rt:75:1
-same-length : tie.Need-same-length Inv-loop μ-loop
-same-length c = omega arith
-
--- src/lib.rt:75:1
 returns : tie.Need-returns Inv-loop μ-loop
-returns c = omega arith
+returns c =
+    let a = c .before .before .before .before .before .args in
+    ends _ _ _ _ (c .before .loop .inv .2) (omega (arith, receptions-count (a .moments .now) (a .records .now)))
 
 pub deliver-spec : {M : Type 1} → statement M
 deliver-spec =
@@ -107,23 +71,23 @@ deliver-spec =
     Inv-loop
     μ-loop
     loop-holds
-    mul-take-record
-    mul-take-record-2
-    add-take-record
-    sub-take-record
-    part-take-record-start
-    part-take-record-end
-    mul-take-record-3
-    shared-slice-read-take-record
-    mul-take-record-4
-    mul-take-record-5
-    add-take-record-2
-    sub-take-record-2
-    part-take-record-start-2
-    part-take-record-end-2
-    take-record-requires
-    add-i
-    loop-less
+    (λ c. omega arith)
+    (λ c. omega arith)
+    (λ c. omega arith)
+    (λ c. omega arith)
+    (λ c. omega arith)
+    (λ c. omega arith)
+    (λ c. omega arith)
+    (λ c. omega arith)
+    (λ c. omega arith)
+    (λ c. omega arith)
+    (λ c. omega arith)
+    (λ c. omega arith)
+    (λ c. omega arith)
+    (λ c. within (c .before .before .before .before .before .before .before .loop .inv .2 .written) _ (omega arith))
+    take-frame-requires
+    (λ c. omega arith)
+    (λ c. omega arith)
     loop-again
-    same-length
+    (λ c. begun-length (c .before .loop .inv .2 .written))
     returns)

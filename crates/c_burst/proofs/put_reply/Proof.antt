@@ -7,6 +7,7 @@ use lib.ListN.{length}
 use Rattle.layout.proofs.Segments.{Writing, packed, begin, begun-length, within, lent, store, lend, done}
 use Rattle.layout.proofs.Buffer.{overwritten-fits}
 use Rattle.c_layout.specs.Frame.{frameLength, frameBytes}
+use Rattle.c_burst.specs.Bytes.{replyBytes}
 use Rattle.c_burst.proofs.put_reply.Statement.{statement}
 use Rattle.c_burst.proofs.put_reply.Tie as tie
 
@@ -33,6 +34,13 @@ replied c =
     (omega arith)
     (omega (arith, long s)))
 
+returns : tie.Need-returns
+unfolding replyBytes
+returns c =
+    let put = c .before .before in
+    let at = put .before .before .before in
+    rw (done (replied put .begun) (long (at .before .before .before)), at .before .kind-of .ensures, at .number-of .ensures)
+
 pub put-reply-spec : {M : Type 1} → statement M
 put-reply-spec =
     tie.close
@@ -47,4 +55,4 @@ put-reply-spec =
     (λ c. search needs)
     (λ c κs. search needs)
     (λ c. begun-length (replied (c .before .before) .begun))
-    (λ c. search needs))
+    returns)

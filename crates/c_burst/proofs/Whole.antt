@@ -1,0 +1,117 @@
+-- A burst by its answers: a wrong size, a refusal, and the receptions taken. Assumes nothing.
+use Prim.Native.Nat.{ℕ, suc, _*_, _/_}
+use native.Mathlib.Omega.{arith}
+use mathlib.Core.Path.{_≡_, refl, sym, ap, ap₂, subst, _∙_}
+use mathlib.Core.Bool.{Bool, true, false, cond}
+use mathlib.Core.List.{List, [], _∷_, _++_, map, flatten}
+use lib.Dec.{eqb}
+use lib.ListN.{length, take, drop, replicate, length-replicate}
+use lib.Seq.{take-at}
+use borrow.Author.Tests.{ne-eqb}
+use Rattle.refusal.specs.Number.{numberOf}
+use Rattle.refusal.specs.declared.Refusal.the-variants.{NotAccepted}
+use Rattle.refusal.proofs.Numbers.{refused-number}
+use Rattle.model.specs.View.{Reception, View}
+use Rattle.model.specs.Step.{step}
+use Rattle.model.specs.Acceptable.{acceptable}
+use Rattle.model.specs.Burst.{Replied, afterAll, repliesTo, callNumber, burstNumber, taken}
+use Rattle.collector.specs.declared.merging.Summary.{Summary}
+use Rattle.collector.specs.Collector.{Columns}
+use Rattle.collector.specs.Admission.{viewIn}
+use Rattle.c_layout.specs.Frame.{wrongSize}
+use Rattle.c_collector.specs.State.{Arrays, arrays, columnsAt, stateAt, summaryIn, numbersOf, numbersIn}
+use Rattle.c_collector.proofs.State.{numbers-counted}
+use Rattle.c_burst.specs.Bytes.{receptionsIn, replyLength, replyBytes, isSized}
+use Rattle.c_burst.specs.Calls.{BurstCall, anyPlace, repliesWith, burstCall, Bursts, Delivered}
+use Rattle.c_burst.proofs.Turns.{receptions-count}
+
+-- a reply for each reception
+replies-count : (setting : ℕ) (v : View) (rs : List Reception) → length (repliesTo setting v rs) ≡ length rs
+unfolding repliesTo
+replies-count setting v [] = refl
+replies-count setting v (r ∷ rs) = ap suc (replies-count setting (step v r .next) rs)
+
+module _ (s : Arrays) (setting : ℕ) (moments records old : List ℕ) where
+  abbrev v : View
+  v = stateAt s
+
+  abbrev rs : List Reception
+  rs = receptionsIn moments records
+
+  abbrev room : ℕ
+  room = length old / replyLength
+
+  abbrev Gives : ℕ → Arrays → List ℕ → Type 0
+  Gives number s' new = Bursts s setting moments records old number s' new
+
+  pub wrong-size : isSized (length moments) (length records) (length old) ≡ false → Gives wrongSize s old
+  unfolding burstCall
+  wrong-size bad = record { result = rw bad; counted = λ e. absurd (wrong e); stays = λ _. refl }
+    where
+      wrong : wrongSize ≡ 0 → ⊥
+      wrong e = absurd (omega arith)
+
+  module _ (sized : isSized (length moments) (length records) (length old) ≡ true) where
+    -- what a burst with this number shows
+    shown : ℕ → BurstCall
+    shown number =
+        let t = taken number rs in
+        record {
+          number = number;
+          replies = repliesWith (length t) (repliesTo setting v t ++ drop (length t) (replicate room anyPlace)) old;
+          next = afterAll v t;
+        }
+
+    call-is : shown (burstNumber setting v (length moments) room) ≡ burstCall setting v moments records old
+    unfolding burstCall shown
+    call-is = rw sized (ap₂ (λ (n m : ℕ). shown (burstNumber setting v n m)) (sym (receptions-count moments records)) (sym (length-replicate room anyPlace)))
+
+    -- nothing is taken beside a refusal
+    pub refused : (n : ℕ) → n ≡ burstNumber setting v (length moments) room → (n ≡ 0 → ⊥) → Gives n s old
+    unfolding afterAll repliesTo flatten shown
+    refused n e other = record {
+      result = none ∙ ap shown e ∙ call-is;
+      counted = λ z. absurd (other z);
+      stays = λ _. refl;
+    }
+      where
+        none : record { number = n; replies = old; next = v } ≡ shown n
+        none = rw (ne-eqb n 0 other)
+
+    pub refused-state : acceptable v ≡ false → (n : ℕ) → n ≡ numberOf NotAccepted → Gives n s old
+    unfolding burstNumber
+    refused-state bad n e = refused n (rw bad e) (λ z. refused-number NotAccepted (sym e ∙ z))
+
+    module _ (ok : acceptable v ≡ true) where
+      same-number : callNumber setting (length moments) room ≡ burstNumber setting v (length moments) room
+      unfolding burstNumber
+      same-number = rw ok
+
+      pub refused-call : (n : ℕ) → n ≡ callNumber setting (length moments) room → (n ≡ 0 → ⊥) → Gives n s old
+      refused-call n e = refused n (e ∙ same-number)
+
+      pub all-taken : callNumber setting (length moments) room ≡ 0 → (read : Summary) → read ≡ summaryIn (s .numbers) → (a : Columns) (next : Summary) (new : List ℕ)
+          → Delivered setting (viewIn (columnsAt s) read) rs old new (viewIn a next)
+          → (numbers : List ℕ) → numbers ≡ numbersIn next → Gives 0 (arrays (a .times) (a .lens) (a .bytes) (a .copies) numbers) new
+      unfolding shown
+      all-taken z read same a next new delivered numbers stored = record {
+        result = whole;
+        counted = λ _. stored ∙ numbers-counted a next ∙ ap numbersOf (d .stepped ∙ ap (λ (b : BurstCall). b .next) done);
+        stays = λ n. absurd (n refl);
+      }
+        where
+          d : Delivered setting v rs old new (viewIn a next)
+          d = subst (λ (x : Summary). Delivered setting (viewIn (columnsAt s) x) rs old new (viewIn a next)) same delivered
+
+          done : shown 0 ≡ burstCall setting v moments records old
+          done = ap shown (sym (sym same-number ∙ z)) ∙ call-is
+
+          fronts : take (length rs) (repliesTo setting v rs ++ drop (length rs) (replicate room anyPlace)) ≡ repliesTo setting v rs
+          fronts = take-at (repliesTo setting v rs) (drop (length rs) (replicate room anyPlace)) (length rs) (replies-count setting v rs)
+
+          whole : record { number = 0; replies = new; next = viewIn a (summaryIn numbers) } ≡ burstCall setting v moments records old
+          whole =
+              ap (λ (l : List ℕ). record { number = 0; replies = new; next = viewIn a (summaryIn l) }) stored
+              ∙ ap₂ (λ (l : List ℕ) (u : View). record { number = 0; replies = l; next = u }) (d .replied) (d .stepped)
+              ∙ ap (λ (l : List Replied). record { number = 0; replies = flatten (map replyBytes l) ++ drop (replyLength * length rs) old; next = afterAll v rs }) (sym fronts)
+              ∙ done

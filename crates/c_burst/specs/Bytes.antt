@@ -1,0 +1,32 @@
+-- The bytes of the receptions of a burst and of the replies to them (document 02, A1 and A7). Assumes nothing.
+use Prim.Native.Nat.{ℕ, _*_, _%_}
+use mathlib.Core.Bool.{Bool, _&&_}
+use mathlib.Core.List.{List, [], _∷_, _++_, map}
+use lib.Dec.{eqb}
+use lib.ListN.{length, getD, drop}
+use Rattle.lists.specs.Lists.{upFrom}
+use Rattle.layout.specs.Buffer.{part, resized}
+use Rattle.model.specs.Answer.{shownNumber}
+use Rattle.model.specs.View.{Reception}
+use Rattle.model.specs.Burst.{Replied}
+use Rattle.c_layout.specs.Frame.{frameLength, frameBytes}
+use Rattle.c_collector.specs.Calls.{kindOf}
+
+-- what a frame hands over: as many bytes as its length says, so that a length over 21 fails the check with 1
+abbrev pub receptionIn : List ℕ → ℕ → Reception
+receptionIn frame time = record { bytes = resized (getD frame 0 0) (drop 1 frame); time = time }
+
+-- the receptions of a list of moments, each with its frame
+unfoldable pub receptionsIn : List ℕ → List ℕ → List Reception
+receptionsIn moments records = map (λ i. receptionIn (part (frameLength * i) frameLength records) (getD moments i 0)) (upFrom 0 (length moments))
+
+-- "kind, number, and the telegram to send": 24 bytes
+abbrev pub replyLength : ℕ
+replyLength = 24
+
+unfoldable pub replyBytes : Replied → List ℕ
+replyBytes r = (kindOf (r .answer) ∷ shownNumber (r .answer) ∷ []) ++ frameBytes (r .sent .len) (r .sent .bytes)
+
+-- a frame for each moment, and whole places
+abbrev pub isSized : ℕ → ℕ → ℕ → Bool
+isSized moments records places = eqb records (frameLength * moments) && eqb (places % replyLength) 0

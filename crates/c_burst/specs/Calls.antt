@@ -1,0 +1,55 @@
+-- What a burst answers, and what it leaves in what it is lent (document 02, A1 and A7). Assumes nothing.
+use Prim.Native.Nat.{ℕ, _*_, _/_}
+use mathlib.Core.Path.{_≡_}
+use mathlib.Core.Bool.{cond, not}
+use mathlib.Core.List.{List, [], _++_, map, flatten}
+use lib.ListN.{length, take, drop, replicate}
+use Rattle.telegram.specs.Frame.{frameOf}
+use Rattle.model.specs.Answer.{Kept}
+use Rattle.model.specs.View.{Reception, View}
+use Rattle.model.specs.Step.{step}
+use Rattle.model.specs.Burst.{Replied, replyWith, afterAll, repliesTo, taken, burstOf}
+use Rattle.c_layout.specs.Frame.{wrongSize}
+use Rattle.c_collector.specs.State.{Arrays, stateAt, numbersOf}
+use Rattle.c_burst.specs.Bytes.{receptionsIn, replyLength, replyBytes, isSized}
+
+-- the number, every byte of the second list, and the next state
+pub record BurstCall : Type 0 where
+  pub number : ℕ
+  pub replies : List ℕ
+  pub next : View
+
+-- a place of the second list before a burst, which does not look at it
+abbrev pub anyPlace : Replied
+anyPlace = record { answer = Kept; sent = frameOf [] }
+
+-- the bytes of the second list: a reply for each of n receptions, and behind them what stood there
+abbrev pub repliesWith : ℕ → List Replied → List ℕ → List ℕ
+repliesWith n replies old = flatten (map replyBytes (take n replies)) ++ drop (replyLength * n) old
+
+-- sizes first; then as `burstOf` says, whose second list has as many places as there are bytes for
+unfoldable pub burstCall : ℕ → View → List ℕ → List ℕ → List ℕ → BurstCall
+burstCall setting v moments records old =
+    cond (not (isSized (length moments) (length records) (length old))) (record { number = wrongSize; replies = old; next = v })
+    (let rs = receptionsIn moments records in
+    let b = burstOf setting v rs (replicate (length old / replyLength) anyPlace) in
+    record { number = b .number; replies = repliesWith (length (taken (b .number) rs)) (b .replies) old; next = b .next })
+
+-- a burst in the arrays before and after it
+pub record Bursts (s : Arrays) (setting : ℕ) (moments records old : List ℕ) (number : ℕ) (s' : Arrays) (new : List ℕ) : Type 0 where
+  pub result : record { number = number; replies = new; next = stateAt s' } ≡ burstCall setting (stateAt s) moments records old
+  pub counted : number ≡ 0 → s' .numbers ≡ numbersOf (burstCall setting (stateAt s) moments records old .next)
+  -- beside any other number than 0 every number of the five arrays is as it was
+  pub stays : (number ≡ 0 → ⊥) → s' ≡ s
+
+-- ---- what private functions say
+
+-- one reception: the bytes of the reply, and the next state
+pub record Answered (setting : ℕ) (v : View) (r : Reception) (reply : List ℕ) (next : View) : Type 0 where
+  pub replied : reply ≡ replyBytes (replyWith setting (step v r .answer) r)
+  pub stepped : next ≡ step v r .next
+
+-- all of them: the second list, and the state
+pub record Delivered (setting : ℕ) (v : View) (rs : List Reception) (old new : List ℕ) (next : View) : Type 0 where
+  pub replied : new ≡ flatten (map replyBytes (repliesTo setting v rs)) ++ drop (replyLength * length rs) old
+  pub stepped : next ≡ afterAll v rs

@@ -1,0 +1,70 @@
+-- The five arrays of a collector.
+--     numbers-back      eight numbers, read and written again
+--     numbers-counted   the numbers of what a state holds beside its columns are those of the state
+--     taken             one reception, admitted as the test of the state says
+--     totals-shown, totals-refused     the totals by the test of the state
+-- Assumes nothing.
+use Prim.Native.Nat.{ℕ}
+use native.Mathlib.Omega.{arith}
+use mathlib.Core.Path.{_≡_, refl, sym, ap, _∙_}
+use mathlib.Core.Bool.{Bool, true, false}
+use mathlib.Core.List.{List, [], _∷_}
+use lib.ListN.{length}
+use Rattle.refusal.specs.Number.{numberOf}
+use Rattle.refusal.specs.declared.Refusal.the-variants.{NotAccepted}
+use Rattle.model.specs.Answer.{shownOf}
+use Rattle.model.specs.View.{Reception, View}
+use Rattle.model.specs.Acceptable.{acceptable}
+use Rattle.model.specs.Step.{Outcome, step}
+use Rattle.collector.specs.declared.merging.Summary.{Summary}
+use Rattle.collector.specs.declared.merging.Admitted.{Admitted}
+use Rattle.collector.specs.Collector.{Columns}
+use Rattle.collector.specs.Admission.{viewIn, admittedOf, admission, Admits}
+use Rattle.collector.proofs.Arrays.{entries-length}
+use Rattle.collector.proofs.Stepping.{admission-fit}
+use Rattle.c_collector.specs.State.{Arrays, arrays, columnsAt, summaryIn, stateAt, totalsOf, numbersOf, numbersIn}
+use Rattle.c_collector.specs.Calls.{answerNumber, Takes, TotalsCall, totalsCall}
+
+pub numbers-back : (l : List ℕ) → length l ≡ 8 → numbersIn (summaryIn l) ≡ l
+numbers-back [] e = absurd (omega arith)
+numbers-back (a ∷ []) e = absurd (omega arith)
+numbers-back (a ∷ b ∷ []) e = absurd (omega arith)
+numbers-back (a ∷ b ∷ c ∷ []) e = absurd (omega arith)
+numbers-back (a ∷ b ∷ c ∷ d ∷ []) e = absurd (omega arith)
+numbers-back (a ∷ b ∷ c ∷ d ∷ f ∷ []) e = absurd (omega arith)
+numbers-back (a ∷ b ∷ c ∷ d ∷ f ∷ g ∷ []) e = absurd (omega arith)
+numbers-back (a ∷ b ∷ c ∷ d ∷ f ∷ g ∷ h ∷ []) e = absurd (omega arith)
+numbers-back (a ∷ b ∷ c ∷ d ∷ f ∷ g ∷ h ∷ i ∷ []) e = refl
+numbers-back (a ∷ b ∷ c ∷ d ∷ f ∷ g ∷ h ∷ i ∷ j ∷ l) e = absurd (omega arith)
+
+pub numbers-counted : (a : Columns) (s : Summary) → numbersIn s ≡ numbersOf (viewIn a s)
+numbers-counted a s = ap (λ (n : ℕ). n ∷ s .latest ∷ totalsOf (s .totals)) (sym (entries-length a (s .count)))
+
+module _ (s : Arrays) (r : Reception) (fit : Bool) (old : Summary) (a : Columns) (d : Admitted) where
+  pub taken : length (s .numbers) ≡ 8 → fit ≡ acceptable (stateAt s) → old ≡ summaryIn (s .numbers) → Admits fit (columnsAt s) old r a d
+      → (answer : ℕ) → answer ≡ answerNumber (shownOf (d .answer)) → (numbers : List ℕ) → numbers ≡ numbersIn (d .summary)
+      → Takes s r answer (arrays (a .times) (a .lens) (a .bytes) (a .copies) numbers)
+  taken eight tested read admits answer shown numbers stored = record {
+    answered = shown ∙ ap (λ (o : Outcome). answerNumber (o .answer)) stepped;
+    next = ap (λ (l : List ℕ). viewIn a (summaryIn l)) stored ∙ next;
+    counted = stored ∙ numbers-counted a (d .summary) ∙ ap numbersOf next;
+    stays = λ e.
+        let k = admits .stays (rw (← stepped) at e) in
+        let same = stored ∙ ap numbersIn (k .1 ∙ read) ∙ numbers-back (s .numbers) eight in
+        λ i. arrays (k .0 i .times) (k .0 i .lens) (k .0 i .bytes) (k .0 i .copies) (same i);
+  }
+    where
+      stepped : admittedOf a d ≡ step (stateAt s) r
+      stepped = admits .outcome ∙ ap (λ (x : Summary). admission fit (viewIn (columnsAt s) x) r) read ∙ admission-fit _ _ _ tested
+
+      next : viewIn a (d .summary) ≡ step (stateAt s) r .next
+      next = ap (λ (o : Outcome). o .next) stepped
+
+module _ (v : View) (old : List ℕ) where
+  pub totals-refused : acceptable v ≡ false → _≡_ {A = TotalsCall} (record { number = numberOf NotAccepted; values = old }) (totalsCall v old)
+  unfolding totalsCall
+  totals-refused bad = rw bad
+
+  pub totals-shown : acceptable v ≡ true → _≡_ {A = TotalsCall} (record { number = 0; values = totalsOf (v .totals) }) (totalsCall v old)
+  unfolding totalsCall
+  totals-shown ok = rw ok

@@ -1,0 +1,70 @@
+-- `c_collector::copies_of` meets its contract: a case for each answer. Assumes nothing.
+use Prim.Native.Nat.{_≤_}
+use mathlib.Core.Path.{_≡_, sym, _∙_}
+use mathlib.Core.Bool.{true}
+use native.Mathlib.Omega.{arith}
+use borrow.Author.Needs.{needs}
+use borrow.Author.Tests.{not-true, not-false}
+use denote.Ref.{now}
+use lib.ListN.{getD}
+use Rattle.model.specs.View.{capacity}
+use Rattle.model.specs.Acceptable.{acceptable}
+use Rattle.collector.specs.declared.Collector.{Collector}
+use Rattle.collector.specs.Collector.{columns, viewOf}
+use Rattle.collector.specs.Admission.{collectorOf}
+use Rattle.collector.proofs.Hearing.{heard-unacceptable, heard-few, heard-closed, heard-open}
+use Rattle.c_collector.specs.State.{summaryIn}
+use Rattle.c_collector.proofs.copies_of.Statement.{statement}
+use Rattle.c_collector.proofs.copies_of.Tie as tie
+
+-- the state that is lent, as one value
+abbrev state : tie.Start → Collector
+state s =
+    let a = s .args in
+    collectorOf (columns (now (a .times)) (now (a .lengths)) (now (a .bytes)) (now (a .copies))) (summaryIn (now (a .numbers)))
+
+tested : (c : tie.After-is-acceptable) → c .is-acceptable .result ≡ acceptable (viewOf (state (c .before)))
+unfolding viewOf
+tested c = c .is-acceptable .ensures _
+
+passed : (c : tie.Else1) → acceptable (viewOf (state (c .before .before))) ≡ true
+passed c = sym (tested (c .before)) ∙ not-false _ (c .if1 .left)
+
+returns : tie.Need-returns
+unfolding viewOf
+returns c =
+    let s = c .before .before .before in
+    rw (c .number .ensures) (heard-unacceptable (state s) (s .args .entry) (sym (tested (c .before .before)) ∙ not-true _ (c .before .if1 .taken)))
+
+returns-2 : tie.Need-returns-2
+unfolding viewOf
+returns-2 c =
+    let e = c .before .before in
+    let s = e .before .before .before in
+    rw (c .number2 .ensures) (heard-closed (state s) (s .args .entry) (passed (e .before)) (c .before .if2 .taken))
+
+-- the entry is open
+few : (c : tie.Else2) → getD (now (c .before .before .before .before .args .numbers)) 0 0 ≤ capacity
+few c = heard-few (state (c .before .before .before .before)) (c .before .before .before .before .args .entry) (passed (c .before .before))
+
+returns-3 : tie.Need-returns-3
+unfolding viewOf
+returns-3 c =
+    let o = c .before .before in
+    let s = o .before .before .before .before in
+    rw (c .wide .ensures) (heard-open (state s) (s .args .entry) (passed (o .before .before)) (o .if2 .left))
+
+pub copies-of-spec : {M : Type 1} → statement M
+copies-of-spec =
+    tie.close
+    (tie.spec
+    (λ c κs. search needs)
+    (λ c κs. search needs)
+    returns
+    (λ c. search needs)
+    (λ c κs. search needs)
+    returns-2
+    (λ c. omega (arith, few c, c .if2 .left))
+    (λ c. omega (arith, few c, c .if2 .left))
+    (λ c κs. search needs)
+    returns-3)

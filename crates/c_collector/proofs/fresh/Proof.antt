@@ -1,0 +1,14 @@
+-- `c_collector::fresh` meets its contract: by computation. Assumes nothing.
+use mathlib.Core.Path.{refl}
+use Rattle.model.specs.View.{fresh}
+use Rattle.collector.specs.Collector.{entriesAt}
+use Rattle.lists.specs.Lists.{upFrom}
+use Rattle.c_collector.proofs.fresh.Statement.{statement}
+use Rattle.c_collector.proofs.fresh.Tie as tie
+
+returns : tie.Need-returns
+unfolding fresh entriesAt upFrom
+returns c = record { zero = refl; state = refl }
+
+pub fresh-spec : {M : Type 1} → statement M
+fresh-spec = tie.close (tie.spec returns)

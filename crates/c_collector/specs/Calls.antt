@@ -1,0 +1,52 @@
+-- What the calls answer, and what they leave in what they are lent. Assumes nothing.
+use Prim.Native.Nat.{ℕ, _+_, _*_}
+use mathlib.Core.Path.{_≡_}
+use mathlib.Core.Bool.{false, cond, not}
+use mathlib.Core.List.{List}
+use lib.ListN.{replicate}
+use Rattle.refusal.specs.Number.{numberOf}
+use Rattle.refusal.specs.declared.Refusal.the-variants.{NotAccepted}
+use Rattle.erp1.specs.Subtelegram.{maxLength}
+use Rattle.model.specs.Answer.{Shown, Kept, Copy, Loose, Refused, shownNumber, isReceived}
+use Rattle.model.specs.View.{Reception, View, capacity, fresh}
+use Rattle.model.specs.Acceptable.{acceptable}
+use Rattle.model.specs.Step.{step}
+use Rattle.c_collector.specs.State.{Arrays, arrays, stateAt, totalsOf, numbersOf}
+
+-- "KEPT, COPY and LOOSE are three forms" of 0 (document 01, "Numbers a caller sees"): which of them; 0 beside a refusal
+abbrev pub kindOf : Shown → ℕ
+kindOf Kept = 0
+kindOf Copy = 1
+kindOf Loose = 2
+kindOf (Refused n) = 0
+
+-- an answer as one number
+abbrev pub answerNumber : Shown → ℕ
+answerNumber a = 256 * kindOf a + shownNumber a
+
+-- one reception: the step of the reference model, in the arrays before and after it
+pub record Takes (s : Arrays) (r : Reception) (answer : ℕ) (s' : Arrays) : Type 0 where
+  pub answered : answer ≡ answerNumber (step (stateAt s) r .answer)
+  pub next : stateAt s' ≡ step (stateAt s) r .next
+  pub counted : s' .numbers ≡ numbersOf (step (stateAt s) r .next)
+  -- at 8 and 11 every number of the five arrays is as it was
+  pub stays : isReceived (step (stateAt s) r .answer) ≡ false → s' ≡ s
+
+abbrev pub zeros : ℕ → List ℕ
+zeros n = replicate n 0
+
+-- a fresh collector: every number of the five arrays is zero
+pub record Fresh (s : Arrays) : Type 0 where
+  pub zero : s ≡ arrays (zeros capacity) (zeros capacity) (zeros (capacity * maxLength)) (zeros capacity) (zeros 8)
+  pub state : stateAt s ≡ fresh
+
+-- the number, and every number of the lent totals at exit
+pub record TotalsCall : Type 0 where
+  pub number : ℕ
+  pub values : List ℕ
+
+-- "Totals" (document 01, "Merging"); beside 11 what was lent stays
+unfoldable pub totalsCall : View → List ℕ → TotalsCall
+totalsCall v old =
+    cond (not (acceptable v)) (record { number = numberOf NotAccepted; values = old })
+    (record { number = 0; values = totalsOf (v .totals) })

@@ -1,0 +1,53 @@
+-- A collector in five arrays of numbers: what they say. Assumes nothing.
+use Prim.Native.Nat.{ℕ}
+use mathlib.Core.List.{List, [], _∷_}
+use lib.ListN.{length, getD}
+use Rattle.model.specs.declared.Totals.{Totals}
+use Rattle.model.specs.View.{View}
+use Rattle.collector.specs.declared.merging.Summary.{Summary}
+use Rattle.collector.specs.Collector.{Columns, columns}
+use Rattle.collector.specs.Admission.{viewIn}
+
+-- what a caller lends: of each open telegram when it was opened, its length, its 21 bytes and its number of copies; and eight numbers
+pub record Arrays : Type 0 where
+  pub times : List ℕ
+  pub lengths : List ℕ
+  pub bytes : List ℕ
+  pub copies : List ℕ
+  pub numbers : List ℕ
+
+abbrev pub arrays : List ℕ → List ℕ → List ℕ → List ℕ → List ℕ → Arrays
+arrays times lengths bytes copies numbers = record { times = times; lengths = lengths; bytes = bytes; copies = copies; numbers = numbers }
+
+abbrev pub columnsAt : Arrays → Columns
+columnsAt s = columns (s .times) (s .lengths) (s .bytes) (s .copies)
+
+-- eight numbers: how many telegrams are open, the latest time, and the totals
+abbrev pub summaryIn : List ℕ → Summary
+summaryIn numbers = record {
+  count = getD numbers 0 0;
+  latest = getD numbers 1 0;
+  totals = record {
+    received = getD numbers 2 0;
+    kept = getD numbers 3 0;
+    copies = getD numbers 4 0;
+    loose = getD numbers 5 0;
+    damaged = getD numbers 6 0;
+    late = getD numbers 7 0;
+  };
+}
+
+-- the state that the five arrays hold
+abbrev pub stateAt : Arrays → View
+stateAt s = viewIn (columnsAt s) (summaryIn (s .numbers))
+
+abbrev pub totalsOf : Totals → List ℕ
+totalsOf n = n .received ∷ n .kept ∷ n .copies ∷ n .loose ∷ n .damaged ∷ n .late ∷ []
+
+-- the eight numbers of a state
+abbrev pub numbersOf : View → List ℕ
+numbersOf v = length (v .entries) ∷ v .latest ∷ totalsOf (v .totals)
+
+-- those of what a state holds beside its columns
+abbrev pub numbersIn : Summary → List ℕ
+numbersIn s = s .count ∷ s .latest ∷ totalsOf (s .totals)

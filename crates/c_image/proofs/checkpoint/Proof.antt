@@ -1,0 +1,29 @@
+-- `c_image::checkpoint` meets its contract: it is that of the state that the arrays hold. Assumes nothing.
+use mathlib.Core.Path.{_≡_, ap, _∙_}
+use borrow.Author.Needs.{needs}
+use denote.Ref.{now}
+use Rattle.model.specs.Image.{checkpointOf}
+use Rattle.collector.specs.declared.merging.Summary.{Summary}
+use Rattle.collector.specs.Collector.{columns}
+use Rattle.collector.specs.Admission.{viewIn}
+use Rattle.c_image.proofs.checkpoint.Statement.{statement}
+use Rattle.c_image.proofs.checkpoint.Tie as tie
+
+returns : tie.Need-returns
+returns c =
+    let done = c .before .before .before in
+    let read = done .before .before in
+    let a = read .before .before .args in
+    rw (c .saved-number .ensures)
+    (done .checkpoint-at .ensures
+    ∙ ap (λ (s : Summary). checkpointOf (viewIn (columns (now (a .times)) (now (a .lengths)) (now (a .bytes)) (now (a .copies))) s) (now (a .out))) (read .summary-in .ensures .0))
+
+pub checkpoint-spec : {M : Type 1} → statement M
+checkpoint-spec =
+    tie.close
+    (tie.spec
+    (λ c κs. search needs)
+    (λ c κs. search needs)
+    (λ c κs. search needs)
+    (λ c. search needs)
+    returns)

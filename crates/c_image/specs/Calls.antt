@@ -1,0 +1,27 @@
+-- What a restore leaves in the five arrays of a collector (document 01, "Parked collector"). Assumes nothing.
+use Prim.Native.Nat.{ℕ}
+use mathlib.Core.Path.{_≡_}
+use mathlib.Core.List.{List}
+use Rattle.model.specs.Image.{RestoreResult, parse, restoreOf}
+use Rattle.collector.specs.declared.Collector.{Collector}
+use Rattle.c_collector.specs.State.{Arrays, stateAt, numbersOf, numbersIn}
+
+abbrev pub restoreResult : ℕ → Arrays → RestoreResult
+restoreResult number s = record { number = number; next = stateAt s }
+
+-- "11: image or state not accepted; the collector stays as it was": the number, and the arrays before and after it
+pub record Restores (s : Arrays) (image : List ℕ) (number : ℕ) (s' : Arrays) : Type 0 where
+  pub result : restoreResult number s' ≡ restoreOf (stateAt s) image
+  pub counted : number ≡ 0 → s' .numbers ≡ numbersOf (parse image)
+  -- beside a refusal every number of the five arrays is as it was
+  pub stays : (number ≡ 0 → ⊥) → s' ≡ s
+
+-- the arrays of a state (private functions say this)
+abbrev pub arraysOf : Collector → Arrays
+arraysOf c = record {
+  times = c .times;
+  lengths = c .lens;
+  bytes = c .bytes;
+  copies = c .copies;
+  numbers = numbersIn (record { count = c .count; latest = c .latest; totals = c .totals });
+}
