@@ -363,15 +363,15 @@ uint8_t mooringeye_report_line(const uint64_t *numbers, const uint64_t *lines, s
 /* The share of its rows in receptions, in whole thousandths rounded down. Refused: 11, 10 a figure of 0 or less than the rows. */
 uint8_t mooringeye_report_share(const uint64_t *numbers, const uint64_t *lines, uint64_t received, uint64_t *thousandths);
 
-/* An archive that is added in pieces: `adding` and `so_far` are what is known after some pieces, while the report stays as it is until the end. `adding`
- * is the four numbers of a scan, how many lines there are, KEPT rows, LOOSE rows, and whether a transmitter was one too many; `so_far` the lines. */
-void mooringeye_report_start(const uint64_t *numbers, const uint64_t *lines, uint64_t *adding, uint64_t *so_far);
+/* An archive that is added in pieces: `adding` and `tally` are what is known after some pieces, while the report stays as it is until the end. `adding`
+ * is the four numbers of a scan, how many lines there are, KEPT rows, LOOSE rows, and whether a transmitter was one too many; `tally` the lines. */
+void mooringeye_report_start(const uint64_t *numbers, const uint64_t *lines, uint64_t *adding, uint64_t *tally);
 
 /* The next piece. Refused: 11 a report that no archives give, or numbers that no pieces give beside it, as far as they tell; 16 as of a scan. */
-uint8_t mooringeye_report_feed(const uint64_t *numbers, const uint64_t *lines, uint64_t *adding, uint64_t *so_far, const uint8_t *piece, size_t size);
+uint8_t mooringeye_report_feed(const uint64_t *numbers, const uint64_t *lines, uint64_t *adding, uint64_t *tally, const uint8_t *piece, size_t size);
 
 /* After the last piece: what mooringeye_report_add answers for all pieces together. Refused: 11, 12 with the position, 10, 17; then nothing is added. */
-uint8_t mooringeye_report_end(uint64_t *numbers, uint64_t *lines, const uint64_t *adding, const uint64_t *so_far, size_t *position);
+uint8_t mooringeye_report_end(uint64_t *numbers, uint64_t *lines, const uint64_t *adding, const uint64_t *tally, size_t *position);
 
 #ifdef __cplusplus
 }

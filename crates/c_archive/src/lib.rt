@@ -200,7 +200,8 @@ fn found_number(found: Found) -> u8
     }
 }
 
-fn taken_number(taken: Taken) -> u8
+// The number of what was taken or refused.
+pub fn taken_number(taken: Taken) -> u8
     ensures { λ r. ⌜ r ≡ takenNumber taken ⌝ }
 {
     match taken {

@@ -1,8 +1,14 @@
 // An archive added to a report in pieces: the report stays as it is until the end.
 use crate::scan;
-use archive::Outcome;
-use refusal::Refusal;
 use report::Adding;
+ghost use mathlib.Core.Path.{_≡_};
+ghost use mathlib.Core.Bool.{not};
+ghost use lib.Dec.{eqb};
+ghost use Rattle.report_model.specs.Report as model;
+ghost use Rattle.report_model.specs.Pieces as pieces;
+ghost use Rattle.report.specs.Report.{addingOf};
+ghost use Rattle.c_report.specs.Calls.{reportAt};
+ghost use Rattle.c_pieces.specs.Adding.{tallyAt, addingAt};
 
 // The four numbers of a scan, how many lines there are, KEPT rows, LOOSE rows, and 1 where a transmitter was one too many.
 pub const NUMBERS: usize = 8;
@@ -12,10 +18,13 @@ pub fn start(
     numbers: &[u64; c_report::NUMBERS],
     lines: &[u64; c_report::LINES],
     adding: &mut [u64; NUMBERS],
-    so_far: &mut [u64; c_report::LINES],
-) {
+    tally: &mut [u64; c_report::LINES],
+)
+    ensures { λ _. ⌜ addingAt (now (numbers .entry)) (now (lines .entry)) (now (adding .exit)) (now (tally .exit))
+        ≡ pieces.startAdding (reportAt (now (numbers .entry)) (now (lines .entry))) ⌝ }
+{
     let r = c_report::report_in(numbers, lines);
-    store(Adding::start(r), adding, so_far);
+    store(Adding::start(r), adding, tally);
 }
 
 // The blocks of a piece: 11, 16.
@@ -23,14 +32,17 @@ pub fn feed(
     numbers: &[u64; c_report::NUMBERS],
     lines: &[u64; c_report::LINES],
     adding: &mut [u64; NUMBERS],
-    so_far: &mut [u64; c_report::LINES],
+    tally: &mut [u64; c_report::LINES],
     piece: &[u8],
-) -> u8 {
-    let a = adding_in(numbers, lines, adding, so_far);
+) -> u8
+    ensures { λ r. ⌜ pieces.fed r (addingAt (now (numbers .entry)) (now (lines .entry)) (now (adding .exit)) (now (tally .exit)))
+        ≡ pieces.feedOf (addingAt (now (numbers .entry)) (now (lines .entry)) (now (adding .entry)) (now (tally .entry))) (now (piece .entry)) ⌝ }
+{
+    let a = adding_in(numbers, lines, adding, tally);
     let fed = a.feed(piece);
     let answer = fed.answer;
-    store(fed.next, adding, so_far);
-    crate::taken_number(answer)
+    store(fed.next, adding, tally);
+    c_archive::taken_number(answer)
 }
 
 // What adding all pieces as one archive answers: 11, 12 with the position, 10, 17; then the report is as it was.
@@ -38,10 +50,13 @@ pub fn end(
     numbers: &mut [u64; c_report::NUMBERS],
     lines: &mut [u64; c_report::LINES],
     adding: &[u64; NUMBERS],
-    so_far: &[u64; c_report::LINES],
+    tally: &[u64; c_report::LINES],
     position: &mut usize,
-) -> u8 {
-    let a = adding_in(numbers, lines, adding, so_far);
+) -> u8
+    ensures { λ r. ⌜ model.answer r (now (position .exit)) (reportAt (now (numbers .exit)) (now (lines .exit)))
+        ≡ pieces.endOf (addingAt (now (numbers .entry)) (now (lines .entry)) (now (adding .entry)) (now (tally .entry))) ⌝ }
+{
+    let a = adding_in(numbers, lines, adding, tally);
     let added = a.end();
     let answer = added.answer;
     c_report::store(added.next, numbers, lines);
@@ -53,8 +68,10 @@ fn adding_in(
     numbers: &[u64; c_report::NUMBERS],
     lines: &[u64; c_report::LINES],
     adding: &[u64; NUMBERS],
-    so_far: &[u64; c_report::LINES],
-) -> Adding {
+    tally: &[u64; c_report::LINES],
+) -> Adding
+    ensures { λ r. ⌜ addingOf r ≡ addingAt (now (numbers .entry)) (now (lines .entry)) (now (adding .entry)) (now (tally .entry)) ⌝ }
+{
     Adding {
         before: c_report::report_in(numbers, lines),
         scan: scan::scan_of(adding[0], adding[1], adding[2], adding[3]),
@@ -62,11 +79,14 @@ fn adding_in(
         kept: adding[5],
         loose: adding[6],
         over: adding[7] != 0,
-        lines: *so_far,
+        lines: *tally,
     }
 }
 
-fn store(a: Adding, adding: &mut [u64; NUMBERS], so_far: &mut [u64; c_report::LINES]) {
+// What is known beside the report.
+fn store(a: Adding, adding: &mut [u64; NUMBERS], tally: &mut [u64; c_report::LINES])
+    ensures { λ _. ⌜ tallyAt (now (adding .exit)) (now (tally .exit)) ≡ addingOf a .tally ⌝ }
+{
     let s = a.scan;
     let stage = s.stage;
     *adding = [
@@ -80,10 +100,12 @@ fn store(a: Adding, adding: &mut [u64; NUMBERS], so_far: &mut [u64; c_report::LI
         bit(a.over),
     ];
     let all = a.lines;
-    *so_far = all;
+    *tally = all;
 }
 
-fn bit(b: bool) -> u64 {
+fn bit(b: bool) -> u64
+    ensures { λ r. ⌜ not (eqb r 0) ≡ b ⌝ }
+{
     if b {
         return 1;
     }

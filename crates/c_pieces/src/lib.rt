@@ -2,12 +2,3 @@
 pub mod adding;
 pub mod packer;
 pub mod scan;
-
-use archive::Taken;
-
-pub(crate) fn taken_number(taken: Taken) -> u8 {
-    match taken {
-        Taken::Done => 0,
-        Taken::Refused(why) => refusal::number(why),
-    }
-}

@@ -1,4 +1,6 @@
 // A damaged archive packed anew, or rows of some transmitters removed, in pieces.
+ghost use mathlib.Core.Path.{_≡_};
+ghost use Rattle.c_pieces.specs.Packer.{packingAt, packCall, packEnd};
 
 // Rows that wait, and blocks written.
 pub const NUMBERS: usize = 2;
@@ -14,7 +16,17 @@ pub fn feed(
     out: &mut [u8],
     positions: &mut [u64],
     dropped: &mut usize,
-) -> u8 {
+) -> u8
+    ensures { λ r. ⌜ record {
+      number = r;
+      count = now (dropped .exit);
+      next = packingAt (now (numbers .exit)) (now (waiting .exit));
+      output = now (out .exit);
+      positions = now (positions .exit);
+    }
+        ≡ packCall (now (numbers .entry)) (now (waiting .entry)) (now (piece .entry)) (now (identities .entry)) (now (out .entry))
+        (now (positions .entry)) ⌝ }
+{
     let done = repack::pack(
         waiting,
         numbers[0] as usize,
@@ -27,7 +39,7 @@ pub fn feed(
     let answer = done.answer;
     *numbers = [done.used as u64, done.next as u64];
     *dropped = done.dropped;
-    crate::taken_number(answer)
+    c_archive::taken_number(answer)
 }
 
 // The last block, where rows wait, and its length: 11, 6.
@@ -36,9 +48,12 @@ pub fn end(
     waiting: &[u8; WAITING],
     out: &mut [u8],
     length: &mut usize,
-) -> u8 {
+) -> u8
+    ensures { λ r. ⌜ record { number = r; length = now (length .exit); output = now (out .exit) }
+        ≡ packEnd (now (numbers .entry)) (now (waiting .entry)) (now (out .entry)) ⌝ }
+{
     let done = repack::finish(waiting, numbers[0] as usize, numbers[1] as usize, out);
     let answer = done.answer;
     *length = done.len;
-    crate::taken_number(answer)
+    c_archive::taken_number(answer)
 }

@@ -3,12 +3,19 @@ use archive::Scan;
 use archive::Stage;
 use layout::CELLS_PER_BLOCK;
 use refusal::Refusal;
+ghost use mathlib.Core.Path.{_≡_};
+ghost use Rattle.archive_model.specs.Buffer as buffer;
+ghost use Rattle.archive_model.specs.Append.{isScan};
+ghost use Rattle.archive.specs.Archive.{stageOf, scanOf};
+ghost use Rattle.c_pieces.specs.Scan.{stageAt, stageNumber, stagePosition, scanAt, scanCall, scanEnd};
 
 // Blocks passed, their rows, the stage, and the position of the block that does not match.
 pub const NUMBERS: usize = 4;
 
 // The blocks of a piece: 11, 16.
-pub fn feed(numbers: &mut [u64; NUMBERS], piece: &[u8]) -> u8 {
+pub fn feed(numbers: &mut [u64; NUMBERS], piece: &[u8]) -> u8
+    ensures { λ r. ⌜ record { number = r; numbers = now (numbers .exit) } ≡ scanCall (now (numbers .entry)) (now (piece .entry)) ⌝ }
+{
     let s = scan_of(numbers[0], numbers[1], numbers[2], numbers[3]);
     let fed = s.feed(piece);
     let answer = fed.answer;
@@ -20,11 +27,13 @@ pub fn feed(numbers: &mut [u64; NUMBERS], piece: &[u8]) -> u8 {
         stage_number(stage),
         stage_position(stage),
     ];
-    crate::taken_number(answer)
+    c_archive::taken_number(answer)
 }
 
 // What all pieces answer together: how many rows; 11, 12 with the position.
-pub fn end(numbers: &[u64; NUMBERS], rows: &mut usize, position: &mut usize) -> u8 {
+pub fn end(numbers: &[u64; NUMBERS], rows: &mut usize, position: &mut usize) -> u8
+    ensures { λ r. ⌜ record { number = r; position = now (position .exit); rows = now (rows .exit) } ≡ scanEnd (scanAt (now (numbers .entry))) ⌝ }
+{
     *rows = 0;
     *position = 0;
     if !is_scan(numbers[0], numbers[1]) {
@@ -39,7 +48,9 @@ pub fn end(numbers: &[u64; NUMBERS], rows: &mut usize, position: &mut usize) -> 
 }
 
 // Whether some blocks give these numbers, as far as they tell.
-fn is_scan(blocks: u64, rows: u64) -> bool {
+fn is_scan(blocks: u64, rows: u64) -> bool
+    ensures { λ r. ⌜ r ≡ isScan (record { blocks = blocks; rows = rows; stage = buffer.Filling }) ⌝ }
+{
     if (archive::MAX_BLOCKS as u64) < blocks {
         return false;
     }
@@ -47,7 +58,9 @@ fn is_scan(blocks: u64, rows: u64) -> bool {
 }
 
 // The scan that four numbers say.
-pub(crate) fn scan_of(blocks: u64, rows: u64, stage: u64, position: u64) -> Scan {
+pub(crate) fn scan_of(blocks: u64, rows: u64, stage: u64, position: u64) -> Scan
+    ensures { λ r. ⌜ scanOf r ≡ (record { blocks = blocks; rows = rows; stage = stageAt stage position }) ⌝ }
+{
     Scan {
         blocks: blocks as usize,
         rows: rows as usize,
@@ -55,7 +68,9 @@ pub(crate) fn scan_of(blocks: u64, rows: u64, stage: u64, position: u64) -> Scan
     }
 }
 
-fn stage_of(stage: u64, position: u64) -> Stage {
+fn stage_of(stage: u64, position: u64) -> Stage
+    ensures { λ r. ⌜ stageOf r ≡ stageAt stage position ⌝ }
+{
     if stage == 0 {
         return Stage::Filling;
     }
@@ -68,7 +83,9 @@ fn stage_of(stage: u64, position: u64) -> Stage {
     Stage::Wrong(position as usize)
 }
 
-pub(crate) fn stage_number(stage: Stage) -> u64 {
+pub(crate) fn stage_number(stage: Stage) -> u64
+    ensures { λ r. ⌜ r ≡ stageNumber (stageOf stage) ⌝ }
+{
     match stage {
         Stage::Filling => 0,
         Stage::Short => 1,
@@ -77,7 +94,9 @@ pub(crate) fn stage_number(stage: Stage) -> u64 {
     }
 }
 
-pub(crate) fn stage_position(stage: Stage) -> u64 {
+pub(crate) fn stage_position(stage: Stage) -> u64
+    ensures { λ r. ⌜ r ≡ stagePosition (stageOf stage) ⌝ }
+{
     match stage {
         Stage::Filling => 0,
         Stage::Short => 0,

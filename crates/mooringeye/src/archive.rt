@@ -1,10 +1,14 @@
-// Archive block files in lent buffers: verified, appended to, read by row, salvaged, and rid of the rows of sensors that left.
+// Archive block files in lent buffers: verified, appended to, read by row, salvaged, rid of the rows of sensors that left, cut; and the same of long
+// files in pieces.
 use c_pieces::packer;
 use c_pieces::scan;
 ghost use mathlib.Core.Path.{_≡_};
 ghost use Rattle.archive_model.specs.Append as calls;
 ghost use Rattle.repack_model.specs.Repack as repack;
+ghost use Rattle.cutting.specs.Cut.{cutOf, cutBlockOf};
 ghost use Rattle.c_archive.specs.Calls.{rowCall};
+ghost use Rattle.c_pieces.specs.Scan.{scanAt, scanCall, scanEnd};
+ghost use Rattle.c_pieces.specs.Packer.{packingAt, packCall, packEnd};
 
 // How many rows an archive has.
 #[no_mangle]
@@ -116,17 +120,17 @@ pub extern "C" fn mooringeye_archive_remove(
 
 // Leaves the first `rows` rows of an archive.
 #[no_mangle]
-pub extern "C" fn mooringeye_archive_cut(
-    buffer: &mut [u8],
-    rows: usize,
-    position: &mut usize,
-) -> u8 {
+pub extern "C" fn mooringeye_archive_cut(buffer: &mut [u8], rows: usize, position: &mut usize) -> u8
+    ensures { λ r. ⌜ record { number = r; position = now (position .exit); buffer = now (buffer .exit) } ≡ cutOf rows (now (buffer .entry)) ⌝ }
+{
     c_archive::cut(buffer, rows, position)
 }
 
 // Leaves the first `rows` rows of one block.
 #[no_mangle]
-pub extern "C" fn mooringeye_archive_cut_block(block: &mut [u8], rows: usize) -> u8 {
+pub extern "C" fn mooringeye_archive_cut_block(block: &mut [u8], rows: usize) -> u8
+    ensures { λ r. ⌜ record { number = r; block = now (block .exit) } ≡ cutBlockOf rows (now (block .entry)) ⌝ }
+{
     c_archive::cut_block(block, rows)
 }
 
@@ -134,7 +138,9 @@ pub extern "C" fn mooringeye_archive_cut_block(block: &mut [u8], rows: usize) ->
 
 // The next piece of an archive that is verified.
 #[no_mangle]
-pub extern "C" fn mooringeye_scan_feed(numbers: &mut [u64; scan::NUMBERS], piece: &[u8]) -> u8 {
+pub extern "C" fn mooringeye_scan_feed(numbers: &mut [u64; scan::NUMBERS], piece: &[u8]) -> u8
+    ensures { λ r. ⌜ record { number = r; numbers = now (numbers .exit) } ≡ scanCall (now (numbers .entry)) (now (piece .entry)) ⌝ }
+{
     scan::feed(numbers, piece)
 }
 
@@ -144,7 +150,9 @@ pub extern "C" fn mooringeye_scan_end(
     numbers: &[u64; scan::NUMBERS],
     rows: &mut usize,
     position: &mut usize,
-) -> u8 {
+) -> u8
+    ensures { λ r. ⌜ record { number = r; position = now (position .exit); rows = now (rows .exit) } ≡ scanEnd (scanAt (now (numbers .entry))) ⌝ }
+{
     scan::end(numbers, rows, position)
 }
 
@@ -158,7 +166,17 @@ pub extern "C" fn mooringeye_pack_feed(
     out: &mut [u8],
     positions: &mut [u64],
     dropped: &mut usize,
-) -> u8 {
+) -> u8
+    ensures { λ r. ⌜ record {
+      number = r;
+      count = now (dropped .exit);
+      next = packingAt (now (numbers .exit)) (now (waiting .exit));
+      output = now (out .exit);
+      positions = now (positions .exit);
+    }
+        ≡ packCall (now (numbers .entry)) (now (waiting .entry)) (now (piece .entry)) (now (identities .entry)) (now (out .entry))
+        (now (positions .entry)) ⌝ }
+{
     packer::feed(numbers, waiting, piece, identities, out, positions, dropped)
 }
 
@@ -169,6 +187,9 @@ pub extern "C" fn mooringeye_pack_end(
     waiting: &[u8; packer::WAITING],
     out: &mut [u8],
     length: &mut usize,
-) -> u8 {
+) -> u8
+    ensures { λ r. ⌜ record { number = r; length = now (length .exit); output = now (out .exit) }
+        ≡ packEnd (now (numbers .entry)) (now (waiting .entry)) (now (out .entry)) ⌝ }
+{
     packer::end(numbers, waiting, out, length)
 }

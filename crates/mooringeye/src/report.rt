@@ -5,7 +5,9 @@ use c_report::LINES;
 use c_report::NUMBERS;
 ghost use mathlib.Core.Path.{_≡_};
 ghost use Rattle.report_model.specs.Report as model;
+ghost use Rattle.report_model.specs.Pieces as pieces;
 ghost use Rattle.c_report.specs.Calls.{reportAt, lineCall};
+ghost use Rattle.c_pieces.specs.Adding.{addingAt};
 
 // A report of no archive.
 #[no_mangle]
@@ -63,9 +65,12 @@ pub extern "C" fn mooringeye_report_start(
     numbers: &[u64; NUMBERS],
     lines: &[u64; LINES],
     adding: &mut [u64; adding::NUMBERS],
-    so_far: &mut [u64; LINES],
-) {
-    adding::start(numbers, lines, adding, so_far);
+    tally: &mut [u64; LINES],
+)
+    ensures { λ _. ⌜ addingAt (now (numbers .entry)) (now (lines .entry)) (now (adding .exit)) (now (tally .exit))
+        ≡ pieces.startAdding (reportAt (now (numbers .entry)) (now (lines .entry))) ⌝ }
+{
+    adding::start(numbers, lines, adding, tally);
 }
 
 // The next piece of an archive that is added.
@@ -74,10 +79,13 @@ pub extern "C" fn mooringeye_report_feed(
     numbers: &[u64; NUMBERS],
     lines: &[u64; LINES],
     adding: &mut [u64; adding::NUMBERS],
-    so_far: &mut [u64; LINES],
+    tally: &mut [u64; LINES],
     piece: &[u8],
-) -> u8 {
-    adding::feed(numbers, lines, adding, so_far, piece)
+) -> u8
+    ensures { λ r. ⌜ pieces.fed r (addingAt (now (numbers .entry)) (now (lines .entry)) (now (adding .exit)) (now (tally .exit)))
+        ≡ pieces.feedOf (addingAt (now (numbers .entry)) (now (lines .entry)) (now (adding .entry)) (now (tally .entry))) (now (piece .entry)) ⌝ }
+{
+    adding::feed(numbers, lines, adding, tally, piece)
 }
 
 // All pieces added as one archive.
@@ -86,8 +94,11 @@ pub extern "C" fn mooringeye_report_end(
     numbers: &mut [u64; NUMBERS],
     lines: &mut [u64; LINES],
     adding: &[u64; adding::NUMBERS],
-    so_far: &[u64; LINES],
+    tally: &[u64; LINES],
     position: &mut usize,
-) -> u8 {
-    adding::end(numbers, lines, adding, so_far, position)
+) -> u8
+    ensures { λ r. ⌜ model.answer r (now (position .exit)) (reportAt (now (numbers .exit)) (now (lines .exit)))
+        ≡ pieces.endOf (addingAt (now (numbers .entry)) (now (lines .entry)) (now (adding .entry)) (now (tally .entry))) ⌝ }
+{
+    adding::end(numbers, lines, adding, tally, position)
 }

@@ -123,9 +123,9 @@ mod c {
         pub fn mooringeye_archive_cut_block(block: Out, size: usize, rows: usize) -> u8;
         pub fn mooringeye_scan_feed(numbers: Out64, piece: In, size: usize) -> u8;
         pub fn mooringeye_scan_end(numbers: In64, rows: Size, position: Size) -> u8;
-        pub fn mooringeye_report_start(numbers: In64, lines: In64, adding: Out64, so_far: Out64);
-        pub fn mooringeye_report_feed(numbers: In64, lines: In64, adding: Out64, so_far: Out64, piece: In, size: usize) -> u8;
-        pub fn mooringeye_report_end(numbers: Out64, lines: Out64, adding: In64, so_far: In64, position: Size) -> u8;
+        pub fn mooringeye_report_start(numbers: In64, lines: In64, adding: Out64, tally: Out64);
+        pub fn mooringeye_report_feed(numbers: In64, lines: In64, adding: Out64, tally: Out64, piece: In, size: usize) -> u8;
+        pub fn mooringeye_report_end(numbers: Out64, lines: Out64, adding: In64, tally: In64, position: Size) -> u8;
         pub fn mooringeye_pack_feed(
             numbers: Out64,
             waiting: Out,
@@ -468,10 +468,10 @@ pub fn report_start(
     numbers: &[u64; REPORT_NUMBERS],
     lines: &[u64; REPORT_LINES],
     adding: &mut [u64; ADDING_NUMBERS],
-    so_far: &mut [u64; REPORT_LINES],
+    tally: &mut [u64; REPORT_LINES],
 ) {
     // SAFETY: arrays of the sizes that the header names, of which those that are written are `&mut`.
-    unsafe { c::mooringeye_report_start(numbers.as_ptr(), lines.as_ptr(), adding.as_mut_ptr(), so_far.as_mut_ptr()) }
+    unsafe { c::mooringeye_report_start(numbers.as_ptr(), lines.as_ptr(), adding.as_mut_ptr(), tally.as_mut_ptr()) }
 }
 
 /// The next piece of an archive that is added.
@@ -479,12 +479,12 @@ pub fn report_feed(
     numbers: &[u64; REPORT_NUMBERS],
     lines: &[u64; REPORT_LINES],
     adding: &mut [u64; ADDING_NUMBERS],
-    so_far: &mut [u64; REPORT_LINES],
+    tally: &mut [u64; REPORT_LINES],
     piece: &[u8],
 ) -> u8 {
     let (from, size) = (piece.as_ptr(), piece.len());
     // SAFETY: arrays of the sizes that the header names, of which those that are written are `&mut`, and a slice that is read.
-    unsafe { c::mooringeye_report_feed(numbers.as_ptr(), lines.as_ptr(), adding.as_mut_ptr(), so_far.as_mut_ptr(), from, size) }
+    unsafe { c::mooringeye_report_feed(numbers.as_ptr(), lines.as_ptr(), adding.as_mut_ptr(), tally.as_mut_ptr(), from, size) }
 }
 
 /// All pieces added as one archive.
@@ -492,9 +492,9 @@ pub fn report_end(
     numbers: &mut [u64; REPORT_NUMBERS],
     lines: &mut [u64; REPORT_LINES],
     adding: &[u64; ADDING_NUMBERS],
-    so_far: &[u64; REPORT_LINES],
+    tally: &[u64; REPORT_LINES],
     position: &mut usize,
 ) -> u8 {
     // SAFETY: arrays of the sizes that the header names, of which those that are written are `&mut`, as is the number.
-    unsafe { c::mooringeye_report_end(numbers.as_mut_ptr(), lines.as_mut_ptr(), adding.as_ptr(), so_far.as_ptr(), position) }
+    unsafe { c::mooringeye_report_end(numbers.as_mut_ptr(), lines.as_mut_ptr(), adding.as_ptr(), tally.as_ptr(), position) }
 }

@@ -1,0 +1,25 @@
+-- `c_pieces::adding::adding_in` meets its contract. Assumes nothing.
+use borrow.Author.Needs.{needs}
+use Rattle.c_pieces.proofs.adding.adding_in.Statement.{statement}
+use Rattle.c_pieces.proofs.adding.adding_in.Tie as tie
+
+returns : tie.Need-returns
+returns c =
+    let s = c .before .before .before .before .before in
+    rw (s .scan-of .ensures, s .before .before .before .before .before .report-in .ensures)
+
+pub adding-in-spec : {M : Type 1} → statement M
+adding-in-spec =
+    tie.close
+    (tie.spec
+    (λ c κs. search needs)
+    (λ c. search needs)
+    (λ c. search needs)
+    (λ c. search needs)
+    (λ c. search needs)
+    (λ c κs. search needs)
+    (λ c. search needs)
+    (λ c. search needs)
+    (λ c. search needs)
+    (λ c. search needs)
+    returns)

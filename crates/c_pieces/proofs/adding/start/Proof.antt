@@ -1,0 +1,26 @@
+-- `c_pieces::adding::start` meets its contract. Assumes nothing.
+use mathlib.Core.Path.{_≡_, ap, _∙_}
+use borrow.Author.Needs.{needs}
+use denote.Ref.{now}
+use Rattle.report_model.specs.Report.{Report}
+use Rattle.report_model.specs.Pieces.{Tally, Adding, adding, startAdding}
+use Rattle.c_report.specs.Calls.{reportAt}
+use Rattle.c_pieces.proofs.adding.start.Statement.{statement}
+use Rattle.c_pieces.proofs.adding.start.Tie as tie
+
+returns : tie.Need-returns
+returns c =
+    let s = c .before .before .before in
+    let r = s .before in
+    let a = r .before .args in
+    ap (λ (t : Tally). adding (reportAt (now (a .numbers)) (now (a .lines))) t)
+    (c .store .ensures ∙ ap (λ (x : Adding). x .tally) (s .start .ensures ∙ ap (λ (x : Report). startAdding x) (r .report-in .ensures)))
+
+pub start-spec : {M : Type 1} → statement M
+start-spec =
+    tie.close
+    (tie.spec
+    (λ c κs. search needs)
+    (λ c κs. search needs)
+    (λ c κs. search needs)
+    returns)

@@ -1,0 +1,25 @@
+-- An archive that is added to a report in pieces, in two arrays beside the two of the report. Assumes nothing.
+use Prim.Native.Nat.{ℕ}
+use mathlib.Core.Bool.{not}
+use mathlib.Core.List.{List}
+use lib.Dec.{eqb}
+use lib.ListN.{getD}
+use Rattle.report_model.specs.Pieces.{Tally, Adding, adding}
+use Rattle.report.specs.Lines.{linesOf}
+use Rattle.c_report.specs.Calls.{reportAt}
+use Rattle.c_pieces.specs.Scan.{scanAt}
+
+-- the four numbers of a scan, how many lines there are, KEPT rows, LOOSE rows, and another number than 0 where a transmitter was one too many; five
+-- numbers for each line, of which those past the lines are left to the program
+abbrev pub tallyAt : List ℕ → List ℕ → Tally
+tallyAt numbers lines = record {
+  lines = linesOf lines (getD numbers 4 0);
+  kept = getD numbers 5 0;
+  loose = getD numbers 6 0;
+  over = not (eqb (getD numbers 7 0) 0);
+  scan = scanAt numbers;
+}
+
+-- with the report, which stays as it is until the end
+abbrev pub addingAt : List ℕ → List ℕ → List ℕ → List ℕ → Adding
+addingAt numbers lines so-far tally = adding (reportAt numbers lines) (tallyAt so-far tally)

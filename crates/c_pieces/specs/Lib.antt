@@ -1,0 +1,3 @@
+pub mod Scan
+pub mod Adding
+pub mod Packer

@@ -1,0 +1,54 @@
+-- A scan of an archive's blocks in four numbers, and what the calls leave in them. Assumes nothing.
+use Prim.Native.Nat.{ℕ}
+use mathlib.Core.Bool.{cond, not}
+use mathlib.Core.List.{List, [], _∷_}
+use lib.Dec.{eqb}
+use lib.ListN.{getD}
+use Rattle.refusal.specs.Number.{numberOf}
+use Rattle.refusal.specs.declared.Refusal.the-variants.{NotAccepted}
+use Rattle.archive_model.specs.Buffer.{Stage, Filling, Short, Ended, Wrong, Scan, stageFound}
+use Rattle.archive_model.specs.Append.{Opening, isScan, feedOf}
+use Rattle.archive.specs.Archive.{openFound}
+
+-- ---- the numbers: blocks passed, their rows, the stage, and the position of the block that does not match
+
+-- any stage but the first three says that a block does not match
+unfoldable pub stageAt : ℕ → ℕ → Stage
+stageAt stage position = cond (eqb stage 0) Filling (cond (eqb stage 1) Short (cond (eqb stage 2) Ended (Wrong position)))
+
+abbrev pub stageNumber : Stage → ℕ
+stageNumber Filling = 0
+stageNumber Short = 1
+stageNumber Ended = 2
+stageNumber (Wrong k) = 3
+
+abbrev pub stagePosition : Stage → ℕ
+stagePosition Filling = 0
+stagePosition Short = 0
+stagePosition Ended = 0
+stagePosition (Wrong k) = k
+
+abbrev pub scanAt : List ℕ → Scan
+scanAt numbers = record { blocks = getD numbers 0 0; rows = getD numbers 1 0; stage = stageAt (getD numbers 2 0) (getD numbers 3 0) }
+
+abbrev pub scanNumbers : Scan → List ℕ
+scanNumbers s = s .blocks ∷ s .rows ∷ stageNumber (s .stage) ∷ stagePosition (s .stage) ∷ []
+
+-- before the first piece
+abbrev pub noBlocks : List ℕ
+noBlocks = 0 ∷ 0 ∷ 0 ∷ 0 ∷ []
+
+-- ---- the calls
+
+-- the number, and every lent number at exit
+pub record ScanCall : Type 0 where
+  pub number : ℕ
+  pub numbers : List ℕ
+
+-- 11, 16; the stage and its position come back in their one form
+abbrev pub scanCall : List ℕ → List ℕ → ScanCall
+scanCall numbers piece = record { number = feedOf (scanAt numbers) piece .number; numbers = scanNumbers (feedOf (scanAt numbers) piece .next) }
+
+-- after the last piece: 11, then 12 with the position, or the rows
+unfoldable pub scanEnd : Scan → Opening
+scanEnd s = cond (not (isScan s)) (record { number = numberOf NotAccepted; position = 0; rows = 0 }) (openFound (stageFound (s .stage)) (s .rows))
