@@ -173,8 +173,24 @@ impl Collector {
         let moments: Vec<u64> = receptions.iter().map(|r| r.time).collect();
         let records: Vec<u8> = receptions.iter().flat_map(|r| frame(r.bytes)).collect();
         let mut replies = vec![0; raw::REPLY * receptions.len()];
-        done(raw::collector_burst(&mut self.arrays_mut(), setting, &moments, &records, &mut replies))?;
+        self.burst_into(setting, &moments, &records, &mut replies)?;
         Ok(replies.chunks_exact(raw::REPLY).map(Reply::of).collect())
+    }
+
+    /// [`Collector::burst`] in buffers that the caller keeps. `records` has a frame of 22 bytes for each moment: the length of a reception and its first
+    /// 21 bytes, zero filled. `replies` gets 24 bytes for each: 0, 1 or 2 for KEPT, COPY or LOOSE, the number of a refusal or 0, and a frame of what is
+    /// sent, length 0 for nothing.
+    ///
+    /// Refused, and nothing taken: [`Refusal::WrongSize`] for records or replies that are not as many as the moments, and as [`Collector::burst`].
+    ///
+    /// ```
+    /// let record = [8, 0xD5, 0x09, 1, 2, 3, 4, 0, 0xE8, 0, 0, 0, 0, 0, 0, 0, 0, 0, 0, 0, 0, 0];
+    /// let mut reply = [0; 24];
+    /// mooringeye::Collector::new().burst_into(1, &[1_000], &record, &mut reply).unwrap();
+    /// assert_eq!(reply[..11], [0, 0, 8, 0xD5, 0x09, 1, 2, 3, 4, 1, 0xE9]);
+    /// ```
+    pub fn burst_into(&mut self, setting: u8, moments: &[u64], records: &[u8], replies: &mut [u8]) -> Result<(), Refusal> {
+        done(raw::collector_burst(&mut self.arrays_mut(), setting, moments, records, replies))
     }
 
     /// How many telegrams are open.

@@ -123,9 +123,9 @@ mod c {
         pub fn mooringeye_archive_cut_block(block: Out, size: usize, rows: usize) -> u8;
         pub fn mooringeye_scan_feed(numbers: Out64, piece: In, size: usize) -> u8;
         pub fn mooringeye_scan_end(numbers: In64, rows: Size, position: Size) -> u8;
-        pub fn mooringeye_report_start(numbers: In64, lines: In64, adding: Out64, so_far: Out64);
-        pub fn mooringeye_report_feed(numbers: In64, lines: In64, adding: Out64, so_far: Out64, piece: In, size: usize) -> u8;
-        pub fn mooringeye_report_end(numbers: Out64, lines: Out64, adding: In64, so_far: In64, position: Size) -> u8;
+        pub fn mooringeye_report_start(numbers: In64, lines: In64, adding: Out64, tally: Out64);
+        pub fn mooringeye_report_feed(numbers: In64, lines: In64, adding: Out64, tally: Out64, piece: In, size: usize) -> u8;
+        pub fn mooringeye_report_end(numbers: Out64, lines: Out64, adding: In64, tally: In64, position: Size) -> u8;
         pub fn mooringeye_pack_feed(
             numbers: Out64,
             waiting: Out,

@@ -44,8 +44,8 @@ pub struct Line {
 /// ```
 #[derive(Clone, PartialEq, Eq)]
 pub struct Report {
-    numbers: [u64; raw::REPORT_NUMBERS],
-    lines: Box<[u64; raw::REPORT_LINES]>,
+    pub(crate) numbers: [u64; raw::REPORT_NUMBERS],
+    pub(crate) lines: Box<[u64; raw::REPORT_LINES]>,
 }
 
 impl Report {

@@ -1,0 +1,335 @@
+//! `mooringeye archive`: verify, list, append to, salvage, remove from and report on archive files.
+//!
+//! Files are read in pieces, so that any length is handled in the same memory. Nothing is changed in place: what is written is a new file beside the
+//! old one, which takes its place when it is whole and on disk.
+use crate::appender::{Appender, MAX_BLOCKS};
+use crate::args::{parsed, Args};
+use crate::failure::{tell, Failure};
+use crate::files::{self, Pieces, Replacement, PIECE};
+use crate::rows::{self, Format};
+use crate::streams::{each_line, Output};
+use crate::text;
+use mooringeye::{Adding, Archive, Packer, Refusal, Report, Row, Scan, Telegram};
+use std::ffi::{OsStr, OsString};
+use std::fs::{self, File};
+use std::path::Path;
+
+pub const USAGE: &str = "\
+usage: mooringeye archive verify FILE..
+       mooringeye archive list FILE.. [--rows text|csv|json] [--from TIME] [--to TIME] [--txid ID]..
+       mooringeye archive append FILE < ROWS
+       mooringeye archive salvage DAMAGED NEW
+       mooringeye archive remove FILE --txid ID..
+       mooringeye archive sheet FILE.. [--rows text|csv] [--received N]
+
+  verify   says how many rows each file has, or which block does not match
+  list     prints the rows; --from and --to are the first and the last time, an ID has eight hexadecimal digits
+  append   puts rows, as `list` prints them as text, behind those of the file: all of them or none
+  salvage  packs the rows of every block that is right into a new file, and says which blocks were dropped
+  remove   removes the rows of up to 32 transmitters
+  sheet    adds up KEPT and LOOSE rows, earliest and latest time of each transmitter over up to 64 files; with --received the share of its rows in
+           so many receptions, in whole thousandths rounded down
+
+Ends with status 0, 1 where an input or output failed or a row is refused, 2 for wrong usage, 3 for a damaged archive.";
+
+pub fn run(words: impl IntoIterator<Item = OsString>) -> Result<(), Failure> {
+    let mut words = words.into_iter();
+    let command = words.next().unwrap_or_default();
+    match command.to_str() {
+        Some("verify") => verify(&Args::parse(words, &[], &[])?),
+        Some("list") => list(&Args::parse(words, &["rows", "from", "to", "txid"], &[])?),
+        Some("append") => append(&Args::parse(words, &[], &[])?),
+        Some("salvage") => salvage(&Args::parse(words, &[], &[])?),
+        Some("remove") => remove(&Args::parse(words, &["txid"], &[])?),
+        Some("sheet") => sheet(&Args::parse(words, &["rows", "received"], &[])?),
+        _ => Err(Failure::Usage(USAGE.into())),
+    }
+}
+
+fn at_least_one(args: &Args) -> Result<&[OsString], Failure> {
+    match args.rest() {
+        [] => Err(Failure::Usage("this command takes the names of archives".into())),
+        files => Ok(files),
+    }
+}
+
+/// An archive to be read, and its length in blocks.
+struct Source<'a> {
+    file: File,
+    path: &'a Path,
+    blocks: u64,
+}
+
+impl<'a> Source<'a> {
+    fn open(path: &'a OsStr) -> Result<Source<'a>, Failure> {
+        let path = Path::new(path);
+        let file = File::open(path).map_err(|e| Failure::of(format!("open {}", path.display()), &e))?;
+        let blocks = files::blocks_of(&file, path)?;
+        Ok(Source { file, path, blocks })
+    }
+
+    /// The same, locked against everybody who writes it.
+    fn open_locked(path: &'a OsStr) -> Result<Source<'a>, Failure> {
+        let path = Path::new(path);
+        let file = files::open_locked(path, false)?;
+        let blocks = files::blocks_of(&file, path)?;
+        Ok(Source { file, path, blocks })
+    }
+
+    fn pieces(&self) -> Pieces<'_> {
+        Pieces::of(&self.file, self.path, 0, self.blocks)
+    }
+
+    fn refused(&self, why: Refusal) -> Failure {
+        Failure::refused(self.path.display(), why)
+    }
+
+    /// What is said of a scan's end.
+    fn rows(&self, scan: &Scan) -> Result<usize, Failure> {
+        let failure = |refused| files::while_written(Failure::refused_at(self.path.display(), refused), &self.file, self.path);
+        scan.end().map_err(failure)
+    }
+
+    fn verify(&self) -> Result<usize, Failure> {
+        let mut scan = Scan::new();
+        let mut pieces = self.pieces();
+        while let Some(piece) = pieces.next()? {
+            scan.feed(piece).map_err(|why| self.refused(why))?;
+        }
+        self.rows(&scan)
+    }
+}
+
+/// Every file is looked at; the first failure is the command's.
+fn verify(args: &Args) -> Result<(), Failure> {
+    let mut output = Output::standard()?;
+    let mut failed = None;
+    for name in at_least_one(args)? {
+        let verified = Source::open(name).and_then(|source| Ok((source.verify()?, source.blocks)));
+        match verified {
+            Ok((rows, blocks)) => output.write(format!("{}: {rows} rows, {blocks} blocks\n", name.display()).as_bytes())?,
+            Err(failure) => {
+                if let Some(earlier) = failed.replace(failure) {
+                    tell(earlier.text());
+                }
+            }
+        }
+    }
+    failed.map_or(Ok(()), Err)
+}
+
+/// Which rows are wanted.
+struct Filter {
+    from: u64,
+    to: u64,
+    /// None listed: those of every transmitter.
+    transmitters: Vec<[u8; 4]>,
+}
+
+impl Filter {
+    fn of(args: &Args) -> Result<Filter, Failure> {
+        let time = |name| args.value(name, "a time in ms", text::number);
+        let transmitters = identities(args.all("txid"))?.into_iter().map(u32::to_be_bytes).collect();
+        Ok(Filter { from: time("from")?.unwrap_or(0), to: time("to")?.unwrap_or(u64::MAX), transmitters })
+    }
+
+    fn wants(&self, row: &Row) -> bool {
+        let is_listed = || self.transmitters.iter().any(|id| id == rows::transmitter(row.telegram.as_bytes()));
+        (self.from..=self.to).contains(&row.time) && (self.transmitters.is_empty() || is_listed())
+    }
+}
+
+fn identities<'a>(words: impl Iterator<Item = &'a OsStr>) -> Result<Vec<u32>, Failure> {
+    words.map(|word| parsed(word, "an ID", "eight hexadecimal digits", text::identity)).collect()
+}
+
+fn list(args: &Args) -> Result<(), Failure> {
+    let (format, filter) = (Format::of(args)?, Filter::of(args)?);
+    let names = at_least_one(args)?;
+    let mut output = Output::standard()?;
+    let mut printed = Vec::with_capacity(4 * PIECE);
+    rows::put_stored_heading(&mut printed, format);
+    output.write(&printed)?;
+    for name in names {
+        list_one(&Source::open(name)?, format, &filter, &mut output, &mut printed)?;
+    }
+    Ok(())
+}
+
+/// The rows before the first block that does not match, and then the failure.
+fn list_one(source: &Source, format: Format, filter: &Filter, output: &mut Output, printed: &mut Vec<u8>) -> Result<(), Failure> {
+    let mut scan = Scan::new();
+    let mut pieces = source.pieces();
+    while let Some(piece) = pieces.next()? {
+        printed.clear();
+        for row in scan.feed_rows(piece).map_err(|why| source.refused(why))?.filter(|row| filter.wants(row)) {
+            rows::put_stored(printed, format, &row);
+        }
+        output.write(printed)?;
+        source.rows(&scan)?;
+    }
+    Ok(())
+}
+
+/// A row as `list` prints it as text.
+fn row_of(line: &str) -> Result<Row, String> {
+    let mut parts = line.splitn(3, ' ');
+    let time = parts.next().and_then(text::number);
+    let loose = match parts.next() {
+        Some("KEPT") => Some(false),
+        Some("LOOSE") => Some(true),
+        _ => None,
+    };
+    let bytes = parts.next().and_then(text::bytes_of_hex);
+    match (time, loose, bytes) {
+        (Some(time), Some(loose), Some(bytes)) => {
+            let telegram = Telegram::new(&bytes).map_err(|why| why.to_string())?;
+            Ok(Row { telegram, time, loose })
+        }
+        _ => Err("not a time, KEPT or LOOSE, and a telegram in hexadecimal digits".into()),
+    }
+}
+
+fn append(args: &Args) -> Result<(), Failure> {
+    let [name] = args.exactly("the name of one archive")?;
+    let path = Path::new(name);
+    let is_new = fs::symlink_metadata(path).is_err();
+    let appended = append_all(path);
+    if is_new && appended.is_err() {
+        let _ = fs::remove_file(path); // made to be locked
+    }
+    let (before, rows) = appended?;
+    Output::standard()?.write(format!("{}: {} rows appended, {rows} rows\n", path.display(), rows - before).as_bytes())
+}
+
+/// Appends the rows of standard input to a copy, which takes the place of the file; the rows before and after.
+fn append_all(path: &Path) -> Result<(u64, u64), Failure> {
+    let file = files::open_locked(path, true)?;
+    let source = Source { blocks: files::blocks_of(&file, path)?, file, path };
+    let mut new = Replacement::of(path)?;
+    files::copy(&source.file, path, &mut new)?;
+    let copy = new.file.try_clone().map_err(|e| Failure::of(format!("write {}", path.display()), &e))?;
+    let mut appender = Appender::behind_all(copy, path, MAX_BLOCKS)?;
+    let before = appender.rows();
+    each_line(|number, line| {
+        let row = row_of(line).map_err(|why| Failure::Failed(format!("line {number} of standard input: {why}; nothing is appended")))?;
+        appender.append(row.telegram.as_bytes(), row.time, row.loose)
+    })?;
+    appender.write()?;
+    keep_mode(&source, &new)?;
+    new.commit()?;
+    Ok((before, appender.rows()))
+}
+
+/// The new file gets the permissions of the old one.
+fn keep_mode(source: &Source, new: &Replacement) -> Result<(), Failure> {
+    let mode = source.file.metadata().map(|m| m.permissions());
+    mode.and_then(|mode| new.file.set_permissions(mode)).map_err(|e| Failure::of(format!("set the permissions of {}", source.path.display()), &e))
+}
+
+/// The rows of every sound block packed into a new file as long as the old one; each dropped position is handed to `dropped`.
+fn pack(source: &Source, mut packer: Packer, new: &mut Replacement, mut dropped: impl FnMut(u64) -> Result<(), Failure>) -> Result<u64, Failure> {
+    let size = PIECE.min(source.blocks as usize * Archive::BLOCK);
+    let (mut out, mut positions) = (vec![0; size], vec![0; size / Archive::BLOCK]);
+    let mut pieces = source.pieces();
+    let mut before = 0;
+    while let Some(piece) = pieces.next()? {
+        let packed = packer.feed(piece, &mut out, &mut positions).map_err(|why| source.refused(why))?;
+        new.write(&out[..packed.written])?;
+        positions[..packed.dropped].iter().try_for_each(|position| dropped(before + position))?;
+        before += (piece.len() / Archive::BLOCK) as u64;
+    }
+    if let Some(last) = packer.end() {
+        new.write(last.as_bytes())?;
+    }
+    let length = source.blocks * Archive::BLOCK as u64;
+    new.file.set_len(length).map_err(|e| Failure::of(format!("write the new {}", source.path.display()), &e))?;
+    Ok(packer.rows())
+}
+
+fn salvage(args: &Args) -> Result<(), Failure> {
+    let [from, to] = args.exactly("the name of a damaged archive and a name for the new one")?;
+    let source = Source::open(from)?;
+    let to = Path::new(to);
+    if fs::symlink_metadata(to).is_ok() {
+        return Err(Failure::Failed(format!("{} is there already", to.display())));
+    }
+    let mut output = Output::standard()?;
+    let mut new = Replacement::of(to)?;
+    let mut count = 0;
+    let rows = pack(&source, Packer::new(&[]), &mut new, |position| {
+        count += 1;
+        output.write(format!("DROPPED {position}\n").as_bytes())
+    })?;
+    new.commit_new()?;
+    output.write(format!("{}: {rows} rows, {count} blocks dropped\n", to.display()).as_bytes())
+}
+
+fn remove(args: &Args) -> Result<(), Failure> {
+    let Some((name, more)) = args.rest().split_first() else {
+        return Err(Failure::Usage("this command takes the name of an archive and --txid ID..".into()));
+    };
+    let ids = identities(args.all("txid").chain(more.iter().map(OsString::as_os_str)))?;
+    if ids.is_empty() || ids.len() > Packer::MAX_IDENTITIES {
+        return Err(Failure::refused(format!("{} transmitters are named, and 1 to 32 can be removed", ids.len()), Refusal::Argument));
+    }
+    let source = Source::open_locked(name)?;
+    let before = source.verify()? as u64;
+    let mut output = Output::standard()?;
+    let mut new = Replacement::of(source.path)?;
+    let rows = pack(&source, Packer::new(&ids), &mut new, |_| unreachable!("a verified archive has no block to drop"))?;
+    let blocks = |rows: u64| rows.div_ceil(Archive::ROWS_PER_BLOCK as u64);
+    keep_mode(&source, &new)?;
+    new.commit()?;
+    let text = format!("{}: {} rows removed, {rows} rows, {} blocks freed\n", name.display(), before - rows, blocks(before) - blocks(rows));
+    output.write(text.as_bytes())
+}
+
+fn sheet(args: &Args) -> Result<(), Failure> {
+    let format = Format::of(args)?;
+    if format == Format::Json {
+        return Err(Failure::Usage("a sheet is printed as text or csv".into()));
+    }
+    let received = args.value("received", "a number of receptions", text::number)?;
+    let mut report = Report::new();
+    for name in at_least_one(args)? {
+        let source = Source::open(name)?;
+        let mut adding = Adding::new(&mut report);
+        let mut pieces = source.pieces();
+        while let Some(piece) = pieces.next()? {
+            adding.feed(piece).map_err(|why| source.refused(why))?;
+        }
+        let failure = |refused| files::while_written(Failure::refused_at(source.path.display(), refused), &source.file, source.path);
+        adding.end().map_err(failure)?;
+    }
+    let share = received.map(|n| report.share(n).map_err(|why| Failure::refused(format!("--received {n}"), why))).transpose()?;
+    Output::standard()?.write(sheet_text(&report, format, share).as_bytes())
+}
+
+/// The lines of a report, and its totals last.
+fn sheet_text(report: &Report, format: Format, share: Option<u64>) -> String {
+    let mut out = String::new();
+    let mut line = |cells: [String; 6]| {
+        out += &match format {
+            Format::Csv => cells.join(","),
+            _ => {
+                let [id, kept, loose, earliest, latest, share] = cells;
+                format!("{id:<8} {kept:>13} {loose:>13} {earliest:>20} {latest:>20} {share}").trim_end().to_string()
+            }
+        };
+        out.push('\n');
+    };
+    line(["txid", "kept", "loose", "earliest", "latest", "share"].map(String::from));
+    let (mut earliest, mut latest) = (u64::MAX, 0);
+    for l in report.lines() {
+        (earliest, latest) = (earliest.min(l.earliest), latest.max(l.latest));
+        let numbers = [l.kept, l.loose, l.earliest, l.latest].map(|n| n.to_string());
+        let [a, b, c, d] = numbers;
+        line([format!("{:08X}", l.identity), a, b, c, d, String::new()]);
+    }
+    let is_empty = report.lines().next().is_none();
+    let [first, last] = [earliest, latest].map(|n| if is_empty { String::new() } else { n.to_string() });
+    let share = share.map(|t| format!("{}.{:03}", t / 1000, t % 1000)).unwrap_or_default();
+    line(["TOTAL".into(), report.kept().to_string(), report.loose().to_string(), first, last, share]);
+    out
+}

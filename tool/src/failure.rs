@@ -1,0 +1,59 @@
+//! Why a command ends before its time, and the exit status that says so.
+use mooringeye::{Refusal, Refused};
+use std::fmt::Display;
+use std::io;
+
+/// What went wrong, in words for standard error.
+#[derive(Debug)]
+pub enum Failure {
+    /// An input or an output failed, or what was read is refused: status 1.
+    Failed(String),
+    /// Wrong usage: status 2.
+    Usage(String),
+    /// A damaged state or archive: status 3.
+    Damaged(String),
+}
+
+impl Failure {
+    pub fn status(&self) -> u8 {
+        match self {
+            Failure::Failed(_) => 1,
+            Failure::Usage(_) => 2,
+            Failure::Damaged(_) => 3,
+        }
+    }
+
+    pub fn text(&self) -> &str {
+        let (Failure::Failed(text) | Failure::Usage(text) | Failure::Damaged(text)) = self;
+        text
+    }
+
+    /// An input or output that failed: what was asked of it, and the system's own words.
+    pub fn of(asked: impl Display, error: &io::Error) -> Failure {
+        Failure::Failed(format!("cannot {asked}: {error}"))
+    }
+
+    /// A refusal of the library. 11, 12 and 16 are told of states and archives, 10 of an argument.
+    pub fn refused(what: impl Display, why: Refusal) -> Failure {
+        let text = format!("{what}: {why}");
+        match why {
+            Refusal::NotAccepted | Refusal::Mismatch | Refusal::Size => Failure::Damaged(text),
+            Refusal::Argument => Failure::Usage(text),
+            _ => Failure::Failed(text),
+        }
+    }
+
+    /// The same with the position of a block.
+    pub fn refused_at(what: impl Display, refused: Refused) -> Failure {
+        match refused.why {
+            Refusal::Mismatch => Failure::Damaged(format!("{what}: {refused}")),
+            why => Failure::refused(what, why),
+        }
+    }
+}
+
+/// Says something on standard error. Where that cannot be written there is nobody to tell.
+pub fn tell(text: impl Display) {
+    use io::Write;
+    let _ = writeln!(io::stderr(), "mooringeye: {text}");
+}

@@ -1,0 +1,220 @@
+//! Files: locks, replacement by rename, and reading in pieces.
+use crate::failure::{tell, Failure};
+use mooringeye::{Archive, Refusal};
+use std::ffi::OsString;
+use std::fs::{self, File, OpenOptions, TryLockError};
+use std::io::{self, IsTerminal, Read, Seek, SeekFrom, Write};
+use std::os::unix::fs::{FileExt, MetadataExt};
+use std::path::{Path, PathBuf};
+use std::time::{Duration, Instant};
+
+/// How much of an archive is read at once.
+pub const PIECE: usize = 1 << 20;
+const BLOCK: u64 = Archive::BLOCK as u64;
+
+/// A path with letters behind its name.
+pub fn with_suffix(path: &Path, suffix: &str) -> PathBuf {
+    let mut name = OsString::from(path);
+    name.push(suffix);
+    PathBuf::from(name)
+}
+
+fn folder(path: &Path) -> &Path {
+    match path.parent() {
+        Some(parent) if !parent.as_os_str().is_empty() => parent,
+        _ => Path::new("."),
+    }
+}
+
+/// Makes what was created, renamed or removed in the folder of a file outlast a power cut.
+pub fn sync_folder(path: &Path) -> Result<(), Failure> {
+    let folder = folder(path);
+    File::open(folder).and_then(|f| f.sync_all()).map_err(|e| Failure::of(format!("sync {}", folder.display()), &e))
+}
+
+/// Takes the lock of a file that others write too, or says who has it.
+pub fn lock(file: &File, path: &Path) -> Result<(), Failure> {
+    match file.try_lock() {
+        Ok(()) => Ok(()),
+        Err(TryLockError::WouldBlock) => Err(Failure::Failed(format!("another process is writing {}: it is locked", path.display()))),
+        Err(TryLockError::Error(error)) => Err(Failure::of(format!("lock {}", path.display()), &error)),
+    }
+}
+
+/// The lock of a file that is replaced by rename: a file beside it, which stays.
+pub fn lock_beside(path: &Path) -> Result<File, Failure> {
+    let beside = with_suffix(path, ".lock");
+    let file = OpenOptions::new().create(true).truncate(false).write(true).open(&beside);
+    let file = file.map_err(|e| Failure::of(format!("open {}", beside.display()), &e))?;
+    lock(&file, path)?;
+    Ok(file)
+}
+
+/// Opens an archive to be written, makes it where it is missing and may be, and locks it.
+pub fn open_locked(path: &Path, create: bool) -> Result<File, Failure> {
+    let cannot = |e: io::Error| Failure::of(format!("open {}", path.display()), &e);
+    let file = OpenOptions::new().create(create).truncate(false).read(true).write(true).open(path).map_err(cannot)?;
+    lock(&file, path)?;
+    // Between the two another process may have put a new file in its place.
+    let (mine, named) = (file.metadata().map_err(cannot)?, fs::metadata(path).map_err(cannot)?);
+    if (mine.dev(), mine.ino()) != (named.dev(), named.ino()) {
+        return Err(Failure::Failed(format!("{} was replaced by another process meanwhile", path.display())));
+    }
+    Ok(file)
+}
+
+/// A new content of a file: written beside it under another name, and put in its place in one step.
+pub struct Replacement {
+    pub file: File,
+    target: PathBuf,
+    beside: PathBuf,
+    done: bool,
+}
+
+impl Replacement {
+    pub fn of(target: &Path) -> Result<Replacement, Failure> {
+        let beside = with_suffix(target, ".new");
+        let file = OpenOptions::new().create(true).truncate(true).read(true).write(true).open(&beside);
+        let file = file.map_err(|e| Failure::of(format!("write {}", beside.display()), &e))?;
+        Ok(Replacement { file, target: target.into(), beside, done: false })
+    }
+
+    pub fn write(&mut self, bytes: &[u8]) -> Result<(), Failure> {
+        self.file.write_all(bytes).map_err(|e| self.cannot("write", &e))
+    }
+
+    fn cannot(&self, verb: &str, error: &io::Error) -> Failure {
+        Failure::of(format!("{verb} {}", self.beside.display()), error)
+    }
+
+    /// Puts it in its place: from now on, and after a power cut, the file has the new content whole.
+    pub fn commit(mut self) -> Result<(), Failure> {
+        self.file.sync_all().map_err(|e| self.cannot("sync", &e))?;
+        fs::rename(&self.beside, &self.target).map_err(|e| Failure::of(format!("replace {}", self.target.display()), &e))?;
+        self.done = true;
+        sync_folder(&self.target)
+    }
+
+    /// The same where nothing may be there yet.
+    pub fn commit_new(mut self) -> Result<(), Failure> {
+        self.file.sync_all().map_err(|e| self.cannot("sync", &e))?;
+        fs::hard_link(&self.beside, &self.target).map_err(|e| Failure::of(format!("make {}", self.target.display()), &e))?;
+        fs::remove_file(&self.beside).map_err(|e| self.cannot("remove", &e))?;
+        self.done = true;
+        sync_folder(&self.target)
+    }
+}
+
+impl Drop for Replacement {
+    fn drop(&mut self) {
+        if !self.done {
+            let _ = fs::remove_file(&self.beside);
+        }
+    }
+}
+
+/// Moves what stands at a path aside, under the first free name, and says where it is.
+pub fn put_aside(path: &Path) -> Result<Option<PathBuf>, Failure> {
+    if fs::symlink_metadata(path).is_err_and(|e| e.kind() == io::ErrorKind::NotFound) {
+        return Ok(None);
+    }
+    let aside = (1..).map(|n| with_suffix(path, &format!(".aside-{n}"))).find(|p| fs::symlink_metadata(p).is_err());
+    let aside = aside.expect("there are fewer files than numbers");
+    fs::rename(path, &aside).map_err(|e| Failure::of(format!("put {} aside", path.display()), &e))?;
+    sync_folder(path)?;
+    Ok(Some(aside))
+}
+
+/// The length of an archive in blocks; 16 for one that is not whole blocks.
+pub fn blocks_of(file: &File, path: &Path) -> Result<u64, Failure> {
+    let metadata = file.metadata().map_err(|e| Failure::of(format!("read {}", path.display()), &e))?;
+    if !metadata.is_file() {
+        return Err(Failure::Failed(format!("cannot read {}: it is not a file", path.display())));
+    }
+    match metadata.len() {
+        n if n % BLOCK == 0 => Ok(n / BLOCK),
+        n => Err(Failure::refused(format!("{} has {n} bytes", path.display()), Refusal::Size)),
+    }
+}
+
+/// The blocks of an archive, in pieces.
+pub struct Pieces<'a> {
+    file: &'a File,
+    path: &'a Path,
+    buffer: Vec<u8>,
+    /// The next byte, and the end.
+    at: u64,
+    end: u64,
+    progress: Progress,
+}
+
+impl<'a> Pieces<'a> {
+    /// The blocks `from` to `to`.
+    pub fn of(file: &'a File, path: &'a Path, from: u64, to: u64) -> Pieces<'a> {
+        let size = PIECE.min(((to - from) * BLOCK) as usize);
+        Pieces { file, path, buffer: vec![0; size], at: from * BLOCK, end: to * BLOCK, progress: Progress::of(path, (to - from) * BLOCK) }
+    }
+
+    pub fn next(&mut self) -> Result<Option<&[u8]>, Failure> {
+        if self.at == self.end {
+            return Ok(None);
+        }
+        let size = self.buffer.len().min((self.end - self.at) as usize);
+        let piece = &mut self.buffer[..size];
+        let place = |e: io::Error| Failure::of(format!("read {} at byte {}", self.path.display(), self.at), &e);
+        self.file.read_exact_at(piece, self.at).map_err(place)?;
+        self.at += size as u64;
+        self.progress.show(size as u64);
+        Ok(Some(piece))
+    }
+}
+
+/// How far long work is, on standard error where that is a terminal.
+struct Progress {
+    name: String,
+    total: u64,
+    done: u64,
+    /// When it was shown last; none where nobody looks.
+    shown: Option<Instant>,
+    is_shown: bool,
+}
+
+impl Progress {
+    fn of(path: &Path, total: u64) -> Progress {
+        let shown = io::stderr().is_terminal().then(Instant::now);
+        Progress { name: path.display().to_string(), total, done: 0, shown, is_shown: false }
+    }
+
+    fn show(&mut self, more: u64) {
+        self.done += more;
+        let Some(last) = self.shown else { return };
+        if last.elapsed() > Duration::from_millis(500) {
+            let _ = write!(io::stderr(), "\r{}: {} %", self.name, 100 * self.done / self.total);
+            (self.shown, self.is_shown) = (Some(Instant::now()), true);
+        }
+    }
+}
+
+impl Drop for Progress {
+    fn drop(&mut self) {
+        if self.is_shown {
+            let _ = write!(io::stderr(), "\r\x1b[K");
+        }
+    }
+}
+
+/// Copies all of a file behind what was written.
+pub fn copy(from: &File, path: &Path, to: &mut Replacement) -> Result<(), Failure> {
+    let mut from = from;
+    let cannot = |e: io::Error| Failure::of(format!("copy {}", path.display()), &e);
+    from.seek(SeekFrom::Start(0)).map_err(cannot)?;
+    io::copy(&mut from.take(u64::MAX), &mut to.file).map(|_| ()).map_err(cannot)
+}
+
+/// Says in a failure of damage that somebody is writing the file, where it is so.
+pub fn while_written(failure: Failure, file: &File, path: &Path) -> Failure {
+    if matches!(failure, Failure::Damaged(_)) && matches!(file.try_lock_shared(), Err(TryLockError::WouldBlock)) {
+        tell(format!("{} is being written: a block may have been read half old, half new; try again", path.display()));
+    }
+    failure
+}

@@ -1,0 +1,64 @@
+//! Signals, and waiting for a descriptor while they may come.
+use crate::sys;
+use std::io::{self, Read};
+use std::os::fd::{AsFd, AsRawFd};
+use std::os::unix::net::UnixStream;
+
+/// A way to be woken by signals.
+pub struct Signals {
+    woken: UnixStream,
+    wake: UnixStream,
+}
+
+/// What a wait ended with.
+#[derive(PartialEq, Eq)]
+pub enum Waited {
+    Ready,
+    /// A signal came, or the time is over.
+    Not,
+}
+
+impl Signals {
+    pub fn catch() -> io::Result<Signals> {
+        let signals = Signals::none()?;
+        sys::catch_signals(signals.wake.as_raw_fd());
+        Ok(signals)
+    }
+
+    /// For a command that has nothing to put in order: signals do what they always do.
+    pub fn none() -> io::Result<Signals> {
+        let (woken, wake) = UnixStream::pair()?;
+        woken.set_nonblocking(true)?;
+        wake.set_nonblocking(true)?;
+        Ok(Signals { woken, wake })
+    }
+
+    /// A signal that came before is not waited for: the caller sees to it first.
+    pub fn wait_to_read(&self, from: &impl AsFd) -> io::Result<Waited> {
+        match sys::is_signalled() {
+            true => Ok(Waited::Not),
+            false => self.wait(from, sys::POLLIN, -1),
+        }
+    }
+
+    pub fn wait_to_write(&self, to: &impl AsFd, timeout: i32) -> io::Result<Waited> {
+        self.wait(to, sys::POLLOUT, timeout)
+    }
+
+    fn wait(&self, fd: &impl AsFd, events: i16, timeout: i32) -> io::Result<Waited> {
+        let [ready, woken] = sys::wait((fd.as_fd(), events), (self.woken.as_fd(), sys::POLLIN), timeout)?;
+        if woken {
+            let _ = (&self.woken).read(&mut [0; 64]);
+        }
+        Ok(if ready && !woken { Waited::Ready } else { Waited::Not })
+    }
+}
+
+/// The signal that asked to stop, by its name.
+pub fn stop() -> Option<&'static str> {
+    sys::stop_signal().map(|number| match number {
+        sys::SIGINT => "SIGINT",
+        sys::SIGHUP => "SIGHUP",
+        _ => "SIGTERM",
+    })
+}

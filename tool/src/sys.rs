@@ -1,0 +1,138 @@
+//! The few functions of the C library that std lacks. This is the only module with `unsafe`.
+//!
+//! - `signal`: std has no signals, and the collector must end in order at SIGTERM, SIGINT and SIGHUP;
+//! - `write`: the one thing that a handler may do to wake the program;
+//! - `poll`: std cannot wait for a descriptor and a signal at once;
+//! - `__errno_location`: a handler must leave the number of the last error as it found it;
+//! - `fcntl`: std opens /dev/null where a standard descriptor is closed, so that has to be asked before std begins.
+//!
+//! Locks, the sync of a folder and aligned writes at an offset are in std.
+#![allow(unsafe_code)]
+use std::io;
+use std::os::fd::{AsRawFd, BorrowedFd, RawFd};
+use std::sync::atomic::{AtomicBool, AtomicI32, Ordering};
+
+mod c {
+    #[repr(C)]
+    pub struct PollFd {
+        pub fd: i32,
+        pub events: i16,
+        pub revents: i16,
+    }
+
+    extern "C" {
+        pub fn signal(number: i32, handler: usize) -> usize;
+        pub fn write(fd: i32, bytes: *const u8, len: usize) -> isize;
+        pub fn poll(fds: *mut PollFd, count: std::ffi::c_ulong, timeout: i32) -> i32;
+        pub fn __errno_location() -> *mut i32;
+        pub fn fcntl(fd: i32, command: i32, ...) -> i32;
+    }
+}
+
+pub const SIGHUP: i32 = 1;
+pub const SIGINT: i32 = 2;
+pub const SIGUSR1: i32 = 10;
+pub const SIGTERM: i32 = 15;
+/// Sent where a file would grow past the limit of its size; ignored, the write fails with words of its own.
+const SIGXFSZ: i32 = 25;
+const SIG_IGN: usize = 1;
+const F_GETFD: i32 = 1;
+const EBADF: i32 = 9;
+pub const POLLIN: i16 = 1;
+pub const POLLOUT: i16 = 4;
+
+/// Whether standard input, output and error were closed when the program began.
+static CLOSED: [AtomicBool; 3] = [const { AtomicBool::new(false) }; 3];
+
+/// Run by the loader before std, which opens /dev/null for what is closed: rows would vanish there without a word.
+#[used]
+#[link_section = ".init_array"]
+static AT_START: extern "C" fn() = note_closed;
+
+extern "C" fn note_closed() {
+    for (fd, closed) in CLOSED.iter().enumerate() {
+        // SAFETY: numbers alone; a descriptor that is not open is answered with -1.
+        closed.store(unsafe { c::fcntl(fd as i32, F_GETFD) } == -1, Ordering::Relaxed);
+    }
+}
+
+/// The failure that a closed standard descriptor would give.
+pub fn was_open(fd: usize) -> io::Result<()> {
+    match CLOSED[fd].load(Ordering::Relaxed) {
+        true => Err(io::Error::from_raw_os_error(EBADF)),
+        false => Ok(()),
+    }
+}
+
+/// The signal that asked to stop, 0 for none.
+static STOP: AtomicI32 = AtomicI32::new(0);
+/// Whether the totals were asked for.
+static TOTALS: AtomicBool = AtomicBool::new(false);
+/// Where a handler writes a byte, so that a wait ends.
+static WAKE: AtomicI32 = AtomicI32::new(-1);
+
+/// Stores into atomics and `write` are all that it does: both are allowed in a handler.
+extern "C" fn handle(number: i32) {
+    match number {
+        SIGUSR1 => TOTALS.store(true, Ordering::Relaxed),
+        number => STOP.store(number, Ordering::Relaxed),
+    }
+    // SAFETY: one byte of a constant; a full or closed descriptor is answered with -1. The place of the error number is this thread's own.
+    unsafe {
+        let errno = c::__errno_location();
+        let before = *errno;
+        c::write(WAKE.load(Ordering::Relaxed), b"!".as_ptr(), 1);
+        *errno = before;
+    }
+}
+
+/// From now on the signals that end the collector in order, and SIGUSR1, are noted and wake a wait on the other end of `wake`.
+pub fn catch_signals(wake: RawFd) {
+    WAKE.store(wake, Ordering::Relaxed);
+    let handler = handle as extern "C" fn(i32) as usize;
+    for number in [SIGINT, SIGTERM, SIGHUP, SIGUSR1] {
+        // SAFETY: the handler is a function of this type that lives as long as the program and does only what a handler may.
+        let before = unsafe { c::signal(number, handler) };
+        // `nohup` asked for SIGHUP to be ignored.
+        if number == SIGHUP && before == SIG_IGN {
+            // SAFETY: SIG_IGN is a disposition that every signal but two can have.
+            unsafe { c::signal(number, SIG_IGN) };
+        }
+    }
+}
+
+/// A file that would grow past its limit, and a reader that closed its pipe, are failed writes and no deaths.
+pub fn ignore_file_size_signal() {
+    // SAFETY: SIG_IGN is a disposition that this signal can have. std has done the same for SIGPIPE.
+    unsafe { c::signal(SIGXFSZ, SIG_IGN) };
+}
+
+/// The signal that asked to stop.
+pub fn stop_signal() -> Option<i32> {
+    Some(STOP.load(Ordering::Relaxed)).filter(|n| *n != 0)
+}
+
+/// Whether a signal came that was not seen to yet.
+pub fn is_signalled() -> bool {
+    stop_signal().is_some() || TOTALS.load(Ordering::Relaxed)
+}
+
+/// Whether the totals were asked for since the last time.
+pub fn take_totals_request() -> bool {
+    TOTALS.swap(false, Ordering::Relaxed)
+}
+
+/// Waits until one of two descriptors is ready for `events`, or `timeout` milliseconds are over (-1: for ever). Says of each whether it is ready; an
+/// interrupted wait says that none is.
+pub fn wait(one: (BorrowedFd<'_>, i16), other: (BorrowedFd<'_>, i16), timeout: i32) -> io::Result<[bool; 2]> {
+    let mut fds = [one, other].map(|(fd, events)| c::PollFd { fd: fd.as_raw_fd(), events, revents: 0 });
+    // SAFETY: two records that live during the call, and their number.
+    let answer = unsafe { c::poll(fds.as_mut_ptr(), 2, timeout) };
+    match answer {
+        -1 => match io::Error::last_os_error() {
+            error if error.kind() == io::ErrorKind::Interrupted => Ok([false; 2]),
+            error => Err(error),
+        },
+        _ => Ok(fds.map(|fd| fd.revents != 0)),
+    }
+}

@@ -1,0 +1,241 @@
+//! A collector that is killed at random moments, runs into a full disk or finds a torn block: at the end state and archive are byte for byte those of a
+//! run that nobody disturbed, and every row that was printed stands in the archive.
+//!
+//! MOORINGEYE_KILLS says how often it is killed, 20 where it is left out.
+mod common;
+use common::*;
+use std::fs;
+use std::io::Write;
+use std::path::{Path, PathBuf};
+use std::thread::{self, sleep};
+use std::time::Duration;
+
+/// A log, and what an undisturbed run makes of it.
+struct Whole {
+    log: String,
+    dir: PathBuf,
+    words: String,
+    printed: Vec<String>,
+}
+
+impl Whole {
+    fn of(name: &str, lines: usize, seed: u64, options: &str) -> Whole {
+        let dir = folder(&format!("crash_{name}_whole"));
+        let words = format!("collect --state s {options}");
+        let log = log(lines, seed);
+        let ran = run(&words, &dir, log.as_bytes()).with(0);
+        Whole { printed: ran.out.lines().map(String::from).collect(), log, dir, words }
+    }
+
+    /// The rows of the archive that the first so many printed rows are.
+    fn stored(&self, printed: usize) -> usize {
+        let is_stored = |row: &&String| matches!(row.split(' ').nth(1), Some("KEPT" | "LOOSE"));
+        self.printed[..printed].iter().filter(is_stored).count()
+    }
+
+    fn files(dir: &Path) -> Vec<(String, Vec<u8>)> {
+        let entries = fs::read_dir(dir).unwrap().map(|e| e.unwrap().path());
+        let mut files: Vec<_> = entries.map(|p| (p.file_name().unwrap().to_str().unwrap().to_string(), fs::read(p).unwrap())).collect();
+        files.sort();
+        files
+    }
+
+    /// State and archives, in another folder, are byte for byte those of the undisturbed run.
+    #[track_caller]
+    fn is_same(&self, dir: &Path) {
+        let (mine, other) = (Whole::files(&self.dir), Whole::files(dir));
+        let names = |files: &[(String, Vec<u8>)]| files.iter().map(|f| f.0.clone()).collect::<Vec<_>>();
+        assert_eq!(names(&mine), names(&other));
+        for ((name, one), (_, two)) in mine.iter().zip(&other) {
+            assert!(one == two, "{name} differs, from byte {:?} on", one.iter().zip(two).position(|(a, b)| a != b));
+        }
+    }
+
+    /// What a disturbed run printed is what the undisturbed one prints from the line on where the state stood; answers up to which row.
+    #[track_caller]
+    fn printed_to(&self, ran: &Ran) -> usize {
+        let Some(at) = ran.err.find(" lines taken") else {
+            assert_eq!(ran.out, "");
+            return 0;
+        };
+        let taken: usize = ran.err[..at].rsplit(' ').next().unwrap().parse().unwrap();
+        // The first line says the level, and has no row.
+        let from = taken.saturating_sub(1);
+        let rows: Vec<&str> = ran.out.split_inclusive('\n').filter(|row| row.ends_with('\n')).map(str::trim_end).collect();
+        assert!(self.printed[from..].iter().zip(&rows).all(|(a, b)| a == b), "rows differ behind row {from}");
+        from + rows.len()
+    }
+
+    /// The first rows of the archive of a disturbed run are those of the undisturbed one.
+    #[track_caller]
+    fn has_rows(&self, dir: &Path, rows: usize) {
+        let mut left = rows;
+        for (name, whole) in Whole::files(&self.dir).iter().filter(|f| f.0.starts_with('a')) {
+            let other = fs::read(dir.join(name)).unwrap_or_default();
+            let here = left.min((0..whole.len() / 512).map(|k| usize::from(whole[512 * k + 4])).sum());
+            for i in 0..here {
+                let at = 512 * (i / 15) + 24 + 32 * (i % 15);
+                assert!(other.len() >= at + 32 && whole[at..at + 32] == other[at..at + 32], "row {i} of {name} was printed and is not there");
+            }
+            left -= here;
+        }
+        assert_eq!(left, 0);
+    }
+}
+
+/// Feeds a log in small parts, with pauses, so that there are many batches.
+fn feed(running: &mut Running, log: &str, seed: u64) -> thread::JoinHandle<()> {
+    let mut stdin = running.child.stdin.take().unwrap();
+    let log = log.as_bytes().to_vec();
+    thread::spawn(move || {
+        let mut random = Random(seed);
+        let mut rest = &log[..];
+        while !rest.is_empty() {
+            let (part, behind) = rest.split_at(rest.len().min(1 + random.below(2_000) as usize));
+            if stdin.write_all(part).is_err() {
+                return;
+            }
+            rest = behind;
+            if random.below(4) == 0 {
+                sleep(Duration::from_micros(random.below(300)));
+            }
+        }
+    })
+}
+
+/// How often a run was killed, and how often the archive was ahead of the state then.
+#[derive(Default)]
+struct Count {
+    kills: usize,
+    taken_back: usize,
+}
+
+/// Starts the tool again and again, and kills it at a random moment each time, until it was killed so often or came to an end.
+fn killed(whole: &Whole, name: &str, kills: usize, seed: u64) -> Count {
+    let dir = folder(&format!("crash_{name}"));
+    let words = format!("{} --replay", whole.words);
+    let mut random = Random(seed);
+    let mut count = Count::default();
+    loop {
+        let mut running = start(tool(&words, &dir));
+        let feeder = feed(&mut running, &whole.log, random.next());
+        if count.kills < kills {
+            sleep(Duration::from_micros(random.below(60_000)));
+            let _ = running.child.kill();
+        }
+        let ran = running.end();
+        feeder.join().unwrap();
+        whole.has_rows(&dir, whole.stored(whole.printed_to(&ran)));
+        count.taken_back += usize::from(ran.err.contains("taken back"));
+        if ran.status.is_some() {
+            assert_eq!(ran.status, Some(0), "{}", ran.err);
+            whole.is_same(&dir);
+            return count;
+        }
+        count.kills += 1;
+    }
+}
+
+fn kills() -> usize {
+    std::env::var("MOORINGEYE_KILLS").map_or(20, |n| n.parse().unwrap())
+}
+
+/// So many kills, over as many logs as that takes.
+fn killed_in_all(name: &str, options: &str, lines: usize) {
+    let (mut all, mut logs) = (Count::default(), 0);
+    while all.kills < kills() {
+        let whole = Whole::of(name, lines, logs, options);
+        let more = killed(&whole, name, kills() - all.kills, 100 + logs);
+        (all.kills, all.taken_back) = (all.kills + more.kills, all.taken_back + more.taken_back);
+        logs += 1;
+    }
+    println!("{name}: {} kills over {logs} logs of {lines} lines, after {} of them rows were taken back", all.kills, all.taken_back);
+    assert!(all.kills < 100 || all.taken_back > 0, "no kill came between archive and state");
+}
+
+#[test]
+fn killed_in_batches() {
+    killed_in_all("batch", "--archive a", 20_000);
+}
+
+#[test]
+fn killed_row_by_row() {
+    killed_in_all("row", "--archive a --sync row", 600);
+}
+
+#[test]
+fn killed_while_files_are_rotated() {
+    killed_in_all("rotation", "--archive a-###.arc --blocks 3", 8_000);
+}
+
+#[test]
+fn a_full_disk() {
+    let whole = Whole::of("full", 60_000, 11, "--archive a");
+    let length = fs::metadata(whole.dir.join("a")).unwrap().len();
+    assert!(length > 1 << 20, "the archive has to grow twice");
+    let dir = folder("crash_full");
+    // No room for the archive at all, and for its first part alone: then it fails where the file has to grow.
+    for (limit, words) in [(1_000, "cannot write"), (500_000, "cannot write a: File too large"), (1_500_000, "cannot write a: File too large")] {
+        let words_of_tool = format!("{} --replay", whole.words);
+        let mut running = start(limited(&format!("--fsize={limit}"), &words_of_tool, &dir));
+        let feeder = feed(&mut running, &whole.log, limit);
+        let ran = running.end().with(1).says(words).says("File too large");
+        feeder.join().unwrap();
+        whole.has_rows(&dir, whole.stored(whole.printed_to(&ran)));
+    }
+    run(&format!("{} --replay", whole.words), &dir, whole.log.as_bytes()).with(0);
+    whole.is_same(&dir);
+}
+
+#[test]
+fn a_write_that_stops_in_the_middle_of_a_block() {
+    let whole = Whole::of("torn_write", 3_000, 12, "--archive a");
+    let words = format!("{} --replay", whole.words);
+    let mut torn = 0;
+    for at in (0..40).map(|i| 512 * (20 + i) + 7 + 12 * i) {
+        let dir = folder("crash_torn_write");
+        // The file is as long as it will be, so that a limit of its size stops a write and not its growth.
+        fs::write(dir.join("a"), vec![0; 1 << 20]).unwrap();
+        let mut running = start(limited(&format!("--fsize={at}"), &words, &dir));
+        let feeder = feed(&mut running, &whole.log, at as u64);
+        let ran = running.end().with(1).says("cannot write a: File too large");
+        feeder.join().unwrap();
+        let block = fs::read(dir.join("a")).unwrap()[512 * (at / 512)..][..512].to_vec();
+        torn += usize::from(block[at % 512..].iter().all(|b| *b == 0) || run("archive verify a", &dir, b"").status == Some(3));
+        whole.has_rows_or_mends(&dir, &ran, &words);
+        whole.is_same(&dir);
+    }
+    assert!(torn > 0, "no write was torn");
+}
+
+impl Whole {
+    /// The next run brings everything back, torn rows that were printed among it.
+    fn has_rows_or_mends(&self, dir: &Path, ran: &Ran, words: &str) {
+        let printed = self.printed_to(ran);
+        run(&format!("{} --level 1", self.words), dir, b"").with(0);
+        self.has_rows(dir, self.stored(printed));
+        run(words, dir, self.log.as_bytes()).with(0);
+    }
+}
+
+#[test]
+fn a_block_that_a_power_cut_spoiled() {
+    let whole = Whole::of("power", 3_000, 13, "--archive a");
+    let words = format!("{} --replay", whole.words);
+    let cut = whole.log.match_indices('\n').nth(1_200).unwrap().0 + 1;
+    let mut random = Random(77);
+    for _ in 0..20 {
+        let dir = folder("crash_power");
+        run(&whole.words, &dir, &whole.log.as_bytes()[..cut]).with(0);
+        let mut bytes = fs::read(dir.join("a")).unwrap();
+        let rows: usize = bytes.chunks(512).map(|b| usize::from(b[4])).sum();
+        // The block with the last row, and blocks behind it, hold anything.
+        let last = 512 * ((rows - 1) / 15);
+        let from = last + random.below(512) as usize;
+        let to = from + 1 + random.below(3_000) as usize;
+        bytes[from..to].iter_mut().for_each(|b| *b = random.next() as u8);
+        fs::write(dir.join("a"), &bytes).unwrap();
+        run(&words, &dir, whole.log.as_bytes()).with(0).says("taken back");
+        whole.is_same(&dir);
+    }
+}
