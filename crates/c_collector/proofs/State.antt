@@ -21,7 +21,7 @@ use Rattle.collector.specs.Collector.{Columns}
 use Rattle.collector.specs.Admission.{viewIn, admittedOf, admission, Admits}
 use Rattle.collector.proofs.Arrays.{entries-length}
 use Rattle.collector.proofs.Stepping.{admission-fit}
-use Rattle.c_collector.specs.State.{Arrays, arrays, columnsAt, summaryIn, stateAt, totalsOf, numbersOf, numbersIn}
+use Rattle.c_collector.specs.State.{Arrays, arrays, columnsAt, summaryIn, stateAt, totalNumbers, numbersOf, numbersIn}
 use Rattle.c_collector.specs.Calls.{answerNumber, Takes, TotalsCall, totalsCall}
 
 pub numbers-back : (l : List ℕ) → length l ≡ 8 → numbersIn (summaryIn l) ≡ l
@@ -37,7 +37,7 @@ numbers-back (a ∷ b ∷ c ∷ d ∷ f ∷ g ∷ h ∷ i ∷ []) e = refl
 numbers-back (a ∷ b ∷ c ∷ d ∷ f ∷ g ∷ h ∷ i ∷ j ∷ l) e = absurd (omega arith)
 
 pub numbers-counted : (a : Columns) (s : Summary) → numbersIn s ≡ numbersOf (viewIn a s)
-numbers-counted a s = ap (λ (n : ℕ). n ∷ s .latest ∷ totalsOf (s .totals)) (sym (entries-length a (s .count)))
+numbers-counted a s = ap (λ (n : ℕ). n ∷ s .latest ∷ totalNumbers (s .totals)) (sym (entries-length a (s .count)))
 
 module _ (s : Arrays) (r : Reception) (fit : Bool) (old : Summary) (a : Columns) (d : Admitted) where
   pub taken : length (s .numbers) ≡ 8 → fit ≡ acceptable (stateAt s) → old ≡ summaryIn (s .numbers) → Admits fit (columnsAt s) old r a d
@@ -64,6 +64,6 @@ module _ (v : View) (old : List ℕ) where
   unfolding totalsCall
   totals-refused bad = rw bad
 
-  pub totals-shown : acceptable v ≡ true → _≡_ {A = TotalsCall} (record { number = 0; values = totalsOf (v .totals) }) (totalsCall v old)
+  pub totals-shown : acceptable v ≡ true → _≡_ {A = TotalsCall} (record { number = 0; values = totalNumbers (v .totals) }) (totalsCall v old)
   unfolding totalsCall
   totals-shown ok = rw ok

@@ -11,7 +11,7 @@ use Rattle.model.specs.Answer.{Shown, Kept, Copy, Loose, Refused, shownNumber, 
 use Rattle.model.specs.View.{Reception, View, capacity, fresh}
 use Rattle.model.specs.Acceptable.{acceptable}
 use Rattle.model.specs.Step.{step}
-use Rattle.c_collector.specs.State.{Arrays, arrays, stateAt, totalsOf, numbersOf}
+use Rattle.c_collector.specs.State.{Arrays, arrays, stateAt, totalNumbers, numbersOf}
 
 -- "KEPT, COPY and LOOSE are three forms" of 0 (document 01, "Numbers a caller sees"): which of them; 0 beside a refusal
 abbrev pub kindOf : Shown → ℕ
@@ -49,4 +49,4 @@ pub record TotalsCall : Type 0 where
 unfoldable pub totalsCall : View → List ℕ → TotalsCall
 totalsCall v old =
     cond (not (acceptable v)) (record { number = numberOf NotAccepted; values = old })
-    (record { number = 0; values = totalsOf (v .totals) })
+    (record { number = 0; values = totalNumbers (v .totals) })

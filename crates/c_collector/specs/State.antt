@@ -41,13 +41,13 @@ summaryIn numbers = record {
 abbrev pub stateAt : Arrays → View
 stateAt s = viewIn (columnsAt s) (summaryIn (s .numbers))
 
-abbrev pub totalsOf : Totals → List ℕ
-totalsOf n = n .received ∷ n .kept ∷ n .copies ∷ n .loose ∷ n .damaged ∷ n .late ∷ []
+abbrev pub totalNumbers : Totals → List ℕ
+totalNumbers n = n .received ∷ n .kept ∷ n .copies ∷ n .loose ∷ n .damaged ∷ n .late ∷ []
 
 -- the eight numbers of a state
 abbrev pub numbersOf : View → List ℕ
-numbersOf v = length (v .entries) ∷ v .latest ∷ totalsOf (v .totals)
+numbersOf v = length (v .entries) ∷ v .latest ∷ totalNumbers (v .totals)
 
 -- those of what a state holds beside its columns
 abbrev pub numbersIn : Summary → List ℕ
-numbersIn s = s .count ∷ s .latest ∷ totalsOf (s .totals)
+numbersIn s = s .count ∷ s .latest ∷ totalNumbers (s .totals)
