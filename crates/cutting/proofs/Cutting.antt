@@ -187,8 +187,8 @@ module _ (m : ℕ) (buffer : List ℕ) where
   cut-done z = go (eqb (verdict buffer .number) 0) (ltb (length rows-now) m) refl refl z
     where
       go : (a b : Bool) → eqb (verdict buffer .number) 0 ≡ a → ltb (length rows-now) m ≡ b
-          → cond (not a) (refused (verdict buffer .number) (verdict buffer .position) buffer)
-          (cond b (refused (numberOf Argument) 0 buffer) (stored remaining)) .number
+          → cond (not a) (refusedAppend (verdict buffer .number) (verdict buffer .position) buffer)
+          (cond b (refusedAppend (numberOf Argument) 0 buffer) (stored remaining)) .number
           ≡ 0
           → CutDone
       go false b e f q = absurd (eqb-false (verdict buffer .number) 0 e q)
@@ -257,6 +257,6 @@ module _ (m : ℕ) (buffer : List ℕ) where
   -- a buffer that is no archive
   pub cut-not : (number position : ℕ)
       → (number ≡ verdict buffer .number) × (position ≡ verdict buffer .position) × (eqb (verdict buffer .number) 0 ≡ false)
-      → refused number position buffer ≡ cutOf m buffer
+      → refusedAppend number position buffer ≡ cutOf m buffer
   unfolding cutOf
   cut-not number position v = rw (v .2) (ap₂ (λ (x y : ℕ). refusedAppend x y buffer) (v .0) (v .1))
