@@ -307,9 +307,9 @@ uint8_t mooringeye_archive_remove(uint8_t *buffer, size_t size, const uint32_t *
  * before it is touched. Refused: 16, 12 with the position, 10 where the archive has fewer rows. */
 uint8_t mooringeye_archive_cut(uint8_t *buffer, size_t size, size_t rows, size_t *position);
 
-/* The same of one block, which becomes that of its first `rows` rows, all zero for none: the rows of an archive in a file end after `rows` where zeros
- * were written behind block rows / 15, from the end on, and that block then cut at rows % 15. Refused: 16 another size, 12 a block that isn't sound
- * or has fewer rows. */
+/* The same of one block, which becomes that of its first `rows` rows, all zero for none. The rows of an archive in a file end after row m where zeros
+ * were written behind block m / 15, from the end on, and that block was then cut at m % 15. Refused: 16 another size, 12 a block that isn't sound or
+ * has fewer rows. */
 uint8_t mooringeye_archive_cut_block(uint8_t *block, size_t size, size_t rows);
 
 /* ---- archives in pieces: whole blocks in the order of the file, as many in a piece as the caller likes. However an archive is divided, the pieces
@@ -323,11 +323,11 @@ uint8_t mooringeye_scan_feed(uint64_t *numbers, const uint8_t *piece, size_t siz
 /* What mooringeye_archive_verify answers for all pieces together. Refused: 11, 12 with the position. */
 uint8_t mooringeye_scan_end(const uint64_t *numbers, size_t *rows, size_t *position);
 
-/* The next piece of an archive that is packed anew: rows of sound blocks stay, but those of up to 32 transmitters. Rows that wait for a full block lie
- * in `waiting`, 960 bytes; `numbers` are how many wait, and how many blocks were written; two zeros before the first piece. Blocks go into the front
- * of `out`, 512 bytes for each by which the second number rises, and the positions of dropped blocks, from the first block of the piece, into the
- * front of `positions`. Refused: 11 15 or more rows that wait, or more than 2^32 blocks; 16 as above; 10 more than 32; 6 an output shorter than the
- * piece, or a list shorter than the positions. */
+/* The next piece of an archive that is packed anew: rows of sound blocks stay, but those of up to 32 transmitters. Rows that wait for a full block
+ * lie in `waiting`, 960 bytes; `numbers` are how many wait, and how many blocks were written; two zeros before the first piece. Blocks go into the
+ * front of `out`, 512 bytes for each by which the second number rises, and the positions of dropped blocks, from the first block of the piece, into
+ * the front of `positions`. Refused: 11 for 15 or more rows that wait or more than 2^32 blocks, 16 as above, 10 more than 32 transmitters, 6 an
+ * output shorter than the piece or a list shorter than the positions. */
 uint8_t mooringeye_pack_feed(uint64_t *numbers, uint8_t *waiting, const uint8_t *piece, size_t size, const uint32_t *identities,
                              size_t identities_length, uint8_t *out, size_t out_size, uint64_t *positions, size_t positions_length, size_t *dropped);
 
@@ -363,14 +363,15 @@ uint8_t mooringeye_report_line(const uint64_t *numbers, const uint64_t *lines, s
 /* The share of its rows in receptions, in whole thousandths rounded down. Refused: 11, 10 a figure of 0 or less than the rows. */
 uint8_t mooringeye_report_share(const uint64_t *numbers, const uint64_t *lines, uint64_t received, uint64_t *thousandths);
 
-/* An archive that is added in pieces: `adding` and `tally` are what is known after some pieces, while the report stays as it is until the end. `adding`
- * is the four numbers of a scan, how many lines there are, KEPT rows, LOOSE rows, and whether a transmitter was one too many; `tally` the lines. */
+/* An archive that is added in pieces: `adding` and `tally` are what is known after some pieces, while the report stays as it is until the end.
+ * `adding` is the four numbers of a scan, how many lines there are, KEPT rows, LOOSE rows, and whether a transmitter was one too many; `tally` is the
+ * lines. */
 void mooringeye_report_start(const uint64_t *numbers, const uint64_t *lines, uint64_t *adding, uint64_t *tally);
 
 /* The next piece. Refused: 11 a report that no archives give, or numbers that no pieces give beside it, as far as they tell; 16 as of a scan. */
 uint8_t mooringeye_report_feed(const uint64_t *numbers, const uint64_t *lines, uint64_t *adding, uint64_t *tally, const uint8_t *piece, size_t size);
 
-/* After the last piece: what mooringeye_report_add answers for all pieces together. Refused: 11, 12 with the position, 10, 17; then nothing is added. */
+/* After the last piece: what mooringeye_report_add answers for all pieces together. Refused: 11, 12 with the position, 10, 17; nothing is added. */
 uint8_t mooringeye_report_end(uint64_t *numbers, uint64_t *lines, const uint64_t *adding, const uint64_t *tally, size_t *position);
 
 #ifdef __cplusplus

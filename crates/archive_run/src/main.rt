@@ -143,6 +143,7 @@ fn call(buffer: &mut [u8], r: &[u8])
         7 => block(buffer, layout::read_number(&r[1..5])),
         8 => scan(buffer, layout::read_number(&r[1..5])),
         12 => remove(buffer, r),
+        18 => cut(buffer, r),
         _ => test_io::text(b"?\n"),
     }
 }
@@ -372,6 +373,21 @@ fn read_identities(identities: &mut [u32], r: &[u8])
 // The last four bytes of a number.
 fn four_bytes(n: u64) -> u32 {
     (n % 4294967296) as u32
+}
+
+// ---- rows taken back
+
+fn cut(buffer: &mut [u8], r: &[u8])
+    requires { ⌜ length (now r) ≡ 320 ⌝ }
+{
+    let rows = layout::read_number(&r[1..9]) as usize;
+    let answer = cutting::cut(buffer, rows);
+    test_io::text(b"CUT ");
+    match answer {
+        Outcome::Done => put_three(0, 0, rows),
+        Outcome::Damaged(k) => put_three(12, k, 0),
+        Outcome::Refused(why) => put_three(refusal::number(why), 0, 0),
+    }
 }
 
 // ---- what is printed of them

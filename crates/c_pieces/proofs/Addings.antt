@@ -14,7 +14,9 @@ pub feed-report : (a : Adding) (piece : List ℕ) → feedOf a piece .next .repo
 unfolding feedOf
 feed-report a piece = go (not (isAdding a)) (not (isPiece (a .tally .scan) piece))
   where
-    go : (x y : Bool) → cond x (fed (numberOf NotAccepted) a) (cond y (fed (numberOf Size) a) (fed 0 (adding (a .report) (addBlocks (a .tally) (blocksIn piece))))) .next .report
+    go : (x y : Bool)
+        → cond x (fed (numberOf NotAccepted) a) (cond y (fed (numberOf Size) a) (fed 0 (adding (a .report) (addBlocks (a .tally) (blocksIn piece)))))
+        .next .report
         ≡ a .report
     go true y = refl
     go false true = refl

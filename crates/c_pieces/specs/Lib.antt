@@ -1,3 +1,4 @@
 pub mod Scan
 pub mod Adding
 pub mod Packer
+pub mod Claims

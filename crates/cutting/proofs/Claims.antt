@@ -18,7 +18,7 @@ use Rattle.archive_model.proofs.Cursor.{written-verdict, blocks-of, is-exact, r
 use Rattle.cutting.specs.Cut.{firstRows, cutBlockOf, CutBlock, cutOf}
 use Rattle.cutting.specs.Claims.{Remains, CutAgain, Undone, AtOneBlock, ZerosBehind}
 use Rattle.cutting.proofs.Blocks.{first-none, block-done}
-use Rattle.cutting.proofs.Cutting.{first-fits, remaining, cut-is, cut-done, remaining-length, remaining-verdict, remaining-rows, cut-enough, cut-parts}
+use Rattle.cutting.proofs.Cutting.{remaining, cut-is, cut-done, remaining-length, remaining-verdict, remaining-rows, cut-enough, cut-parts}
 
 pub remains : Remains
 remains m buffer z =
@@ -52,9 +52,11 @@ module _ (n : ℕ) (mb : n ≤ maxBlocks) where
       let buffer = bufferOf (blockLength * n) xs in
       let l = buffer-length xs n fit (omega arith) in
       let free : length xs < cellsPerBlock * (length buffer / blockLength) = omega (arith, l) in
-      rw (written-verdict xs n fit (omega arith) mb, one .valid, rows-in xs n fit (omega arith), lt-leb (cellsPerBlock * (length buffer / blockLength)) (length xs) free, l)
+      let full = lt-leb (cellsPerBlock * (length buffer / blockLength)) (length xs) free in
+      rw (written-verdict xs n fit (omega arith) mb, one .valid, rows-in xs n fit (omega arith), full, l)
 
-  append-all : (xs ys : List Row) → Fits (xs ++ ys) → length (xs ++ ys) ≤ cellsPerBlock * n → after (bufferOf (blockLength * n) xs) ys ≡ bufferOf (blockLength * n) (xs ++ ys)
+  append-all : (xs ys : List Row) → Fits (xs ++ ys) → length (xs ++ ys) ≤ cellsPerBlock * n
+      → after (bufferOf (blockLength * n) xs) ys ≡ bufferOf (blockLength * n) (xs ++ ys)
   append-all xs [] fit few = ap (bufferOf (blockLength * n)) (sym (append-nil xs))
   append-all xs (y ∷ ys) fit few =
       let e = append-assoc xs (y ∷ []) ys in
@@ -79,11 +81,12 @@ undone m buffer z =
 pub at-one-block : AtOneBlock
 at-one-block m buffer v some =
     let h = cut-enough m buffer v some in
+    let at = blockLength * (m / cellsPerBlock) in
     let b = blockAt (m / cellsPerBlock) buffer in
     let done = block-done (m % cellsPerBlock) b (sound-long b (h .0)) (h .0) (h .1) in (
       ap (λ (c : CutBlock). c .number) (sym done),
       sym (cut-is m buffer v (omega arith)) ∙ ap stored (sym (cut-parts m buffer v some))
-          ∙ ap (λ (c : CutBlock). stored (take (blockLength * (m / cellsPerBlock)) buffer ++ c .block ++ replicate (length buffer - (blockLength * (m / cellsPerBlock) + blockLength)) 0)) done,
+          ∙ ap (λ (c : CutBlock). stored (take at buffer ++ c .block ++ replicate (length buffer - (at + blockLength)) 0)) done,
     )
 
 pub zeros-behind : ZerosBehind
@@ -93,7 +96,8 @@ zeros-behind k buffer v some =
     let b = blockAt k buffer in
     let n = length buffer in
     let e : blockLength + (n - (blockLength * k + blockLength)) ≡ n - blockLength * k = omega (arith, rows-few buffer v) in
-    let parts : take (blockLength * k) buffer ++ firstRows 0 b ++ replicate (n - (blockLength * k + blockLength)) 0 ≡ remaining (cellsPerBlock * k) buffer
+    let parts : take (blockLength * k) buffer ++ firstRows 0 b ++ replicate (n - (blockLength * k + blockLength)) 0
+    ≡ remaining (cellsPerBlock * k) buffer
     = rw (d, r) at (cut-parts (cellsPerBlock * k) buffer v some) in
     let zeros : firstRows 0 b ++ replicate (n - (blockLength * k + blockLength)) 0 ≡ replicate (n - blockLength * k) 0
     = ap (λ (l : List ℕ). l ++ replicate (n - (blockLength * k + blockLength)) 0) (sym (first-none b))

@@ -25,7 +25,8 @@ use Rattle.archive_model.specs.Row.{Row, rowsBlock, blockNumber, rowCount, rows
 use Rattle.archive_model.specs.Buffer.{blocksFor, rowsAt, bufferOf, maxBlocks, rowsIn}
 use Rattle.archive_model.specs.Append.{verdict, refused, stored, blockAt}
 use Rattle.archive_model.proofs.Blocks.{Fits, noRow, number-back, count-back, rows-back, block-sound}
-use Rattle.archive_model.proofs.Buffers.{map-same, pieces, blank, blank-is, group-length, group-few, group-fits, used-block, free-block, buffer-length, rows-in}
+use Rattle.archive_model.proofs.Buffers.{map-same, pieces, blank, blank-is, group-length, group-few, group-fits, used-block, free-block}
+use Rattle.archive_model.proofs.Buffers.{buffer-length, rows-in}
 use Rattle.archive_model.proofs.Cursor.{written-verdict, blocks-of, is-exact, rows-fit, rows-few}
 use Rattle.cutting.specs.Cut.{firstRows, cutOf}
 use Rattle.cutting.proofs.Blocks.{first-none, first-some}
@@ -60,7 +61,8 @@ first-fits m rows fit i h =
     let l = length-take m rows in
     rw (getD-take m rows i noRow (omega (arith, l, h))) (fit i (omega (arith, l, h)))
 
-module _ (rows : List Row) (n : ℕ) (fit : Fits rows) (fits : length rows ≤ cellsPerBlock * n) (mb : n ≤ maxBlocks) (m : ℕ) (some : m < length rows) where
+module _ (rows : List Row) (n : ℕ) (fit : Fits rows) (fits : length rows ≤ cellsPerBlock * n) (mb : n ≤ maxBlocks) (m : ℕ)
+    (some : m < length rows) where
   abbrev k : ℕ
   k = m / cellsPerBlock
 
@@ -122,7 +124,8 @@ module _ (rows : List Row) (n : ℕ) (fit : Fits rows) (fits : length rows ≤ c
       ∙ ap (λ (r : ℕ). firstRows r block) (sym z))
       (λ f.
       let u = eqb-false (m % cellsPerBlock) 0 f in
-      let number : blockNumber block ≡ k = ap blockNumber block-is ∙ number-back k (rowsAt k rows) (group-fits rows fit k) (group-few rows k) (omega arith) in
+      let number : blockNumber block ≡ k =
+      ap blockNumber block-is ∙ number-back k (rowsAt k rows) (group-fits rows fit k) (group-few rows k) (omega arith) in
       let says : rowsOf block ≡ rowsAt k rows = ap rowsOf block-is ∙ rows-back k (rowsAt k rows) (group-fits rows fit k) (group-few rows k) in
       used-block first n after-fits after-few k (omega arith) (omega (arith, first-length)) ∙ ap (rowsBlock k) group-is
       ∙ sym (ap₂ (λ (c : ℕ) (l : List Row). rowsBlock c (take (m % cellsPerBlock) l)) number says)
@@ -142,7 +145,9 @@ module _ (rows : List Row) (n : ℕ) (fit : Fits rows) (fits : length rows ≤ c
       (λ j p q. free-block first n after-fits after-few j (omega (arith, first-length)) (omega (arith, first-length)))
       ∙ ap (λ (a : ℕ). replicate a 0) d
 
-  pub after-is : take (blockLength * k) before ++ firstRows (m % cellsPerBlock) block ++ replicate (blockLength * n - (blockLength * k + blockLength)) 0 ≡ after
+  pub after-is : take (blockLength * k) before ++ firstRows (m % cellsPerBlock) block
+      ++ replicate (blockLength * n - (blockLength * k + blockLength)) 0
+      ≡ after
   after-is =
       ap₂ (λ (x y : List ℕ). x ++ y ++ replicate (blockLength * n - (blockLength * k + blockLength)) 0) (sym front) (sym middle)
       ∙ ap (λ (z : List ℕ). take (blockLength * k) after ++ blockAt k after ++ z) (sym back) ∙ split (blockLength * k) blockLength after
@@ -183,7 +188,8 @@ module _ (m : ℕ) (buffer : List ℕ) where
   cut-done z = go (eqb (verdict buffer .number) 0) (ltb (length rows-now) m) refl refl z
     where
       go : (a b : Bool) → eqb (verdict buffer .number) 0 ≡ a → ltb (length rows-now) m ≡ b
-          → cond (not a) (refused (verdict buffer .number) (verdict buffer .position) buffer) (cond b (refused (numberOf Argument) 0 buffer) (stored remaining)) .number
+          → cond (not a) (refused (verdict buffer .number) (verdict buffer .position) buffer)
+          (cond b (refused (numberOf Argument) 0 buffer) (stored remaining)) .number
           ≡ 0
           → CutDone
       go false b e f q = absurd (eqb-false (verdict buffer .number) 0 e q)
@@ -230,23 +236,28 @@ module _ (m : ℕ) (buffer : List ℕ) where
           ++ replicate (length buffer - (blockLength * (m / cellsPerBlock) + blockLength)) 0
           ≡ remaining
       cut-parts =
-          ap (λ (n : ℕ). take (blockLength * (m / cellsPerBlock)) buffer ++ firstRows (m % cellsPerBlock) cut-block ++ replicate (n - (blockLength * (m / cellsPerBlock) + blockLength)) 0) (blocks-of buffer v .0)
-          ∙ (rw (is-exact buffer v) at (after-is rows-now blocks (rows-fit buffer v) (rows-few buffer v) (blocks-of buffer v .1) m some)) ∙ sym remaining-is
+          let a = blockLength * (m / cellsPerBlock) in
+          ap (λ (n : ℕ). take a buffer ++ firstRows (m % cellsPerBlock) cut-block ++ replicate (n - (a + blockLength)) 0) (blocks-of buffer v .0)
+          ∙ (rw (is-exact buffer v) at (after-is rows-now blocks (rows-fit buffer v) (rows-few buffer v) (blocks-of buffer v .1) m some))
+          ∙ sym remaining-is
 
       -- the same as it is written in place
       pub cut-written : (at : ℕ) → at ≡ blockLength * (m / cellsPerBlock)
           → length ([] ++ part 0 (at - 0) buffer ++ firstRows (m % cellsPerBlock) (part at (at + blockLength - at) buffer)) ≡ at + blockLength
-          → padded (length buffer) ([] ++ part 0 (at - 0) buffer ++ firstRows (m % cellsPerBlock) (part at (at + blockLength - at) buffer)) ≡ remaining
+          → padded (length buffer) ([] ++ part 0 (at - 0) buffer ++ firstRows (m % cellsPerBlock) (part at (at + blockLength - at) buffer))
+          ≡ remaining
       cut-written at e long =
           let z : at - 0 ≡ at = omega arith in
           let d : at + blockLength - at ≡ blockLength = omega arith in
-          ap (λ (n : ℕ). [] ++ part 0 (at - 0) buffer ++ firstRows (m % cellsPerBlock) (part at (at + blockLength - at) buffer) ++ replicate (length buffer - n) 0) long
-          ∙ ap₂ (λ (x y : ℕ). take x buffer ++ firstRows (m % cellsPerBlock) (part at y buffer) ++ replicate (length buffer - (at + blockLength)) 0) z d
-          ∙ ap (λ (x : ℕ). take x buffer ++ firstRows (m % cellsPerBlock) (part x blockLength buffer) ++ replicate (length buffer - (x + blockLength)) 0) e
+          let r = m % cellsPerBlock in
+          ap (λ (n : ℕ). part 0 (at - 0) buffer ++ firstRows r (part at (at + blockLength - at) buffer) ++ replicate (length buffer - n) 0) long
+          ∙ ap₂ (λ (x y : ℕ). take x buffer ++ firstRows r (part at y buffer) ++ replicate (length buffer - (at + blockLength)) 0) z d
+          ∙ ap (λ (x : ℕ). take x buffer ++ firstRows r (part x blockLength buffer) ++ replicate (length buffer - (x + blockLength)) 0) e
           ∙ cut-parts
 
   -- a buffer that is no archive
-  pub cut-not : (number position : ℕ) → (number ≡ verdict buffer .number) × (position ≡ verdict buffer .position) × (eqb (verdict buffer .number) 0 ≡ false)
+  pub cut-not : (number position : ℕ)
+      → (number ≡ verdict buffer .number) × (position ≡ verdict buffer .position) × (eqb (verdict buffer .number) 0 ≡ false)
       → refused number position buffer ≡ cutOf m buffer
   unfolding cutOf
   cut-not number position v = rw (v .2) (ap₂ (λ (x y : ℕ). refused x y buffer) (v .0) (v .1))

@@ -45,8 +45,8 @@ fn shorten(block: &mut [u8], rows: usize)
     keep_rows(block, rows);
 }
 
-// One block becomes that of its first `rows` rows, and all zero for none. Refused: 16 for another length, 12 for a block that isn't sound or has fewer
-// rows; then it is as it was.
+// One block becomes that of its first `rows` rows, and all zero for none. Refused: 16 for another length, 12 for a block that isn't sound or has
+// fewer rows; then it is as it was.
 pub fn cut_block(block: &mut [u8], rows: usize) -> Taken
     ensures { λ r. ⌜ cutBlockResult r (now (block .exit)) ≡ cutBlockOf rows (now (block .entry)) ⌝ }
 {

@@ -235,6 +235,11 @@ impl Room {
                 let n = raw::archive_remove(&mut self.bytes, &identities, &mut freed, &mut position);
                 format!("REMOVE {n} {position} {freed}")
             }
+            18 => {
+                let first = size(&r[1..9]);
+                let n = raw::archive_cut(&mut self.bytes, first, &mut position);
+                format!("CUT {n} {position} {}", if n == 0 { first } else { 0 })
+            }
             _ => self.report(r),
         }
     }

@@ -241,7 +241,7 @@ fn lengths(calls: &mut Vec<Call>) {
         calls.extend([Call::Open, Call::Row(0), Call::Row(1)]);
         calls.push(Call::AppendAt(row.clone(), u64::MAX));
     }
-    calls.extend([0, 18, 255].map(Call::Unknown));
+    calls.extend([0, 19, 255].map(Call::Unknown));
     calls.push(Call::Open);
 }
 

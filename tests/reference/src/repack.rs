@@ -1,5 +1,5 @@
-//! Salvage of a damaged archive (document 02, A9) and the removal of sensors that left (A11), over
-//! lists of rows: what stays is written as a new archive.
+//! Salvage of a damaged archive (document 02, A9), the removal of sensors that left (A11) and rows
+//! taken back, over lists of rows: what stays is written as a new archive.
 
 use crate::archive::{identity, is_whole, read, room, rows_of, Row, BLOCK, ROWS, SIZE};
 use crate::subtelegram::{Refusal, OUTPUT_SHORT, OUT_OF_RANGE};
@@ -48,4 +48,15 @@ pub fn remove(from: &mut Vec<u8>, identities: &[u32]) -> Result<usize, (Refusal,
     rows.retain(|row| !identities.contains(&identity(row)));
     *from = room(from.len(), &rows);
     Ok(before - rows.len().div_ceil(ROWS))
+}
+
+/// Leaves the first rows of an archive, which must have so many.
+pub fn cut(from: &mut Vec<u8>, first: u64) -> Result<(), (Refusal, usize)> {
+    let mut rows = read(from)?;
+    if (rows.len() as u64) < first {
+        return Err((OUT_OF_RANGE, 0));
+    }
+    rows.truncate(first as usize);
+    *from = room(from.len(), &rows);
+    Ok(())
 }

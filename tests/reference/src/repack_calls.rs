@@ -1,11 +1,11 @@
-//! Calls of salvage and of removal, and what is shown of each (document 02, A9 and A11), on the room of archive_calls. The records and the lines
-//! are in README.md.
+//! Calls of salvage, of removal and of a cut, and what is shown of each (document 02, A9 and A11), on the room of archive_calls. The records and the
+//! lines are in README.md.
 
 use crate::archive::{block, room, seal, Row, BLOCK, ROWS};
 use crate::archive_calls::{put_block, random_row, random_rows, Call, MOST};
 use crate::hex::hex_or_dash;
 use crate::random::Random;
-use crate::repack::{remove, salvage, Salvaged};
+use crate::repack::{cut, remove, salvage, Salvaged};
 use crate::subtelegram::{renew_hash, Refusal, ADDRESSED};
 
 #[derive(Debug, Clone, PartialEq)]
@@ -17,6 +17,8 @@ pub enum Repack {
     List,
     /// The rows of these transmitters removed.
     Remove(Vec<u32>),
+    /// So many rows left.
+    Cut(u64),
 }
 
 /// The most identities of a record.
@@ -27,6 +29,7 @@ pub trait Repacker {
     fn salvage(&self, room: &[u8], out: &mut [u8], list: &mut [u64]) -> Result<Salvaged, Refusal>;
     /// How many blocks are no longer needed.
     fn remove(&self, room: &mut Vec<u8>, identities: &[u32]) -> Result<usize, (Refusal, usize)>;
+    fn cut(&self, room: &mut Vec<u8>, rows: u64) -> Result<(), (Refusal, usize)>;
 }
 
 /// Document 02.
@@ -39,6 +42,10 @@ impl Repacker for Rules {
 
     fn remove(&self, room: &mut Vec<u8>, identities: &[u32]) -> Result<usize, (Refusal, usize)> {
         remove(room, identities)
+    }
+
+    fn cut(&self, room: &mut Vec<u8>, rows: u64) -> Result<(), (Refusal, usize)> {
+        cut(room, rows)
     }
 }
 
@@ -82,6 +89,10 @@ impl Lent {
                     Err((number, position)) => format!("REMOVE {number} {position} 0"),
                 }
             }
+            Repack::Cut(rows) => match by.cut(room, *rows) {
+                Ok(()) => format!("CUT 0 0 {rows}"),
+                Err((number, position)) => format!("CUT {number} {position} 0"),
+            },
         }
     }
 }
@@ -107,6 +118,10 @@ pub fn record(call: &Repack) -> [u8; 320] {
                 record[4 + 4 * i..][..4].copy_from_slice(&identity.to_be_bytes());
             }
         }
+        Repack::Cut(rows) => {
+            record[0] = 18;
+            record[1..9].copy_from_slice(&rows.to_be_bytes());
+        }
     }
     record
 }
@@ -122,6 +137,9 @@ pub fn calls(calls: &mut Vec<Call>) {
     remove_rows(calls);
     remove_blocks(calls);
     remove_damaged(calls);
+    cut_lengths(calls);
+    cut_rows(calls);
+    cut_damaged(calls);
 }
 
 /// What is asked of a salvage into this output and list: all that was written.
@@ -367,4 +385,78 @@ fn remove_damaged(calls: &mut Vec<Call>) {
     put_rows(calls, 3, &rows);
     removes(calls, 3, &[SENDERS[0]; 33]);
     removes(calls, 3, &[SENDERS[0]; 32]);
+}
+
+// Rows taken back.
+
+/// A cut, and all that it leaves.
+fn cuts(calls: &mut Vec<Call>, blocks: usize, rows: u64) {
+    calls.push(Call::Repack(Repack::Cut(rows)));
+    calls.extend((0..blocks as u32).map(Call::Block));
+    calls.push(Call::Open);
+}
+
+/// Rooms of every odd length, cut at rows that they do not have.
+fn cut_lengths(calls: &mut Vec<Call>) {
+    for n in [0u32, 1, 511, 512, 513, 24_576] {
+        calls.push(Call::New(n));
+        for rows in [0, 1, 15, 720, 721, u64::MAX] {
+            calls.push(Call::Repack(Repack::Cut(rows)));
+        }
+        calls.push(Call::Open);
+    }
+}
+
+/// Archives of every number of rows at an edge, with room behind them and without: cut at every row
+/// at an edge, twice each, and the rows that were taken back appended again where they are few.
+fn cut_rows(calls: &mut Vec<Call>) {
+    let mut random = Random::new(37);
+    for (n, blocks) in [
+        (0, 1),
+        (1, 1),
+        (14, 2),
+        (15, 1),
+        (16, 2),
+        (30, 3),
+        (31, 3),
+        (45, 3),
+    ] {
+        let rows = random_rows(&mut random, n);
+        let edges = [0, 1, 2, 14, 15, 16, 29, 30, 31, 44, 45, 46];
+        for first in edges.into_iter().filter(|first| *first <= n + 1) {
+            put_rows(calls, blocks, &rows);
+            cuts(calls, blocks, first as u64);
+            calls.push(Call::Repack(Repack::Cut(first as u64)));
+            calls.extend((0..blocks as u32).map(Call::Block));
+            if n <= first + ROWS + 1 {
+                let again = rows.iter().skip(first).cloned();
+                calls.extend(again.map(Call::Append));
+                calls.extend((0..blocks as u32).map(Call::Block));
+            }
+        }
+        // One row after the other is taken back, and then another one appended.
+        put_rows(calls, blocks, &rows);
+        for left in (0..n as u64).rev() {
+            calls.push(Call::Repack(Repack::Cut(left)));
+        }
+        calls.push(Call::Append(random_row(&mut random)));
+        calls.extend((0..blocks as u32).map(Call::Block));
+    }
+}
+
+/// A damaged archive and too many rows: 12 first; bytes of rooms that are refused stay.
+fn cut_damaged(calls: &mut Vec<Call>) {
+    let mut random = Random::new(38);
+    let rows = random_rows(&mut random, 20);
+    for at in [40, 512 + 4, 512 + 511, 1024] {
+        for first in [3, 15, 21] {
+            put_rows(calls, 3, &rows);
+            calls.push(Call::Put(at, vec![0xAA]));
+            cuts(calls, 3, first);
+        }
+    }
+    put_rows(calls, 3, &rows);
+    cuts(calls, 3, 21);
+    cuts(calls, 3, 20);
+    cuts(calls, 3, 1 << 32);
 }

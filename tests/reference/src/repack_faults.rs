@@ -1,6 +1,6 @@
-//! What the calls of salvage and of removal must show: everything that can occur, and the faults a
-//! program could have. Each fault is put into a program of its own, which copies cells, and its
-//! lines must differ from the rules'.
+//! What the calls of salvage, of removal and of a cut must show: everything that can occur, and the
+//! faults a program could have. Each fault is put into a program of its own, which copies cells and
+//! changes blocks in place, and its lines must differ from the rules'.
 
 use crate::archive::{is_whole, read, rows_of, seal, BLOCK, ROWS, SIZE};
 use crate::archive_calls::{self, calls, show, stdout};
@@ -155,6 +155,46 @@ impl Repacker for Cells {
             _ => before - after,
         })
     }
+
+    fn cut(&self, room: &mut Vec<u8>, rows: u64) -> Result<(), (Refusal, usize)> {
+        if self.has("too many rows before 12") && rows > 20 {
+            return Err((OUT_OF_RANGE, 0));
+        }
+        let n = read(room)?.len() as u64;
+        if n < rows {
+            let spared = self.has("more rows than there are accepted");
+            return if spared {
+                Ok(())
+            } else {
+                Err((OUT_OF_RANGE, 0))
+            };
+        }
+        if n == rows {
+            let refused = self.has("as many rows refused");
+            return if refused {
+                Err((OUT_OF_RANGE, 0))
+            } else {
+                Ok(())
+            };
+        }
+        let first = match self.fault {
+            "one row too many left" => rows as usize + 1,
+            "whole blocks left" => (rows as usize).next_multiple_of(ROWS).min(n as usize),
+            _ => rows as usize,
+        };
+        let (k, used) = (first / ROWS, first % ROWS);
+        if !self.has("blocks behind the cut left") && k < room.len() / BLOCK {
+            room[BLOCK * (k + 1)..].fill(0);
+        }
+        if let Some(block) = room.chunks_mut(BLOCK).nth(k) {
+            if used == 0 && !self.has("a block of no rows left") {
+                block.fill(0);
+            } else {
+                self.cut_block(block, used);
+            }
+        }
+        Ok(())
+    }
 }
 
 fn cells_of(block: &[u8]) -> Vec<[u8; 32]> {
@@ -163,6 +203,19 @@ fn cells_of(block: &[u8]) -> Vec<[u8; 32]> {
 }
 
 impl Cells {
+    /// The first rows of a block, in place.
+    fn cut_block(&self, block: &mut [u8], used: usize) {
+        if !self.has("the count not renewed") {
+            block[4] = used as u8;
+        }
+        if !self.has("cells behind the cut left") {
+            block[24 + 32 * used..511].fill(0);
+        }
+        if !self.has("the CRC not renewed") {
+            seal(block);
+        }
+    }
+
     /// Whether a row leaves.
     fn leaves(&self, cell: &[u8; 32], identities: &[u32]) -> bool {
         let n = usize::from(cell[8]);
@@ -234,6 +287,24 @@ fn faults_of_removal_are_seen() {
     }
 }
 
+#[test]
+fn faults_of_a_cut_are_seen() {
+    for fault in [
+        "too many rows before 12",
+        "more rows than there are accepted",
+        "as many rows refused",
+        "one row too many left",
+        "whole blocks left",
+        "blocks behind the cut left",
+        "a block of no rows left",
+        "the count not renewed",
+        "cells behind the cut left",
+        "the CRC not renewed",
+    ] {
+        assert!(!agrees(fault), "{fault}");
+    }
+}
+
 /// The numbers that a call answers.
 fn numbers(lines: &str, call: &str) -> Vec<String> {
     let seen: BTreeSet<&str> = lines
@@ -250,4 +321,5 @@ fn every_answer_occurs() {
     let lines = stdout();
     assert_eq!(numbers(&lines, "SALVAGE"), ["0", "16", "6"]);
     assert_eq!(numbers(&lines, "REMOVE"), ["0", "10", "12", "16"]);
+    assert_eq!(numbers(&lines, "CUT"), ["0", "10", "12", "16"]);
 }

@@ -32,14 +32,16 @@ few c =
     let a = e .before .before .args in
     block-few (a .rows) (now (a .block)) (e .if1 .left) (omega (arith, u .sound .ensures, c .if3 .taken))
 
-has : (c : tie.Else3)
-    → (isSound (now (c .before .before .before .before .before .before .args .block)) ≡ true)
-    × (c .before .before .before .before .before .before .args .rows ≤ rowCount (now (c .before .before .before .before .before .before .args .block)))
+abbrev start : tie.Else3 → tie.Start
+start c = c .before .before .before .before .before .before
+
+has : (c : tie.Else3) → (isSound (now (start c .args .block)) ≡ true) × (start c .args .rows ≤ rowCount (now (start c .args .block)))
 has c =
     let u = c .before .before in
     let e = u .before .before in
     let a = e .before .before .args in
-    block-has (a .rows) (now (a .block)) (e .if1 .left) (λ z. c .before .if2 .left (u .sound .ensures ∙ z)) (omega (arith, u .sound .ensures, c .if3 .left))
+    block-has (a .rows) (now (a .block)) (e .if1 .left) (λ z. c .before .if2 .left (u .sound .ensures ∙ z))
+    (omega (arith, u .sound .ensures, c .if3 .left))
 
 shorten-requires : tie.Need-shorten-requires
 shorten-requires c κs = has (c .before)

@@ -1,4 +1,4 @@
--- `cutting::take_back` meets its contract: the block where the rows end is cut, what is behind it cleared, and what is before it stays. Assumes nothing.
+-- `cutting::take_back` meets its contract: the block where the rows end is cut, what is behind it cleared, what is before it stays. Assumes nothing.
 use mathlib.Core.Path.{_≡_, refl, _∙_}
 use Prim.Native.Nat.{ℕ, _+_, _*_, _/_, _%_, _≤_}
 use native.Mathlib.Omega.{arith}

@@ -19,7 +19,8 @@ returns c =
     let was = addingAt (now (a .numbers)) (now (a .lines)) (now (a .adding)) (now (a .tally)) in
     let is = f .feed .ensures ∙ ap (λ (x : Adding). feedOf x (now (a .piece))) (i .adding-in .ensures) in
     let answer = feedOf was (now (a .piece)) in
-    ap₂ (λ (n : ℕ) (t : Tally). fed n (adding (reportAt (now (a .numbers)) (now (a .lines))) t)) (c .taken-number .ensures ∙ ap (λ (x : Feeding). x .number) is)
+    ap₂ (λ (n : ℕ) (t : Tally). fed n (adding (reportAt (now (a .numbers)) (now (a .lines))) t))
+    (c .taken-number .ensures ∙ ap (λ (x : Feeding). x .number) is)
     (s .store .ensures ∙ ap (λ (x : Feeding). x .next .tally) is)
     ∙ ap (λ r. fed (answer .number) (adding r (answer .next .tally))) (sym (feed-report was (now (a .piece))))
 

@@ -1,0 +1,29 @@
+-- What is proved of an archive that is verified in pieces. (Of pieces that are added to a report `PiecesAreWhole` of report_model says it, and of
+-- pieces that are packed `PiecesPacked` of repack_model: the arrays hold what those definitions name.) Assumes nothing.
+use Prim.Native.Nat.{ℕ}
+use mathlib.Core.Path.{_≡_}
+use mathlib.Core.Bool.{cond}
+use mathlib.Core.List.{List, [], _∷_, flatten}
+use lib.Dec.{eqb}
+use Rattle.archive_model.specs.Buffer.{Scan}
+use Rattle.archive_model.specs.Append.{openOf}
+use Rattle.c_pieces.specs.Scan.{scanAt, scanNumbers, noBlocks, scanCall, scanEnd}
+
+-- Read back: four numbers hold any scan.
+abbrev pub ScanBack : Type 0
+ScanBack = (s : Scan) → scanAt (scanNumbers s) ≡ s
+
+-- the numbers after the pieces
+abbrev pub scanAll : List ℕ → List (List ℕ) → List ℕ
+scanAll numbers [] = numbers
+scanAll numbers (p ∷ ps) = scanAll (scanCall numbers p .numbers) ps
+
+-- those that were answered 0
+abbrev pub scanned : List ℕ → List (List ℕ) → List (List ℕ)
+scanned numbers [] = []
+scanned numbers (p ∷ ps) =
+    cond (eqb (scanCall numbers p .number) 0) (p ∷ scanned (scanCall numbers p .numbers) ps) (scanned (scanCall numbers p .numbers) ps)
+
+-- Pieces: those that were taken, refused ones anywhere between, answer at the end what they answer as one buffer.
+abbrev pub PiecesVerified : Type 0
+PiecesVerified = (pieces : List (List ℕ)) → scanEnd (scanAt (scanAll noBlocks pieces)) ≡ openOf (flatten (scanned noBlocks pieces))
