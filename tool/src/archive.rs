@@ -69,8 +69,7 @@ impl<'a> Source<'a> {
     }
 
     /// The same, locked against everybody who writes it.
-    fn open_locked(path: &'a OsStr) -> Result<Source<'a>, Failure> {
-        let path = Path::new(path);
+    fn open_locked(path: &'a Path) -> Result<Source<'a>, Failure> {
         let file = files::open_locked(path, false)?;
         let blocks = files::blocks_of(&file, path)?;
         Ok(Source { file, path, blocks })
@@ -100,22 +99,26 @@ impl<'a> Source<'a> {
     }
 }
 
-/// Every file is looked at; the first failure is the command's.
+/// Every file is looked at, and every failure is told; the gravest is the command's.
 fn verify(args: &Args) -> Result<(), Failure> {
     let mut output = Output::standard()?;
-    let mut failed = None;
+    let mut worst: Option<Failure> = None;
     for name in at_least_one(args)? {
         let verified = Source::open(name).and_then(|source| Ok((source.verify()?, source.blocks)));
-        match verified {
-            Ok((rows, blocks)) => output.write(format!("{}: {rows} rows, {blocks} blocks\n", name.display()).as_bytes())?,
-            Err(failure) => {
-                if let Some(earlier) = failed.replace(failure) {
-                    tell(earlier.text());
-                }
+        match (verified, worst.take()) {
+            (Ok((rows, blocks)), before) => {
+                output.write(format!("{}: {rows} rows, {blocks} blocks\n", name.display()).as_bytes())?;
+                worst = before;
+            }
+            (Err(failure), None) => worst = Some(failure),
+            (Err(failure), Some(before)) => {
+                let (lesser, greater) = if failure.status() > before.status() { (before, failure) } else { (failure, before) };
+                tell(lesser.text());
+                worst = Some(greater);
             }
         }
     }
-    failed.map_or(Ok(()), Err)
+    worst.map_or(Ok(()), Err)
 }
 
 /// Which rows are wanted.
@@ -192,7 +195,7 @@ fn row_of(line: &str) -> Result<Row, String> {
 
 fn append(args: &Args) -> Result<(), Failure> {
     let [name] = args.exactly("the name of one archive")?;
-    let path = Path::new(name);
+    let path = &files::resolved(Path::new(name));
     let is_new = fs::symlink_metadata(path).is_err();
     let appended = append_all(path);
     if is_new && appended.is_err() {
@@ -216,15 +219,8 @@ fn append_all(path: &Path) -> Result<(u64, u64), Failure> {
         appender.append(row.telegram.as_bytes(), row.time, row.loose)
     })?;
     appender.write()?;
-    keep_mode(&source, &new)?;
     new.commit()?;
     Ok((before, appender.rows()))
-}
-
-/// The new file gets the permissions of the old one.
-fn keep_mode(source: &Source, new: &Replacement) -> Result<(), Failure> {
-    let mode = source.file.metadata().map(|m| m.permissions());
-    mode.and_then(|mode| new.file.set_permissions(mode)).map_err(|e| Failure::of(format!("set the permissions of {}", source.path.display()), &e))
 }
 
 /// The rows of every sound block packed into a new file as long as the old one; each dropped position is handed to `dropped`.
@@ -273,13 +269,13 @@ fn remove(args: &Args) -> Result<(), Failure> {
     if ids.is_empty() || ids.len() > Packer::MAX_IDENTITIES {
         return Err(Failure::refused(format!("{} transmitters are named, and 1 to 32 can be removed", ids.len()), Refusal::Argument));
     }
-    let source = Source::open_locked(name)?;
+    let path = files::resolved(Path::new(name));
+    let source = Source::open_locked(&path)?;
     let before = source.verify()? as u64;
     let mut output = Output::standard()?;
     let mut new = Replacement::of(source.path)?;
     let rows = pack(&source, Packer::new(&ids), &mut new, |_| unreachable!("a verified archive has no block to drop"))?;
     let blocks = |rows: u64| rows.div_ceil(Archive::ROWS_PER_BLOCK as u64);
-    keep_mode(&source, &new)?;
     new.commit()?;
     let text = format!("{}: {} rows removed, {rows} rows, {} blocks freed\n", name.display(), before - rows, blocks(before) - blocks(rows));
     output.write(text.as_bytes())

@@ -4,15 +4,15 @@
 //! so a row that was printed survives, and the archive is ahead of the state by at most one batch.
 use crate::appender::MAX_BLOCKS;
 use crate::args::Args;
+use crate::burst::{frame_bytes, Burst, KEPT, LOOSE};
 use crate::failure::{tell, Failure};
-use crate::lines::{self, MAX_BYTES, MAX_LINE};
+use crate::lines::{self, MAX_LINE};
 use crate::rows::{self, Answered, Format};
 use crate::signals::{self, Signals};
 use crate::state::{State, StateFile};
 use crate::store::{Place, Store};
 use crate::streams::{Got, Input, Output};
 use crate::{sys, text};
-use mooringeye::Collector;
 use std::ffi::OsString;
 use std::path::{Path, PathBuf};
 
@@ -68,6 +68,9 @@ impl Options {
         let blocks = args.value("blocks", "a number of blocks, 1 to 2^32", |t| text::number(t).filter(|n| (1..=MAX_BLOCKS).contains(n)))?;
         let archive = args.path("archive")?;
         let state = args.path("state")?;
+        if archive.is_some() && archive == state {
+            return Err(Failure::Usage("the state and the archive are one file".into()));
+        }
         if archive.is_none() && blocks.is_some() {
             return Err(Failure::Usage("--blocks goes with --archive".into()));
         }
@@ -369,82 +372,5 @@ fn open_archive(options: &Options, state: &mut State) -> Result<Option<Store>, F
         (Some(place), Some(kept)) if place.name() != kept.name => other(&kept.name),
         (Some(place), Some(kept)) => Store::resume(place.clone(), &kept, state.counted(), MAX_BATCH as u64).map(Some),
         (Some(place), None) => Store::begin(place.clone(), state.counted()).map(Some),
-    }
-}
-
-/// The bytes of a frame: a length and 21 bytes.
-const FRAME: usize = 22;
-/// The bytes of a reply: kind, number and a frame.
-const REPLY: usize = 24;
-const KEPT: u8 = 0;
-const LOOSE: u8 = 2;
-
-fn frame_bytes(frame: &[u8]) -> &[u8] {
-    &frame[1..1 + usize::from(frame[0])]
-}
-
-/// Lines that wait to be handed to the collector in one call.
-struct Burst {
-    /// When each reception was complete, and its frame.
-    moments: Vec<u64>,
-    records: Vec<u8>,
-    /// Of each line where it starts and what it says; none for a BAD one.
-    lines: Vec<Option<(usize, lines::Reception)>>,
-    replies: Vec<u8>,
-    /// The bytes of the line that was read last.
-    bytes: [u8; MAX_BYTES],
-}
-
-impl Default for Burst {
-    fn default() -> Burst {
-        let most = Collector::MAX_BURST;
-        Burst {
-            moments: Vec::with_capacity(most),
-            records: Vec::with_capacity(most * FRAME),
-            lines: Vec::with_capacity(most),
-            replies: vec![0; most * REPLY],
-            bytes: [0; MAX_BYTES],
-        }
-    }
-}
-
-impl Burst {
-    fn is_full(&self) -> bool {
-        self.lines.len() == Collector::MAX_BURST
-    }
-
-    /// The line that starts there, where it says a reception: how long it is. Of one that is too long for a telegram the length alone counts.
-    fn push(&mut self, text: &[u8], start: usize) -> Option<usize> {
-        let line = lines::reception(&text[start..], &mut self.bytes)?;
-        let mut frame = [0; FRAME];
-        frame[0] = line.count as u8;
-        let kept = line.count.min(FRAME - 1);
-        frame[1..1 + kept].copy_from_slice(&self.bytes[..kept]);
-        self.records.extend_from_slice(&frame);
-        self.moments.push(line.time);
-        self.lines.push(Some((start, line)));
-        Some(line.length())
-    }
-
-    fn push_bad(&mut self) {
-        self.lines.push(None);
-    }
-
-    /// Hands them over.
-    fn take(&mut self, collector: &mut Collector, level: u8) -> Result<(), Failure> {
-        let replies = &mut self.replies[..REPLY * self.moments.len()];
-        collector.burst_into(level, &self.moments, &self.records, replies).map_err(|why| Failure::refused("the collector", why))
-    }
-
-    /// Of each reception its time, its frame and its reply.
-    fn replies(&self) -> impl Iterator<Item = (u64, &[u8], &[u8])> {
-        let frames = self.records.chunks_exact(FRAME).zip(self.replies.chunks_exact(REPLY));
-        self.moments.iter().zip(frames).map(|(time, (record, reply))| (*time, record, reply))
-    }
-
-    fn clear(&mut self) {
-        self.moments.clear();
-        self.records.clear();
-        self.lines.clear();
     }
 }

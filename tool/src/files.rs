@@ -3,7 +3,7 @@ use crate::failure::{tell, Failure};
 use mooringeye::{Archive, Refusal};
 use std::ffi::OsString;
 use std::fs::{self, File, OpenOptions, TryLockError};
-use std::io::{self, IsTerminal, Read, Seek, SeekFrom, Write};
+use std::io::{self, IsTerminal, Write};
 use std::os::unix::fs::{FileExt, MetadataExt};
 use std::path::{Path, PathBuf};
 use std::time::{Duration, Instant};
@@ -26,10 +26,21 @@ fn folder(path: &Path) -> &Path {
     }
 }
 
-/// Makes what was created, renamed or removed in the folder of a file outlast a power cut.
+/// Where a symbolic link leads: a rename would put the new file in the place of the link.
+pub fn resolved(path: &Path) -> PathBuf {
+    match fs::symlink_metadata(path) {
+        Ok(metadata) if metadata.is_symlink() => fs::canonicalize(path).unwrap_or_else(|_| path.into()),
+        _ => path.into(),
+    }
+}
+
+/// Makes what was created, renamed or removed in the folder of a file outlast a power cut. Some file systems cannot (EINVAL).
 pub fn sync_folder(path: &Path) -> Result<(), Failure> {
     let folder = folder(path);
-    File::open(folder).and_then(|f| f.sync_all()).map_err(|e| Failure::of(format!("sync {}", folder.display()), &e))
+    match File::open(folder).and_then(|f| f.sync_all()) {
+        Err(error) if error.kind() == io::ErrorKind::InvalidInput => Ok(()),
+        synced => synced.map_err(|e| Failure::of(format!("sync {}", folder.display()), &e)),
+    }
 }
 
 /// Takes the lock of a file that others write too, or says who has it.
@@ -63,7 +74,7 @@ pub fn open_locked(path: &Path, create: bool) -> Result<File, Failure> {
     Ok(file)
 }
 
-/// A new content of a file: written beside it under another name, and put in its place in one step.
+/// A new content of a file: written beside it under another name, with its permissions, and put in its place in one step.
 pub struct Replacement {
     pub file: File,
     target: PathBuf,
@@ -76,7 +87,11 @@ impl Replacement {
         let beside = with_suffix(target, ".new");
         let file = OpenOptions::new().create(true).truncate(true).read(true).write(true).open(&beside);
         let file = file.map_err(|e| Failure::of(format!("write {}", beside.display()), &e))?;
-        Ok(Replacement { file, target: target.into(), beside, done: false })
+        let replacement = Replacement { file, target: target.into(), beside, done: false };
+        if let Ok(old) = fs::metadata(target) {
+            replacement.file.set_permissions(old.permissions()).map_err(|e| replacement.cannot("write", &e))?;
+        }
+        Ok(replacement)
     }
 
     pub fn write(&mut self, bytes: &[u8]) -> Result<(), Failure> {
@@ -98,8 +113,15 @@ impl Replacement {
     /// The same where nothing may be there yet.
     pub fn commit_new(mut self) -> Result<(), Failure> {
         self.file.sync_all().map_err(|e| self.cannot("sync", &e))?;
-        fs::hard_link(&self.beside, &self.target).map_err(|e| Failure::of(format!("make {}", self.target.display()), &e))?;
-        fs::remove_file(&self.beside).map_err(|e| self.cannot("remove", &e))?;
+        let cannot = |e: io::Error| Failure::of(format!("make {}", self.target.display()), &e);
+        match fs::hard_link(&self.beside, &self.target) {
+            Ok(()) => fs::remove_file(&self.beside).map_err(|e| self.cannot("remove", &e))?,
+            // A file system without hard links, such as a stick's.
+            Err(error) if error.kind() != io::ErrorKind::AlreadyExists && fs::symlink_metadata(&self.target).is_err() => {
+                fs::rename(&self.beside, &self.target).map_err(cannot)?;
+            }
+            Err(error) => return Err(cannot(error)),
+        }
         self.done = true;
         sync_folder(&self.target)
     }
@@ -203,12 +225,9 @@ impl Drop for Progress {
     }
 }
 
-/// Copies all of a file behind what was written.
-pub fn copy(from: &File, path: &Path, to: &mut Replacement) -> Result<(), Failure> {
-    let mut from = from;
-    let cannot = |e: io::Error| Failure::of(format!("copy {}", path.display()), &e);
-    from.seek(SeekFrom::Start(0)).map_err(cannot)?;
-    io::copy(&mut from.take(u64::MAX), &mut to.file).map(|_| ()).map_err(cannot)
+/// Copies all of a file.
+pub fn copy(mut from: &File, path: &Path, to: &mut Replacement) -> Result<(), Failure> {
+    io::copy(&mut from, &mut to.file).map(|_| ()).map_err(|e| Failure::of(format!("copy {}", path.display()), &e))
 }
 
 /// Says in a failure of damage that somebody is writing the file, where it is so.

@@ -6,6 +6,7 @@
 mod appender;
 mod archive;
 mod args;
+mod burst;
 mod collect;
 mod failure;
 mod files;

@@ -105,7 +105,8 @@ pub struct StateFile {
 
 impl StateFile {
     pub fn lock(path: &Path) -> Result<StateFile, Failure> {
-        Ok(StateFile { path: path.into(), _lock: files::lock_beside(path)? })
+        let path = files::resolved(path);
+        Ok(StateFile { _lock: files::lock_beside(&path)?, path })
     }
 
     /// What the file holds; none where there is no file. Anything else is refused and stays as it is.

@@ -4,6 +4,7 @@ use common::*;
 use std::fs;
 use std::io::{Read, Write};
 use std::os::unix::fs::PermissionsExt;
+use std::path::Path;
 use std::process::Stdio;
 use std::thread::sleep;
 use std::time::{Duration, Instant};
@@ -69,6 +70,7 @@ fn wrong_usage() {
         "collect --blocks 3",
         "collect --archive a# --blocks 0",
         "collect --state s --state t",
+        "collect --state s --archive s",
         "archive",
         "archive other",
         "archive verify",
@@ -301,6 +303,25 @@ sys.exit(p.wait())";
     let mut command = std::process::Command::new("python3");
     command.args(["-c", script, env!("CARGO_BIN_EXE_mooringeye")]).current_dir(&dir);
     run_command(command, b"").with(0);
+}
+
+#[test]
+fn links_and_permissions_stay() {
+    let dir = folder("links");
+    fs::create_dir(dir.join("real")).unwrap();
+    run("collect --state real/s --archive real/a", &dir, &sample()).with(0);
+    for name in ["s", "a"] {
+        fs::set_permissions(dir.join("real").join(name), fs::Permissions::from_mode(0o640)).unwrap();
+        std::os::unix::fs::symlink(Path::new("real").join(name), dir.join(name)).unwrap();
+    }
+    run("collect --level 1 --state s --archive a", &dir, b"99999999 D5090102030400E8\n").with(0).says("326 lines taken");
+    run("archive append a", &dir, b"1 KEPT D5090102030400E8\n").with(0);
+    run("archive remove a --txid 01020304", &dir, b"").with(0);
+    for name in ["s", "a"] {
+        assert!(fs::symlink_metadata(dir.join(name)).unwrap().is_symlink());
+        assert_eq!(fs::metadata(dir.join("real").join(name)).unwrap().permissions().mode() & 0o777, 0o640);
+    }
+    assert!(run("archive verify real/a", &dir, b"").with(0).out.contains("159 rows"));
 }
 
 #[test]

@@ -66,6 +66,21 @@ impl Whole {
         from + rows.len()
     }
 
+    /// Every row that a disturbed run printed stands in the archive, after it too when what the state does not count was taken back, even where the log
+    /// is never replayed. Answers how often rows were taken back, 0 or 1.
+    #[track_caller]
+    fn survived(&self, dir: &Path, ran: &Ran) -> usize {
+        let rows = self.stored(self.printed_to(ran));
+        let again = run(&format!("{} --level 1", self.words), dir, b"").with(0);
+        self.has_rows(dir, rows);
+        // The archive now has just the rows that the state counts, which the tool tells as it starts.
+        let told = again.err.lines().find_map(|line| line.strip_prefix("mooringeye: ")?.strip_suffix(" rows")?.split_once(" has "));
+        let (name, counted) = told.expect("where the archive stands");
+        let verified = run(&format!("archive verify {name}"), dir, b"").with(0).out;
+        assert!(verified.starts_with(&format!("{name}: {counted} rows,")), "{counted} rows are counted: {verified}");
+        usize::from(again.err.contains("taken back"))
+    }
+
     /// The first rows of the archive of a disturbed run are those of the undisturbed one.
     #[track_caller]
     fn has_rows(&self, dir: &Path, rows: usize) {
@@ -125,8 +140,7 @@ fn killed(whole: &Whole, name: &str, kills: usize, seed: u64) -> Count {
         }
         let ran = running.end();
         feeder.join().unwrap();
-        whole.has_rows(&dir, whole.stored(whole.printed_to(&ran)));
-        count.taken_back += usize::from(ran.err.contains("taken back"));
+        count.taken_back += whole.survived(&dir, &ran);
         if ran.status.is_some() {
             assert_eq!(ran.status, Some(0), "{}", ran.err);
             whole.is_same(&dir);
@@ -181,7 +195,7 @@ fn a_full_disk() {
         let feeder = feed(&mut running, &whole.log, limit);
         let ran = running.end().with(1).says(words).says("File too large");
         feeder.join().unwrap();
-        whole.has_rows(&dir, whole.stored(whole.printed_to(&ran)));
+        whole.survived(&dir, &ran);
     }
     run(&format!("{} --replay", whole.words), &dir, whole.log.as_bytes()).with(0);
     whole.is_same(&dir);
@@ -202,20 +216,11 @@ fn a_write_that_stops_in_the_middle_of_a_block() {
         feeder.join().unwrap();
         let block = fs::read(dir.join("a")).unwrap()[512 * (at / 512)..][..512].to_vec();
         torn += usize::from(block[at % 512..].iter().all(|b| *b == 0) || run("archive verify a", &dir, b"").status == Some(3));
-        whole.has_rows_or_mends(&dir, &ran, &words);
+        whole.survived(&dir, &ran);
+        run(&words, &dir, whole.log.as_bytes()).with(0);
         whole.is_same(&dir);
     }
     assert!(torn > 0, "no write was torn");
-}
-
-impl Whole {
-    /// The next run brings everything back, torn rows that were printed among it.
-    fn has_rows_or_mends(&self, dir: &Path, ran: &Ran, words: &str) {
-        let printed = self.printed_to(ran);
-        run(&format!("{} --level 1", self.words), dir, b"").with(0);
-        self.has_rows(dir, self.stored(printed));
-        run(words, dir, self.log.as_bytes()).with(0);
-    }
 }
 
 #[test]
