@@ -49,10 +49,8 @@ impl Burst {
     /// The line that starts there, where it says a reception: how long it is. Of one that is too long for a telegram the length alone counts.
     pub fn push(&mut self, text: &[u8], start: usize) -> Option<usize> {
         let line = lines::reception(&text[start..], &mut self.bytes)?;
-        let mut frame = [0; FRAME];
-        frame[0] = line.count as u8;
-        let kept = line.count.min(FRAME - 1);
-        frame[1..1 + kept].copy_from_slice(&self.bytes[..kept]);
+        let mut frame = [line.count as u8; FRAME];
+        frame[1..].copy_from_slice(&self.bytes[..FRAME - 1]); // what stands behind the reception is not looked at
         self.records.extend_from_slice(&frame);
         self.moments.push(line.time);
         self.lines.push(Some((start, line)));

@@ -181,7 +181,13 @@ fn a_signal_while_nobody_reads() {
         let _ = (0..).try_for_each(|i| writeln!(stdin, "{} D5090102030400E8", 200 * i));
         // until nobody takes it
     });
-    sleep(Duration::from_millis(300));
+    // A pipe holds some 5,000 of these rows; then the state does not change any more.
+    let taken = || fs::read(dir.join("s")).ok().and_then(|state| Some(u64::from_be_bytes(state.get(8..16)?.try_into().unwrap()))).unwrap_or(0);
+    wait_for(|| {
+        let before = taken();
+        sleep(Duration::from_millis(300));
+        before > 3_000 && taken() == before
+    });
     let kill = std::process::Command::new("kill").arg(child.id().to_string()).status().unwrap();
     assert!(kill.success());
     let start = Instant::now();
@@ -200,29 +206,22 @@ fn a_signal_at_any_moment() {
     let log = log(20_000, 5);
     let whole = run("collect --state whole --archive whole.arc", &dir, log.as_bytes()).with(0);
     let mut random = Random(9);
-    let (mut printed, mut ended) = (String::new(), 0);
-    for attempt in 0.. {
+    let mut printed = String::new();
+    for attempt in 0..=30 {
         let mut running = start(tool("collect --state s --archive a --replay", &dir));
-        let mut stdin = running.child.stdin.take().unwrap();
-        let log = log.clone();
-        let feeder = std::thread::spawn(move || {
-            let _ = stdin.write_all(log.as_bytes());
-        });
-        if attempt < 30 {
+        let is_last = attempt == 30;
+        let feeder = feed(&mut running, &log, random.next(), is_last);
+        if !is_last {
             sleep(Duration::from_micros(random.below(20_000)));
             running.signal(["TERM", "INT", "HUP"][attempt % 3]);
         }
         let ran = running.end();
         feeder.join().unwrap();
-        ended += usize::from(ran.err.contains("ends in order"));
         // Before the handlers stand a signal ends it at once; then nothing was taken.
-        assert!(ran.status == Some(0) || ran.status.is_none() && ran.out.is_empty(), "{}", ran.err);
+        let is_in_order = ran.status == Some(0) && (is_last || ran.err.contains("ends in order"));
+        assert!(is_in_order || ran.status.is_none() && ran.out.is_empty(), "{}", ran.err);
         printed += &ran.out;
-        if printed.contains("RECEIVED") {
-            break;
-        }
     }
-    assert!(ended > 5, "{ended} runs were ended by a signal");
     assert!(printed == whole.out, "an orderly end loses and repeats no row");
     assert!(fs::read(dir.join("a")).unwrap() == fs::read(dir.join("whole.arc")).unwrap());
 }
@@ -263,8 +262,10 @@ fn failing_inputs_and_outputs() {
         let (status, said) = with(Stdio::null(), full(), words);
         assert_eq!((status, said.contains("cannot write standard output")), (Some(1), true), "{words}: {said}");
     }
-    // A reader that ends at once.
-    let mut child = tool("collect", &dir).stdin(sample()).stdout(Stdio::piped()).stderr(Stdio::piped()).spawn().unwrap();
+    // A reader that ends at once: more is printed than a pipe holds.
+    fs::write(dir.join("log"), log(20_000, 8)).unwrap();
+    let mut child =
+        tool("collect", &dir).stdin(fs::File::open(dir.join("log")).unwrap()).stdout(Stdio::piped()).stderr(Stdio::piped()).spawn().unwrap();
     drop(child.stdout.take());
     let out = child.wait_with_output().unwrap();
     assert_eq!(out.status.code(), Some(1));

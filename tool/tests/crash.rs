@@ -5,9 +5,8 @@
 mod common;
 use common::*;
 use std::fs;
-use std::io::Write;
 use std::path::{Path, PathBuf};
-use std::thread::{self, sleep};
+use std::thread::sleep;
 use std::time::Duration;
 
 /// A log, and what an undisturbed run makes of it.
@@ -98,26 +97,6 @@ impl Whole {
     }
 }
 
-/// Feeds a log in small parts, with pauses, so that there are many batches.
-fn feed(running: &mut Running, log: &str, seed: u64) -> thread::JoinHandle<()> {
-    let mut stdin = running.child.stdin.take().unwrap();
-    let log = log.as_bytes().to_vec();
-    thread::spawn(move || {
-        let mut random = Random(seed);
-        let mut rest = &log[..];
-        while !rest.is_empty() {
-            let (part, behind) = rest.split_at(rest.len().min(1 + random.below(2_000) as usize));
-            if stdin.write_all(part).is_err() {
-                return;
-            }
-            rest = behind;
-            if random.below(4) == 0 {
-                sleep(Duration::from_micros(random.below(300)));
-            }
-        }
-    })
-}
-
 /// How often a run was killed, and how often the archive was ahead of the state then.
 #[derive(Default)]
 struct Count {
@@ -133,7 +112,7 @@ fn killed(whole: &Whole, name: &str, kills: usize, seed: u64) -> Count {
     let mut count = Count::default();
     loop {
         let mut running = start(tool(&words, &dir));
-        let feeder = feed(&mut running, &whole.log, random.next());
+        let feeder = feed(&mut running, &whole.log, random.next(), true);
         if count.kills < kills {
             sleep(Duration::from_micros(random.below(60_000)));
             let _ = running.child.kill();
@@ -192,7 +171,7 @@ fn a_full_disk() {
     for (limit, words) in [(1_000, "cannot write"), (500_000, "cannot write a: File too large"), (1_500_000, "cannot write a: File too large")] {
         let words_of_tool = format!("{} --replay", whole.words);
         let mut running = start(limited(&format!("--fsize={limit}"), &words_of_tool, &dir));
-        let feeder = feed(&mut running, &whole.log, limit);
+        let feeder = feed(&mut running, &whole.log, limit, true);
         let ran = running.end().with(1).says(words).says("File too large");
         feeder.join().unwrap();
         whole.survived(&dir, &ran);
@@ -211,7 +190,7 @@ fn a_write_that_stops_in_the_middle_of_a_block() {
         // The file is as long as it will be, so that a limit of its size stops a write and not its growth.
         fs::write(dir.join("a"), vec![0; 1 << 20]).unwrap();
         let mut running = start(limited(&format!("--fsize={at}"), &words, &dir));
-        let feeder = feed(&mut running, &whole.log, at as u64);
+        let feeder = feed(&mut running, &whole.log, at as u64, true);
         let ran = running.end().with(1).says("cannot write a: File too large");
         feeder.join().unwrap();
         let block = fs::read(dir.join("a")).unwrap()[512 * (at / 512)..][..512].to_vec();

@@ -178,7 +178,7 @@ impl Collector {
     }
 
     /// [`Collector::burst`] in buffers that the caller keeps. `records` has a frame of 22 bytes for each moment: the length of a reception and its first
-    /// 21 bytes, zero filled. `replies` gets 24 bytes for each: 0, 1 or 2 for KEPT, COPY or LOOSE, the number of a refusal or 0, and a frame of what is
+    /// 21 bytes; what stands behind them is not looked at. `replies` gets 24 bytes for each: 0, 1 or 2 for KEPT, COPY or LOOSE, the number of a refusal or 0, and a frame of what is
     /// sent, length 0 for nothing.
     ///
     /// Refused, and nothing taken: [`Refusal::WrongSize`] for records or replies that are not as many as the moments, and as [`Collector::burst`].

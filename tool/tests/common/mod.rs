@@ -3,8 +3,9 @@
 use std::fs;
 use std::io::{Read, Write};
 use std::path::{Path, PathBuf};
-use std::process::{Child, Command, Stdio};
+use std::process::{Child, ChildStdin, Command, Stdio};
 use std::thread::{self, JoinHandle};
+use std::time::Duration;
 
 /// The root of the repository.
 pub fn root() -> PathBuf {
@@ -98,6 +99,27 @@ impl Running {
         let text = |thread: JoinHandle<Vec<u8>>| String::from_utf8(thread.join().unwrap()).unwrap();
         Ran { status: status.code(), out: text(self.out), err: text(self.err) }
     }
+}
+
+/// Feeds a log in small parts, with pauses, so that there are many batches. The input ends behind it, or stays open.
+pub fn feed(running: &mut Running, log: &str, seed: u64, ends: bool) -> JoinHandle<Option<ChildStdin>> {
+    let mut stdin = running.child.stdin.take().unwrap();
+    let log = log.as_bytes().to_vec();
+    thread::spawn(move || {
+        let mut random = Random(seed);
+        let mut rest = &log[..];
+        while !rest.is_empty() {
+            let (part, behind) = rest.split_at(rest.len().min(1 + random.below(2_000) as usize));
+            if stdin.write_all(part).is_err() {
+                return None;
+            }
+            rest = behind;
+            if random.below(4) == 0 {
+                thread::sleep(Duration::from_micros(random.below(300)));
+            }
+        }
+        (!ends).then_some(stdin)
+    })
 }
 
 /// Runs a command on an input to its end.
