@@ -308,20 +308,23 @@ fn remove_lengths(calls: &mut Vec<Call>) {
     }
 }
 
+/// Rows at an edge, with the blocks of their room: as many as they need, or one more.
+const ROWS_AND_BLOCKS: [(usize, usize); 8] = [
+    (0, 1),
+    (1, 1),
+    (14, 2),
+    (15, 1),
+    (16, 2),
+    (30, 3),
+    (31, 3),
+    (45, 3),
+];
+
 /// Archives of every number of rows at an edge, with room behind them and without: none, some and
 /// all rows removed, twice each, and then appended to until 6.
 fn remove_rows(calls: &mut Vec<Call>) {
     let mut random = Random::new(34);
-    for (n, blocks) in [
-        (0, 1),
-        (1, 1),
-        (14, 2),
-        (15, 1),
-        (16, 2),
-        (30, 3),
-        (31, 3),
-        (45, 3),
-    ] {
+    for (n, blocks) in ROWS_AND_BLOCKS {
         let rows = rows_of_senders(&mut random, n);
         for list in [
             &[][..],
@@ -411,16 +414,7 @@ fn cut_lengths(calls: &mut Vec<Call>) {
 /// at an edge, twice each, and the rows that were taken back appended again where they are few.
 fn cut_rows(calls: &mut Vec<Call>) {
     let mut random = Random::new(37);
-    for (n, blocks) in [
-        (0, 1),
-        (1, 1),
-        (14, 2),
-        (15, 1),
-        (16, 2),
-        (30, 3),
-        (31, 3),
-        (45, 3),
-    ] {
+    for (n, blocks) in ROWS_AND_BLOCKS {
         let rows = random_rows(&mut random, n);
         let edges = [0, 1, 2, 14, 15, 16, 29, 30, 31, 44, 45, 46];
         for first in edges.into_iter().filter(|first| *first <= n + 1) {
