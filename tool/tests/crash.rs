@@ -223,3 +223,34 @@ fn a_block_that_a_power_cut_spoiled() {
         whole.is_same(&dir);
     }
 }
+
+/// A state that somebody spoiled is refused and stays; begun anew from the log, with the archive moved away, everything is as it should be.
+#[test]
+fn a_state_that_is_damaged() {
+    let whole = Whole::of("state", 3_000, 14, "--archive a");
+    let cut = whole.log.match_indices('\n').nth(1_700).unwrap().0 + 1;
+    for damage in ["cut short", "flipped", "empty", "a folder"] {
+        let dir = folder("crash_state");
+        run(&whole.words, &dir, &whole.log.as_bytes()[..cut]).with(0);
+        let (state, mut bytes) = (dir.join("s"), fs::read(dir.join("s")).unwrap());
+        match damage {
+            "cut short" => bytes.truncate(2_048),
+            "flipped" => bytes[1_100] ^= 0x01,
+            _ => bytes.clear(),
+        }
+        fs::remove_file(&state).unwrap();
+        if damage == "a folder" {
+            fs::create_dir(&state).unwrap();
+        } else {
+            fs::write(&state, &bytes).unwrap();
+        }
+        let archive = fs::read(dir.join("a")).unwrap();
+        run(&format!("{} --replay", whole.words), &dir, whole.log.as_bytes()).with(3).says("s is no state that can be gone on from");
+        assert!(state.is_dir() || fs::read(&state).unwrap() == bytes, "the state stays");
+        assert!(fs::read(dir.join("a")).unwrap() == archive, "the archive stays");
+        fs::remove_file(dir.join("a")).unwrap();
+        run(&format!("{} --fresh --replay", whole.words), &dir, whole.log.as_bytes()).with(0).says("kept as s.aside-1");
+        fs::rename(dir.join("s.aside-1"), folder("crash_state_aside").join("s")).unwrap();
+        whole.is_same(&dir);
+    }
+}
