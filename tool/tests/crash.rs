@@ -180,26 +180,52 @@ fn a_full_disk() {
     whole.is_same(&dir);
 }
 
-#[test]
-fn a_write_that_stops_in_the_middle_of_a_block() {
-    let whole = Whole::of("torn_write", 3_000, 12, "--archive a");
+/// A limit of the file's size that lies inside a block stops its write there. Answers whether the block was left torn, and whether it was mended.
+fn torn_at(whole: &Whole, dir: &Path, at: usize) -> (bool, bool) {
     let words = format!("{} --replay", whole.words);
-    let mut torn = 0;
-    for at in (0..40).map(|i| 512 * (20 + i) + 7 + 12 * i) {
-        let dir = folder("crash_torn_write");
-        // The file is as long as it will be, so that a limit of its size stops a write and not its growth.
+    let mut running = start(limited(&format!("--fsize={at}"), &words, dir));
+    let feeder = feed(&mut running, &whole.log, at as u64, true);
+    let ran = running.end().with(1).says("cannot write a: File too large");
+    feeder.join().unwrap();
+    let is_torn = run("archive verify a", dir, b"").status == Some(3);
+    let rows = whole.stored(whole.printed_to(&ran));
+    let again = run(&format!("{} --level 1", whole.words), dir, b"").with(0);
+    whole.has_rows(dir, rows);
+    run(&words, dir, whole.log.as_bytes()).with(0);
+    whole.is_same(dir);
+    (is_torn, again.err.contains("a torn block is mended"))
+}
+
+#[test]
+fn a_write_that_stops_in_a_new_block() {
+    let whole = Whole::of("torn_new", 3_000, 12, "--archive a");
+    for i in 0..20 {
+        let dir = folder("crash_torn_new");
+        // The file is as long as it will be, so that the limit stops a write and not its growth.
         fs::write(dir.join("a"), vec![0; 1 << 20]).unwrap();
-        let mut running = start(limited(&format!("--fsize={at}"), &words, &dir));
-        let feeder = feed(&mut running, &whole.log, at as u64, true);
-        let ran = running.end().with(1).says("cannot write a: File too large");
-        feeder.join().unwrap();
-        let block = fs::read(dir.join("a")).unwrap()[512 * (at / 512)..][..512].to_vec();
-        torn += usize::from(block[at % 512..].iter().all(|b| *b == 0) || run("archive verify a", &dir, b"").status == Some(3));
-        whole.survived(&dir, &ran);
-        run(&words, &dir, whole.log.as_bytes()).with(0);
-        whole.is_same(&dir);
+        let (is_torn, is_mended) = torn_at(&whole, &dir, 512 * (20 + i) + 7 + 24 * i);
+        assert!(is_torn && !is_mended, "no row of it is counted");
     }
-    assert!(torn > 0, "no write was torn");
+}
+
+#[test]
+fn a_write_that_stops_in_a_block_with_counted_rows() {
+    let whole = Whole::of("torn_counted", 3_000, 16, "--archive a");
+    let mut mended = 0;
+    for i in 0..20 {
+        let dir = folder("crash_torn_counted");
+        let cut = whole.log.match_indices('\n').nth(400 + 61 * i).unwrap().0 + 1;
+        run(&whole.words, &dir, &whole.log.as_bytes()[..cut]).with(0);
+        let rows: usize = fs::read(dir.join("a")).unwrap().chunks(512).map(|b| usize::from(b[4])).sum();
+        if rows.is_multiple_of(15) {
+            continue; // the next row begins a block
+        }
+        let (is_torn, is_mended) = torn_at(&whole, &dir, 512 * (rows / 15) + 7 + 24 * i);
+        assert_eq!(is_torn, is_mended, "what is torn is mended");
+        mended += usize::from(is_mended);
+    }
+    println!("torn: {mended} blocks with counted rows mended");
+    assert!(mended > 10, "{mended} blocks with counted rows were torn and mended");
 }
 
 #[test]
@@ -220,6 +246,37 @@ fn a_block_that_a_power_cut_spoiled() {
         bytes[from..to].iter_mut().for_each(|b| *b = random.next() as u8);
         fs::write(dir.join("a"), &bytes).unwrap();
         run(&words, &dir, whole.log.as_bytes()).with(0).says("taken back");
+        whole.is_same(&dir);
+    }
+}
+
+/// A state that somebody spoiled is refused and stays; begun anew from the log, with the archive moved away, everything is as it should be.
+#[test]
+fn a_state_that_is_damaged() {
+    let whole = Whole::of("state", 3_000, 14, "--archive a");
+    let cut = whole.log.match_indices('\n').nth(1_700).unwrap().0 + 1;
+    for damage in ["cut short", "flipped", "empty", "a folder"] {
+        let dir = folder("crash_state");
+        run(&whole.words, &dir, &whole.log.as_bytes()[..cut]).with(0);
+        let (state, mut bytes) = (dir.join("s"), fs::read(dir.join("s")).unwrap());
+        match damage {
+            "cut short" => bytes.truncate(2_048),
+            "flipped" => bytes[1_100] ^= 0x01,
+            _ => bytes.clear(),
+        }
+        fs::remove_file(&state).unwrap();
+        if damage == "a folder" {
+            fs::create_dir(&state).unwrap();
+        } else {
+            fs::write(&state, &bytes).unwrap();
+        }
+        let archive = fs::read(dir.join("a")).unwrap();
+        run(&format!("{} --replay", whole.words), &dir, whole.log.as_bytes()).with(3).says("s is no state that can be gone on from");
+        assert!(state.is_dir() || fs::read(&state).unwrap() == bytes, "the state stays");
+        assert!(fs::read(dir.join("a")).unwrap() == archive, "the archive stays");
+        fs::remove_file(dir.join("a")).unwrap();
+        run(&format!("{} --fresh --replay", whole.words), &dir, whole.log.as_bytes()).with(0).says("kept as s.aside-1");
+        fs::rename(dir.join("s.aside-1"), folder("crash_state_aside").join("s")).unwrap();
         whole.is_same(&dir);
     }
 }
