@@ -139,7 +139,7 @@ silent true out at = record { bytes = refl; next = omega arith; short = omega ar
 silent false out at = record { bytes = refl; next = omega arith; short = omega arith }
 
 -- what is sent has at most 21 bytes
-relay-short : (setting : ℕ) (s : List ℕ) → length (relayOf setting s) ≤ maxLength
+pub relay-short : (setting : ℕ) (s : List ℕ) → length (relayOf setting s) ≤ maxLength
 unfolding relayOf
 relay-short setting s = go (ltb (length s) minLength) (ltb maxLength (length s)) (repeats setting (levelOf s)) refl refl
   where
@@ -166,7 +166,7 @@ sent-front xs out e =
     (l, rw (l, o) (take-append-seam xs (drop (length xs) out)))
 
 -- what is sent for a reception that was admitted, without the zero fill
-sent-bytes : (xs : List ℕ) → sentBytes (frameOf xs) ≡ xs
+pub sent-bytes : (xs : List ℕ) → sentBytes (frameOf xs) ≡ xs
 unfolding frameOf
 sent-bytes xs = take-append-seam xs _
 
