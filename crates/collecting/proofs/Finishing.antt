@@ -10,6 +10,7 @@ use lib.ListN.{length, take, set, length-take, length-append}
 use lib.Seq.{take-nil, take-all, take-append-le, take-suc-set, length-take-le}
 use Rattle.erp1.specs.Subtelegram.{maxLength, isValid}
 use Rattle.telegram.specs.Repeater.{relayOf, repeatOf}
+use Rattle.telegram.proofs.Repeating.{relay-fits}
 use Rattle.model.specs.Answer.{Shown, isKept}
 use Rattle.model.specs.View.{Reception}
 use Rattle.model.specs.Step.{sentFor}
@@ -30,7 +31,7 @@ use Rattle.collecting.specs.declared.Progress.{Progress}
 use Rattle.collecting.specs.Printed.{rowOf, sentBytes, receptionAt}
 use Rattle.collecting.specs.Session.{Receiver, modelCollector, takenAt, phaseOf, longestLine, longestEnd, Ran}
 use Rattle.collecting.specs.Program.{longestFinish, Kept}
-use Rattle.collecting.proofs.Taking.{same-length, relay-short, sent-bytes}
+use Rattle.collecting.proofs.Taking.{same-length, sent-bytes}
 
 -- ---- how long a text is
 
@@ -39,7 +40,7 @@ unfolding sentFor repeatOf
 sent-short setting a r = rw (sent-bytes (cond (isKept a) (repeatOf setting (r .bytes)) [])) (go (isKept a) (isValid (r .bytes)))
   where
     go : (kept valid : Bool) → length (cond kept (cond valid (relayOf setting (r .bytes)) []) []) ≤ maxLength
-    go true true = relay-short setting (r .bytes)
+    go true true = relay-fits setting (r .bytes)
     go true false = omega arith
     go false valid = omega arith
 

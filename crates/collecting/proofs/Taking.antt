@@ -139,7 +139,7 @@ silent true out at = record { bytes = refl; next = omega arith; short = omega ar
 silent false out at = record { bytes = refl; next = omega arith; short = omega arith }
 
 -- what is sent has at most 21 bytes
-pub relay-short : (setting : ℕ) (s : List ℕ) → length (relayOf setting s) ≤ maxLength
+relay-short : (setting : ℕ) (s : List ℕ) → length (relayOf setting s) ≤ maxLength
 unfolding relayOf
 relay-short setting s = go (ltb (length s) minLength) (ltb maxLength (length s)) (repeats setting (levelOf s)) refl refl
   where
