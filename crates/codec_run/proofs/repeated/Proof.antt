@@ -9,12 +9,12 @@ use borrow.Author.Needs.{needs}
 use Rattle.codec_run.proofs.repeated.Statement.{statement}
 use Rattle.codec_run.proofs.repeated.Tie as tie
 
-record Filling (n i : ℕ) (input : List ℕ) : Type 0 where
+record Inside (n i : ℕ) (input : List ℕ) : Type 0 where
   bounded : i ≤ n
   long : length input ≡ 1024
 
 abbrev Inv-loop : tie.InvT-loop
-Inv-loop r n p input₀ i₀ input i = Filling n i input
+Inv-loop r n p input₀ i₀ input i = Inside n i input
 
 abbrev μ-loop : tie.MeasureT-loop
 μ-loop r n p input₀ i₀ input i = n - i

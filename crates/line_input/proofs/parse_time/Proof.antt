@@ -13,12 +13,12 @@ use Rattle.line_input.proofs.Times.{Begun, begun-none, begun-next, wron
 use Rattle.line_input.proofs.parse_time.Statement.{statement}
 use Rattle.line_input.proofs.parse_time.Tie as tie
 
-record Timing (text : List ℕ) (time i : ℕ) : Type 0 where
+record TimeSoFar (text : List ℕ) (time i : ℕ) : Type 0 where
   bounded : i ≤ length text
   begun : Begun text time i
 
 abbrev Inv-loop : tie.InvT-loop
-Inv-loop text time₀ i₀ time i = Timing text time i
+Inv-loop text time₀ i₀ time i = TimeSoFar text time i
 
 abbrev μ-loop : tie.MeasureT-loop
 μ-loop text time₀ i₀ time i = length text - i

@@ -4,14 +4,14 @@ use borrow.Author.Needs.{needs}
 use Rattle.rules_run.proofs.count.Statement.{statement}
 use Rattle.rules_run.proofs.count.Tie as tie
 
--- of i plans that were tried, and of as many as are to be, n are counted
-record Counted (tried n i : ℕ) : Type 0 where
+-- n of the first i plans are counted
+record CountSoFar (tried n i : ℕ) : Type 0 where
   few : n ≤ i
   bounded : i ≤ tried
   small : tried ≤ 64_000
 
 abbrev Inv-loop : tie.InvT-loop
-Inv-loop rule level number duration tried n₀ i₀ n i = Counted tried n i
+Inv-loop rule level number duration tried n₀ i₀ n i = CountSoFar tried n i
 
 abbrev μ-loop : tie.MeasureT-loop
 μ-loop rule level number duration tried n₀ i₀ n i = tried - i

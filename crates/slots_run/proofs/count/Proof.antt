@@ -4,13 +4,13 @@ use borrow.Author.Needs.{needs}
 use Rattle.slots_run.proofs.count.Statement.{statement}
 use Rattle.slots_run.proofs.count.Tie as tie
 
--- of i plans that were tried, n are counted
-record Counted (n i : ℕ) : Type 0 where
+-- n of the first i plans are counted
+record CountSoFar (n i : ℕ) : Type 0 where
   few : n ≤ i
   bounded : i ≤ 65_600
 
 abbrev Inv-loop : tie.InvT-loop
-Inv-loop level duration rule n₀ i₀ n i = Counted n i
+Inv-loop level duration rule n₀ i₀ n i = CountSoFar n i
 
 abbrev μ-loop : tie.MeasureT-loop
 μ-loop level duration rule n₀ i₀ n i = 65_600 - i

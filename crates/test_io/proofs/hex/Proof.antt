@@ -7,12 +7,12 @@ use borrow.Author.Needs.{needs}
 use Rattle.test_io.proofs.hex.Statement.{statement}
 use Rattle.test_io.proofs.hex.Tie as tie
 
-record Within (s : List ℕ) (i i-end : ℕ) : Type 0 where
+record Inside (s : List ℕ) (i i-end : ℕ) : Type 0 where
   bounded : i ≤ length s
   end : i-end ≡ length s
 
 abbrev Inv-loop : tie.InvT-loop
-Inv-loop s i₀ i-end i = Within s i i-end
+Inv-loop s i₀ i-end i = Inside s i i-end
 
 abbrev μ-loop : tie.MeasureT-loop
 μ-loop s i₀ i-end i = length s - i
