@@ -38,4 +38,5 @@ abbrev pub sentBytes : Frame → List ℕ
 sentBytes f = frameBytes (f .len) (f .bytes)
 
 unfoldable pub repeatCall : ℕ → List ℕ → List ℕ → Call
-repeatCall setting s old = sized frameLength old (call (repeatResult setting s .number) (sentBytes (repeatResult setting s .sent)))
+repeatCall setting s old =
+    sized frameLength old (call (repeatResult setting s .number) (sentBytes (repeatResult setting s .sent)))

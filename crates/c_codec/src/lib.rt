@@ -20,7 +20,8 @@ pub const FIELDS_LENGTH: usize = 26;
 
 // Reads a subtelegram into the 26 bytes of its fields, all zero beside a refusal: 255, then the check's own.
 pub fn read(bytes: &[u8], fields: &mut [u8]) -> u8
-    ensures { λ r. ⌜ record { number = r; values = now (fields .exit) } ≡ readCall (now (bytes .entry)) (now (fields .entry)) ⌝ }
+    ensures { λ r. ⌜ record { number = r; values = now (fields .exit) }
+        ≡ readCall (now (bytes .entry)) (now (fields .entry)) ⌝ }
 {
     if fields.len() != FIELDS_LENGTH {
         return WRONG_SIZE;
@@ -64,7 +65,8 @@ pub fn decapsulate(bytes: &[u8], out: &mut [u8], length: &mut usize) -> u8
 
 // What a repeater sends for a valid telegram, as a frame of 22 bytes, all zero for nothing and beside a refusal: 255, then 10, the check's own.
 pub fn repeat(setting: u8, bytes: &[u8], sent: &mut [u8]) -> u8
-    ensures { λ r. ⌜ record { number = r; values = now (sent .exit) } ≡ repeatCall setting (now (bytes .entry)) (now (sent .entry)) ⌝ }
+    ensures { λ r. ⌜ record { number = r; values = now (sent .exit) }
+        ≡ repeatCall setting (now (bytes .entry)) (now (sent .entry)) ⌝ }
 {
     if sent.len() != FRAME_LENGTH {
         return WRONG_SIZE;

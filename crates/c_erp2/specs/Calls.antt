@@ -19,12 +19,18 @@ pub record ReadCall : Type 0 where
   pub destination : ℕ
 
 abbrev pub reading : ℕ → Telegram → ReadCall
-reading number t = record { number = number; fields = fieldsBytes t; originator = t .originator; destination = t .destination .id }
+reading number t = record {
+  number = number;
+  fields = fieldsBytes t;
+  originator = t .originator;
+  destination = t .destination .id;
+}
 
 -- document 02's A4: the number, and the telegram, zero beside a refusal; fields of another size are left as they were, and the IDs too
 unfoldable pub readCall : List ℕ → List ℕ → ℕ → ℕ → ReadCall
 readCall s old originator destination =
-    cond (not (eqb (length old) fieldsLength)) (record { number = wrongSize; fields = old; originator = originator; destination = destination })
+    cond (not (eqb (length old) fieldsLength))
+    (record { number = wrongSize; fields = old; originator = originator; destination = destination })
     (reading (readOf s .number) (readOf s .telegram))
 
 unfoldable pub buildCall : List ℕ → ℕ → ℕ → ℕ → List ℕ → Result

@@ -22,7 +22,12 @@ const OPTIONAL: usize = HEAD_LENGTH + MAX_DATA;
 
 // Reads a length byte and Data_PL into the 276 bytes of its fields and its two IDs, all zero beside a refusal: 255, then 1, 13, 14, 15.
 pub fn read(bytes: &[u8], fields: &mut [u8], originator: &mut u64, destination: &mut u32) -> u8
-    ensures { λ r. ⌜ record { number = r; fields = now (fields .exit); originator = now (originator .exit); destination = now (destination .exit) }
+    ensures { λ r. ⌜ record {
+      number = r;
+      fields = now (fields .exit);
+      originator = now (originator .exit);
+      destination = now (destination .exit);
+    }
         ≡ readCall (now (bytes .entry)) (now (fields .entry)) (now (originator .entry)) (now (destination .entry)) ⌝ }
 {
     if fields.len() != FIELDS_LENGTH {

@@ -17,7 +17,8 @@ pub const FRAME_LENGTH: usize = 22;
 
 // The frame of some bytes, zero filled, with a length byte; a buffer of another size stays as it is.
 pub fn put_frame(out: &mut [u8], len: u8, bytes: &[u8])
-    ensures { λ _. ⌜ now (out .exit) ≡ overwritten frameLength (frameBytes len (now (bytes .entry))) (now (out .entry)) ⌝ }
+    ensures { λ _. ⌜ now (out .exit)
+        ≡ overwritten frameLength (frameBytes len (now (bytes .entry))) (now (out .entry)) ⌝ }
 {
     if out.len() != FRAME_LENGTH {
         return;
@@ -48,7 +49,8 @@ pub fn checked_number(checked: Checked) -> u8
 
 // The number of what was written, and its length.
 pub fn settle(built: Built, length: &mut usize) -> u8
-    ensures { λ r. ⌜ ((output : List ℕ) → record { number = r; len = now (length .exit); output = output } ≡ resultOf built output) ⌝ }
+    ensures { λ r. ⌜ ((output : List ℕ)
+        → record { number = r; len = now (length .exit); output = output } ≡ resultOf built output) ⌝ }
 {
     match built {
         Built::Done(n) => {

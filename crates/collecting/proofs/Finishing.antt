@@ -1,4 +1,4 @@
--- The end of a run: what is kept of a line, with a newline behind it, is one more line.
+-- The end of a run: what is kept of a line, with a newline behind it, is one more line, and no text of a line is longer than the longest row.
 use mathlib.Core.Path.{_≡_, refl, sym, ap, _∙_}
 use mathlib.Core.Bool.{Bool, true, false, cond}
 use mathlib.Core.List.{List, [], _∷_, _++_}
@@ -8,20 +8,57 @@ use lib.Dec.{eqb, leb}
 use borrow.Author.Tests.{leb-true, leb-false}
 use lib.ListN.{length, take, set, length-take, length-append}
 use lib.Seq.{take-nil, take-all, take-append-le, take-suc-set, length-take-le}
+use Rattle.erp1.specs.Subtelegram.{maxLength, isValid}
+use Rattle.telegram.specs.Repeater.{relayOf, repeatOf}
+use Rattle.telegram.proofs.Repeating.{relay-fits}
+use Rattle.model.specs.Answer.{Shown, isKept}
+use Rattle.model.specs.View.{Reception}
+use Rattle.model.specs.Step.{sentFor}
 use Rattle.line_input.specs.Ascii.{newline}
-use Rattle.line_input.specs.Reading.{lineLimit}
+use Rattle.line_input.specs.declared.Setting.{Setting}
+use Rattle.line_input.specs.Reading.{Reading, reception, bad, settingOf, lineReading, lineLimit}
 use Rattle.buffers.specs.Printed.{Printed, PrintedIfFits}
+use Rattle.line_output.specs.Text.{decimalText}
 use Rattle.line_output.specs.Longest.{longestTotals}
+use Rattle.line_output.proofs.Longest.{digits-short, row-short}
 use Rattle.buffers.proofs.Stores.{then, if-fits}
 use Rattle.streams.specs.Chunks.{Position, inLine, atLineStart, feed, lastText, endText}
-use Rattle.streams.specs.Collect.{Phase, starting, running, over, collect, endOf, nextPhase, phaseText}
+use Rattle.streams.specs.Collect.{Phase, starting, running, over, collect, firstText, lineText, endOf, nextPhase, phaseText}
 use Rattle.streams.specs.Buffer.{isUnended}
 use Rattle.streams.proofs.Limit.{bounded}
 use Rattle.streams.proofs.Segments.{Drained, none, more, feed-open, open-front}
 use Rattle.collecting.specs.declared.Progress.{Progress}
-use Rattle.collecting.specs.Session.{Receiver, modelCollector, phaseOf, longestLine, longestEnd, Ran}
+use Rattle.collecting.specs.Printed.{rowOf, sentBytes, receptionAt}
+use Rattle.collecting.specs.Session.{Receiver, modelCollector, takenAt, phaseOf, longestLine, longestEnd, Ran}
 use Rattle.collecting.specs.Program.{longestFinish, Kept}
-use Rattle.collecting.proofs.Taking.{same-length}
+use Rattle.collecting.proofs.Taking.{same-length, sent-bytes}
+
+-- ---- how long a text is
+
+sent-short : (setting : ℕ) (a : Shown) (r : Reception) → length (sentBytes (sentFor setting a r)) ≤ maxLength
+unfolding sentFor repeatOf
+sent-short setting a r = rw (sent-bytes (cond (isKept a) (repeatOf setting (r .bytes)) [])) (go (isKept a) (isValid (r .bytes)))
+  where
+    go : (kept valid : Bool) → length (cond kept (cond valid (relayOf setting (r .bytes)) []) []) ≤ maxLength
+    go true true = relay-fits setting (r .bytes)
+    go true false = omega arith
+    go false valid = omega arith
+
+first-short : (x : Setting) → length (firstText modelCollector x) ≤ longestLine
+first-short (Setting.Level n) = omega arith
+first-short Setting.Bad = omega arith
+
+later-short : (c : Receiver) (x : Reading) → length (lineText modelCollector c x) ≤ longestLine
+later-short c (reception t bs) =
+    let a = takenAt (c .view) t bs .answer in
+    let sent = sentFor (c .setting) a (receptionAt t bs) in
+    omega (arith, row-short (decimalText t) (rowOf a) (sentBytes sent), digits-short 20 t, sent-short (c .setting) a (receptionAt t bs))
+later-short c bad = omega arith
+
+line-short : (s : Phase Receiver) (l : List ℕ) → length (phaseText modelCollector s l) ≤ longestLine
+line-short starting l = first-short (settingOf l)
+line-short (running c) l = later-short c (lineReading l)
+line-short over l = omega arith
 
 end-short : (s : Phase Receiver) → longestEnd s ≤ longestTotals
 end-short starting = omega arith
@@ -89,14 +126,13 @@ module _ (s : Phase Receiver) (l : List ℕ) (o : isUnended l ≡ true) (full : 
   text-taken : Printed out 0 (phaseText modelCollector s l) (length out) out₁ (p .written)
   text-taken = rw (taken .text) at (rw whole at (r .fed .output))
 
-  then-end : {out₂ : List ℕ} {n : ℕ} → length l ≤ lineLimit → longestFinish ≤ length out
+  then-end : {out₂ : List ℕ} {n : ℕ} → longestFinish ≤ length out
       → PrintedIfFits out₁ (p .written) (longestEnd (phaseOf (p .session))) (endOf modelCollector (phaseOf (p .session))) out₂ n
       → Printed out 0 (phaseText modelCollector s l ++ endOf modelCollector (nextPhase modelCollector s l)) longestFinish out₂ n
-  then-end few room q =
+  then-end room q =
       let same = same-length text-taken in
       let short = end-short (phaseOf (p .session)) in
-      let used = all-used in
-      let w = r .short in
+      let w : p .written ≤ longestLine = omega (arith, text-taken .next, line-short s l) in
       let f : p .written + longestEnd (phaseOf (p .session)) ≤ length out₁ = omega arith in
       let e = if-fits f q in
       let t = then text-taken e in
@@ -119,4 +155,4 @@ line-kept s buffer {kept} p k nonzero room r q =
     let size : length l ≡ kept = length-take-le kept buffer (omega arith) in
     let e : kept + 1 - 0 ≡ suc kept = omega arith in
     let x = rw (e, take-suc-set buffer kept newline fits) at r in
-    rw (last-full s l (omega arith)) (then-end s l (k .line) (omega arith) p (omega arith) x (omega (arith, k .few)) room q)
+    rw (last-full s l (omega arith)) (then-end s l (k .line) (omega arith) p (omega arith) x room q)

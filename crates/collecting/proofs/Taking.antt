@@ -166,7 +166,7 @@ sent-front xs out e =
     (l, rw (l, o) (take-append-seam xs (drop (length xs) out)))
 
 -- what is sent for a reception that was admitted, without the zero fill
-sent-bytes : (xs : List ℕ) → sentBytes (frameOf xs) ≡ xs
+pub sent-bytes : (xs : List ℕ) → sentBytes (frameOf xs) ≡ xs
 unfolding frameOf
 sent-bytes xs = take-append-seam xs _
 

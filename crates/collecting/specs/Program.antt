@@ -1,5 +1,5 @@
 -- What the program does between a read and the next one, and at the end.
-use Prim.Native.Nat.{ℕ, _+_, _*_, _≤_, _<_}
+use Prim.Native.Nat.{ℕ, _+_, _≤_, _<_}
 use mathlib.Core.Path.{_≡_}
 use mathlib.Core.Bool.{Bool, true, false}
 use mathlib.Core.List.{List}
@@ -14,9 +14,9 @@ use Rattle.collecting.specs.declared.program.Turn.{Turn}
 use Rattle.collecting.specs.declared.program.Drain.{Drain}
 use Rattle.collecting.specs.Session.{Receiver, modelCollector, phaseOf, longestLine}
 
--- a last line of which `lineLimit` characters were kept, and the totals, are shorter
+-- no end is longer: the row of a last line without a newline, and the totals
 abbrev pub longestFinish : ℕ
-longestFinish = longestLine * (lineLimit + 1) + longestTotals
+longestFinish = longestLine + longestTotals
 
 -- nothing failed
 abbrev pub isSound : Next → Bool

@@ -18,7 +18,9 @@ use Rattle.erp2_model.specs.Building.{isShortForm, dataOf, optionalOf, b
 
 -- what is read builds the same bytes, into any output that is as long
 abbrev pub BuildRead : Type 0
-BuildRead = (s out : List ℕ) → Bytes s → readOf s .number ≡ 0 → length s ≤ length out → buildOf (readOf s .telegram) out ≡ written s out
+BuildRead =
+    (s out : List ℕ) → Bytes s → readOf s .number ≡ 0 → length s ≤ length out
+    → buildOf (readOf s .telegram) out ≡ written s out
 
 -- the lengths of a telegram's arrays and the ranges of its numbers, as its type has them
 pub record Shaped (t : Telegram) : Type 0 where
@@ -71,8 +73,12 @@ pub record Figures : Type 0 where
       ≡ (8 ∷ 0 ∷ []) ∷ (8 ∷ 8 ∷ []) ∷ (16 ∷ 8 ∷ []) ∷ (24 ∷ 8 ∷ []) ∷ (32 ∷ 8 ∷ []) ∷ (32 ∷ 16 ∷ []) ∷ []
   pub forms : map (λ (l : ℕ). isShort (l ∷ [])) (1 ∷ 6 ∷ 7 ∷ []) ≡ true ∷ true ∷ false ∷ []
   -- figure 11, bits 5 to 7: 000, 001, 010, 011, and the reserved 100, 101, 110, 111
-  pub control : map idRow (0x00 ∷ 0x20 ∷ 0x40 ∷ 0x60 ∷ []) ≡ (24 ∷ 0 ∷ []) ∷ (32 ∷ 0 ∷ []) ∷ (32 ∷ 32 ∷ []) ∷ (48 ∷ 0 ∷ []) ∷ []
-  pub allowed : map (λ (b : ℕ). isReserved (headerOf b)) (0x1F ∷ 0x3F ∷ 0x5F ∷ 0x7F ∷ []) ≡ false ∷ false ∷ false ∷ false ∷ []
-  pub reserved : map (λ (b : ℕ). isReserved (headerOf b)) (0x80 ∷ 0xA0 ∷ 0xC0 ∷ 0xE0 ∷ []) ≡ true ∷ true ∷ true ∷ true ∷ []
+  pub control : map idRow (0x00 ∷ 0x20 ∷ 0x40 ∷ 0x60 ∷ [])
+      ≡ (24 ∷ 0 ∷ []) ∷ (32 ∷ 0 ∷ []) ∷ (32 ∷ 32 ∷ []) ∷ (48 ∷ 0 ∷ []) ∷ []
+  pub allowed : map (λ (b : ℕ). isReserved (headerOf b)) (0x1F ∷ 0x3F ∷ 0x5F ∷ 0x7F ∷ [])
+      ≡ false ∷ false ∷ false ∷ false ∷ []
+  pub reserved : map (λ (b : ℕ). isReserved (headerOf b)) (0x80 ∷ 0xA0 ∷ 0xC0 ∷ 0xE0 ∷ [])
+      ≡ true ∷ true ∷ true ∷ true ∷ []
   -- figure 11, bit 4 and bits 0 to 3: an extended header by 1, an extended telegram type by 1111
-  pub optional : map optionalRow (0x0E ∷ 0x0F ∷ 0x1E ∷ 0x1F ∷ []) ≡ (0 ∷ 0 ∷ []) ∷ (0 ∷ 8 ∷ []) ∷ (8 ∷ 0 ∷ []) ∷ (8 ∷ 8 ∷ []) ∷ []
+  pub optional : map optionalRow (0x0E ∷ 0x0F ∷ 0x1E ∷ 0x1F ∷ [])
+      ≡ (0 ∷ 0 ∷ []) ∷ (0 ∷ 8 ∷ []) ∷ (8 ∷ 0 ∷ []) ∷ (8 ∷ 8 ∷ []) ∷ []

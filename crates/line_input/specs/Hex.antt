@@ -38,7 +38,8 @@ unfoldable pub leadingBytes : ℕ → List ℕ → List ℕ
 leadingBytes zero s = []
 leadingBytes (suc n) [] = []
 leadingBytes (suc n) (a ∷ []) = []
-leadingBytes (suc n) (a ∷ b ∷ s) = cond (isHexDigit a && isHexDigit b) ((nibbleOf a * 16 + nibbleOf b) ∷ leadingBytes n s) []
+leadingBytes (suc n) (a ∷ b ∷ s) =
+    cond (isHexDigit a && isHexDigit b) ((nibbleOf a * 16 + nibbleOf b) ∷ leadingBytes n s) []
 
 -- the pairs at the front of s were read into an array, zero filled
 pub record Decoded (s bytes : List ℕ) (r : ℕ) : Type 0 where

@@ -327,7 +327,8 @@ pub fn parse_setting(line: &[u8]) -> Setting
 
 // The reception that the line at the start of a text says, its bytes at the front of `bytes`, zero filled.
 pub fn parse(text: &[u8], bytes: &mut [u8; MAX_BYTES]) -> Line
-    ensures { λ r. ⌜ (r ≡ lineOf (frontOf (now (text .entry)))) × (now (bytes .exit) ≡ bytesIn (frontOf (now (text .entry)))) ⌝ }
+    ensures { λ r. ⌜ (r ≡ lineOf (frontOf (now (text .entry))))
+        × (now (bytes .exit) ≡ bytesIn (frontOf (now (text .entry)))) ⌝ }
 {
     let Timed::At(time, digits) = parse_time(text) else {
         return bad_line(text, bytes);

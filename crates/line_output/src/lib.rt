@@ -51,7 +51,10 @@ const DIGITS: [u8; 16] = [
 
 // The row of a reception behind the text of its time, as it was read; `sent` is what KEPT sends.
 pub fn put_row(out: &mut [u8], at: usize, time: &[u8], row: Row, sent: &[u8]) -> usize
-    ensures { λ r. ⌜ PrintedIfFits (now (out .entry)) at (longestRow (length (now (time .entry))) (length (now (sent .entry)))) (rowBehind (now (time .entry)) row (now (sent .entry))) (now (out .exit)) r ⌝ }
+    ensures { λ r. ⌜ PrintedIfFits (now (out .entry)) at
+        (longestRow (length (now (time .entry))) (length (now (sent .entry))))
+        (rowBehind (now (time .entry)) row (now (sent .entry)))
+        (now (out .exit)) r ⌝ }
 {
     let fixed = time.len() + LONGEST_ROW;
     if !has_capacity(out.len(), at, fixed, sent.len()) {
@@ -81,7 +84,9 @@ pub fn put_totals(
     damaged: u64,
     late: u64,
 ) -> usize
-    ensures { λ r. ⌜ PrintedIfFits (now (out .entry)) at longestTotals (totalsText received kept copies loose damaged late) (now (out .exit)) r ⌝ }
+    ensures { λ r. ⌜ PrintedIfFits (now (out .entry)) at longestTotals
+        (totalsText received kept copies loose damaged late)
+        (now (out .exit)) r ⌝ }
 {
     if !has_capacity(out.len(), at, LONGEST_TOTALS, 0) {
         return at;
@@ -108,7 +113,10 @@ fn has_capacity(capacity: usize, at: usize, fixed: usize, bytes: usize) -> bool
 
 fn write_row(out: &mut [u8], at: usize, time: &[u8], row: Row, sent: &[u8]) -> usize
     requires { ⌜ at + longestRow (length (now time)) (length (now sent)) ≤ length (now out) ⌝ }
-    ensures { λ r. ⌜ Printed (now (out .entry)) at (rowBehind (now (time .entry)) row (now (sent .entry))) (longestRow (length (now (time .entry))) (length (now (sent .entry)))) (now (out .exit)) r ⌝ }
+    ensures { λ r. ⌜ Printed (now (out .entry)) at
+        (rowBehind (now (time .entry)) row (now (sent .entry)))
+        (longestRow (length (now (time .entry))) (length (now (sent .entry))))
+        (now (out .exit)) r ⌝ }
 {
     let a = write(out, at, time);
     let b = write(out, a, b" ");
@@ -118,7 +126,9 @@ fn write_row(out: &mut [u8], at: usize, time: &[u8], row: Row, sent: &[u8]) -> u
 
 fn write_answer(out: &mut [u8], at: usize, row: Row, sent: &[u8]) -> usize
     requires { ⌜ at + longestAnswer (length (now sent)) ≤ length (now out) ⌝ }
-    ensures { λ r. ⌜ Printed (now (out .entry)) at (answerText row (now (sent .entry))) (longestAnswer (length (now (sent .entry)))) (now (out .exit)) r ⌝ }
+    ensures { λ r. ⌜ Printed (now (out .entry)) at
+        (answerText row (now (sent .entry))) (longestAnswer (length (now (sent .entry))))
+        (now (out .exit)) r ⌝ }
 {
     match row {
         Row::Kept => {
@@ -148,7 +158,9 @@ fn write_totals(
     late: u64,
 ) -> usize
     requires { ⌜ at + longestTotals ≤ length (now out) ⌝ }
-    ensures { λ r. ⌜ Printed (now (out .entry)) at (totalsText received kept copies loose damaged late) longestTotals (now (out .exit)) r ⌝ }
+    ensures { λ r. ⌜ Printed (now (out .entry)) at
+        (totalsText received kept copies loose damaged late) longestTotals
+        (now (out .exit)) r ⌝ }
 {
     let a = write_count(out, at, b"RECEIVED ", received);
     let b = write_count(out, a, b" KEPT ", kept);
@@ -161,7 +173,9 @@ fn write_totals(
 
 fn write_count(out: &mut [u8], at: usize, name: &[u8], n: u64) -> usize
     requires { ⌜ at + (length (now name) + longestNumber) ≤ length (now out) ⌝ }
-    ensures { λ r. ⌜ Printed (now (out .entry)) at (counted (now (name .entry)) n) (length (now (name .entry)) + longestNumber) (now (out .exit)) r ⌝ }
+    ensures { λ r. ⌜ Printed (now (out .entry)) at
+        (counted (now (name .entry)) n) (length (now (name .entry)) + longestNumber)
+        (now (out .exit)) r ⌝ }
 {
     let from = write(out, at, name);
     write_decimal(out, from, n)
@@ -212,7 +226,9 @@ fn spell(n: u64, digits: &mut [u8]) -> usize
 // The table is named once: a constant array is built anew wherever it is named.
 fn write_hex(out: &mut [u8], at: usize, s: &[u8]) -> usize
     requires { ⌜ at + 2 * length (now s) ≤ length (now out) ⌝ }
-    ensures { λ r. ⌜ Printed (now (out .entry)) at (hexText (now (s .entry))) (2 * length (now (s .entry))) (now (out .exit)) r ⌝ }
+    ensures { λ r. ⌜ Printed (now (out .entry)) at
+        (hexText (now (s .entry))) (2 * length (now (s .entry)))
+        (now (out .exit)) r ⌝ }
 {
     let table = DIGITS;
     let mut i = 0;

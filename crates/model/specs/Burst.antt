@@ -46,7 +46,8 @@ callNumber setting receptions places =
 
 -- "Refusals: 11, then 6 .., then 10"
 unfoldable pub burstNumber : ℕ → View → ℕ → ℕ → ℕ
-burstNumber setting v receptions places = cond (not (acceptable v)) (numberOf NotAccepted) (callNumber setting receptions places)
+burstNumber setting v receptions places =
+    cond (not (acceptable v)) (numberOf NotAccepted) (callNumber setting receptions places)
 
 -- the receptions that a burst with this number stands for: "a refused burst stands for no reception"
 abbrev pub taken : ℕ → List Reception → List Reception

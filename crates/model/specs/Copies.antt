@@ -43,7 +43,8 @@ closedOf log = length (keptOf log) - length (openAt (latestOf log) log)
 abbrev pub HeardIsAnswers : Type 0
 HeardIsAnswers =
     (past : List Reception) (k : ℕ) → k < length (openAt (latestOf (logOf past)) (logOf past))
-    → heardBy (logOf past) k ≡ record { number = 0; copies = capped (copyAnswers (closedOf (logOf past) + k) (logOf past)) }
+    → heardBy (logOf past) k
+    ≡ record { number = 0; copies = capped (copyAnswers (closedOf (logOf past) + k) (logOf past)) }
 
 -- "with no telegram reaching the ceiling": then nothing is cut off
 abbrev pub BelowCeiling : Type 0

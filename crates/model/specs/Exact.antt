@@ -37,8 +37,10 @@ pub record FitsLayout (v : View) : Type 0 where
 
 pub record Exact : Type 0 where
   -- the image of every acceptable view, with 0, 1 or 2 in the setting's place, is accepted, and read back
-  pub accepted : (setting : ℕ) → setting ≤ maxSetting → (v : View) → acceptable v ≡ true → Fits v → accepts (imageWith setting v) ≡ true
-  pub readBack : (setting : ℕ) → setting ≤ maxSetting → (v : View) → acceptable v ≡ true → Fits v → parse (imageWith setting v) ≡ v
+  pub accepted : (setting : ℕ) → setting ≤ maxSetting → (v : View) → acceptable v ≡ true → Fits v
+      → accepts (imageWith setting v) ≡ true
+  pub readBack : (setting : ℕ) → setting ≤ maxSetting → (v : View) → acceptable v ≡ true → Fits v
+      → parse (imageWith setting v) ≡ v
   -- the image of a view that is not acceptable is refused, whatever stands in the setting's place: from it "no image that reload accepts could be
   -- parked"
   pub refused : (setting : ℕ) (v : View) → acceptable v ≡ false → FitsLayout v → accepts (imageWith setting v) ≡ false

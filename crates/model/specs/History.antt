@@ -93,7 +93,8 @@ run v (Look ∷ h) = Looked (v .totals) ∷ run v h
 -- the receptions that a burst stands for, to the reference model: all of them, if each has a place, they are at most 256, and its setting is at
 -- most 2; else none
 abbrev pub burstTaken : ℕ → List Reception → List Replied → List Reception
-burstTaken setting rs places = cond (leb (length rs) (length places) && (leb (length rs) maxBurst && leb setting maxSetting)) rs []
+burstTaken setting rs places =
+    cond (leb (length rs) (length places) && (leb (length rs) maxBurst && leb setting maxSetting)) rs []
 
 -- what the reference model says, fed the receptions so far: checkpoints into room and the restores of cuts are answered 0
 abbrev pub expected : List Reception → List Call → List Seen
@@ -110,7 +111,8 @@ expected past (Cut output ∷ h) =
     Wrote 0 (p .output) (totalsOf (logOf past)) ∷ Restored 0 (totalsOf (logOf past)) ∷ expected past h
 expected past (Burst setting rs places ∷ h) =
     let t = burstTaken setting rs places in
-    Delivered (callNumber setting (length rs) (length places)) (repliesBy setting past t ++ drop (length t) places) (totalsOf (logOf (pastAfter past t)))
+    Delivered (callNumber setting (length rs) (length places)) (repliesBy setting past t ++ drop (length t) places)
+    (totalsOf (logOf (pastAfter past t)))
     ∷ expected (pastAfter past t) h
 expected past (Ask k ∷ h) =
     let a = heardBy (logOf past) k in

@@ -27,7 +27,8 @@ latestSame l r = lastOf (keep (λ e. isSame (e .bytes) (r .bytes)) l)
 abbrev pub LatestDecides : Type 0
 LatestDecides =
     (past : List Reception) (r : Reception)
-    → any (λ e. isCopyOf e r) (openAt (r .time) (logOf past)) ≡ any (λ e. isEcho e r) (latestSame (openAt (r .time) (logOf past)) r)
+    → any (λ e. isCopyOf e r) (openAt (r .time) (logOf past))
+    ≡ any (λ e. isEcho e r) (latestSame (openAt (r .time) (logOf past)) r)
 
 -- of these telegrams one is credited: it is the same as r, the latest such, and no other changes
 pub record CreditsLatest (more : ℕ → ℕ) (r : Reception) (l : List Entry) : Type 0 where
@@ -42,5 +43,6 @@ pub record CreditsLatest (more : ℕ → ℕ) (r : Reception) (l : List Entry) :
 -- THE CLAIM: whatever came before, a copy is credited to the latest open same telegram, and to it alone
 abbrev pub LatestCredited : Type 0
 LatestCredited =
-    (more : ℕ → ℕ) (past : List Reception) (r : Reception) → any (λ e. isCopyOf e r) (openAt (r .time) (logOf past)) ≡ true
+    (more : ℕ → ℕ) (past : List Reception) (r : Reception)
+    → any (λ e. isCopyOf e r) (openAt (r .time) (logOf past)) ≡ true
     → CreditsLatest more r (openAt (r .time) (logOf past))

@@ -94,7 +94,11 @@ latestOf (e ∷ log) = cond (isAccepted (e .answer)) (max (e .reception .time) (
 
 -- what stands in his image: "those he answered KEPT with latest - f <= 100, in the order handed over", the numbers "to the same ceiling"
 unfoldable pub modelView : List Logged → View
-modelView log = record { latest = latestOf log; totals = totalsOf log; entries = map (recount capped) (openAt (latestOf log) log) }
+modelView log = record {
+  latest = latestOf log;
+  totals = totalsOf log;
+  entries = map (recount capped) (openAt (latestOf log) log);
+}
 
 -- what he says of the copies of telegram k of those open at the latest time, in the order handed over; 10 where there is none
 unfoldable pub heardBy : List Logged → ℕ → HeardResult

@@ -35,13 +35,15 @@ module _ {State : Type 0} (view : State → View) where
         → view d ≡ fresh
         → record { number = m; next = view c′ } ≡ restoreOf (view d) (take imageLength after)
         → Shows c′ h l → Shows c (Cut output ∷ h) (Wrote n after (view c .totals) ∷ Restored m (view c′ .totals) ∷ l)
-    delivered : {c c′ : State} {setting : ℕ} {rs : List Reception} {places after : List Replied} {n : ℕ} {h : List Call} {l : List Seen}
+    delivered : {c c′ : State} {setting : ℕ} {rs : List Reception} {places after : List Replied} {n : ℕ}
+        {h : List Call} {l : List Seen}
         → record { number = n; replies = after; next = view c′ } ≡ burstOf setting (view c) rs places
         → Shows c′ h l → Shows c (Burst setting rs places ∷ h) (Delivered n after (view c′ .totals) ∷ l)
     asked : {c : State} {k n copies : ℕ} {h : List Call} {l : List Seen}
         → record { number = n; copies = copies } ≡ copiesOf (view c) k
         → Shows c h l → Shows c (Ask k ∷ h) (Heard n copies (view c .totals) ∷ l)
-    looked : {c : State} {h : List Call} {l : List Seen} → Shows c h l → Shows c (Look ∷ h) (Looked (view c .totals) ∷ l)
+    looked : {c : State} {h : List Call} {l : List Seen}
+        → Shows c h l → Shows c (Look ∷ h) (Looked (view c .totals) ∷ l)
 
   -- the state after the calls
   abbrev pub leftBy : {c : State} {h : List Call} {l : List Seen} → Shows c h l → State

@@ -70,4 +70,6 @@ Sized = (v : View) (h : List Call) → length (recordOf (run v h)) ≡ sizeOfAll
 
 -- calls in two parts: the record of the second stands behind that of the first, and goes on from the state after it
 abbrev pub InParts : Type 0
-InParts = (v : View) (h g : List Call) → recordOf (run v (h ++ g)) ≡ recordOf (run v h) ++ recordOf (run (afterCalls v h) g)
+InParts =
+    (v : View) (h g : List Call)
+    → recordOf (run v (h ++ g)) ≡ recordOf (run v h) ++ recordOf (run (afterCalls v h) g)

@@ -19,7 +19,8 @@ headLength = 50
 -- the operation, the number that a caller sees, and the six totals
 unfoldable pub headOf : ℕ → ℕ → Totals → List ℕ
 headOf operation number n =
-    (operation ∷ number ∷ []) ++ be 8 (n .received) ++ be 8 (n .kept) ++ be 8 (n .copies) ++ be 8 (n .loose) ++ be 8 (n .damaged) ++ be 8 (n .late)
+    (operation ∷ number ∷ []) ++ be 8 (n .received) ++ be 8 (n .kept) ++ be 8 (n .copies)
+    ++ be 8 (n .loose) ++ be 8 (n .damaged) ++ be 8 (n .late)
 
 -- a length, in front of what has one
 abbrev pub countLength : ℕ
@@ -37,7 +38,8 @@ replyLength = 31
 
 -- the form and the number of an answer, and the telegram to send: its length, and its 21 bytes
 unfoldable pub replyOf : Replied → List ℕ
-replyOf r = (formOf (r .answer) ∷ shownNumber (r .answer) ∷ []) ++ be 8 (r .sent .len) ++ resized maxLength (r .sent .bytes)
+replyOf r =
+    (formOf (r .answer) ∷ shownNumber (r .answer) ∷ []) ++ be 8 (r .sent .len) ++ resized maxLength (r .sent .bytes)
 
 -- ---- the cells
 
@@ -46,7 +48,8 @@ unfoldable pub seenBytes : Seen → List ℕ
 seenBytes (Answered a sent n) = headOf receiving (shownNumber a) n ++ replyOf (record { answer = a; sent = sent })
 seenBytes (Wrote number output n) = headOf saving number n ++ be 8 (length output) ++ output
 seenBytes (Restored number n) = headOf restoring number n
-seenBytes (Delivered number replies n) = headOf delivering number n ++ be 8 (length replies) ++ flatten (map replyOf replies)
+seenBytes (Delivered number replies n) =
+    headOf delivering number n ++ be 8 (length replies) ++ flatten (map replyOf replies)
 seenBytes (Heard number copies n) = headOf asking number n ++ be 8 copies
 seenBytes (Looked n) = headOf looking 0 n
 

@@ -46,7 +46,8 @@ sizeOfAll (c ∷ h) = sizeOf c + sizeOfAll h
 
 -- a record is put into an output: 6, and nothing is written, where it is shorter; else what stood past the record stays
 unfoldable pub putRecord : List ℕ → List ℕ → Result
-putRecord bytes output = cond (ltb (length output) (length bytes)) (refused (numberOf ShortOutput) output) (written bytes output)
+putRecord bytes output =
+    cond (ltb (length output) (length bytes)) (refused (numberOf ShortOutput) output) (written bytes output)
 
 -- the calls that a replay with this number made: a refused one made none
 abbrev pub madeBy : ℕ → List Call → List Call

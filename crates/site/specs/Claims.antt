@@ -66,5 +66,6 @@ module _ (count : ℕ) (repeaters : List Assignment) where
 
 -- the plan that a draw picks is a site of one repeater
 abbrev pub DrawnAccepted : Type 0
-DrawnAccepted = (rule level n d draw : ℕ) (p : SlotPlan) (rest : List Assignment) → planBy rule level n d draw ≡ planned p
+DrawnAccepted =
+    (rule level n d draw : ℕ) (p : SlotPlan) (rest : List Assignment) → planBy rule level n d draw ≡ planned p
     → siteOf 1 (record { rule = rule; level = level; duration = d; slots = p } ∷ rest) ≡ answer 0 0 0

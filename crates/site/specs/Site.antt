@@ -52,7 +52,9 @@ sentBy a = sentIn (a .duration) (slotsOf (a .slots))
 
 -- each starts before the other ends: "touching ends are fine"
 abbrev pub overlap : Transmission → Transmission → Bool
-overlap t u = ltb (startOf (t .slot)) (endOf (u .duration) (u .slot)) && ltb (startOf (u .slot)) (endOf (t .duration) (t .slot))
+overlap t u =
+    ltb (startOf (t .slot)) (endOf (u .duration) (u .slot))
+    && ltb (startOf (u .slot)) (endOf (t .duration) (t .slot))
 
 -- a transmission of the one overlaps with one of the other
 unfoldable pub clash : Assignment → Assignment → Bool

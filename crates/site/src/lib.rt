@@ -100,7 +100,8 @@ fn first_overlap(repeaters: [Assignment; MAX_REPEATERS], count: usize) -> Verdic
 // The first repeater after repeater `i` that overlaps with it; `count` where none does.
 fn clash_after(repeaters: [Assignment; MAX_REPEATERS], i: usize, count: usize) -> usize
     requires { ⌜ (i < count) × (count ≤ 32) ⌝ }
-    ensures { λ r. ⌜ r ≡ i + 1 + firstOf (clash (getD repeaters i noAssignment)) (drop (i + 1) (take count repeaters)) ⌝ }
+    ensures { λ r. ⌜ r
+        ≡ i + 1 + firstOf (clash (getD repeaters i noAssignment)) (drop (i + 1) (take count repeaters)) ⌝ }
 {
     let b = repeaters[i];
     for j in i + 1..count {

@@ -43,7 +43,9 @@ DrawnChosen = (r : Rule) (d draw : ℕ) → Chosen r d (drawn (plans r d) draw)
 
 -- and every lawful plan is what some draw picks
 abbrev pub LawfulDrawn : Type 0
-LawfulDrawn = (r : Rule) (d : ℕ) (p : SlotPlan) → lawful r d p ≡ true → (draw : ℕ) × (drawn (plans r d) draw ≡ planned p)
+LawfulDrawn =
+    (r : Rule) (d : ℕ) (p : SlotPlan) → lawful r d p ≡ true
+    → (draw : ℕ) × (drawn (plans r d) draw ≡ planned p)
 
 -- ---- the call
 

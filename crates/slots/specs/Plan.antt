@@ -100,7 +100,8 @@ thirdSlots r = cond (empty (rangeAt r 2)) (noSlot ∷ []) (slotsIn (rangeAt r 2)
 -- every choice of one slot from each range, by first, then second, then third slot
 unfoldable pub candidates : Rule → List SlotPlan
 unfolding flatMap
-candidates r = flatMap (λ a. flatMap (λ b. map (plan a b) (thirdSlots r)) (slotsIn (rangeAt r 1))) (slotsIn (rangeAt r 0))
+candidates r =
+    flatMap (λ a. flatMap (λ b. map (plan a b) (thirdSlots r)) (slotsIn (rangeAt r 1))) (slotsIn (rangeAt r 0))
 
 -- the lawful plans under a rule at a duration, in order
 unfoldable pub plans : Rule → ℕ → List SlotPlan

@@ -19,13 +19,15 @@ isUnended (c ∷ l) = cond (eqb c newline) false (isUnended l)
 
 -- A text of whole lines was taken from the start of a line in state s on: s' and what stands at the front of the output are those that the
 -- text gives, in `count` characters.
-pub record Fed {S : Type 0} (p : Program S) (s : S) (text out : List ℕ) (s' : S) (out' : List ℕ) (count : ℕ) : Type 0 where
+pub record Fed {S : Type 0} (p : Program S) (s : S) (text out : List ℕ) (s' : S) (out' : List ℕ) (count : ℕ)
+    : Type 0 where
   pub state : feed p lineLimit (atLineStart s) text ≡ atLineStart s'
   pub output : Printed out 0 (feedText p lineLimit (atLineStart s) text) (length out) out' count
 
 -- the first characters of the part from `from` to `end`, where the buffer has such a part
 unfoldable pub keptLine : List ℕ → ℕ → ℕ → List ℕ
-keptLine buffer from end = cond (leb end (length buffer) && leb from end) (take lineLimit (take (end - from) (drop from buffer))) []
+keptLine buffer from end =
+    cond (leb end (length buffer) && leb from end) (take lineLimit (take (end - from) (drop from buffer))) []
 
 -- it stands at the front now, all else is as it was, and r is its length
 pub record Carried (buffer : List ℕ) (from end : ℕ) (buffer' : List ℕ) (r : ℕ) : Type 0 where

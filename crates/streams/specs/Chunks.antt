@@ -28,7 +28,9 @@ atLineStart s = inLine s []
 module _ {S : Type 0} (p : Program S) (limit : ℕ) where
   -- one character: a newline ends the line, any other is kept, up to `limit` of a line
   abbrev pub fed : Position S → ℕ → Position S
-  fed a c = cond (eqb c newline) (atLineStart (p .next (a .state) (a .line))) (inLine (a .state) (take limit (a .line ++ (c ∷ []))))
+  fed a c =
+      cond (eqb c newline) (atLineStart (p .next (a .state) (a .line)))
+      (inLine (a .state) (take limit (a .line ++ (c ∷ []))))
 
   abbrev pub fedText : Position S → ℕ → List ℕ
   fedText a c = cond (eqb c newline) (p .text (a .state) (a .line)) []

@@ -14,7 +14,9 @@ piecesText p limit s xs = feedAllText p limit (atLineStart s) xs ++ endText p (f
 
 -- where a program can tell a line by its front, this is what it writes for the whole text
 abbrev pub InPieces : {S : Type 0} → Program S → ℕ → Type 0
-InPieces {S} p limit = 0 < limit → Bounded p limit → (s : S) (xs : List (List ℕ)) → piecesText p limit s xs ≡ outputOf p s (joined xs)
+InPieces {S} p limit =
+    0 < limit → Bounded p limit → (s : S) (xs : List (List ℕ))
+    → piecesText p limit s xs ≡ outputOf p s (joined xs)
 
 -- `collect` can, by the first 150 characters: cut into pieces anywhere, the input gives the same output
 abbrev pub CollectedInPieces : {C : Type 0} → Collector C → Type 0

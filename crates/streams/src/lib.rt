@@ -25,7 +25,8 @@ pub fn carry(buffer: &mut [u8], from: usize, end: usize) -> usize
 
 fn shift(buffer: &mut [u8], from: usize, n: usize) -> usize
     requires { ⌜ from + n ≤ length (now buffer) ⌝ }
-    ensures { λ r. ⌜ (now (buffer .exit) ≡ sets (now (buffer .entry)) 0 (take n (drop from (now (buffer .entry))))) × (r ≡ n) ⌝ }
+    ensures { λ r. ⌜ (now (buffer .exit) ≡ sets (now (buffer .entry)) 0 (take n (drop from (now (buffer .entry)))))
+        × (r ≡ n) ⌝ }
 {
     for i in 0..n {
         buffer[i] = buffer[from + i];

@@ -100,7 +100,10 @@ buildOf t output = cond (isUnbuildable t) (refused (numberOf Argument) output) (
 
 -- the refusals that do not look at the output (10, 5), which a private function tests; 0 for none
 unfoldable pub admissionOf : Telegram → ℕ
-admissionOf t = cond (isUnbuildable t) (numberOf Argument) (cond (ltb maxLength (length (telegramBytes t))) (numberOf TooLong) 0)
+admissionOf t =
+    cond (isUnbuildable t) (numberOf Argument)
+    (cond (ltb maxLength (length (telegramBytes t))) (numberOf TooLong)
+    0)
 
 -- what holds of a telegram that can be built
 pub record Buildable (t : Telegram) : Type 0 where

@@ -55,7 +55,8 @@ fn refused(why: Refusal) -> Repeated
 // What is sent for bytes that need no check: written to the front of `out`, with how many bytes it is; none if they are not as long as a
 // subtelegram, or are not repeated.
 pub fn relay(setting: u8, bytes: &[u8], out: &mut [u8; erp1::MAX_LEN]) -> usize
-    ensures { λ r. ⌜ record { number = 0; len = r; output = now (out .exit) } ≡ written (relayOf setting (now (bytes .entry))) (now (out .entry)) ⌝ }
+    ensures { λ r. ⌜ record { number = 0; len = r; output = now (out .exit) }
+        ≡ written (relayOf setting (now (bytes .entry))) (now (out .entry)) ⌝ }
 {
     let n = bytes.len();
     if n < erp1::MIN_LEN {

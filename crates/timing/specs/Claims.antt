@@ -19,7 +19,9 @@ PlanByChosen = (rule level n d draw : ℕ) → ChosenBy rule level n d (planBy r
 
 -- what a draw picks is lawful
 abbrev pub PlanByLawful : Type 0
-PlanByLawful = (rule level n d draw : ℕ) (p : SlotPlan) → planBy rule level n d draw ≡ planned p → isLawfulBy rule level d p ≡ true
+PlanByLawful =
+    (rule level n d draw : ℕ) (p : SlotPlan) → planBy rule level n d draw ≡ planned p
+    → isLawfulBy rule level d p ≡ true
 
 -- it has as many transmissions as were asked for
 abbrev pub PlanByAsked : Type 0

@@ -96,4 +96,5 @@ transmissionsOf p = cond (eqb (p .third) noSlot) 2 3
 -- lawful under a rule that has so many transmissions at this level
 unfoldable pub isLawfulBy : ℕ → ℕ → ℕ → SlotPlan → Bool
 isLawfulBy rule level d p =
-    isKnown rule level && (isOffered rule level (transmissionsOf p) && lawful (ruleOf rule level (transmissionsOf p)) d p)
+    let n = transmissionsOf p in
+    isKnown rule level && (isOffered rule level n && lawful (ruleOf rule level n) d p)

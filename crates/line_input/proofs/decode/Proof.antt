@@ -1,6 +1,7 @@
 -- `line_input::decode` meets its contract. The invariant: the count and the stores of the pairs that are left are those of all.
 -- The measure is what is left of the limit.
 use mathlib.Core.Path.{_≡_, refl}
+use mathlib.Core.List.{List}
 use Prim.Native.Nat.{ℕ, min, _-_, _/_, _≤_}
 use native.Mathlib.Omega.{arith}
 use borrow.Author.Needs.{needs}
@@ -11,14 +12,19 @@ use Rattle.line_input.proofs.Pairs.{Left, left-all, left-next, both-dig
 use Rattle.line_input.proofs.decode.Statement.{statement}
 use Rattle.line_input.proofs.decode.Tie as tie
 
+record Decoding (s : List ℕ) (limit i : ℕ) (bytes : List ℕ) : Type 0 where
+  pairs : limit ≡ min (length s / 2) 64
+  long : length bytes ≡ 64
+  rest : Left s i bytes
+
 abbrev Inv-loop : tie.InvT-loop
-Inv-loop s bytes₀ table limit i₀ bytes i = (limit ≡ min (length s / 2) 64) × (length bytes ≡ 64) × Left s i bytes
+Inv-loop s bytes₀ table limit i₀ bytes i = Decoding s limit i bytes
 
 abbrev μ-loop : tie.MeasureT-loop
 μ-loop s bytes₀ table limit i₀ bytes i = limit - i
 
 loop-holds : tie.Need-loop-holds Inv-loop μ-loop
-loop-holds c = (search needs, refl, left-all _)
+loop-holds c = record { pairs = search needs; long = refl; rest = left-all _ }
 
 -- the test of the table's rule, which antt computes
 high-requires : tie.Need-nibble-requires Inv-loop μ-loop
@@ -48,19 +54,22 @@ add-bytes c = let d = digits c in search needs
 
 loop-again : tie.Need-loop-again Inv-loop μ-loop
 loop-again c =
-    let l = c .before .before .before .before .before .before .before .before .loop in (
-      l .inv .0,
-      simp length-set (l .inv .1),
-      left-next (l .inv .2) (omega arith) (omega arith) (c .before .before .before .before .nibble .ensures) (c .before .nibble2 .ensures) (c .if1 .left),
-    )
+    let inv = c .before .before .before .before .before .before .before .before .loop .inv in
+    record {
+      pairs = inv .pairs;
+      long = simp length-set (inv .long);
+      rest =
+          left-next (inv .rest) (omega arith) (omega arith) (c .before .before .before .before .nibble .ensures) (c .before .nibble2 .ensures)
+          (c .if1 .left);
+    }
 
 returns : tie.Need-returns Inv-loop μ-loop
-returns c = let l = c .before .loop in decoded-all (l .inv .2) (omega arith)
+returns c = decoded-all (c .before .loop .inv .rest) (omega arith)
 
 stopped : tie.Need-returns-2 Inv-loop μ-loop
 stopped c =
     let l = c .before .before .before .before .before .before .before .before .loop in
-    decoded-front (l .inv .2) (omega arith) (omega arith) (c .before .before .before .before .nibble .ensures) (c .before .nibble2 .ensures) (c .if1 .taken)
+    decoded-front (l .inv .rest) (omega arith) (omega arith) (c .before .before .before .before .nibble .ensures) (c .before .nibble2 .ensures) (c .if1 .taken)
 
 pub decode-spec : {M : Type 1} → statement M
 decode-spec =

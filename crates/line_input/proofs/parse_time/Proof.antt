@@ -13,14 +13,18 @@ use Rattle.line_input.proofs.Times.{Begun, begun-none, begun-next, wron
 use Rattle.line_input.proofs.parse_time.Statement.{statement}
 use Rattle.line_input.proofs.parse_time.Tie as tie
 
+record TimeSoFar (text : List ℕ) (time i : ℕ) : Type 0 where
+  bounded : i ≤ length text
+  begun : Begun text time i
+
 abbrev Inv-loop : tie.InvT-loop
-Inv-loop text time₀ i₀ time i = (i ≤ length text) × Begun text time i
+Inv-loop text time₀ i₀ time i = TimeSoFar text time i
 
 abbrev μ-loop : tie.MeasureT-loop
 μ-loop text time₀ i₀ time i = length text - i
 
 loop-holds : tie.Need-loop-holds Inv-loop μ-loop
-loop-holds c = (omega arith, begun-none _)
+loop-holds c = record { bounded = omega arith; begun = begun-none _ }
 
 -- a character that goes on no number
 module _ (e : tie.After-enum-told Inv-loop μ-loop) where
@@ -42,31 +46,34 @@ module _ (e : tie.After-enum-told Inv-loop μ-loop) where
 no-space : tie.Need-returns Inv-loop μ-loop
 no-space c =
     let e = c .before .before in
-    wrong-digit (l e .loop .inv .1) (more e) (c .if1 .taken) (ends e)
+    wrong-digit (l e .loop .inv .begun) (more e) (c .if1 .taken) (ends e)
 
 nothing : tie.Need-returns-2 Inv-loop μ-loop
 nothing c =
     let e = c .before .before .before in
-    no-digit (l e .loop .inv .1) (more e) (c .before .if1 .left) (c .if2 .taken)
+    no-digit (l e .loop .inv .begun) (more e) (c .before .if1 .left) (c .if2 .taken)
 
 leads-zero : tie.Need-returns-3 Inv-loop μ-loop
 leads-zero c =
     let e = c .before .before .before .before .before in
-    zero-first (l e .loop .inv .1) (more e) (c .before .before .before .if1 .left) (c .before .before .if2 .left) (c .if3 .taken)
+    zero-first (l e .loop .inv .begun) (more e) (c .before .before .before .if1 .left) (c .before .before .if2 .left) (c .if3 .taken)
 
 reads-time : tie.Need-returns-4 Inv-loop μ-loop
 reads-time c =
     let e = c .before .before .before .before .before in
-    timed (l e .loop .inv .1) (more e) (c .before .before .before .if1 .left) (c .before .before .if2 .left) (c .if3 .left)
+    timed (l e .loop .inv .begun) (more e) (c .before .before .before .if1 .left) (c .before .before .if2 .left) (c .if3 .left)
 
 loop-again : tie.Need-loop-again Inv-loop μ-loop
 loop-again c =
     let a = c .before .before .before in
     let l = a .before .before .before in
-    (omega arith, begun-next (l .loop .inv .1) (a .before .before .loop-test .taken) (sym (a .append .ensures) ∙ c .before .more .given .1))
+    record {
+      bounded = omega arith;
+      begun = begun-next (l .loop .inv .begun) (a .before .before .loop-test .taken) (sym (a .append .ensures) ∙ c .before .more .given .1);
+    }
 
 no-end : tie.Need-returns-5 Inv-loop μ-loop
-no-end c = all-passed (c .before .loop .inv .1) (c .loop-test .left)
+no-end c = all-passed (c .before .loop .inv .begun) (c .loop-test .left)
 
 pub parse-time-spec : {M : Type 1} → statement M
 parse-time-spec =

@@ -1,7 +1,8 @@
 -- `line_output::write_hex` meets its contract. The loop's invariant: the stores that are left, after those made, are all of them.
 -- The measure is what is left of the length.
 use mathlib.Core.Path.{_≡_, refl, sym, _∙_}
-use Prim.Native.Nat.{_+_, _-_, _*_, _≤_}
+use mathlib.Core.List.{List}
+use Prim.Native.Nat.{ℕ, _+_, _-_, _*_, _≤_}
 use native.Mathlib.Omega.{arith}
 use borrow.Author.Needs.{needs}
 use denote.Ref.{now}
@@ -13,15 +14,20 @@ use Rattle.line_output.proofs.Words.{hex-next, hex-length}
 use Rattle.line_output.proofs.write_hex.Statement.{statement}
 use Rattle.line_output.proofs.write_hex.Tie as tie
 
+record Writing (s : List ℕ) (at i to : ℕ) (old new : List ℕ) : Type 0 where
+  bounded : i ≤ length s
+  place : to ≡ at + 2 * i
+  long : length new ≡ length old
+  stores : sets new to (hexText (drop i s)) ≡ sets old at (hexText s)
+
 abbrev Inv-loop : tie.InvT-loop
-Inv-loop out₀ at s table i₀ to₀ out i to =
-    (i ≤ length s) × (to ≡ at + 2 * i) × (length out ≡ length out₀) × (sets out to (hexText (drop i s)) ≡ sets out₀ at (hexText s))
+Inv-loop out₀ at s table i₀ to₀ out i to = Writing s at i to out₀ out
 
 abbrev μ-loop : tie.MeasureT-loop
 μ-loop out₀ at s table i₀ to₀ out i to = length s - i
 
 loop-holds : tie.Need-loop-holds Inv-loop μ-loop
-loop-holds c = (search needs, search needs, refl, refl)
+loop-holds c = record { bounded = search needs; place = search needs; long = refl; stores = refl }
 
 -- the test of the table's rule, which antt computes
 high-requires : tie.Need-hex-digit-requires Inv-loop μ-loop
@@ -38,12 +44,15 @@ low-fits c = simp length-set (omega arith)
 loop-again : tie.Need-loop-again Inv-loop μ-loop
 loop-again c =
     let a = c .before .before .before .before .before .before .before .before .before .args in
-    let l = c .before .before .before .before .before .before .loop in (
-      omega arith,
-      omega arith,
-      simp length-set (l .inv .2),
-      rw (c .before .before .hex-digit .ensures, c .hex-digit2 .ensures) (sym (hex-next (l .out) (now (a .s)) (l .to) (l .i) (omega arith))) ∙ l .inv .3,
-    )
+    let l = c .before .before .before .before .before .before .loop in
+    record {
+      bounded = omega arith;
+      place = omega arith;
+      long = simp length-set (l .inv .long);
+      stores =
+          rw (c .before .before .hex-digit .ensures, c .hex-digit2 .ensures) (sym (hex-next (l .out) (now (a .s)) (l .to) (l .i) (omega arith)))
+          ∙ l .inv .stores;
+    }
 
 returns : tie.Need-returns Inv-loop μ-loop
 unfolding hexText
@@ -52,7 +61,7 @@ returns c =
     let l = c .before .loop in
     let h : length (now (a .s)) ≤ l .i = omega arith in
     record {
-      bytes = rw (drop-of-length-le (now (a .s)) h) at (l .inv .3);
+      bytes = rw (drop-of-length-le (now (a .s)) h) at (l .inv .stores);
       next = omega (arith, hex-length (now (a .s)));
       short = omega arith;
     }

@@ -1,11 +1,14 @@
 -- `replay::all` meets its contract. The invariant: the record of the first i calls is written, and the state is that after them; the measure: the
 -- calls left.
 use mathlib.Core.Path.{_≡_, refl, _∙_}
-use Prim.Native.Nat.{_+_, _-_, _*_, _/_, _≤_}
+use mathlib.Core.List.{List}
+use Prim.Native.Nat.{ℕ, _+_, _-_, _*_, _/_, _≤_}
 use native.Mathlib.Omega.{arith}
 use denote.Ref.{now}
 use lib.ListN.{length, take}
 use Rattle.buffers.proofs.Segments.{begun-length, within, lent}
+use Rattle.model.specs.View.{View}
+use Rattle.collector.specs.declared.Collector.{Collector}
 use Rattle.collector.specs.Collector.{viewOf}
 use Rattle.replay.specs.Calls.{callLength, callsIn}
 use Rattle.replay.proofs.Records.{record-length, calls-all}
@@ -13,9 +16,13 @@ use Rattle.replay.proofs.Running.{Made, none-made, turn, enough, ran}
 use Rattle.replay.proofs.all.Statement.{statement}
 use Rattle.replay.proofs.all.Tie as tie
 
+record Calling (calls lent : List ℕ) (v : View) (i i-end : ℕ) (entry out : List ℕ) (at : ℕ) (c : Collector) : Type 0 where
+  bounded : i ≤ i-end
+  end : i-end ≡ length calls / callLength
+  made : Made v (take i (callsIn lent calls)) entry out at c
+
 abbrev Inv-loop : tie.InvT-loop
-Inv-loop calls lent out₀ now₀ at₀ i₀ i-end out now at i =
-    (i ≤ i-end) × (i-end ≡ length calls / callLength) × Made (viewOf now₀) (take i (callsIn lent calls)) out₀ out at now
+Inv-loop calls lent out₀ now₀ at₀ i₀ i-end out now at i = Calling calls lent (viewOf now₀) i i-end out₀ out at now
 
 abbrev μ-loop : tie.MeasureT-loop
 μ-loop calls lent out₀ now₀ at₀ i₀ i-end out now at i = i-end - i
@@ -35,17 +42,17 @@ room : (c : tie.After-size-in Inv-loop μ-loop) → turned c .before .loop .at +
 room c =
     let t = turned c in
     let s = start (t .before) in
-    enough (now (s .args .lent)) (now (s .args .calls)) (t .before .loop .i) (c .size-in .result) (omega arith) (t .before .loop .inv .2)
+    enough (now (s .args .lent)) (now (s .args .calls)) (t .before .loop .i) (c .size-in .result) (omega arith) (t .before .loop .inv .made)
     (c .size-in .ensures) (s .pre)
 
 room-now : (c : tie.After-size-in Inv-loop μ-loop) → turned c .before .loop .at + c .size-in .result ≤ length (turned c .before .loop .out)
-room-now c = within (turned c .before .loop .inv .2 .begun) _ (room c)
+room-now c = within (turned c .before .loop .inv .made .begun) _ (room c)
 
 call-requires : tie.Need-call-requires Inv-loop μ-loop
 call-requires c κs =
     let size = c .before .before in
     let t = turned size in
-    (record-length _ _ (record-in t), lent (t .before .loop .inv .2 .begun) (size .size-in .result) _ refl (room size) ∙ size .size-in .ensures)
+    (record-length _ _ (record-in t), lent (t .before .loop .inv .made .begun) (size .size-in .result) _ refl (room size) ∙ size .size-in .ensures)
 
 loop-again : tie.Need-loop-again Inv-loop μ-loop
 loop-again c =
@@ -54,15 +61,15 @@ loop-again c =
     let t = turned size in
     let a = start (t .before) .args in
     let next =
-    turn (now (a .lent)) (now (a .calls)) (t .before .loop .i) (omega arith) (t .before .loop .inv .2) _ (done .call .result) (done .call .ensures)
+    turn (now (a .lent)) (now (a .calls)) (t .before .loop .i) (omega arith) (t .before .loop .inv .made) _ (done .call .result) (done .call .ensures)
     (size .size-in .result) (done .call .kept .1 .1 .1 .0) (room size)
     in
-    (omega arith, omega arith, next)
+    record { bounded = omega arith; end = omega arith; made = next }
 
 returns : tie.Need-returns Inv-loop μ-loop
 returns c =
     let a = start (c .before) .args in
-    ran (rw (calls-all (now (a .lent)) (now (a .calls)) (c .before .loop .i) (omega arith)) at (c .before .loop .inv .2))
+    ran (rw (calls-all (now (a .lent)) (now (a .calls)) (c .before .loop .i) (omega arith)) at (c .before .loop .inv .made))
 
 pub all-spec : {M : Type 1} → statement M
 all-spec =
@@ -70,7 +77,7 @@ all-spec =
     (tie.spec
     Inv-loop
     μ-loop
-    (λ c. (omega arith, omega arith, none-made _ _))
+    (λ c. record { bounded = omega arith; end = omega arith; made = none-made _ _ })
     (λ c. omega (arith, record-in c))
     (λ c. omega (arith, record-in c))
     (λ c. omega (arith, record-in c))
@@ -93,5 +100,5 @@ all-spec =
     (λ c. omega arith)
     (λ c. omega arith)
     loop-again
-    (λ c. begun-length (c .before .loop .inv .2 .begun))
+    (λ c. begun-length (c .before .loop .inv .made .begun))
     returns)

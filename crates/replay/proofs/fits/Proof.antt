@@ -1,7 +1,7 @@
 -- `replay::fits` meets its contract. The invariant: what is left is what the first i calls leave; the measure: the calls left.
 use mathlib.Core.Path.{_≡_, sym}
-use mathlib.Core.List.{[]}
-use Prim.Native.Nat.{_+_, _-_, _*_, _/_, _≤_}
+use mathlib.Core.List.{List, []}
+use Prim.Native.Nat.{ℕ, _+_, _-_, _*_, _/_, _≤_}
 use native.Mathlib.Omega.{arith}
 use denote.Ref.{now}
 use lib.ListN.{length, take}
@@ -14,9 +14,13 @@ use Rattle.replay.proofs.Records.{sizes-more, calls-all, record-length}
 use Rattle.replay.proofs.fits.Statement.{statement}
 use Rattle.replay.proofs.fits.Tie as tie
 
+record Fitting (calls : List ℕ) (n i i-end left : ℕ) : Type 0 where
+  bounded : i ≤ i-end
+  end : i-end ≡ length calls / callLength
+  whole : left + sizeOfAll (take i (callsIn [] calls)) ≡ n
+
 abbrev Inv-loop : tie.InvT-loop
-Inv-loop calls n left₀ i₀ i-end left i =
-    (i ≤ i-end) × (i-end ≡ length calls / callLength) × (left + sizeOfAll (take i (callsIn [] calls)) ≡ n)
+Inv-loop calls n left₀ i₀ i-end left i = Fitting calls n i i-end left
 
 abbrev μ-loop : tie.MeasureT-loop
 μ-loop calls n left₀ i₀ i-end left i = i-end - i
@@ -41,19 +45,19 @@ returns c =
     let s = c .before in
     let t = s .before .before in
     let h = callsIn [] (now (start (t .before) .args .calls)) in
-    sym (lt-leb (sizeOfAll h) _ (omega (arith, t .before .loop .inv .2, c .if1 .taken, more s, size-part (t .before .loop .i + 1) h)))
+    sym (lt-leb (sizeOfAll h) _ (omega (arith, t .before .loop .inv .whole, c .if1 .taken, more s, size-part (t .before .loop .i + 1) h)))
 
 loop-again : tie.Need-loop-again Inv-loop μ-loop
 loop-again c =
     let s = c .before in
     let t = s .before .before in
-    (omega arith, omega arith, omega (arith, t .before .loop .inv .2, c .if1 .left, more s))
+    record { bounded = omega arith; end = omega arith; whole = omega (arith, t .before .loop .inv .whole, c .if1 .left, more s) }
 
 returns-2 : tie.Need-returns-2 Inv-loop μ-loop
 returns-2 c =
     let calls = now (start (c .before) .args .calls) in
     sym (le-leb (sizeOfAll (callsIn [] calls)) _ (rw (← calls-all [] calls (c .before .loop .i) (omega arith)) (omega
-    (arith, c .before .loop .inv .2))))
+    (arith, c .before .loop .inv .whole))))
 
 pub fits-spec : {M : Type 1} → statement M
 fits-spec =
@@ -61,7 +65,7 @@ fits-spec =
     (tie.spec
     Inv-loop
     μ-loop
-    (λ c. (omega arith, omega arith, omega arith))
+    (λ c. record { bounded = omega arith; end = omega arith; whole = omega arith })
     (λ c. omega (arith, record-in c))
     (λ c. omega (arith, record-in c))
     (λ c. omega (arith, record-in c))

@@ -1,11 +1,17 @@
 -- `rules_run::count` is safe and ends. The invariant: no more plans are counted than were tried; the measure: those left to try.
-use Prim.Native.Nat.{_≤_, _-_}
+use Prim.Native.Nat.{ℕ, _≤_, _-_}
 use borrow.Author.Needs.{needs}
 use Rattle.rules_run.proofs.count.Statement.{statement}
 use Rattle.rules_run.proofs.count.Tie as tie
 
+-- n of the first i plans are counted
+record CountSoFar (tried n i : ℕ) : Type 0 where
+  few : n ≤ i
+  bounded : i ≤ tried
+  small : tried ≤ 64_000
+
 abbrev Inv-loop : tie.InvT-loop
-Inv-loop rule level number duration tried n₀ i₀ n i = (n ≤ i) × (i ≤ tried) × (tried ≤ 64_000)
+Inv-loop rule level number duration tried n₀ i₀ n i = CountSoFar tried n i
 
 abbrev μ-loop : tie.MeasureT-loop
 μ-loop rule level number duration tried n₀ i₀ n i = tried - i

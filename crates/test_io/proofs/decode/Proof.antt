@@ -1,15 +1,22 @@
 -- `test_io::decode` is safe and ends. The loop's invariant: the index is at most the length, which stays, and the line is twice as long; the
 -- measure is what is left of it.
-use Prim.Native.Nat.{_≤_, _-_, _*_}
 use mathlib.Core.Path.{_≡_}
+use mathlib.Core.List.{List}
+use Prim.Native.Nat.{ℕ, _≤_, _-_, _*_}
 use native.Mathlib.Omega.{arith}
 use lib.ListN.{length}
 use borrow.Author.Needs.{needs}
 use Rattle.test_io.proofs.decode.Statement.{statement}
 use Rattle.test_io.proofs.decode.Tie as tie
 
+record Decoding (line old new : List ℕ) (i i-end : ℕ) : Type 0 where
+  bounded : i ≤ i-end
+  long : length new ≡ length old
+  end : i-end ≡ length new
+  pairs : 2 * length new ≤ length line
+
 abbrev Inv-loop : tie.InvT-loop
-Inv-loop line bytes₀ i₀ i-end bytes i = (i ≤ i-end) × (length bytes ≡ length bytes₀) × (i-end ≡ length bytes) × (2 * length bytes ≤ length line)
+Inv-loop line bytes₀ i₀ i-end bytes i = Decoding line bytes₀ bytes i i-end
 
 abbrev μ-loop : tie.MeasureT-loop
 μ-loop line bytes₀ i₀ i-end bytes i = i-end - i

@@ -1,15 +1,20 @@
 -- `lent::next_records` is safe and ends. The loop's invariant: the index is at most the count, and the buffer has its length; the measure is what is
 -- left of the count.
-use Prim.Native.Nat.{_≤_, _-_}
 use mathlib.Core.Path.{_≡_}
+use mathlib.Core.List.{List}
+use Prim.Native.Nat.{ℕ, _≤_, _-_}
 use lib.ListN.{length}
 use borrow.Author.Needs.{needs}
 use native.Mathlib.Omega.{arith}
 use Rattle.history_run.proofs.lent.next_records.Statement.{statement}
 use Rattle.history_run.proofs.lent.next_records.Tie as tie
 
+record Filling (n i : ℕ) (bytes : List ℕ) : Type 0 where
+  bounded : i ≤ n
+  long : length bytes ≡ 16576
+
 abbrev Inv-loop : tie.InvT-loop
-Inv-loop n bytes₀ i₀ bytes i = (i ≤ n) × (length bytes ≡ 16576)
+Inv-loop n bytes₀ i₀ bytes i = Filling n i bytes
 
 abbrev μ-loop : tie.MeasureT-loop
 μ-loop n bytes₀ i₀ bytes i = n - i

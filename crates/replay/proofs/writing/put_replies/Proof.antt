@@ -1,20 +1,25 @@
 -- `replay::writing::put_replies` meets its contract. The invariant: the first i places are written; the measure: the places left.
 use mathlib.Core.Path.{_≡_, sym, _∙_}
-use mathlib.Core.List.{map, flatten}
-use Prim.Native.Nat.{_-_, _*_, _+_, _≤_}
+use mathlib.Core.List.{List, map, flatten}
+use Prim.Native.Nat.{ℕ, _-_, _*_, _+_, _≤_}
 use native.Mathlib.Omega.{arith}
 use borrow.Author.Needs.{needs}
 use denote.Ref.{now}
 use lib.ListN.{length, take}
 use Rattle.buffers.proofs.Segments.{Begun, begin, begun-length, within, turn, turned, done}
 use Rattle.replay_model.specs.Record.{replyOf}
+use Rattle.burst.specs.declared.Reply.{Reply}
 use Rattle.burst.specs.Records.{repliedOf}
 use Rattle.replay.proofs.Filling.{cells, cells-length, cell-at}
 use Rattle.replay.proofs.writing.put_replies.Statement.{statement}
 use Rattle.replay.proofs.writing.put_replies.Tie as tie
 
+record Putting (m : ℕ) (replies : List Reply) (i : ℕ) (entry out : List ℕ) : Type 0 where
+  bounded : i ≤ m
+  begun : Begun entry (flatten (take i (cells m replies))) (31 * i) out
+
 abbrev Inv-loop : tie.InvT-loop
-Inv-loop out₀ m replies i₀ out i = (i ≤ m) × Begun out₀ (flatten (take i (cells m replies))) (31 * i) out
+Inv-loop out₀ m replies i₀ out i = Putting m replies i out₀ out
 
 abbrev μ-loop : tie.MeasureT-loop
 μ-loop out₀ m replies i₀ out i = m - i
@@ -34,7 +39,7 @@ room c = omega (arith, start (c .before) .pre .1)
 
 loop-holds : tie.Need-loop-holds Inv-loop μ-loop
 unfolding flatten
-loop-holds c = (omega arith, begin _)
+loop-holds c = record { bounded = omega arith; begun = begin _ }
 
 loop-again : tie.Need-loop-again Inv-loop μ-loop
 loop-again c =
@@ -42,17 +47,19 @@ loop-again c =
     let t = put .before .before .before .before in
     let a = start (t .before) .args in
     let h = places (t .before) in
-    let i = t .before .loop .i in (
-      omega arith,
-      turn (now (a .out)) (cells (a .m) (a .t2)) 31 i _ _ (t .before .loop .inv .1) (omega (arith, cells-length (a .m) (a .t2) h))
-          (put .put-reply .ensures ∙ sym (cell-at (a .m) (a .t2) h i _ (omega arith))) (put .put-reply .kept .0) (room t),
-    )
+    let i = t .before .loop .i in
+    record {
+      bounded = omega arith;
+      begun =
+          turn (now (a .out)) (cells (a .m) (a .t2)) 31 i _ _ (t .before .loop .inv .begun) (omega (arith, cells-length (a .m) (a .t2) h))
+          (put .put-reply .ensures ∙ sym (cell-at (a .m) (a .t2) h i _ (omega arith))) (put .put-reply .kept .0) (room t);
+    }
 
 returns : tie.Need-returns Inv-loop μ-loop
 returns c =
     let a = start (c .before) .args in
     let h = places (c .before) in
-    done (turned (now (a .out)) (cells (a .m) (a .t2)) 31 (a .m) (c .before .loop .i) _ (c .before .loop .inv .1) (omega arith) (cells-length
+    done (turned (now (a .out)) (cells (a .m) (a .t2)) 31 (a .m) (c .before .loop .i) _ (c .before .loop .inv .begun) (omega arith) (cells-length
     (a .m) (a .t2) h))
     (start (c .before) .pre .1)
 
@@ -70,10 +77,10 @@ put-replies-spec =
     (λ c. search needs)
     (λ c. search needs)
     (λ c. search needs)
-    (λ c. within (c .before .before .before .loop .inv .1) _ (room (c .before .before)))
+    (λ c. within (c .before .before .before .loop .inv .begun) _ (room (c .before .before)))
     (λ c κs. search needs)
     (λ c. omega arith)
     (λ c. omega arith)
     loop-again
-    (λ c. begun-length (c .before .loop .inv .1))
+    (λ c. begun-length (c .before .loop .inv .begun))
     returns)
