@@ -35,8 +35,11 @@ pub fn feed(
     tally: &mut [u64; c_report::LINES],
     piece: &[u8],
 ) -> u8
-    ensures { λ r. ⌜ pieces.fed r (addingAt (now (numbers .entry)) (now (lines .entry)) (now (adding .exit)) (now (tally .exit)))
-        ≡ pieces.feedOf (addingAt (now (numbers .entry)) (now (lines .entry)) (now (adding .entry)) (now (tally .entry))) (now (piece .entry)) ⌝ }
+    ensures { λ r. ⌜ pieces.fed r
+        (addingAt (now (numbers .entry)) (now (lines .entry)) (now (adding .exit)) (now (tally .exit)))
+        ≡ pieces.feedOf
+        (addingAt (now (numbers .entry)) (now (lines .entry)) (now (adding .entry)) (now (tally .entry)))
+        (now (piece .entry)) ⌝ }
 {
     let a = adding_in(numbers, lines, adding, tally);
     let fed = a.feed(piece);
@@ -54,7 +57,8 @@ pub fn end(
     position: &mut usize,
 ) -> u8
     ensures { λ r. ⌜ model.answer r (now (position .exit)) (reportAt (now (numbers .exit)) (now (lines .exit)))
-        ≡ pieces.endedOf (addingAt (now (numbers .entry)) (now (lines .entry)) (now (adding .entry)) (now (tally .entry))) ⌝ }
+        ≡ pieces.endedOf
+        (addingAt (now (numbers .entry)) (now (lines .entry)) (now (adding .entry)) (now (tally .entry))) ⌝ }
 {
     let a = adding_in(numbers, lines, adding, tally);
     let added = a.end();
@@ -70,7 +74,8 @@ fn adding_in(
     adding: &[u64; NUMBERS],
     tally: &[u64; c_report::LINES],
 ) -> Adding
-    ensures { λ r. ⌜ addingOf r ≡ addingAt (now (numbers .entry)) (now (lines .entry)) (now (adding .entry)) (now (tally .entry)) ⌝ }
+    ensures { λ r. ⌜ addingOf r
+        ≡ addingAt (now (numbers .entry)) (now (lines .entry)) (now (adding .entry)) (now (tally .entry)) ⌝ }
 {
     Adding {
         before: c_report::report_in(numbers, lines),

@@ -6,11 +6,9 @@ use report::Looked;
 use report::Report;
 use report::Share;
 ghost use mathlib.Core.Path.{_≡_};
-ghost use mathlib.Core.List.{List};
-ghost use Prim.Native.Nat.{ℕ};
 ghost use Rattle.report_model.specs.Report as model;
-ghost use Rattle.report.specs.Report.{reportOf, outcomeNumber, outcomePosition, lookedNumber, shareResult};
-ghost use Rattle.c_report.specs.Calls.{reportAt, lineNumbers, lineCall};
+ghost use Rattle.report.specs.Report.{reportOf, outcomeNumber, outcomePosition, lookedNumber};
+ghost use Rattle.c_report.specs.Calls.{reportAt, lineCall};
 
 // How many archives were added, how many lines there are, KEPT rows, LOOSE rows.
 pub const NUMBERS: usize = 4;
@@ -50,7 +48,8 @@ pub fn line(
     i: usize,
     line: &mut [u64; LINE_NUMBERS],
 ) -> u8
-    ensures { λ r. ⌜ record { number = r; values = now (line .exit) } ≡ lineCall (reportAt (now (numbers .entry)) (now (lines .entry))) i ⌝ }
+    ensures { λ r. ⌜ record { number = r; values = now (line .exit) }
+        ≡ lineCall (reportAt (now (numbers .entry)) (now (lines .entry))) i ⌝ }
 {
     let found = report_in(numbers, lines).line(i);
     *line = [
@@ -71,7 +70,8 @@ pub fn share(
     received: u64,
     thousandths: &mut u64,
 ) -> u8
-    ensures { λ r. ⌜ record { number = r; thousandths = now (thousandths .exit) } ≡ model.shareOf (reportAt (now (numbers .entry)) (now (lines .entry))) received ⌝ }
+    ensures { λ r. ⌜ record { number = r; thousandths = now (thousandths .exit) }
+        ≡ model.shareOf (reportAt (now (numbers .entry)) (now (lines .entry))) received ⌝ }
 {
     let share = report_in(numbers, lines).share(received);
     match share {
