@@ -4,7 +4,7 @@ use native.Mathlib.Omega.{arith}
 use mathlib.Core.Path.{_≡_, refl, sym, ap, ap₂, _∙_}
 use mathlib.Core.Bool.{Bool, true, false, cond, not}
 use mathlib.Core.List.{List, _++_, append-assoc}
-use lib.Dec.{eqb}
+use lib.Dec.{leb, eqb}
 use lib.ListN.{length, take, drop, take-append-drop}
 use lib.Seq.{drop-drop}
 use borrow.Author.Tests.{eqb-true, leb-true, eq-eqb, ne-eqb, lt-ltb, le-ltb, le-leb, lt-leb}
@@ -19,43 +19,51 @@ use Rattle.layout.specs.Block.{cellsPerBlock, blockLength}
 use Rattle.buffers.proofs.Segments.{part-length}
 use Rattle.archive_model.specs.Row.{Row}
 use Rattle.archive_model.specs.Buffer.{Found, At, None, maxBlocks, maxRows, isWhole, blocksIn, rowsIn, mismatch, Scan, scanBlocks}
-use Rattle.archive_model.specs.Append.{Opening, Appended, Feeding, refusedAppend, stored, found, verdict, openOf, isNext, blockAt, putRow, putRowOf, appendOf, appendAtOf, feedOf, rowAtOf}
+use Rattle.archive_model.specs.Append.{Opening, Appended, Feeding, refusedAppend, stored, found, verdict, openOf, isNext, blockAt, putRow, putRowOf, appendOf, appendAtOf, isScan, feedOf, rowAtOf}
 use Rattle.archive_model.proofs.Cursor.{cursor}
 use Rattle.archive.specs.declared.Opened.the-variants as opened
 use Rattle.archive.specs.declared.Outcome.{Outcome}
 use Rattle.archive.specs.declared.Outcome.the-variants.{Done, Damaged, Refused}
-use Rattle.archive.specs.Archive.{openResult, appendResult, openFound, noRowFor, rowInBlock}
+use Rattle.archive.specs.Archive.{openResult, appendResult, openFound}
+use Rattle.archive.specs.Private.{noRowFor, rowInBlock}
 
 -- ---- a piece
+
+pub scan-many : (s : Scan) → maxBlocks < s .blocks → false ≡ isScan s
+scan-many s h = rw (lt-leb (s .blocks) maxBlocks h)
+
+pub scan-dense : (s : Scan) → s .blocks ≤ maxBlocks → leb (s .rows) (cellsPerBlock * s .blocks) ≡ isScan s
+scan-dense s h = rw (le-leb (s .blocks) maxBlocks h)
+
+pub scan-facts : (s : Scan) → isScan s ≡ true → (s .blocks ≤ maxBlocks) × (s .rows ≤ cellsPerBlock * s .blocks)
+scan-facts s h =
+    let b = both (leb (s .blocks) maxBlocks) _ h in
+    (leb-true (s .blocks) maxBlocks (b .0), leb-true (s .rows) (cellsPerBlock * s .blocks) (b .1))
 
 module _ (s : Scan) (piece : List ℕ) where
   abbrev kept : Refusal → Feeding
   kept why = record { number = numberOf why; next = s }
 
-  pub feed-blocks : maxBlocks < s .blocks → kept NotAccepted ≡ feedOf s piece
+  pub feed-not : isScan s ≡ false → kept NotAccepted ≡ feedOf s piece
   unfolding feedOf
-  feed-blocks h = rw (lt-leb (s .blocks) maxBlocks h)
+  feed-not h = rw h
 
-  module _ (low : s .blocks ≤ maxBlocks) where
-    pub feed-rows : cellsPerBlock * s .blocks < s .rows → kept NotAccepted ≡ feedOf s piece
+  module _ (yes : isScan s ≡ true) where
+    pub feed-odd : (length piece % blockLength ≡ 0 → ⊥) → kept Size ≡ feedOf s piece
     unfolding feedOf
-    feed-rows h = rw (le-leb (s .blocks) maxBlocks low, lt-leb (s .rows) (cellsPerBlock * s .blocks) h)
+    feed-odd h = rw (yes, ne-eqb (length piece % blockLength) 0 h)
 
-    module _ (few : s .rows ≤ cellsPerBlock * s .blocks) where
-      pub feed-odd : (length piece % blockLength ≡ 0 → ⊥) → kept Size ≡ feedOf s piece
+    module _ (whole : length piece % blockLength ≡ 0) where
+      pub feed-many : maxBlocks < s .blocks + length piece / blockLength → kept Size ≡ feedOf s piece
       unfolding feedOf
-      feed-odd h = rw (le-leb (s .blocks) maxBlocks low, le-leb (s .rows) (cellsPerBlock * s .blocks) few, ne-eqb (length piece % blockLength) 0 h)
+      feed-many h =
+          rw (yes, eq-eqb (length piece % blockLength) 0 whole, lt-leb (s .blocks + length piece / blockLength) maxBlocks h)
 
-      module _ (whole : length piece % blockLength ≡ 0) where
-        pub feed-many : maxBlocks < s .blocks + length piece / blockLength → kept Size ≡ feedOf s piece
-        unfolding feedOf
-        feed-many h =
-            rw (le-leb (s .blocks) maxBlocks low, le-leb (s .rows) (cellsPerBlock * s .blocks) few, eq-eqb (length piece % blockLength) 0 whole, lt-leb (s .blocks + length piece / blockLength) maxBlocks h)
-
-        pub feed-done : s .blocks + length piece / blockLength ≤ maxBlocks → (next : Scan) → next ≡ scanBlocks s (blocksIn piece) → record { number = 0; next = next } ≡ feedOf s piece
-        unfolding feedOf
-        feed-done h next e =
-            rw (le-leb (s .blocks) maxBlocks low, le-leb (s .rows) (cellsPerBlock * s .blocks) few, eq-eqb (length piece % blockLength) 0 whole, le-leb (s .blocks + length piece / blockLength) maxBlocks h, e)
+      pub feed-done : s .blocks + length piece / blockLength ≤ maxBlocks → (next : Scan) → next ≡ scanBlocks s (blocksIn piece)
+          → record { number = 0; next = next } ≡ feedOf s piece
+      unfolding feedOf
+      feed-done h next e =
+          rw (yes, eq-eqb (length piece % blockLength) 0 whole, le-leb (s .blocks + length piece / blockLength) maxBlocks h, e)
 
 -- ---- a buffer
 

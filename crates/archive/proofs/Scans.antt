@@ -2,13 +2,13 @@
 --     sound-le, blank-none                                    the rows of a block: at most 15, and none in an all-zero one
 --     stage-wrong, stage-number, stage-short, stage-full      what a block makes of the stage where all before it are full
 --     scanned-blank, scanned                                  one block more
---     blocks-next, rest-first, rest-next, rest-none           the loop over the blocks: a turn's count; its start, a turn, its end
+--     blocksFrom, blocks-next, rest-first, rest-next, rest-none   the loop over the blocks: those left; a turn's count; its start, a turn, its end
 use Prim.Native.Nat.{ℕ, suc, _+_, _-_, _*_, _/_, _≤_, _<_}
 use native.Mathlib.Numerals.{add-one}
 use native.Mathlib.Omega.{arith}
 use mathlib.Core.Path.{_≡_, refl, ap}
 use mathlib.Core.Bool.{true, false}
-use mathlib.Core.List.{List}
+use mathlib.Core.List.{List, map}
 use lib.Dec.{leb}
 use lib.ListN.{length}
 use borrow.Author.Tests.{eq-eqb, ne-eqb, lt-ltb, le-ltb, leb-true}
@@ -20,7 +20,7 @@ use Rattle.layout.specs.Block.{cellsPerBlock, blockLength}
 use Rattle.archive_model.specs.Row.{blockNumber, rowCount, isSound, isBlank}
 use Rattle.archive_model.specs.Buffer.{blocksIn, Stage, Filling, Short, Wrong, Scan, stageAfter, stageBlank, scanBlock, scanBlocks}
 use Rattle.archive_model.proofs.Buffers.{blank-count}
-use Rattle.archive.specs.Archive.{soundRows, blocksFrom}
+use Rattle.archive.specs.Archive.{soundRows}
 
 module _ (block : List ℕ) where
   -- a sound block has a row, and at most 15
@@ -78,6 +78,10 @@ module _ (block : List ℕ) where
     scanned h e used u = rw (h, e, u)
 
 -- ---- the loop
+
+-- n blocks of a piece from block a on
+unfoldable pub blocksFrom : List ℕ → ℕ → ℕ → List (List ℕ)
+blocksFrom piece a n = map (λ k. part (blockLength * k) blockLength piece) (upFrom a n)
 
 pub blocks-next : (r s : Scan) (block : List ℕ) → r ≡ scanBlock s block → r .blocks ≡ s .blocks + 1
 unfolding scanBlock

@@ -35,7 +35,8 @@ use Rattle.archive_model.proofs.Blocks.{header-length, head-part, last-lt, each
 use Rattle.archive_model.proofs.Buffers.{map-same, pieces}
 use Rattle.archive_model.proofs.Pieces.{rows-count}
 use Rattle.archive_model.proofs.Exact.{sound-is, sound-few, sound-shorts, sound-long, tests, valid-at, row-is, cell-is, zeros}
-use Rattle.archive.specs.Archive.{soundRows, isWritten, cellsFrom}
+use Rattle.archive.specs.Archive.{soundRows}
+use Rattle.archive.specs.Private.{isWritten, cellsFrom}
 use Rattle.archive.proofs.Cells.{bytes-shown, long-row, used-is}
 
 not-equal : (xs ys : List ℕ) → (xs ≡ ys → ⊥) → equal xs ys ≡ false

@@ -1,19 +1,13 @@
 -- What the calls over an archive show (document 02, A2).
-use Prim.Native.Nat.{ℕ, _-_, _*_}
-use mathlib.Core.Path.{_≡_}
-use mathlib.Core.Bool.{Bool, cond, not, _&&_}
-use mathlib.Core.List.{List, map}
-use lib.Dec.{ltb}
-use Rattle.lists.specs.Lists.{equal, upFrom}
+use Prim.Native.Nat.{ℕ}
+use mathlib.Core.Bool.{Bool, cond}
+use mathlib.Core.List.{List}
 use Rattle.refusal.specs.Number.{numberOf}
-use Rattle.refusal.specs.declared.Refusal.{Refusal}
-use Rattle.refusal.specs.declared.Refusal.the-variants.{ShortOutput, Argument, Mismatch}
-use Rattle.erp1.specs.Subtelegram.{checkOf, isValid}
-use Rattle.buffers.specs.Buffer.{part, resized}
-use Rattle.layout.specs.Block.{blockLength, blockCell}
-use Rattle.archive_model.specs.Row.{Row, rowCell, rowIn, rowCount, isRow, isSound}
+use Rattle.refusal.specs.declared.Refusal.the-variants.{Mismatch}
+use Rattle.buffers.specs.Buffer.{resized}
+use Rattle.archive_model.specs.Row.{Row, rowCount, isSound}
 use Rattle.archive_model.specs.Buffer as buffer
-use Rattle.archive_model.specs.Append.{Opening, Appended, Feeding, ReadRow, refusedAppend, noRow}
+use Rattle.archive_model.specs.Append.{Opening, Appended, Feeding, ReadRow}
 use Rattle.archive.specs.declared.Opened.{Opened}
 use Rattle.archive.specs.declared.Opened.the-variants as opened
 use Rattle.archive.specs.declared.Outcome.{Outcome}
@@ -49,7 +43,10 @@ foundNumber (found.Refused why) = numberOf why
 
 -- as many bytes as the length says
 unfoldable pub readResult : RowAt → ReadRow
-readResult r = record { number = foundNumber (r .answer); row = rowOf (resized (r .len) (r .bytes)) (r .time) (r .loose) }
+readResult r = record {
+  number = foundNumber (r .answer);
+  row = rowOf (resized (r .len) (r .bytes)) (r .time) (r .loose);
+}
 
 -- ---- a block by itself, and a scan
 
@@ -66,44 +63,14 @@ stageOf (stage.Wrong k) = buffer.Wrong k
 abbrev pub scanOf : Scan → buffer.Scan
 scanOf s = record { blocks = s .blocks; rows = s .rows; stage = stageOf (s .stage) }
 
+-- what a scan of all blocks says
+abbrev pub openFound : buffer.Found → ℕ → Opening
+openFound (buffer.At k) n = record { number = numberOf Mismatch; position = k; rows = 0 }
+openFound buffer.None n = record { number = 0; position = 0; rows = n }
+
 abbrev pub takenNumber : Taken → ℕ
 takenNumber taken.Done = 0
 takenNumber (taken.Refused why) = numberOf why
 
 abbrev pub feedResult : Fed → Feeding
 feedResult r = record { number = takenNumber (r .answer); next = scanOf (r .next) }
-
--- ---- what private functions say
-
--- a scan that is refused
-abbrev pub keptWith : Scan → Refusal → Feeding
-keptWith s why = record { number = numberOf why; next = scanOf s }
-
--- what a scan of all blocks says
-abbrev pub openFound : buffer.Found → ℕ → Opening
-openFound (buffer.At k) n = record { number = numberOf Mismatch; position = k; rows = 0 }
-openFound buffer.None n = record { number = 0; position = 0; rows = n }
-
--- n blocks of a piece from block a on
-unfoldable pub blocksFrom : List ℕ → ℕ → ℕ → List (List ℕ)
-blocksFrom piece a n = map (λ k. part (blockLength * k) blockLength piece) (upFrom a n)
-
--- a row that has no block: the check's, then 6
-abbrev pub NoBlock : List ℕ → Outcome → Type 0
-NoBlock bytes r = (old : List ℕ) → appendResult r old ≡ cond (not (isValid bytes)) (refusedAppend (checkOf bytes) 0 old) (refusedAppend (numberOf ShortOutput) 0 old)
-
--- no row, and why
-abbrev pub noRowFor : Refusal → ReadRow
-noRowFor why = record { number = numberOf why; row = noRow }
-
--- row i of a block, where it has one
-abbrev pub rowInBlock : List ℕ → ℕ → ReadRow
-rowInBlock block i = cond (ltb i (rowCount block)) (record { number = 0; row = rowIn (blockCell i block) }) (noRowFor Argument)
-
--- a cell that is byte for byte what is written of the row that it says, which is valid
-abbrev pub isWritten : List ℕ → Bool
-isWritten cell = isRow (rowIn cell) && equal (rowCell (rowIn cell)) cell
-
--- n cells from cell a of a block on
-unfoldable pub cellsFrom : List ℕ → ℕ → ℕ → List (List ℕ)
-cellsFrom block a n = map (λ i. blockCell i block) (upFrom a n)

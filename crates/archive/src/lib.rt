@@ -17,7 +17,8 @@ ghost use Rattle.layout.specs.Block.{headerLength, cellsPerBlock, blockLength, 
 ghost use Rattle.archive_model.specs.Row.{rowLast, rowsHeader, blockNumber, rowIn, isRow};
 ghost use Rattle.archive_model.specs.Buffer as buffer;
 ghost use Rattle.archive_model.specs.Append as calls;
-ghost use Rattle.archive.specs.Archive.{openResult, appendResult, rowOf, readResult, stageOf, scanOf, feedResult, isWritten, cellsFrom, soundRows, keptWith, openFound, NoBlock, rowInBlock, noRowFor};
+ghost use Rattle.archive.specs.Archive.{openResult, appendResult, rowOf, readResult, soundRows, stageOf, scanOf, openFound, feedResult};
+ghost use Rattle.archive.specs.Private.{keptWith, NoBlock, noRowFor, rowInBlock, isWritten, cellsFrom};
 
 // The most blocks of an archive, and the most rows.
 pub const MAX_BLOCKS: usize = 4294967296;
@@ -231,14 +232,10 @@ impl Scan {
     pub fn feed(self, blocks: &[u8]) -> Fed
         ensures { λ r. ⌜ feedResult r ≡ calls.feedOf (scanOf self) (now (blocks .entry)) ⌝ }
     {
+        if !is_scan(self) {
+            return kept(self, Refusal::NotAccepted);
+        }
         let passed = self.blocks;
-        let rows = self.rows;
-        if MAX_BLOCKS < passed {
-            return kept(self, Refusal::NotAccepted);
-        }
-        if CELLS_PER_BLOCK * passed < rows {
-            return kept(self, Refusal::NotAccepted);
-        }
         if blocks.len() % BLOCK_LENGTH != 0 {
             return kept(self, Refusal::Size);
         }
@@ -250,6 +247,17 @@ impl Scan {
             answer: Taken::Done,
         }
     }
+}
+
+// Whether some blocks give this scan, as far as its numbers tell: at most 2^32 blocks, and at most 15 rows a block.
+pub fn is_scan(s: Scan) -> bool
+    ensures { λ r. ⌜ r ≡ calls.isScan (scanOf s) ⌝ }
+{
+    let blocks = s.blocks;
+    if MAX_BLOCKS < blocks {
+        return false;
+    }
+    s.rows <= CELLS_PER_BLOCK * blocks
 }
 
 // The scan stays as it was.
@@ -264,7 +272,8 @@ fn kept(s: Scan, why: Refusal) -> Fed
 
 // Every whole block of a piece.
 fn scan_blocks(s: Scan, piece: &[u8]) -> Scan
-    requires { ⌜ (s .blocks + length (now piece) / blockLength ≤ buffer.maxBlocks) × (s .rows ≤ cellsPerBlock * s .blocks) ⌝ }
+    requires { ⌜ (s .blocks + length (now piece) / blockLength ≤ buffer.maxBlocks)
+        × (s .rows ≤ cellsPerBlock * s .blocks) ⌝ }
     ensures { λ r. ⌜ scanOf r ≡ buffer.scanBlocks (scanOf s) (buffer.blocksIn (now (piece .entry))) ⌝ }
 {
     let mut at = s;
@@ -279,8 +288,10 @@ fn scan_blocks(s: Scan, piece: &[u8]) -> Scan
 
 // One block more.
 fn scan_block(s: Scan, block: &[u8]) -> Scan
-    requires { ⌜ (length (now block) ≡ blockLength) × (s .blocks < buffer.maxBlocks) × (s .rows ≤ cellsPerBlock * s .blocks) ⌝ }
-    ensures { λ r. ⌜ (scanOf r ≡ buffer.scanBlock (scanOf s) (now (block .entry))) × (r .rows ≤ cellsPerBlock * r .blocks) ⌝ }
+    requires { ⌜ (length (now block) ≡ blockLength) × (s .blocks < buffer.maxBlocks)
+        × (s .rows ≤ cellsPerBlock * s .blocks) ⌝ }
+    ensures { λ r. ⌜ (scanOf r ≡ buffer.scanBlock (scanOf s) (now (block .entry)))
+        × (r .rows ≤ cellsPerBlock * r .blocks) ⌝ }
 {
     let k = s.blocks;
     let stage = s.stage;
@@ -403,7 +414,8 @@ fn is_next(block: &[u8], n: usize) -> bool
 // Row `n` into the 512 bytes of its block, for a caller that holds that block alone. Refused: 16 for another length or an n that no archive has
 // (15 times 2^32 and more), 12 at n / 15, the check's; then the block is as it was.
 pub fn put_row(block: &mut [u8], n: usize, bytes: &[u8], time: u64, loose: bool) -> Outcome
-    ensures { λ r. ⌜ appendResult r (now (block .exit)) ≡ calls.putRowOf (now (block .entry)) n (rowOf (now (bytes .entry)) time loose) ⌝ }
+    ensures { λ r. ⌜ appendResult r (now (block .exit))
+        ≡ calls.putRowOf (now (block .entry)) n (rowOf (now (bytes .entry)) time loose) ⌝ }
 {
     if block.len() != BLOCK_LENGTH {
         return Outcome::Refused(Refusal::Size);
@@ -446,7 +458,8 @@ fn write_row(block: &mut [u8], n: usize, bytes: &[u8], time: u64, loose: bool)
 // Appends a row to an archive of `n` rows, as `open` said: one block is looked at and written. Refused: 16, 12 with the position n / 15, the
 // check's, 6; then the buffer is as it was.
 pub fn append_at(buffer: &mut [u8], n: usize, bytes: &[u8], time: u64, loose: bool) -> Outcome
-    ensures { λ r. ⌜ appendResult r (now (buffer .exit)) ≡ calls.appendAtOf (now (buffer .entry)) n (rowOf (now (bytes .entry)) time loose) ⌝ }
+    ensures { λ r. ⌜ appendResult r (now (buffer .exit))
+        ≡ calls.appendAtOf (now (buffer .entry)) n (rowOf (now (bytes .entry)) time loose) ⌝ }
 {
     if !is_whole(buffer.len()) {
         return Outcome::Refused(Refusal::Size);
@@ -530,7 +543,8 @@ fn no_row(why: Refusal) -> RowAt
 
 // Appends a row. Refused: 16, 12 with the position, the check's, 6; then the buffer is as it was.
 pub fn append(buffer: &mut [u8], bytes: &[u8], time: u64, loose: bool) -> Outcome
-    ensures { λ r. ⌜ appendResult r (now (buffer .exit)) ≡ calls.appendOf (now (buffer .entry)) (rowOf (now (bytes .entry)) time loose) ⌝ }
+    ensures { λ r. ⌜ appendResult r (now (buffer .exit))
+        ≡ calls.appendOf (now (buffer .entry)) (rowOf (now (bytes .entry)) time loose) ⌝ }
 {
     let rows = open(buffer);
     match rows {

@@ -30,7 +30,7 @@ use Rattle.archive_model.specs.Row.{Row, rowLast, rowCell, rowsBlock, bl
 use Rattle.archive_model.specs.Buffer.{At, None, blocksFor, rowsAt, archiveOf, bufferOf, blocksIn, rowsIn, nonZero, isShort, isFollowed, mismatchFrom, mismatch}
 use Rattle.archive_model.proofs.Blocks.{Fits, Shorts, noRow, written-length, written-cell}
 use Rattle.archive_model.proofs.Buffers.{map-same, pieces, blank, blank-is, none-flat}
-use Rattle.archive_model.proofs.Pieces.{rows-count, at-none}
+use Rattle.archive_model.proofs.Pieces.{blocks-count, rows-count, at-none}
 
 -- ---- one sound block
 
@@ -265,14 +265,13 @@ module _ (buffer : List ℕ) (m : ℕ) (long : length buffer ≡ blockLength * m
   abbrev at : ℕ → List ℕ
   at k = part (blockLength * k) blockLength buffer
 
-  pub blocks-count : length (blocksIn buffer) ≡ m
-  unfolding blocksIn
-  blocks-count = length-map (upFrom 0 (length buffer / blockLength)) at ∙ length-upFrom 0 (length buffer / blockLength) ∙ count
+  m-blocks : length (blocksIn buffer) ≡ m
+  m-blocks = blocks-count buffer ∙ count
 
   each : Each blockLength (blocksIn buffer)
   unfolding blocksIn
   each i h =
-      let l : i < m = omega (arith, blocks-count) in
+      let l : i < m = omega (arith, m-blocks) in
       ap length (getD-upFrom at 0 (length buffer / blockLength) i [] (omega (arith, count)) ∙ ap at (zero-add i)) ∙ part-length (blockLength * i) blockLength buffer (omega arith)
 
   pub blocks-flat : flatten (blocksIn buffer) ≡ buffer
@@ -287,7 +286,7 @@ module _ (buffer : List ℕ) (m : ℕ) (long : length buffer ≡ blockLength * m
     pub exact : bufferOf (blockLength * m) (rowsIn buffer) ≡ buffer
     unfolding bufferOf rowsIn
     exact =
-        ap₂ padded (ap (λ (n : ℕ). blockLength * n) (sym blocks-count)) (sym (archive-from (flatten (map rowsOf (blocksIn buffer))))) ∙ sym (shape-written is-shape) ∙ blocks-flat
+        ap₂ padded (ap (λ (n : ℕ). blockLength * n) (sym m-blocks)) (sym (archive-from (flatten (map rowsOf (blocksIn buffer))))) ∙ sym (shape-written is-shape) ∙ blocks-flat
 
     pub exact-fits : Fits (rowsIn buffer)
     unfolding rowsIn
@@ -295,4 +294,4 @@ module _ (buffer : List ℕ) (m : ℕ) (long : length buffer ≡ blockLength * m
 
     pub exact-few : length (rowsIn buffer) ≤ cellsPerBlock * m
     unfolding rowsIn
-    exact-few = omega (arith, shape-few is-shape, blocks-count)
+    exact-few = omega (arith, shape-few is-shape, m-blocks)

@@ -1,23 +1,60 @@
 -- A scan goes through blocks in pieces, and finds what the definition of the first mismatch says.
+--     blocks-count, pieces-blocks     how many blocks a buffer has; those of two pieces
 --     scan-append     the blocks of two pieces, one after the other
 --     scan-found      what is found from the start is the first mismatch
 --     scan-rows       and where there is none, the rows are those of all blocks
-use Prim.Native.Nat.{ℕ, suc, _+_, _-_}
-use native.Mathlib.Nat.{zero-add}
+use Prim.Native.Nat.{ℕ, suc, _+_, _-_, _*_, _/_, _%_}
+use native.Mathlib.Nat.{zero-add, add-zero}
 use native.Mathlib.Numerals.{add-one}
 use native.Mathlib.Omega.{arith}
-use mathlib.Core.Path.{_≡_, refl, sym, ap, _∙_}
+use mathlib.Core.Path.{_≡_, refl, sym, ap, ap₂, _∙_}
 use mathlib.Core.Bool.{Bool, true, false, cond, _&&_}
-use mathlib.Core.List.{List, [], _∷_, _++_, map, flatten}
+use mathlib.Core.List.{List, [], _∷_, _++_, map, flatten, map-append}
 use lib.Dec.{eqb}
 use lib.ListN.{length, length-append, length-map}
 use Rattle.lists.specs.Lists.{upFrom}
 use Rattle.lists.proofs.Tests.{by-test}
-use Rattle.lists.proofs.UpFrom.{length-upFrom}
-use Rattle.layout.specs.Block.{blockCell}
+use Rattle.lists.proofs.UpFrom.{upFrom-add, length-upFrom, map-shift}
+use Rattle.buffers.specs.Buffer.{part}
+use Rattle.buffers.proofs.Segments.{left, right}
+use Rattle.layout.specs.Block.{blockLength, blockCell}
 use Rattle.archive_model.specs.Row.{blockNumber, rowCount, rowIn, rowsOf, isSound, isBlank}
 use Rattle.archive_model.specs.Buffer.{At, None, blocksIn, rowsIn, nonZero, isShort, isFollowed, mismatchFrom, mismatch, Stage, Filling, Short, Ended, Wrong, Scan, startScan, stageAfter, stageBlank, scanBlock, scanBlocks, stageFound}
-use Rattle.archive_model.proofs.Buffers.{blank-count}
+use Rattle.archive_model.proofs.Buffers.{map-same, blank-count}
+
+-- ---- the blocks of a buffer, and of two pieces
+
+pub blocks-count : (buffer : List ℕ) → length (blocksIn buffer) ≡ length buffer / blockLength
+unfolding blocksIn
+blocks-count buffer =
+    let n = length buffer / blockLength in
+    length-map (upFrom 0 n) (λ k. part (blockLength * k) blockLength buffer) ∙ length-upFrom 0 n
+
+module _ (xs ys : List ℕ) (e : length xs % blockLength ≡ 0) where
+  abbrev n : ℕ
+  n = length xs / blockLength
+
+  abbrev m : ℕ
+  m = length ys / blockLength
+
+  abbrev at : ℕ → List ℕ
+  at k = part (blockLength * k) blockLength (xs ++ ys)
+
+  pub pieces-blocks : blocksIn (xs ++ ys) ≡ blocksIn xs ++ blocksIn ys
+  unfolding blocksIn
+  pieces-blocks =
+      let count : length (xs ++ ys) / blockLength ≡ n + m = omega (arith, length-append xs ys) in
+      ap (λ (c : ℕ). map at (upFrom 0 c)) count
+      ∙ ap (map at) (upFrom-add 0 n m ∙ ap (λ (c : ℕ). upFrom 0 n ++ upFrom c m) (zero-add n ∙ sym (add-zero n))) ∙ map-append at (upFrom 0 n) (upFrom (n + 0) m)
+      ∙ ap₂ _++_
+      (map-same at (λ k. part (blockLength * k) blockLength xs) 0 n (λ k l h. left xs ys (length xs) (blockLength * k) blockLength refl (omega arith)))
+      (map-shift at n 0 m
+      ∙ map-same (λ k. at (n + k)) (λ k. part (blockLength * k) blockLength ys) 0 m
+      (λ k l h.
+      let d : blockLength * (n + k) ≡ length xs + blockLength * k = omega arith in
+      ap (λ (a : ℕ). part a blockLength (xs ++ ys)) d ∙ right xs ys (length xs) (blockLength * k) blockLength refl))
+
+-- ---- a scan of two lists of blocks
 
 pub scan-append : (s : Scan) (xs ys : List (List ℕ)) → scanBlocks s (xs ++ ys) ≡ scanBlocks (scanBlocks s xs) ys
 unfolding scanBlocks

@@ -23,7 +23,8 @@ found (At k) = record { number = numberOf Mismatch; position = k }
 found None = record { number = 0; position = 0 }
 
 unfoldable pub verdict : List ℕ → Verdict
-verdict buffer = cond (not (isWhole (length buffer))) (record { number = numberOf Size; position = 0 }) (found (mismatch buffer))
+verdict buffer =
+    cond (not (isWhole (length buffer))) (record { number = numberOf Size; position = 0 }) (found (mismatch buffer))
 
 -- how many rows it has, beside 0
 pub record Opening : Type 0 where
@@ -61,7 +62,8 @@ stored buffer = record { number = 0; position = 0; buffer = buffer }
 
 unfoldable pub appendOf : List ℕ → Row → Appended
 appendOf buffer r =
-    cond (not (eqb (verdict buffer .number) 0)) (refusedAppend (verdict buffer .number) (verdict buffer .position) buffer)
+    cond (not (eqb (verdict buffer .number) 0))
+    (refusedAppend (verdict buffer .number) (verdict buffer .position) buffer)
     (cond (not (eqb (rowNumber buffer r) 0)) (refusedAppend (rowNumber buffer r) 0 buffer)
     (stored (bufferOf (length buffer) (rowsIn buffer ++ (r ∷ [])))))
 
@@ -77,7 +79,8 @@ putRow n r block =
     (rowsHeader (n / cellsPerBlock) (n % cellsPerBlock + 1)
     ++ part headerLength (cellLength * (n % cellsPerBlock)) block
     ++ rowCell r
-    ++ part (headerLength + cellLength * (n % cellsPerBlock + 1)) (bodyLength - (headerLength + cellLength * (n % cellsPerBlock + 1))) block)
+    ++ part (headerLength + cellLength * (n % cellsPerBlock + 1))
+    (bodyLength - (headerLength + cellLength * (n % cellsPerBlock + 1))) block)
 
 -- a block's first five bytes say that row n is the next
 abbrev pub isNext : ℕ → List ℕ → Bool
@@ -100,7 +103,8 @@ isInside n buffer = ltb (n / cellsPerBlock) (length buffer / blockLength)
 unfoldable pub appendAtOf : List ℕ → ℕ → Row → Appended
 appendAtOf buffer n r =
     cond (not (isWhole (length buffer))) (refusedAppend (numberOf Size) 0 buffer)
-    (cond (isInside n buffer && not (isNext n (blockAt (n / cellsPerBlock) buffer))) (refusedAppend (numberOf Mismatch) (n / cellsPerBlock) buffer)
+    (cond (isInside n buffer && not (isNext n (blockAt (n / cellsPerBlock) buffer)))
+    (refusedAppend (numberOf Mismatch) (n / cellsPerBlock) buffer)
     (cond (not (isValid (r .bytes))) (refusedAppend (checkOf (r .bytes)) 0 buffer)
     (cond (not (isInside n buffer)) (refusedAppend (numberOf ShortOutput) 0 buffer)
     (stored
@@ -122,7 +126,8 @@ pub record Feeding : Type 0 where
 unfoldable pub feedOf : Scan → List ℕ → Feeding
 feedOf s piece =
     cond (not (isScan s)) (record { number = numberOf NotAccepted; next = s })
-    (cond (not (eqb (length piece % blockLength) 0 && leb (s .blocks + length piece / blockLength) maxBlocks)) (record { number = numberOf Size; next = s })
+    (cond (not (eqb (length piece % blockLength) 0 && leb (s .blocks + length piece / blockLength) maxBlocks))
+    (record { number = numberOf Size; next = s })
     (record { number = 0; next = scanBlocks s (blocksIn piece) }))
 
 -- ---- row i as it stands

@@ -62,7 +62,9 @@ ReadBack =
 
 -- Exact: an archive is just what is written of its rows.
 abbrev pub Exact : Type 0
-Exact = (buffer : List ℕ) → verdict buffer .number ≡ 0 → (bufferOf (length buffer) (rowsIn buffer) ≡ buffer) × (all isFit (rowsIn buffer) ≡ true)
+Exact =
+    (buffer : List ℕ) → verdict buffer .number ≡ 0
+    → (bufferOf (length buffer) (rowsIn buffer) ≡ buffer) × (all isFit (rowsIn buffer) ≡ true)
 
 -- ---- appends, one after the other
 
@@ -73,13 +75,16 @@ after buffer (r ∷ rows) = after (appendOf buffer r .buffer) rows
 
 abbrev pub accepted : List ℕ → List Row → List Row
 accepted buffer [] = []
-accepted buffer (r ∷ rows) = cond (eqb (appendOf buffer r .number) 0) (r ∷ accepted (appendOf buffer r .buffer) rows) (accepted (appendOf buffer r .buffer) rows)
+accepted buffer (r ∷ rows) =
+    cond (eqb (appendOf buffer r .number) 0) (r ∷ accepted (appendOf buffer r .buffer) rows)
+    (accepted (appendOf buffer r .buffer) rows)
 
 -- The whole run: "Reading back gives exactly the rows appended, in order."
 abbrev pub Run : Type 0
 Run =
     (m : ℕ) (rows : List Row) → m ≤ 2 ^ 32 → all (λ r. ltb (r .time) (2 ^ 64)) rows ≡ true
-    → (verdict (after (replicate (512 * m) 0) rows) .number ≡ 0) × (rowsIn (after (replicate (512 * m) 0) rows) ≡ accepted (replicate (512 * m) 0) rows)
+    → (verdict (after (replicate (512 * m) 0) rows) .number ≡ 0)
+    × (rowsIn (after (replicate (512 * m) 0) rows) ≡ accepted (replicate (512 * m) 0) rows)
 
 -- At the cursor: an append that looks at one block is an append, and the rows say where the next one goes.
 abbrev pub AtCursor : Type 0
@@ -93,11 +98,13 @@ abbrev pub Rows : Type 0
 Rows =
     (buffer : List ℕ) (i : ℕ) → verdict buffer .number ≡ 0
     → rowAtOf buffer i
-    ≡ cond (ltb i (length (rowsIn buffer))) (record { number = 0; row = getD (rowsIn buffer) i noRow }) (record { number = numberOf Argument; row = noRow })
+    ≡ cond (ltb i (length (rowsIn buffer))) (record { number = 0; row = getD (rowsIn buffer) i noRow })
+    (record { number = numberOf Argument; row = noRow })
 
 -- Pieces: a scan of blocks in two pieces is one scan, and of all blocks it finds the first mismatch, or how many rows there are.
 abbrev pub Pieces : Type 0
 Pieces =
     ((s : Scan) (xs ys : List (List ℕ)) → scanBlocks s (xs ++ ys) ≡ scanBlocks (scanBlocks s xs) ys)
     × ((buffer : List ℕ) → stageFound (scanBlocks startScan (blocksIn buffer) .stage) ≡ mismatch buffer)
-    × ((buffer : List ℕ) → mismatch buffer ≡ None → scanBlocks startScan (blocksIn buffer) .rows ≡ length (rowsIn buffer))
+    × ((buffer : List ℕ) → mismatch buffer ≡ None
+    → scanBlocks startScan (blocksIn buffer) .rows ≡ length (rowsIn buffer))

@@ -108,7 +108,8 @@ fn called(buffer: &mut [u8], n: usize, out: &mut [u8], list: &mut [u64], report:
 }
 
 fn made(buffer: &mut [u8], n: usize, out: &mut [u8], list: &mut [u64], r: &[u8]) -> usize
-    requires { ⌜ (length (now buffer) ≡ 24576) × (n ≤ 24576) × (length (now out) ≡ 24576) × (length (now list) ≡ 64) × (length (now r) ≡ 320) ⌝ }
+    requires { ⌜ (length (now buffer) ≡ 24576) × (n ≤ 24576) × (length (now out) ≡ 24576) × (length (now list) ≡ 64)
+        × (length (now r) ≡ 320) ⌝ }
     ensures { λ k. ⌜ k ≤ 24576 ⌝ }
 {
     if r[0] == 1 {

@@ -15,4 +15,5 @@ pub record Printed (out : List ℕ) (at : ℕ) (text : List ℕ) (most : ℕ) (o
 
 -- the same where the longest text of its kind fits from `at` on; else the buffer is as it was, and r is `at`
 abbrev pub PrintedIfFits : (out : List ℕ) (at longest : ℕ) (text out' : List ℕ) (r : ℕ) → Type 0
-PrintedIfFits out at longest text out' r = Printed out at (cond (leb (at + longest) (length out)) text []) longest out' r
+PrintedIfFits out at longest text out' r =
+    Printed out at (cond (leb (at + longest) (length out)) text []) longest out' r

@@ -10,20 +10,20 @@ use repack::Removed;
 ghost use mathlib.Core.Path.{_≡_};
 ghost use mathlib.Core.List.{List};
 ghost use Prim.Native.Nat.{ℕ, min};
-ghost use lib.ListN.{length};
 ghost use Rattle.archive_model.specs.Append as calls;
-ghost use Rattle.archive.specs.Archive.{openResult, appendResult, rowOf, foundNumber, takenNumber};
+ghost use Rattle.archive.specs.Archive.{appendResult, rowOf, foundNumber, takenNumber};
 ghost use Rattle.repack_model.specs.Repack as repack;
 ghost use Rattle.repack.specs.Calls.{removeResult};
 ghost use Rattle.cutting.specs.Cut.{cutOf, cutBlockOf};
-ghost use Rattle.c_archive.specs.Calls.{rowLength, rowCall};
+ghost use Rattle.c_archive.specs.Calls.{rowCall};
 
 // 1 for LOOSE, and the frame of a row.
 pub const ROW_LENGTH: usize = 1 + FRAME_LENGTH;
 
 // How many rows an archive has: 16, 12 with the position.
 pub fn verify(buffer: &[u8], rows: &mut usize, position: &mut usize) -> u8
-    ensures { λ r. ⌜ record { number = r; position = now (position .exit); rows = now (rows .exit) } ≡ calls.openOf (now (buffer .entry)) ⌝ }
+    ensures { λ r. ⌜ record { number = r; position = now (position .exit); rows = now (rows .exit) }
+        ≡ calls.openOf (now (buffer .entry)) ⌝ }
 {
     let opened = archive::open(buffer);
     match opened {
@@ -127,7 +127,12 @@ pub fn salvage(
 
 // The rows of some transmitters removed in place: 16, 12 with the position, 10.
 pub fn remove(buffer: &mut [u8], identities: &[u32], freed: &mut usize, position: &mut usize) -> u8
-    ensures { λ r. ⌜ record { number = r; position = now (position .exit); freed = now (freed .exit); buffer = now (buffer .exit) }
+    ensures { λ r. ⌜ record {
+      number = r;
+      position = now (position .exit);
+      freed = now (freed .exit);
+      buffer = now (buffer .exit);
+    }
         ≡ repack.removeOf (now (buffer .entry)) (now (identities .entry)) ⌝ }
 {
     settle_removed(repack::remove(buffer, identities), freed, position)
@@ -135,7 +140,8 @@ pub fn remove(buffer: &mut [u8], identities: &[u32], freed: &mut usize, position
 
 // Leaves the first `rows` rows: 16, 12 with the position, 10.
 pub fn cut(buffer: &mut [u8], rows: usize, position: &mut usize) -> u8
-    ensures { λ r. ⌜ record { number = r; position = now (position .exit); buffer = now (buffer .exit) } ≡ cutOf rows (now (buffer .entry)) ⌝ }
+    ensures { λ r. ⌜ record { number = r; position = now (position .exit); buffer = now (buffer .exit) }
+        ≡ cutOf rows (now (buffer .entry)) ⌝ }
 {
     settle(cutting::cut(buffer, rows), position)
 }
@@ -149,7 +155,8 @@ pub fn cut_block(block: &mut [u8], rows: usize) -> u8
 
 // The number of a removal, the blocks freed, and the position beside 12.
 fn settle_removed(removed: Removed, freed: &mut usize, position: &mut usize) -> u8
-    ensures { λ r. ⌜ ((buffer : List ℕ) → record { number = r; position = now (position .exit); freed = now (freed .exit); buffer = buffer }
+    ensures { λ r. ⌜ ((buffer : List ℕ)
+        → record { number = r; position = now (position .exit); freed = now (freed .exit); buffer = buffer }
         ≡ removeResult removed buffer) ⌝ }
 {
     match removed {
@@ -173,7 +180,8 @@ fn settle_removed(removed: Removed, freed: &mut usize, position: &mut usize) -> 
 
 // The number of an outcome, and the position beside 12.
 fn settle(outcome: Outcome, position: &mut usize) -> u8
-    ensures { λ r. ⌜ ((buffer : List ℕ) → record { number = r; position = now (position .exit); buffer = buffer } ≡ appendResult outcome buffer) ⌝ }
+    ensures { λ r. ⌜ ((buffer : List ℕ)
+        → record { number = r; position = now (position .exit); buffer = buffer } ≡ appendResult outcome buffer) ⌝ }
 {
     match outcome {
         Outcome::Done => {

@@ -1,27 +1,25 @@
 -- An archive verified in pieces: together they answer what they answer as one buffer.
 --     scan-back           a scan is read back from its numbers
 --     pieces-verified     the claim
-use Prim.Native.Nat.{ℕ, _+_, _*_, _/_, _%_, _≤_, _<_}
+use Prim.Native.Nat.{ℕ, _+_, _*_, _/_, _%_, _≤_}
 use native.Mathlib.Omega.{arith}
-use mathlib.Core.Path.{_≡_, refl, sym, ap, ap₂, _∙_}
-use mathlib.Core.Bool.{Bool, true, false, cond, not, _&&_}
+use mathlib.Core.Path.{_≡_, refl, sym, ap, _∙_}
+use mathlib.Core.Bool.{Bool, true, false, _&&_}
 use mathlib.Core.List.{List, [], _∷_, _++_, flatten, append-assoc, append-nil}
 use lib.Dec.{leb, eqb}
 use lib.ListN.{length, length-append}
-use borrow.Author.Tests.{eqb-true, leb-true, ne-eqb, eq-eqb, le-leb}
+use borrow.Author.Tests.{eqb-true, leb-true, eq-eqb, le-leb}
 use Rattle.lists.specs.Lists.{upFrom}
 use Rattle.lists.proofs.Choice.{both}
 use Rattle.lists.proofs.Tests.{by-test, and-true}
 use Rattle.refusal.specs.Number.{numberOf}
 use Rattle.refusal.specs.declared.Refusal.the-variants.{Size}
 use Rattle.layout.specs.Block.{blockLength}
-use Rattle.archive_model.specs.Buffer.{Found, Stage, maxBlocks, isWhole, blocksIn, mismatch, Scan, startScan, scanBlock, scanBlocks, stageFound}
-use Rattle.archive_model.specs.Append.{Feeding, isScan, feedOf, openOf}
-use Rattle.archive_model.proofs.Pieces.{scan-append, scan-found, scan-rows}
+use Rattle.archive_model.specs.Buffer.{Found, Stage, maxBlocks, isWhole, blocksIn, Scan, startScan, scanBlock, scanBlocks, stageFound}
+use Rattle.archive_model.specs.Append.{isScan, feedOf, openOf}
+use Rattle.archive_model.proofs.Pieces.{blocks-count, pieces-blocks, scan-append, scan-found, scan-rows}
 use Rattle.archive.specs.Archive.{openFound}
 use Rattle.archive.proofs.Calls.{open-whole}
-use Rattle.repack_model.proofs.Rows.{blocks-count}
-use Rattle.repack_model.proofs.Pieces.{pieces-blocks}
 use Rattle.report_model.proofs.Adding.{scanned-next, blocks-after}
 use Rattle.c_pieces.specs.Scan.{stageAt, scanAt, scanNumbers, noBlocks, scanEnd}
 use Rattle.c_pieces.specs.Claims.{ScanBack, scanAll, scanned, PiecesVerified}

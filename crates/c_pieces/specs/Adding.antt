@@ -1,10 +1,11 @@
 -- An archive that is added to a report in pieces, in two arrays beside the two of the report.
 use Prim.Native.Nat.{ℕ}
+use mathlib.Core.Path.{_≡_}
 use mathlib.Core.Bool.{not}
 use mathlib.Core.List.{List}
 use lib.Dec.{eqb}
 use lib.ListN.{getD}
-use Rattle.report_model.specs.Pieces.{Tally, Adding, adding}
+use Rattle.report_model.specs.Pieces.{Tally, Adding, adding, Feeding, fed}
 use Rattle.report.specs.Lines.{linesOf}
 use Rattle.c_report.specs.Calls.{reportAt}
 use Rattle.c_pieces.specs.Scan.{scanAt}
@@ -23,3 +24,10 @@ tallyAt numbers lines = record {
 -- with the report, which stays as it is until the end
 abbrev pub addingAt : List ℕ → List ℕ → List ℕ → List ℕ → Adding
 addingAt numbers lines so-far tally = adding (reportAt numbers lines) (tallyAt so-far tally)
+
+-- a piece, in the two arrays of what is known before and after it
+pub record Feeds (expected : Feeding) (numbers lines so-far tally : List ℕ) (number : ℕ) (so-far' tally' : List ℕ) : Type 0 where
+  pub result : fed number (addingAt numbers lines so-far' tally') ≡ expected
+  -- beside any other number than 0 every number of both arrays is as it was
+  pub numbersStay : (number ≡ 0 → ⊥) → so-far' ≡ so-far
+  pub linesStay : (number ≡ 0 → ⊥) → tally' ≡ tally

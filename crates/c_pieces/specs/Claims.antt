@@ -22,8 +22,10 @@ scanAll numbers (p ∷ ps) = scanAll (scanCall numbers p .numbers) ps
 abbrev pub scanned : List ℕ → List (List ℕ) → List (List ℕ)
 scanned numbers [] = []
 scanned numbers (p ∷ ps) =
-    cond (eqb (scanCall numbers p .number) 0) (p ∷ scanned (scanCall numbers p .numbers) ps) (scanned (scanCall numbers p .numbers) ps)
+    cond (eqb (scanCall numbers p .number) 0) (p ∷ scanned (scanCall numbers p .numbers) ps)
+    (scanned (scanCall numbers p .numbers) ps)
 
 -- Pieces: those that were taken, refused ones anywhere between, answer at the end what they answer as one buffer.
 abbrev pub PiecesVerified : Type 0
-PiecesVerified = (pieces : List (List ℕ)) → scanEnd (scanAt (scanAll noBlocks pieces)) ≡ openOf (flatten (scanned noBlocks pieces))
+PiecesVerified =
+    (pieces : List (List ℕ)) → scanEnd (scanAt (scanAll noBlocks pieces)) ≡ openOf (flatten (scanned noBlocks pieces))

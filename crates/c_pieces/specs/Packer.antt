@@ -9,7 +9,8 @@ abbrev pub packingAt : List ℕ → List ℕ → Packing
 packingAt numbers waiting = packing (getD numbers 1 0) (getD numbers 0 0) waiting
 
 abbrev pub packCall : List ℕ → List ℕ → List ℕ → List ℕ → List ℕ → List ℕ → Packed
-packCall numbers waiting piece identities output positions = packOf (getD numbers 1 0) (getD numbers 0 0) waiting piece identities output positions
+packCall numbers waiting piece identities output positions =
+    packOf (getD numbers 1 0) (getD numbers 0 0) waiting piece identities output positions
 
 abbrev pub packEnd : List ℕ → List ℕ → List ℕ → Finished
 packEnd numbers waiting output = finishOf (getD numbers 1 0) (getD numbers 0 0) waiting output

@@ -14,7 +14,8 @@ use Rattle.archive.specs.Archive.{openFound}
 
 -- any stage but the first three says that a block does not match
 unfoldable pub stageAt : ℕ → ℕ → Stage
-stageAt stage position = cond (eqb stage 0) Filling (cond (eqb stage 1) Short (cond (eqb stage 2) Ended (Wrong position)))
+stageAt stage position =
+    cond (eqb stage 0) Filling (cond (eqb stage 1) Short (cond (eqb stage 2) Ended (Wrong position)))
 
 abbrev pub stageNumber : Stage → ℕ
 stageNumber Filling = 0
@@ -29,7 +30,11 @@ stagePosition Ended = 0
 stagePosition (Wrong k) = k
 
 abbrev pub scanAt : List ℕ → Scan
-scanAt numbers = record { blocks = getD numbers 0 0; rows = getD numbers 1 0; stage = stageAt (getD numbers 2 0) (getD numbers 3 0) }
+scanAt numbers = record {
+  blocks = getD numbers 0 0;
+  rows = getD numbers 1 0;
+  stage = stageAt (getD numbers 2 0) (getD numbers 3 0);
+}
 
 abbrev pub scanNumbers : Scan → List ℕ
 scanNumbers s = s .blocks ∷ s .rows ∷ stageNumber (s .stage) ∷ stagePosition (s .stage) ∷ []
@@ -47,8 +52,13 @@ pub record ScanCall : Type 0 where
 
 -- 11, 16; the stage and its position come back in their one form
 abbrev pub scanCall : List ℕ → List ℕ → ScanCall
-scanCall numbers piece = record { number = feedOf (scanAt numbers) piece .number; numbers = scanNumbers (feedOf (scanAt numbers) piece .next) }
+scanCall numbers piece = record {
+  number = feedOf (scanAt numbers) piece .number;
+  numbers = scanNumbers (feedOf (scanAt numbers) piece .next);
+}
 
 -- after the last piece: 11, then 12 with the position, or the rows
 unfoldable pub scanEnd : Scan → Opening
-scanEnd s = cond (not (isScan s)) (record { number = numberOf NotAccepted; position = 0; rows = 0 }) (openFound (stageFound (s .stage)) (s .rows))
+scanEnd s =
+    cond (not (isScan s)) (record { number = numberOf NotAccepted; position = 0; rows = 0 })
+    (openFound (stageFound (s .stage)) (s .rows))

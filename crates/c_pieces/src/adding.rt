@@ -7,8 +7,8 @@ ghost use lib.Dec.{eqb};
 ghost use Rattle.report_model.specs.Report as model;
 ghost use Rattle.report_model.specs.Pieces as pieces;
 ghost use Rattle.report.specs.Report.{addingOf};
-ghost use Rattle.c_report.specs.Calls.{reportAt};
-ghost use Rattle.c_pieces.specs.Adding.{tallyAt, addingAt};
+ghost use Rattle.c_report.specs.Calls.{reportAt, Adds};
+ghost use Rattle.c_pieces.specs.Adding.{tallyAt, addingAt, Feeds};
 
 // The four numbers of a scan, how many lines there are, KEPT rows, LOOSE rows, and 1 where a transmitter was one too many.
 pub const NUMBERS: usize = 8;
@@ -27,7 +27,7 @@ pub fn start(
     store(Adding::start(r), adding, tally);
 }
 
-// The blocks of a piece: 11, 16.
+// The blocks of a piece: 11, 16; then every number is as it was.
 pub fn feed(
     numbers: &[u64; c_report::NUMBERS],
     lines: &[u64; c_report::LINES],
@@ -35,17 +35,24 @@ pub fn feed(
     tally: &mut [u64; c_report::LINES],
     piece: &[u8],
 ) -> u8
-    ensures { λ r. ⌜ pieces.fed r (addingAt (now (numbers .entry)) (now (lines .entry)) (now (adding .exit)) (now (tally .exit)))
-        ≡ pieces.feedOf (addingAt (now (numbers .entry)) (now (lines .entry)) (now (adding .entry)) (now (tally .entry))) (now (piece .entry)) ⌝ }
+    ensures { λ r. ⌜ Feeds
+        (pieces.feedOf (addingAt (now (numbers .entry)) (now (lines .entry)) (now (adding .entry)) (now (tally .entry)))
+        (now (piece .entry)))
+        (now (numbers .entry)) (now (lines .entry)) (now (adding .entry)) (now (tally .entry))
+        r (now (adding .exit)) (now (tally .exit)) ⌝ }
 {
     let a = adding_in(numbers, lines, adding, tally);
     let fed = a.feed(piece);
     let answer = fed.answer;
+    let number = c_archive::taken_number(answer);
+    if number != 0 {
+        return number;
+    }
     store(fed.next, adding, tally);
-    c_archive::taken_number(answer)
+    number
 }
 
-// What adding all pieces as one archive answers: 11, 12 with the position, 10, 17; then the report is as it was.
+// What adding all pieces as one archive answers: 11, 12 with the position, 10, 17; then every number of the report is as it was.
 pub fn end(
     numbers: &mut [u64; c_report::NUMBERS],
     lines: &mut [u64; c_report::LINES],
@@ -53,14 +60,19 @@ pub fn end(
     tally: &[u64; c_report::LINES],
     position: &mut usize,
 ) -> u8
-    ensures { λ r. ⌜ model.answer r (now (position .exit)) (reportAt (now (numbers .exit)) (now (lines .exit)))
-        ≡ pieces.endedOf (addingAt (now (numbers .entry)) (now (lines .entry)) (now (adding .entry)) (now (tally .entry))) ⌝ }
+    ensures { λ r. ⌜ Adds
+        (pieces.endedOf (addingAt (now (numbers .entry)) (now (lines .entry)) (now (adding .entry)) (now (tally .entry))))
+        (now (numbers .entry)) (now (lines .entry)) r (now (position .exit)) (now (numbers .exit)) (now (lines .exit)) ⌝ }
 {
     let a = adding_in(numbers, lines, adding, tally);
     let added = a.end();
     let answer = added.answer;
+    let number = c_report::settle(answer, position);
+    if number != 0 {
+        return number;
+    }
     c_report::store(added.next, numbers, lines);
-    c_report::settle(answer, position)
+    number
 }
 
 // The archive that is being added, as four arrays hold it.
@@ -70,7 +82,8 @@ fn adding_in(
     adding: &[u64; NUMBERS],
     tally: &[u64; c_report::LINES],
 ) -> Adding
-    ensures { λ r. ⌜ addingOf r ≡ addingAt (now (numbers .entry)) (now (lines .entry)) (now (adding .entry)) (now (tally .entry)) ⌝ }
+    ensures { λ r. ⌜ addingOf r
+        ≡ addingAt (now (numbers .entry)) (now (lines .entry)) (now (adding .entry)) (now (tally .entry)) ⌝ }
 {
     Adding {
         before: c_report::report_in(numbers, lines),

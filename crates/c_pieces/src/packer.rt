@@ -24,8 +24,8 @@ pub fn feed(
       output = now (out .exit);
       positions = now (positions .exit);
     }
-        ≡ packCall (now (numbers .entry)) (now (waiting .entry)) (now (piece .entry)) (now (identities .entry)) (now (out .entry))
-        (now (positions .entry)) ⌝ }
+        ≡ packCall (now (numbers .entry)) (now (waiting .entry)) (now (piece .entry)) (now (identities .entry))
+        (now (out .entry)) (now (positions .entry)) ⌝ }
 {
     let done = repack::pack(
         waiting,

@@ -1,11 +1,8 @@
 // An archive verified in pieces.
 use archive::Scan;
 use archive::Stage;
-use layout::CELLS_PER_BLOCK;
 use refusal::Refusal;
 ghost use mathlib.Core.Path.{_≡_};
-ghost use Rattle.archive_model.specs.Buffer as buffer;
-ghost use Rattle.archive_model.specs.Append.{isScan};
 ghost use Rattle.archive.specs.Archive.{stageOf, scanOf};
 ghost use Rattle.c_pieces.specs.Scan.{stageAt, stageNumber, stagePosition, scanAt, scanCall, scanEnd};
 
@@ -14,7 +11,8 @@ pub const NUMBERS: usize = 4;
 
 // The blocks of a piece: 11, 16.
 pub fn feed(numbers: &mut [u64; NUMBERS], piece: &[u8]) -> u8
-    ensures { λ r. ⌜ record { number = r; numbers = now (numbers .exit) } ≡ scanCall (now (numbers .entry)) (now (piece .entry)) ⌝ }
+    ensures { λ r. ⌜ record { number = r; numbers = now (numbers .exit) }
+        ≡ scanCall (now (numbers .entry)) (now (piece .entry)) ⌝ }
 {
     let s = scan_of(numbers[0], numbers[1], numbers[2], numbers[3]);
     let fed = s.feed(piece);
@@ -32,11 +30,13 @@ pub fn feed(numbers: &mut [u64; NUMBERS], piece: &[u8]) -> u8
 
 // What all pieces answer together: how many rows; 11, 12 with the position.
 pub fn end(numbers: &[u64; NUMBERS], rows: &mut usize, position: &mut usize) -> u8
-    ensures { λ r. ⌜ record { number = r; position = now (position .exit); rows = now (rows .exit) } ≡ scanEnd (scanAt (now (numbers .entry))) ⌝ }
+    ensures { λ r. ⌜ record { number = r; position = now (position .exit); rows = now (rows .exit) }
+        ≡ scanEnd (scanAt (now (numbers .entry))) ⌝ }
 {
     *rows = 0;
     *position = 0;
-    if !is_scan(numbers[0], numbers[1]) {
+    let s = scan_of(numbers[0], numbers[1], numbers[2], numbers[3]);
+    if !archive::is_scan(s) {
         return refusal::number(Refusal::NotAccepted);
     }
     if 2 < numbers[2] {
@@ -45,16 +45,6 @@ pub fn end(numbers: &[u64; NUMBERS], rows: &mut usize, position: &mut usize) -> 
     }
     *rows = numbers[1] as usize;
     0
-}
-
-// Whether some blocks give these numbers, as far as they tell.
-fn is_scan(blocks: u64, rows: u64) -> bool
-    ensures { λ r. ⌜ r ≡ isScan (record { blocks = blocks; rows = rows; stage = buffer.Filling }) ⌝ }
-{
-    if (archive::MAX_BLOCKS as u64) < blocks {
-        return false;
-    }
-    rows <= CELLS_PER_BLOCK as u64 * blocks
 }
 
 // The scan that four numbers say.

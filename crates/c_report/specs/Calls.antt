@@ -1,5 +1,6 @@
 -- A report in two arrays of numbers, and what the calls leave in them.
 use Prim.Native.Nat.{ℕ}
+use mathlib.Core.Path.{_≡_}
 use mathlib.Core.List.{List, [], _∷_}
 use lib.ListN.{getD}
 use Rattle.report_model.specs.Report as model
@@ -13,6 +14,13 @@ reportAt numbers lines = record {
   kept = getD numbers 2 0;
   loose = getD numbers 3 0;
 }
+
+-- a call that adds to a report, in its two arrays before and after it
+pub record Adds (expected : model.Addition) (numbers lines : List ℕ) (number position : ℕ) (numbers' lines' : List ℕ) : Type 0 where
+  pub result : model.answer number position (reportAt numbers' lines') ≡ expected
+  -- beside any other number than 0 every number of both arrays is as it was
+  pub numbersStay : (number ≡ 0 → ⊥) → numbers' ≡ numbers
+  pub linesStay : (number ≡ 0 → ⊥) → lines' ≡ lines
 
 -- identity, KEPT rows, LOOSE rows, earliest and latest time
 abbrev pub lineNumbers : model.Line → List ℕ

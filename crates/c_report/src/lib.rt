@@ -6,11 +6,9 @@ use report::Looked;
 use report::Report;
 use report::Share;
 ghost use mathlib.Core.Path.{_≡_};
-ghost use mathlib.Core.List.{List};
-ghost use Prim.Native.Nat.{ℕ};
 ghost use Rattle.report_model.specs.Report as model;
-ghost use Rattle.report.specs.Report.{reportOf, outcomeNumber, outcomePosition, lookedNumber, shareResult};
-ghost use Rattle.c_report.specs.Calls.{reportAt, lineNumbers, lineCall};
+ghost use Rattle.report.specs.Report.{reportOf, outcomeNumber, outcomePosition, lookedNumber};
+ghost use Rattle.c_report.specs.Calls.{reportAt, Adds, lineCall};
 
 // How many archives were added, how many lines there are, KEPT rows, LOOSE rows.
 pub const NUMBERS: usize = 4;
@@ -27,20 +25,24 @@ pub fn empty(numbers: &mut [u64; NUMBERS], lines: &mut [u64; LINES])
     store(Report::empty(), numbers, lines);
 }
 
-// Adds the rows of an archive: 11, 16, 12 with the position, 10, 17; then the report is as it was.
+// Adds the rows of an archive: 11, 16, 12 with the position, 10, 17; then every number of the report is as it was.
 pub fn add(
     numbers: &mut [u64; NUMBERS],
     lines: &mut [u64; LINES],
     buffer: &[u8],
     position: &mut usize,
 ) -> u8
-    ensures { λ r. ⌜ model.answer r (now (position .exit)) (reportAt (now (numbers .exit)) (now (lines .exit)))
-        ≡ model.addOf (reportAt (now (numbers .entry)) (now (lines .entry))) (now (buffer .entry)) ⌝ }
+    ensures { λ r. ⌜ Adds (model.addOf (reportAt (now (numbers .entry)) (now (lines .entry))) (now (buffer .entry)))
+        (now (numbers .entry)) (now (lines .entry)) r (now (position .exit)) (now (numbers .exit)) (now (lines .exit)) ⌝ }
 {
     let added = report_in(numbers, lines).add(buffer);
     let answer = added.answer;
+    let number = settle(answer, position);
+    if number != 0 {
+        return number;
+    }
     store(added.next, numbers, lines);
-    settle(answer, position)
+    number
 }
 
 // Line `i`, five numbers, zero beside a refusal: 11, 10.
@@ -50,7 +52,8 @@ pub fn line(
     i: usize,
     line: &mut [u64; LINE_NUMBERS],
 ) -> u8
-    ensures { λ r. ⌜ record { number = r; values = now (line .exit) } ≡ lineCall (reportAt (now (numbers .entry)) (now (lines .entry))) i ⌝ }
+    ensures { λ r. ⌜ record { number = r; values = now (line .exit) }
+        ≡ lineCall (reportAt (now (numbers .entry)) (now (lines .entry))) i ⌝ }
 {
     let found = report_in(numbers, lines).line(i);
     *line = [
@@ -71,7 +74,8 @@ pub fn share(
     received: u64,
     thousandths: &mut u64,
 ) -> u8
-    ensures { λ r. ⌜ record { number = r; thousandths = now (thousandths .exit) } ≡ model.shareOf (reportAt (now (numbers .entry)) (now (lines .entry))) received ⌝ }
+    ensures { λ r. ⌜ record { number = r; thousandths = now (thousandths .exit) }
+        ≡ model.shareOf (reportAt (now (numbers .entry)) (now (lines .entry))) received ⌝ }
 {
     let share = report_in(numbers, lines).share(received);
     match share {

@@ -19,7 +19,7 @@ use Rattle.refusal.specs.declared.Refusal.the-variants.{Mismatch, Size}
 use Rattle.buffers.specs.Buffer.{part}
 use Rattle.layout.specs.BigEndian.{be}
 use Rattle.layout.specs.Cell.{cellLength}
-use Rattle.layout.specs.Block.{headerLength, cellsPerBlock, bodyLength, blockLength, sealed, blockOf, blockCell}
+use Rattle.layout.specs.Block.{headerLength, bodyLength, blockLength, sealed, blockOf, blockCell}
 use Rattle.buffers.proofs.Segments.{left, last, whole, part-join}
 use Rattle.layout.proofs.BigEndian.{be-length}
 use Rattle.archive_model.specs.Row.{Row, rowCell, rowsHeader, rowsBlock, blockNumber, rowCount, rowIn, rowsOf, isSound}
@@ -28,8 +28,8 @@ use Rattle.archive_model.proofs.Buffers.{map-same, pieces}
 use Rattle.archive_model.proofs.Pieces.{rows-count}
 use Rattle.archive_model.proofs.Exact.{tests, sound-is, sound-few, sound-shorts, row-is, cell-is}
 use Rattle.archive.specs.Archive.{soundRows}
-use Rattle.cutting.specs.Cut.{firstRows, CutBlock, cutBlockOf}
-use Rattle.cutting.specs.Calls.{keptRows}
+use Rattle.cutting.specs.Cut.{firstRows, cutBlockOf}
+use Rattle.cutting.specs.Private.{keptRows}
 
 -- ---- the bytes
 

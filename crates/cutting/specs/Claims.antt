@@ -1,5 +1,5 @@
 -- What is proved of rows taken back.
-use Prim.Native.Nat.{ℕ, _+_, _-_, _*_, _/_, _%_, _≤_, _<_}
+use Prim.Native.Nat.{ℕ, _+_, _-_, _*_, _/_, _%_, _<_}
 use mathlib.Core.Path.{_≡_}
 use mathlib.Core.List.{List, _++_}
 use lib.ListN.{length, take, drop, replicate}
@@ -18,11 +18,15 @@ Remains =
 
 -- Again: a second cut at the same row changes nothing.
 abbrev pub CutAgain : Type 0
-CutAgain = (m : ℕ) (buffer : List ℕ) → cutOf m buffer .number ≡ 0 → cutOf m (cutOf m buffer .buffer) ≡ stored (cutOf m buffer .buffer)
+CutAgain =
+    (m : ℕ) (buffer : List ℕ) → cutOf m buffer .number ≡ 0
+    → cutOf m (cutOf m buffer .buffer) ≡ stored (cutOf m buffer .buffer)
 
 -- Undone: the rows that were taken back, appended again in their order, give the old buffer.
 abbrev pub Undone : Type 0
-Undone = (m : ℕ) (buffer : List ℕ) → cutOf m buffer .number ≡ 0 → after (cutOf m buffer .buffer) (drop m (rowsIn buffer)) ≡ buffer
+Undone =
+    (m : ℕ) (buffer : List ℕ) → cutOf m buffer .number ≡ 0
+    → after (cutOf m buffer .buffer) (drop m (rowsIn buffer)) ≡ buffer
 
 -- One block: where rows are taken back, the blocks before block m / 15 stay, that block is cut by itself, and zeros stand behind it.
 abbrev pub AtOneBlock : Type 0
@@ -39,4 +43,5 @@ AtOneBlock =
 abbrev pub ZerosBehind : Type 0
 ZerosBehind =
     (k : ℕ) (buffer : List ℕ) → verdict buffer .number ≡ 0 → cellsPerBlock * k < length (rowsIn buffer)
-    → cutOf (cellsPerBlock * k) buffer ≡ stored (take (blockLength * k) buffer ++ replicate (length buffer - blockLength * k) 0)
+    → cutOf (cellsPerBlock * k) buffer
+    ≡ stored (take (blockLength * k) buffer ++ replicate (length buffer - blockLength * k) 0)

@@ -16,7 +16,8 @@ use Rattle.archive_model.specs.Append.{verdict, Appended, refusedAppend, stored
 -- 16, 12 with its position, 10 for more rows than it has; else its first m rows in the same buffer
 unfoldable pub cutOf : ℕ → List ℕ → Appended
 cutOf m buffer =
-    cond (not (eqb (verdict buffer .number) 0)) (refusedAppend (verdict buffer .number) (verdict buffer .position) buffer)
+    cond (not (eqb (verdict buffer .number) 0))
+    (refusedAppend (verdict buffer .number) (verdict buffer .position) buffer)
     (cond (ltb (length (rowsIn buffer)) m) (refusedAppend (numberOf Argument) 0 buffer)
     (stored (bufferOf (length buffer) (take m (rowsIn buffer)))))
 

@@ -1,3 +1,4 @@
 pub mod Cut
 pub mod Calls
+pub mod Private
 pub mod Claims

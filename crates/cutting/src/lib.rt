@@ -17,7 +17,8 @@ ghost use Rattle.archive_model.specs.Buffer.{bufferOf, rowsIn};
 ghost use Rattle.archive_model.specs.Append.{verdict};
 ghost use Rattle.archive.specs.Archive.{appendResult};
 ghost use Rattle.cutting.specs.Cut.{firstRows, cutBlockOf, cutOf};
-ghost use Rattle.cutting.specs.Calls.{cutBlockResult, keptRows};
+ghost use Rattle.cutting.specs.Calls.{cutBlockResult};
+ghost use Rattle.cutting.specs.Private.{keptRows};
 
 // The bytes of a block before its CRC.
 const BODY_LENGTH: usize = BLOCK_LENGTH - 1;
@@ -94,7 +95,8 @@ fn cut_from(buffer: &mut [u8], n: usize, rows: usize) -> Outcome
 // Where it has more: the block in which the first `rows` rows end is cut, and zeros stand behind it.
 fn take_back(buffer: &mut [u8], rows: usize)
     requires { ⌜ (verdict (now buffer) .number ≡ 0) × (rows < length (rowsIn (now buffer))) ⌝ }
-    ensures { λ _. ⌜ now (buffer .exit) ≡ bufferOf (length (now (buffer .entry))) (take rows (rowsIn (now (buffer .entry)))) ⌝ }
+    ensures { λ _. ⌜ now (buffer .exit)
+        ≡ bufferOf (length (now (buffer .entry))) (take rows (rowsIn (now (buffer .entry)))) ⌝ }
 {
     let at = BLOCK_LENGTH * (rows / CELLS_PER_BLOCK);
     let next = at + BLOCK_LENGTH;

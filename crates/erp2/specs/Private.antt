@@ -3,7 +3,7 @@ use Prim.Native.Nat.{ℕ, _+_, _≤_}
 use mathlib.Core.Bool.{cond, not, _&&_, _||_}
 use mathlib.Core.List.{List, [], _∷_, _++_}
 use lib.Dec.{eqb}
-use lib.ListN.{length, take, drop}
+use lib.ListN.{take, drop}
 use Rattle.crc8.specs.Crc8.{crcOf}
 use Rattle.layout.specs.BigEndian.{be}
 use Rattle.refusal.specs.Number.{numberOf}
@@ -25,7 +25,8 @@ admissionOf t =
 -- the length byte and what stands before the IDs, the IDs, and the data: the bytes of a row in three parts
 unfoldable pub headBytes : Telegram → Sizes → ℕ → List ℕ
 headBytes t z size =
-    (size ∷ []) ++ be (z .header) (headerByte (t .header)) ++ be (z .extension) (extensionByte (t .extension)) ++ be (z .subtype) (t .subtype .value)
+    (size ∷ []) ++ be (z .header) (headerByte (t .header)) ++ be (z .extension) (extensionByte (t .extension))
+    ++ be (z .subtype) (t .subtype .value)
 
 unfoldable pub idBytes : Telegram → Sizes → List ℕ
 idBytes t z = be (z .originator) (t .originator) ++ be (z .destination) (t .destination .id)
@@ -39,7 +40,8 @@ sealBy z body = cond (eqb (z .crc) 1) (crcOf body ∷ []) []
 
 -- the length byte, the fields by their sizes, and the CRC where there is one
 unfoldable pub rowWritten : Telegram → Sizes → List ℕ → List ℕ
-rowWritten t z output = ((overhead z + t .len) ∷ (rowBytes t z ++ sealBy z (rowBytes t z))) ++ drop (1 + overhead z + t .len) output
+rowWritten t z output =
+    ((overhead z + t .len) ∷ (rowBytes t z ++ sealBy z (rowBytes t z))) ++ drop (1 + overhead z + t .len) output
 
 -- fields of these sizes fit a telegram, and an output of n bytes
 pub record Laid (t : Telegram) (z : Sizes) (n : ℕ) : Type 0 where

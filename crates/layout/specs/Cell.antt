@@ -22,7 +22,8 @@ cellOf time bytes last = be 8 time ++ (length bytes ∷ []) ++ padded cellCapaci
 
 -- a buffer where a cell is put; bytes that no cell holds leave it as it is
 unfoldable pub putCell : ℕ → List ℕ → ℕ → List ℕ → List ℕ
-putCell time bytes last old = cond (leb (length bytes) cellCapacity) (overwritten cellLength (cellOf time bytes last) old) old
+putCell time bytes last old =
+    cond (leb (length bytes) cellCapacity) (overwritten cellLength (cellOf time bytes last) old) old
 
 -- ---- what a cell says
 

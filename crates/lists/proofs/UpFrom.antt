@@ -1,5 +1,5 @@
 -- Laws of `upFrom`: lists over numbers in a row.
-use mathlib.Core.Path.{_≡_, refl, ap}
+use mathlib.Core.Path.{_≡_, refl, sym, ap, _∙_}
 use mathlib.Core.Bool.{Bool, true, false}
 use mathlib.Core.List.{List, [], _∷_, _++_, map, flatMap, append-assoc, append-nil, List·Memᴰ, List·Memᴰ·head, List·Memᴰ·tail, List·Memᴰ·not-nil, List·Memᴰ·append-cases, List·Memᴰ·eq-of-singleton, Memᴰ·append-left, Memᴰ·append-right}
 use mathlib.Core.Logic.{⊎-elim}
@@ -36,6 +36,11 @@ upFrom-in a (suc n) i h k =
       | yes l ↦ List·Memᴰ·tail (upFrom-in (suc a) n i l (omega arith))
       | no l ↦ let e : i ≡ a = omega arith in List·Memᴰ·head e
     ]
+
+pub map-shift : {A : Type 0} (f : ℕ → A) (n a m : ℕ) → map f (upFrom (n + a) m) ≡ map (λ j. f (n + j)) (upFrom a m)
+unfolding upFrom
+map-shift f n a zero = refl
+map-shift f n a (suc m) = ap (λ (l : List _). f (n + a) ∷ l) (ap (λ (i : ℕ). map f (upFrom i m)) (sym (add-suc n a)) ∙ map-shift f n (suc a) m)
 
 -- ── keep ──
 

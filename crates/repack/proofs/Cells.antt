@@ -2,21 +2,21 @@
 --     used-bounds, identity-shown           a valid row has 8 to 21 bytes; the four before its STATUS and HASH
 --     copied                                what a copy of the same length leaves
 --     row-at, kept-first, kept-turn, kept-end     the loop over the cells of a block: a cell's row; its start, a turn, its end
-use Prim.Native.Nat.{ℕ, zero, suc, _+_, _-_, _*_, _≤_, _<_}
+use Prim.Native.Nat.{ℕ, suc, _+_, _-_, _≤_, _<_}
 use native.Mathlib.Nat.{zero-add}
 use native.Mathlib.Numerals.{add-one}
 use native.Mathlib.Omega.{arith}
-use mathlib.Core.Path.{_≡_, refl, sym, ap, ap₂, _∙_}
+use mathlib.Core.Path.{_≡_, sym, ap, ap₂, _∙_}
 use mathlib.Core.Bool.{Bool, true, false, cond}
-use mathlib.Core.List.{List, [], _∷_, _++_, map, flatten, append-assoc, append-nil}
+use mathlib.Core.List.{List, [], _++_, map, flatten, append-nil}
 use lib.ListN.{length, getD, take, drop, length-map, drop-of-length-le}
 use lib.Dec.{eqb}
 use lib.Seq.{take-all, drop-drop, drop-cons}
 use borrow.Author.Tests.{eqb-true, eq-eqb, ne-eqb}
-use Rattle.lists.specs.Lists.{any, all, upFrom}
+use Rattle.lists.specs.Lists.{any, upFrom}
 use Rattle.lists.proofs.Tests.{all-getD}
 use Rattle.lists.proofs.UpFrom.{length-upFrom, getD-upFrom}
-use Rattle.erp1.specs.Subtelegram.{minLength, maxLength, checkOf}
+use Rattle.erp1.specs.Subtelegram.{minLength, checkOf}
 use Rattle.erp1.proofs.Checks.{check-facts}
 use Rattle.buffers.specs.Buffer.{part, resized}
 use Rattle.layout.specs.BigEndian.{unbe}
@@ -27,8 +27,8 @@ use Rattle.buffers.proofs.Buffer.{resized-length, resized-cut}
 use Rattle.archive_model.specs.Row.{rowIn, isRow}
 use Rattle.archive_model.specs.Identity.{identityOf}
 use Rattle.repack_model.specs.Repack.{isListed}
-use Rattle.archive.specs.Archive.{cellsFrom}
-use Rattle.repack.specs.Calls.{areRows, keptCell, keptFrom}
+use Rattle.archive.specs.Private.{cellsFrom}
+use Rattle.repack.specs.Private.{areRows, keptCell, keptFrom}
 
 pub copied : (src dst ys : List ℕ) → length src ≡ length dst → ys ≡ take (length src) src ++ drop (length src) dst → ys ≡ src
 copied src dst ys e c =

@@ -3,16 +3,16 @@
 --     counted                         how many cells were packed
 --     closed-archive                  a packing that is closed is the archive of the rows that stay
 --     salvaged-rows, salvaged-few, salvage-done, salvage-size, salvage-short, salvage-list     the answers of salvage
-use Prim.Native.Nat.{ℕ, _+_, _-_, _*_, _/_, _%_, _≤_, _<_}
+use Prim.Native.Nat.{ℕ, _+_, _-_, _*_, _/_, _≤_, _<_}
 use native.Mathlib.Nat.{zero-add}
 use native.Mathlib.Decide.{decLt}
 use native.Mathlib.Omega.{arith}
 use mathlib.Core.Path.{_≡_, refl, sym, ap, ap₂, _∙_}
-use mathlib.Core.Bool.{Bool, true, false, cond, not}
-use mathlib.Core.List.{List, [], _∷_, _++_, append-assoc, append-nil}
-use lib.Dec.{leb, eqb}
+use mathlib.Core.Bool.{true, false, not}
+use mathlib.Core.List.{List, [], _∷_, _++_, append-assoc}
+use lib.Dec.{leb}
 use lib.ListN.{length, take, drop, replicate, length-append, length-take, length-drop}
-use lib.Seq.{take-at, drop-at, drop-drop, drop-append-add}
+use lib.Seq.{take-at, drop-drop, drop-append-add}
 use borrow.Author.Tests.{eq-eqb, ne-eqb, le-ltb, lt-ltb, leb-false}
 use Rattle.lists.specs.Lists.{padded}
 use Rattle.refusal.specs.Number.{numberOf}
@@ -29,7 +29,7 @@ use Rattle.repack_model.proofs.Rows.{sound-rows-fit, sound-rows-few}
 use Rattle.repack_model.proofs.Salvage.{salvaged-length}
 use Rattle.repack_model.proofs.Removal.{fits-keep}
 use Rattle.repack_model.proofs.Pieces.{packed-archive}
-use Rattle.repack.specs.Calls.{closed}
+use Rattle.repack.specs.Private.{closed}
 
 module _ (next used : ℕ) (pending : List ℕ) (l : length pending ≡ pendingLength) (few : used < cellsPerBlock) where
   waiting-long : length (take (cellLength * used) pending) ≡ cellLength * used

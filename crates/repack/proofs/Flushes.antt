@@ -1,9 +1,9 @@
 -- A block put of the first 15 of some cells, where there are so many.
 --     flush-few, flush-full       what waits and what is put, of fewer than 15 cells and of 15 to 29
-use Prim.Native.Nat.{ℕ, zero, suc, _+_, _-_, _*_, _/_, _%_, _≤_, _<_}
+use Prim.Native.Nat.{ℕ, zero, suc, _+_, _-_, _*_, _/_, _≤_, _<_}
 use native.Mathlib.Nat.{zero-add, suc-add}
 use native.Mathlib.Omega.{arith}
-use mathlib.Core.Path.{_≡_, refl, sym, ap, ap₂, _∙_}
+use mathlib.Core.Path.{_≡_, sym, ap, ap₂, _∙_}
 use mathlib.Core.List.{List, [], _∷_, _++_, append-nil}
 use lib.ListN.{length, take, drop, length-take, length-drop, drop-of-length-le}
 use lib.Seq.{take-nil, take-take, take-append-le}
@@ -12,7 +12,7 @@ use Rattle.layout.specs.Cell.{cellLength}
 use Rattle.layout.specs.Block.{cellsPerBlock, blockLength}
 use Rattle.repack_model.specs.Packer.{fullLength, cellsBlock, fullBlocks, pendingLength}
 use Rattle.repack_model.proofs.Packing.{few-blocks, one-block, cells-block-length}
-use Rattle.repack.specs.Calls.{Flushed}
+use Rattle.repack.specs.Private.{Flushed}
 
 drop-take : (a n : ℕ) (xs : List ℕ) → drop a (take (a + n) xs) ≡ take n (drop a xs)
 drop-take zero n xs = rw zero-add

@@ -4,11 +4,11 @@
 --     remove-many, remove-not         more than 32 identities; a buffer that is no archive
 use Prim.Native.Nat.{ℕ, _+_, _-_, _*_, _/_, _≤_, _<_}
 use native.Mathlib.Omega.{arith}
-use mathlib.Core.Path.{_≡_, refl, sym, ap, ap₂, _∙_}
-use mathlib.Core.Bool.{Bool, false, not}
+use mathlib.Core.Path.{_≡_, sym, ap, ap₂, _∙_}
+use mathlib.Core.Bool.{false, not}
 use mathlib.Core.List.{List, _++_, append-assoc}
 use lib.Dec.{eqb}
-use lib.ListN.{length, drop, replicate, length-append, length-replicate, replicate-append-replicate}
+use lib.ListN.{length, drop, replicate, length-append, replicate-append-replicate}
 use lib.Seq.{drop-at}
 use borrow.Author.Tests.{lt-ltb}
 use Rattle.lists.proofs.Tests.{length-keep}
@@ -24,7 +24,7 @@ use Rattle.repack_model.specs.Repack.{maxIdentities, isListed, others, fronted,
 use Rattle.repack_model.specs.Packer.{startPacking, pushedBlocks, pushed, keptCells, pendingLength, packing}
 use Rattle.repack_model.proofs.Rows.{intact-rows}
 use Rattle.repack_model.proofs.Removal.{removed-is, rest-fits}
-use Rattle.repack.specs.Calls.{closed}
+use Rattle.repack.specs.Private.{closed}
 use Rattle.repack.proofs.Closing.{counted, kept-long, closed-archive}
 use Rattle.repack.proofs.Within.{in-use-few, in-use-length, in-use-archive}
 

@@ -2,17 +2,16 @@
 --     kept-block                              the cells that stay of one block
 --     Walking, walk-start, walk-turn, walk-end     what is written and what waits: what is left brings it to the whole
 --     Listing, list-start, list-turn, list-end     the positions of the dropped blocks so far
-use Prim.Native.Nat.{ℕ, zero, suc, _+_, _-_, _*_, _/_, _%_, _≤_, _<_}
+use Prim.Native.Nat.{ℕ, suc, _+_, _-_, _*_, _/_, _≤_, _<_}
 use native.Mathlib.Nat.{zero-add, add-zero}
 use native.Mathlib.Numerals.{add-one}
 use native.Mathlib.Decide.{decLt}
 use native.Mathlib.Omega.{arith}
 use mathlib.Core.Path.{_≡_, refl, sym, ap, ap₂, _∙_}
-use mathlib.Core.Bool.{Bool, true, false, cond, not, _&&_}
+use mathlib.Core.Bool.{Bool, true, false, cond, not}
 use mathlib.Core.List.{List, [], _∷_, _++_, map, flatten, append-assoc, append-nil, map-map}
-use lib.Dec.{T}
 use lib.ListN.{length, take, drop, set, length-append, length-take, drop-of-length-le, take-append-drop}
-use Rattle.lists.specs.Lists.{keep, all, equal, upFrom}
+use Rattle.lists.specs.Lists.{keep, all, upFrom}
 use Rattle.lists.proofs.Choice.{both}
 use Rattle.lists.proofs.Equal.{equal-eq}
 use Rattle.lists.proofs.Tests.{by-test, length-keep}
@@ -20,20 +19,21 @@ use Rattle.lists.proofs.UpFrom.{length-upFrom}
 use Rattle.buffers.specs.Buffer.{part}
 use Rattle.layout.specs.Cell.{cellLength}
 use Rattle.layout.specs.Block.{cellsPerBlock, blockLength, blockCell}
-use Rattle.buffers.proofs.Segments.{Begun, begin, begun-length, lend, lent, named, store, part-length}
+use Rattle.buffers.proofs.Segments.{Begun, begin, begun-length, lend, lent, named, store}
 use Rattle.archive_model.specs.Row.{Row, rowCell, rowIn, rowCount, rowsOf, isRow, isSound, isBlank}
 use Rattle.archive_model.specs.Buffer.{blocksIn}
 use Rattle.archive_model.specs.Append.{blockAt}
 use Rattle.archive_model.proofs.Pieces.{rows-count}
 use Rattle.archive_model.proofs.Exact.{sound-some}
-use Rattle.archive.specs.Archive.{soundRows, isWritten, cellsFrom, blocksFrom}
-use Rattle.archive.proofs.Scans.{rest-first, sound-le}
+use Rattle.archive.specs.Archive.{soundRows}
+use Rattle.archive.specs.Private.{isWritten, cellsFrom}
+use Rattle.archive.proofs.Scans.{blocksFrom, rest-first, sound-le}
 use Rattle.archive.proofs.Tested.{sound-cells}
 use Rattle.repack_model.specs.Repack.{isListed, others, isDropped, dropped, fronted}
 use Rattle.repack_model.specs.Packer.{Packing, fullLength, fullBlocks, pushedBlocks, pushed, cellsOf, keptCells, pendingLength, packing}
 use Rattle.repack_model.proofs.Packing.{few-blocks, one-block, cells-block-length, blocks-append, push-append, push-none}
 use Rattle.repack_model.proofs.Pieces.{keptIn, kept-is, kept-next, kept-none}
-use Rattle.repack.specs.Calls.{areRows, keptCell, keptFrom, Waits, Flushed, Listed, Walked}
+use Rattle.repack.specs.Private.{areRows, keptCell, keptFrom, Waits, Flushed, Listed}
 
 -- ---- the cells of one block
 

@@ -5,15 +5,13 @@
 use Prim.Native.Nat.{ℕ, _+_, _-_, _*_, _/_, _^_, _≤_, _<_}
 use native.Mathlib.Nat.{zero-add}
 use native.Mathlib.Omega.{arith}
-use mathlib.Core.Path.{_≡_, refl, sym, ap, ap₂, _∙_}
-use mathlib.Core.Bool.{Bool, true, false, cond, not}
-use mathlib.Core.List.{List, [], _∷_, _++_, map, flatten, append-nil}
-use lib.ListN.{length, take, drop, replicate, length-take, length-append}
-use lib.Seq.{drop-drop, drop-append-add}
-use Rattle.lists.specs.Lists.{padded, upFrom}
-use Rattle.buffers.specs.Buffer.{part}
+use mathlib.Core.Path.{_≡_, sym, ap, _∙_}
+use mathlib.Core.Bool.{true}
+use mathlib.Core.List.{List, _++_, map, flatten, append-nil}
+use lib.ListN.{length, take, replicate, length-take}
+use Rattle.lists.specs.Lists.{upFrom}
 use Rattle.layout.specs.Block.{cellsPerBlock, blockLength}
-use Rattle.buffers.proofs.Segments.{Begun, part-take}
+use Rattle.buffers.proofs.Segments.{part-take}
 use Rattle.archive_model.specs.Row.{Row, rowsBlock, rowCount, isSound}
 use Rattle.archive_model.specs.Buffer.{blocksFor, rowsAt, rowsIn, archiveOf, bufferOf, maxBlocks}
 use Rattle.archive_model.specs.Append.{verdict, blockAt}
@@ -24,7 +22,7 @@ use Rattle.archive.specs.Archive.{soundRows}
 use Rattle.repack_model.specs.Repack as model
 use Rattle.repack_model.specs.Packer.{keptCells, cellsOf}
 use Rattle.repack_model.proofs.Rows.{intact-rows}
-use Rattle.repack.specs.Calls.{Flushed}
+use Rattle.repack.specs.Private.{Flushed}
 
 -- the first block is block 0
 pub flushed-next : {put total rest : ℕ} {before after full full2 : List ℕ} → Flushed put total before after full full2 rest

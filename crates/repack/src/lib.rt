@@ -11,20 +11,20 @@ ghost use mathlib.Core.Bool.{true, cond};
 ghost use mathlib.Core.List.{_++_};
 ghost use Prim.Native.Nat.{_+_, _-_, _*_, _/_, _%_, _^_, _≤_, _<_};
 ghost use lib.Dec.{leb, eqb};
-ghost use lib.ListN.{length, take, drop, set};
+ghost use lib.ListN.{length, take, drop};
 ghost use Rattle.lists.specs.Lists as lists;
 ghost use Rattle.layout.specs.Cell.{cellLength};
 ghost use Rattle.layout.specs.Block.{cellsPerBlock, blockLength};
 ghost use Rattle.archive_model.specs.Row.{rowIn, isRow};
 ghost use Rattle.archive_model.specs.Buffer.{blocksFor, rowsIn, maxRows};
-ghost use Rattle.archive_model.specs.Append.{verdict, blockAt};
+ghost use Rattle.archive_model.specs.Append.{verdict};
 ghost use Rattle.archive_model.specs.Identity.{identityOf};
 ghost use Rattle.archive.specs.Archive.{soundRows};
 ghost use Rattle.repack_model.specs.Repack as model;
 ghost use Rattle.repack_model.specs.Packer as packer;
 ghost use Rattle.repack_model.specs.Packer.{pendingLength, packing};
 ghost use Rattle.repack.specs.Calls.{salvageResult, removeResult, packResult, finishResult};
-ghost use Rattle.repack.specs.Calls.{areRows, keptCell, keptFrom, Waits, Flushed, HasRoom, Listed, Walked, closed, NotSalvaged, NotPacked};
+ghost use Rattle.repack.specs.Private.{areRows, keptCell, keptFrom, Waits, Flushed, HasRoom, Listed, Walked, closed, NotSalvaged, NotPacked};
 
 // The most identities of one removal.
 pub const MAX_IDENTITIES: usize = 32;
@@ -100,10 +100,10 @@ fn is_listed(identity: u64, identities: &[u32]) -> bool
 
 // A cell goes behind `at` others, unless its transmitter is listed.
 fn push_cell(pending: &mut [u8], at: usize, cell: &[u8], identities: &[u32]) -> usize
-    requires { ⌜ (length (now pending) ≡ pendingLength) × (at < cellsPerBlock + cellsPerBlock) × (length (now cell) ≡ cellLength)
-        × (isRow (rowIn (now cell)) ≡ true) ⌝ }
-    ensures { λ r. ⌜ Waits (take (cellLength * at) (now (pending .entry))) (keptCell (now (identities .entry)) (now (cell .entry)))
-        (now (pending .exit)) (at + 1) r ⌝ }
+    requires { ⌜ (length (now pending) ≡ pendingLength) × (at < cellsPerBlock + cellsPerBlock)
+        × (length (now cell) ≡ cellLength) × (isRow (rowIn (now cell)) ≡ true) ⌝ }
+    ensures { λ r. ⌜ Waits (take (cellLength * at) (now (pending .entry)))
+        (keptCell (now (identities .entry)) (now (cell .entry))) (now (pending .exit)) (at + 1) r ⌝ }
 {
     if is_listed(identity_of(cell), identities) {
         return at;
@@ -123,10 +123,10 @@ fn push_cells(
     rows: usize,
     identities: &[u32],
 ) -> usize
-    requires { ⌜ (length (now pending) ≡ pendingLength) × (used < cellsPerBlock) × (length (now source) ≡ blockLength) × (rows ≤ cellsPerBlock)
-        × (areRows (now source) rows ≡ true) ⌝ }
-    ensures { λ r. ⌜ Waits (take (cellLength * used) (now (pending .entry))) (keptFrom (now (identities .entry)) (now (source .entry)) 0 rows)
-        (now (pending .exit)) (used + rows) r ⌝ }
+    requires { ⌜ (length (now pending) ≡ pendingLength) × (used < cellsPerBlock) × (length (now source) ≡ blockLength)
+        × (rows ≤ cellsPerBlock) × (areRows (now source) rows ≡ true) ⌝ }
+    ensures { λ r. ⌜ Waits (take (cellLength * used) (now (pending .entry)))
+        (keptFrom (now (identities .entry)) (now (source .entry)) 0 rows) (now (pending .exit)) (used + rows) r ⌝ }
 {
     let mut at = used;
     for i in 0..rows {
@@ -155,7 +155,8 @@ fn put_block(out: &mut [u8], k: usize, cells: &[u8])
 // The cells behind the first 15 go to the front.
 fn move_front(pending: &mut [u8])
     requires { ⌜ length (now pending) ≡ pendingLength ⌝ }
-    ensures { λ _. ⌜ now (pending .exit) ≡ drop packer.fullLength (now (pending .entry)) ++ drop packer.fullLength (now (pending .entry)) ⌝ }
+    ensures { λ _. ⌜ now (pending .exit)
+        ≡ drop packer.fullLength (now (pending .entry)) ++ drop packer.fullLength (now (pending .entry)) ⌝ }
 {
     let mut later = [0u8; FULL_LENGTH];
     bytes::copy(&pending[FULL_LENGTH..PENDING_LENGTH], &mut later);
@@ -164,8 +165,10 @@ fn move_front(pending: &mut [u8])
 
 // Where 15 of `total` cells fill block `k`, it is put, and the others wait.
 fn flush(pending: &mut [u8], total: usize, k: usize, full: &mut [u8]) -> usize
-    requires { ⌜ (length (now pending) ≡ pendingLength) × (total < cellsPerBlock + cellsPerBlock) × (length (now full) ≡ blockLength) ⌝ }
-    ensures { λ r. ⌜ Flushed k total (now (pending .entry)) (now (pending .exit)) (now (full .entry)) (now (full .exit)) r ⌝ }
+    requires { ⌜ (length (now pending) ≡ pendingLength) × (total < cellsPerBlock + cellsPerBlock)
+        × (length (now full) ≡ blockLength) ⌝ }
+    ensures { λ r. ⌜ Flushed k total (now (pending .entry)) (now (pending .exit)) (now (full .entry)) (now (full .exit))
+        r ⌝ }
 {
     if total < CELLS_PER_BLOCK {
         return total;
@@ -180,7 +183,8 @@ fn flush(pending: &mut [u8], total: usize, k: usize, full: &mut [u8]) -> usize
 // Position `k` goes behind `gone` others, where its block, of which `rows` rows are sound, is dropped.
 fn list_block(positions: &mut [u64], gone: usize, k: usize, block: &[u8], rows: usize) -> usize
     requires { ⌜ (rows ≡ soundRows (now block)) × HasRoom (now block) gone (now positions) ⌝ }
-    ensures { λ r. ⌜ Listed (model.isDropped (now (block .entry))) gone k (now (positions .entry)) (now (positions .exit)) r ⌝ }
+    ensures { λ r. ⌜ Listed (model.isDropped (now (block .entry))) gone k (now (positions .entry)) (now (positions .exit))
+        r ⌝ }
 {
     if rows != 0 {
         return gone;
@@ -203,10 +207,11 @@ fn pack_blocks(
     out: &mut [u8],
     positions: &mut [u64],
 ) -> Walk
-    requires { ⌜ (length (now pending) ≡ pendingLength) × (used < cellsPerBlock) × (next + length (now piece) / blockLength < 2 ^ 64)
-        × (length (now piece) ≤ length (now out)) × (length (model.dropped (now piece)) ≤ length (now positions)) ⌝ }
-    ensures { λ r. ⌜ Walked (packing next used (now (pending .entry))) (packer.keptCells (now (identities .entry)) (now (piece .entry))) r
-        (now (pending .exit)) (now (out .entry)) (now (out .exit)) ⌝ }
+    requires { ⌜ (length (now pending) ≡ pendingLength) × (used < cellsPerBlock)
+        × (next + length (now piece) / blockLength < 2 ^ 64) × (length (now piece) ≤ length (now out))
+        × (length (model.dropped (now piece)) ≤ length (now positions)) ⌝ }
+    ensures { λ r. ⌜ Walked (packing next used (now (pending .entry)))
+        (packer.keptCells (now (identities .entry)) (now (piece .entry))) r (now (pending .exit)) (now (out .entry)) (now (out .exit)) ⌝ }
     ensures { λ r. ⌜ (r .dropped ≡ length (model.dropped (now (piece .entry))))
         × (now (positions .exit) ≡ model.fronted (model.dropped (now (piece .entry))) (now (positions .entry))) ⌝ }
 {
@@ -338,9 +343,10 @@ fn blocks_for(rows: usize) -> usize
 // The rows that stay of the first `blocks` blocks of an archive, which are those in use, go into its front from left to right: every 15 into a block,
 // and the others wait. A block is written only after it was read, since no more blocks are put than were passed.
 fn pack_within(buffer: &mut [u8], blocks: usize, identities: &[u32], pending: &mut [u8]) -> Walk
-    requires { ⌜ (verdict (now buffer) .number ≡ 0) × (blocks ≡ blocksFor (length (rowsIn (now buffer)))) × (length (now pending) ≡ pendingLength) ⌝ }
-    ensures { λ r. ⌜ Walked packer.startPacking (packer.keptCells (now (identities .entry)) (now (buffer .entry))) r (now (pending .exit))
-        (now (buffer .entry)) (now (buffer .exit)) ⌝ }
+    requires { ⌜ (verdict (now buffer) .number ≡ 0) × (blocks ≡ blocksFor (length (rowsIn (now buffer))))
+        × (length (now pending) ≡ pendingLength) ⌝ }
+    ensures { λ r. ⌜ Walked packer.startPacking (packer.keptCells (now (identities .entry)) (now (buffer .entry))) r
+        (now (pending .exit)) (now (buffer .entry)) (now (buffer .exit)) ⌝ }
 {
     let mut waits = 0;
     let mut put = 0;
@@ -366,7 +372,8 @@ fn pack_within(buffer: &mut [u8], blocks: usize, identities: &[u32], pending: &m
 // The rows of transmitters that are listed leave the archive, whose other rows are packed anew in its own buffer; blocks that are no longer needed
 // are zero. Refused: 16, 12 with the position, 10 for more than 32 identities; then the buffer is as it was.
 pub fn remove(buffer: &mut [u8], identities: &[u32]) -> Removed
-    ensures { λ r. ⌜ removeResult r (now (buffer .exit)) ≡ model.removeOf (now (buffer .entry)) (now (identities .entry)) ⌝ }
+    ensures { λ r. ⌜ removeResult r (now (buffer .exit))
+        ≡ model.removeOf (now (buffer .entry)) (now (identities .entry)) ⌝ }
 {
     let rows = archive::open(buffer);
     match rows {
@@ -379,7 +386,8 @@ pub fn remove(buffer: &mut [u8], identities: &[u32]) -> Removed
 // The same from an archive of `n` rows.
 fn remove_from(buffer: &mut [u8], n: usize, identities: &[u32]) -> Removed
     requires { ⌜ (verdict (now buffer) .number ≡ 0) × (n ≡ length (rowsIn (now buffer))) ⌝ }
-    ensures { λ r. ⌜ removeResult r (now (buffer .exit)) ≡ model.removeOf (now (buffer .entry)) (now (identities .entry)) ⌝ }
+    ensures { λ r. ⌜ removeResult r (now (buffer .exit))
+        ≡ model.removeOf (now (buffer .entry)) (now (identities .entry)) ⌝ }
 {
     if MAX_IDENTITIES < identities.len() {
         return Removed::Refused(Refusal::Argument);
@@ -420,7 +428,8 @@ pub fn pack(
     positions: &mut [u64],
 ) -> Repacked
     ensures { λ r. ⌜ packResult r (now (pending .exit)) (now (out .exit)) (now (positions .exit))
-        ≡ packer.packOf next used (now (pending .entry)) (now (piece .entry)) (now (identities .entry)) (now (out .entry)) (now (positions .entry)) ⌝ }
+        ≡ packer.packOf next used (now (pending .entry)) (now (piece .entry)) (now (identities .entry)) (now (out .entry))
+        (now (positions .entry)) ⌝ }
 {
     if !is_packing(pending, used, next) {
         return not_packed(used, next, Refusal::NotAccepted);
@@ -463,7 +472,8 @@ fn not_packed(used: usize, next: usize, why: Refusal) -> Repacked
 
 // The end of pieces: the last block, where cells wait, in the front of `out`, and its length, 512 or 0. Refused: 11, 6 for an output too short.
 pub fn finish(pending: &[u8], used: usize, next: usize, out: &mut [u8]) -> Ended
-    ensures { λ r. ⌜ finishResult r (now (out .exit)) ≡ packer.finishOf next used (now (pending .entry)) (now (out .entry)) ⌝ }
+    ensures { λ r. ⌜ finishResult r (now (out .exit))
+        ≡ packer.finishOf next used (now (pending .entry)) (now (out .entry)) ⌝ }
 {
     if !is_packing(pending, used, next) {
         return Ended {

@@ -4,19 +4,16 @@
 --     block-cells, archive-cells      a block and an archive by their cells
 --     pieces-packed                   the claim
 use Prim.Native.Nat.{ℕ, zero, suc, _+_, _-_, _*_, _/_, _%_, _≤_, _<_}
-use native.Mathlib.Nat.{zero-add, add-zero, add-suc, suc-add, add-assoc}
+use native.Mathlib.Nat.{zero-add, add-zero, add-assoc}
 use native.Mathlib.Decide.{decLt}
 use native.Mathlib.Omega.{arith}
 use mathlib.Core.Path.{_≡_, refl, sym, ap, ap₂, _∙_}
-use mathlib.Core.Bool.{Bool, true, false, cond}
 use mathlib.Core.List.{List, [], _∷_, _++_, map, flatten, append-assoc, append-nil, map-append}
-use lib.Dec.{eqb}
-use lib.ListN.{length, take, drop, length-append, length-take, length-drop, length-map, take-append-drop, drop-of-length-le}
+use lib.ListN.{length, take, drop, length-append, length-drop}
 use lib.Seq.{take-all, take-at, take-add, take-nil, drop-drop, drop-append-le, drop-at, getD-drop}
-use borrow.Author.Tests.{eq-eqb, ne-eqb, eqb-true}
-use Rattle.lists.specs.Lists.{all, padded, upFrom}
-use Rattle.lists.proofs.Choice.{both}
-use Rattle.lists.proofs.UpFrom.{upFrom-add}
+use borrow.Author.Tests.{eq-eqb, ne-eqb}
+use Rattle.lists.specs.Lists.{padded, upFrom}
+use Rattle.lists.proofs.UpFrom.{upFrom-add, map-shift}
 use Rattle.buffers.specs.Buffer.{part}
 use Rattle.layout.specs.Cell.{cellLength}
 use Rattle.layout.specs.Block.{cellsPerBlock, bodyLength, blockLength, sealed, blockOf}
@@ -28,12 +25,6 @@ use Rattle.archive_model.specs.Buffer.{blocksFor, rowsAt, archiveOf}
 use Rattle.archive_model.proofs.Blocks.{Fit, Fits, noRow, short, header-length}
 use Rattle.archive_model.proofs.Buffers.{map-same, flatten-append, group-fits}
 use Rattle.repack_model.specs.Packer.{Packing, startPacking, fullLength, cellsBlock, fullBlocks, pushedBlocks, pushed, lastBlock, cellsOf}
-
--- numbers in a row from n + a on
-pub shift-by : {A : Type 0} (f : ℕ → A) (n a m : ℕ) → map f (upFrom (n + a) m) ≡ map (λ j. f (n + j)) (upFrom a m)
-unfolding upFrom
-shift-by f n a zero = refl
-shift-by f n a (suc m) = ap (λ (l : List _). f (n + a) ∷ l) (ap (λ (i : ℕ). map f (upFrom i m)) (sym (add-suc n a)) ∙ shift-by f n (suc a) m)
 
 -- ---- two lists of cells
 
@@ -64,7 +55,7 @@ module _ (xs ys : List ℕ) where
       ∙ ap₂ _++_
       (ap flatten (map-same f (λ j. cellsBlock (k + j) (part (fullLength * j) fullLength xs)) 0 n
       (λ j l h. ap (cellsBlock (k + j)) (left xs ys (length xs) (fullLength * j) fullLength refl (omega arith)))))
-      (ap flatten (shift-by f n 0 m
+      (ap flatten (map-shift f n 0 m
       ∙ map-same (λ j. f (n + j)) (λ j. cellsBlock (k + n + j) (part (fullLength * j) fullLength rest)) 0 m
       (λ j l h.
       let e : fullLength * (n + j) ≡ fullLength * n + fullLength * j = omega arith in

@@ -1,58 +1,28 @@
 -- What stays of a buffer's rows, block by block and piece by piece.
 --     keptIn, kept-next, kept-none    the cells that stay of some blocks; of one block more, and of none
 --     pieces-packed                   pieces are the whole
-use Prim.Native.Nat.{ℕ, zero, suc, _+_, _-_, _*_, _/_, _%_, _≤_, _<_}
-use native.Mathlib.Nat.{zero-add, add-zero}
+use Prim.Native.Nat.{ℕ, _%_, _<_}
 use native.Mathlib.Omega.{arith}
 use mathlib.Core.Path.{_≡_, refl, sym, ap, ap₂, _∙_}
 use mathlib.Core.Bool.{Bool, true, not}
-use mathlib.Core.List.{List, [], _∷_, _++_, map, flatten, append-assoc, append-nil, map-append}
+use mathlib.Core.List.{List, [], _∷_, _++_, map, flatten, append-assoc, map-append}
 use lib.Dec.{eqb}
-use lib.ListN.{length, length-append}
+use lib.ListN.{length}
 use borrow.Author.Tests.{eqb-true}
 use Rattle.lists.specs.Lists.{keep, all, upFrom}
 use Rattle.lists.proofs.Choice.{both}
 use Rattle.lists.proofs.Keep.{keep-append}
-use Rattle.lists.proofs.UpFrom.{upFrom-add}
-use Rattle.buffers.specs.Buffer.{part}
 use Rattle.layout.specs.Block.{blockLength}
-use Rattle.buffers.proofs.Segments.{left, right}
 use Rattle.archive_model.specs.Row.{Row, rowCell, rowsOf, isSound}
 use Rattle.archive_model.specs.Buffer.{blocksIn, archiveOf}
-use Rattle.archive_model.proofs.Blocks.{Fits}
-use Rattle.archive_model.proofs.Buffers.{map-same, flatten-append}
+use Rattle.archive_model.proofs.Buffers.{flatten-append}
+use Rattle.archive_model.proofs.Pieces.{pieces-blocks}
 use Rattle.repack_model.specs.Repack.{soundRows, isListed, others}
 use Rattle.repack_model.specs.Packer.{Packing, startPacking, fullLength, pushedBlocks, pushed, lastBlock, cellsOf, keptCells, packedIn}
 use Rattle.repack_model.specs.Claims.{PiecesPacked}
 use Rattle.repack_model.proofs.Rows.{rowsKept, sound-rows-fit}
-use Rattle.repack_model.proofs.Packing.{shift-by, push-none, push-waits, blocks-append, push-append, archive-cells}
+use Rattle.repack_model.proofs.Packing.{push-none, push-waits, blocks-append, push-append, archive-cells}
 use Rattle.repack_model.proofs.Removal.{fits-keep}
-
--- ---- the blocks of two pieces
-
-module _ (xs ys : List ℕ) (e : length xs % blockLength ≡ 0) where
-  abbrev n : ℕ
-  n = length xs / blockLength
-
-  abbrev m : ℕ
-  m = length ys / blockLength
-
-  abbrev at : ℕ → List ℕ
-  at k = part (blockLength * k) blockLength (xs ++ ys)
-
-  pub pieces-blocks : blocksIn (xs ++ ys) ≡ blocksIn xs ++ blocksIn ys
-  unfolding blocksIn
-  pieces-blocks =
-      let count : length (xs ++ ys) / blockLength ≡ n + m = omega (arith, length-append xs ys) in
-      ap (λ (c : ℕ). map at (upFrom 0 c)) count
-      ∙ ap (map at) (upFrom-add 0 n m ∙ ap (λ (c : ℕ). upFrom 0 n ++ upFrom c m) (zero-add n ∙ sym (add-zero n))) ∙ map-append at (upFrom 0 n) (upFrom (n + 0) m)
-      ∙ ap₂ _++_
-      (map-same at (λ k. part (blockLength * k) blockLength xs) 0 n (λ k l h. left xs ys (length xs) (blockLength * k) blockLength refl (omega arith)))
-      (shift-by at n 0 m
-      ∙ map-same (λ k. at (n + k)) (λ k. part (blockLength * k) blockLength ys) 0 m
-      (λ k l h.
-      let d : blockLength * (n + k) ≡ length xs + blockLength * k = omega arith in
-      ap (λ (a : ℕ). part a blockLength (xs ++ ys)) d ∙ right xs ys (length xs) (blockLength * k) blockLength refl))
 
 -- ---- the cells that stay
 

@@ -1,13 +1,11 @@
 -- The rows of the sound blocks of a buffer, and the blocks that are dropped.
---     blocks-count                    how many blocks a buffer has
 --     sound-rows-fit, sound-rows-few  the rows of its sound blocks fit, and are at most 15 a block
 --     accounted                       every block is kept, dropped or all zero
 --     intact-rows, intact-dropped     in an archive every row is in a sound block, and no block is dropped
 use Prim.Native.Nat.{ℕ, zero, suc, _+_, _*_, _/_, _≤_, _<_}
-use native.Mathlib.Nat.{zero-add}
 use native.Mathlib.Omega.{arith}
 use mathlib.Core.Path.{_≡_, refl, sym, ap, _∙_}
-use mathlib.Core.Bool.{Bool, true, false, cond, not, _||_}
+use mathlib.Core.Bool.{true, false}
 use mathlib.Core.List.{List, [], _∷_, _++_, map, flatten, List·Memᴰ, List·Memᴰ·not-nil, List·Memᴰ·cases-cons}
 use mathlib.Core.Logic.{⊎-elim}
 use lib.Dec.{ltb}
@@ -17,15 +15,15 @@ use Rattle.lists.specs.Lists.{keep, count, pairwise, upFrom}
 use Rattle.lists.proofs.Tests.{by-test}
 use Rattle.lists.proofs.Keep.{keep-map, keep-in, keep-from}
 use Rattle.lists.proofs.Pairwise.{pairwise-keep}
-use Rattle.lists.proofs.UpFrom.{length-upFrom, upFrom-in, pairwise-map}
+use Rattle.lists.proofs.UpFrom.{upFrom-in, pairwise-map}
 use Rattle.layout.specs.Block.{cellsPerBlock, blockLength}
-use Rattle.archive_model.specs.Row.{Row, rowCount, rowsOf, isSound, isBlank}
-use Rattle.archive_model.specs.Buffer.{None, blocksIn, rowsIn, mismatch}
+use Rattle.archive_model.specs.Row.{Row, rowsOf, isSound, isBlank}
+use Rattle.archive_model.specs.Buffer.{blocksIn, rowsIn}
 use Rattle.archive_model.specs.Append.{verdict, blockAt}
 use Rattle.archive_model.proofs.Blocks.{Fits}
 use Rattle.archive_model.proofs.Buffers.{blank, no-rows, none-flat, blank-blank, blank-count}
-use Rattle.archive_model.proofs.Pieces.{rows-count}
-use Rattle.archive_model.proofs.Exact.{sound-some, sound-few, sound-fits, fits-append, Good, Shape, is-shape}
+use Rattle.archive_model.proofs.Pieces.{blocks-count, rows-count}
+use Rattle.archive_model.proofs.Exact.{sound-some, sound-few, sound-fits, fits-append, Shape, is-shape}
 use Rattle.archive_model.proofs.Cursor.{verdict-facts, blocks-of}
 use Rattle.repack_model.specs.Repack.{soundRows, isDropped, dropped}
 use Rattle.repack_model.specs.Claims.{Accounted}
@@ -117,17 +115,13 @@ module _ (buffer : List ℕ) where
   abbrev at : ℕ → List ℕ
   at k = blockAt k buffer
 
-  pub blocks-count : length (blocksIn buffer) ≡ blocks
-  unfolding blocksIn
-  blocks-count = length-map (upFrom 0 blocks) at ∙ length-upFrom 0 blocks
-
   pub sound-rows-fit : Fits (soundRows buffer)
   unfolding soundRows
   sound-rows-fit = kept-fit (blocksIn buffer)
 
   pub sound-rows-few : length (soundRows buffer) ≤ cellsPerBlock * blocks
   unfolding soundRows
-  sound-rows-few = omega (arith, kept-few (blocksIn buffer), blocks-count)
+  sound-rows-few = omega (arith, kept-few (blocksIn buffer), blocks-count buffer)
 
   -- the positions are those of the blocks that are dropped
   dropped-blocks : keep isDropped (blocksIn buffer) ≡ map at (dropped buffer)
@@ -143,7 +137,7 @@ module _ (buffer : List ℕ) where
   pub accounted : Accounted buffer
   unfolding dropped
   accounted = record {
-    blocks = omega (arith, three-kinds (blocksIn buffer), dropped-count, blocks-count);
+    blocks = omega (arith, three-kinds (blocksIn buffer), dropped-count, blocks-count buffer);
     rising = pairwise-keep ltb (λ k. isDropped (at k)) (upFrom 0 blocks) upFrom-rises;
     listed = λ k m. (omega (arith, upFrom-below 0 blocks (keep-from (λ k. isDropped (at k)) (upFrom 0 blocks) m .0)), keep-from (λ k. isDropped (at k)) (upFrom 0 blocks) m .1);
     every = λ k h d. keep-in (λ k. isDropped (at k)) (upFrom-in 0 blocks k (omega arith) (omega arith)) d;

@@ -10,7 +10,7 @@ use Rattle.layout.specs.Block.{cellsPerBlock, blockLength}
 use Rattle.archive_model.specs.Row.{Row, isRow, isSound, isBlank}
 use Rattle.archive_model.specs.Buffer.{blocksFor, blocksIn, rowsIn, archiveOf, bufferOf}
 use Rattle.archive_model.specs.Append.{verdict, appendOf, blockAt}
-use Rattle.repack_model.specs.Repack.{soundRows, isDropped, dropped, Salvaged, salvageOf, maxIdentities, others, Removed, removeOf}
+use Rattle.repack_model.specs.Repack.{soundRows, isDropped, dropped, salvageOf, maxIdentities, others, removeOf}
 use Rattle.repack_model.specs.Packer.{startPacking, packedIn}
 
 -- ---- salvage
@@ -23,26 +23,38 @@ salvagedFront buffer output positions = take (length buffer) (salvageOf buffer o
 abbrev pub Kept : Type 0
 Kept =
     (buffer output positions : List ℕ) → salvageOf buffer output positions .number ≡ 0
-    → (verdict (salvagedFront buffer output positions) .number ≡ 0) × (rowsIn (salvagedFront buffer output positions) ≡ soundRows buffer)
+    → (verdict (salvagedFront buffer output positions) .number ≡ 0)
+    × (rowsIn (salvagedFront buffer output positions) ≡ soundRows buffer)
 
 -- Accounted: every block is kept, dropped or all zero, and no two of them; the list rises, and has a position just where its block is dropped.
 pub record Accounted (buffer : List ℕ) : Type 0 where
-  pub blocks : count isSound (blocksIn buffer) + length (dropped buffer) + count isBlank (blocksIn buffer) ≡ length buffer / blockLength
+  pub blocks :
+      count isSound (blocksIn buffer) + length (dropped buffer) + count isBlank (blocksIn buffer)
+      ≡ length buffer / blockLength
   pub rising : pairwise ltb (dropped buffer) ≡ true
-  pub listed : (k : ℕ) → List·Memᴰ k (dropped buffer) → (k < length buffer / blockLength) × (isDropped (blockAt k buffer) ≡ true)
-  pub every : (k : ℕ) → k < length buffer / blockLength → isDropped (blockAt k buffer) ≡ true → List·Memᴰ k (dropped buffer)
+  pub listed : (k : ℕ) → List·Memᴰ k (dropped buffer)
+      → (k < length buffer / blockLength) × (isDropped (blockAt k buffer) ≡ true)
+  pub every : (k : ℕ) → k < length buffer / blockLength → isDropped (blockAt k buffer) ≡ true
+      → List·Memᴰ k (dropped buffer)
 
 -- Intact: "an intact archive comes back unchanged, with 0 dropped", whatever the list's length is.
 abbrev pub Intact : Type 0
 Intact =
     (buffer output positions : List ℕ) → verdict buffer .number ≡ 0 → length buffer ≤ length output
     → salvageOf buffer output positions
-    ≡ record { number = 0; count = 0; rows = length (rowsIn buffer); output = buffer ++ drop (length buffer) output; positions = positions }
+    ≡ record {
+      number = 0;
+      count = 0;
+      rows = length (rowsIn buffer);
+      output = buffer ++ drop (length buffer) output;
+      positions = positions;
+    }
 
 -- Again: salvage of what salvage wrote is just that, with 0 dropped.
 abbrev pub SalvagedAgain : Type 0
 SalvagedAgain =
-    (buffer output positions output2 positions2 : List ℕ) → salvageOf buffer output positions .number ≡ 0 → length buffer ≤ length output2
+    (buffer output positions output2 positions2 : List ℕ) → salvageOf buffer output positions .number ≡ 0
+    → length buffer ≤ length output2
     → salvageOf (salvagedFront buffer output positions) output2 positions2
     ≡ record {
       number = 0;
@@ -58,10 +70,12 @@ pub record Untouched (buffer output positions : List ℕ) : Type 0 where
   pub listLength : length (salvageOf buffer output positions .positions) ≡ length positions
   pub outputPast : drop (length buffer) (salvageOf buffer output positions .output) ≡ drop (length buffer) output
   pub listPast :
-      drop (salvageOf buffer output positions .count) (salvageOf buffer output positions .positions) ≡ drop (salvageOf buffer output positions .count) positions
+      drop (salvageOf buffer output positions .count) (salvageOf buffer output positions .positions)
+      ≡ drop (salvageOf buffer output positions .count) positions
   pub refused :
       (salvageOf buffer output positions .number ≡ 0 → ⊥)
-      → (salvageOf buffer output positions .output ≡ output) × (salvageOf buffer output positions .positions ≡ positions)
+      → (salvageOf buffer output positions .output ≡ output)
+      × (salvageOf buffer output positions .positions ≡ positions)
 
 -- ---- removal
 
@@ -69,20 +83,23 @@ pub record Untouched (buffer output positions : List ℕ) : Type 0 where
 abbrev pub Remains : Type 0
 Remains =
     (buffer identities : List ℕ) → removeOf buffer identities .number ≡ 0
-    → (verdict (removeOf buffer identities .buffer) .number ≡ 0) × (rowsIn (removeOf buffer identities .buffer) ≡ others identities (rowsIn buffer))
+    → (verdict (removeOf buffer identities .buffer) .number ≡ 0)
+    × (rowsIn (removeOf buffer identities .buffer) ≡ others identities (rowsIn buffer))
     × (length (removeOf buffer identities .buffer) ≡ length buffer)
 
 -- Again: "A second run with the same list changes nothing", and frees nothing.
 abbrev pub RemovedAgain : Type 0
 RemovedAgain =
     (buffer identities : List ℕ) → removeOf buffer identities .number ≡ 0
-    → removeOf (removeOf buffer identities .buffer) identities ≡ record { number = 0; position = 0; freed = 0; buffer = removeOf buffer identities .buffer }
+    → removeOf (removeOf buffer identities .buffer) identities
+    ≡ record { number = 0; position = 0; freed = 0; buffer = removeOf buffer identities .buffer }
 
 -- Freed: "Blocks no longer needed are zero filled and their number reported": those that are all zero now and were not before.
 abbrev pub Freed : Type 0
 Freed =
     (buffer identities : List ℕ) → removeOf buffer identities .number ≡ 0
-    → (removeOf buffer identities .freed + count isBlank (blocksIn buffer) ≡ count isBlank (blocksIn (removeOf buffer identities .buffer)))
+    → (removeOf buffer identities .freed + count isBlank (blocksIn buffer)
+    ≡ count isBlank (blocksIn (removeOf buffer identities .buffer)))
     × ((k : ℕ) → blocksFor (length (others identities (rowsIn buffer))) ≤ k → k < length buffer / blockLength
     → isBlank (blockAt k (removeOf buffer identities .buffer)) ≡ true)
 
@@ -92,7 +109,11 @@ ThenAppend =
     (buffer identities : List ℕ) (r : Row) → removeOf buffer identities .number ≡ 0 → isRow r ≡ true
     → length (others identities (rowsIn buffer)) < cellsPerBlock * (length buffer / blockLength)
     → appendOf (removeOf buffer identities .buffer) r
-    ≡ record { number = 0; position = 0; buffer = bufferOf (length buffer) (others identities (rowsIn buffer) ++ (r ∷ [])) }
+    ≡ record {
+      number = 0;
+      position = 0;
+      buffer = bufferOf (length buffer) (others identities (rowsIn buffer) ++ (r ∷ []));
+    }
 
 -- Both lists: removal by one list and then by another is removal by both.
 abbrev pub BothLists : Type 0

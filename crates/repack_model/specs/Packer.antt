@@ -33,7 +33,9 @@ cellsBlock k cells = sealed (padded bodyLength (rowsHeader k (length cells / cel
 
 -- the blocks that cells fill, the first of them block k
 unfoldable pub fullBlocks : ℕ → List ℕ → List ℕ
-fullBlocks k cells = flatten (map (λ j. cellsBlock (k + j) (part (fullLength * j) fullLength cells)) (upFrom 0 (length cells / fullLength)))
+fullBlocks k cells =
+    flatten
+    (map (λ j. cellsBlock (k + j) (part (fullLength * j) fullLength cells)) (upFrom 0 (length cells / fullLength)))
 
 -- cells behind those that wait: the blocks that they fill together, and what is packed then
 abbrev pub pushedBlocks : Packing → List ℕ → List ℕ
@@ -79,16 +81,21 @@ pub record Packed : Type 0 where
   pub positions : List ℕ
 
 abbrev pub keptAs : ℕ → Packing → List ℕ → List ℕ → Packed
-keptAs number p output positions = record { number = number; count = 0; next = p; output = output; positions = positions }
+keptAs number p output positions =
+    record { number = number; count = 0; next = p; output = output; positions = positions }
 
 -- a piece: 11; 16 for one that isn't whole blocks or brings more than 2^32 of them in all; 10 for more than 32 identities; 6 for an output shorter
 -- than the piece or a list too short. Positions count from the first block of the piece.
 unfoldable pub packOf : ℕ → ℕ → List ℕ → List ℕ → List ℕ → List ℕ → List ℕ → Packed
 packOf next used pending piece identities output positions =
-    cond (not (isPacking next used pending)) (keptAs (numberOf NotAccepted) (packing next used pending) output positions)
-    (cond (not (eqb (length piece % blockLength) 0 && leb (next + length piece / blockLength) maxBlocks)) (keptAs (numberOf Size) (packing next used pending) output positions)
-    (cond (ltb maxIdentities (length identities)) (keptAs (numberOf Argument) (packing next used pending) output positions)
-    (cond (ltb (length output) (length piece) || ltb (length positions) (length (dropped piece))) (keptAs (numberOf ShortOutput) (packing next used pending) output positions)
+    cond (not (isPacking next used pending))
+    (keptAs (numberOf NotAccepted) (packing next used pending) output positions)
+    (cond (not (eqb (length piece % blockLength) 0 && leb (next + length piece / blockLength) maxBlocks))
+    (keptAs (numberOf Size) (packing next used pending) output positions)
+    (cond (ltb maxIdentities (length identities))
+    (keptAs (numberOf Argument) (packing next used pending) output positions)
+    (cond (ltb (length output) (length piece) || ltb (length positions) (length (dropped piece)))
+    (keptAs (numberOf ShortOutput) (packing next used pending) output positions)
     (record {
       number = 0;
       count = length (dropped piece);
@@ -106,11 +113,17 @@ pub record Finished : Type 0 where
 unfoldable pub finishOf : ℕ → ℕ → List ℕ → List ℕ → Finished
 finishOf next used pending output =
     cond (not (isPacking next used pending)) (record { number = numberOf NotAccepted; length = 0; output = output })
-    (cond (ltb (length output) (length (lastBlock (packing next used pending)))) (record { number = numberOf ShortOutput; length = 0; output = output })
-    (record { number = 0; length = length (lastBlock (packing next used pending)); output = fronted (lastBlock (packing next used pending)) output }))
+    (cond (ltb (length output) (length (lastBlock (packing next used pending))))
+    (record { number = numberOf ShortOutput; length = 0; output = output })
+    (record {
+      number = 0;
+      length = length (lastBlock (packing next used pending));
+      output = fronted (lastBlock (packing next used pending)) output;
+    }))
 
 -- ---- what pieces give together
 
 abbrev pub packedIn : Packing → List ℕ → List (List ℕ) → List ℕ
 packedIn p identities [] = lastBlock p
-packedIn p identities (x ∷ xs) = pushedBlocks p (keptCells identities x) ++ packedIn (pushed p (keptCells identities x)) identities xs
+packedIn p identities (x ∷ xs) =
+    pushedBlocks p (keptCells identities x) ++ packedIn (pushed p (keptCells identities x)) identities xs

@@ -42,7 +42,8 @@ fronted xs old = xs ++ drop (length xs) old
 -- buffer's length, and the positions in the front of the list
 unfoldable pub salvageOf : List ℕ → List ℕ → List ℕ → Salvaged
 salvageOf buffer output positions =
-    cond (not (isWhole (length buffer))) (record { number = numberOf Size; count = 0; rows = 0; output = output; positions = positions })
+    cond (not (isWhole (length buffer)))
+    (record { number = numberOf Size; count = 0; rows = 0; output = output; positions = positions })
     (cond (ltb (length output) (length buffer) || ltb (length positions) (length (dropped buffer)))
     (record { number = numberOf ShortOutput; count = 0; rows = 0; output = output; positions = positions })
     (record {
@@ -76,8 +77,10 @@ pub record Removed : Type 0 where
 -- 16, 12 with its position, 10; else the other rows in the same buffer, and the blocks no longer needed
 unfoldable pub removeOf : List ℕ → List ℕ → Removed
 removeOf buffer identities =
-    cond (not (eqb (verdict buffer .number) 0)) (record { number = verdict buffer .number; position = verdict buffer .position; freed = 0; buffer = buffer })
-    (cond (ltb maxIdentities (length identities)) (record { number = numberOf Argument; position = 0; freed = 0; buffer = buffer })
+    cond (not (eqb (verdict buffer .number) 0))
+    (record { number = verdict buffer .number; position = verdict buffer .position; freed = 0; buffer = buffer })
+    (cond (ltb maxIdentities (length identities))
+    (record { number = numberOf Argument; position = 0; freed = 0; buffer = buffer })
     (record {
       number = 0;
       position = 0;

@@ -13,10 +13,10 @@ use native.Mathlib.Omega.{arith}
 use mathlib.Core.Path.{_≡_, refl, sym, ap, _∙_, subst}
 use mathlib.Core.Bool.{Bool, true, false, cond, _||_}
 use mathlib.Core.List.{List, [], _∷_}
-use lib.Dec.{ltb, leb}
+use lib.Dec.{ltb}
 use lib.ListN.{length, length-map, take, drop}
 use lib.Seq.{take-all, drop-drop}
-use borrow.Author.Tests.{lt-ltb, le-ltb, ltb-false, le-leb, leb-true, eq-eqb, eqb-true}
+use borrow.Author.Tests.{lt-ltb, le-ltb, ltb-false, le-leb, eq-eqb, eqb-true}
 use Rattle.lists.specs.Lists.{all, upFrom, count}
 use Rattle.lists.proofs.Choice.{both, neither}
 use Rattle.lists.proofs.Tests.{by-test}
@@ -27,12 +27,13 @@ use Rattle.buffers.specs.Buffer.{part}
 use Rattle.buffers.proofs.Segments.{part-take}
 use Rattle.layout.specs.BigEndian.{unbe}
 use Rattle.layout.specs.Cell.{cellLength, cellUsed, cellBytes}
-use Rattle.layout.specs.Block.{cellsPerBlock, blockLength, blockCell}
+use Rattle.layout.specs.Block.{blockLength, blockCell}
 use Rattle.archive_model.specs.Row.{Row, rowCount, rowIn, rowsOf, isRow, isSound}
 use Rattle.archive_model.specs.Buffer.{maxBlocks, maxRows, blocksIn, Scan, scanBlock, scanBlocks}
 use Rattle.archive_model.specs.Append.{isScan, feedOf}
 use Rattle.archive_model.specs.Identity.{identityOf}
-use Rattle.archive.specs.Archive.{blocksFrom}
+use Rattle.archive.proofs.Scans.{blocksFrom}
+use Rattle.archive.proofs.Calls.{scan-facts}
 use Rattle.archive.proofs.Cells.{used-is, bytes-shown}
 use Rattle.report_model.specs.Report.{Line, Report, isReport, maxArchives, maxLines, lineOf, joined, insert, addRows, keptIn, looseIn, rowsOfLine, isRising, sumOf}
 use Rattle.report_model.specs.Pieces.{Tally, startTally, countedRows, counted, addBlock, addBlocks, Adding, isAdding}
@@ -40,8 +41,8 @@ use Rattle.report_model.proofs.Adding.{rows-after, sound-facts, counted-length,
 use Rattle.report_model.proofs.Order.{add-first, add-none}
 use Rattle.report_model.proofs.Additions.{facts}
 use Rattle.report_model.proofs.Lines.{rising-insert, rising-added, sum-insert, more-added, kinds}
-use Rattle.report.specs.Lines.{linesLength, linesOf, rowsBetween, totalOf, Inserted}
-use Rattle.report.specs.Report.{Sane}
+use Rattle.report.specs.Lines.{linesLength, linesOf}
+use Rattle.report.specs.Private.{rowsBetween, totalOf, Inserted, Sane}
 
 -- ---- one cell
 
@@ -254,13 +255,8 @@ module _ (piece : List ℕ) where
 
 -- ---- the ends of `add_block`
 
-pub scan-blocks : (s : Scan) → isScan s ≡ true → s .blocks ≤ maxBlocks
-scan-blocks s h = leb-true (s .blocks) maxBlocks (both (leb (s .blocks) maxBlocks) _ h .0)
-
 pub scan-few : (s : Scan) → isScan s ≡ true → s .rows ≤ maxRows
-scan-few s h =
-    let w = both (leb (s .blocks) maxBlocks) _ h in
-    omega (arith, leb-true (s .blocks) maxBlocks (w .0), leb-true (s .rows) (cellsPerBlock * s .blocks) (w .1))
+scan-few s h = omega (arith, scan-facts s h)
 
 module _ (t : Tally) (block : List ℕ) (next : Scan) (is : next ≡ scanBlock (t .scan) block) where
   pub over-block : (t .over || ltb maxLines (length (addRows (countedRows block) (t .lines)))) ≡ true → record { lines = []; kept = 0; loose = 0; over = true; scan = next } ≡ addBlock t block

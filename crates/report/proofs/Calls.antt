@@ -1,5 +1,5 @@
 -- The calls: each of their ends is one case of its definition.
-use Prim.Native.Nat.{ℕ, _+_, _-_, _*_, _/_, _%_, _≤_, _<_}
+use Prim.Native.Nat.{ℕ, _+_, _*_, _/_, _%_, _≤_, _<_}
 use native.Mathlib.Omega.{arith}
 use mathlib.Core.Path.{_≡_}
 use mathlib.Core.Bool.{true, false}
@@ -9,8 +9,8 @@ use lib.ListN.{length, getD}
 use borrow.Author.Tests.{lt-ltb, le-ltb, le-leb, lt-leb, eq-eqb, ne-eqb}
 use Rattle.refusal.specs.Number.{numberOf}
 use Rattle.refusal.specs.declared.Refusal.the-variants.{Argument, NotAccepted, Size, Transmitters}
-use Rattle.layout.specs.Block.{blockLength, cellsPerBlock}
-use Rattle.archive_model.specs.Buffer.{None, maxBlocks, maxRows, isWhole, blocksIn, Scan}
+use Rattle.layout.specs.Block.{blockLength}
+use Rattle.archive_model.specs.Buffer.{None, maxBlocks, maxRows, isWhole, blocksIn}
 use Rattle.archive_model.specs.Append.{verdict, isScan}
 use Rattle.report_model.specs.Report.{Report, maxArchives, maxLines, isTally, isReport, answer, addOf, shareOf, lineOfReport, noLine}
 use Rattle.report_model.specs.Pieces.{Tally, addBlocks, closed, closing, Adding, adding, rowsSoFar, isAdding, isPiece, fed, feedOf, endedOf}
@@ -149,9 +149,3 @@ module _ (blocks len : ℕ) where
       let even : (blockLength * blocks + len) % blockLength ≡ 0 = omega arith in
       let sum : (blockLength * blocks + len) / blockLength ≡ blocks + len / blockLength = omega arith in
       rw (eq-eqb ((blockLength * blocks + len) % blockLength) 0 even, sum)
-
-pub scan-many : (s : Scan) → maxBlocks < s .blocks → false ≡ isScan s
-scan-many s h = rw (lt-leb (s .blocks) maxBlocks h)
-
-pub scan-dense : (s : Scan) → s .blocks ≤ maxBlocks → leb (s .rows) (cellsPerBlock * s .blocks) ≡ isScan s
-scan-dense s h = rw (le-leb (s .blocks) maxBlocks h)

@@ -18,7 +18,8 @@ use Rattle.lists.proofs.Choice.{both}
 use Rattle.lists.proofs.Tests.{and-true, by-test}
 use Rattle.report_model.specs.Report.{Line, maxLines, joined, insert}
 use Rattle.report_model.proofs.Order.{insert-before, insert-same, insert-after, insert-nil}
-use Rattle.report.specs.Lines.{lineLength, lineAt, linesFrom, linesOf, Ordered, Place, Gap, Stored, Inserted}
+use Rattle.report.specs.Lines.{lineLength, lineAt, linesFrom, linesOf}
+use Rattle.report.specs.Private.{Ordered, Place, Gap, Stored, Inserted}
 use Rattle.report.proofs.Windows.{lines-count, lines-split, lines-next, lines-none, lines-same}
 
 -- ---- the search

@@ -15,7 +15,8 @@ use Rattle.lists.proofs.Choice.{both}
 use Rattle.lists.proofs.Tests.{and-true}
 use Rattle.report_model.specs.Report.{Line, rowsOfLine, isLine, isRising, sumOf, isTally}
 use Rattle.report_model.proofs.Lines.{above-all}
-use Rattle.report.specs.Lines.{lineAt, linesFrom, linesOf, isLineOf, isBefore, lineFits}
+use Rattle.report.specs.Lines.{lineAt, linesFrom, linesOf}
+use Rattle.report.specs.Private.{isLineOf, isBefore, lineFits}
 use Rattle.report.proofs.Windows.{lines-next, lines-none}
 
 same-test : (a b : Bool) → (a ≡ true → b ≡ true) → (b ≡ true → a ≡ true) → a ≡ b

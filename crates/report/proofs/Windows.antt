@@ -18,7 +18,8 @@ use Rattle.lists.proofs.Choice.{both}
 use Rattle.lists.proofs.Tests.{all-getD}
 use Rattle.lists.proofs.UpFrom.{upFrom-add, length-upFrom, getD-upFrom}
 use Rattle.report_model.specs.Report.{Line, noLine, isRising, sumOf, rowsOfLine}
-use Rattle.report.specs.Lines.{lineLength, lineAt, linesFrom, linesOf, totalOf, Ordered, Stored, Inserted}
+use Rattle.report.specs.Lines.{lineLength, lineAt, linesFrom, linesOf}
+use Rattle.report.specs.Private.{totalOf, Ordered, Stored, Inserted}
 
 module _ (xs : List ℕ) where
   pub lines-count : (a n : ℕ) → length (linesFrom xs a n) ≡ n

@@ -1,14 +1,7 @@
 -- What the calls over a report show (document 02, A12).
-use Prim.Native.Nat.{ℕ, _+_, _*_, _≤_}
-use mathlib.Core.Path.{_≡_}
-use mathlib.Core.Bool.{true, false}
-use mathlib.Core.List.{List}
-use lib.ListN.{length}
+use Prim.Native.Nat.{ℕ}
 use Rattle.refusal.specs.Number.{numberOf}
-use Rattle.refusal.specs.declared.Refusal.{Refusal}
 use Rattle.refusal.specs.declared.Refusal.the-variants.{Mismatch}
-use Rattle.archive_model.specs.Buffer.{maxRows, startScan}
-use Rattle.archive_model.specs.Append.{isScan}
 use Rattle.archive.specs.declared.Outcome.{Outcome}
 use Rattle.archive.specs.declared.Outcome.the-variants as outcome
 use Rattle.archive.specs.Archive.{scanOf, takenNumber}
@@ -23,8 +16,7 @@ use Rattle.report.specs.declared.Share.the-variants as share
 use Rattle.report.specs.declared.Looked.{Looked}
 use Rattle.report.specs.declared.Looked.the-variants as looked
 use Rattle.report.specs.declared.LineAt.{LineAt}
-use Rattle.report.specs.declared.tally.Tally.{Tally}
-use Rattle.report.specs.Lines.{linesOf, totalOf}
+use Rattle.report.specs.Lines.{linesOf}
 
 -- ---- what a report says: its lines are the first `count`, and what stands past them is left to the program
 
@@ -57,7 +49,13 @@ lookedNumber (looked.Refused why) = numberOf why
 abbrev pub lineResult : LineAt → model.LineAnswer
 lineResult r = record {
   number = lookedNumber (r .answer);
-  line = record { identity = r .identity; kept = r .kept; loose = r .loose; earliest = r .earliest; latest = r .latest };
+  line = record {
+    identity = r .identity;
+    kept = r .kept;
+    loose = r .loose;
+    earliest = r .earliest;
+    latest = r .latest;
+  };
 }
 
 -- ---- an archive in pieces
@@ -65,34 +63,14 @@ lineResult r = record {
 abbrev pub addingOf : Adding → pieces.Adding
 addingOf a = record {
   report = reportOf (a .before);
-  tally = record { lines = linesOf (a .lines) (a .count); kept = a .kept; loose = a .loose; over = a .over; scan = scanOf (a .scan) };
+  tally = record {
+    lines = linesOf (a .lines) (a .count);
+    kept = a .kept;
+    loose = a .loose;
+    over = a .over;
+    scan = scanOf (a .scan);
+  };
 }
 
 abbrev pub feedResult : Fed → pieces.Feeding
 feedResult r = pieces.fed (takenNumber (r .answer)) (addingOf (r .next))
-
--- ---- what private functions say
-
--- a tally, with the lines that stand in the array
-abbrev pub tallyOf : Tally → List ℕ → pieces.Tally
-tallyOf t lines = record { lines = linesOf lines (t .count); kept = t .kept; loose = t .loose; over = t .over; scan = scanOf (t .scan) }
-
--- a tally that some blocks give, so that no number goes past its end
-pub record Sane (t : pieces.Tally) : Type 0 where
-  pub scanned : isScan (t .scan) ≡ true
-  pub few : length (t .lines) ≤ model.maxLines
-  pub rising : model.isRising (t .lines) ≡ true
-  pub rows : totalOf (t .lines) ≤ maxRows * model.maxArchives + t .scan .rows
-  pub totals : t .kept + t .loose ≤ maxRows * model.maxArchives + t .scan .rows
-
--- before the first block, whatever the lines are
-abbrev pub Starts : ℕ → ℕ → ℕ → Tally → Type 0
-Starts count kept loose t = (lines : List ℕ) → tallyOf t lines ≡ record { lines = linesOf lines count; kept = kept; loose = loose; over = false; scan = startScan }
-
--- a report that stays as it was
-abbrev pub keptWith : Report → Refusal → model.Addition
-keptWith s why = model.answer (numberOf why) 0 (reportOf s)
-
--- no line, and why
-abbrev pub noLineFor : Refusal → model.LineAnswer
-noLineFor why = record { number = numberOf why; line = model.noLine }

@@ -7,7 +7,6 @@ use archive::Scan;
 use archive::Stage;
 use archive::Taken;
 use layout::BLOCK_LENGTH;
-use layout::CELLS_PER_BLOCK;
 use refusal::Refusal;
 use tally::Tally;
 ghost use mathlib.Core.Path.{_≡_};
@@ -16,13 +15,12 @@ ghost use Prim.Native.Nat.{_+_, _*_, _^_, _≤_, _<_};
 ghost use lib.ListN.{length};
 ghost use Rattle.refusal.specs.Number.{numberOf};
 ghost use Rattle.layout.specs.Block.{blockLength};
-ghost use Rattle.archive_model.specs.Append.{isScan};
-ghost use Rattle.archive.specs.Archive.{scanOf};
 ghost use Rattle.report_model.specs.Report as model;
 ghost use Rattle.archive_model.specs.Buffer.{None, isWhole, maxBlocks};
 ghost use Rattle.report_model.specs.Pieces.{closed, closing, startAdding, isAdding, fed, feedOf, endedOf};
 ghost use Rattle.report.specs.Lines.{linesLength};
-ghost use Rattle.report.specs.Report.{reportOf, addedResult, shareResult, lineResult, tallyOf, addingOf, feedResult, keptWith, noLineFor, Starts};
+ghost use Rattle.report.specs.Report.{reportOf, addedResult, shareResult, lineResult, addingOf, feedResult};
+ghost use Rattle.report.specs.Private.{tallyOf, keptWith, noLineFor, Starts};
 
 // The numbers of a line.
 pub(crate) const LINE_LENGTH: usize = 5;
@@ -362,17 +360,6 @@ fn is_piece(blocks: usize, len: usize) -> bool
     blocks + len / BLOCK_LENGTH <= archive::MAX_BLOCKS
 }
 
-// Whether some blocks give this scan, as far as its numbers tell.
-fn is_scan(scan: Scan) -> bool
-    ensures { λ r. ⌜ r ≡ isScan (scanOf scan) ⌝ }
-{
-    let blocks = scan.blocks;
-    if archive::MAX_BLOCKS < blocks {
-        return false;
-    }
-    scan.rows <= CELLS_PER_BLOCK * blocks
-}
-
 // The rows of the lines so far, of a report with so many.
 fn rows_of(over: bool, before: u64, rows: usize) -> u64
     requires { ⌜ before + rows < 2 ^ 63 ⌝ }
@@ -393,7 +380,7 @@ fn is_adding(a: Adding) -> bool
         return false;
     }
     let scan = a.scan;
-    if !is_scan(scan) {
+    if !archive::is_scan(scan) {
         return false;
     }
     if Report::MAX_LINES < a.count {

@@ -7,12 +7,14 @@ ghost use lib.Dec.{ltb, leb, eqb};
 ghost use Prim.Native.Nat.{_+_, _-_, _*_, _^_, _≤_, _<_, min, max};
 ghost use lib.ListN.{length};
 ghost use Rattle.report_model.specs.Report.{maxLines, joined, rowsOfLine, isRising, isTally};
-ghost use Rattle.report.specs.Lines.{lineLength, linesLength, lineAt, linesFrom, linesOf, rowLine, totalOf, isLineOf, isBefore, lineFits, Ordered, Place, Gap, Stored, Inserted};
+ghost use Rattle.report.specs.Lines.{lineLength, linesLength, lineAt, linesFrom, linesOf};
+ghost use Rattle.report.specs.Private.{rowLine, totalOf, isLineOf, isBefore, lineFits, Ordered, Place, Gap, Stored, Inserted};
 
 // `end` where so many lines are all there and below this identity, else `low`.
 fn step(lines: &[u64], count: usize, identity: u64, low: usize, end: usize) -> usize
     requires { ⌜ (length (now lines) ≡ linesLength) × (low < end) × (end ≤ maxLines) ⌝ }
-    ensures { λ r. ⌜ r ≡ cond (leb end count && ltb (lineAt (now (lines .entry)) (end - 1) .identity) identity) end low ⌝ }
+    ensures { λ r. ⌜ r
+        ≡ cond (leb end count && ltb (lineAt (now (lines .entry)) (end - 1) .identity) identity) end low ⌝ }
 {
     if (end <= count) & (lines[LINE_LENGTH * (end - 1)] < identity) {
         return end;
@@ -70,7 +72,9 @@ fn store_line(
     latest: u64,
 )
     requires { ⌜ (i < maxLines) × (length (now lines) ≡ linesLength) ⌝ }
-    ensures { λ _. ⌜ Stored i (record { identity = identity; kept = kept; loose = loose; earliest = earliest; latest = latest }) (now (lines .entry)) (now (lines .exit)) ⌝ }
+    ensures { λ _. ⌜ Stored i
+        (record { identity = identity; kept = kept; loose = loose; earliest = earliest; latest = latest })
+        (now (lines .entry)) (now (lines .exit)) ⌝ }
 {
     let at = LINE_LENGTH * i;
     lines[at] = identity;
@@ -119,7 +123,9 @@ fn greatest(a: u64, b: u64) -> u64
 // One row more in line `i`.
 fn join_row(lines: &mut [u64], i: usize, time: u64, loose: bool)
     requires { ⌜ (i < maxLines) × (length (now lines) ≡ linesLength) × (rowsOfLine (lineAt (now lines) i) < 2 ^ 63) ⌝ }
-    ensures { λ _. ⌜ Stored i (joined (rowLine (lineAt (now (lines .entry)) i .identity) time loose) (lineAt (now (lines .entry)) i)) (now (lines .entry)) (now (lines .exit)) ⌝ }
+    ensures { λ _. ⌜ Stored i
+        (joined (rowLine (lineAt (now (lines .entry)) i .identity) time loose) (lineAt (now (lines .entry)) i))
+        (now (lines .entry)) (now (lines .exit)) ⌝ }
 {
     let at = LINE_LENGTH * i;
     let identity = lines[at];
@@ -138,7 +144,8 @@ pub(crate) fn add_row(
     time: u64,
     loose: bool,
 ) -> usize
-    requires { ⌜ (count ≤ maxLines) × (length (now lines) ≡ linesLength) × (isRising (linesOf (now lines) count) ≡ true) × (totalOf (linesOf (now lines) count) < 2 ^ 63) ⌝ }
+    requires { ⌜ (count ≤ maxLines) × (length (now lines) ≡ linesLength) × (isRising (linesOf (now lines) count) ≡ true)
+        × (totalOf (linesOf (now lines) count) < 2 ^ 63) ⌝ }
     ensures { λ r. ⌜ Inserted count (rowLine identity time loose) (now (lines .entry)) (now (lines .exit)) r ⌝ }
 {
     let i = find(lines, count, identity);
@@ -167,7 +174,8 @@ pub(crate) fn add_row(
 // Whether line `i` is below the next of `count` lines.
 fn is_before(lines: &[u64], count: usize, i: usize) -> bool
     requires { ⌜ (i < count) × (count ≤ maxLines) × (length (now lines) ≡ linesLength) ⌝ }
-    ensures { λ r. ⌜ r ≡ isBefore (lineAt (now (lines .entry)) i) (linesFrom (now (lines .entry)) (i + 1) (count - (i + 1))) ⌝ }
+    ensures { λ r. ⌜ r
+        ≡ isBefore (lineAt (now (lines .entry)) i) (linesFrom (now (lines .entry)) (i + 1) (count - (i + 1))) ⌝ }
 {
     if count <= i + 1 {
         return true;
@@ -186,7 +194,8 @@ fn is_line(identity: u64, rows: u64, earliest: u64, latest: u64) -> bool
 // Whether line `i` is one, is below the next, and has no more rows than these.
 fn fits(lines: &[u64], count: usize, i: usize, kept: u64, loose: u64) -> bool
     requires { ⌜ (i < count) × (count ≤ maxLines) × (length (now lines) ≡ linesLength) × (kept + loose < 2 ^ 63) ⌝ }
-    ensures { λ r. ⌜ r ≡ lineFits (lineAt (now (lines .entry)) i) (linesFrom (now (lines .entry)) (i + 1) (count - (i + 1))) kept loose ⌝ }
+    ensures { λ r. ⌜ r
+        ≡ lineFits (lineAt (now (lines .entry)) i) (linesFrom (now (lines .entry)) (i + 1) (count - (i + 1))) kept loose ⌝ }
 {
     let at = LINE_LENGTH * i;
     if kept < lines[at + 1] {

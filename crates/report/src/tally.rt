@@ -17,8 +17,8 @@ ghost use Rattle.archive_model.specs.Identity.{identityOf};
 ghost use Rattle.archive_model.specs.Buffer.{blocksIn, maxBlocks};
 ghost use Rattle.report_model.specs.Report.{maxLines, isRising, looseIn, lineOf};
 ghost use Rattle.report_model.specs.Pieces.{addBlock, addBlocks};
-ghost use Rattle.report.specs.Lines.{rowsBetween, linesLength, linesOf, totalOf, Inserted, AddedRows};
-ghost use Rattle.report.specs.Report.{tallyOf, Sane};
+ghost use Rattle.report.specs.Lines.{linesLength, linesOf};
+ghost use Rattle.report.specs.Private.{rowsBetween, totalOf, Inserted, AddedRows, tallyOf, Sane};
 
 // Whether a cell says LOOSE.
 fn is_loose(cell: &[u8]) -> bool
@@ -39,7 +39,9 @@ fn identity_of(cell: &[u8]) -> u64
 
 // The row of a cell is counted in its line.
 fn add_cell(lines: &mut [u64], count: usize, cell: &[u8]) -> usize
-    requires { ⌜ (length (now cell) ≡ cellLength) × (isRow (rowIn (now cell)) ≡ true) × (count ≤ maxLines) × (length (now lines) ≡ linesLength) × (isRising (linesOf (now lines) count) ≡ true) × (totalOf (linesOf (now lines) count) < 2 ^ 63) ⌝ }
+    requires { ⌜ (length (now cell) ≡ cellLength) × (isRow (rowIn (now cell)) ≡ true) × (count ≤ maxLines)
+        × (length (now lines) ≡ linesLength) × (isRising (linesOf (now lines) count) ≡ true)
+        × (totalOf (linesOf (now lines) count) < 2 ^ 63) ⌝ }
     ensures { λ r. ⌜ Inserted count (lineOf (rowIn (now (cell .entry)))) (now (lines .entry)) (now (lines .exit)) r ⌝ }
 {
     lines::add_row(
@@ -53,8 +55,12 @@ fn add_cell(lines: &mut [u64], count: usize, cell: &[u8]) -> usize
 
 // The first `used` rows of a block are counted, one line too many at most.
 fn add_rows(lines: &mut [u64], count: usize, block: &[u8], used: usize) -> usize
-    requires { ⌜ (length (now block) ≡ blockLength) × (used ≤ cellsPerBlock) × (all isRow (rowsBetween (now block) 0 used) ≡ true) × (count ≤ maxLines) × (length (now lines) ≡ linesLength) × (isRising (linesOf (now lines) count) ≡ true) × (totalOf (linesOf (now lines) count) + cellsPerBlock < 2 ^ 63) ⌝ }
-    ensures { λ r. ⌜ AddedRows count (rowsBetween (now (block .entry)) 0 used) (now (lines .entry)) (now (lines .exit)) r ⌝ }
+    requires { ⌜ (length (now block) ≡ blockLength) × (used ≤ cellsPerBlock)
+        × (all isRow (rowsBetween (now block) 0 used) ≡ true) × (count ≤ maxLines) × (length (now lines) ≡ linesLength)
+        × (isRising (linesOf (now lines) count) ≡ true)
+        × (totalOf (linesOf (now lines) count) + cellsPerBlock < 2 ^ 63) ⌝ }
+    ensures { λ r. ⌜ AddedRows count (rowsBetween (now (block .entry)) 0 used) (now (lines .entry)) (now (lines .exit))
+        r ⌝ }
 {
     let mut n = count;
     for i in 0..used {
@@ -104,7 +110,8 @@ fn overflowed(scan: Scan) -> Tally
 
 // One block more.
 fn add_block(lines: &mut [u64], t: Tally, block: &[u8]) -> Tally
-    requires { ⌜ (length (now block) ≡ blockLength) × (length (now lines) ≡ linesLength) × (t .scan .blocks < maxBlocks) × Sane (tallyOf t (now lines)) ⌝ }
+    requires { ⌜ (length (now block) ≡ blockLength) × (length (now lines) ≡ linesLength) × (t .scan .blocks < maxBlocks)
+        × Sane (tallyOf t (now lines)) ⌝ }
     ensures { λ r. ⌜ tallyOf r (now (lines .exit)) ≡ addBlock (tallyOf t (now (lines .entry))) (now (block .entry)) ⌝ }
 {
     let scan = t.scan;
@@ -131,8 +138,10 @@ fn add_block(lines: &mut [u64], t: Tally, block: &[u8]) -> Tally
 
 // Every whole block of a piece.
 pub(crate) fn add_blocks(lines: &mut [u64], t: Tally, piece: &[u8]) -> Tally
-    requires { ⌜ (length (now lines) ≡ linesLength) × (t .scan .blocks + length (now piece) / blockLength ≤ maxBlocks) × Sane (tallyOf t (now lines)) ⌝ }
-    ensures { λ r. ⌜ tallyOf r (now (lines .exit)) ≡ addBlocks (tallyOf t (now (lines .entry))) (blocksIn (now (piece .entry))) ⌝ }
+    requires { ⌜ (length (now lines) ≡ linesLength) × (t .scan .blocks + length (now piece) / blockLength ≤ maxBlocks)
+        × Sane (tallyOf t (now lines)) ⌝ }
+    ensures { λ r. ⌜ tallyOf r (now (lines .exit))
+        ≡ addBlocks (tallyOf t (now (lines .entry))) (blocksIn (now (piece .entry))) ⌝ }
 {
     let mut at = t;
     for i in 0..piece.len() / BLOCK_LENGTH {

@@ -2,34 +2,28 @@
 --     rows-after, blocks-after, sound-facts, used-few, counted-length, scanned-next     what a scan of one block tells
 --     Going, going                   the parts of `isAdding`
 --     adding-next, adding-blocks     it holds after blocks more
---     pieces-blocks                  the blocks of two pieces
 --     Reached, reached-next          after the pieces that make a buffer
 --     pieces-are-whole               the claim
-use Prim.Native.Nat.{ℕ, zero, suc, _+_, _*_, _/_, _%_, _≤_, _<_}
-use native.Mathlib.Nat.{zero-add, add-zero, add-suc}
+use Prim.Native.Nat.{ℕ, _+_, _*_, _/_, _%_, _≤_, _<_}
 use native.Mathlib.Omega.{arith}
-use mathlib.Core.Path.{_≡_, refl, sym, ap, ap₂, _∙_}
+use mathlib.Core.Path.{_≡_, refl, sym, ap, _∙_}
 use mathlib.Core.Bool.{Bool, true, false, cond, _||_}
-use mathlib.Core.List.{List, [], _∷_, _++_, map, flatten, append-assoc, append-nil, map-append}
+use mathlib.Core.List.{List, [], _∷_, _++_, flatten, append-assoc, append-nil}
 use lib.Dec.{ltb, leb, eqb}
-use lib.ListN.{length, length-append, length-map}
+use lib.ListN.{length, length-append}
 use borrow.Author.Tests.{ltb-false, le-leb, leb-true, eq-eqb, eqb-true, ne-eqb}
 use Rattle.lists.specs.Lists.{all, upFrom}
 use Rattle.lists.proofs.Choice.{both, neither}
 use Rattle.lists.proofs.Tests.{and-true, by-test}
-use Rattle.lists.proofs.UpFrom.{upFrom-add, length-upFrom}
 use Rattle.refusal.specs.Number.{numberOf}
 use Rattle.refusal.specs.declared.Refusal.{Refusal}
 use Rattle.refusal.specs.declared.Refusal.the-variants.{NotAccepted, Size}
 use Rattle.refusal.proofs.Numbers.{refused-number}
-use Rattle.buffers.specs.Buffer.{part}
 use Rattle.layout.specs.Block.{cellsPerBlock, blockLength}
-use Rattle.buffers.proofs.Segments.{left, right}
 use Rattle.archive_model.specs.Row.{Row, rowCount, rowsOf, isRow, isSound}
 use Rattle.archive_model.specs.Buffer.{maxBlocks, isWhole, blocksIn, Scan, scanBlock}
 use Rattle.archive_model.specs.Append.{isScan}
-use Rattle.archive_model.proofs.Buffers.{map-same}
-use Rattle.archive_model.proofs.Pieces.{rows-count}
+use Rattle.archive_model.proofs.Pieces.{blocks-count, pieces-blocks, rows-count}
 use Rattle.report_model.specs.Report.{Line, Report, maxLines, lineOf, addRows, keptIn, looseIn, isLine, isRising, sumOf, isTally, isReport, addOf}
 use Rattle.report_model.specs.Pieces.{Tally, startTally, countedRows, counted, addBlock, addBlocks, closing, Adding, adding, startAdding, rowsSoFar, isAdding, isPiece, fed, feedOf, endedOf}
 use Rattle.report_model.specs.Claims.{areBytes, feedAll, fedPieces, PiecesAreWhole}
@@ -176,41 +170,6 @@ blocks-both : (xs ys : List (List ℕ)) (t : Tally) → addBlocks t (xs ++ ys) �
 unfolding addBlocks
 blocks-both [] ys t = refl
 blocks-both (b ∷ xs) ys t = blocks-both xs ys (addBlock t b)
-
--- ---- the blocks of two pieces
-
-shifted : {A : Type 0} (f : ℕ → A) (n a m : ℕ) → map f (upFrom (n + a) m) ≡ map (λ j. f (n + j)) (upFrom a m)
-unfolding upFrom
-shifted f n a zero = refl
-shifted f n a (suc m) = ap (λ (l : List _). f (n + a) ∷ l) (ap (λ (i : ℕ). map f (upFrom i m)) (sym (add-suc n a)) ∙ shifted f n (suc a) m)
-
-blocks-count : (xs : List ℕ) → length (blocksIn xs) ≡ length xs / blockLength
-unfolding blocksIn
-blocks-count xs = length-map (upFrom 0 (length xs / blockLength)) (λ k. part (blockLength * k) blockLength xs) ∙ length-upFrom 0 (length xs / blockLength)
-
-module _ (xs ys : List ℕ) (e : length xs % blockLength ≡ 0) where
-  abbrev n : ℕ
-  n = length xs / blockLength
-
-  abbrev m : ℕ
-  m = length ys / blockLength
-
-  abbrev at : ℕ → List ℕ
-  at k = part (blockLength * k) blockLength (xs ++ ys)
-
-  pieces-blocks : blocksIn (xs ++ ys) ≡ blocksIn xs ++ blocksIn ys
-  unfolding blocksIn
-  pieces-blocks =
-      let count : length (xs ++ ys) / blockLength ≡ n + m = omega (arith, length-append xs ys) in
-      ap (λ (c : ℕ). map at (upFrom 0 c)) count
-      ∙ ap (map at) (upFrom-add 0 n m ∙ ap (λ (c : ℕ). upFrom 0 n ++ upFrom c m) (zero-add n ∙ sym (add-zero n))) ∙ map-append at (upFrom 0 n) (upFrom (n + 0) m)
-      ∙ ap₂ _++_
-      (map-same at (λ k. part (blockLength * k) blockLength xs) 0 n (λ k l h. left xs ys (length xs) (blockLength * k) blockLength refl (omega arith)))
-      (shifted at n 0 m
-      ∙ map-same (λ k. at (n + k)) (λ k. part (blockLength * k) blockLength ys) 0 m
-      (λ k l h.
-      let d : blockLength * (n + k) ≡ length xs + blockLength * k = omega arith in
-      ap (λ (a : ℕ). part a blockLength (xs ++ ys)) d ∙ right xs ys (length xs) (blockLength * k) blockLength refl))
 
 whole-blocks : (n : ℕ) → isWhole n ≡ true → (n % blockLength ≡ 0) × (n / blockLength ≤ maxBlocks)
 unfolding isWhole

@@ -22,7 +22,8 @@ addAll s (b ∷ bs) = addAll (addOf s b .next) bs
 -- those that were answered 0
 abbrev pub accepted : Report → List (List ℕ) → List (List ℕ)
 accepted s [] = []
-accepted s (b ∷ bs) = cond (eqb (addOf s b .number) 0) (b ∷ accepted (addOf s b .next) bs) (accepted (addOf s b .next) bs)
+accepted s (b ∷ bs) =
+    cond (eqb (addOf s b .number) 0) (b ∷ accepted (addOf s b .next) bs) (accepted (addOf s b .next) bs)
 
 -- "where none is refused"
 abbrev pub noneRefused : Report → List (List ℕ) → Bool
@@ -64,7 +65,8 @@ pub record Sums (buffers : List (List ℕ)) (s : Report) : Type 0 where
   pub loose : s .loose ≡ looseIn (rowsOfAll buffers)
   -- "ordered by identity", each once, and just those that sent a row
   pub ordered : isRising (s .lines) ≡ true
-  pub transmitters : (i : ℕ) → any (λ a. eqb (a .identity) i) (s .lines) ≡ any (λ r. eqb (identityOf r) i) (rowsOfAll buffers)
+  pub transmitters : (i : ℕ)
+      → any (λ a. eqb (a .identity) i) (s .lines) ≡ any (λ r. eqb (identityOf r) i) (rowsOfAll buffers)
   pub lines : (a : Line) → List·Memᴰ a (s .lines) → Counts (rowsFrom (a .identity) (rowsOfAll buffers)) a
 
 -- Sums: "Totals equal the sums over the rows of all archives taken", with refused ones anywhere between.
@@ -83,7 +85,9 @@ Sound = (buffers : List (List ℕ)) → all areBytes buffers ≡ true → isRepo
 
 -- Complete: a report that is not refused with 11 is what some archives give, none of them refused.
 abbrev pub Complete : Type 0
-Complete = (s : Report) → isReport s ≡ true → (buffers : List (List ℕ)) × (noneRefused emptyReport buffers ≡ true) × (addAll emptyReport buffers ≡ s)
+Complete =
+    (s : Report) → isReport s ≡ true
+    → (buffers : List (List ℕ)) × (noneRefused emptyReport buffers ≡ true) × (addAll emptyReport buffers ≡ s)
 
 -- the share t of n rows in a received figure, rounded down
 pub record RoundedDown (t n received : ℕ) : Type 0 where
@@ -92,7 +96,9 @@ pub record RoundedDown (t n received : ℕ) : Type 0 where
   pub high : 1000 * n < (t + 1) * received
 
 abbrev pub ShareRoundedDown : Type 0
-ShareRoundedDown = (s : Report) (received : ℕ) → shareOf s received .number ≡ 0 → RoundedDown (shareOf s received .thousandths) (s .kept + s .loose) received
+ShareRoundedDown =
+    (s : Report) (received : ℕ) → shareOf s received .number ≡ 0
+    → RoundedDown (shareOf s received .thousandths) (s .kept + s .loose) received
 
 -- ---- an archive handed in piece by piece
 
@@ -104,7 +110,8 @@ feedAll a (p ∷ ps) = feedAll (feedOf a p .next) ps
 -- those that were answered 0
 abbrev pub fedPieces : Adding → List (List ℕ) → List (List ℕ)
 fedPieces a [] = []
-fedPieces a (p ∷ ps) = cond (eqb (feedOf a p .number) 0) (p ∷ fedPieces (feedOf a p .next) ps) (fedPieces (feedOf a p .next) ps)
+fedPieces a (p ∷ ps) =
+    cond (eqb (feedOf a p .number) 0) (p ∷ fedPieces (feedOf a p .next) ps) (fedPieces (feedOf a p .next) ps)
 
 -- Pieces: what they give is refused with 11 just where the report is; and the pieces that were taken, refused ones anywhere between, answer at the
 -- end what the whole archive answers.

@@ -32,7 +32,13 @@ abbrev pub counted : Tally → List Row → Scan → Tally
 counted t rows scan =
     cond (t .over || ltb maxLines (length (addRows rows (t .lines))))
     (record { lines = []; kept = 0; loose = 0; over = true; scan = scan })
-    (record { lines = addRows rows (t .lines); kept = t .kept + keptIn rows; loose = t .loose + looseIn rows; over = false; scan = scan })
+    (record {
+      lines = addRows rows (t .lines);
+      kept = t .kept + keptIn rows;
+      loose = t .loose + looseIn rows;
+      over = false;
+      scan = scan;
+    })
 
 unfoldable pub addBlock : Tally → List ℕ → Tally
 addBlock t block = counted t (countedRows block) (scanBlock (t .scan) block)

@@ -41,7 +41,13 @@ emptyReport = record { archives = 0; lines = []; kept = 0; loose = 0 }
 
 -- what one row gives
 abbrev pub lineOf : Row → Line
-lineOf r = record { identity = identityOf r; kept = cond (r .loose) 0 1; loose = cond (r .loose) 1 0; earliest = r .time; latest = r .time }
+lineOf r = record {
+  identity = identityOf r;
+  kept = cond (r .loose) 0 1;
+  loose = cond (r .loose) 1 0;
+  earliest = r .time;
+  latest = r .time;
+}
 
 -- two lines of one transmitter
 abbrev pub joined : Line → Line → Line

@@ -1,7 +1,8 @@
 -- `archive::are_written` meets its contract. The invariant: what is left decides the whole; the measure: the cells left.
 use mathlib.Core.Path.{_≡_, sym, ap, _∙_}
 use mathlib.Core.Bool.{Bool, true, false, _&&_}
-use Prim.Native.Nat.{_+_, _-_, _*_, _≤_}
+use mathlib.Core.List.{List}
+use Prim.Native.Nat.{ℕ, _+_, _-_, _*_, _≤_}
 use native.Mathlib.Omega.{arith}
 use borrow.Author.Needs.{needs}
 use borrow.Author.Tests.{not-true, not-false}
@@ -10,13 +11,17 @@ use Rattle.lists.specs.Lists.{all}
 use Rattle.layout.specs.Cell.{cellLength}
 use Rattle.layout.specs.Block.{headerLength, blockCell}
 use Rattle.buffers.proofs.Segments.{part-length}
-use Rattle.archive.specs.Archive.{isWritten, cellsFrom}
+use Rattle.archive.specs.Private.{isWritten, cellsFrom}
 use Rattle.archive.proofs.Tested.{cells-first, cells-next, cells-none}
 use Rattle.archive.proofs.are_written.Statement.{statement}
 use Rattle.archive.proofs.are_written.Tie as tie
 
+record Testing (block : List ℕ) (used i : ℕ) : Type 0 where
+  bounded : i ≤ used
+  rest : all isWritten (cellsFrom block i (used - i)) ≡ all isWritten (cellsFrom block 0 used)
+
 abbrev Inv-loop : tie.InvT-loop
-Inv-loop block used i₀ i = (i ≤ used) × (all isWritten (cellsFrom block i (used - i)) ≡ all isWritten (cellsFrom block 0 used))
+Inv-loop block used i₀ i = Testing block used i
 
 abbrev μ-loop : tie.MeasureT-loop
 μ-loop block used i₀ i = used - i
@@ -39,16 +44,16 @@ decide : (c : tie.After-is-written Inv-loop μ-loop) (b : Bool) → c .is-writte
 decide c b e =
     let at = c .before .before .before in
     let a = at .before .before .args in
-    sym (at .loop .inv .1) ∙ cells-next (now (a .block)) (a .used) (at .loop .i) (omega arith)
+    sym (at .loop .inv .rest) ∙ cells-next (now (a .block)) (a .used) (at .loop .i) (omega arith)
     ∙ ap (λ (b : Bool). b && all isWritten (cellsFrom (now (a .block)) (at .loop .i + 1) (a .used - (at .loop .i + 1)))) (told c b e)
 
 loop-again : tie.Need-loop-again Inv-loop μ-loop
-loop-again c = (omega arith, sym (decide (c .before) true (not-false _ (c .if1 .left))))
+loop-again c = record { bounded = omega arith; rest = sym (decide (c .before) true (not-false _ (c .if1 .left))) }
 
 returns-2 : tie.Need-returns-2 Inv-loop μ-loop
 returns-2 c =
     let a = c .before .before .before .args in
-    sym (cells-none (now (a .block)) (a .used) (c .before .loop .i) (omega arith)) ∙ c .before .loop .inv .1
+    sym (cells-none (now (a .block)) (a .used) (c .before .loop .i) (omega arith)) ∙ c .before .loop .inv .rest
 
 pub are-written-spec : {M : Type 1} → statement M
 are-written-spec =
@@ -56,7 +61,7 @@ are-written-spec =
     (tie.spec
     Inv-loop
     μ-loop
-    (λ c. (omega arith, cells-first _ _))
+    (λ c. record { bounded = omega arith; rest = cells-first _ _ })
     (λ c κs. (search needs, omega arith))
     is-written-requires
     (λ c. sym (decide (c .before) false (not-true _ (c .if1 .taken))))

@@ -11,7 +11,7 @@ use lib.ListN.{length}
 use Rattle.layout.specs.Block.{cellsPerBlock, blockLength}
 use Rattle.buffers.proofs.Segments.{part-length, part-ends}
 use Rattle.archive_model.specs.Buffer.{isWhole}
-use Rattle.archive.specs.Archive.{rowInBlock}
+use Rattle.archive.specs.Private.{rowInBlock}
 use Rattle.archive.proofs.Calls.{row-size, row-out, row-in}
 use Rattle.archive.proofs.row_at.Statement.{statement}
 use Rattle.archive.proofs.row_at.Tie as tie

@@ -11,7 +11,7 @@ use Rattle.buffers.specs.Buffer.{part}
 use Rattle.layout.specs.Cell.{cellLength}
 use Rattle.layout.specs.Block.{headerLength, bodyLength}
 use Rattle.archive_model.specs.Row.{rowCount, isBlank}
-use Rattle.archive.specs.Archive.{isWritten, cellsFrom}
+use Rattle.archive.specs.Private.{isWritten, cellsFrom}
 use Rattle.archive.proofs.Tested.{other-length, count-low, count-high, not-sound, fails, sound-gap, sound-cells, sound-zeros, sound-crc, tested}
 use Rattle.archive.proofs.sound.Statement.{statement}
 use Rattle.archive.proofs.sound.Tie as tie

@@ -1,14 +1,20 @@
 -- `archive_run::read_identities` is safe and ends: the numbers left are fewer each turn.
 use mathlib.Core.Path.{_≡_, refl}
-use Prim.Native.Nat.{_-_, _≤_}
+use mathlib.Core.List.{List}
+use Prim.Native.Nat.{ℕ, _-_, _≤_}
 use native.Mathlib.Omega.{arith}
 use borrow.Author.Needs.{needs}
 use lib.ListN.{length}
 use Rattle.archive_run.proofs.read_identities.Statement.{statement}
 use Rattle.archive_run.proofs.read_identities.Tie as tie
 
+record Reading (identities₀ : List ℕ) (i-end : ℕ) (identities : List ℕ) (i : ℕ) : Type 0 where
+  bounded : i ≤ i-end
+  ends : i-end ≡ 70
+  long : length identities ≡ length identities₀
+
 abbrev Inv-loop : tie.InvT-loop
-Inv-loop identities₀ r i₀ i-end identities i = (i ≤ i-end) × (i-end ≡ 70) × (length identities ≡ length identities₀)
+Inv-loop identities₀ r i₀ i-end identities i = Reading identities₀ i-end identities i
 
 abbrev μ-loop : tie.MeasureT-loop
 μ-loop identities₀ r i₀ i-end identities i = i-end - i
@@ -19,7 +25,7 @@ read-identities-spec =
     (tie.spec
     Inv-loop
     μ-loop
-    (λ c. (omega arith, omega arith, refl))
+    (λ c. record { bounded = omega arith; ends = omega arith; long = refl })
     (λ c. omega arith)
     (λ c. omega arith)
     (λ c. omega arith)
@@ -34,6 +40,6 @@ read-identities-spec =
     (λ c. omega arith)
     (λ c. omega arith)
     (λ c. omega arith)
-    (λ c. (omega arith, omega arith, search needs))
+    (λ c. record { bounded = omega arith; ends = omega arith; long = search needs })
     (λ c. search needs)
     (λ c. search needs))

@@ -17,14 +17,19 @@ crc-next : (bytes : List ℕ) (i crc : ℕ) → i < length bytes
     → crcFrom crc (drop i bytes) ≡ crcFrom (stepOf crc (getD bytes i 0)) (drop (i + 1) bytes)
 crc-next bytes i crc h = rw (add-one, drop-cons bytes i 0)
 
+record Stepping (bytes : List ℕ) (i-end crc i : ℕ) : Type 0 where
+  bounded : i ≤ length bytes
+  ends : i-end ≡ length bytes
+  rest : crcFrom crc (drop i bytes) ≡ crcOf bytes
+
 abbrev Inv-loop : tie.InvT-loop
-Inv-loop bytes table crc₀ i₀ i-end crc i = (i ≤ length bytes) × (i-end ≡ length bytes) × (crcFrom crc (drop i bytes) ≡ crcOf bytes)
+Inv-loop bytes table crc₀ i₀ i-end crc i = Stepping bytes i-end crc i
 
 abbrev μ-loop : tie.MeasureT-loop
 μ-loop bytes table crc₀ i₀ i-end crc i = length bytes - i
 
 loop-holds : tie.Need-loop-holds Inv-loop μ-loop
-loop-holds c = (omega arith, refl, refl)
+loop-holds c = record { bounded = omega arith; ends = refl; rest = refl }
 
 shared-slice-read-step : tie.Need-shared-slice-read-step Inv-loop μ-loop
 shared-slice-read-step c = omega arith
@@ -45,13 +50,17 @@ loop-again c =
     let a = c .before .before .before .before in
     let bytes = now (a .before .before .args .bytes) in
     let h : a .loop .i < length bytes = omega arith in
-    (omega arith, refl, rw (c .step .ensures, ← crc-next bytes (a .loop .i) (a .loop .crc) h) (a .loop .inv .2))
+    record {
+      bounded = omega arith;
+      ends = refl;
+      rest = rw (c .step .ensures, ← crc-next bytes (a .loop .i) (a .loop .crc) h) (a .loop .inv .rest);
+    }
 
 returns : tie.Need-returns Inv-loop μ-loop
 returns c =
     let bytes = now (c .before .before .before .args .bytes) in
     let h : length bytes ≤ c .before .loop .i = omega arith in
-    rw (drop-of-length-le bytes h) at (c .before .loop .inv .2)
+    rw (drop-of-length-le bytes h) at (c .before .loop .inv .rest)
 
 pub crc8-spec : {M : Type 1} → statement M
 crc8-spec =

@@ -13,8 +13,12 @@ use Rattle.crc8_long.proofs.Several.{crc-part}
 use Rattle.crc8_long.proofs.by_eight.Statement.{statement}
 use Rattle.crc8_long.proofs.by_eight.Tie as tie
 
+record Stepping (bytes : List ℕ) (crc i : ℕ) : Type 0 where
+  bounded : i ≤ length bytes
+  rest : crcFrom crc (drop i bytes) ≡ crcOf bytes
+
 abbrev Inv-loop : tie.InvT-loop
-Inv-loop tables bytes crc₀ i₀ crc i = (i ≤ length bytes) × (crcFrom crc (drop i bytes) ≡ crcOf bytes)
+Inv-loop tables bytes crc₀ i₀ crc i = Stepping bytes crc i
 
 abbrev μ-loop : tie.MeasureT-loop
 μ-loop tables bytes crc₀ i₀ crc i = length bytes - i
@@ -37,13 +41,16 @@ loop-again c =
     let a = c .before .before .before in
     let bytes = now (a .before .before .args .bytes) in
     let h : 8 ≤ length bytes - a .loop .i = omega arith in
-    (omega arith, rw (c .eight .ensures) (sym (eight-more bytes (a .loop .i) (a .loop .crc) h) ∙ a .loop .inv .1))
+    record {
+      bounded = omega arith;
+      rest = rw (c .eight .ensures) (sym (eight-more bytes (a .loop .i) (a .loop .crc) h) ∙ a .loop .inv .rest);
+    }
 
 returns : tie.Need-returns Inv-loop μ-loop
 returns c =
     let a = c .before .before .before in
     let bytes = now (a .before .before .args .bytes) in
-    c .rest .ensures ∙ ap (crcFrom (a .loop .crc)) (rest-is bytes (a .loop .i) (a .loop .inv .0)) ∙ a .loop .inv .1
+    c .rest .ensures ∙ ap (crcFrom (a .loop .crc)) (rest-is bytes (a .loop .i) (a .loop .inv .bounded)) ∙ a .loop .inv .rest
 
 pub by-eight-spec : {M : Type 1} → statement M
 by-eight-spec =
@@ -51,7 +58,7 @@ by-eight-spec =
     (tie.spec
     Inv-loop
     μ-loop
-    (λ c. (omega arith, refl))
+    (λ c. record { bounded = omega arith; rest = refl })
     (λ c. omega arith)
     (λ c. omega arith)
     (λ c. omega arith)

@@ -20,8 +20,13 @@ crc-next : (bytes : List ℕ) (i crc : ℕ) → i < length bytes
 unfolding stepOf powerOf
 crc-next bytes i crc h = rw (add-one, drop-cons bytes i 0)
 
+record Stepping (start : ℕ) (bytes : List ℕ) (i-end crc i : ℕ) : Type 0 where
+  bounded : i ≤ length bytes
+  ends : i-end ≡ length bytes
+  rest : crcFrom crc (drop i bytes) ≡ crcFrom start bytes
+
 abbrev Inv-loop : tie.InvT-loop
-Inv-loop tables start bytes crc₀ i₀ i-end crc i = (i ≤ length bytes) × (i-end ≡ length bytes) × (crcFrom crc (drop i bytes) ≡ crcFrom start bytes)
+Inv-loop tables start bytes crc₀ i₀ i-end crc i = Stepping start bytes i-end crc i
 
 abbrev μ-loop : tie.MeasureT-loop
 μ-loop tables start bytes crc₀ i₀ i-end crc i = length bytes - i
@@ -30,13 +35,17 @@ loop-again : tie.Need-loop-again Inv-loop μ-loop
 loop-again c =
     let a = c .before .before .before in
     let bytes = now (a .before .before .args .bytes) in
-    (omega arith, refl, rw (c .power .ensures, ← crc-next bytes (a .loop .i) (a .loop .crc) (omega arith)) (a .loop .inv .2))
+    record {
+      bounded = omega arith;
+      ends = refl;
+      rest = rw (c .power .ensures, ← crc-next bytes (a .loop .i) (a .loop .crc) (omega arith)) (a .loop .inv .rest);
+    }
 
 returns : tie.Need-returns Inv-loop μ-loop
 returns c =
     let bytes = now (c .before .before .before .args .bytes) in
     let h : length bytes ≤ c .before .loop .i = omega arith in
-    rw (drop-of-length-le bytes h) at (c .before .loop .inv .2)
+    rw (drop-of-length-le bytes h) at (c .before .loop .inv .rest)
 
 pub rest-spec : {M : Type 1} → statement M
 rest-spec =
@@ -44,7 +53,7 @@ rest-spec =
     (tie.spec
     Inv-loop
     μ-loop
-    (λ c. (omega arith, refl, refl))
+    (λ c. record { bounded = omega arith; ends = refl; rest = refl })
     (λ c. omega arith)
     (λ c κs. search needs)
     (λ c. omega arith)

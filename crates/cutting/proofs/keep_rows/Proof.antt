@@ -1,5 +1,5 @@
 -- `cutting::keep_rows` meets its contract: the count is stored, the part behind the rows cleared, and what is between stays.
-use mathlib.Core.Path.{_≡_, _∙_}
+use mathlib.Core.Path.{_∙_}
 use Prim.Native.Nat.{ℕ, _+_, _*_}
 use native.Mathlib.Omega.{arith}
 use borrow.Author.Needs.{needs}
@@ -8,7 +8,7 @@ use Rattle.layout.specs.Cell.{cellLength}
 use Rattle.layout.specs.Block.{headerLength, bodyLength}
 use Rattle.buffers.proofs.Segments.{Writing, packed, begin, begun-length, within, store, skip, wipe}
 use Rattle.layout.proofs.Block.{seal-front}
-use Rattle.cutting.specs.Calls.{keptRows}
+use Rattle.cutting.specs.Private.{keptRows}
 use Rattle.cutting.proofs.keep_rows.Statement.{statement}
 use Rattle.cutting.proofs.keep_rows.Tie as tie
 

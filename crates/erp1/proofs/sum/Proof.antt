@@ -17,9 +17,14 @@ use Rattle.erp1.proofs.sum.Tie as tie
 sum-next : (bytes : List ℕ) (i : ℕ) → i < length bytes → sumOf (drop i bytes) ≡ getD bytes i 0 + sumOf (drop (i + 1) bytes)
 sum-next bytes i h = rw (add-one, drop-cons bytes i 0)
 
+record Summing (bytes : List ℕ) (i-end sum i : ℕ) : Type 0 where
+  bounded : i ≤ length bytes
+  ends : i-end ≡ length bytes
+  small : sum < 256
+  rest : (sum + sumOf (drop i bytes)) % 256 ≡ sumOf bytes % 256
+
 abbrev Inv-loop : tie.InvT-loop
-Inv-loop bytes sum₀ i₀ i-end sum i =
-    (i ≤ length bytes) × (i-end ≡ length bytes) × (sum < 256) × ((sum + sumOf (drop i bytes)) % 256 ≡ sumOf bytes % 256)
+Inv-loop bytes sum₀ i₀ i-end sum i = Summing bytes i-end sum i
 
 abbrev μ-loop : tie.MeasureT-loop
 μ-loop bytes sum₀ i₀ i-end sum i = length bytes - i
@@ -33,7 +38,7 @@ returns : tie.Need-returns Inv-loop μ-loop
 returns c =
     let bytes = now (c .before .before .before .args .bytes) in
     let h : length bytes ≤ c .before .loop .i = omega arith in
-    let e : (c .before .loop .sum + 0) % 256 ≡ sumOf bytes % 256 = rw (drop-of-length-le bytes h) at (c .before .loop .inv .3) in
+    let e : (c .before .loop .sum + 0) % 256 ≡ sumOf bytes % 256 = rw (drop-of-length-le bytes h) at (c .before .loop .inv .rest) in
     omega arith
 
 pub sum-spec : {M : Type 1} → statement M

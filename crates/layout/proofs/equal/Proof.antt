@@ -37,8 +37,13 @@ ended : (s : Bool) (xs ys : List ℕ) (i : ℕ) → length xs ≤ i → length y
 ended true xs ys i h k = rw (drop-of-length-le xs h, drop-of-length-le ys k)
 ended false xs ys i h k = refl
 
+record Comparing (a b : List ℕ) (i-end : ℕ) (same : Bool) (i : ℕ) : Type 0 where
+  bounded : i ≤ i-end
+  ends : i-end ≡ length a
+  rest : same && equal (drop i a) (drop i b) ≡ equal a b
+
 abbrev Inv-loop : tie.InvT-loop
-Inv-loop a b same₀ i₀ i-end same i = (i ≤ i-end) × (i-end ≡ length a) × (same && equal (drop i a) (drop i b) ≡ equal a b)
+Inv-loop a b same₀ i₀ i-end same i = Comparing a b i-end same i
 
 abbrev μ-loop : tie.MeasureT-loop
 μ-loop a b same₀ i₀ i-end same i = i-end - i
@@ -47,13 +52,17 @@ loop-again : tie.Need-loop-again Inv-loop μ-loop
 loop-again c =
     let at = c .before .before .before in
     let args = at .before .before .args in
-    (omega arith, omega arith, sym (equal-next (at .loop .same) (now (args .a)) (now (args .b)) (at .loop .i) (omega arith) (omega arith)) ∙ at .loop .inv .2)
+    record {
+      bounded = omega arith;
+      ends = omega arith;
+      rest = sym (equal-next (at .loop .same) (now (args .a)) (now (args .b)) (at .loop .i) (omega arith) (omega arith)) ∙ at .loop .inv .rest;
+    }
 
 returns-2 : tie.Need-returns-2 Inv-loop μ-loop
 returns-2 c =
     let at = c .before .loop in
     let args = c .before .before .before .args in
-    sym (ended (at .same) (now (args .a)) (now (args .b)) (at .i) (omega arith) (omega arith)) ∙ at .inv .2
+    sym (ended (at .same) (now (args .a)) (now (args .b)) (at .i) (omega arith) (omega arith)) ∙ at .inv .rest
 
 pub equal-spec : {M : Type 1} → statement M
 equal-spec =
@@ -62,7 +71,7 @@ equal-spec =
     Inv-loop
     μ-loop
     (λ c. unlike (now (c .before .args .a)) (now (c .before .args .b)) (c .if1 .taken))
-    (λ c. (omega arith, omega arith, refl))
+    (λ c. record { bounded = omega arith; ends = omega arith; rest = refl })
     (λ c. omega arith)
     (λ c. omega arith)
     (λ c. omega arith)

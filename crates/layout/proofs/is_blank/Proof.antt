@@ -28,8 +28,13 @@ ended : (s : Bool) (xs : List ℕ) (i : ℕ) → length xs ≤ i → s && zeros 
 ended true xs i h = rw (drop-of-length-le xs h)
 ended false xs i h = refl
 
+record Testing (s : List ℕ) (i-end : ℕ) (blank : Bool) (i : ℕ) : Type 0 where
+  bounded : i ≤ i-end
+  ends : i-end ≡ length s
+  rest : blank && zeros (drop i s) ≡ zeros s
+
 abbrev Inv-loop : tie.InvT-loop
-Inv-loop s blank₀ i₀ i-end blank i = (i ≤ i-end) × (i-end ≡ length s) × (blank && zeros (drop i s) ≡ zeros s)
+Inv-loop s blank₀ i₀ i-end blank i = Testing s i-end blank i
 
 abbrev μ-loop : tie.MeasureT-loop
 μ-loop s blank₀ i₀ i-end blank i = i-end - i
@@ -38,13 +43,17 @@ loop-again : tie.Need-loop-again Inv-loop μ-loop
 loop-again c =
     let at = c .before .before in
     let args = at .before .args in
-    (omega arith, omega arith, sym (next (at .loop .blank) (now (args .s)) (at .loop .i) (omega arith)) ∙ at .loop .inv .2)
+    record {
+      bounded = omega arith;
+      ends = omega arith;
+      rest = sym (next (at .loop .blank) (now (args .s)) (at .loop .i) (omega arith)) ∙ at .loop .inv .rest;
+    }
 
 returns : tie.Need-returns Inv-loop μ-loop
 returns c =
     let at = c .before .loop in
     let args = c .before .before .args in
-    sym (ended (at .blank) (now (args .s)) (at .i) (omega arith)) ∙ at .inv .2
+    sym (ended (at .blank) (now (args .s)) (at .i) (omega arith)) ∙ at .inv .rest
 
 pub is-blank-spec : {M : Type 1} → statement M
 is-blank-spec =
@@ -52,7 +61,7 @@ is-blank-spec =
     (tie.spec
     Inv-loop
     μ-loop
-    (λ c. (omega arith, omega arith, refl))
+    (λ c. record { bounded = omega arith; ends = omega arith; rest = refl })
     (λ c. omega arith)
     (λ c. omega arith)
     (λ c. omega arith)

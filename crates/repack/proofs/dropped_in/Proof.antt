@@ -1,5 +1,5 @@
 -- `repack::dropped_in` meets its contract. The invariant: those so far and those that are left are all; the measure: the blocks left.
-use mathlib.Core.Path.{_≡_, refl, sym, ap, _∙_}
+use mathlib.Core.Path.{_≡_, refl, ap, _∙_}
 use mathlib.Core.Bool.{Bool, true, false, cond}
 use mathlib.Core.List.{List}
 use Prim.Native.Nat.{ℕ, _+_, _-_, _*_, _/_, _≤_}
@@ -15,9 +15,14 @@ use Rattle.repack.proofs.Walks.{droppedFrom, from-first, from-turn, fro
 use Rattle.repack.proofs.dropped_in.Statement.{statement}
 use Rattle.repack.proofs.dropped_in.Tie as tie
 
+record Counting (buffer : List ℕ) (k-end gone k : ℕ) : Type 0 where
+  bounded : k ≤ k-end
+  ends : k-end ≡ length buffer / blockLength
+  few : gone ≤ k
+  rest : gone + droppedFrom buffer k (k-end - k) ≡ length (dropped buffer)
+
 abbrev Inv-loop : tie.InvT-loop
-Inv-loop buffer gone₀ k₀ k-end gone k =
-    (k ≤ k-end) × (k-end ≡ length buffer / blockLength) × (gone ≤ k) × (gone + droppedFrom buffer k (k-end - k) ≡ length (dropped buffer))
+Inv-loop buffer gone₀ k₀ k-end gone k = Counting buffer k-end gone k
 
 abbrev μ-loop : tie.MeasureT-loop
 μ-loop buffer gone₀ k₀ k-end gone k = k-end - k
@@ -38,18 +43,19 @@ loop-again : tie.Need-loop-again Inv-loop μ-loop
 loop-again c =
     let at = c .before .before .before in
     let buffer = now (at .before .before .args .buffer) in
-    let one = told c in (
-      omega arith,
-      refl,
-      omega (arith, one, one-low (isDropped (blockAt (at .loop .k) buffer))),
-      omega (arith, one, from-turn buffer (length buffer / blockLength) (at .loop .k) (omega arith), at .loop .inv .3),
-    )
+    let one = told c in
+    record {
+      bounded = omega arith;
+      ends = refl;
+      few = omega (arith, one, one-low (isDropped (blockAt (at .loop .k) buffer)));
+      rest = omega (arith, one, from-turn buffer (length buffer / blockLength) (at .loop .k) (omega arith), at .loop .inv .rest);
+    }
 
 returns : tie.Need-returns Inv-loop μ-loop
 returns c =
     let at = c .before in
     let buffer = now (at .before .before .args .buffer) in
-    omega (arith, from-end buffer (length buffer / blockLength) (at .loop .k) (omega arith), at .loop .inv .3)
+    omega (arith, from-end buffer (length buffer / blockLength) (at .loop .k) (omega arith), at .loop .inv .rest)
 
 pub dropped-in-spec : {M : Type 1} → statement M
 dropped-in-spec =
@@ -57,7 +63,7 @@ dropped-in-spec =
     (tie.spec
     Inv-loop
     μ-loop
-    (λ c. (omega arith, refl, omega arith, from-first _ _ refl))
+    (λ c. record { bounded = omega arith; ends = refl; few = omega arith; rest = from-first _ _ refl })
     (λ c. omega arith)
     (λ c. omega arith)
     (λ c. omega arith)

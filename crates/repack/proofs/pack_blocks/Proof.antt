@@ -14,15 +14,21 @@ use Rattle.archive_model.specs.Append.{blockAt}
 use Rattle.archive.specs.Archive.{soundRows}
 use Rattle.archive.proofs.Scans.{sound-le}
 use Rattle.repack_model.specs.Repack.{isDropped}
-use Rattle.repack_model.specs.Packer.{packing}
+use Rattle.repack_model.specs.Packer.{Packing, packing}
 use Rattle.repack.proofs.Walks.{Walking, walk-start, walk-turn, walk-packed, walk-put, walk-long, Listing, list-start, has-room, list-turn, list-end, block-rows}
 use Rattle.repack.proofs.pack_blocks.Statement.{statement}
 use Rattle.repack.proofs.pack_blocks.Tie as tie
 
+record Packed (p : Packing) (identities piece out₀ positions₀ : List ℕ) (used k-end : ℕ) (pending out positions : List ℕ)
+    (waits put gone k : ℕ) : Type 0 where
+  bounded : k ≤ k-end
+  ends : k-end ≡ length piece / blockLength
+  walking : Walking p identities piece out₀ used k-end k put waits pending out
+  listing : Listing piece positions₀ k-end k gone positions
+
 abbrev Inv-loop : tie.InvT-loop
 Inv-loop pending₀ used next piece identities out₀ positions₀ waits₀ put₀ gone₀ k₀ k-end pending out positions waits put gone k =
-    (k ≤ k-end) × (k-end ≡ length piece / blockLength) × Walking (packing next used pending₀) identities piece out₀ used k-end k put waits pending out
-    × Listing piece positions₀ k-end k gone positions
+    Packed (packing next used pending₀) identities piece out₀ positions₀ used k-end pending out positions waits put gone k
 
 abbrev μ-loop : tie.MeasureT-loop
 μ-loop pending₀ used next piece identities out₀ positions₀ waits₀ put₀ gone₀ k₀ k-end pending out positions waits put gone k = k-end - k
@@ -30,17 +36,18 @@ abbrev μ-loop : tie.MeasureT-loop
 loop-holds : tie.Need-loop-holds Inv-loop μ-loop
 loop-holds c =
     let s = c .before .before .before .before .before in
-    let a = s .args in (
-      omega arith,
-      refl,
-      walk-start (packing (a .next) (a .used) (now (a .pending))) (now (a .identities)) (now (a .piece)) (now (a .out)) (a .used) _ (a .used)
-          (now (a .pending)) (s .pre .0) (s .pre .1) (omega arith) refl refl,
-      list-start (now (a .piece)) (now (a .positions)) _ refl,
-    )
+    let a = s .args in
+    record {
+      bounded = omega arith;
+      ends = refl;
+      walking = walk-start (packing (a .next) (a .used) (now (a .pending))) (now (a .identities)) (now (a .piece)) (now (a .out)) (a .used) _ (a .used)
+          (now (a .pending)) (s .pre .0) (s .pre .1) (omega arith) refl refl;
+      listing = list-start (now (a .piece)) (now (a .positions)) _ refl;
+    }
 
 -- no more blocks are put than were passed
 behind : (at : tie.At-loop Inv-loop μ-loop) → at .loop .put ≤ at .loop .k
-behind at = omega (arith, at .loop .inv .2 .room, at .before .before .before .before .before .before .pre .1)
+behind at = omega (arith, at .loop .inv .walking .room, at .before .before .before .before .before .before .pre .1)
 
 shown : (at : tie.At-loop Inv-loop μ-loop)
     → part (blockLength * at .loop .k) (blockLength * at .loop .k + blockLength - blockLength * at .loop .k)
@@ -54,7 +61,7 @@ list-block-requires c κs =
     let s = at .before .before .before .before .before .before in
     let a = s .args in (
       c .before .sound .ensures,
-      λ d. has-room (now (a .piece)) (now (a .positions)) _ (at .loop .k) (at .loop .gone) (at .loop .positions) (at .loop .inv .3) (omega arith)
+      λ d. has-room (now (a .piece)) (now (a .positions)) _ (at .loop .k) (at .loop .gone) (at .loop .positions) (at .loop .inv .listing) (omega arith)
           (s .pre .4) (ap isDropped (sym (shown at)) ∙ d),
     )
 
@@ -63,8 +70,8 @@ push-cells-requires c κs =
     let at = c .before .before .before .before .before .before .before .before in
     let a = at .before .before .before .before .before .before .args in
     let so = c .before .before .before .before .before in (
-      at .loop .inv .2 .long,
-      at .loop .inv .2 .few,
+      at .loop .inv .walking .long,
+      at .loop .inv .walking .few,
       ap length (shown at) ∙ part-length (blockLength * at .loop .k) blockLength (now (a .piece)) (omega arith),
       omega (
         arith,
@@ -81,15 +88,15 @@ flush-requires c κs =
     let push = c .before .before .before .before in
     let so = push .before .before .before .before .before .before in
     let a = at .before .before .before .before .before .before .args in (
-      push .push-cells .kept .0 ∙ at .loop .inv .2 .long,
+      push .push-cells .kept .0 ∙ at .loop .inv .walking .long,
       omega (
         arith,
         push .push-cells .ensures .few,
-        at .loop .inv .2 .few,
+        at .loop .inv .walking .few,
         so .sound .ensures,
         sound-le (part (blockLength * at .loop .k) (blockLength * at .loop .k + blockLength - blockLength * at .loop .k) (now (a .piece))),
       ),
-      lent (at .loop .inv .2 .begun) blockLength _ refl (omega (arith, behind at)),
+      lent (at .loop .inv .walking .begun) blockLength _ refl (omega (arith, behind at)),
     )
 
 loop-again : tie.Need-loop-again Inv-loop μ-loop
@@ -102,25 +109,26 @@ loop-again c =
     let push = c .before .before .before .before .before .before .before .before .before in
     let fl = c .before .before .before .before in
     let piece = now (a .piece) in
-    let sound = so .sound .ensures ∙ ap soundRows (shown at) in (
-      omega arith,
-      refl,
-      walk-turn (packing (a .next) (a .used) (now (a .pending))) (now (a .identities)) piece (now (a .out)) (a .used) _ (at .loop .k) (at .loop .put)
-          (at .loop .waits) (at .loop .pending) (at .loop .out) (at .loop .inv .2)
+    let sound = so .sound .ensures ∙ ap soundRows (shown at) in
+    record {
+      bounded = omega arith;
+      ends = refl;
+      walking = walk-turn (packing (a .next) (a .used) (now (a .pending))) (now (a .identities)) piece (now (a .out)) (a .used) _ (at .loop .k) (at .loop .put)
+          (at .loop .waits) (at .loop .pending) (at .loop .out) (at .loop .inv .walking)
           (omega arith) (so .sound .result) (push .push-cells .result) (fl .flush .result) _ _ _ sound (rw (shown at) at (push .push-cells .ensures))
-          (push .push-cells .kept .0 ∙ at .loop .inv .2 .long)
-          (fl .flush .ensures) (fl .flush .kept .0 ∙ push .push-cells .kept .0 ∙ at .loop .inv .2 .long) (fl .flush .kept .1 .1 .1 .0)
-          (omega (arith, behind at)),
-      list-turn piece (now (a .positions)) _ (at .loop .k) (at .loop .gone) (at .loop .positions) (at .loop .inv .3) (omega arith) (s .pre .4) _ _
-          (rw (shown at) at (li .list-block .ensures)),
-    )
+          (push .push-cells .kept .0 ∙ at .loop .inv .walking .long)
+          (fl .flush .ensures) (fl .flush .kept .0 ∙ push .push-cells .kept .0 ∙ at .loop .inv .walking .long) (fl .flush .kept .1 .1 .1 .0)
+          (omega (arith, behind at));
+      listing = list-turn piece (now (a .positions)) _ (at .loop .k) (at .loop .gone) (at .loop .positions) (at .loop .inv .listing) (omega arith) (s .pre .4) _ _
+          (rw (shown at) at (li .list-block .ensures));
+    }
 
 returns : tie.Need-returns Inv-loop μ-loop
 returns c =
     let at = c .before in
     let a = at .before .before .before .before .before .before .args in
     let p = packing (a .next) (a .used) (now (a .pending)) in
-    let w = at .loop .inv .2 in (
+    let w = at .loop .inv .walking in (
       record {
         waits = w .few;
         packed = walk-packed p (now (a .identities)) (now (a .piece)) (now (a .out)) (a .used) _ (at .loop .k) (at .loop .put) (at .loop .waits)
@@ -130,7 +138,7 @@ returns c =
         long = walk-long p (now (a .identities)) (now (a .piece)) (now (a .out)) (a .used) _ (at .loop .k) (at .loop .put) (at .loop .waits)
             (at .loop .pending) (at .loop .out) w (omega arith);
       },
-      list-end (now (a .piece)) (now (a .positions)) _ (at .loop .k) (at .loop .gone) (at .loop .positions) (at .loop .inv .3) (omega arith),
+      list-end (now (a .piece)) (now (a .positions)) _ (at .loop .k) (at .loop .gone) (at .loop .positions) (at .loop .inv .listing) (omega arith),
     )
 
 pub pack-blocks-spec : {M : Type 1} → statement M
@@ -159,7 +167,7 @@ pack-blocks-spec =
     (λ c. omega (arith, behind (c .before .before .before .before .before .before .before .before .before .before .before .before)))
     (λ c. omega arith)
     (λ c. omega arith)
-    (λ c. within (c .before .before .before .before .before .before .before .before .before .before .before .before .loop .inv .2 .begun) _
+    (λ c. within (c .before .before .before .before .before .before .before .before .before .before .before .before .loop .inv .walking .begun) _
     (omega (arith, behind (c .before .before .before .before .before .before .before .before .before .before .before .before))))
     flush-requires
     (λ c. omega (
@@ -167,7 +175,7 @@ pack-blocks-spec =
       behind
           (c .before .before .before .before .before .before .before .before .before .before .before .before .before .before .before .before .before .before),
       (c .before .before .before .before .before .before .before .before .before) .push-cells .ensures .few,
-      (c .before .before .before .before .before .before .before .before .before .before .before .before .before .before .before .before .before .before) .loop .inv .2 .few,
+      (c .before .before .before .before .before .before .before .before .before .before .before .before .before .before .before .before .before .before) .loop .inv .walking .few,
       (c .before .before .before .before .before .before .before .before .before .before .before .before .before .before .before) .sound .ensures,
       sound-le (part (blockLength * (c .before .before .before .before .before .before .before .before .before .before .before .before .before .before .before .before .before .before) .loop .k) (blockLength * (c .before .before .before .before .before .before .before .before .before .before .before .before .before .before .before .before .before .before) .loop .k + blockLength - blockLength * (c .before .before .before .before .before .before .before .before .before .before .before .before .before .before .before .before .before .before) .loop .k) (now ((c .before .before .before .before .before .before .before .before .before .before .before .before .before .before .before .before .before .before .before .before .before .before .before .before) .args .piece))),
     ))
@@ -175,7 +183,7 @@ pack-blocks-spec =
     (λ c. omega arith)
     loop-again
     (λ c. omega (arith, behind (c .before), c .before .before .before .before .before .before .before .pre .2))
-    (λ c. omega (arith, c .before .loop .inv .2 .long, c .before .before .before .before .before .before .before .pre .0))
-    (λ c. begun-length (c .before .loop .inv .2 .begun))
-    (λ c. begun-length (c .before .loop .inv .3 .begun))
+    (λ c. omega (arith, c .before .loop .inv .walking .long, c .before .before .before .before .before .before .before .pre .0))
+    (λ c. begun-length (c .before .loop .inv .walking .begun))
+    (λ c. begun-length (c .before .loop .inv .listing .begun))
     returns)

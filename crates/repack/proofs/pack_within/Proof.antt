@@ -2,7 +2,7 @@
 -- the blocks left.
 use mathlib.Core.Path.{_≡_, refl, sym, ap, _∙_}
 use mathlib.Core.List.{List}
-use Prim.Native.Nat.{ℕ, _+_, _-_, _*_, _/_, _≤_, _<_}
+use Prim.Native.Nat.{ℕ, _+_, _-_, _*_, _≤_, _<_}
 use native.Mathlib.Nat.{zero-add}
 use native.Mathlib.Omega.{arith}
 use borrow.Author.Needs.{needs}
@@ -20,9 +20,12 @@ use Rattle.repack.proofs.Within.{flushed-next, in-use-few, in-use-lengt
 use Rattle.repack.proofs.pack_within.Statement.{statement}
 use Rattle.repack.proofs.pack_within.Tie as tie
 
+record Packed (buffer₀ : List ℕ) (blocks : ℕ) (identities buffer pending : List ℕ) (waits put k : ℕ) : Type 0 where
+  bounded : k ≤ blocks
+  walking : Walking startPacking identities (take (blockLength * blocks) buffer₀) buffer₀ 0 blocks k put waits pending buffer
+
 abbrev Inv-loop : tie.InvT-loop
-Inv-loop buffer₀ blocks identities pending₀ waits₀ put₀ k₀ buffer pending waits put k =
-    (k ≤ blocks) × Walking startPacking identities (take (blockLength * blocks) buffer₀) buffer₀ 0 blocks k put waits pending buffer
+Inv-loop buffer₀ blocks identities pending₀ waits₀ put₀ k₀ buffer pending waits put k = Packed buffer₀ blocks identities buffer pending waits put k
 
 abbrev μ-loop : tie.MeasureT-loop
 μ-loop buffer₀ blocks identities pending₀ waits₀ put₀ k₀ buffer pending waits put k = blocks - k
@@ -58,11 +61,12 @@ loop-holds c =
     let s = c .before .before .before in
     let a = s .args in
     let buffer = now (a .buffer) in
-    let long = in-use-length buffer (s .pre .0) (a .blocks) (s .pre .1) in (
-      omega arith,
-      walk-start startPacking (now (a .identities)) (take (blockLength * a .blocks) buffer) buffer 0 (a .blocks) 0 (now (a .pending)) (s .pre .2)
-          (omega arith) (omega arith) (omega (arith, long)) refl,
-    )
+    let long = in-use-length buffer (s .pre .0) (a .blocks) (s .pre .1) in
+    record {
+      bounded = omega arith;
+      walking = walk-start startPacking (now (a .identities)) (take (blockLength * a .blocks) buffer) buffer 0 (a .blocks) 0 (now (a .pending)) (s .pre .2)
+          (omega arith) (omega arith) (omega (arith, long)) refl;
+    }
 
 -- a block that is read lies in the buffer
 inside : (t : Turn) → blockLength * t .before .loop .k + blockLength ≤ length (buffer (t .before))
@@ -72,7 +76,7 @@ inside t =
 
 -- and none is put beyond it
 behind : (at : At) → at .loop .put ≤ at .loop .k
-behind at = omega (arith, at .loop .inv .1 .room)
+behind at = omega (arith, at .loop .inv .walking .room)
 
 fits : (t : Turn) → blockLength * t .before .loop .put + blockLength ≤ length (buffer (t .before))
 fits t = omega (arith, behind (t .before), inside t)
@@ -87,7 +91,7 @@ shown t =
     let s = start at in
     let k = at .loop .k in
     part-ends (blockLength * k) blockLength (at .loop .buffer)
-    ∙ ap (take blockLength) (begun-after (at .loop .inv .1 .begun) (blockLength * k) (omega (arith, behind at)))
+    ∙ ap (take blockLength) (begun-after (at .loop .inv .walking .begun) (blockLength * k) (omega (arith, behind at)))
     ∙ sym (in-use-block (buffer at) (s .pre .0) (s .args .blocks) (s .pre .1) k (t .loop-test .taken))
 
 -- and its fifth byte is how many rows it has
@@ -109,8 +113,8 @@ push-cells-requires c κs =
     let s = start at in
     let block = blockAt (at .loop .k) (source at) in
     let long = in-use-length (buffer at) (s .pre .0) (s .args .blocks) (s .pre .1) in (
-      at .loop .inv .1 .long,
-      at .loop .inv .1 .few,
+      at .loop .inv .walking .long,
+      at .loop .inv .walking .few,
       ap length (shown t) ∙ part-length (blockLength * at .loop .k) blockLength (source at) (omega (arith, long, t .loop-test .taken)),
       omega (arith, rows (c .before), sound-le block),
       rw (shown t) (block-rows block (c .before .byte-at .result) (rows (c .before))),
@@ -119,13 +123,13 @@ push-cells-requires c κs =
 few : (c : tie.After-push-cells Inv-loop μ-loop) → c .push-cells .result < 30
 few c =
     let at = at-push c .before in
-    omega (arith, c .push-cells .ensures .few, at .loop .inv .1 .few, rows (c .before .before), sound-le (blockAt (at .loop .k) (source at)))
+    omega (arith, c .push-cells .ensures .few, at .loop .inv .walking .few, rows (c .before .before), sound-le (blockAt (at .loop .k) (source at)))
 
 flush-requires : tie.Need-flush-requires Inv-loop μ-loop
 flush-requires c κs =
     let push = c .before .before .before .before in
     let t = at-push push in
-    let w = t .before .loop .inv .1 in
+    let w = t .before .loop .inv .walking in
     (push .push-cells .kept .0 ∙ w .long, few push, lent (w .begun) blockLength _ refl (fits t))
 
 loop-again : tie.Need-loop-again Inv-loop μ-loop
@@ -136,15 +140,16 @@ loop-again c =
     let t = at-push push in
     let at = t .before in
     let a = start at .args in
-    let w = at .loop .inv .1 in
-    let long = push .push-cells .kept .0 ∙ w .long in (
-      omega (arith, t .loop-test .taken),
-      walk-turn startPacking (now (a .identities)) (source at) (buffer at) 0 (a .blocks) (at .loop .k) (at .loop .put) (at .loop .waits)
+    let w = at .loop .inv .walking in
+    let long = push .push-cells .kept .0 ∙ w .long in
+    record {
+      bounded = omega (arith, t .loop-test .taken);
+      walking = walk-turn startPacking (now (a .identities)) (source at) (buffer at) 0 (a .blocks) (at .loop .k) (at .loop .put) (at .loop .waits)
           (at .loop .pending)
           (at .loop .buffer) w (t .loop-test .taken) (by .byte-at .result) (push .push-cells .result) (fl .flush .result) _ _ _ (rows by)
           (rw (shown t) at (push .push-cells .ensures)) long (flushed-next (fl .flush .ensures)) (fl .flush .kept .0 ∙ long)
-          (fl .flush .kept .1 .1 .1 .0) (fits t),
-    )
+          (fl .flush .kept .1 .1 .1 .0) (fits t);
+    }
 
 returns : tie.Need-returns Inv-loop μ-loop
 returns c =
@@ -157,7 +162,7 @@ returns c =
     let waits = at .loop .waits in
     let pending = at .loop .pending in
     let out = at .loop .buffer in
-    let w = at .loop .inv .1 in
+    let w = at .loop .inv .walking in
     let over : blocks ≤ k = c .loop-test .left in
     rw (← in-use-cells (buffer at) (s .pre .0) blocks (s .pre .1) ids) (record {
       waits = w .few;
@@ -181,7 +186,7 @@ pack-within-spec =
     (λ c. omega (arith, inside c))
     (λ c. omega arith)
     (λ c. omega arith)
-    (λ c. within (c .before .before .loop .inv .1 .begun) _ (inside (c .before)))
+    (λ c. within (c .before .before .loop .inv .walking .begun) _ (inside (c .before)))
     (λ c κs. search needs)
     (λ c. omega arith)
     push-cells-requires
@@ -190,7 +195,7 @@ pack-within-spec =
     (λ c. omega (arith, fits (at-flush c)))
     (λ c. omega arith)
     (λ c. omega arith)
-    (λ c. within (at-flush c .before .loop .inv .1 .begun) _ (fits (at-flush c)))
+    (λ c. within (at-flush c .before .loop .inv .walking .begun) _ (fits (at-flush c)))
     flush-requires
     (λ c. omega (
       arith,
@@ -200,6 +205,6 @@ pack-within-spec =
     (λ c. omega (arith, inside (at-push (c .before .before .before .before .before .before .before .before .before))))
     (λ c. omega (arith, at-push (c .before .before .before .before .before .before .before .before .before) .loop-test .taken))
     loop-again
-    (λ c. begun-length (c .before .loop .inv .1 .begun))
-    (λ c. omega (arith, c .before .loop .inv .1 .long, start (c .before) .pre .2))
+    (λ c. begun-length (c .before .loop .inv .walking .begun))
+    (λ c. omega (arith, c .before .loop .inv .walking .long, start (c .before) .pre .2))
     returns)

@@ -7,11 +7,11 @@ use native.Mathlib.Omega.{arith}
 use borrow.Author.Needs.{needs}
 use denote.Ref.{now}
 use lib.Dec.{eqb}
-use lib.ListN.{length, take}
+use lib.ListN.{take}
 use Rattle.lists.specs.Lists.{any}
 use Rattle.layout.specs.Cell.{cellLength}
 use Rattle.buffers.proofs.Segments.{Writing, packed, begin, begun-length, skip, named, lend, lent, so-far}
-use Rattle.repack.specs.Calls.{keptCell}
+use Rattle.repack.specs.Private.{keptCell}
 use Rattle.repack.proofs.Cells.{copied, cell-listed}
 use Rattle.repack.proofs.push_cell.Statement.{statement}
 use Rattle.repack.proofs.push_cell.Tie as tie

@@ -1,10 +1,9 @@
 -- `repack::push_cells` meets its contract. The invariant: what waits with the cells that are left is what waited with all; the measure: the cells
 -- left.
-use mathlib.Core.Path.{_≡_, refl, sym, ap, _∙_}
+use mathlib.Core.Path.{_≡_, sym, ap, _∙_}
 use mathlib.Core.List.{List, _++_, append-assoc, append-nil}
 use Prim.Native.Nat.{ℕ, _+_, _-_, _*_, _≤_}
 use native.Mathlib.Omega.{arith}
-use borrow.Author.Needs.{needs}
 use denote.Ref.{now}
 use lib.ListN.{length, take}
 use Rattle.layout.specs.Cell.{cellLength}
@@ -12,16 +11,20 @@ use Rattle.layout.specs.Block.{headerLength, blockCell}
 use Rattle.buffers.proofs.Segments.{part-length, part-ends}
 use Rattle.archive_model.specs.Row.{rowIn, isRow}
 use Rattle.repack_model.specs.Packer.{pendingLength}
-use Rattle.repack.specs.Calls.{keptCell, keptFrom}
+use Rattle.repack.specs.Private.{keptCell, keptFrom}
 use Rattle.repack.proofs.Cells.{row-at, kept-first, kept-turn, kept-end}
 use Rattle.repack.proofs.push_cells.Statement.{statement}
 use Rattle.repack.proofs.push_cells.Tie as tie
 
+record Pushing (pending₀ : List ℕ) (used : ℕ) (source : List ℕ) (rows : ℕ) (identities pending : List ℕ) (at i : ℕ) : Type 0 where
+  bounded : i ≤ rows
+  few : at ≤ used + i
+  long : length pending ≡ pendingLength
+  rest : take (cellLength * at) pending ++ keptFrom identities source i (rows - i)
+      ≡ take (cellLength * used) pending₀ ++ keptFrom identities source 0 rows
+
 abbrev Inv-loop : tie.InvT-loop
-Inv-loop pending₀ used source rows identities at₀ i₀ pending at i =
-    (i ≤ rows) × (at ≤ used + i) × (length pending ≡ pendingLength)
-    × (take (cellLength * at) pending ++ keptFrom identities source i (rows - i) ≡ take (cellLength * used) pending₀
-    ++ keptFrom identities source 0 rows)
+Inv-loop pending₀ used source rows identities at₀ i₀ pending at i = Pushing pending₀ used source rows identities pending at i
 
 abbrev μ-loop : tie.MeasureT-loop
 μ-loop pending₀ used source rows identities at₀ i₀ pending at i = rows - i
@@ -29,13 +32,14 @@ abbrev μ-loop : tie.MeasureT-loop
 loop-holds : tie.Need-loop-holds Inv-loop μ-loop
 loop-holds c =
     let s = c .before .before .before in
-    let a = s .args in (
-      omega arith,
-      omega arith,
-      s .pre .0,
-      ap (λ (l : List ℕ). take (cellLength * a .used) (now (a .pending)) ++ l)
-          (kept-first (now (a .identities)) (now (a .source)) (a .rows)),
-    )
+    let a = s .args in
+    record {
+      bounded = omega arith;
+      few = omega arith;
+      long = s .pre .0;
+      rest = ap (λ (l : List ℕ). take (cellLength * a .used) (now (a .pending)) ++ l)
+          (kept-first (now (a .identities)) (now (a .source)) (a .rows));
+    }
 
 push-cell-requires : tie.Need-push-cell-requires Inv-loop μ-loop
 push-cell-requires c κs =
@@ -44,7 +48,7 @@ push-cell-requires c κs =
     let source = now (s .args .source) in
     let i = at .loop .i in
     let cell = part-ends (headerLength + cellLength * i) cellLength source in (
-      at .loop .inv .2,
+      at .loop .inv .long,
       omega arith,
       ap length cell ∙ part-length (headerLength + cellLength * i) cellLength source (omega arith),
       ap (λ (l : List ℕ). isRow (rowIn l)) cell ∙ row-at (now (s .args .identities)) source (s .args .rows) i (s .pre .4) (omega arith),
@@ -61,14 +65,15 @@ loop-again c =
     let rest = keptFrom ids source (i + 1) (s .args .rows - (i + 1)) in
     let front = take (cellLength * at .loop .at) (at .loop .pending) in
     let cell = part-ends (headerLength + cellLength * i) cellLength source in
-    let w = push .push-cell .ensures in (
-      omega arith,
-      omega (arith, w .few),
-      push .push-cell .kept .0 ∙ at .loop .inv .2,
-      ap (λ (l : List ℕ). l ++ rest) (w .are ∙ ap (λ (l : List ℕ). front ++ keptCell ids l) cell)
+    let w = push .push-cell .ensures in
+    record {
+      bounded = omega arith;
+      few = omega (arith, w .few);
+      long = push .push-cell .kept .0 ∙ at .loop .inv .long;
+      rest = ap (λ (l : List ℕ). l ++ rest) (w .are ∙ ap (λ (l : List ℕ). front ++ keptCell ids l) cell)
           ∙ append-assoc front (keptCell ids (blockCell i source)) rest
-          ∙ ap (λ (l : List ℕ). front ++ l) (sym (kept-turn ids source (s .args .rows) i (omega arith))) ∙ at .loop .inv .3,
-    )
+          ∙ ap (λ (l : List ℕ). front ++ l) (sym (kept-turn ids source (s .args .rows) i (omega arith))) ∙ at .loop .inv .rest;
+    }
 
 returns : tie.Need-returns Inv-loop μ-loop
 returns c =
@@ -78,7 +83,7 @@ returns c =
     record {
       few = omega arith;
       are = sym (append-nil front) ∙ ap (λ (l : List ℕ). front ++ l)
-          (sym (kept-end (now (a .identities)) (now (a .source)) (a .rows) (at .loop .i) (omega arith))) ∙ at .loop .inv .3;
+          (sym (kept-end (now (a .identities)) (now (a .source)) (a .rows) (at .loop .i) (omega arith))) ∙ at .loop .inv .rest;
     }
 
 pub push-cells-spec : {M : Type 1} → statement M

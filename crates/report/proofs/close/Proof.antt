@@ -5,7 +5,8 @@ use Rattle.archive_model.specs.Buffer.{stageFound}
 use Rattle.archive.specs.Archive.{stageOf}
 use Rattle.archive.specs.declared.Stage.{Stage}
 use Rattle.report_model.specs.Pieces.{closed, closing}
-use Rattle.report.specs.Report.{reportOf, tallyOf}
+use Rattle.report.specs.Report.{reportOf}
+use Rattle.report.specs.Private.{tallyOf}
 use Rattle.report.proofs.close.Statement.{statement}
 use Rattle.report.proofs.close.Tie as tie
 

@@ -1,7 +1,8 @@
 -- `report::sum_up` meets its contract.
 use borrow.Author.Needs.{needs}
 use mathlib.Core.Path.{_∙_}
-use Rattle.report.specs.Report.{reportOf, tallyOf}
+use Rattle.report.specs.Report.{reportOf}
+use Rattle.report.specs.Private.{tallyOf}
 use Rattle.report.proofs.Calls.{closed-full, closed-over, closed-done}
 use Rattle.report.proofs.sum_up.Statement.{statement}
 use Rattle.report.proofs.sum_up.Tie as tie

@@ -1,17 +1,49 @@
--- `c_pieces::adding::end` meets its contract.
-use mathlib.Core.Path.{_∙_, ap}
+-- `c_pieces::adding::end` meets its contract: beside a refusal nothing is stored, and what is answered is the report that was handed in.
+use mathlib.Core.Path.{_≡_, refl, sym, ap, _∙_}
 use borrow.Author.Needs.{needs}
+use denote.Ref.{now}
+use Rattle.report_model.specs.Report.{Addition}
 use Rattle.report_model.specs.Pieces.{Adding, endedOf}
+use Rattle.report.specs.Report.{addedResult}
 use Rattle.c_report.proofs.Calls.{answer-is}
+use Rattle.c_pieces.specs.Adding.{addingAt}
+use Rattle.c_pieces.proofs.Addings.{end-kept}
 use Rattle.c_pieces.proofs.adding.end.Statement.{statement}
 use Rattle.c_pieces.proofs.adding.end.Tie as tie
 
-returns : tie.Need-returns
-returns c =
-    let s = c .before .before in
-    let e = s .before .before .before in
-    answer-is (c .settle .ensures .0) (c .settle .ensures .1) (s .store .ensures) ∙ e .end .ensures
-    ∙ ap (λ (a : Adding). endedOf a) (e .before .adding-in .ensures)
+abbrev start : tie.After-end → tie.Start
+start c = c .before .before .before .before
+
+abbrev was : tie.After-end → Adding
+was c = addingAt (now (start c .args .numbers)) (now (start c .args .lines)) (now (start c .args .adding)) (now (start c .args .tally))
+
+is : (c : tie.After-end) → addedResult (c .end .result) ≡ endedOf (was c)
+is c = c .end .ensures ∙ ap (λ (a : Adding). endedOf a) (c .before .adding-in .ensures)
+
+number : (c : tie.After-settle) → c .settle .result ≡ endedOf (was (c .before .before)) .number
+number c = c .settle .ensures .0 ∙ ap (λ (x : Addition). x .number) (is (c .before .before))
+
+refused : tie.Need-returns
+refused c =
+    let s = c .before in
+    let e = s .before .before in
+    record {
+      result =
+          answer-is (number s) (s .settle .ensures .1 ∙ ap (λ (x : Addition). x .position) (is e))
+          (sym (end-kept (was e) (λ z. c .if1 .taken (number s ∙ z))));
+      numbersStay = λ n. refl;
+      linesStay = λ n. refl;
+    }
+
+added : tie.Need-returns-2
+added c =
+    let l = c .before .before .before in
+    let s = l .before in
+    record {
+      result = answer-is (s .settle .ensures .0) (s .settle .ensures .1) (c .store .ensures) ∙ is (s .before .before);
+      numbersStay = λ n. absurd (n (l .if1 .left));
+      linesStay = λ n. absurd (n (l .if1 .left));
+    }
 
 pub end-spec : {M : Type 1} → statement M
 end-spec =
@@ -20,5 +52,6 @@ end-spec =
     (λ c κs. search needs)
     (λ c κs. search needs)
     (λ c κs. search needs)
+    refused
     (λ c κs. search needs)
-    returns)
+    added)

@@ -1,28 +1,55 @@
--- `c_pieces::adding::feed` meets its contract.
-use mathlib.Core.Path.{_≡_, sym, ap, ap₂, _∙_}
+-- `c_pieces::adding::feed` meets its contract: beside a refusal nothing is stored, and what is answered is what was handed in.
+use mathlib.Core.Path.{_≡_, refl, sym, ap, ap₂, _∙_}
 use Prim.Native.Nat.{ℕ}
 use borrow.Author.Needs.{needs}
 use denote.Ref.{now}
 use Rattle.report_model.specs.Pieces.{Tally, Adding, adding, fed, Feeding, feedOf}
+use Rattle.report.specs.Report.{feedResult}
 use Rattle.c_report.specs.Calls.{reportAt}
 use Rattle.c_pieces.specs.Adding.{addingAt}
-use Rattle.c_pieces.proofs.Addings.{feed-report}
+use Rattle.c_pieces.proofs.Addings.{feed-report, feed-kept}
 use Rattle.c_pieces.proofs.adding.feed.Statement.{statement}
 use Rattle.c_pieces.proofs.adding.feed.Tie as tie
 
-returns : tie.Need-returns
-returns c =
-    let s = c .before in
-    let f = s .before .before .before in
-    let i = f .before in
-    let a = i .before .before .before .before .args in
-    let was = addingAt (now (a .numbers)) (now (a .lines)) (now (a .adding)) (now (a .tally)) in
-    let is = f .feed .ensures ∙ ap (λ (x : Adding). feedOf x (now (a .piece))) (i .adding-in .ensures) in
-    let answer = feedOf was (now (a .piece)) in
-    ap₂ (λ (n : ℕ) (t : Tally). fed n (adding (reportAt (now (a .numbers)) (now (a .lines))) t))
-    (c .taken-number .ensures ∙ ap (λ (x : Feeding). x .number) is)
-    (s .store .ensures ∙ ap (λ (x : Feeding). x .next .tally) is)
-    ∙ ap (λ r. fed (answer .number) (adding r (answer .next .tally))) (sym (feed-report was (now (a .piece))))
+abbrev start : tie.After-feed → tie.Start
+start c = c .before .before .before .before .before
+
+abbrev was : tie.After-feed → Adding
+was c = addingAt (now (start c .args .numbers)) (now (start c .args .lines)) (now (start c .args .adding)) (now (start c .args .tally))
+
+abbrev expected : tie.After-feed → Feeding
+expected c = feedOf (was c) (now (start c .args .piece))
+
+is : (c : tie.After-feed) → feedResult (c .feed .result) ≡ expected c
+is c = c .feed .ensures ∙ ap (λ (x : Adding). feedOf x (now (start c .args .piece))) (c .before .adding-in .ensures)
+
+number : (c : tie.After-taken-number) → c .taken-number .result ≡ expected (c .before) .number
+number c = c .taken-number .ensures ∙ ap (λ (x : Feeding). x .number) (is (c .before))
+
+refused : tie.Need-returns
+refused c =
+    let t = c .before in
+    let f = t .before in
+    record {
+      result = ap₂ fed (number t) (sym (feed-kept (was f) (now (start f .args .piece)) (λ z. c .if1 .taken (number t ∙ z))));
+      numbersStay = λ n. refl;
+      linesStay = λ n. refl;
+    }
+
+taken : tie.Need-returns-2
+taken c =
+    let e = c .before .before .before in
+    let t = e .before in
+    let f = t .before in
+    let a = start f .args in
+    record {
+      result =
+          ap₂ (λ (n : ℕ) (t : Tally). fed n (adding (reportAt (now (a .numbers)) (now (a .lines))) t)) (number t)
+          (c .store .ensures ∙ ap (λ (x : Feeding). x .next .tally) (is f))
+          ∙ ap (λ r. fed (expected f .number) (adding r (expected f .next .tally))) (sym (feed-report (was f) (now (a .piece))));
+      numbersStay = λ n. absurd (n (e .if1 .left));
+      linesStay = λ n. absurd (n (e .if1 .left));
+    }
 
 pub feed-spec : {M : Type 1} → statement M
 feed-spec =
@@ -31,5 +58,6 @@ feed-spec =
     (λ c κs. search needs)
     (λ c κs. search needs)
     (λ c κs. search needs)
+    refused
     (λ c κs. search needs)
-    returns)
+    taken)

@@ -1,5 +1,5 @@
 -- `c_pieces::adding::start` meets its contract.
-use mathlib.Core.Path.{_≡_, ap, _∙_}
+use mathlib.Core.Path.{ap, _∙_}
 use borrow.Author.Needs.{needs}
 use denote.Ref.{now}
 use Rattle.report_model.specs.Report.{Report}

@@ -7,11 +7,11 @@ use mathlib.Core.Bool.{true}
 use lib.ListN.{length}
 use borrow.Author.Tests.{not-true, not-false}
 use Rattle.archive_model.specs.Buffer.{blocksIn}
-use Rattle.archive.proofs.Calls.{whole-facts}
+use Rattle.archive.proofs.Calls.{scan-facts, whole-facts}
 use Rattle.report_model.specs.Pieces.{Tally, addBlocks, isAdding, isPiece}
 use Rattle.report_model.proofs.Adding.{going}
 use Rattle.report.specs.Report.{addingOf}
-use Rattle.report.proofs.Blocks.{scan-blocks, sane-as, going-sane}
+use Rattle.report.proofs.Blocks.{sane-as, going-sane}
 use Rattle.report.proofs.Calls.{feed-not, feed-size, feed-done}
 use Rattle.report.proofs.Adding.feed.Statement.{statement}
 use Rattle.report.proofs.Adding.feed.Tie as tie
@@ -39,7 +39,7 @@ returns c =
 is-piece-requires : tie.Need-is-piece-requires
 is-piece-requires c κs =
     let a = addingOf (c .before .before .before .before .args .self) in
-    scan-blocks (a .tally .scan) (going a (yes (c .before)) .scanned)
+    scan-facts (a .tally .scan) (going a (yes (c .before)) .scanned) .0
 
 returns-2 : tie.Need-returns-2
 returns-2 c =

@@ -5,7 +5,8 @@ use mathlib.Core.Path.{_≡_, sym, ap, _∙_}
 use borrow.Author.Needs.{needs}
 use denote.Ref.{now}
 use Rattle.report_model.specs.Report.{joined}
-use Rattle.report.specs.Lines.{lineAt, rowLine}
+use Rattle.report.specs.Lines.{lineAt}
+use Rattle.report.specs.Private.{rowLine}
 use Rattle.report.proofs.Windows.{ordered-of, total-at, stored-as}
 use Rattle.report.proofs.Places.{joined-there, put-there, no-room, is-there, not-there}
 use Rattle.report.proofs.lines.add_row.Statement.{statement}

@@ -8,13 +8,19 @@ use mathlib.Core.List.{List}
 use Prim.Native.Nat.{ℕ, _+_, _-_, _*_, _^_, _≤_, _<_}
 use borrow.Author.Tests.{not-true, not-false}
 use Rattle.report_model.specs.Report.{Line, isTally}
-use Rattle.report.specs.Lines.{lineLength, lineAt, linesFrom, linesOf, lineFits}
+use Rattle.report.specs.Lines.{lineLength, lineAt, linesFrom, linesOf}
+use Rattle.report.specs.Private.{lineFits}
 use Rattle.report.proofs.Testing.{fits-facts, rest-first, rest-next, rest-end}
 use Rattle.report.proofs.lines.are_lines.Statement.{statement}
 use Rattle.report.proofs.lines.are_lines.Tie as tie
 
+record Testing (lines : List ℕ) (count kept loose k l i : ℕ) : Type 0 where
+  bounded : i ≤ count
+  few : k + l ≤ kept + loose
+  rest : isTally (linesFrom lines i (count - i)) k l ≡ isTally (linesOf lines count) kept loose
+
 abbrev Inv-loop : tie.InvT-loop
-Inv-loop lines count kept loose k₀ l₀ i₀ k l i = (i ≤ count) × (k + l ≤ kept + loose) × (isTally (linesFrom lines i (count - i)) k l ≡ isTally (linesOf lines count) kept loose)
+Inv-loop lines count kept loose k₀ l₀ i₀ k l i = Testing lines count kept loose k l i
 
 abbrev μ-loop : tie.MeasureT-loop
 μ-loop lines count kept loose k₀ l₀ i₀ k l i = count - i
@@ -51,30 +57,33 @@ within : (c : tie.Else1 Inv-loop μ-loop) → (line (c .before .before) .kept �
 within c = fits-facts (line (c .before .before)) (others (c .before .before)) (c .before .before .before .loop .k) (c .before .before .before .loop .l) (told c)
 
 loop-holds : tie.Need-loop-holds Inv-loop μ-loop
-loop-holds c = (omega arith, omega arith, rest-first (now (c .before .args .lines)) (c .before .args .count) (c .before .args .kept) (c .before .args .loose))
+loop-holds c =
+    let a = c .before .args in
+    record { bounded = omega arith; few = omega arith; rest = rest-first (now (a .lines)) (a .count) (a .kept) (a .loose) }
 
 fits-requires : tie.Need-fits-requires Inv-loop μ-loop
-fits-requires c κs = let s = c .before .before .before in (c .loop-test .taken, s .pre .0, s .pre .1, omega (arith, c .before .loop .inv .1, s .pre .2))
+fits-requires c κs = let s = c .before .before .before in (c .loop-test .taken, s .pre .0, s .pre .1, omega (arith, c .before .loop .inv .few, s .pre .2))
 
 returns : tie.Need-returns Inv-loop μ-loop
 returns c =
     let d = c .before .before in
-    sym (sym (d .before .loop .inv .2) ∙ next d ∙ ap (λ (b : Bool). b && rest d) (sym (c .before .fits2 .ensures) ∙ not-true _ (c .if1 .taken)))
+    sym (sym (d .before .loop .inv .rest) ∙ next d ∙ ap (λ (b : Bool). b && rest d) (sym (c .before .fits2 .ensures) ∙ not-true _ (c .if1 .taken)))
 
 loop-again : tie.Need-loop-again Inv-loop μ-loop
 loop-again c =
     let e = c .before .before in
-    let d = e .before .before in (
-      omega (arith, d .loop-test .taken),
-      omega (arith, d .before .loop .inv .1),
-      sym (next d ∙ ap (λ (b : Bool). b && rest d) (told e)) ∙ d .before .loop .inv .2,
-    )
+    let d = e .before .before in
+    record {
+      bounded = omega (arith, d .loop-test .taken);
+      few = omega (arith, d .before .loop .inv .few);
+      rest = sym (next d ∙ ap (λ (b : Bool). b && rest d) (told e)) ∙ d .before .loop .inv .rest;
+    }
 
 returns-2 : tie.Need-returns-2 Inv-loop μ-loop
 returns-2 c =
     let at = c .before in
     let a = at .before .before .args in
-    sym (rest-end (now (a .lines)) (a .count) (at .loop .i) (at .loop .k) (at .loop .l) (c .loop-test .left)) ∙ at .loop .inv .2
+    sym (rest-end (now (a .lines)) (a .count) (at .loop .i) (at .loop .k) (at .loop .l) (c .loop-test .left)) ∙ at .loop .inv .rest
 
 pub are-lines-spec : {M : Type 1} → statement M
 are-lines-spec =

@@ -18,8 +18,8 @@ use Rattle.report_model.specs.Report.{maxLines, addRows, looseIn}
 use Rattle.report_model.specs.Pieces.{countedRows}
 use Rattle.report_model.proofs.Lines.{kinds}
 use Rattle.report.specs.declared.tally.Tally.{Tally}
-use Rattle.report.specs.Lines.{linesOf, rowsBetween, AddedRows}
-use Rattle.report.specs.Report.{tallyOf}
+use Rattle.report.specs.Lines.{linesOf}
+use Rattle.report.specs.Private.{rowsBetween, AddedRows, tallyOf}
 use Rattle.report.proofs.Windows.{lines-count, lines-none}
 use Rattle.report_model.proofs.Adding.{rows-after, used-few}
 use Rattle.report.proofs.Blocks.{between-length, loose-few, fed, counted-rows, used-rows, scan-few, over-block, done-block, over-before, over-now}

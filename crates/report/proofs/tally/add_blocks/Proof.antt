@@ -10,18 +10,25 @@ use Rattle.buffers.specs.Buffer.{part}
 use Rattle.layout.specs.Block.{blockLength}
 use Rattle.buffers.proofs.Segments.{part-length, part-ends}
 use Rattle.archive_model.specs.Buffer.{blocksIn}
-use Rattle.archive.specs.Archive.{blocksFrom}
-use Rattle.archive.proofs.Scans.{rest-first}
+use Rattle.archive.proofs.Scans.{blocksFrom, rest-first}
 use Rattle.report_model.specs.Pieces.{Tally, addBlock, addBlocks}
+use Rattle.report.specs.declared.tally.Tally as code
 use Rattle.report.specs.Lines.{linesLength}
-use Rattle.report.specs.Report.{tallyOf, Sane}
+use Rattle.report.specs.Private.{tallyOf, Sane}
 use Rattle.report.proofs.Blocks.{sane-next, sane-as, blocks-of, blocks-next, blocks-end}
 use Rattle.report.proofs.tally.add_blocks.Statement.{statement}
 use Rattle.report.proofs.tally.add_blocks.Tie as tie
 
+record Adding (lines₀ piece : List ℕ) (at₀ : code.Tally) (i-end : ℕ) (lines : List ℕ) (at : code.Tally) (i : ℕ) : Type 0 where
+  bounded : i ≤ i-end
+  ends : i-end ≡ length piece / blockLength
+  long : length lines ≡ linesLength
+  passed : at .scan .blocks ≡ at₀ .scan .blocks + i
+  sane : Sane (tallyOf at lines)
+  rest : addBlocks (tallyOf at lines) (blocksFrom piece i (i-end - i)) ≡ addBlocks (tallyOf at₀ lines₀) (blocksIn piece)
+
 abbrev Inv-loop : tie.InvT-loop
-Inv-loop lines₀ piece at₀ i₀ i-end lines at i = (i ≤ i-end) × (i-end ≡ length piece / blockLength) × (length lines ≡ linesLength) × (at .scan .blocks ≡ at₀ .scan .blocks + i) × Sane (tallyOf at lines)
-    × (addBlocks (tallyOf at lines) (blocksFrom piece i (i-end - i)) ≡ addBlocks (tallyOf at₀ lines₀) (blocksIn piece))
+Inv-loop lines₀ piece at₀ i₀ i-end lines at i = Adding lines₀ piece at₀ i-end lines at i
 
 abbrev μ-loop : tie.MeasureT-loop
 μ-loop lines₀ piece at₀ i₀ i-end lines at i = i-end - i
@@ -34,7 +41,14 @@ loop-holds : tie.Need-loop-holds Inv-loop μ-loop
 loop-holds c =
     let s = c .before .before in
     let a = s .args in
-    (omega arith, omega arith, s .pre .0, omega arith, s .pre .2, ap (addBlocks (tallyOf (a .t) (now (a .lines)))) (rest-first (now (a .piece)) _ (omega arith)))
+    record {
+      bounded = omega arith;
+      ends = omega arith;
+      long = s .pre .0;
+      passed = omega arith;
+      sane = s .pre .2;
+      rest = ap (addBlocks (tallyOf (a .t) (now (a .lines)))) (rest-first (now (a .piece)) _ (omega arith));
+    }
 
 add-block-requires : tie.Need-add-block-requires Inv-loop μ-loop
 add-block-requires c κs =
@@ -43,10 +57,10 @@ add-block-requires c κs =
     let s = at .before .before .before in
     let piece = now (s .args .piece) in
     let v = at .loop .inv in (
-      ap length (part-ends (blockLength * at .loop .i) blockLength piece) ∙ part-length (blockLength * at .loop .i) blockLength piece (omega (arith, d .loop-test .taken, v .1)),
-      v .2,
-      omega (arith, v .3, v .1, d .loop-test .taken, s .pre .1),
-      v .4,
+      ap length (part-ends (blockLength * at .loop .i) blockLength piece) ∙ part-length (blockLength * at .loop .i) blockLength piece (omega (arith, d .loop-test .taken, v .ends)),
+      v .long,
+      omega (arith, v .passed, v .ends, d .loop-test .taken, s .pre .1),
+      v .sane,
     )
 
 loop-again : tie.Need-loop-again Inv-loop μ-loop
@@ -59,20 +73,22 @@ loop-again c =
     let v = at .loop .inv in
     let t = tallyOf (at .loop .at) (at .loop .lines) in
     let i = at .loop .i in
-    let e = b .add-block .ensures ∙ ap (addBlock t) (part-ends (blockLength * i) blockLength piece) in (
-      omega (arith, d .loop-test .taken),
-      v .1,
-      b .add-block .kept .0 ∙ v .2,
-      omega (arith, blocks-of _ t (block d) e, v .3),
-      sane-as e (sane-next (block d) t (v .4) (omega (arith, v .3, v .1, d .loop-test .taken, s .pre .1))),
-      ap (λ (u : Tally). addBlocks u (blocksFrom piece (i + 1) (length piece / blockLength - (i + 1)))) e ∙ sym (blocks-next piece t (length piece / blockLength) i (omega (arith, d .loop-test .taken))) ∙ v .5,
-    )
+    let e = b .add-block .ensures ∙ ap (addBlock t) (part-ends (blockLength * i) blockLength piece) in
+    record {
+      bounded = omega (arith, d .loop-test .taken);
+      ends = v .ends;
+      long = b .add-block .kept .0 ∙ v .long;
+      passed = omega (arith, blocks-of _ t (block d) e, v .passed);
+      sane = sane-as e (sane-next (block d) t (v .sane) (omega (arith, v .passed, v .ends, d .loop-test .taken, s .pre .1)));
+      rest = ap (λ (u : Tally). addBlocks u (blocksFrom piece (i + 1) (length piece / blockLength - (i + 1)))) e
+          ∙ sym (blocks-next piece t (length piece / blockLength) i (omega (arith, d .loop-test .taken))) ∙ v .rest;
+    }
 
 returns : tie.Need-returns Inv-loop μ-loop
 returns c =
     let at = c .before in
     let s = at .before .before .before in
-    sym (blocks-end (now (s .args .piece)) (tallyOf (at .loop .at) (at .loop .lines)) (length (now (s .args .piece)) / blockLength) (at .loop .i) (omega (arith, c .loop-test .left))) ∙ at .loop .inv .5
+    sym (blocks-end (now (s .args .piece)) (tallyOf (at .loop .at) (at .loop .lines)) (length (now (s .args .piece)) / blockLength) (at .loop .i) (omega (arith, c .loop-test .left))) ∙ at .loop .inv .rest
 
 pub add-blocks-spec : {M : Type 1} → statement M
 add-blocks-spec =
@@ -91,5 +107,5 @@ add-blocks-spec =
     (λ c. omega arith)
     (λ c. omega arith)
     loop-again
-    (λ c. c .before .loop .inv .2 ∙ sym (c .before .before .before .before .pre .0))
+    (λ c. c .before .loop .inv .long ∙ sym (c .before .before .before .before .pre .0))
     returns)

@@ -17,8 +17,12 @@ use Rattle.report.proofs.Blocks.{valid-row, Running, running-first, run
 use Rattle.report.proofs.tally.add_rows.Statement.{statement}
 use Rattle.report.proofs.tally.add_rows.Tie as tie
 
+record Adding (lines₀ : List ℕ) (count : ℕ) (block : List ℕ) (used : ℕ) (lines : List ℕ) (n i : ℕ) : Type 0 where
+  bounded : i ≤ used
+  running : Running block used (linesOf lines₀ count) n i lines
+
 abbrev Inv-loop : tie.InvT-loop
-Inv-loop lines₀ count block used n₀ i₀ lines n i = (i ≤ used) × Running block used (linesOf lines₀ count) n i lines
+Inv-loop lines₀ count block used n₀ i₀ lines n i = Adding lines₀ count block used lines n i
 
 abbrev μ-loop : tie.MeasureT-loop
 μ-loop lines₀ count block used n₀ i₀ lines n i = used - i
@@ -26,7 +30,10 @@ abbrev μ-loop : tie.MeasureT-loop
 loop-holds : tie.Need-loop-holds Inv-loop μ-loop
 loop-holds c =
     let s = c .before .before in
-    (omega arith, running-first (now (s .args .block)) (s .args .used) (s .args .count) (now (s .args .lines)) (s .pre .4) (s .pre .3) (s .pre .5))
+    record {
+      bounded = omega arith;
+      running = running-first (now (s .args .block)) (s .args .used) (s .args .count) (now (s .args .lines)) (s .pre .4) (s .pre .3) (s .pre .5);
+    }
 
 add-cell-requires : tie.Need-add-cell-requires Inv-loop μ-loop
 add-cell-requires c κs =
@@ -35,7 +42,7 @@ add-cell-requires c κs =
     let s = at .before .before .before in
     let block = now (s .args .block) in
     let from = headerLength + cellLength * at .loop .i in
-    let go = at .loop .inv .1 in (
+    let go = at .loop .inv .running in (
       ap length (part-ends from cellLength block) ∙ part-length from cellLength block (omega (arith, s .pre .0, s .pre .1, d .loop-test .taken)),
       ap (λ (l : List ℕ). isRow (rowIn l)) (part-ends from cellLength block) ∙ valid-row block (s .args .used) (at .loop .i) (s .pre .2) (d .loop-test .taken),
       go .few,
@@ -48,7 +55,7 @@ same-length : tie.Need-same-length Inv-loop μ-loop
 same-length c =
     let r = c .before .before .before in
     let at = r .before .before .before .before in
-    r .add-cell .ensures .long ∙ at .loop .inv .1 .long ∙ sym (at .before .before .before .pre .4)
+    r .add-cell .ensures .long ∙ at .loop .inv .running .long ∙ sym (at .before .before .before .pre .4)
 
 returns : tie.Need-returns Inv-loop μ-loop
 returns c =
@@ -59,9 +66,9 @@ returns c =
     let block = now (s .args .block) in
     let ins = inserted-as (ap (λ (l : List ℕ). lineOf (rowIn l)) (part-ends (headerLength + cellLength * at .loop .i) cellLength block)) (r .add-cell .ensures) in
     record {
-      long = ins .long ∙ at .loop .inv .1 .long ∙ sym (s .pre .4);
+      long = ins .long ∙ at .loop .inv .running .long ∙ sym (s .pre .4);
       lines = λ h. absurd (omega (arith, h, c .if1 .taken));
-      many = λ h. running-many block (s .args .used) (at .loop .n) (at .loop .i) (r .add-cell .result) (linesOf (now (s .args .lines)) (s .args .count)) (at .loop .lines) _ (at .loop .inv .1) (d .loop-test .taken) ins h;
+      many = λ h. running-many block (s .args .used) (at .loop .n) (at .loop .i) (r .add-cell .result) (linesOf (now (s .args .lines)) (s .args .count)) (at .loop .lines) _ (at .loop .inv .running) (d .loop-test .taken) ins h;
     }
 
 loop-again : tie.Need-loop-again Inv-loop μ-loop
@@ -71,16 +78,17 @@ loop-again c =
     let at = d .before in
     let s = at .before .before .before in
     let block = now (s .args .block) in
-    let ins = inserted-as (ap (λ (l : List ℕ). lineOf (rowIn l)) (part-ends (headerLength + cellLength * at .loop .i) cellLength block)) (r .add-cell .ensures) in (
-      omega (arith, d .loop-test .taken),
-      running-next block (s .args .used) (at .loop .n) (at .loop .i) (r .add-cell .result) (linesOf (now (s .args .lines)) (s .args .count)) (at .loop .lines) _ (at .loop .inv .1) (d .loop-test .taken) ins (c .if1 .left),
-    )
+    let ins = inserted-as (ap (λ (l : List ℕ). lineOf (rowIn l)) (part-ends (headerLength + cellLength * at .loop .i) cellLength block)) (r .add-cell .ensures) in
+    record {
+      bounded = omega (arith, d .loop-test .taken);
+      running = running-next block (s .args .used) (at .loop .n) (at .loop .i) (r .add-cell .result) (linesOf (now (s .args .lines)) (s .args .count)) (at .loop .lines) _ (at .loop .inv .running) (d .loop-test .taken) ins (c .if1 .left);
+    }
 
 returns-2 : tie.Need-returns-2 Inv-loop μ-loop
 returns-2 c =
     let at = c .before in
     let s = at .before .before .before in
-    let go = at .loop .inv .1 in
+    let go = at .loop .inv .running in
     record {
       long = go .long ∙ sym (s .pre .4);
       lines = λ h. running-end (now (s .args .block)) (s .args .used) (at .loop .n) (at .loop .i) (linesOf (now (s .args .lines)) (s .args .count)) (at .loop .lines) go (c .loop-test .left);
@@ -106,5 +114,5 @@ add-rows-spec =
     (λ c. omega arith)
     (λ c. omega arith)
     loop-again
-    (λ c. c .before .loop .inv .1 .long ∙ sym (c .before .before .before .before .pre .4))
+    (λ c. c .before .loop .inv .running .long ∙ sym (c .before .before .before .before .pre .4))
     returns-2)

@@ -11,13 +11,17 @@ use Rattle.layout.specs.Cell.{cellLength}
 use Rattle.buffers.proofs.Segments.{part-ends}
 use Rattle.archive_model.specs.Row.{rowIn}
 use Rattle.report_model.specs.Report.{looseIn}
-use Rattle.report.specs.Lines.{rowsBetween}
+use Rattle.report.specs.Private.{rowsBetween}
 use Rattle.report.proofs.Blocks.{loose-first, loose-next, loose-end, loose-few}
 use Rattle.report.proofs.tally.loose_rows.Statement.{statement}
 use Rattle.report.proofs.tally.loose_rows.Tie as tie
 
+record Counting (block : List ℕ) (used n i : ℕ) : Type 0 where
+  bounded : i ≤ used
+  rest : n + looseIn (rowsBetween block i (used - i)) ≡ looseIn (rowsBetween block 0 used)
+
 abbrev Inv-loop : tie.InvT-loop
-Inv-loop block used n₀ i₀ n i = (i ≤ used) × (n + looseIn (rowsBetween block i (used - i)) ≡ looseIn (rowsBetween block 0 used))
+Inv-loop block used n₀ i₀ n i = Counting block used n i
 
 abbrev μ-loop : tie.MeasureT-loop
 μ-loop block used n₀ i₀ n i = used - i
@@ -38,20 +42,28 @@ add-n : tie.Need-add-n Inv-loop μ-loop
 add-n c =
     let at = c .before .before .before .before in
     let s = at .before .before in
-    omega (arith, at .loop .inv .1, loose-few (now (s .args .block)) 0 (s .args .used), s .pre .1, c .one-if .ensures, one-le (c .before .is-loose .result))
+    omega (arith, at .loop .inv .rest, loose-few (now (s .args .block)) 0 (s .args .used), s .pre .1, c .one-if .ensures, one-le (c .before .is-loose .result))
 
 loop-again : tie.Need-loop-again Inv-loop μ-loop
 loop-again c =
     let d = c .before .before .before in
     let at = d .before in
     let s = at .before .before in
-    (omega (arith, d .loop-test .taken), omega (arith, at .loop .inv .1, loose-next (now (s .args .block)) (s .args .used) (at .loop .i) (d .loop-test .taken), counted c))
+    record {
+      bounded = omega (arith, d .loop-test .taken);
+      rest = omega (
+        arith,
+        at .loop .inv .rest,
+        loose-next (now (s .args .block)) (s .args .used) (at .loop .i) (d .loop-test .taken),
+        counted c,
+      );
+    }
 
 returns : tie.Need-returns Inv-loop μ-loop
 returns c =
     let at = c .before in
     let s = at .before .before in
-    omega (arith, at .loop .inv .1, loose-end (now (s .args .block)) (s .args .used) (at .loop .i) (c .loop-test .left))
+    omega (arith, at .loop .inv .rest, loose-end (now (s .args .block)) (s .args .used) (at .loop .i) (c .loop-test .left))
 
 pub loose-rows-spec : {M : Type 1} → statement M
 loose-rows-spec =
@@ -59,7 +71,7 @@ loose-rows-spec =
     (tie.spec
     Inv-loop
     μ-loop
-    (λ c. (omega arith, loose-first (now (c .before .args .block)) (c .before .args .used)))
+    (λ c. record { bounded = omega arith; rest = loose-first (now (c .before .args .block)) (c .before .args .used) })
     (λ c. omega arith)
     (λ c. omega arith)
     (λ c. omega arith)
