@@ -86,13 +86,7 @@ pub fn put_row(
 
 // Rows from row `n` on, each a time and a record of 23 bytes, into the 512 bytes of their block, all or none: 16, 12 with the position, the check's with
 // the place of the row among these, 6.
-pub fn put_rows(
-    block: &mut [u8],
-    n: usize,
-    times: &[u64],
-    rows: &[u8],
-    position: &mut usize,
-) -> u8
+pub fn put_rows(block: &mut [u8], n: usize, times: &[u64], rows: &[u8], position: &mut usize) -> u8
     ensures { λ r. ⌜ record { number = r; position = now (position .exit); buffer = now (block .exit) }
         ≡ putRowsGiven (now (block .entry)) n (now (times .entry)) (now (rows .entry)) ⌝ }
 {

@@ -9,19 +9,20 @@ use layout::CELLS_PER_BLOCK;
 use layout::HEADER_LENGTH;
 use refusal::Refusal;
 ghost use mathlib.Core.Path.{_≡_};
-ghost use mathlib.Core.Bool.{Bool, true, not};
-ghost use mathlib.Core.List.{List, map, flatten};
-ghost use Prim.Native.Nat.{ℕ, _+_, _*_, _%_, _≤_, _<_};
+ghost use mathlib.Core.Bool.{true, not};
+ghost use mathlib.Core.List.{map, flatten};
+ghost use Prim.Native.Nat.{_+_, _*_, _%_, _≤_, _<_};
 ghost use lib.Dec.{eqb};
 ghost use lib.ListN.{length};
 ghost use Rattle.lists.specs.Lists.{all};
+ghost use Rattle.refusal.specs.Number.{numberOf};
 ghost use Rattle.erp1.specs.Subtelegram.{checkOf, checkedNumber};
 ghost use Rattle.layout.specs.Cell.{cellLength};
 ghost use Rattle.layout.specs.Block.{cellsPerBlock, blockLength};
 ghost use Rattle.archive_model.specs.Row.{rowLast, rowCell, isRow};
 ghost use Rattle.archive_model.specs.Append.{isNext};
-ghost use Rattle.filling.specs.Fill.{rowLength, rowGiven, rowsGiven, checkRows, putRows, isGiven, putRowsGiven};
-ghost use Rattle.filling.specs.Calls.{putRowsResult, verdictOf, bytesGiven};
+ghost use Rattle.filling.specs.Fill.{rowLength, rowGiven, rowsGiven, checkRows, putRows, putRowsGiven};
+ghost use Rattle.filling.specs.Calls.{putRowsResult, verdictOf, isGiven};
 
 // A row but its time: a byte that is not 0 for LOOSE, its length, and 21 bytes.
 pub const ROW_LENGTH: usize = 2 + CELL_CAPACITY;
@@ -35,15 +36,15 @@ pub struct Filled {
 // ---- one record
 
 // What the check says of the bytes of a record.
-fn check_record(record: &[u8]) -> Checked
-    requires { ⌜ length (now record) ≡ rowLength ⌝ }
-    ensures { λ r. ⌜ checkedNumber r ≡ checkOf (bytesGiven (now (record .entry))) ⌝ }
+fn check_record(given: &[u8]) -> Checked
+    requires { ⌜ length (now given) ≡ rowLength ⌝ }
+    ensures { λ r. ⌜ checkedNumber r ≡ checkOf (rowGiven 0 (now (given .entry)) .bytes) ⌝ }
 {
-    let len = layout::byte_at(record, 1) as usize;
+    let len = layout::byte_at(given, 1) as usize;
     if CELL_CAPACITY < len {
         return Checked::Refused(Refusal::Length);
     }
-    erp1::check(&record[2..2 + len])
+    erp1::check(&given[2..2 + len])
 }
 
 // Bytes 30 and 31 of a row as one number.
@@ -57,13 +58,13 @@ fn last_of(flag: u8) -> u16
 }
 
 // The cell of the row of a record.
-fn put_record(cell: &mut [u8], time: u64, record: &[u8])
-    requires { ⌜ (length (now cell) ≡ cellLength) × (length (now record) ≡ rowLength) × (isRow (rowGiven time (now record)) ≡ true) ⌝ }
-    ensures { λ _. ⌜ now (cell .exit) ≡ rowCell (rowGiven time (now (record .entry))) ⌝ }
+fn put_record(cell: &mut [u8], time: u64, given: &[u8])
+    requires { ⌜ (length (now cell) ≡ cellLength) × (length (now given) ≡ rowLength) × (isRow (rowGiven time (now given)) ≡ true) ⌝ }
+    ensures { λ _. ⌜ now (cell .exit) ≡ rowCell (rowGiven time (now (given .entry))) ⌝ }
 {
-    let len = layout::byte_at(record, 1) as usize;
-    let last = last_of(layout::byte_at(record, 0));
-    layout::put_cell(cell, time, &record[2..2 + len], last);
+    let len = layout::byte_at(given, 1) as usize;
+    let last = last_of(layout::byte_at(given, 0));
+    layout::put_cell(cell, time, &given[2..2 + len], last);
 }
 
 // ---- all records
