@@ -124,8 +124,13 @@ module _ (block : List ℕ) (n : ℕ) (times records : List ℕ) where
           → refusedAppend (checkRows 0 rows .number) (checkRows 0 rows .position) block ≡ putRowsGiven block n times records
       unfolding putRowsGiven putRowsOf
       put-invalid h =
-          rw (eq-eqb (length records) (rowLength * length times) (given .2), eq-eqb (length block) blockLength (given .0),
-          lt-ltb n maxRows (given .1), next, ne-eqb (checkRows 0 rows .number) 0 h)
+          rw (
+            eq-eqb (length records) (rowLength * length times) (given .2),
+            eq-eqb (length block) blockLength (given .0),
+            lt-ltb n maxRows (given .1),
+            next,
+            ne-eqb (checkRows 0 rows .number) 0 h,
+          )
 
       module _ (valid : checkRows 0 rows .number ≡ 0) where
         pub put-many : cellsPerBlock < n % cellsPerBlock + length times → refusedAppend (numberOf ShortOutput) 0 block ≡ putRowsGiven block n times records

@@ -1,3 +1,4 @@
 pub mod Records
 pub mod Together
 pub mod Cases
+pub mod Claims

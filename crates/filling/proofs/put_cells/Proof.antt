@@ -55,10 +55,11 @@ put-record-requires c κs =
     let rows = now (s .args .rows) in
     let from = rowLength * i in
     let valid = all-getD isRow (rowsGiven times rows) i noRow (s .pre .2) (omega (arith, rows-count times rows)) in
-    let row = ap isRow (sym (row-get times rows i (omega arith))) ∙ valid in
-    (lent (at .loop .inv .1) cellLength _ refl (omega (arith, s .pre .0)),
-    ap length (part-ends from rowLength rows) ∙ part-length from rowLength rows (omega (arith, s .pre .1)),
-    ap (λ (l : List ℕ). isRow (rowGiven (getD times i 0) l)) (part-ends from rowLength rows) ∙ row)
+    let row = ap isRow (sym (row-get times rows i (omega arith))) ∙ valid in (
+      lent (at .loop .inv .1) cellLength _ refl (omega (arith, s .pre .0)),
+      ap length (part-ends from rowLength rows) ∙ part-length from rowLength rows (omega (arith, s .pre .1)),
+      ap (λ (l : List ℕ). isRow (rowGiven (getD times i 0) l)) (part-ends from rowLength rows) ∙ row,
+    )
 
 loop-again : tie.Need-loop-again Inv-loop μ-loop
 loop-again c =
@@ -70,9 +71,10 @@ loop-again c =
     let rows = now (s .args .rows) in
     let is =
     put .put-record .ensures ∙ ap (λ (l : List ℕ). rowCell (rowGiven (getD times i 0) l)) (part-ends (rowLength * i) rowLength rows)
-    ∙ sym (cell-get times rows i (omega arith)) in
-    (omega arith,
-    turn _ _ cellLength i _ _ (at .loop .inv .1) (omega (arith, cells-count times rows)) is (put .put-record .kept .0) (omega (arith, s .pre .0)))
+    ∙ sym (cell-get times rows i (omega arith)) in (
+      omega arith,
+      turn _ _ cellLength i _ _ (at .loop .inv .1) (omega (arith, cells-count times rows)) is (put .put-record .kept .0) (omega (arith, s .pre .0)),
+    )
 
 returns : tie.Need-returns Inv-loop μ-loop
 unfolding cells

@@ -26,7 +26,6 @@ short c =
     let s = start c in
     omega (arith, c .byte-at .ensures, short-given (s .args .time) (now (s .args .given)) (s .pre .2))
 
-
 returns : tie.Need-returns
 returns c =
     let put = c .before .before in
