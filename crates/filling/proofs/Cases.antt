@@ -2,10 +2,10 @@
 --     given-block, given-far, given-other, given-same, given-facts     the test of the lengths, by what the code tests; what it says
 --     check-next, check-stop, check-end, check-valid       the walk that looks for a row that the check refuses; where there is none, all rows are valid
 --     put-size, put-other, put-invalid, put-many, put-done     the answers
-use Prim.Native.Nat.{ℕ, suc, _+_, _*_, _/_, _%_, _≤_, _<_}
+use Prim.Native.Nat.{ℕ, _+_, _*_, _/_, _%_, _≤_, _<_}
 use native.Mathlib.Numerals.{add-one}
 use native.Mathlib.Omega.{arith}
-use mathlib.Core.Path.{_≡_, refl, sym, ap, ap₂, _∙_}
+use mathlib.Core.Path.{_≡_, refl, sym, _∙_}
 use mathlib.Core.Bool.{Bool, true, false, cond, not, _&&_, false≢true}
 use mathlib.Core.List.{List, [], _∷_}
 use lib.Dec.{ltb, eqb}
@@ -23,7 +23,7 @@ use Rattle.erp1.proofs.Checks.{not-valid}
 use Rattle.layout.specs.Block.{cellsPerBlock, blockLength}
 use Rattle.archive_model.specs.Row.{Row, isRow}
 use Rattle.archive_model.specs.Buffer.{maxRows}
-use Rattle.archive_model.specs.Append.{Verdict, refusedAppend, stored, isNext, noRow}
+use Rattle.archive_model.specs.Append.{refusedAppend, stored, isNext, noRow}
 use Rattle.filling.specs.Fill.{rowLength, rowsGiven, putRows, checkRows, putRowsOf, putRowsGiven}
 use Rattle.filling.specs.Calls.{isGiven}
 use Rattle.filling.proofs.Records.{rows-count}

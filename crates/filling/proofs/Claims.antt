@@ -1,26 +1,25 @@
 -- The claims on several rows put into one block.
-use Prim.Native.Nat.{ℕ, _+_, _%_, _/_, _≤_, _<_}
+use Prim.Native.Nat.{ℕ, _+_, _%_, _≤_, _<_}
 use native.Mathlib.Omega.{arith}
-use mathlib.Core.Path.{_≡_, refl, sym, ap, _∙_}
-use mathlib.Core.Bool.{Bool, true, false, cond, not, _&&_}
+use mathlib.Core.Path.{_≡_, refl, sym, _∙_}
+use mathlib.Core.Bool.{Bool, true, false, _&&_}
 use mathlib.Core.List.{List, [], _∷_}
 use lib.Dec.{ltb, eqb}
 use lib.ListN.{length}
 use borrow.Author.Tests.{eqb-true, eqb-false, ltb-true, ltb-false}
 use Rattle.lists.specs.Lists.{all}
 use Rattle.lists.proofs.Choice.{both}
-use Rattle.refusal.specs.Number.{numberOf}
-use Rattle.refusal.specs.declared.Refusal.the-variants.{ShortOutput, Mismatch, Size}
 use Rattle.erp1.specs.Subtelegram.{checkOf}
 use Rattle.layout.specs.Block.{cellsPerBlock, blockLength}
 use Rattle.archive_model.specs.Row.{Row, isRow}
-use Rattle.archive_model.specs.Buffer.{maxRows}
-use Rattle.archive_model.specs.Append.{Appended, refusedAppend, stored, isNext, putRow, putRowOf}
+use Rattle.archive_model.specs.Buffer.{maxRows, rowsIn}
+use Rattle.archive_model.specs.Append.{stored, blockAt, isNext, putRow}
 use Rattle.archive.proofs.Puts.{put-done}
 use Rattle.filling.specs.Fill.{putRows, checkRows, putRowsOf}
-use Rattle.filling.specs.Claims.{oneByOne, OneByOne}
+use Rattle.filling.specs.Claims.{oneByOne, OneByOne, nextBlock, InArchive}
 use Rattle.filling.proofs.Together.{row-long, put-length, put-next}
 use Rattle.filling.proofs.Cases.{check-valid}
+use Rattle.filling.proofs.InArchive.{grown-by}
 
 -- what is known where rows are put
 pub record Put (block : List ℕ) (n : ℕ) (rows : List Row) : Type 0 where
@@ -73,3 +72,8 @@ pub one-by-one : OneByOne
 one-by-one block n rows z =
     let p = put-facts block n rows z in
     each block n rows (p .long) (λ some. (p .near, p .next)) (p .valid) (p .few) ∙ sym (p .is)
+
+pub in-archive : InArchive
+in-archive buffer rows v inside small z =
+    let p = put-facts (blockAt (nextBlock buffer) buffer) (length (rowsIn buffer)) rows z in
+    rw (p .is) (grown-by rows buffer v inside (p .next) (p .valid) small (p .few))

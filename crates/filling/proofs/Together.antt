@@ -3,12 +3,11 @@
 --     put-length, put-cells, put-behind, put-next     a block after a row was put: its length, the cells up to that one, what stands behind it, and the
 --                                                     row that it says is next
 --     together, put-together                          cells, header and CRC once for all rows; that this is what `putRows` says
-use Prim.Native.Nat.{ℕ, _+_, _-_, _*_, _/_, _%_, _^_, _≤_, _<_}
+use Prim.Native.Nat.{ℕ, _+_, _-_, _*_, _/_, _%_, _≤_, _<_}
 use native.Mathlib.Omega.{arith}
-use mathlib.Core.Path.{_≡_, refl, sym, ap, ap₂, _∙_}
-use mathlib.Core.Bool.{true, false, _&&_}
+use mathlib.Core.Path.{_≡_, sym, ap, ap₂, _∙_}
+use mathlib.Core.Bool.{true}
 use mathlib.Core.List.{List, [], _∷_, _++_, map, flatten, append-assoc, append-nil}
-use lib.Dec.{eqb}
 use lib.ListN.{length, getD, drop, take, replicate, length-append, List·getD-append}
 use lib.Seq.{getD-at, drop-drop}
 use borrow.Author.Tests.{eqb-true, eq-eqb, ne-eqb}

@@ -11,18 +11,18 @@ use refusal::Refusal;
 ghost use mathlib.Core.Path.{_≡_};
 ghost use mathlib.Core.Bool.{true, not};
 ghost use mathlib.Core.List.{map, flatten};
-ghost use Prim.Native.Nat.{_+_, _*_, _%_, _≤_, _<_};
+ghost use Prim.Native.Nat.{_+_, _*_, _%_, _<_};
 ghost use lib.Dec.{eqb};
 ghost use lib.ListN.{length};
 ghost use Rattle.lists.specs.Lists.{all};
 ghost use Rattle.refusal.specs.Number.{numberOf};
 ghost use Rattle.erp1.specs.Subtelegram.{checkOf, checkedNumber};
 ghost use Rattle.layout.specs.Cell.{cellLength};
-ghost use Rattle.layout.specs.Block.{cellsPerBlock, blockLength};
+ghost use Rattle.layout.specs.Block.{blockLength};
 ghost use Rattle.archive_model.specs.Row.{rowLast, rowCell, isRow};
 ghost use Rattle.archive_model.specs.Append.{isNext};
 ghost use Rattle.filling.specs.Fill.{rowLength, rowGiven, rowsGiven, checkRows, putRows, putRowsGiven};
-ghost use Rattle.filling.specs.Calls.{putRowsResult, verdictOf, isGiven};
+ghost use Rattle.filling.specs.Calls.{putRowsResult, verdictOf, isGiven, Ready};
 
 // A row but its time: a byte that is not 0 for LOOSE, its length, and 21 bytes.
 pub const ROW_LENGTH: usize = 2 + CELL_CAPACITY;
@@ -59,7 +59,8 @@ fn last_of(flag: u8) -> u16
 
 // The cell of the row of a record.
 fn put_record(cell: &mut [u8], time: u64, given: &[u8])
-    requires { ⌜ (length (now cell) ≡ cellLength) × (length (now given) ≡ rowLength) × (isRow (rowGiven time (now given)) ≡ true) ⌝ }
+    requires { ⌜ (length (now cell) ≡ cellLength) × (length (now given) ≡ rowLength)
+        × (isRow (rowGiven time (now given)) ≡ true) ⌝ }
     ensures { λ _. ⌜ now (cell .exit) ≡ rowCell (rowGiven time (now (given .entry))) ⌝ }
 {
     let len = layout::byte_at(given, 1) as usize;
@@ -85,7 +86,8 @@ fn check_rows(times: &[u64], rows: &[u8]) -> Filled
 
 // The cells of all rows, one behind the other.
 fn put_cells(out: &mut [u8], times: &[u64], rows: &[u8])
-    requires { ⌜ (length (now out) ≡ cellLength * length (now times)) × (length (now rows) ≡ rowLength * length (now times))
+    requires { ⌜ (length (now out) ≡ cellLength * length (now times))
+        × (length (now rows) ≡ rowLength * length (now times))
         × (all isRow (rowsGiven (now times) (now rows)) ≡ true) ⌝ }
     ensures { λ _. ⌜ now (out .exit) ≡ flatten (map rowCell (rowsGiven (now (times .entry)) (now (rows .entry)))) ⌝ }
 {
@@ -131,9 +133,9 @@ fn is_next(block: &[u8], n: usize) -> bool
 
 // The cells from row `n` on, the header with the count of all rows, and the CRC; the other cells are as they were.
 fn write_rows(block: &mut [u8], n: usize, times: &[u64], rows: &[u8])
-    requires { ⌜ (length (now block) ≡ blockLength) × (length (now rows) ≡ rowLength * length (now times)) × (0 < length (now times))
-        × (n % cellsPerBlock + length (now times) ≤ cellsPerBlock) × (all isRow (rowsGiven (now times) (now rows)) ≡ true) ⌝ }
-    ensures { λ _. ⌜ now (block .exit) ≡ putRows n (rowsGiven (now (times .entry)) (now (rows .entry))) (now (block .entry)) ⌝ }
+    requires { ⌜ Ready (now block) n (now times) (now rows) ⌝ }
+    ensures { λ _. ⌜ now (block .exit)
+        ≡ putRows n (rowsGiven (now (times .entry)) (now (rows .entry))) (now (block .entry)) ⌝ }
 {
     let used = n % CELLS_PER_BLOCK;
     let count = used + times.len();
@@ -150,7 +152,8 @@ fn write_rows(block: &mut [u8], n: usize, times: &[u64], rows: &[u8])
 // length of the block, an n that no archive has (15 times 2^32 and more) or records that are not 23 bytes for each time; 12 at n / 15; the check's
 // at the place of the row among these, from 0; 6 where the block has no room for them all; then the block is as it was.
 pub fn put_rows(block: &mut [u8], n: usize, times: &[u64], rows: &[u8]) -> Filled
-    ensures { λ r. ⌜ putRowsResult r (now (block .exit)) ≡ putRowsGiven (now (block .entry)) n (now (times .entry)) (now (rows .entry)) ⌝ }
+    ensures { λ r. ⌜ putRowsResult r (now (block .exit))
+        ≡ putRowsGiven (now (block .entry)) n (now (times .entry)) (now (rows .entry)) ⌝ }
 {
     let count = times.len();
     if !is_given(block.len(), n, count, rows.len()) {

@@ -1,5 +1,5 @@
 -- `filling::check_record` meets its contract: a length over 21 is refused before the bytes are looked at.
-use mathlib.Core.Path.{_≡_, ap, _∙_}
+use mathlib.Core.Path.{ap, _∙_}
 use native.Mathlib.Omega.{arith}
 use borrow.Author.Needs.{needs}
 use denote.Ref.{now}

@@ -1,17 +1,15 @@
 -- `filling::put_cells` meets its contract. The invariant: the first i cells are written, and the rest is as it was; the measure: the rows left.
 use mathlib.Core.Path.{_≡_, refl, sym, ap, _∙_}
-use mathlib.Core.Bool.{true}
 use mathlib.Core.List.{List, [], map, flatten}
-use Prim.Native.Nat.{ℕ, _+_, _-_, _*_, _≤_, _<_}
+use Prim.Native.Nat.{ℕ, _-_, _*_, _≤_, _<_}
 use native.Mathlib.Omega.{arith}
-use borrow.Author.Needs.{needs}
 use denote.Ref.{now}
 use lib.ListN.{length, getD, take, length-map}
 use Rattle.lists.proofs.Tests.{all-getD, getD-map}
 use Rattle.buffers.specs.Buffer.{part}
 use Rattle.buffers.proofs.Segments.{Begun, begin, begun-length, within, lent, part-length, part-ends, turn, turned, done}
 use Rattle.layout.specs.Cell.{cellLength}
-use Rattle.archive_model.specs.Row.{Row, rowCell, isRow}
+use Rattle.archive_model.specs.Row.{rowCell, isRow}
 use Rattle.archive_model.specs.Append.{noRow}
 use Rattle.filling.specs.Fill.{rowLength, rowGiven, rowsGiven}
 use Rattle.filling.proofs.Records.{rows-count, row-get}

@@ -8,14 +8,13 @@ use borrow.Author.Needs.{needs}
 use borrow.Author.Tests.{not-true, not-false}
 use denote.Ref.{now}
 use lib.ListN.{length}
-use Rattle.refusal.specs.declared.Refusal.{Refusal}
 use Rattle.refusal.proofs.Numbers.{refused-number}
 use Rattle.layout.specs.Block.{blockLength}
 use Rattle.archive_model.specs.Row.{Row}
 use Rattle.archive_model.specs.Buffer.{maxRows}
-use Rattle.archive_model.specs.Append.{Verdict, Appended, isNext, stored}
+use Rattle.archive_model.specs.Append.{Verdict, Appended, isNext}
 use Rattle.archive.specs.Archive.{takenNumber}
-use Rattle.filling.specs.Fill.{rowLength, rowsGiven, putRows, checkRows}
+use Rattle.filling.specs.Fill.{rowLength, rowsGiven, checkRows}
 use Rattle.filling.proofs.Cases.{given-facts, check-valid, put-size, put-other, put-invalid, put-many, put-done, put-none}
 use Rattle.filling.proofs.put_rows.Statement.{statement}
 use Rattle.filling.proofs.put_rows.Tie as tie
@@ -107,7 +106,13 @@ write-rows-requires c κs =
     let e = second t in
     let g = first e .before in
     let h = facts (first e) in
-    (h .0, h .2, omega (arith, f .if4 .left), omega (arith, f .before .if3 .left), check-valid 0 (rows g) (valid t))
+    record {
+      long = h .0;
+      sized = h .2;
+      some = omega (arith, f .if4 .left);
+      few = omega (arith, f .before .if3 .left);
+      valid = check-valid 0 (rows g) (valid t);
+    }
 
 done : tie.Need-returns-6
 done c =
