@@ -3,12 +3,16 @@ use mooringeye::raw;
 
 const BLOCK: usize = 512;
 
+fn sum_of(bytes: &[u8]) -> u8 {
+    bytes.iter().fold(0, |s, b| s.wrapping_add(*b))
+}
+
 /// A telegram of so many bytes that the check takes, with its CRC or its sum.
 fn telegram(length: usize, crc: bool) -> Vec<u8> {
     let mut bytes: Vec<u8> = (0..length as u8).map(|i| 0xD2 ^ (17 * i)).collect();
     bytes[length - 2] = if crc { 0x80 } else { 0 };
     let body = &bytes[..length - 1];
-    let hash = if crc { raw::crc8(body) } else { body.iter().fold(0, |s, b| s.wrapping_add(*b)) };
+    let hash = if crc { raw::crc8(body) } else { sum_of(body) };
     bytes[length - 1] = hash;
     bytes
 }
@@ -150,7 +154,7 @@ fn blocks_that_do_not_match() {
 fn rows_that_the_check_refuses() {
     let mut nested = telegram(21, false);
     (nested[0], nested[1]) = (0xA6, 0xA6);
-    nested[20] = nested[..20].iter().fold(0, |s, b| s.wrapping_add(*b));
+    nested[20] = sum_of(&nested[..20]);
     let mut sum = telegram(9, false);
     sum[8] ^= 1;
     let mut crc = telegram(9, true);
