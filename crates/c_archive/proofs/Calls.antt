@@ -16,7 +16,8 @@ use Rattle.archive_model.specs.Append.{Opening, rowAtOf}
 use Rattle.archive.specs.Archive.{rowOf}
 use Rattle.repack_model.specs.Repack.{Removed}
 use Rattle.c_layout.specs.Frame.{wrongSize, frameBytes, flagByte}
-use Rattle.c_archive.specs.Calls.{rowLength, rowBytes, RowCall, found, rowCall}
+use Rattle.filling.specs.Fill.{rowLength}
+use Rattle.c_archive.specs.Calls.{rowBytes, RowCall, found, rowCall}
 
 abbrev pub opening : ℕ → ℕ → ℕ → Opening
 opening number position rows = record { number = number; position = position; rows = rows }

@@ -6,10 +6,8 @@ use lib.Dec.{eqb}
 use lib.ListN.{length}
 use Rattle.archive_model.specs.Row.{Row}
 use Rattle.archive_model.specs.Append.{rowAtOf}
+use Rattle.filling.specs.Fill.{rowLength}
 use Rattle.c_layout.specs.Frame.{wrongSize, frameBytes, flagByte}
-
-abbrev pub rowLength : ℕ
-rowLength = 23
 
 -- a row but its time: 1 for LOOSE, its length, and its bytes, zero filled to 21 (of a length over 21, which no archive has, the first 21)
 unfoldable pub rowBytes : Row → List ℕ

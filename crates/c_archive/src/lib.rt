@@ -3,8 +3,8 @@ use archive::Found;
 use archive::Opened;
 use archive::Outcome;
 use archive::Taken;
-use c_layout::FRAME_LENGTH;
 use c_layout::WRONG_SIZE;
+use filling::ROW_LENGTH;
 use refusal::Refusal;
 use repack::Removed;
 ghost use mathlib.Core.Path.{_≡_};
@@ -17,9 +17,6 @@ ghost use Rattle.repack.specs.Calls.{removeResult};
 ghost use Rattle.cutting.specs.Cut.{cutOf, cutBlockOf};
 ghost use Rattle.filling.specs.Fill.{putRowsGiven};
 ghost use Rattle.c_archive.specs.Calls.{rowCall};
-
-// 1 for LOOSE, and the frame of a row.
-pub const ROW_LENGTH: usize = 1 + FRAME_LENGTH;
 
 // How many rows an archive has: 16, 12 with the position.
 pub fn verify(buffer: &[u8], rows: &mut usize, position: &mut usize) -> u8
