@@ -244,7 +244,7 @@ impl Room {
         }
     }
 
-    /// A row by both calls that take its number, which must agree where its block is in the room.
+    /// A row by the three calls that take its number, which must agree where its block is in the room.
     fn append_at(&mut self, r: &[u8]) -> String {
         let (time, loose, bytes) = self.row(r);
         let (mut position, mut other, n) = (7, 7, size(&r[80..88]));
@@ -254,6 +254,13 @@ impl Room {
         if before.len().is_multiple_of(512) && k < before.len() / 512 {
             let mut block = before[512 * k..512 * k + 512].to_vec();
             let same = raw::archive_put_row(&mut block, n, bytes, time, loose, &mut other);
+            assert_eq!((same, other, &block[..]), (answer, position, &self.bytes[512 * k..512 * k + 512]));
+            let mut record = [0; raw::ROW];
+            let shown = bytes.len().min(21);
+            (record[0], record[1]) = (loose.into(), bytes.len().min(255) as u8);
+            record[2..2 + shown].copy_from_slice(&bytes[..shown]);
+            block.copy_from_slice(&before[512 * k..512 * k + 512]);
+            let same = raw::archive_put_rows(&mut block, n, &[time], &record, &mut other);
             assert_eq!((same, other, &block[..]), (answer, position, &self.bytes[512 * k..512 * k + 512]));
         }
         format!("APPENDAT {answer} {position}")
