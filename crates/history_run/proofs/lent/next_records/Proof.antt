@@ -9,12 +9,12 @@ use native.Mathlib.Omega.{arith}
 use Rattle.history_run.proofs.lent.next_records.Statement.{statement}
 use Rattle.history_run.proofs.lent.next_records.Tie as tie
 
-record Filling (n i : ℕ) (bytes : List ℕ) : Type 0 where
+record Inside (n i : ℕ) (bytes : List ℕ) : Type 0 where
   bounded : i ≤ n
   long : length bytes ≡ 16576
 
 abbrev Inv-loop : tie.InvT-loop
-Inv-loop n bytes₀ i₀ bytes i = Filling n i bytes
+Inv-loop n bytes₀ i₀ bytes i = Inside n i bytes
 
 abbrev μ-loop : tie.MeasureT-loop
 μ-loop n bytes₀ i₀ bytes i = n - i

@@ -5,12 +5,12 @@ use native.Mathlib.Omega.{arith}
 use Rattle.history_run.proofs.shown.put_delivered.Statement.{statement}
 use Rattle.history_run.proofs.shown.put_delivered.Tie as tie
 
-record Within (m i : ℕ) : Type 0 where
+record Inside (m i : ℕ) : Type 0 where
   bounded : i ≤ m
   few : m ≤ 259
 
 abbrev Inv-loop : tie.InvT-loop
-Inv-loop cell m i₀ i = Within m i
+Inv-loop cell m i₀ i = Inside m i
 
 abbrev μ-loop : tie.MeasureT-loop
 μ-loop cell m i₀ i = m - i

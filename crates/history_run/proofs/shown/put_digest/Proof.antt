@@ -7,12 +7,12 @@ use borrow.Author.Needs.{needs}
 use Rattle.history_run.proofs.shown.put_digest.Statement.{statement}
 use Rattle.history_run.proofs.shown.put_digest.Tie as tie
 
-record Within (out : List ℕ) (i i-end : ℕ) : Type 0 where
+record Inside (out : List ℕ) (i i-end : ℕ) : Type 0 where
   bounded : i ≤ length out
   end : i-end ≡ length out
 
 abbrev Inv-loop : tie.InvT-loop
-Inv-loop out figure₀ i₀ t4 i-end figure i = Within out i i-end
+Inv-loop out figure₀ i₀ t4 i-end figure i = Inside out i i-end
 
 abbrev μ-loop : tie.MeasureT-loop
 μ-loop out figure₀ i₀ t4 i-end figure i = length out - i

@@ -10,13 +10,13 @@ use Rattle.buffers.proofs.Segments.{Begun, begin, begun-length, done, fill}
 use Rattle.replay.proofs.writing.set_all.Statement.{statement}
 use Rattle.replay.proofs.writing.set_all.Tie as tie
 
-record Setting (x i i-end : ℕ) (entry out : List ℕ) : Type 0 where
+record SetSoFar (x i i-end : ℕ) (entry out : List ℕ) : Type 0 where
   bounded : i ≤ i-end
   end : i-end ≡ length entry
   begun : Begun entry (replicate i x) i out
 
 abbrev Inv-loop : tie.InvT-loop
-Inv-loop out₀ fill i₀ i-end out i = Setting fill i i-end out₀ out
+Inv-loop out₀ fill i₀ i-end out i = SetSoFar fill i i-end out₀ out
 
 abbrev μ-loop : tie.MeasureT-loop
 μ-loop out₀ fill i₀ i-end out i = i-end - i
