@@ -1,7 +1,9 @@
 //! Rows as text, CSV and JSON lines.
 use crate::args::Args;
+use crate::burst::{Burst, Taken};
 use crate::failure::Failure;
-use crate::text::{put_hex, put_number};
+use crate::sys::digits_of_bytes;
+use crate::text::{front, put_hex, put_number};
 use mooringeye::{Row, Totals};
 
 #[derive(Clone, Copy, Debug, PartialEq, Eq)]
@@ -34,41 +36,112 @@ pub fn put_heading(out: &mut Vec<u8>, format: Format) {
     }
 }
 
-/// A reception and its reply, by what was read and what the library wrote.
-pub struct Answered<'a> {
-    /// The time as the line has it: without leading zeros, so as it is printed.
-    pub time: &'a [u8],
-    /// The digits of what was received, in either case.
-    pub heard: &'a [u8],
-    /// 0, 1 or 2 for KEPT, COPY or LOOSE.
-    pub kind: u8,
-    /// The number of a refusal, or 0.
-    pub number: u8,
-    /// What a repeater sends; nothing where it is empty.
-    pub sent: &'a [u8],
+/// The most bytes that are written for a row as text: a time, a word, SEND and the digits of 24 bytes; a row is shorter.
+const TEXT_ROOM: usize = 20 + 6 + 6 + 48;
+
+/// A word of a row as text with a newline behind it, and its length without one.
+const WORDS: [([u8; 8], usize); 3] = [(*b" KEPT\n\0\0", 5), (*b" COPY\n\0\0", 5), (*b" LOOSE\n\0", 6)];
+
+/// The rows of a burst whose lines stand in a text.
+pub fn put_burst(out: &mut Vec<u8>, format: Format, text: &[u8], burst: &Burst) {
+    match format {
+        Format::Text => put_texts(out, text, burst),
+        Format::Csv => put_each(out, format, text, burst, put_csv),
+        Format::Json => put_each(out, format, text, burst, put_json),
+    }
 }
 
-impl Answered<'_> {
-    #[inline]
-    fn word(&self) -> &'static [u8] {
-        match (self.number, self.kind) {
-            (0, 0) => b"KEPT",
-            (0, 1) => b"COPY",
-            (0, _) => b"LOOSE",
-            _ => b"REFUSED",
+/// Room for all of them is made first: each row is then written by pieces of fixed lengths, and the next one over what was too much.
+fn put_texts(out: &mut Vec<u8>, text: &[u8], burst: &Burst) {
+    let mut end = out.len();
+    out.resize(end + TEXT_ROOM * burst.lines().len(), 0);
+    let mut taken = burst.taken();
+    for line in burst.lines() {
+        let room = out[end..].first_chunk_mut().expect("room for each row");
+        end += match line.width {
+            0 => put_front(room, 0, *b"BAD\n") + 4,
+            width => {
+                put_front(room, 0, front::<20>(&text[line.start..]));
+                put_text(room, width, &taken.next().expect("a reception for each right line"))
+            }
+        };
+    }
+    out.truncate(end);
+}
+
+/// What stands behind the time of a row, and the row's length.
+#[inline]
+fn put_text(room: &mut [u8; TEXT_ROOM], width: usize, row: &Taken) -> usize {
+    if row.number != 0 {
+        return put_refused(room, width, row.number);
+    }
+    let (word, length) = WORDS[usize::from(row.kind.min(2))];
+    let end = put_front(room, width, word) + length;
+    match usize::from(row.sent[0]) {
+        0 => end + 1,
+        count => {
+            let digits = put_front(room, end, *b" SEND ") + 6;
+            for part in 0..3 {
+                let bytes = front(&row.sent[1 + 8 * part..]);
+                put_front(room, digits + 16 * part, digits_of_bytes(bytes));
+            }
+            put_front(room, digits + 2 * count, *b"\n") + 1
         }
     }
 }
 
-/// The row of a reception.
+fn put_refused(room: &mut [u8; TEXT_ROOM], width: usize, number: u8) -> usize {
+    let mut behind = b" REFUSED ".to_vec();
+    put_number(&mut behind, number.into());
+    behind.push(b'\n');
+    room[width..width + behind.len()].copy_from_slice(&behind);
+    width + behind.len()
+}
+
+/// Writes a piece of a row, and answers where it starts.
 #[inline]
-pub fn put_answer(out: &mut Vec<u8>, format: Format, row: &Answered) {
-    match format {
-        Format::Text => put_text(out, row),
-        Format::Csv => put_csv(out, row),
-        Format::Json => put_json(out, row),
+fn put_front<const N: usize>(room: &mut [u8; TEXT_ROOM], at: usize, piece: [u8; N]) -> usize {
+    room[at..at + N].copy_from_slice(&piece);
+    at
+}
+
+/// A reception and its reply, by what was read and what the library wrote.
+struct Answered<'a> {
+    /// The time as the line has it: without leading zeros, so as it is printed.
+    time: &'a [u8],
+    /// The digits of what was received, in either case.
+    heard: &'a [u8],
+    word: &'static str,
+    /// The number of a refusal, or 0.
+    number: u8,
+    /// What a repeater sends; nothing where it is empty.
+    sent: &'a [u8],
+}
+
+fn put_each(out: &mut Vec<u8>, format: Format, text: &[u8], burst: &Burst, put: impl Fn(&mut Vec<u8>, &Answered)) {
+    let mut taken = burst.taken();
+    for line in burst.lines() {
+        if line.width == 0 {
+            put_bad(out, format);
+            continue;
+        }
+        let row = taken.next().expect("a reception for each right line");
+        let digits = line.start + line.width + 1;
+        let answered = Answered {
+            time: &text[line.start..digits - 1],
+            heard: &text[digits..digits + 2 * usize::from(row.frame[0])],
+            word: match (row.number, row.kind) {
+                (0, 0) => "KEPT",
+                (0, 1) => "COPY",
+                (0, _) => "LOOSE",
+                _ => "REFUSED",
+            },
+            number: row.number,
+            sent: &row.sent[1..1 + usize::from(row.sent[0])],
+        };
+        put(out, &answered);
+        out.push(b'\n');
     }
-    out.push(b'\n');
 }
 
 /// The row of a line that is no reception.
@@ -80,25 +153,10 @@ pub fn put_bad(out: &mut Vec<u8>, format: Format) {
     });
 }
 
-#[inline]
-fn put_text(out: &mut Vec<u8>, row: &Answered) {
-    out.extend_from_slice(row.time);
-    out.push(b' ');
-    out.extend_from_slice(row.word());
-    if !row.sent.is_empty() {
-        out.extend_from_slice(b" SEND ");
-        put_hex(out, row.sent);
-    }
-    if row.number != 0 {
-        out.push(b' ');
-        put_number(out, row.number.into());
-    }
-}
-
 fn put_csv(out: &mut Vec<u8>, row: &Answered) {
     out.extend_from_slice(row.time);
     out.push(b',');
-    out.extend_from_slice(row.word());
+    out.extend_from_slice(row.word.as_bytes());
     out.push(b',');
     if row.number != 0 {
         put_number(out, row.number.into());
@@ -113,7 +171,7 @@ fn put_json(out: &mut Vec<u8>, row: &Answered) {
     out.extend_from_slice(b"{\"time\":");
     out.extend_from_slice(row.time);
     out.extend_from_slice(b",\"answer\":\"");
-    out.extend_from_slice(row.word());
+    out.extend_from_slice(row.word.as_bytes());
     out.push(b'"');
     if row.number != 0 {
         out.extend_from_slice(b",\"refusal\":");

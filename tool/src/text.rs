@@ -3,7 +3,7 @@
 const HEX: &[u8; 16] = b"0123456789ABCDEF";
 
 /// The value of each character as a hexadecimal digit; 0xFF where it is none.
-pub const NIBBLES: [u8; 256] = nibbles();
+const NIBBLES: [u8; 256] = nibbles();
 
 const fn nibbles() -> [u8; 256] {
     let mut table = [0xFF; 256];
@@ -28,6 +28,16 @@ const fn pairs<const N: usize>(base: usize) -> [[u8; 2]; N] {
         i += 1;
     }
     table
+}
+
+/// The first bytes of a text, and zeros behind its end.
+#[inline]
+pub fn front<const N: usize>(text: &[u8]) -> [u8; N] {
+    text.first_chunk().copied().unwrap_or_else(|| {
+        let mut front = [0; N];
+        front[..text.len()].copy_from_slice(text);
+        front
+    })
 }
 
 /// Two digits for each byte.
