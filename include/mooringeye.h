@@ -290,6 +290,13 @@ uint8_t mooringeye_archive_append_at(uint8_t *buffer, size_t size, size_t rows, 
 uint8_t mooringeye_archive_put_row(uint8_t *block, size_t size, size_t rows, const uint8_t *bytes, size_t length, uint64_t time, bool loose,
                                    size_t *position);
 
+/* Puts rows `rows`, rows + 1 and so on into the 512 bytes of their block, all or none, with one CRC: each has its time and a record, whose bytes are LOOSE
+ * where its first is not 0, and whose length is answered with 1 where it is over 21. `records_size` is 23 for each time, in bytes. What is put is
+ * what mooringeye_archive_put_row makes of the rows one after the other. Refused: 16 another size or a row that no archive has, 12 with the
+ * position, the check's with the place of the first such row among these, 6 where the block has no room for all of them. */
+uint8_t mooringeye_archive_put_rows(uint8_t *block, size_t size, size_t rows, const uint64_t *times, size_t times_length,
+                                    const mooringeye_row *records, size_t records_size, size_t *position);
+
 /* Row `index` as it stands. `row_size` is sizeof(mooringeye_row). Refused: 16, 10 no such row. */
 uint8_t mooringeye_archive_row(const uint8_t *buffer, size_t size, size_t index, mooringeye_row *row, size_t row_size, uint64_t *time);
 

@@ -16,6 +16,7 @@ ghost use Rattle.archive.specs.Archive.{openResult, appendResult, rowOf, foundN
 ghost use Rattle.repack_model.specs.Repack as repack;
 ghost use Rattle.repack.specs.Calls.{removeResult};
 ghost use Rattle.cutting.specs.Cut.{cutOf, cutBlockOf};
+ghost use Rattle.filling.specs.Fill.{putRowsGiven};
 ghost use Rattle.c_archive.specs.Calls.{rowLength, rowCall};
 
 // 1 for LOOSE, and the frame of a row.
@@ -81,6 +82,18 @@ pub fn put_row(
         ≡ calls.putRowOf (now (block .entry)) n (rowOf (now (bytes .entry)) time loose) ⌝ }
 {
     settle(archive::put_row(block, n, bytes, time, loose), position)
+}
+
+// Rows from row `n` on, each a time and a record of 23 bytes, into the 512 bytes of their block, all or none: 16, 12 with the position, the check's with
+// the place of the row among these, 6.
+pub fn put_rows(block: &mut [u8], n: usize, times: &[u64], rows: &[u8], position: &mut usize) -> u8
+    ensures { λ r. ⌜ record { number = r; position = now (position .exit); buffer = now (block .exit) }
+        ≡ putRowsGiven (now (block .entry)) n (now (times .entry)) (now (rows .entry)) ⌝ }
+{
+    let filled = filling::put_rows(block, n, times, rows);
+    let answer = filled.answer;
+    *position = filled.position;
+    taken_number(answer)
 }
 
 // Row `i` as it stands, in 23 bytes and its time, all zero beside a refusal: 255, then 16, 10.

@@ -6,6 +6,7 @@ ghost use mathlib.Core.Path.{_≡_};
 ghost use Rattle.archive_model.specs.Append as calls;
 ghost use Rattle.repack_model.specs.Repack as repack;
 ghost use Rattle.cutting.specs.Cut.{cutOf, cutBlockOf};
+ghost use Rattle.filling.specs.Fill.{putRowsGiven};
 ghost use Rattle.c_archive.specs.Calls.{rowCall};
 ghost use Rattle.c_pieces.specs.Scan.{scanAt, scanCall, scanEnd};
 ghost use Rattle.c_pieces.specs.Packer.{packingAt, packCall, packEnd};
@@ -67,6 +68,21 @@ pub extern "C" fn mooringeye_archive_put_row(
         ≡ calls.putRowOf (now (block .entry)) n (record { bytes = now (bytes .entry); time = time; loose = loose }) ⌝ }
 {
     c_archive::put_row(block, n, bytes, time, loose, position)
+}
+
+// Puts rows `n`, n + 1 and so on into the 512 bytes of their block, all or none.
+#[no_mangle]
+pub extern "C" fn mooringeye_archive_put_rows(
+    block: &mut [u8],
+    n: usize,
+    times: &[u64],
+    rows: &[u8],
+    position: &mut usize,
+) -> u8
+    ensures { λ r. ⌜ record { number = r; position = now (position .exit); buffer = now (block .exit) }
+        ≡ putRowsGiven (now (block .entry)) n (now (times .entry)) (now (rows .entry)) ⌝ }
+{
+    c_archive::put_rows(block, n, times, rows, position)
 }
 
 // Row `i` as it stands, in 23 bytes, and its time.

@@ -98,6 +98,31 @@ impl Block {
         done_at(raw::archive_put_row(&mut self.bytes, n, telegram, time, loose, &mut position), position)
     }
 
+    /// Puts rows `first`, first + 1 and so on of an archive behind the others of their block, all or none, with one CRC: as [`Block::put`] one after the
+    /// other. `rows` has for each of `times` a record of [`raw::ROW`] bytes: 1 for LOOSE and else 0, a length, and 21 bytes, zero filled. Refused:
+    /// [`Refusal::Size`] for a row that no archive has or another number of bytes, [`Refusal::Mismatch`] where the block does not say that row
+    /// `first` is next, the check's own with the place of the first such row among these, and [`Refusal::ShortOutput`] where there is no room for all.
+    ///
+    /// ```
+    /// use mooringeye::{Block, Refusal};
+    ///
+    /// let mut press = [0; 23];
+    /// press[1..10].copy_from_slice(&[8, 0xD5, 0x09, 1, 2, 3, 4, 0, 0xE8]);
+    /// let mut loose = press;
+    /// loose[0] = 1;
+    /// let mut block = Block::default();
+    /// block.put_rows(15, &[1_000, 1_200], &[press, loose].concat()).unwrap();
+    /// assert_eq!(block.rows().map(|r| (r.time, r.loose)).collect::<Vec<_>>(), [(1_000, false), (1_200, true)]);
+    /// press[9] = 0;
+    /// let refused = block.put_rows(17, &[1_300, 1_400], &[loose, press].concat()).unwrap_err();
+    /// assert_eq!((refused.why, refused.position), (Refusal::Sum, 1));
+    /// assert_eq!(block.rows().count(), 2);
+    /// ```
+    pub fn put_rows(&mut self, first: usize, times: &[u64], rows: &[u8]) -> Result<(), Refused> {
+        let mut position = 0;
+        done_at(raw::archive_put_rows(&mut self.bytes, first, times, rows, &mut position), position)
+    }
+
     /// Leaves its first `rows` rows. Refused: [`Refusal::Mismatch`] for a block that is not sound or has fewer.
     pub fn cut(&mut self, rows: usize) -> Result<(), Refusal> {
         done(raw::archive_cut_block(&mut self.bytes, rows))

@@ -103,6 +103,16 @@ mod c {
         pub fn mooringeye_archive_append(buffer: Out, size: usize, bytes: In, len: usize, time: u64, loose: bool, position: Size) -> u8;
         pub fn mooringeye_archive_append_at(buffer: Out, size: usize, n: usize, bytes: In, len: usize, time: u64, loose: bool, position: Size) -> u8;
         pub fn mooringeye_archive_put_row(block: Out, size: usize, n: usize, bytes: In, len: usize, time: u64, loose: bool, position: Size) -> u8;
+        pub fn mooringeye_archive_put_rows(
+            block: Out,
+            size: usize,
+            n: usize,
+            times: In64,
+            times_len: usize,
+            records: In,
+            records_size: usize,
+            position: Size,
+        ) -> u8;
         pub fn mooringeye_archive_row(buffer: In, size: usize, index: usize, row: Out, row_size: usize, time: Out64) -> u8;
         pub fn mooringeye_archive_salvage(
             buffer: In,
@@ -365,6 +375,13 @@ pub fn archive_append_at(buffer: &mut [u8], rows: usize, bytes: &[u8], time: u64
 pub fn archive_put_row(block: &mut [u8], rows: usize, bytes: &[u8], time: u64, loose: bool, position: &mut usize) -> u8 {
     // SAFETY: a slice that is read, and a slice and a number that are `&mut`.
     unsafe { c::mooringeye_archive_put_row(block.as_mut_ptr(), block.len(), rows, bytes.as_ptr(), bytes.len(), time, loose, position) }
+}
+
+/// Several rows in one block, each a time and [`ROW`] bytes, all or none.
+pub fn archive_put_rows(block: &mut [u8], rows: usize, times: &[u64], records: &[u8], position: &mut usize) -> u8 {
+    let (at, n) = (times.as_ptr(), times.len());
+    // SAFETY: two slices that are read, and a slice and a number that are `&mut`.
+    unsafe { c::mooringeye_archive_put_rows(block.as_mut_ptr(), block.len(), rows, at, n, records.as_ptr(), records.len(), position) }
 }
 
 /// A row, into [`ROW`] bytes and its time.

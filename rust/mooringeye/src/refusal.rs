@@ -79,7 +79,8 @@ impl fmt::Display for Refusal {
 
 impl Error for Refusal {}
 
-/// A refusal of a call on an archive, with the position of the block that does not match beside [`Refusal::Mismatch`], else 0.
+/// A refusal of a call on an archive, with the position of the block that does not match beside [`Refusal::Mismatch`]; of
+/// [`Block::put_rows`](crate::Block::put_rows) with the place of the row that the check refuses; else 0.
 ///
 /// ```
 /// use mooringeye::{Archive, Refusal};
@@ -93,7 +94,7 @@ impl Error for Refusal {}
 pub struct Refused {
     /// Why.
     pub why: Refusal,
-    /// The position of the first block that does not match, from 0.
+    /// The position of the first block that does not match, or the place of the first row that the check refuses, from 0.
     pub position: usize,
 }
 

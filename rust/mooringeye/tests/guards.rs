@@ -106,7 +106,15 @@ fn archives_and_reports() {
             raw::archive_append(buffer, bytes, 1, true, a);
             raw::archive_append_at(buffer, rows, bytes, 1, true, a);
             for n in [0, 15, usize::MAX] {
-                raw::archive_put_row(guarded(&content[..512.min(content.len())], end), n, bytes, 1, true, a);
+                let block = guarded(&content[..512.min(content.len())], end);
+                raw::archive_put_row(block, n, bytes, 1, true, a);
+                for count in [0, 1, 15, 16] {
+                    let (times, records) =
+                        (guarded(&vec![1u64; count], end), guarded(&[&[0, 8][..], &telegram, &[0; 13]].concat().repeat(count), end));
+                    raw::archive_put_rows(block, n, times, records, a);
+                    raw::archive_put_rows(block, n, times, guarded(&vec![0u8; raw::ROW * count + 1], end), a);
+                    raw::archive_put_rows(block, n, guarded(&vec![1u64; count + 1], end), records, a);
+                }
             }
             raw::archive_row(buffer, rows, row, &mut time[0]);
             let (out, list) = (guarded(&content, end), guarded(&vec![0u64; blocks], end));

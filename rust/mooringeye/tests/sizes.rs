@@ -184,6 +184,7 @@ fn nothing_at_all() {
     assert_eq!((raw::archive_verify(&[], &mut rows, &mut position), rows, position), (0, 0, 0));
     assert_eq!(raw::archive_append(&mut [], &VALID, 0, false, &mut position), 6);
     assert_eq!(raw::archive_put_row(&mut [], 0, &VALID, 0, false, &mut position), 16);
+    assert_eq!(raw::archive_put_rows(&mut [], 0, &[], &[], &mut position), 16);
     assert_eq!(raw::archive_salvage(&[], &mut [], &mut [], &mut length, &mut rows), 0);
     assert_eq!(raw::archive_remove(&mut [], &[], &mut length, &mut position), 0);
 }

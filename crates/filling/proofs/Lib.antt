@@ -1,0 +1,5 @@
+pub mod Records
+pub mod Together
+pub mod Cases
+pub mod InArchive
+pub mod Claims
