@@ -1,6 +1,6 @@
 //! Lines that are handed to the collector in one call: the library tests the state once for up to 256 receptions.
 use crate::failure::Failure;
-use crate::lines::{self, Reception, FRAME_ROOM, WINDOW};
+use crate::lines::{self, Before, Reception, FRAME_ROOM, WINDOW};
 use mooringeye::Collector;
 
 /// The bytes of a frame: a length and 21 bytes.
@@ -27,11 +27,6 @@ pub struct Taken<'a> {
 }
 
 impl Taken<'_> {
-    /// Whether it is a row of an archive: KEPT or LOOSE.
-    pub fn is_row(&self) -> bool {
-        self.number == 0 && self.kind != 1
-    }
-
     pub fn is_loose(&self) -> bool {
         self.kind == 2
     }
@@ -44,8 +39,8 @@ pub struct Burst {
     moments: Vec<u64>,
     records: Vec<u8>,
     replies: Vec<u8>,
-    /// How many digits the last time had.
-    width: usize,
+    /// What the last time says of the next one.
+    before: Before,
 }
 
 impl Default for Burst {
@@ -56,7 +51,7 @@ impl Default for Burst {
             moments: Vec::with_capacity(most),
             records: vec![0; most * FRAME + FRAME_ROOM],
             replies: vec![0; most * REPLY],
-            width: 0,
+            before: Before::default(),
         }
     }
 }
@@ -71,13 +66,12 @@ impl Burst {
             // What is written behind a frame stands where the next one is written.
             let frame = self.records[FRAME * self.moments.len()..].first_chunk_mut().expect("room for each frame");
             let found = match text[start..].first_chunk() {
-                Some(line) => lines::reception(line, self.width, frame),
+                Some(line) => lines::reception(line, &mut self.before, frame),
                 None => last_reception(&text[start..], frame),
             };
             let (width, length) = match found {
                 Some(reception) => {
                     self.moments.push(reception.time);
-                    self.width = reception.width;
                     (reception.width, reception.length())
                 }
                 None => (0, lines::length(&text[start..])),
@@ -102,12 +96,25 @@ impl Burst {
     /// The receptions, in the order of their lines.
     #[inline]
     pub fn taken(&self) -> impl Iterator<Item = Taken<'_>> {
-        let (frames, _) = self.records.as_chunks();
-        let (replies, _) = self.replies.as_chunks::<REPLY>();
-        self.moments.iter().zip(frames).zip(replies).map(|((time, frame), reply)| {
-            let [kind, number, sent @ ..] = reply;
-            Taken { time: *time, frame, kind: *kind, number: *number, sent }
-        })
+        (0..self.moments.len()).map(|at| self.taken_at(at))
+    }
+
+    #[inline]
+    fn taken_at(&self, at: usize) -> Taken<'_> {
+        let frame = self.records[FRAME * at..].first_chunk().expect("a frame for each moment");
+        let [kind, number, sent @ ..] = self.replies[REPLY * at..].first_chunk::<REPLY>().expect("a reply for each moment");
+        Taken { time: self.moments[at], frame, kind: *kind, number: *number, sent }
+    }
+
+    /// Those that are rows of an archive: KEPT or LOOSE. Which these are is found without a branch, since nothing foretells it.
+    #[inline]
+    pub fn rows(&self) -> impl Iterator<Item = Taken<'_>> {
+        let (mut rows, mut count) = ([0u8; Collector::MAX_BURST], 0);
+        for (at, reply) in self.replies.chunks_exact(REPLY).take(self.moments.len()).enumerate() {
+            rows[count] = at as u8;
+            count += usize::from(reply[1] == 0 && reply[0] != 1);
+        }
+        rows.into_iter().take(count).map(|at| self.taken_at(at.into()))
     }
 }
 
@@ -116,5 +123,5 @@ impl Burst {
 fn last_reception(text: &[u8], frame: &mut [u8; FRAME_ROOM]) -> Option<Reception> {
     let mut line = [0; WINDOW];
     line[..text.len()].copy_from_slice(text);
-    lines::reception(&line, 0, frame)
+    lines::reception(&line, &mut Before::default(), frame)
 }

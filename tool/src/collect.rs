@@ -4,10 +4,10 @@
 //! so a row that was printed survives, and the archive is ahead of the state by at most one batch.
 use crate::appender::MAX_BLOCKS;
 use crate::args::Args;
-use crate::burst::{Burst, Taken};
+use crate::burst::Burst;
 use crate::failure::{tell, Failure};
 use crate::lines::{self, MAX_LINE};
-use crate::rows::{self, Format};
+use crate::rows::{self, Format, Printed};
 use crate::signals::{self, Signals};
 use crate::state::{State, StateFile};
 use crate::store::{Place, Store};
@@ -118,7 +118,7 @@ struct Run {
     told_cr: bool,
     ended: Ended,
     /// The rows of the present batch.
-    printed: Vec<u8>,
+    printed: Printed,
     burst: Burst,
 }
 
@@ -143,13 +143,13 @@ impl Run {
             read: 0,
             told_cr: false,
             ended: Ended::Input,
-            printed: Vec::new(),
+            printed: Printed::default(),
             burst: Burst::default(),
         };
         run.save()?;
         run.say_where_it_stands(options.state.as_deref(), is_new);
         rows::put_heading(&mut run.printed, run.format);
-        run.output.write(&run.printed)?;
+        run.output.write(run.printed.as_bytes())?;
         run.printed.clear();
         Ok(run)
     }
@@ -283,8 +283,8 @@ impl Run {
         self.burst.take(&mut self.state.collector, level)?;
         rows::put_burst(&mut self.printed, self.format, text, &self.burst);
         if let Some(store) = &mut self.store {
-            for row in self.burst.taken().filter(Taken::is_row) {
-                store.append(&row.frame[1..1 + usize::from(row.frame[0])], row.time, row.is_loose())?;
+            for row in self.burst.rows() {
+                store.append(row.frame, row.time, row.is_loose())?;
             }
         }
         let (before, count) = (self.read, self.burst.lines().len() as u64);
@@ -309,7 +309,7 @@ impl Run {
             store.sync()?;
         }
         self.save()?;
-        self.output.write_until_stopped(&self.printed, signals)?;
+        self.output.write_until_stopped(self.printed.as_bytes(), signals)?;
         self.printed.clear();
         Ok(())
     }

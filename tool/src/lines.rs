@@ -39,34 +39,41 @@ impl Reception {
 }
 
 /// Reads the line at the start of a text that holds its newline. How many bytes it says and the first of them go to `frame`; what stands behind them
-/// there is left to chance. None for a BAD line. `likely` is the width of a time that was read before.
-#[inline]
-pub fn reception(line: &[u8; WINDOW], likely: usize, frame: &mut [u8; FRAME_ROOM]) -> Option<Reception> {
-    let (time, width) = match time_of_width(line, likely) {
-        Some(time) => (time, likely),
-        None => time(line)?,
+/// there is left to chance. None for a BAD line.
+#[inline(always)]
+pub fn reception(line: &[u8; WINDOW], before: &mut Before, frame: &mut [u8; FRAME_ROOM]) -> Option<Reception> {
+    let (time, width) = match before.time(line) {
+        Some(time) => (time, before.width),
+        None => {
+            let (time, width) = time(line)?;
+            *before = Before::of(line, time, width);
+            (time, width)
+        }
     };
     let digits = line[width..].strip_prefix(b" ")?;
-    let (mut count, bytes) = first_bytes(digits.first_chunk()?);
+    let [count_of, bytes @ ..] = frame;
+    let mut count = put_bytes(digits.first_chunk()?, bytes);
     if count == AT_ONCE {
         count += pairs(&digits[2 * AT_ONCE..], MAX_BYTES - AT_ONCE);
     }
-    frame[0] = count as u8;
-    frame[1..].copy_from_slice(&bytes);
+    *count_of = count as u8;
     let ends = digits.get(2 * count) == Some(&b'\n');
     ends.then_some(Reception { time, width, count })
 }
 
-/// How many bytes stand at the start of some characters, up to 24, and these.
-#[inline]
-fn first_bytes(characters: &[u8; 2 * AT_ONCE]) -> (usize, [u8; AT_ONCE]) {
-    let (mut bytes, mut right) = ([0; AT_ONCE], 0);
-    for part in 0..AT_ONCE / 8 {
+/// How many bytes stand at the start of some characters, up to 24; these go to `bytes`. Most telegrams have less than 16.
+#[inline(always)]
+fn put_bytes(characters: &[u8; 2 * AT_ONCE], bytes: &mut [u8; AT_ONCE]) -> usize {
+    let mut put = |part: usize| {
         let (eight, digits) = bytes_of_digits(characters[16 * part..].first_chunk().expect("sixteen characters"));
         bytes[8 * part..8 * part + 8].copy_from_slice(&eight);
-        right |= u64::from(digits) << (16 * part);
+        u64::from(digits) << (16 * part)
+    };
+    let mut right = put(0) | put(1);
+    if right == u32::MAX.into() {
+        right |= put(2);
     }
-    (right.trailing_ones() as usize / 2, bytes)
+    right.trailing_ones() as usize / 2
 }
 
 /// How many pairs of digits stand at the start of a text, up to so many: of a line that is too long for a telegram the length alone counts.
@@ -74,17 +81,38 @@ fn pairs(text: &[u8], most: usize) -> usize {
     text.chunks_exact(2).take(most).take_while(|pair| pair.iter().all(u8::is_ascii_hexdigit)).count()
 }
 
-/// The number at the start of a line, where it has just so many digits, 9 to 16, and a space behind them. As nearly all times of a log have one width
-/// a processor goes on with the bytes behind it before the number is read.
-#[inline]
-fn time_of_width(line: &[u8; WINDOW], width: usize) -> Option<u64> {
-    let rest = width.checked_sub(8).filter(|rest| (1..=8).contains(rest))?;
-    let [high, low] = [0, 8].map(|at| *line[at..].first_chunk().expect("eight characters"));
-    let is_right = line[width] == b' ' && leading_digits(high) == 8 && leading_digits(low) >= rest && line[0] != b'0';
-    is_right.then(|| number_of_digits(high, 8) * TENS[rest] + number_of_digits(low, rest))
+/// The first eight digits of a time and what they are worth in it, with how many digits it has: 9 to 16. Nearly all lines of a log begin with those of
+/// the line before, so that five or so further digits are left to read, and a processor goes on behind them before they are read.
+#[derive(Clone, Copy, Default)]
+pub struct Before {
+    front: [u8; 8],
+    worth: u64,
+    width: usize,
 }
 
-const TENS: [u64; 9] = [1, 10, 100, 1_000, 10_000, 100_000, 1_000_000, 10_000_000, 100_000_000];
+impl Before {
+    /// What is kept of a line's time for the next one; nothing of a time that is shorter or longer.
+    #[cold]
+    fn of(line: &[u8; WINDOW], time: u64, width: usize) -> Before {
+        match width {
+            9..=16 => Before { front: *front(line), worth: time - time % 10u64.pow(width as u32 - 8), width },
+            _ => Before::default(),
+        }
+    }
+
+    /// The time of a line, where it begins with the same digits and has as many.
+    #[inline(always)]
+    fn time(&self, line: &[u8; WINDOW]) -> Option<u64> {
+        let rest = self.width.checked_sub(8)?;
+        let digits = *front(&line[8..]);
+        let is_alike = *front(line) == self.front && line[self.width] == b' ' && leading_digits(digits) >= rest;
+        is_alike.then(|| self.worth + number_of_digits(digits, rest))
+    }
+}
+
+fn front(text: &[u8]) -> &[u8; 8] {
+    text.first_chunk().expect("a line has a longer window")
+}
 
 /// The number at the start of a line, and how many digits it has.
 fn time(line: &[u8; WINDOW]) -> Option<(u64, usize)> {
@@ -124,14 +152,30 @@ mod tests {
         (bytes.len() <= MAX_BYTES).then_some((time, width, bytes))
     }
 
-    /// A line with other text behind it, read after every width of a time, as it is read plainly.
+    /// What a line can come behind: nothing, times of every width that begin like it, one that differs, and itself.
+    fn befores(line: &[u8; WINDOW]) -> Vec<Before> {
+        let mut befores = vec![Before::default()];
+        for width in 1..=20 {
+            let mut alike = *line;
+            alike[8..width.max(8)].fill(b'5');
+            let mut other = [b' '; WINDOW];
+            other[..width].copy_from_slice(&b"17672256000001767225"[..width]);
+            for mut earlier in [alike, other] {
+                earlier[width] = b' ';
+                befores.extend(time(&earlier).map(|(time, width)| Before::of(&earlier, time, width)));
+            }
+        }
+        befores
+    }
+
+    /// A line with other text behind it, read after such times, as it is read plainly.
     fn read_bytes(line: &[u8]) -> Option<(u64, Vec<u8>)> {
         let mut window = [b'7'; WINDOW];
         window.iter_mut().zip(line.iter().chain(b"\n")).for_each(|(to, from)| *to = *from);
         let expected = plainly(&window).filter(|_| line.len() < WINDOW);
-        for likely in 0..=21 {
+        for mut before in befores(&window) {
             let mut frame = [0xEE; FRAME_ROOM];
-            let found = reception(&window, likely, &mut frame);
+            let found = reception(&window, &mut before, &mut frame);
             let told = found.map(|r| (r.time, r.width, r.count, r.length()));
             assert_eq!(told, expected.as_ref().map(|(time, width, bytes)| (*time, *width, bytes.len(), line.len() + 1)));
             if let Some((_, _, bytes)) = &expected {

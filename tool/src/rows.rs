@@ -3,7 +3,7 @@ use crate::args::Args;
 use crate::burst::{Burst, Taken};
 use crate::failure::Failure;
 use crate::sys::digits_of_bytes;
-use crate::text::{front, put_hex, put_number};
+use crate::text::{put_hex, put_number};
 use mooringeye::{Row, Totals};
 
 #[derive(Clone, Copy, Debug, PartialEq, Eq)]
@@ -29,44 +29,81 @@ impl Format {
     }
 }
 
-/// The heading of a collector's rows.
-pub fn put_heading(out: &mut Vec<u8>, format: Format) {
-    if format == Format::Csv {
-        out.extend_from_slice(b"time,answer,refusal,telegram,send\n");
+/// Rows that are to be printed, at the front of room that is kept.
+#[derive(Default)]
+pub struct Printed {
+    room: Vec<u8>,
+    end: usize,
+}
+
+impl Printed {
+    pub fn as_bytes(&self) -> &[u8] {
+        &self.room[..self.end]
+    }
+
+    pub fn clear(&mut self) {
+        self.end = 0;
+    }
+
+    /// Makes room for so many bytes more.
+    fn make_room(&mut self, more: usize) {
+        if self.room.len() < self.end + more {
+            self.room.resize(2 * (self.end + more), 0);
+        }
+    }
+
+    fn put(&mut self, bytes: &[u8]) {
+        self.make_room(bytes.len());
+        self.room[self.end..self.end + bytes.len()].copy_from_slice(bytes);
+        self.end += bytes.len();
     }
 }
 
-/// The most bytes that are written for a row as text: a time, a word, SEND and the digits of 24 bytes; a row is shorter.
-const TEXT_ROOM: usize = 20 + 6 + 6 + 48;
+/// The heading of a collector's rows.
+pub fn put_heading(out: &mut Printed, format: Format) {
+    if format == Format::Csv {
+        out.put(b"time,answer,refusal,telegram,send\n");
+    }
+}
+
+/// The most bytes of a row as text: a time, a word, SEND, the digits of 21 bytes and a newline.
+const TEXT_ROOM: usize = 20 + 6 + 6 + 42 + 1;
 
 /// A word of a row as text with a newline behind it, and its length without one.
 const WORDS: [([u8; 8], usize); 3] = [(*b" KEPT\n\0\0", 5), (*b" COPY\n\0\0", 5), (*b" LOOSE\n\0", 6)];
 
 /// The rows of a burst whose lines stand in a text.
-pub fn put_burst(out: &mut Vec<u8>, format: Format, text: &[u8], burst: &Burst) {
+pub fn put_burst(out: &mut Printed, format: Format, text: &[u8], burst: &Burst) {
     match format {
         Format::Text => put_texts(out, text, burst),
-        Format::Csv => put_each(out, format, text, burst, put_csv),
-        Format::Json => put_each(out, format, text, burst, put_json),
+        Format::Csv => put_each(out, text, burst, b",BAD,,,\n", put_csv),
+        Format::Json => put_each(out, text, burst, b"{\"answer\":\"BAD\"}\n", put_json),
     }
 }
 
 /// Room for all of them is made first: each row is then written by pieces of fixed lengths, and the next one over what was too much.
-fn put_texts(out: &mut Vec<u8>, text: &[u8], burst: &Burst) {
-    let mut end = out.len();
-    out.resize(end + TEXT_ROOM * burst.lines().len(), 0);
+fn put_texts(out: &mut Printed, text: &[u8], burst: &Burst) {
+    out.make_room(TEXT_ROOM * burst.lines().len());
     let mut taken = burst.taken();
     for line in burst.lines() {
-        let room = out[end..].first_chunk_mut().expect("room for each row");
-        end += match line.width {
-            0 => put_front(room, 0, *b"BAD\n") + 4,
+        let room = out.room[out.end..].first_chunk_mut().expect("room for each row");
+        out.end += match line.width {
+            0 => put_at(room, 0, b"BAD\n"),
             width => {
-                put_front(room, 0, front::<20>(&text[line.start..]));
+                put_time(room, &text[line.start..]);
                 put_text(room, width, &taken.next().expect("a reception for each right line"))
             }
         };
     }
-    out.truncate(end);
+}
+
+/// The time at the start of a line, and what stands behind it.
+#[inline]
+fn put_time(room: &mut [u8; TEXT_ROOM], line: &[u8]) {
+    match line.first_chunk::<20>() {
+        Some(front) => room[..20].copy_from_slice(front),
+        None => room[..line.len()].copy_from_slice(line),
+    }
 }
 
 /// What stands behind the time of a row, and the row's length.
@@ -75,34 +112,38 @@ fn put_text(room: &mut [u8; TEXT_ROOM], width: usize, row: &Taken) -> usize {
     if row.number != 0 {
         return put_refused(room, width, row.number);
     }
-    let (word, length) = WORDS[usize::from(row.kind.min(2))];
-    let end = put_front(room, width, word) + length;
+    let (word, length) = &WORDS[usize::from(row.kind.min(2))];
+    put_at(room, width, word);
+    let end = width + length;
     match usize::from(row.sent[0]) {
         0 => end + 1,
         count => {
-            let digits = put_front(room, end, *b" SEND ") + 6;
-            for part in 0..3 {
-                let bytes = front(&row.sent[1 + 8 * part..]);
-                put_front(room, digits + 16 * part, digits_of_bytes(bytes));
+            let digits = put_at(room, end, b" SEND ");
+            // Eight bytes at once; the last eight of 21 meet the second.
+            for first in [0, 8, 13] {
+                let bytes = row.sent[1 + first..].first_chunk().expect("eight of 21 bytes");
+                put_at(room, digits + 2 * first, &digits_of_bytes(*bytes));
             }
-            put_front(room, digits + 2 * count, *b"\n") + 1
+            put_at(room, digits + 2 * count, b"\n")
         }
     }
 }
 
 fn put_refused(room: &mut [u8; TEXT_ROOM], width: usize, number: u8) -> usize {
-    let mut behind = b" REFUSED ".to_vec();
-    put_number(&mut behind, number.into());
-    behind.push(b'\n');
-    room[width..width + behind.len()].copy_from_slice(&behind);
-    width + behind.len()
+    let mut end = put_at(room, width, b" REFUSED ");
+    for (least, unit) in [(100, 100), (10, 10), (0, 1)] {
+        if number >= least {
+            end = put_at(room, end, &[b'0' + number / unit % 10]);
+        }
+    }
+    put_at(room, end, b"\n")
 }
 
-/// Writes a piece of a row, and answers where it starts.
+/// Writes a piece of a row, and answers where it ends.
 #[inline]
-fn put_front<const N: usize>(room: &mut [u8; TEXT_ROOM], at: usize, piece: [u8; N]) -> usize {
-    room[at..at + N].copy_from_slice(&piece);
-    at
+fn put_at<const N: usize>(room: &mut [u8; TEXT_ROOM], at: usize, piece: &[u8; N]) -> usize {
+    room[at..at + N].copy_from_slice(piece);
+    at + N
 }
 
 /// A reception and its reply, by what was read and what the library wrote.
@@ -118,11 +159,13 @@ struct Answered<'a> {
     sent: &'a [u8],
 }
 
-fn put_each(out: &mut Vec<u8>, format: Format, text: &[u8], burst: &Burst, put: impl Fn(&mut Vec<u8>, &Answered)) {
+/// The rows one after the other, where a BAD line has this one.
+fn put_each(out: &mut Printed, text: &[u8], burst: &Burst, bad: &[u8], put: impl Fn(&mut Vec<u8>, &Answered)) {
     let mut taken = burst.taken();
+    let mut printed = Vec::new();
     for line in burst.lines() {
         if line.width == 0 {
-            put_bad(out, format);
+            out.put(bad);
             continue;
         }
         let row = taken.next().expect("a reception for each right line");
@@ -139,18 +182,11 @@ fn put_each(out: &mut Vec<u8>, format: Format, text: &[u8], burst: &Burst, put: 
             number: row.number,
             sent: &row.sent[1..1 + usize::from(row.sent[0])],
         };
-        put(out, &answered);
-        out.push(b'\n');
+        printed.clear();
+        put(&mut printed, &answered);
+        printed.push(b'\n');
+        out.put(&printed);
     }
-}
-
-/// The row of a line that is no reception.
-pub fn put_bad(out: &mut Vec<u8>, format: Format) {
-    out.extend_from_slice(match format {
-        Format::Text => b"BAD\n",
-        Format::Csv => b",BAD,,,\n",
-        Format::Json => b"{\"answer\":\"BAD\"}\n",
-    });
 }
 
 fn put_csv(out: &mut Vec<u8>, row: &Answered) {

@@ -30,16 +30,6 @@ const fn pairs<const N: usize>(base: usize) -> [[u8; 2]; N] {
     table
 }
 
-/// The first bytes of a text, and zeros behind its end.
-#[inline]
-pub fn front<const N: usize>(text: &[u8]) -> [u8; N] {
-    text.first_chunk().copied().unwrap_or_else(|| {
-        let mut front = [0; N];
-        front[..text.len()].copy_from_slice(text);
-        front
-    })
-}
-
 /// Two digits for each byte.
 #[inline]
 pub fn put_hex(out: &mut Vec<u8>, bytes: &[u8]) {
