@@ -4,6 +4,7 @@
 //! old one, which takes its place when it is whole and on disk.
 use crate::appender::{Appender, MAX_BLOCKS};
 use crate::args::{parsed, Args};
+use crate::burst::FRAME;
 use crate::failure::{tell, Failure};
 use crate::files::{self, Pieces, Replacement, PIECE};
 use crate::rows::{self, Format};
@@ -193,6 +194,15 @@ fn row_of(line: &str) -> Result<Row, String> {
     }
 }
 
+/// A telegram's length and its bytes.
+fn frame(telegram: &Telegram) -> [u8; FRAME] {
+    let bytes = telegram.as_bytes();
+    let mut frame = [0; FRAME];
+    frame[0] = bytes.len() as u8;
+    frame[1..1 + bytes.len()].copy_from_slice(bytes);
+    frame
+}
+
 fn append(args: &Args) -> Result<(), Failure> {
     let [name] = args.exactly("the name of one archive")?;
     let path = &files::resolved(Path::new(name));
@@ -216,7 +226,7 @@ fn append_all(path: &Path) -> Result<(u64, u64), Failure> {
     let before = appender.rows();
     each_line(|number, line| {
         let row = row_of(line).map_err(|why| Failure::Failed(format!("line {number} of standard input: {why}; nothing is appended")))?;
-        appender.append(row.telegram.as_bytes(), row.time, row.loose)
+        appender.append(&frame(&row.telegram), row.time, row.loose)
     })?;
     appender.write()?;
     new.commit()?;

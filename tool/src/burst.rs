@@ -1,81 +1,127 @@
 //! Lines that are handed to the collector in one call: the library tests the state once for up to 256 receptions.
 use crate::failure::Failure;
-use crate::lines::{self, MAX_BYTES};
+use crate::lines::{self, Before, Reception, FRAME_ROOM, WINDOW};
 use mooringeye::Collector;
 
 /// The bytes of a frame: a length and 21 bytes.
-const FRAME: usize = 22;
+pub const FRAME: usize = 22;
 /// The bytes of a reply: kind, number and a frame.
 const REPLY: usize = 24;
-/// Kinds of a reply.
-pub const KEPT: u8 = 0;
-pub const LOOSE: u8 = 2;
 
-/// What a frame holds.
-pub fn frame_bytes(frame: &[u8]) -> &[u8] {
-    &frame[1..1 + usize::from(frame[0])]
+/// Of a line where it starts, and how many digits its time has: none where the line is BAD.
+pub struct Line {
+    pub start: usize,
+    pub width: usize,
 }
 
-/// Lines that wait.
+/// A reception of a burst and its reply.
+pub struct Taken<'a> {
+    pub time: u64,
+    pub frame: &'a [u8; FRAME],
+    /// 0, 1 or 2 for KEPT, COPY or LOOSE.
+    pub kind: u8,
+    /// The number of a refusal, or 0.
+    pub number: u8,
+    /// What a repeater sends; nothing where it is empty.
+    pub sent: &'a [u8; FRAME],
+}
+
+impl Taken<'_> {
+    pub fn is_loose(&self) -> bool {
+        self.kind == 2
+    }
+}
+
+/// Lines that were read, and what the collector said of them.
 pub struct Burst {
-    /// When each reception was complete, and its frame.
+    lines: Vec<Line>,
+    /// When each reception was complete, its frame, and the reply to it.
     moments: Vec<u64>,
     records: Vec<u8>,
-    /// Of each line where it starts and what it says; none for a BAD one.
-    pub lines: Vec<Option<(usize, lines::Reception)>>,
     replies: Vec<u8>,
-    /// The bytes of the line that was read last.
-    bytes: [u8; MAX_BYTES],
+    /// What the last time says of the next one.
+    before: Before,
 }
 
 impl Default for Burst {
     fn default() -> Burst {
         let most = Collector::MAX_BURST;
         Burst {
-            moments: Vec::with_capacity(most),
-            records: Vec::with_capacity(most * FRAME),
             lines: Vec::with_capacity(most),
+            moments: Vec::with_capacity(most),
+            records: vec![0; most * FRAME + FRAME_ROOM],
             replies: vec![0; most * REPLY],
-            bytes: [0; MAX_BYTES],
+            before: Before::default(),
         }
     }
 }
 
 impl Burst {
-    pub fn is_full(&self) -> bool {
-        self.lines.len() == Collector::MAX_BURST
-    }
-
-    /// The line that starts there, where it says a reception: how long it is. Of one that is too long for a telegram the length alone counts.
-    pub fn push(&mut self, text: &[u8], start: usize) -> Option<usize> {
-        let line = lines::reception(&text[start..], &mut self.bytes)?;
-        let mut frame = [line.count as u8; FRAME];
-        frame[1..].copy_from_slice(&self.bytes[..FRAME - 1]); // what stands behind the reception is not looked at
-        self.records.extend_from_slice(&frame);
-        self.moments.push(line.time);
-        self.lines.push(Some((start, line)));
-        Some(line.length())
-    }
-
-    pub fn push_bad(&mut self) {
-        self.lines.push(None);
+    /// Reads at most so many lines of a text, from one that starts there on, in the place of those it had. Answers where the next one starts.
+    pub fn read(&mut self, text: &[u8], start: usize, most: usize) -> usize {
+        self.lines.clear();
+        self.moments.clear();
+        let mut start = start;
+        while start < text.len() && self.lines.len() < most.min(Collector::MAX_BURST) {
+            // What is written behind a frame stands where the next one is written.
+            let frame = self.records[FRAME * self.moments.len()..].first_chunk_mut().expect("room for each frame");
+            let found = match text[start..].first_chunk() {
+                Some(line) => lines::reception(line, &mut self.before, frame),
+                None => last_reception(&text[start..], frame),
+            };
+            let (width, length) = match found {
+                Some(reception) => {
+                    self.moments.push(reception.time);
+                    (reception.width, reception.length())
+                }
+                None => (0, lines::length(&text[start..])),
+            };
+            self.lines.push(Line { start, width });
+            start += length;
+        }
+        start
     }
 
     /// Hands them over.
     pub fn take(&mut self, collector: &mut Collector, level: u8) -> Result<(), Failure> {
-        let replies = &mut self.replies[..REPLY * self.moments.len()];
-        collector.burst_into(level, &self.moments, &self.records, replies).map_err(|why| Failure::refused("the collector", why))
+        let count = self.moments.len();
+        let (records, replies) = (&self.records[..FRAME * count], &mut self.replies[..REPLY * count]);
+        collector.burst_into(level, &self.moments, records, replies).map_err(|why| Failure::refused("the collector", why))
     }
 
-    /// Of each reception its time, its frame and its reply.
-    pub fn replies(&self) -> impl Iterator<Item = (u64, &[u8], &[u8])> {
-        let frames = self.records.chunks_exact(FRAME).zip(self.replies.chunks_exact(REPLY));
-        self.moments.iter().zip(frames).map(|(time, (record, reply))| (*time, record, reply))
+    pub fn lines(&self) -> &[Line] {
+        &self.lines
     }
 
-    pub fn clear(&mut self) {
-        self.moments.clear();
-        self.records.clear();
-        self.lines.clear();
+    /// The receptions, in the order of their lines.
+    #[inline]
+    pub fn taken(&self) -> impl Iterator<Item = Taken<'_>> {
+        (0..self.moments.len()).map(|at| self.taken_at(at))
     }
+
+    #[inline]
+    fn taken_at(&self, at: usize) -> Taken<'_> {
+        let frame = self.records[FRAME * at..].first_chunk().expect("a frame for each moment");
+        let [kind, number, sent @ ..] = self.replies[REPLY * at..].first_chunk::<REPLY>().expect("a reply for each moment");
+        Taken { time: self.moments[at], frame, kind: *kind, number: *number, sent }
+    }
+
+    /// Those that are rows of an archive: KEPT or LOOSE. Which these are is found without a branch, since nothing foretells it.
+    #[inline]
+    pub fn rows(&self) -> impl Iterator<Item = Taken<'_>> {
+        let (mut rows, mut count) = ([0u8; Collector::MAX_BURST], 0);
+        for (at, reply) in self.replies.chunks_exact(REPLY).take(self.moments.len()).enumerate() {
+            rows[count] = at as u8;
+            count += usize::from(reply[1] == 0 && reply[0] != 1);
+        }
+        rows.into_iter().take(count).map(|at| self.taken_at(at.into()))
+    }
+}
+
+/// The line at the start of a text that ends soon behind it.
+#[cold]
+fn last_reception(text: &[u8], frame: &mut [u8; FRAME_ROOM]) -> Option<Reception> {
+    let mut line = [0; WINDOW];
+    line[..text.len()].copy_from_slice(text);
+    lines::reception(&line, &mut Before::default(), frame)
 }

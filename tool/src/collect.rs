@@ -4,10 +4,10 @@
 //! so a row that was printed survives, and the archive is ahead of the state by at most one batch.
 use crate::appender::MAX_BLOCKS;
 use crate::args::Args;
-use crate::burst::{frame_bytes, Burst, KEPT, LOOSE};
+use crate::burst::Burst;
 use crate::failure::{tell, Failure};
 use crate::lines::{self, MAX_LINE};
-use crate::rows::{self, Answered, Format};
+use crate::rows::{self, Format, Printed};
 use crate::signals::{self, Signals};
 use crate::state::{State, StateFile};
 use crate::store::{Place, Store};
@@ -118,7 +118,7 @@ struct Run {
     told_cr: bool,
     ended: Ended,
     /// The rows of the present batch.
-    printed: Vec<u8>,
+    printed: Printed,
     burst: Burst,
 }
 
@@ -143,13 +143,13 @@ impl Run {
             read: 0,
             told_cr: false,
             ended: Ended::Input,
-            printed: Vec::new(),
+            printed: Printed::default(),
             burst: Burst::default(),
         };
         run.save()?;
         run.say_where_it_stands(options.state.as_deref(), is_new);
         rows::put_heading(&mut run.printed, run.format);
-        run.output.write(&run.printed)?;
+        run.output.write(run.printed.as_bytes())?;
         run.printed.clear();
         Ok(run)
     }
@@ -257,7 +257,9 @@ impl Run {
             (Some(said), _) => self.level = Some(said),
             (None, Some(_)) => return Ok(0),
             (None, None) => {
-                self.tell_cr(&text[..used]);
+                if is_cr_lf(text) {
+                    self.tell_cr(self.read);
+                }
                 return Err(Failure::Usage("without --level the first line is `level 0`, `level 1` or `level 2`".into()));
             }
         }
@@ -267,59 +269,38 @@ impl Run {
 
     /// Takes the lines of a batch into the collector, its rows into the archive's last block and the output; how long they are.
     fn take_batch(&mut self, text: &[u8]) -> Result<usize, Failure> {
-        let mut used = 0;
-        for _ in 0..self.batch {
-            if used == text.len() {
-                break;
-            }
-            let length = match self.burst.push(text, used) {
-                Some(length) => length,
-                None => {
-                    let length = lines::length(&text[used..]);
-                    self.tell_cr(&text[used..used + length]);
-                    self.burst.push_bad();
-                    length
-                }
-            };
-            used += length;
-            self.read += 1;
-            self.state.lines += 1;
-            if self.burst.is_full() {
-                self.take_burst(text)?;
-            }
+        let (mut used, mut left) = (0, self.batch);
+        while used < text.len() && left > 0 {
+            used = self.burst.read(text, used, left);
+            left -= self.burst.lines().len();
+            self.take_burst(text)?;
         }
-        self.take_burst(text)?;
         Ok(used)
-    }
-
-    fn tell_cr(&mut self, line: &[u8]) {
-        if !self.told_cr && line.ends_with(b"\r\n") {
-            self.told_cr = true;
-            tell(format!("line {} ends in CR LF: a carriage return is no hexadecimal digit, so such lines are BAD", self.read + 1));
-        }
     }
 
     fn take_burst(&mut self, text: &[u8]) -> Result<(), Failure> {
         let level = self.level.expect("known since the first line");
         self.burst.take(&mut self.state.collector, level)?;
-        let mut replies = self.burst.replies();
-        for line in &self.burst.lines {
-            let Some((start, reception)) = line else {
-                rows::put_bad(&mut self.printed, self.format);
-                continue;
-            };
-            let (time, record, reply) = replies.next().expect("a reply for each reception");
-            let (kind, number) = (reply[0], reply[1]);
-            let (time_end, end) = (start + reception.width, start + reception.length() - 1);
-            let row = Answered { time: &text[*start..time_end], heard: &text[time_end + 1..end], kind, number, sent: frame_bytes(&reply[2..]) };
-            rows::put_answer(&mut self.printed, self.format, &row);
-            if let (Some(store), 0, KEPT | LOOSE) = (&mut self.store, number, kind) {
-                store.append(frame_bytes(record), time, kind == LOOSE)?;
+        rows::put_burst(&mut self.printed, self.format, text, &self.burst);
+        if let Some(store) = &mut self.store {
+            for row in self.burst.rows() {
+                store.append(row.frame, row.time, row.is_loose())?;
             }
         }
-        drop(replies);
-        self.burst.clear();
+        let (before, count) = (self.read, self.burst.lines().len() as u64);
+        if let Some(at) = self.burst.lines().iter().position(|line| line.width == 0 && is_cr_lf(&text[line.start..])) {
+            self.tell_cr(before + at as u64);
+        }
+        self.read += count;
+        self.state.lines += count;
         Ok(())
+    }
+
+    fn tell_cr(&mut self, before: u64) {
+        if !self.told_cr {
+            self.told_cr = true;
+            tell(format!("line {} ends in CR LF: a carriage return is no hexadecimal digit, so such lines are BAD", before + 1));
+        }
     }
 
     /// Archive first, then state, then the printed rows.
@@ -328,7 +309,7 @@ impl Run {
             store.sync()?;
         }
         self.save()?;
-        self.output.write_until_stopped(&self.printed, signals)?;
+        self.output.write_until_stopped(self.printed.as_bytes(), signals)?;
         self.printed.clear();
         Ok(())
     }
@@ -343,6 +324,11 @@ impl Run {
         tell(totals);
         Ok(())
     }
+}
+
+/// Whether the line at the start of a text ends in CR LF.
+fn is_cr_lf(text: &[u8]) -> bool {
+    text[..lines::length(text)].ends_with(b"\r\n")
 }
 
 /// The state of a file, and whether it is a new one.

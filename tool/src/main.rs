@@ -8,6 +8,7 @@ mod archive;
 mod args;
 mod burst;
 mod collect;
+mod digits;
 mod failure;
 mod files;
 mod lines;

@@ -1,6 +1,7 @@
 //! The archive of a collector: one file, or files numbered by a pattern of which a new one begins where one is full. Before the first row what a crash
 //! left behind the rows that the state counts is taken back.
 use crate::appender::{Appender, MAX_BLOCKS, ROWS};
+use crate::burst::FRAME;
 use crate::failure::{tell, Failure};
 use crate::files;
 use crate::state::{name_of, Attached};
@@ -134,11 +135,11 @@ impl Store {
         self.file.rows()
     }
 
-    pub fn append(&mut self, telegram: &[u8], time: u64, loose: bool) -> Result<(), Failure> {
+    pub fn append(&mut self, frame: &[u8; FRAME], time: u64, loose: bool) -> Result<(), Failure> {
         if self.file.is_full() {
             self.next_file()?;
         }
-        self.file.append(telegram, time, loose)?;
+        self.file.append(frame, time, loose)?;
         self.seen += 1;
         Ok(())
     }

@@ -3,7 +3,7 @@
 const HEX: &[u8; 16] = b"0123456789ABCDEF";
 
 /// The value of each character as a hexadecimal digit; 0xFF where it is none.
-pub const NIBBLES: [u8; 256] = nibbles();
+const NIBBLES: [u8; 256] = nibbles();
 
 const fn nibbles() -> [u8; 256] {
     let mut table = [0xFF; 256];

@@ -149,6 +149,42 @@ impl Collector {
     }
 }
 
+/// An open telegram, as it was first received.
+pub struct Open {
+    pub time: u64,
+    pub copies: u16,
+    bytes: [u8; 24],
+    length: usize,
+}
+
+impl Open {
+    pub fn bytes(&self) -> &[u8] {
+        &self.bytes[..self.length]
+    }
+}
+
+/// What an image is written of.
+impl Collector {
+    pub fn latest(&self) -> u64 {
+        self.latest
+    }
+
+    /// In opening order.
+    pub fn open_telegrams(&self) -> impl Iterator<Item = Open> + '_ {
+        self.places().map(|at| {
+            let length = usize::from(self.keys[at][23]);
+            let mut bytes = self.keys[at];
+            bytes[length - 2..length].copy_from_slice(&self.ends[at]);
+            Open {
+                time: self.times[at],
+                copies: self.copies[at],
+                bytes,
+                length,
+            }
+        })
+    }
+}
+
 /// The test of a state (document 01, "Parked collector"): whether an image could be written of it.
 impl Collector {
     pub fn is_acceptable(&self) -> bool {

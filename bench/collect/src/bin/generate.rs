@@ -1,8 +1,8 @@
-//! Writes an input of `collect`: `generate sparse|crowded LINES`. The same on every run.
+//! Writes an input of `collect`: `generate sparse|crowded|year LINES`. The same on every run.
 
 use collect_rust::hash::renew;
 use std::fmt::Write as _;
-use std::io::Write as _;
+use std::io::{self, BufWriter, Write};
 
 /// A fixed-seed generator (splitmix64).
 struct Random(u64);
@@ -92,10 +92,12 @@ fn line(random: &mut Random, now: u64, mut bytes: Vec<u8>) -> String {
     text
 }
 
-fn generate(traffic: &Traffic, lines: usize) -> String {
+/// The first moment of a log, in ms.
+const START: u64 = 1_767_225_600_000;
+
+fn generate(traffic: &Traffic, lines: usize, out: &mut impl Write) -> io::Result<()> {
     let mut random = Random(0x636F_6C6C_6563_7401);
-    let mut text = "level 2\n".to_string();
-    let mut now = 1_767_225_600_000;
+    let mut now = START;
     let mut recent: Vec<Vec<u8>> = (0..traffic.recent).map(|_| telegram(&mut random)).collect();
     for i in 1..lines {
         now += random.pick(traffic.gaps);
@@ -107,25 +109,49 @@ fn generate(traffic: &Traffic, lines: usize) -> String {
             random.below(traffic.recent)
         };
         let heard = at_level(recent[at].clone(), random.pick(&[0, 0, 1, 2]));
-        text.push_str(&line(&mut random, now, heard));
-        text.push('\n');
+        writeln!(out, "{}", line(&mut random, now, heard))?;
     }
-    text
+    Ok(())
 }
 
-fn main() {
+/// A plant's year has 9,800,000 telegrams and 31,400,000 receptions: a telegram every 3.2 s, heard
+/// 3.2 times within 40 ms.
+fn generate_year(lines: usize, out: &mut impl Write) -> io::Result<()> {
+    let mut random = Random(0x636F_6C6C_6563_7402);
+    let mut sent = START;
+    // What will be heard of the telegrams that were sent, in order of time.
+    let mut to_come: Vec<(u64, Vec<u8>)> = Vec::new();
+    for _ in 1..lines {
+        while to_come.first().is_none_or(|(time, _)| sent <= *time) {
+            let telegram = telegram(&mut random);
+            to_come.push((sent, telegram.clone()));
+            for _ in 1..random.pick(&[2, 3, 3, 4, 4]) {
+                let copy = at_level(telegram.clone(), random.pick(&[0, 0, 1]));
+                to_come.push((sent + 1 + random.below(40) as u64, copy));
+            }
+            to_come.sort_by_key(|(time, _)| *time);
+            sent += random.below(6_400) as u64;
+        }
+        let (now, heard) = to_come.remove(0);
+        writeln!(out, "{}", line(&mut random, now, heard))?;
+    }
+    Ok(())
+}
+
+fn main() -> io::Result<()> {
     let words: Vec<String> = std::env::args().skip(1).collect();
     let words: Vec<&str> = words.iter().map(String::as_str).collect();
-    let (traffic, lines) = match words[..] {
-        ["sparse", lines] => (SPARSE, lines),
-        ["crowded", lines] => (CROWDED, lines),
-        _ => {
-            eprintln!("generate sparse|crowded LINES");
-            std::process::exit(2);
-        }
+    let [traffic @ ("sparse" | "crowded" | "year"), lines] = words[..] else {
+        eprintln!("generate sparse|crowded|year LINES");
+        std::process::exit(2);
     };
-    let text = generate(&traffic, lines.parse().expect("a number of lines"));
-    std::io::stdout()
-        .write_all(text.as_bytes())
-        .expect("standard output");
+    let lines = lines.parse().expect("a number of lines");
+    let mut out = BufWriter::new(io::stdout().lock());
+    writeln!(out, "level 2")?;
+    match traffic {
+        "sparse" => generate(&SPARSE, lines, &mut out)?,
+        "crowded" => generate(&CROWDED, lines, &mut out)?,
+        _ => generate_year(lines, &mut out)?,
+    }
+    out.flush()
 }
