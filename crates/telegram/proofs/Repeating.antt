@@ -1,14 +1,14 @@
 -- The cases of the repeater step, and what is sent: a valid telegram, the same but for its level and HASH.
 use mathlib.Core.Path.{_≡_, refl, sym, _∙_}
-use mathlib.Core.Bool.{Bool, true, false, not, and-false, true≢false}
+use mathlib.Core.Bool.{Bool, true, false, cond, not, _&&_, _||_, and-false, true≢false}
 use mathlib.Core.List.{List, [], _∷_, _++_, append-assoc}
 use Prim.Native.Nat.{ℕ, _+_, _-_, _*_, _≤_, _<_, _/_, _%_}
 use native.Mathlib.Omega.{arith}
 use native.Mathlib.Nat.{sub-zero}
-use lib.Dec.{eqb, leb}
+use lib.Dec.{eqb, leb, ltb}
 use lib.ListN.{length, take, drop, getD, set, length-append, List·getD-append}
 use lib.Seq.{length-take-le, take-length, getD-take}
-use borrow.Author.Tests.{lt-ltb, le-ltb, eq-eqb, ne-eqb, eqb-true, eqb-false, leb-true, leb-false}
+use borrow.Author.Tests.{lt-ltb, le-ltb, ltb-false, eq-eqb, ne-eqb, eqb-true, eqb-false, leb-true, leb-false}
 use Rattle.lists.proofs.Equal.{equal-refl}
 use Rattle.refusal.specs.Number.{numberOf}
 use Rattle.refusal.specs.declared.Refusal.{Refusal}
@@ -87,6 +87,18 @@ front-length s h = rw (front-at s h) (length-take-le (length s - 2) s (omega ari
 
 pub raised-length : (s : List ℕ) → 2 ≤ length s → length (raisedOf s) ≡ length s
 raised-length s h = simp (length-append, front-length s h) (omega arith)
+
+-- at most 21 bytes
+pub relay-fits : (setting : ℕ) (s : List ℕ) → length (relayOf setting s) ≤ maxLength
+unfolding relayOf
+relay-fits setting s = go (ltb (length s) minLength) (ltb maxLength (length s)) (repeats setting (levelOf s)) refl refl
+  where
+    go : (a b t : Bool) → ltb (length s) minLength ≡ a → ltb maxLength (length s) ≡ b → length (cond (not (a || b) && t) (raisedOf s) []) ≤ maxLength
+    go true b t e f = omega arith
+    go false true t e f = omega arith
+    go false false true e f =
+        omega (arith, raised-length s (omega (arith, ltb-false (length s) minLength e)), ltb-false maxLength (length s) f)
+    go false false false e f = omega arith
 
 -- the code's three steps: all before STATUS is copied, STATUS and HASH are put behind it
 module _ (s out : List ℕ) (at : ℕ) (low : at + 2 ≡ length s) (fits : length s ≤ length out) {copied : List ℕ} {status : ℕ}
