@@ -13,9 +13,8 @@ use lib.Seq.{length-take-le, drop-cons, drop-length, getD-take, take-suc-set, dr
 use Rattle.telegram.specs.Frame.{frameOf}
 use Rattle.model.specs.View.{View}
 use Rattle.model.specs.declared.Answer.the-variants.{Kept}
-use Rattle.collector.specs.declared.merging.Summary.{Summary}
-use Rattle.collector.specs.Collector.{Columns}
-use Rattle.collector.specs.Admission.{viewIn}
+use Rattle.collector.specs.declared.Summary.{Summary}
+use Rattle.collector.specs.Collector.{Columns, viewIn}
 use Rattle.burst.specs.declared.Reception.{Reception}
 use Rattle.burst.specs.declared.Reply.{Reply}
 use Rattle.burst.specs.declared.Stepped.{Stepped}

@@ -12,9 +12,9 @@ use Rattle.model.specs.View as view
 use Rattle.model.specs.View.{View}
 use Rattle.model.specs.Step.{Outcome, step}
 use Rattle.collector.specs.declared.Collector.{Collector}
-use Rattle.collector.specs.declared.merging.Summary.{Summary}
-use Rattle.collector.specs.Collector.{Columns, columnsOf, viewOf}
-use Rattle.collector.specs.Admission.{viewIn, collectorOf, Tested}
+use Rattle.collector.specs.declared.Summary.{Summary}
+use Rattle.collector.specs.Collector.{Columns, columnsOf, viewIn, viewOf}
+use Rattle.collector.specs.Admission.{collectorOf, Tested}
 use Rattle.collector.proofs.Stepping.{admission-fit, tested-next}
 use Rattle.burst.specs.declared.Reception.{Reception}
 use Rattle.burst.specs.declared.Reply.{Reply}
@@ -22,7 +22,7 @@ use Rattle.burst.specs.declared.Bursted.{Bursted}
 use Rattle.burst.specs.declared.Plan.{Plan}
 use Rattle.burst.specs.declared.Within.{Within}
 use Rattle.model.specs.History.{Timely}
-use Rattle.model.specs.Burst.{Replied, replyWith, afterAll, repliesTo, burstNumber, taken, burstOf}
+use Rattle.model.specs.Burst.{Replied, replyWith, afterAll, repliesTo, burstNumber, taken}
 use Rattle.burst.specs.Records.{receptionOf, repliedOf, handedNumber, Bursts, WithinOf}
 use Rattle.burst.specs.Private.{after, replies, Delivered, Planned, Finished}
 
@@ -97,7 +97,7 @@ module _ (c : Collector) (setting : ℕ) (rs : List Reception) (ys : List Reply)
       number-is = ap handedNumber (f .same) ∙ k .answer ∙ sym same-number
 
       here : viewIn (columnsOf c) (p .summary) ≡ v
-      here = ap viewOf (k .state)
+      here = ap (viewIn (columnsOf c)) (k .summary)
 
       replies-is : map repliedOf zs ≡ repliesTo setting v (taken (burstNumber setting v (length given) (length places)) given) ++ drop (length (taken (burstNumber setting v (length given) (length places)) given)) places
       replies-is =
@@ -123,7 +123,7 @@ module _ (c : Collector) (setting : ℕ) (rs : List Reception) (ys : List Reply)
       stays : (handedNumber (r .answer) ≡ 0 → ⊥) → r .next ≡ c
       stays n =
           let same = d .none (taken-none n) in
-          f .next ∙ (λ i. collectorOf (same .0 i) (same .1 i)) ∙ k .state
+          f .next ∙ (λ i. collectorOf (same .0 i) ((same .1 ∙ k .summary) i))
 
 -- ---- the first places of lists that are held by value
 

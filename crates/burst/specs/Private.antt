@@ -8,9 +8,9 @@ use lib.ListN.{take, drop}
 use Rattle.model.specs.View as view
 use Rattle.model.specs.View.{View}
 use Rattle.collector.specs.declared.Collector.{Collector}
-use Rattle.collector.specs.declared.merging.Summary.{Summary}
-use Rattle.collector.specs.Collector.{Columns, columnsOf, viewOf}
-use Rattle.collector.specs.Admission.{viewIn, collectorOf, admission, Tested}
+use Rattle.collector.specs.declared.Summary.{Summary}
+use Rattle.collector.specs.Collector.{Columns, viewIn, viewOf}
+use Rattle.collector.specs.Admission.{collectorOf, admission, Tested}
 use Rattle.burst.specs.declared.Reception.{Reception}
 use Rattle.burst.specs.declared.Reply.{Reply}
 use Rattle.burst.specs.declared.Stepped.{Stepped}
@@ -47,8 +47,8 @@ replies setting fit v (r ∷ rs) =
     o .reply ∷ replies setting fit (o .next) rs
 
 -- the first n were taken: the state, and every place of the second list
-pub record Delivered (setting : ℕ) (fit : Bool) (a : Columns) (s : Summary) (n : ℕ) (rs : List Reception) (ys : List Reply)
-    (a' : Columns) (s' : Summary) (zs : List Reply) : Type 0 where
+pub record Delivered (setting : ℕ) (fit : Bool) (a : Columns) (s : Summary) (n : ℕ)
+    (rs : List Reception) (ys : List Reply) (a' : Columns) (s' : Summary) (zs : List Reply) : Type 0 where
   pub state : viewIn a' s' ≡ after fit (viewIn a s) (take n rs)
   pub replied : map repliedOf zs ≡ replies setting fit (viewIn a s) (take n rs) ++ map repliedOf (drop n ys)
   pub timely : Timely (map receptionOf (take n rs))
@@ -57,7 +57,7 @@ pub record Delivered (setting : ℕ) (fit : Bool) (a : Columns) (s : Summary) (n
 -- what is done with a burst at a setting, of so many receptions and places
 pub record Planned (c : Collector) (setting receptions places : ℕ) (r : Plan) : Type 0 where
   pub tested : Tested (r .fit) (viewOf c)
-  pub state : collectorOf (columnsOf c) (r .summary) ≡ c
+  pub summary : r .summary ≡ c .summary
   pub count : r .count ≡ cond (eqb (burstNumber setting (viewOf c) receptions places) 0) receptions 0
   pub few : r .count ≤ receptions
   pub placed : r .count ≤ places

@@ -38,10 +38,15 @@ handedNumber (Refused why) = numberOf why
 
 -- what is shown of a burst, with the second list after it
 abbrev pub burstedOf : Bursted → List Reply → BurstResult
-burstedOf r replies = record { number = handedNumber (r .answer); replies = map repliedOf replies; next = viewOf (r .next) }
+burstedOf r replies = record {
+  number = handedNumber (r .answer);
+  replies = map repliedOf replies;
+  next = viewOf (r .next);
+}
 
 -- what a burst gives, with the second list before and after it; beside a refusal the very state that was handed in
-pub record Bursts (c : Collector) (setting : ℕ) (rs : List Reception) (places : List Reply) (r : Bursted) (after : List Reply) : Type 0 where
+pub record Bursts (c : Collector) (setting : ℕ) (rs : List Reception) (places : List Reply)
+    (r : Bursted) (after : List Reply) : Type 0 where
   pub result : burstedOf r after ≡ burstOf setting (viewOf c) (map receptionOf rs) (map repliedOf places)
   pub stays : (handedNumber (r .answer) ≡ 0 → ⊥) → r .next ≡ c
 
@@ -50,6 +55,7 @@ abbrev pub listed : ℕ
 listed = maxBurst + 3
 
 -- a burst of the first n records and the first m places; what stands past these places stays
-pub record WithinOf (c : Collector) (setting n m : ℕ) (records : List Reception) (places : List Reply) (r : Within) : Type 0 where
+pub record WithinOf (c : Collector) (setting n m : ℕ) (records : List Reception) (places : List Reply)
+    (r : Within) : Type 0 where
   pub front : Bursts c setting (take n records) (take m places) (r .bursted) (take m (r .replies))
   pub past : drop m (r .replies) ≡ drop m places

@@ -1,8 +1,8 @@
 // Receptions that are handed over in one lent list with a repeater setting, and a second list for the answers (document 02, A1 and A7).
 use collector::Collector;
+use collector::Summary;
 use collector::acceptable;
 use collector::merging;
-use collector::merging::Summary;
 use model::Answer;
 use refusal::Refusal;
 use telegram::frame::Frame;
@@ -11,8 +11,7 @@ ghost use mathlib.Core.Path.{_≡_};
 ghost use Prim.Native.Nat.{_≤_, min};
 ghost use lib.ListN.{length};
 ghost use Rattle.erp1.specs.Subtelegram.{maxLength};
-ghost use Rattle.collector.specs.Collector.{columns};
-ghost use Rattle.collector.specs.Admission.{viewIn};
+ghost use Rattle.collector.specs.Collector.{columns, viewIn};
 ghost use Rattle.burst.specs.Records.{receptionOf, Bursts, listed, WithinOf, sizeOf};
 ghost use Rattle.burst.specs.Private.{steppedOf, admittedWith, Delivered, Planned, Finished};
 
@@ -34,7 +33,7 @@ pub struct Reply {
     pub sent: Frame,
 }
 
-// What the state holds beside its arrays after a reception, and the reply to it.
+// The summary after a reception, and the reply to it.
 pub struct Stepped {
     pub summary: Summary,
     pub reply: Reply,
@@ -52,8 +51,11 @@ fn take_record<'a>(
     setting: u8,
     reception: Reception,
 ) -> Stepped
-    ensures { λ r. ⌜ steppedOf (columns (now (times .exit)) (now (lens .exit)) (now (entries .exit)) (now (copies .exit))) r
-        ≡ admittedWith setting fit (viewIn (columns (now (times .entry)) (now (lens .entry)) (now (entries .entry)) (now (copies .entry))) summary) (receptionOf reception) ⌝ }
+    ensures { λ r. ⌜ steppedOf
+        (columns (now (times .exit)) (now (lens .exit)) (now (entries .exit)) (now (copies .exit))) r
+        ≡ admittedWith setting fit
+        (viewIn (columns (now (times .entry)) (now (lens .entry)) (now (entries .entry)) (now (copies .entry))) summary)
+        (receptionOf reception) ⌝ }
 {
     let bytes = reception.bytes;
     let n = size(reception.len);
@@ -115,8 +117,11 @@ fn deliver(
     replies: &mut [Reply],
 ) -> Summary
     requires { ⌜ (count ≤ length (now receptions)) × (count ≤ length (now replies)) ⌝ }
-    ensures { λ r. ⌜ Delivered setting fit (columns (now (times .entry)) (now (lens .entry)) (now (entries .entry)) (now (copies .entry))) summary count
-        (now (receptions .entry)) (now (replies .entry)) (columns (now (times .exit)) (now (lens .exit)) (now (entries .exit)) (now (copies .exit))) r (now (replies .exit)) ⌝ }
+    ensures { λ r. ⌜ Delivered setting fit
+        (columns (now (times .entry)) (now (lens .entry)) (now (entries .entry)) (now (copies .entry))) summary count
+        (now (receptions .entry)) (now (replies .entry))
+        (columns (now (times .exit)) (now (lens .exit)) (now (entries .exit)) (now (copies .exit))) r
+        (now (replies .exit)) ⌝ }
 {
     let mut s = summary;
     let mut i: usize = 0;
@@ -179,15 +184,8 @@ fn prepare(c: Collector, setting: u8, receptions: usize, places: usize) -> Plan
 {
     let times = c.times;
     let lens = c.lens;
-    let count = c.count;
-    let latest = c.latest;
-    let totals = c.totals;
-    let fit = acceptable::is_acceptable(&times, &lens, &c.bytes, count, latest, totals);
-    let summary = Summary {
-        count: count,
-        latest: latest,
-        totals: totals,
-    };
+    let summary = c.summary;
+    let fit = acceptable::is_acceptable(&times, &lens, &c.bytes, summary);
     if !fit {
         return Plan {
             fit: fit,
@@ -239,7 +237,13 @@ fn finish(
     ensures { λ r. ⌜ Finished (columns times lens entries copies) summary answer r ⌝ }
 {
     Bursted {
-        next: Collector::from_parts(times, lens, entries, copies, summary),
+        next: Collector {
+            times: times,
+            lens: lens,
+            bytes: entries,
+            copies: copies,
+            summary: summary,
+        },
         answer: answer,
     }
 }

@@ -46,7 +46,7 @@ fn bursts_from(
         let lists = burst::burst_within(c, setting, records, size, none, size);
         let done = lists.bursted;
         let next = done.next;
-        let totals = next.totals;
+        let totals = next.summary.totals;
         let replies = lists.replies;
         let k = place_of(i);
         figure = std::num::wrapping_add_u64(figure, totals.kept);

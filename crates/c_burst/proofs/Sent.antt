@@ -1,56 +1,34 @@
 -- One reception of a burst.
 --     sent-few      what is sent has at most 21 bytes
 --     answered      the reply and the next state are those of a step
-use mathlib.Core.Path.{_≡_, refl, sym, ap, _∙_}
-use mathlib.Core.Bool.{Bool, true, false, cond, not, _&&_, _||_}
-use mathlib.Core.List.{List, []}
+use mathlib.Core.Path.{_≡_, sym, ap, _∙_}
+use mathlib.Core.Bool.{true}
+use mathlib.Core.List.{List}
 use Prim.Native.Nat.{ℕ, _≤_}
 use native.Mathlib.Omega.{arith}
-use lib.Dec.{ltb}
 use lib.ListN.{length, getD, drop, replicate, length-drop}
-use borrow.Author.Tests.{ltb-false}
-use Rattle.erp1.specs.Subtelegram.{minLength, maxLength}
+use Rattle.erp1.specs.Subtelegram.{maxLength}
 use Rattle.buffers.specs.Buffer.{part}
-use Rattle.telegram.specs.Repeater.{levelOf, repeats, raisedOf, relayOf}
 use Rattle.telegram.specs.Output.{Result, written}
 use Rattle.telegram.proofs.Frames.{frame-written}
-use Rattle.telegram.proofs.Repeating.{raised-length}
-use Rattle.model.specs.Answer.{Shown, isKept}
+use Rattle.model.specs.Answer.{Shown}
 use Rattle.model.specs.View.{Reception, View}
 use Rattle.model.specs.Acceptable.{acceptable}
 use Rattle.model.specs.Step.{Outcome, step}
 use Rattle.model.specs.Burst.{replyWith}
 use Rattle.collector.specs.Admission.{relayedFor, admission}
 use Rattle.collector.proofs.Stepping.{admission-fit}
+use Rattle.collector.proofs.Sending.{relayed-fits}
 use Rattle.burst.specs.Records.{sizeOf}
 use Rattle.burst.specs.Private.{StepResult, admittedWith}
 use Rattle.burst.proofs.Records.{sent-with, handed}
 use Rattle.c_layout.specs.Frame.{frameLength}
 use Rattle.c_burst.specs.Bytes.{receptionIn, replyBytes}
-use Rattle.c_burst.specs.Calls.{Answered}
-
-relay-short : (setting : ℕ) (s : List ℕ) → length (relayOf setting s) ≤ maxLength
-unfolding relayOf
-relay-short setting s = go (ltb (length s) minLength) (ltb maxLength (length s)) (repeats setting (levelOf s)) refl refl
-  where
-    go : (a b t : Bool) → ltb (length s) minLength ≡ a → ltb maxLength (length s) ≡ b → length (cond (not (a || b) && t) (raisedOf s) []) ≤ maxLength
-    go true b t e f = omega arith
-    go false true t e f = omega arith
-    go false false true e f =
-        omega (arith, raised-length s (omega (arith, ltb-false (length s) minLength e)), ltb-false maxLength (length s) f)
-    go false false false e f = omega arith
-
-relayed-short : (setting : ℕ) (a : Shown) (s : List ℕ) → length (relayedFor setting a s) ≤ maxLength
-unfolding relayedFor
-relayed-short setting a s = go (isKept a)
-  where
-    go : (b : Bool) → length (cond b (relayOf setting s) []) ≤ maxLength
-    go true = relay-short setting s
-    go false = omega arith
+use Rattle.c_burst.specs.Private.{Answered}
 
 pub sent-few : (setting : ℕ) (a : Shown) (s old : List ℕ) {out : List ℕ} {len : ℕ}
     → _≡_ {A = Result} (record { number = 0; len = len; output = out }) (written (relayedFor setting a s) old) → len ≤ maxLength
-sent-few setting a s old e = omega (arith, ap (λ (r : Result). r .len) e, relayed-short setting a s)
+sent-few setting a s old e = omega (arith, ap (λ (r : Result). r .len) e, relayed-fits setting a s)
 
 module _ (setting : ℕ) (v : View) (ok : acceptable v ≡ true) (frame : List ℕ) (full : length frame ≡ frameLength) (time : ℕ) where
   abbrev r : Reception

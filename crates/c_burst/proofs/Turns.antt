@@ -22,7 +22,7 @@ use Rattle.collector.specs.Admission.{Tested}
 use Rattle.collector.proofs.Stepping.{tested-next}
 use Rattle.c_layout.specs.Frame.{frameLength}
 use Rattle.c_burst.specs.Bytes.{receptionIn, receptionsIn, replyLength, replyBytes}
-use Rattle.c_burst.specs.Calls.{Answered, Delivered}
+use Rattle.c_burst.specs.Private.{Answered, Delivered}
 
 -- what `getD` gives past the end of a list; no proof looks at it
 pub noReception : Reception

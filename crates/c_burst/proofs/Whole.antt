@@ -1,10 +1,9 @@
 -- A burst by its answers: a wrong size, a refusal, and the receptions taken.
-use Prim.Native.Nat.{ℕ, suc, _*_, _/_}
+use Prim.Native.Nat.{ℕ, _*_, _/_}
 use native.Mathlib.Omega.{arith}
 use mathlib.Core.Path.{_≡_, refl, sym, ap, ap₂, subst, _∙_}
-use mathlib.Core.Bool.{Bool, true, false, cond}
-use mathlib.Core.List.{List, [], _∷_, _++_, map, flatten}
-use lib.Dec.{eqb}
+use mathlib.Core.Bool.{true, false}
+use mathlib.Core.List.{List, _++_, map, flatten}
 use lib.ListN.{length, take, drop, replicate, length-replicate}
 use lib.Seq.{take-at}
 use borrow.Author.Tests.{ne-eqb}
@@ -12,24 +11,18 @@ use Rattle.refusal.specs.Number.{numberOf}
 use Rattle.refusal.specs.declared.Refusal.the-variants.{NotAccepted}
 use Rattle.refusal.proofs.Numbers.{refused-number}
 use Rattle.model.specs.View.{Reception, View}
-use Rattle.model.specs.Step.{step}
 use Rattle.model.specs.Acceptable.{acceptable}
+use Rattle.model.proofs.Returns.{replies-to-length}
 use Rattle.model.specs.Burst.{Replied, afterAll, repliesTo, callNumber, burstNumber, taken}
-use Rattle.collector.specs.declared.merging.Summary.{Summary}
-use Rattle.collector.specs.Collector.{Columns}
-use Rattle.collector.specs.Admission.{viewIn}
+use Rattle.collector.specs.declared.Summary.{Summary}
+use Rattle.collector.specs.Collector.{Columns, viewIn}
 use Rattle.c_layout.specs.Frame.{wrongSize}
 use Rattle.c_collector.specs.State.{Arrays, arrays, columnsAt, stateAt, summaryIn, numbersOf, numbersIn}
 use Rattle.c_collector.proofs.State.{numbers-counted}
 use Rattle.c_burst.specs.Bytes.{receptionsIn, replyLength, replyBytes, isSized}
-use Rattle.c_burst.specs.Calls.{BurstCall, anyPlace, repliesWith, burstCall, Bursts, Delivered}
+use Rattle.c_burst.specs.Calls.{BurstCall, anyPlace, repliesWith, burstCall, Bursts}
+use Rattle.c_burst.specs.Private.{Delivered}
 use Rattle.c_burst.proofs.Turns.{receptions-count}
-
--- a reply for each reception
-replies-count : (setting : ℕ) (v : View) (rs : List Reception) → length (repliesTo setting v rs) ≡ length rs
-unfolding repliesTo
-replies-count setting v [] = refl
-replies-count setting v (r ∷ rs) = ap suc (replies-count setting (step v r .next) rs)
 
 module _ (s : Arrays) (setting : ℕ) (moments records old : List ℕ) where
   abbrev v : View
@@ -107,7 +100,7 @@ module _ (s : Arrays) (setting : ℕ) (moments records old : List ℕ) where
           done = ap shown (sym (sym same-number ∙ z)) ∙ call-is
 
           fronts : take (length rs) (repliesTo setting v rs ++ drop (length rs) (replicate room anyPlace)) ≡ repliesTo setting v rs
-          fronts = take-at (repliesTo setting v rs) (drop (length rs) (replicate room anyPlace)) (length rs) (replies-count setting v rs)
+          fronts = take-at (repliesTo setting v rs) (drop (length rs) (replicate room anyPlace)) (length rs) (replies-to-length setting v rs)
 
           whole : record { number = 0; replies = new; next = viewIn a (summaryIn numbers) } ≡ burstCall setting v moments records old
           whole =

@@ -18,7 +18,8 @@ receptionIn frame time = record { bytes = resized (getD frame 0 0) (drop 1 frame
 
 -- the receptions of a list of moments, each with its frame
 unfoldable pub receptionsIn : List ℕ → List ℕ → List Reception
-receptionsIn moments records = map (λ i. receptionIn (part (frameLength * i) frameLength records) (getD moments i 0)) (upFrom 0 (length moments))
+receptionsIn moments records =
+    map (λ i. receptionIn (part (frameLength * i) frameLength records) (getD moments i 0)) (upFrom 0 (length moments))
 
 -- "kind, number, and the telegram to send": 24 bytes
 abbrev pub replyLength : ℕ

@@ -6,9 +6,8 @@ use mathlib.Core.List.{List, [], _++_, map, flatten}
 use lib.ListN.{length, take, drop, replicate}
 use Rattle.telegram.specs.Frame.{frameOf}
 use Rattle.model.specs.Answer.{Kept}
-use Rattle.model.specs.View.{Reception, View}
-use Rattle.model.specs.Step.{step}
-use Rattle.model.specs.Burst.{Replied, replyWith, afterAll, repliesTo, taken, burstOf}
+use Rattle.model.specs.View.{View}
+use Rattle.model.specs.Burst.{Replied, taken, burstOf}
 use Rattle.c_layout.specs.Frame.{wrongSize}
 use Rattle.c_collector.specs.State.{Arrays, stateAt, numbersOf}
 use Rattle.c_burst.specs.Bytes.{receptionsIn, replyLength, replyBytes, isSized}
@@ -30,26 +29,18 @@ repliesWith n replies old = flatten (map replyBytes (take n replies)) ++ drop (r
 -- sizes first; then as `burstOf` says, whose second list has as many places as there are bytes for
 unfoldable pub burstCall : ℕ → View → List ℕ → List ℕ → List ℕ → BurstCall
 burstCall setting v moments records old =
-    cond (not (isSized (length moments) (length records) (length old))) (record { number = wrongSize; replies = old; next = v })
+    cond (not (isSized (length moments) (length records) (length old)))
+    (record { number = wrongSize; replies = old; next = v })
     (let rs = receptionsIn moments records in
     let b = burstOf setting v rs (replicate (length old / replyLength) anyPlace) in
-    record { number = b .number; replies = repliesWith (length (taken (b .number) rs)) (b .replies) old; next = b .next })
+    let n = length (taken (b .number) rs) in
+    record { number = b .number; replies = repliesWith n (b .replies) old; next = b .next })
 
 -- a burst in the arrays before and after it
-pub record Bursts (s : Arrays) (setting : ℕ) (moments records old : List ℕ) (number : ℕ) (s' : Arrays) (new : List ℕ) : Type 0 where
-  pub result : record { number = number; replies = new; next = stateAt s' } ≡ burstCall setting (stateAt s) moments records old
+pub record Bursts (s : Arrays) (setting : ℕ) (moments records old : List ℕ) (number : ℕ) (s' : Arrays)
+    (new : List ℕ) : Type 0 where
+  pub result : record { number = number; replies = new; next = stateAt s' }
+      ≡ burstCall setting (stateAt s) moments records old
   pub counted : number ≡ 0 → s' .numbers ≡ numbersOf (burstCall setting (stateAt s) moments records old .next)
   -- beside any other number than 0 every number of the five arrays is as it was
   pub stays : (number ≡ 0 → ⊥) → s' ≡ s
-
--- ---- what private functions say
-
--- one reception: the bytes of the reply, and the next state
-pub record Answered (setting : ℕ) (v : View) (r : Reception) (reply : List ℕ) (next : View) : Type 0 where
-  pub replied : reply ≡ replyBytes (replyWith setting (step v r .answer) r)
-  pub stepped : next ≡ step v r .next
-
--- all of them: the second list, and the state
-pub record Delivered (setting : ℕ) (v : View) (rs : List Reception) (old new : List ℕ) (next : View) : Type 0 where
-  pub replied : new ≡ flatten (map replyBytes (repliesTo setting v rs)) ++ drop (replyLength * length rs) old
-  pub stepped : next ≡ afterAll v rs

@@ -6,8 +6,8 @@ use c_collector::NUMBERS;
 use c_layout::FRAME_LENGTH;
 use c_layout::WRONG_SIZE;
 use collector::Collector;
+use collector::Summary;
 use collector::merging;
-use collector::merging::Summary;
 use model::Answer;
 use refusal::Refusal;
 use telegram::repeater::MAX_SETTING;
@@ -22,13 +22,14 @@ ghost use Rattle.model.specs.Answer.{shownOf};
 ghost use Rattle.model.specs.Acceptable.{acceptable};
 ghost use Rattle.model.specs.Exact.{Fits};
 ghost use Rattle.model.specs.Burst.{maxBurst, callNumber};
-ghost use Rattle.collector.specs.Collector.{columns};
-ghost use Rattle.collector.specs.Admission.{viewIn, Tested};
+ghost use Rattle.collector.specs.Collector.{columns, viewIn};
+ghost use Rattle.collector.specs.Admission.{Tested};
 ghost use Rattle.burst.specs.Records.{sizeOf};
 ghost use Rattle.c_layout.specs.Frame.{frameLength};
 ghost use Rattle.c_collector.specs.State.{arrays, summaryIn, stateAt};
 ghost use Rattle.c_burst.specs.Bytes.{receptionIn, receptionsIn, replyLength, replyBytes, isSized};
-ghost use Rattle.c_burst.specs.Calls.{Bursts, Answered, Delivered};
+ghost use Rattle.c_burst.specs.Calls.{Bursts};
+ghost use Rattle.c_burst.specs.Private.{Answered, Delivered};
 
 // The kind and the number of an answer, and the frame of what is sent.
 const REPLY_LENGTH: usize = 2 + FRAME_LENGTH;
@@ -45,9 +46,13 @@ pub fn burst(
     records: &[u8],
     replies: &mut [u8],
 ) -> u8
-    ensures { λ r. ⌜ Bursts (arrays (now (times .entry)) (now (lengths .entry)) (now (bytes .entry)) (now (copies .entry)) (now (numbers .entry)))
+    ensures { λ r. ⌜ Bursts
+        (arrays (now (times .entry)) (now (lengths .entry)) (now (bytes .entry)) (now (copies .entry))
+        (now (numbers .entry)))
         setting (now (moments .entry)) (now (records .entry)) (now (replies .entry)) r
-        (arrays (now (times .exit)) (now (lengths .exit)) (now (bytes .exit)) (now (copies .exit)) (now (numbers .exit))) (now (replies .exit)) ⌝ }
+        (arrays (now (times .exit)) (now (lengths .exit)) (now (bytes .exit)) (now (copies .exit))
+        (now (numbers .exit)))
+        (now (replies .exit)) ⌝ }
 {
     let n = moments.len();
     let room = replies.len();
@@ -103,10 +108,11 @@ fn call_number(setting: u8, receptions: usize, places: usize) -> u8
     0
 }
 
-// What a state holds beside its columns, whose numbers have the bits of their types: it is known of a slice, and not of an array that is lent.
+// The summary of a state, whose numbers have the bits of their types: it is known of a slice, and not of an array that is lent.
 fn summary_of(copies: &[u16], numbers: &[u64; NUMBERS]) -> Summary
     ensures { λ r. ⌜ (r ≡ summaryIn (now (numbers .entry)))
-        × ((times lengths bytes : List ℕ) → Fits (stateAt (arrays times lengths bytes (now (copies .entry)) (now (numbers .entry))))) ⌝ }
+        × ((times lengths bytes : List ℕ)
+        → Fits (stateAt (arrays times lengths bytes (now (copies .entry)) (now (numbers .entry))))) ⌝ }
 {
     c_collector::summary_in(numbers)
 }
@@ -126,7 +132,8 @@ fn deliver(
     requires { ⌜ (length (now moments) ≤ maxBurst) × (length (now records) ≡ frameLength * length (now moments))
         × (replyLength * length (now moments) ≤ length (now replies))
         × Tested true (viewIn (columns (now times) (now lengths) (now bytes) (now copies)) summary) ⌝ }
-    ensures { λ r. ⌜ Delivered setting (viewIn (columns (now (times .entry)) (now (lengths .entry)) (now (bytes .entry)) (now (copies .entry))) summary)
+    ensures { λ r. ⌜ Delivered setting (viewIn
+        (columns (now (times .entry)) (now (lengths .entry)) (now (bytes .entry)) (now (copies .entry))) summary)
         (receptionsIn (now (moments .entry)) (now (records .entry))) (now (replies .entry)) (now (replies .exit))
         (viewIn (columns (now (times .exit)) (now (lengths .exit)) (now (bytes .exit)) (now (copies .exit))) r) ⌝ }
 {
@@ -161,7 +168,8 @@ fn take_frame<'a>(
 ) -> Summary
     requires { ⌜ (length (now frame) ≡ frameLength) × (length (now reply) ≡ replyLength)
         × (acceptable (viewIn (columns (now times) (now lengths) (now bytes) (now copies)) summary) ≡ true) ⌝ }
-    ensures { λ r. ⌜ Answered setting (viewIn (columns (now (times .entry)) (now (lengths .entry)) (now (bytes .entry)) (now (copies .entry))) summary)
+    ensures { λ r. ⌜ Answered setting (viewIn
+        (columns (now (times .entry)) (now (lengths .entry)) (now (bytes .entry)) (now (copies .entry))) summary)
         (receptionIn (now (frame .entry)) time) (now (reply .exit))
         (viewIn (columns (now (times .exit)) (now (lengths .exit)) (now (bytes .exit)) (now (copies .exit))) r) ⌝ }
 {
@@ -178,7 +186,8 @@ fn take_frame<'a>(
 // The kind and the number of an answer, and the frame of what is sent.
 fn put_reply(reply: &mut [u8], answer: Answer, len: usize, sent: &[u8; Collector::MAX_LEN])
     requires { ⌜ (length (now reply) ≡ replyLength) × (len ≤ maxLength) ⌝ }
-    ensures { λ _. ⌜ now (reply .exit) ≡ replyBytes (record { answer = shownOf answer; sent = record { len = len; bytes = now (sent .entry) } }) ⌝ }
+    ensures { λ _. ⌜ now (reply .exit)
+        ≡ replyBytes (record { answer = shownOf answer; sent = record { len = len; bytes = now (sent .entry) } }) ⌝ }
 {
     reply[0] = c_collector::kind_of(answer);
     reply[1] = c_collector::number_of(answer);

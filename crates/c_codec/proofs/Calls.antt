@@ -1,28 +1,25 @@
 -- The calls by what is tested: a slice of another size, and one of the right size; how long what is read and sent is.
-use mathlib.Core.Path.{_≡_, refl, sym, ap, _∙_}
-use mathlib.Core.Bool.{not, _&&_}
+use mathlib.Core.Path.{_≡_, refl}
 use mathlib.Core.List.{List, [], _∷_, _++_}
 use Prim.Native.Nat.{ℕ, _-_, _≤_, zero-le}
 use native.Mathlib.Omega.{arith}
-use lib.Dec.{eqb}
-use lib.ListN.{length, length-append, length-take, length-replicate}
-use borrow.Author.Tests.{eq-eqb, ne-eqb, eqb-true, eqb-false}
+use lib.ListN.{length}
+use borrow.Author.Tests.{eq-eqb, ne-eqb, eqb-true}
 use Rattle.lists.proofs.Tests.{branch}
-use Rattle.erp1.specs.Subtelegram.{minLength, maxLength, checkOf, isValid, isAddressed, isLengthWrong, bodyOf}
+use Rattle.erp1.specs.Subtelegram.{maxLength, checkOf, isValid, isAddressed}
 use Rattle.erp1.proofs.Checks.{check-facts}
-use Rattle.buffers.specs.Buffer.{resized, overwritten}
-use Rattle.buffers.proofs.Buffer.{resized-whole, overwritten-fits}
+use Rattle.buffers.specs.Buffer.{resized}
+use Rattle.buffers.proofs.Buffer.{resized-whole}
 use Rattle.telegram.specs.declared.fields.Telegram.{Telegram}
-use Rattle.telegram.specs.declared.frame.Frame.{Frame}
-use Rattle.telegram.specs.Output.{Result}
 use Rattle.telegram.specs.Frame.{frameOf}
-use Rattle.telegram.specs.Fields.{readOf, fieldsOf, noTelegram, addressedFields, plainFields, maxData, buildOf, Shaped}
-use Rattle.telegram.specs.Repeater.{RepeatResult, relayOf, repeatOf, repeats, levelOf, raisedOf, repeatResult}
+use Rattle.telegram.specs.Fields.{readOf, fieldsOf, maxData, buildOf, Shaped}
+use Rattle.telegram.specs.Repeater.{repeatOf, repeatResult}
 use Rattle.telegram.proofs.Frames.{frame-len}
 use Rattle.telegram.proofs.Laws.{repeat-sent}
-use Rattle.c_layout.specs.Frame.{wrongSize, frameLength, frameBytes, flagByte}
+use Rattle.telegram.proofs.Repeating.{relay-fits}
+use Rattle.c_layout.specs.Frame.{wrongSize, frameLength, flagByte}
 use Rattle.c_codec.specs.Fields.{fieldsLength, fieldsBytes, telegramIn}
-use Rattle.c_codec.specs.Calls.{Call, call, readCall, buildCall, repeatCall, sentBytes}
+use Rattle.c_codec.specs.Calls.{call, readCall, buildCall, repeatCall, sentBytes}
 
 -- ---- sizes
 
@@ -65,19 +62,10 @@ read-len s =
     branch (λ (t : Telegram). t .len ≤ maxData) (isAddressed s) (λ a. omega (arith, v .high)) (λ a. omega (arith, v .high)))
     (λ e. zero-le)
 
-raised-length : (s : List ℕ) → minLength ≤ length s → length s ≤ maxLength → length (raisedOf s) ≤ maxLength
-raised-length s low high = simp (length-append, length-take) (omega (arith, low, high))
-
-relay-length : (setting : ℕ) (s : List ℕ) → checkOf s ≡ 0 → length (relayOf setting s) ≤ maxLength
-unfolding relayOf
-relay-length setting s e =
-    let v = check-facts s e in
-    branch (λ (l : List ℕ). length l ≤ maxLength) (not (isLengthWrong s) && repeats setting (levelOf s)) (λ t. raised-length s (v .low) (v .high)) (λ t. zero-le)
-
 repeat-length : (setting : ℕ) (s : List ℕ) → length (repeatOf setting s) ≤ maxLength
 unfolding repeatOf
 repeat-length setting s =
-    branch (λ (l : List ℕ). length l ≤ maxLength) (isValid s) (λ e. relay-length setting s (eqb-true (checkOf s) 0 e)) (λ e. zero-le)
+    branch (λ (l : List ℕ). length l ≤ maxLength) (isValid s) (λ e. relay-fits setting s) (λ e. zero-le)
 
 -- what is sent is no longer than a subtelegram
 pub sent-len : (setting : ℕ) (s : List ℕ) → repeatResult setting s .sent .len ≤ maxLength

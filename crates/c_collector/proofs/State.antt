@@ -15,10 +15,10 @@ use Rattle.model.specs.Answer.{shownOf}
 use Rattle.model.specs.View.{Reception, View}
 use Rattle.model.specs.Acceptable.{acceptable}
 use Rattle.model.specs.Step.{Outcome, step}
-use Rattle.collector.specs.declared.merging.Summary.{Summary}
+use Rattle.collector.specs.declared.Summary.{Summary}
 use Rattle.collector.specs.declared.merging.Admitted.{Admitted}
-use Rattle.collector.specs.Collector.{Columns}
-use Rattle.collector.specs.Admission.{viewIn, admittedOf, admission, Admits}
+use Rattle.collector.specs.Collector.{Columns, viewIn}
+use Rattle.collector.specs.Admission.{admittedOf, admission, Admits}
 use Rattle.collector.proofs.Arrays.{entries-length}
 use Rattle.collector.proofs.Stepping.{admission-fit}
 use Rattle.c_collector.specs.State.{Arrays, arrays, columnsAt, summaryIn, stateAt, totalNumbers, numbersOf, numbersIn}

@@ -4,9 +4,8 @@ use mathlib.Core.List.{List, [], _∷_}
 use lib.ListN.{length, getD}
 use Rattle.model.specs.declared.Totals.{Totals}
 use Rattle.model.specs.View.{View}
-use Rattle.collector.specs.declared.merging.Summary.{Summary}
-use Rattle.collector.specs.Collector.{Columns, columns}
-use Rattle.collector.specs.Admission.{viewIn}
+use Rattle.collector.specs.declared.Summary.{Summary}
+use Rattle.collector.specs.Collector.{Columns, columns, viewIn}
 
 -- what a caller lends: of each open telegram when it was opened, its length, its 21 bytes and its number of copies; and eight numbers
 pub record Arrays : Type 0 where
@@ -17,7 +16,13 @@ pub record Arrays : Type 0 where
   pub numbers : List ℕ
 
 abbrev pub arrays : List ℕ → List ℕ → List ℕ → List ℕ → List ℕ → Arrays
-arrays times lengths bytes copies numbers = record { times = times; lengths = lengths; bytes = bytes; copies = copies; numbers = numbers }
+arrays times lengths bytes copies numbers = record {
+  times = times;
+  lengths = lengths;
+  bytes = bytes;
+  copies = copies;
+  numbers = numbers;
+}
 
 abbrev pub columnsAt : Arrays → Columns
 columnsAt s = columns (s .times) (s .lengths) (s .bytes) (s .copies)
@@ -48,6 +53,6 @@ totalNumbers n = n .received ∷ n .kept ∷ n .copies ∷ n .loose ∷ n .damag
 abbrev pub numbersOf : View → List ℕ
 numbersOf v = length (v .entries) ∷ v .latest ∷ totalNumbers (v .totals)
 
--- those of what a state holds beside its columns
+-- those of a summary
 abbrev pub numbersIn : Summary → List ℕ
 numbersIn s = s .count ∷ s .latest ∷ totalNumbers (s .totals)

@@ -1,8 +1,8 @@
 // The collector in five lent arrays, as other languages call it: the entries' four, and its eight numbers. It is changed where it lies.
 use collector::Collector;
+use collector::Summary;
 use collector::acceptable;
 use collector::merging;
-use collector::merging::Summary;
 use model::Answer;
 use model::Totals;
 use refusal::Refusal;
@@ -36,7 +36,9 @@ pub fn fresh(
     copies: &mut [u16; CAPACITY],
     numbers: &mut [u64; NUMBERS],
 )
-    ensures { λ _. ⌜ Fresh (arrays (now (times .exit)) (now (lengths .exit)) (now (bytes .exit)) (now (copies .exit)) (now (numbers .exit))) ⌝ }
+    ensures { λ _. ⌜ Fresh
+        (arrays (now (times .exit)) (now (lengths .exit)) (now (bytes .exit)) (now (copies .exit))
+        (now (numbers .exit))) ⌝ }
 {
     *times = [0u64; CAPACITY];
     *lengths = [0u8; CAPACITY];
@@ -55,9 +57,12 @@ pub fn take<'a>(
     received: &'a [u8],
     time: u64,
 ) -> u16
-    ensures { λ r. ⌜ Takes (arrays (now (times .entry)) (now (lengths .entry)) (now (bytes .entry)) (now (copies .entry)) (now (numbers .entry)))
+    ensures { λ r. ⌜ Takes
+        (arrays (now (times .entry)) (now (lengths .entry)) (now (bytes .entry)) (now (copies .entry))
+        (now (numbers .entry)))
         (record { bytes = now (received .entry); time = time }) r
-        (arrays (now (times .exit)) (now (lengths .exit)) (now (bytes .exit)) (now (copies .exit)) (now (numbers .exit))) ⌝ }
+        (arrays (now (times .exit)) (now (lengths .exit)) (now (bytes .exit)) (now (copies .exit))
+        (now (numbers .exit))) ⌝ }
 {
     let summary = summary_in(numbers);
     let fit = is_acceptable(times, lengths, bytes, numbers);
@@ -78,7 +83,9 @@ pub fn totals<'a>(
     totals: &'a mut [u64; TOTALS],
 ) -> u8
     ensures { λ r. ⌜ record { number = r; values = now (totals .exit) }
-        ≡ totalsCall (stateAt (arrays (now (times .entry)) (now (lengths .entry)) (now (bytes .entry)) (now (copies .entry)) (now (numbers .entry))))
+        ≡ totalsCall
+        (stateAt (arrays (now (times .entry)) (now (lengths .entry)) (now (bytes .entry)) (now (copies .entry))
+        (now (numbers .entry))))
         (now (totals .entry)) ⌝ }
 {
     if !is_acceptable(times, lengths, bytes, numbers) {
@@ -106,7 +113,10 @@ pub fn copies_of<'a>(
     heard: &'a mut u64,
 ) -> u8
     ensures { λ r. ⌜ record { number = r; copies = now (heard .exit) }
-        ≡ copiesOf (stateAt (arrays (now (times .entry)) (now (lengths .entry)) (now (bytes .entry)) (now (copies .entry)) (now (numbers .entry)))) entry ⌝ }
+        ≡ copiesOf
+        (stateAt (arrays (now (times .entry)) (now (lengths .entry)) (now (bytes .entry)) (now (copies .entry))
+        (now (numbers .entry))))
+        entry ⌝ }
 {
     *heard = 0;
     if !is_acceptable(times, lengths, bytes, numbers) {
@@ -126,12 +136,11 @@ pub fn is_acceptable<'a>(
     bytes: &'a [u8; BYTES],
     numbers: &'a [u64; NUMBERS],
 ) -> bool
-    ensures { λ r. ⌜ ((copies : List ℕ) → r
-        ≡ acceptable (stateAt (arrays (now (times .entry)) (now (lengths .entry)) (now (bytes .entry)) copies (now (numbers .entry))))) ⌝ }
+    ensures { λ r. ⌜ ((copies : List ℕ) → r ≡ acceptable
+        (stateAt (arrays (now (times .entry)) (now (lengths .entry)) (now (bytes .entry)) copies
+        (now (numbers .entry))))) ⌝ }
 {
-    let summary = summary_in(numbers);
-    let totals = summary.totals;
-    acceptable::is_acceptable(times, lengths, bytes, summary.count, summary.latest, totals)
+    acceptable::is_acceptable(times, lengths, bytes, summary_in(numbers))
 }
 
 // What eight numbers say. That there are eight is known of a slice, and not of an array that is lent.

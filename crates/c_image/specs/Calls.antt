@@ -3,8 +3,7 @@ use Prim.Native.Nat.{ℕ}
 use mathlib.Core.Path.{_≡_}
 use mathlib.Core.List.{List}
 use Rattle.model.specs.Image.{RestoreResult, parse, restoreOf}
-use Rattle.collector.specs.declared.Collector.{Collector}
-use Rattle.c_collector.specs.State.{Arrays, stateAt, numbersOf, numbersIn}
+use Rattle.c_collector.specs.State.{Arrays, stateAt, numbersOf}
 
 abbrev pub restoreResult : ℕ → Arrays → RestoreResult
 restoreResult number s = record { number = number; next = stateAt s }
@@ -15,13 +14,3 @@ pub record Restores (s : Arrays) (image : List ℕ) (number : ℕ) (s' : Arrays)
   pub counted : number ≡ 0 → s' .numbers ≡ numbersOf (parse image)
   -- beside a refusal every number of the five arrays is as it was
   pub stays : (number ≡ 0 → ⊥) → s' ≡ s
-
--- the arrays of a state (private functions say this)
-abbrev pub arraysOf : Collector → Arrays
-arraysOf c = record {
-  times = c .times;
-  lengths = c .lens;
-  bytes = c .bytes;
-  copies = c .copies;
-  numbers = numbersIn (record { count = c .count; latest = c .latest; totals = c .totals });
-}

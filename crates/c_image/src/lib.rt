@@ -3,7 +3,6 @@ use c_collector::BYTES;
 use c_collector::CAPACITY;
 use c_collector::NUMBERS;
 use collector::Collector;
-use collector::merging::Summary;
 use image::Loaded;
 use image::Saved;
 use refusal::Refusal;
@@ -11,7 +10,8 @@ ghost use mathlib.Core.Path.{_≡_};
 ghost use Rattle.model.specs.Image.{checkpointOf};
 ghost use Rattle.image.specs.Checkpoint.{savedNumber};
 ghost use Rattle.c_collector.specs.State.{arrays, stateAt};
-ghost use Rattle.c_image.specs.Calls.{Restores, arraysOf};
+ghost use Rattle.c_image.specs.Calls.{Restores};
+ghost use Rattle.c_image.specs.Private.{arraysOf};
 
 // The image of the state, into the first 2,560 bytes: 11, 6; what stands past them stays.
 pub fn checkpoint<'a>(
@@ -23,7 +23,10 @@ pub fn checkpoint<'a>(
     out: &'a mut [u8],
 ) -> u8
     ensures { λ r. ⌜ record { number = r; output = now (out .exit) }
-        ≡ checkpointOf (stateAt (arrays (now (times .entry)) (now (lengths .entry)) (now (bytes .entry)) (now (copies .entry)) (now (numbers .entry)))) (now (out .entry)) ⌝ }
+        ≡ checkpointOf
+        (stateAt (arrays (now (times .entry)) (now (lengths .entry)) (now (bytes .entry)) (now (copies .entry))
+        (now (numbers .entry))))
+        (now (out .entry)) ⌝ }
 {
     let summary = c_collector::summary_in(numbers);
     saved_number(image::checkpoint_at(times, lengths, bytes, copies, summary, out))
@@ -38,8 +41,12 @@ pub fn restore(
     numbers: &mut [u64; NUMBERS],
     image: &[u8],
 ) -> u8
-    ensures { λ r. ⌜ Restores (arrays (now (times .entry)) (now (lengths .entry)) (now (bytes .entry)) (now (copies .entry)) (now (numbers .entry))) (now (image .entry)) r
-        (arrays (now (times .exit)) (now (lengths .exit)) (now (bytes .exit)) (now (copies .exit)) (now (numbers .exit))) ⌝ }
+    ensures { λ r. ⌜ Restores
+        (arrays (now (times .entry)) (now (lengths .entry)) (now (bytes .entry)) (now (copies .entry))
+        (now (numbers .entry)))
+        (now (image .entry)) r
+        (arrays (now (times .exit)) (now (lengths .exit)) (now (bytes .exit)) (now (copies .exit))
+        (now (numbers .exit))) ⌝ }
 {
     if !c_collector::is_acceptable(times, lengths, bytes, numbers) {
         return refusal::number(Refusal::NotAccepted);
@@ -62,14 +69,10 @@ fn put_state(
     copies: &mut [u16; CAPACITY],
     numbers: &mut [u64; NUMBERS],
 )
-    ensures { λ _. ⌜ (arrays (now (times .exit)) (now (lengths .exit)) (now (bytes .exit)) (now (copies .exit)) (now (numbers .exit))) ≡ arraysOf c ⌝ }
+    ensures { λ _. ⌜ arrays (now (times .exit)) (now (lengths .exit)) (now (bytes .exit)) (now (copies .exit))
+        (now (numbers .exit)) ≡ arraysOf c ⌝ }
 {
-    let totals = c.totals;
-    let summary = Summary {
-        count: c.count,
-        latest: c.latest,
-        totals: totals,
-    };
+    let summary = c.summary;
     let opened = c.times;
     let lens = c.lens;
     let entries = c.bytes;

@@ -1,6 +1,6 @@
 -- Lines taken by a session: none, one from the start of the input, one more, and what is sent for one.
 use mathlib.Core.Path.{_≡_, refl, sym, ap, _∙_}
-use mathlib.Core.Bool.{Bool, true, false, cond, not, _&&_, _||_, false≢true}
+use mathlib.Core.Bool.{Bool, true, false, cond, false≢true}
 use mathlib.Core.List.{List, [], _∷_}
 use Prim.Native.Nat.{ℕ, _+_, _-_, _*_, _<_, _≤_}
 use native.Mathlib.Omega.{arith}
@@ -10,12 +10,9 @@ use lib.Seq.{length-sets, length-take-le, take-append-seam, take-append-le}
 use borrow.Author.Tests.{ltb-true, ltb-false}
 use Rattle.bytes.specs.Bytes.{indexOf, slice}
 use Rattle.lists.proofs.Tests.{by-test}
-use Rattle.erp1.specs.Subtelegram.{minLength, maxLength}
 use Rattle.telegram.specs.Frame.{frameOf}
 use Rattle.telegram.specs.Output.{Result, written}
-use Rattle.telegram.specs.Repeater.{levelOf, repeats, raisedOf, relayOf}
-use Rattle.telegram.proofs.Repeating.{raised-length}
-use Rattle.model.specs.Answer.{Shown, isKept}
+use Rattle.model.specs.Answer.{Shown}
 use Rattle.model.specs.View as view
 use Rattle.model.specs.View.{View}
 use Rattle.model.specs.Step.{Outcome, sentFor}
@@ -138,27 +135,7 @@ pub silent : (t : Bool) (out : List ℕ) (at : ℕ) → Printed out at (cond t [
 silent true out at = record { bytes = refl; next = omega arith; short = omega arith }
 silent false out at = record { bytes = refl; next = omega arith; short = omega arith }
 
--- what is sent has at most 21 bytes
-relay-short : (setting : ℕ) (s : List ℕ) → length (relayOf setting s) ≤ maxLength
-unfolding relayOf
-relay-short setting s = go (ltb (length s) minLength) (ltb maxLength (length s)) (repeats setting (levelOf s)) refl refl
-  where
-    go : (a b t : Bool) → ltb (length s) minLength ≡ a → ltb maxLength (length s) ≡ b → length (cond (not (a || b) && t) (raisedOf s) []) ≤ maxLength
-    go true b t e f = omega arith
-    go false true t e f = omega arith
-    go false false true e f =
-        omega (arith, raised-length s (omega (arith, ltb-false (length s) minLength e)), ltb-false maxLength (length s) f)
-    go false false false e f = omega arith
-
-pub relayed-short : (setting : ℕ) (a : Shown) (s : List ℕ) → length (relayedFor setting a s) ≤ maxLength
-unfolding relayedFor
-relayed-short setting a s = go (isKept a)
-  where
-    go : (b : Bool) → length (cond b (relayOf setting s) []) ≤ maxLength
-    go true = relay-short setting s
-    go false = omega arith
-
--- and stands at the front of the array
+-- what is sent stands at the front of the array
 pub sent-front : (xs out : List ℕ) {out' : List ℕ} {n : ℕ} → record { number = 0; len = n; output = out' } ≡ written xs out → (n ≡ length xs) × (take n out' ≡ xs)
 sent-front xs out e =
     let l = ap (λ (r : Result). r .len) e in

@@ -54,7 +54,8 @@ pastAfterLine past bad = past
 -- the rows of lines, one for each
 unfoldable pub rowsAfter : (setting : ℕ) → List Reception → List (List ℕ) → List (List ℕ)
 rowsAfter setting past [] = []
-rowsAfter setting past (l ∷ ls) = rowAfter setting past (lineReading l) ∷ rowsAfter setting (pastAfterLine past (lineReading l)) ls
+rowsAfter setting past (l ∷ ls) =
+    rowAfter setting past (lineReading l) ∷ rowsAfter setting (pastAfterLine past (lineReading l)) ls
 
 -- the receptions handed over after lines
 unfoldable pub pastAfterLines : List Reception → List (List ℕ) → List Reception

@@ -34,11 +34,15 @@ pub record Kept (n : ℕ) (buffer : List ℕ) : Type 0 where
 -- all whole lines of the input were taken from phase s on, if their text was written
 pub record Drained (s : Phase Receiver) (input : List ℕ) (r : Drain) : Type 0 where
   pub within : r .used ≤ length input
-  pub state : r .written ≡ true → feed (collect modelCollector) lineLimit (atLineStart s) (take (r .used) input) ≡ atLineStart (phaseOf (r .session))
+  pub state : r .written ≡ true
+      → feed (collect modelCollector) lineLimit (atLineStart s) (take (r .used) input)
+      ≡ atLineStart (phaseOf (r .session))
   pub rest : r .written ≡ true → isUnended (drop (r .used) input) ≡ true
 
 -- a chunk was taken from phase s on, if its text was written: the session and what is kept are where the run then stands
 pub record Chunked (s : Phase Receiver) (text buffer' : List ℕ) (r : Turn) : Type 0 where
   pub few : r .kept ≤ lineLimit
   pub line : isSound (r .next) ≡ true → isUnended (take (r .kept) buffer') ≡ true
-  pub position : isSound (r .next) ≡ true → feed (collect modelCollector) lineLimit (atLineStart s) text ≡ inLine (phaseOf (r .session)) (take (r .kept) buffer')
+  pub position : isSound (r .next) ≡ true
+      → feed (collect modelCollector) lineLimit (atLineStart s) text
+      ≡ inLine (phaseOf (r .session)) (take (r .kept) buffer')

@@ -32,11 +32,16 @@ modelCollector = record {
   fresh = λ setting. record { setting = setting; view = fresh };
   next = λ c time bytes. record { setting = c .setting; view = takenAt (c .view) time bytes .next };
   answer = λ c time bytes. rowOf (takenAt (c .view) time bytes .answer);
-  sent = λ c time bytes. sentBytes (sentFor (c .setting) (takenAt (c .view) time bytes .answer) (receptionAt time bytes));
+  sent = λ c time bytes.
+      sentBytes (sentFor (c .setting) (takenAt (c .view) time bytes .answer) (receptionAt time bytes));
   totals = λ c. totalsLine (c .view .totals);
 }
 
 -- ---- a session
+
+-- a run past its first line, at a setting
+abbrev pub runningAt : ℕ → View → Phase Receiver
+runningAt setting v = running (record { setting = setting; view = v })
 
 abbrev pub atStage : Stage → Receiver → Phase Receiver
 atStage Stage.Starting c = starting

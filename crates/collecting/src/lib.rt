@@ -2,9 +2,9 @@
 pub(crate) mod program;
 
 use collector::Collector;
+use collector::Summary;
 use collector::acceptable;
 use collector::merging;
-use collector::merging::Summary;
 use line_input::Setting;
 use line_output::Row;
 use model::Answer;
@@ -15,14 +15,14 @@ ghost use mathlib.Core.List.{List};
 ghost use Prim.Native.Nat.{ℕ, _+_, _≤_};
 ghost use lib.ListN.{length};
 ghost use Rattle.model.specs.Answer.{shownOf};
-ghost use Rattle.collector.specs.Collector.{columns, viewOf};
-ghost use Rattle.collector.specs.Admission.{relayedFor, viewIn, Tested};
+ghost use Rattle.collector.specs.Collector.{columns, viewIn, viewOf};
+ghost use Rattle.collector.specs.Admission.{relayedFor, Tested};
 ghost use Rattle.line_output.specs.Text.{rowBehind};
 ghost use Rattle.buffers.specs.Printed.{Printed, PrintedIfFits};
 ghost use Rattle.line_output.specs.Longest.{longestNumber};
-ghost use Rattle.streams.specs.Collect.{starting, running, over, afterFirst, firstText, endOf};
+ghost use Rattle.streams.specs.Collect.{starting, over, afterFirst, firstText, endOf};
 ghost use Rattle.collecting.specs.Printed.{rowOf};
-ghost use Rattle.collecting.specs.Session.{modelCollector, phaseOf, longestLine, longestEnd, RanTo, Ran};
+ghost use Rattle.collecting.specs.Session.{modelCollector, runningAt, phaseOf, longestLine, longestEnd, RanTo, Ran};
 
 // Where a run stands: before its first line, past a right one, or ended by a wrong one.
 pub enum Stage {
@@ -45,7 +45,7 @@ pub struct Progress {
     pub written: usize,
 }
 
-// What a run of later lines leaves: what the state holds beside its arrays, how many bytes of the input they are, and how many were written.
+// What a run of later lines leaves: the summary of the state, how many bytes of the input they are, and how many were written.
 struct Merged {
     pub summary: Summary,
     pub used: usize,
@@ -87,11 +87,12 @@ impl Session {
 
     // The end of the output: BAD where there was no line, the totals after a run, nothing after one that was ended.
     pub fn put_end(self, out: &mut [u8], at: usize) -> usize
-        ensures { λ r. ⌜ PrintedIfFits (now (out .entry)) at (longestEnd (phaseOf self)) (endOf modelCollector (phaseOf self)) (now (out .exit)) r ⌝ }
+        ensures { λ r. ⌜ PrintedIfFits (now (out .entry)) at (longestEnd (phaseOf self))
+            (endOf modelCollector (phaseOf self)) (now (out .exit)) r ⌝ }
     {
         let stage = self.stage;
         let c = self.collector;
-        let t = c.totals;
+        let t = c.summary.totals;
         match stage {
             Stage::Starting => line_output::put_bad(out, at),
             Stage::Running => line_output::put_totals(
@@ -180,14 +181,14 @@ fn put_first(out: &mut [u8], setting: Setting) -> usize
 
 // The test of the state is made once for all of them.
 fn later_lines(setting: u8, c: Collector, input: &[u8], out: &mut [u8]) -> Progress
-    ensures { λ r. ⌜ Ran (running (record { setting = setting; view = viewOf c })) (now (input .entry)) (now (out .entry)) (now (out .exit)) r ⌝ }
+    ensures { λ r. ⌜ Ran (runningAt setting (viewOf c)) (now (input .entry)) (now (out .entry)) (now (out .exit)) r ⌝ }
 {
     let mut times = c.times;
     let mut lens = c.lens;
     let mut entries = c.bytes;
     let mut copies = c.copies;
-    let fit = acceptable::is_acceptable(&times, &lens, &entries, c.count, c.latest, c.totals);
-    let summary = c.summary();
+    let summary = c.summary;
+    let fit = acceptable::is_acceptable(&times, &lens, &entries, summary);
     let done = merge_lines(
         fit,
         setting,
@@ -200,7 +201,13 @@ fn later_lines(setting: u8, c: Collector, input: &[u8], out: &mut [u8]) -> Progr
         out,
     );
     let next = done.summary;
-    let last = Collector::from_parts(times, lens, entries, copies, next);
+    let last = Collector {
+        times: times,
+        lens: lens,
+        bytes: entries,
+        copies: copies,
+        summary: next,
+    };
     Progress {
         session: Session {
             stage: Stage::Running,
@@ -226,9 +233,11 @@ fn merge_lines<'a>(
 ) -> Merged
     requires { ⌜ Tested fit (viewIn (columns (now times) (now lens) (now entries) (now copies)) summary) ⌝ }
     ensures { λ r. ⌜ RanTo
-        (running (record { setting = setting; view = viewIn (columns (now (times .entry)) (now (lens .entry)) (now (entries .entry)) (now (copies .entry))) summary }))
+        (runningAt setting (viewIn
+        (columns (now (times .entry)) (now (lens .entry)) (now (entries .entry)) (now (copies .entry))) summary))
         (now (input .entry)) (now (out .entry)) (now (out .exit))
-        (running (record { setting = setting; view = viewIn (columns (now (times .exit)) (now (lens .exit)) (now (entries .exit)) (now (copies .exit))) (r .summary) }))
+        (runningAt setting (viewIn
+        (columns (now (times .exit)) (now (lens .exit)) (now (entries .exit)) (now (copies .exit))) (r .summary)))
         (r .used) (r .written) ⌝ }
 {
     let mut summary = summary;
@@ -282,7 +291,9 @@ fn put_answer(
 ) -> usize
     requires { ⌜ (length (now time) ≤ longestNumber) × (at + longestLine ≤ length (now out)) ⌝ }
     ensures { λ r. ⌜ Printed (now (out .entry)) at
-        (rowBehind (now (time .entry)) (rowOf (shownOf answer)) (relayedFor setting (shownOf answer) (now (bytes .entry)))) longestLine (now (out .exit)) r ⌝ }
+        (rowBehind (now (time .entry)) (rowOf (shownOf answer))
+        (relayedFor setting (shownOf answer) (now (bytes .entry))))
+        longestLine (now (out .exit)) r ⌝ }
 {
     let mut sent = [0u8; Collector::MAX_LEN];
     let n = merging::relay_kept(setting, answer, bytes, &mut sent);

@@ -198,7 +198,9 @@ fn complain(message: &[u8]) {
 // Writes the end of the output: what is kept of a line counts as one more.
 fn finish(s: Session, kept: usize, buffer: &mut [u8], out: &mut [u8]) -> usize
     requires { ⌜ Kept kept (now buffer) × (longestFinish ≤ length (now out)) ⌝ }
-    ensures { λ r. ⌜ Printed (now (out .entry)) 0 (endText (collect modelCollector) (inLine (phaseOf s) (take kept (now (buffer .entry))))) longestFinish (now (out .exit)) r ⌝ }
+    ensures { λ r. ⌜ Printed (now (out .entry)) 0
+        (endText (collect modelCollector) (inLine (phaseOf s) (take kept (now (buffer .entry)))))
+        longestFinish (now (out .exit)) r ⌝ }
 {
     if kept == 0 {
         return s.put_end(out, 0);

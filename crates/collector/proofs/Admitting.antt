@@ -22,12 +22,12 @@ use Rattle.model.specs.View.{Reception, Entry, View, opened, capacity}
 use Rattle.model.specs.Acceptable.{isSummed}
 use Rattle.model.specs.Step.{Outcome, maxCount, tally, plusIf}
 use Rattle.model.proofs.Check.{Failed, length-wrong, sum-wrong, crc-wrong, nested, check-failed}
-use Rattle.collector.specs.declared.merging.Summary.{Summary}
+use Rattle.collector.specs.declared.Summary.{Summary}
 use Rattle.collector.specs.declared.merging.Admitted.{Admitted}
 use Rattle.collector.specs.declared.merging.Judged.{Judged}
 use Rattle.collector.specs.declared.merging.Decision.{Decision}
-use Rattle.collector.specs.Collector.{Columns, columns, entriesAt}
-use Rattle.collector.specs.Admission.{hasCopy, receptionCheck, answerFor, viewIn, admittedOf, isSafe, numberOn, latestAfter, leftAfter, answerOn, entriesWith, admitted, notAdmitted, admission, Admits}
+use Rattle.collector.specs.Collector.{Columns, columns, entriesAt, viewIn}
+use Rattle.collector.specs.Admission.{hasCopy, receptionCheck, answerFor, admittedOf, isSafe, numberOn, latestAfter, leftAfter, answerOn, entriesWith, admitted, notAdmitted, admission, Admits}
 use Rattle.collector.specs.Private.{JudgedBy, Expired, moved, Becomes, unchanged, changed, Whole, Decides}
 use Rattle.collector.proofs.Arrays.{entries-length, left-length, found-known}
 use Rattle.collector.proofs.Moving.{creditIf, addIf, changed-entries, expired-open}

@@ -37,10 +37,10 @@ every : {A B : Type 0} (p : B → Bool) (f : A → B) → ((x : A) → p (f x) �
 every p f h [] = refl
 every p f h (x ∷ l) = and-true (h x) (every p f h l)
 
-pub state-fits : (c : Collector) → c .latest < 2 ^ 64 → c .totals .received < 2 ^ 64 → ((i : ℕ) → getD (c .copies) i 0 < 2 ^ 16) → Fits (viewOf c)
+pub state-fits : (c : Collector) → c .summary .latest < 2 ^ 64 → c .summary .totals .received < 2 ^ 64 → ((i : ℕ) → getD (c .copies) i 0 < 2 ^ 16) → Fits (viewOf c)
 unfolding viewOf entriesAt
 state-fits c latest received copies = record {
   latest = latest;
   received = received;
-  copies = every (λ (e : Entry). leb (e .copies) ceiling) (entryAt (columnsOf c)) (λ i. le-leb (getD (c .copies) i 0) ceiling (omega (arith, copies i))) (upFrom 0 (c .count));
+  copies = every (λ (e : Entry). leb (e .copies) ceiling) (entryAt (columnsOf c)) (λ i. le-leb (getD (c .copies) i 0) ceiling (omega (arith, copies i))) (upFrom 0 (c .summary .count));
 }

@@ -22,19 +22,19 @@ module _ (c : Collector) (k : ℕ) where
   heard-unacceptable bad = rw bad
 
   module _ (ok : acceptable (viewOf c) ≡ true) where
-    pub heard-few : c .count ≤ capacity
+    pub heard-few : c .summary .count ≤ capacity
     unfolding viewOf
-    heard-few = omega (arith, accepted-few (viewOf c) ok, entries-length (columnsOf c) (c .count))
+    heard-few = omega (arith, accepted-few (viewOf c) ok, entries-length (columnsOf c) (c .summary .count))
 
-    pub heard-closed : c .count ≤ k → record { number = numberOf Argument; copies = 0 } ≡ copiesOf (viewOf c) k
+    pub heard-closed : c .summary .count ≤ k → record { number = numberOf Argument; copies = 0 } ≡ copiesOf (viewOf c) k
     unfolding copiesOf viewOf
-    heard-closed h = rw (ok, entries-length (columnsOf c) (c .count), le-leb (c .count) k h)
+    heard-closed h = rw (ok, entries-length (columnsOf c) (c .summary .count), le-leb (c .summary .count) k h)
 
-    counts : k < c .count → getD (copiesIn (entriesAt (columnsOf c) (c .count))) k 0 ≡ getD (c .copies) k 0
+    counts : k < c .summary .count → getD (copiesIn (entriesAt (columnsOf c) (c .summary .count))) k 0 ≡ getD (c .copies) k 0
     counts h =
-        getD-map (λ (e : Entry). e .copies) (entriesAt (columnsOf c) (c .count)) k noEntry 0 (rw entries-length h)
-        ∙ ap (λ (e : Entry). e .copies) (entry-get (columnsOf c) (c .count) k h)
+        getD-map (λ (e : Entry). e .copies) (entriesAt (columnsOf c) (c .summary .count)) k noEntry 0 (rw entries-length h)
+        ∙ ap (λ (e : Entry). e .copies) (entry-get (columnsOf c) (c .summary .count) k h)
 
-    pub heard-open : k < c .count → record { number = 0; copies = getD (c .copies) k 0 } ≡ copiesOf (viewOf c) k
+    pub heard-open : k < c .summary .count → record { number = 0; copies = getD (c .copies) k 0 } ≡ copiesOf (viewOf c) k
     unfolding copiesOf viewOf
-    heard-open h = rw (ok, entries-length (columnsOf c) (c .count), lt-leb (c .count) k h, counts h)
+    heard-open h = rw (ok, entries-length (columnsOf c) (c .summary .count), lt-leb (c .summary .count) k h, counts h)

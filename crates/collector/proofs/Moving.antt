@@ -29,26 +29,28 @@ use Rattle.collector.specs.Admission.{openFrom}
 use Rattle.collector.specs.Private.{lastCopy, Expired, moved, setIf, moreIf, putIf, changed, Whole}
 use Rattle.collector.proofs.Arrays.{noEntry, entries-length, entry-get, entries-more}
 
--- ---- the loop that moves, over an array of any numbers: the first i stand there, and the others are as they were
+-- ---- the loop that moves, over an array of any numbers: the first i of n stand there, and the others are as they were
 
-pub record Moving (from i : ℕ) (old xs : List ℕ) : Type 0 where
+pub record Moving (from n i : ℕ) (old xs : List ℕ) : Type 0 where
+  pub bounded : i ≤ n
   pub long : length xs ≡ length old
   pub passed : take i xs ≡ take i (drop from old)
   pub rest : drop i xs ≡ drop i old
 
-pub moving-none : (from : ℕ) (old : List ℕ) → Moving from 0 old old
-moving-none from old = record { long = refl; passed = refl; rest = refl }
+pub moving-none : (from n : ℕ) (old : List ℕ) → Moving from n 0 old old
+moving-none from n old = record { bounded = omega arith; long = refl; passed = refl; rest = refl }
 
-module _ (from i : ℕ) (old xs : List ℕ) (m : Moving from i old xs) (fits : from + i < length old) where
+module _ (from n i : ℕ) (old xs : List ℕ) (m : Moving from n i old xs) (below : i < n) (fits : from + i < length old) where
   unmoved : getD xs (from + i) 0 ≡ getD (drop from old) i 0
   unmoved =
       rw (getD-drop from old i 0, add-comm from i)
       (sym (getD-drop i xs from 0) ∙ ap (λ (l : List ℕ). getD l from 0) (m .rest) ∙ getD-drop i old from 0)
 
-  pub moving-more : Moving from (i + 1) old (set xs i (getD xs (from + i) 0))
+  pub moving-more : Moving from n (i + 1) old (set xs i (getD xs (from + i) 0))
   moving-more =
       let long = m .long in
       record {
+        bounded = omega arith;
         long = length-set xs i (getD xs (from + i) 0) ∙ m .long;
         passed =
             rw (add-one, take-suc-set xs i (getD xs (from + i) 0) (omega arith), m .passed, unmoved)
@@ -63,9 +65,11 @@ module _ (n : ℕ) (old : List ℕ) where
   unfolding moved
   moved-none e = rw e (sym (take-append-drop n old))
 
-  pub moved-all : (from : ℕ) (xs : List ℕ) {i : ℕ} → i ≡ n → Moving from i old xs → xs ≡ moved from n old
+  pub moved-all : (from : ℕ) (xs : List ℕ) {i : ℕ} → n ≤ i → Moving from n i old xs → xs ≡ moved from n old
   unfolding moved
-  moved-all from xs e m = sym (take-append-drop n xs) ∙ ap₂ _++_ (rw e at (m .passed)) (rw e at (m .rest))
+  moved-all from xs {i} h m =
+      let e : i ≡ n = omega (arith, m .bounded) in
+      sym (take-append-drop n xs) ∙ ap₂ _++_ (rw e at (m .passed)) (rw e at (m .rest))
 
 -- ---- what stands after a move
 

@@ -1,17 +1,19 @@
 -- What is sent for a reception that was admitted: one that is kept is valid, so that bytes which are not checked again give what the repeater step
 -- gives.
-use Prim.Native.Nat.{ℕ}
+use Prim.Native.Nat.{ℕ, _≤_}
+use native.Mathlib.Omega.{arith}
 use mathlib.Core.Path.{_≡_}
 use mathlib.Core.Bool.{Bool, true, false, cond, not, _&&_, false≢true}
 use mathlib.Core.List.{List}
 use lib.Dec.{leb}
+use lib.ListN.{length}
 use borrow.Author.Tests.{eqb-true}
 use Rattle.lists.proofs.Tests.{by-test}
-use Rattle.erp1.specs.Subtelegram.{isValid}
+use Rattle.erp1.specs.Subtelegram.{maxLength, isValid}
 use Rattle.telegram.specs.Frame.{frameOf}
 use Rattle.telegram.specs.Output.{written}
 use Rattle.telegram.specs.Repeater.{relayOf}
-use Rattle.telegram.proofs.Repeating.{repeat-valid}
+use Rattle.telegram.proofs.Repeating.{relay-fits, repeat-valid}
 use Rattle.model.specs.Answer.{Shown, isKept}
 use Rattle.model.specs.View.{Reception, View}
 use Rattle.refusal.specs.declared.Refusal.the-variants.{Full, NotAccepted}
@@ -29,6 +31,11 @@ module _ (setting : ℕ) (a : Shown) (bytes out : List ℕ) where
   pub relay-anything : isKept a ≡ true → written (relayOf setting bytes) out ≡ written (relayedFor setting a bytes) out
   unfolding relayedFor
   relay-anything e = rw e
+
+-- at most 21 bytes
+pub relayed-fits : (setting : ℕ) (a : Shown) (s : List ℕ) → length (relayedFor setting a s) ≤ maxLength
+unfolding relayedFor
+relayed-fits setting a s = by-test (isKept a) (λ e. rw e (relay-fits setting s)) (λ e. rw e (omega arith))
 
 -- ---- of a reception that was admitted
 

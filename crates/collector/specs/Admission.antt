@@ -19,9 +19,9 @@ use Rattle.model.specs.Step.{Outcome, maxCount, step, tally, credit}
 use Rattle.refusal.specs.declared.Refusal.{Refusal}
 use Rattle.refusal.specs.declared.Refusal.the-variants.{Full, NotAccepted}
 use Rattle.model.specs.Exact.{Fits}
-use Rattle.collector.specs.declared.merging.Summary.{Summary}
+use Rattle.collector.specs.declared.Summary.{Summary}
 use Rattle.collector.specs.declared.merging.Admitted.{Admitted}
-use Rattle.collector.specs.Collector.{Columns, viewAt}
+use Rattle.collector.specs.Collector.{Columns, viewIn}
 
 -- ---- one reception
 
@@ -44,23 +44,11 @@ answerFor number known crowded = cond (eqb number 0) (cond known Copy (cond crow
 unfoldable pub hasCopy : List Entry → Reception → Bool
 hasCopy l r = any (λ e. isCopyOf e r) l
 
--- ---- at a state in its parts
+-- ---- at columns and a summary
 
--- what the columns and the fields beside them say
-abbrev pub viewIn : Columns → Summary → View
-viewIn a s = viewAt a (s .count) (s .latest) (s .totals)
-
--- the state with these parts
+-- the state of these
 abbrev pub collectorOf : Columns → Summary → Collector
-collectorOf a s = record {
-  times = a .times;
-  lens = a .lens;
-  bytes = a .bytes;
-  copies = a .copies;
-  count = s .count;
-  latest = s .latest;
-  totals = s .totals;
-}
+collectorOf a s = record { times = a .times; lens = a .lens; bytes = a .bytes; copies = a .copies; summary = s }
 
 -- the answer and the next state
 abbrev pub admittedOf : Columns → Admitted → Outcome
@@ -121,7 +109,7 @@ admission fit v r =
     (cond (leb maxCount (v .totals .received)) (notAdmitted Full v)
     (admitted v r))
 
--- what `admit` makes of the columns and the fields beside them, told whether the state is acceptable
+-- what `admit` makes of columns and a summary, told whether the state is acceptable
 pub record Admits (fit : Bool) (a : Columns) (s : Summary) (r : Reception) (a' : Columns) (d : Admitted) : Type 0 where
   pub outcome : admittedOf a' d ≡ admission fit (viewIn a s) r
   -- at 8 and 11 every element is as it was

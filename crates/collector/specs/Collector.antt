@@ -5,9 +5,9 @@ use lib.ListN.{getD}
 use Rattle.lists.specs.Lists.{upFrom}
 use Rattle.erp1.specs.Subtelegram.{maxLength}
 use Rattle.buffers.specs.Buffer.{part, resized}
-use Rattle.model.specs.declared.Totals.{Totals}
 use Rattle.model.specs.View.{Entry, View, Reception}
 use Rattle.collector.specs.declared.Collector.{Collector}
+use Rattle.collector.specs.declared.Summary.{Summary}
 use mathlib.Core.Path.{_≡_}
 use mathlib.Core.Bool.{false}
 use Rattle.model.specs.Answer.{isReceived, shownOf}
@@ -37,16 +37,16 @@ entryAt a i = record {
 unfoldable pub entriesAt : Columns → ℕ → List Entry
 entriesAt a count = map (entryAt a) (upFrom 0 count)
 
--- what the fields of a state say, one by one
-abbrev pub viewAt : Columns → ℕ → ℕ → Totals → View
-viewAt a count latest totals = record { latest = latest; totals = totals; entries = entriesAt a count }
+-- what columns and a summary say: the entries that it counts, with its clock and totals
+abbrev pub viewIn : Columns → Summary → View
+viewIn a s = record { latest = s .latest; totals = s .totals; entries = entriesAt a (s .count) }
 
 -- those of a state
 abbrev pub columnsOf : Collector → Columns
 columnsOf c = columns (c .times) (c .lens) (c .bytes) (c .copies)
 
 unfoldable pub viewOf : Collector → View
-viewOf c = viewAt (columnsOf c) (c .count) (c .latest) (c .totals)
+viewOf c = viewIn (columnsOf c) (c .summary)
 
 -- the answer of each call, and what the next state says
 abbrev pub outcomeOf : Taken → Outcome

@@ -17,7 +17,7 @@ use Rattle.model.specs.Step.{maxCount}
 use Rattle.collector.specs.declared.merging.Judged.{Judged}
 use Rattle.refusal.specs.declared.Refusal.{Refusal}
 use Rattle.model.specs.declared.Answer.the-variants as answer
-use Rattle.collector.specs.declared.merging.Summary.{Summary}
+use Rattle.collector.specs.declared.Summary.{Summary}
 use Rattle.collector.specs.declared.merging.Decision.{Decision}
 use Rattle.collector.specs.Collector.{Columns, entryAt, entriesAt}
 use Rattle.collector.specs.Admission.{answerFor, hasCopy, Admits}
@@ -26,7 +26,9 @@ use Rattle.collector.specs.Admission.{answerFor, hasCopy, Admits}
 
 -- "in order of time (equal times allowed), open at the latest time, none later than it"
 unfoldable pub areTimely : ℕ → List Entry → Bool
-areTimely latest l = all (λ e. leb (e .time) latest && isOpen latest e) l && pairwise (λ e later. leb (e .time) (later .time)) l
+areTimely latest l =
+    all (λ e. leb (e .time) latest && isOpen latest e) l
+    && pairwise (λ e later. leb (e .time) (later .time)) l
 
 -- "valid", "no two the same telegram"
 unfoldable pub areTelegrams : List Entry → Bool
@@ -103,14 +105,23 @@ pub record Becomes (n : ℕ) (old new said : List ℕ) : Type 0 where
 
 -- nothing is changed
 abbrev pub unchanged : Summary → Refusal → Decision
-unchanged s why = record { gone = 0; left = 0; heard = false; entry = 0; kept = false; summary = s; answer = answer.Refused why }
+unchanged s why = record {
+  gone = 0;
+  left = 0;
+  heard = false;
+  entry = 0;
+  kept = false;
+  summary = s;
+  answer = answer.Refused why;
+}
 
 -- the columns, changed one by one as it was decided
 abbrev pub changed : Decision → Reception → Columns → Columns
 changed d r a = record {
   times = setIf (d .kept) (d .left) (r .time) (moved (d .gone) (d .left) (a .times));
   lens = setIf (d .kept) (d .left) (length (r .bytes)) (moved (d .gone) (d .left) (a .lens));
-  bytes = putIf (d .kept) (maxLength * d .left) (r .bytes) (moved (maxLength * d .gone) (maxLength * d .left) (a .bytes));
+  bytes = putIf (d .kept) (maxLength * d .left) (r .bytes)
+      (moved (maxLength * d .gone) (maxLength * d .left) (a .bytes));
   copies = setIf (d .kept) (d .left) 0 (moreIf (d .heard) (d .entry) (moved (d .gone) (d .left) (a .copies)));
 }
 

@@ -1,5 +1,6 @@
 // The test of a state: whether an image that restore accepts could be written of it (document 01, "Parked collector"; else 11).
 use crate::Collector;
+use crate::Summary;
 use crate::entries;
 use erp1::Checked;
 use model::Totals;
@@ -10,28 +11,28 @@ ghost use lib.ListN.{length, getD};
 ghost use Rattle.erp1.specs.Subtelegram.{minLength, maxLength};
 ghost use Rattle.model.specs.View.{capacity};
 ghost use Rattle.model.specs.Acceptable.{isSummed, acceptable};
-ghost use Rattle.collector.specs.Collector.{Columns, columns, entriesAt, viewAt};
+ghost use Rattle.collector.specs.Collector.{Columns, columns, entriesAt, viewIn};
 ghost use Rattle.collector.specs.Private.{areTimely, areTelegrams, isRepeatedAt, shownAt, marks, markOf, MarkedAs, Repeated};
 
 // The size of the table of marks.
 const MARKS: usize = 1024;
 
-// Whether the state with these parts is acceptable, whatever they and its numbers of copies are.
+// Whether the state of these arrays and this summary is acceptable, whatever they and its numbers of copies are.
 pub fn is_acceptable<'a>(
     times: &'a [u64; Collector::CAPACITY],
     lens: &'a [u8; Collector::CAPACITY],
     bytes: &'a [u8; Collector::CAPACITY * Collector::MAX_LEN],
-    count: usize,
-    latest: u64,
-    totals: Totals,
+    summary: Summary,
 ) -> bool
-    ensures { λ r. ⌜ ((copies : List ℕ) → r
-        ≡ acceptable (viewAt (columns (now (times .entry)) (now (lens .entry)) (now (bytes .entry)) copies) count latest totals)) ⌝ }
+    ensures { λ r. ⌜ ((copies : List ℕ) → r ≡ acceptable
+        (viewIn (columns (now (times .entry)) (now (lens .entry)) (now (bytes .entry)) copies) summary)) ⌝ }
 {
+    let count = summary.count;
+    let totals = summary.totals;
     if Collector::CAPACITY < count {
         return false;
     }
-    if !are_timely(times, count, latest) {
+    if !are_timely(times, count, summary.latest) {
         return false;
     }
     if !are_telegrams(times, lens, bytes, count) {
@@ -68,8 +69,8 @@ fn are_telegrams<'a>(
     count: usize,
 ) -> bool
     requires { ⌜ count ≤ capacity ⌝ }
-    ensures { λ r. ⌜ ((copies : List ℕ) → r
-        ≡ areTelegrams (entriesAt (columns (now (times .entry)) (now (lens .entry)) (now (bytes .entry)) copies) count)) ⌝ }
+    ensures { λ r. ⌜ ((copies : List ℕ) → r ≡ areTelegrams
+        (entriesAt (columns (now (times .entry)) (now (lens .entry)) (now (bytes .entry)) copies) count)) ⌝ }
 {
     let mut seen = no_marks();
     for i in 0..count {

@@ -27,7 +27,8 @@ pub(crate) fn find<'a>(
     received: &'a [u8],
     time: u64,
 ) -> usize
-    requires { ⌜ (gone ≤ count) × (count ≤ capacity) × (minLength ≤ length (now received)) × (length (now received) ≤ maxLength) ⌝ }
+    requires { ⌜ (gone ≤ count) × (count ≤ capacity)
+        × (minLength ≤ length (now received)) × (length (now received) ≤ maxLength) ⌝ }
     ensures { λ r. ⌜ ((copies : List ℕ) → r ≡ lastCopy
         (drop gone (entriesAt (columns (now (times .entry)) (now (lens .entry)) (now (bytes .entry)) copies) count))
         (record { bytes = now (received .entry); time = time })) ⌝ }
@@ -117,7 +118,8 @@ pub(crate) fn change_times(
     time: u64,
 )
     requires { ⌜ (gone + left ≤ capacity) × (kept ≡ true → left < capacity) ⌝ }
-    ensures { λ _. ⌜ Becomes capacity (now (times .entry)) (now (times .exit)) (setIf kept left time (moved gone left (now (times .entry)))) ⌝ }
+    ensures { λ _. ⌜ Becomes capacity (now (times .entry)) (now (times .exit))
+        (setIf kept left time (moved gone left (now (times .entry)))) ⌝ }
 {
     move_times(times, gone, left);
     if !kept {
@@ -153,7 +155,8 @@ pub(crate) fn change_bytes(
 )
     requires { ⌜ (gone + left ≤ capacity) × (kept ≡ true → (left < capacity) × (length (now received) ≤ maxLength)) ⌝ }
     ensures { λ _. ⌜ Becomes (maxLength * capacity) (now (bytes .entry)) (now (bytes .exit))
-        (putIf kept (maxLength * left) (now (received .entry)) (moved (maxLength * gone) (maxLength * left) (now (bytes .entry)))) ⌝ }
+        (putIf kept (maxLength * left) (now (received .entry))
+        (moved (maxLength * gone) (maxLength * left) (now (bytes .entry)))) ⌝ }
 {
     let from = Collector::MAX_LEN * gone;
     let end = Collector::MAX_LEN * left;

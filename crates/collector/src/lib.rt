@@ -5,7 +5,6 @@ pub(crate) mod entries;
 pub mod merging;
 
 use acceptable::is_acceptable;
-use merging::Summary;
 use model::Answer;
 use model::Totals;
 use refusal::Refusal;
@@ -13,17 +12,21 @@ ghost use mathlib.Core.Path.{_≡_};
 ghost use Rattle.model.specs.View as model;
 ghost use Rattle.model.specs.Heard.{copiesOf};
 ghost use Rattle.refusal.specs.Number.{numberOf};
-ghost use Rattle.collector.specs.Collector.{columns, viewOf, Takes};
-ghost use Rattle.collector.specs.Admission.{collectorOf};
+ghost use Rattle.collector.specs.Collector.{viewOf, Takes};
 ghost use Rattle.collector.specs.Heard.{heardOf};
 
-// The state, in flat arrays. Entry i of the first `count`, in opening order, has times[i], lens[i], copies[i] and the 21 bytes from 21 i, of
+// The state, in flat arrays. Entry i of the first `summary.count`, in opening order, has times[i], lens[i], copies[i] and the 21 bytes from 21 i, of
 // which lens[i] are those first received; what stands past these is left to the program.
 pub struct Collector {
     pub times: [u64; Collector::CAPACITY],
     pub lens: [u8; Collector::CAPACITY],
     pub bytes: [u8; Collector::CAPACITY * Collector::MAX_LEN],
     pub copies: [u16; Collector::CAPACITY],
+    pub summary: Summary,
+}
+
+// The counters and the clock of a state: how many telegrams are open, the latest time, and the totals.
+pub struct Summary {
     pub count: usize,
     pub latest: u64,
     pub totals: Totals,
@@ -68,15 +71,17 @@ impl Collector {
             lens: [0u8; Collector::CAPACITY],
             bytes: [0u8; Collector::CAPACITY * Collector::MAX_LEN],
             copies: [0u16; Collector::CAPACITY],
-            count: 0,
-            latest: 0,
-            totals: Totals {
-                received: 0,
-                kept: 0,
-                copies: 0,
-                loose: 0,
-                damaged: 0,
-                late: 0,
+            summary: Summary {
+                count: 0,
+                latest: 0,
+                totals: Totals {
+                    received: 0,
+                    kept: 0,
+                    copies: 0,
+                    loose: 0,
+                    damaged: 0,
+                    late: 0,
+                },
             },
         }
     }
@@ -87,15 +92,8 @@ impl Collector {
     pub fn take(mut self, bytes: &[u8], time: u64) -> Taken
         ensures { λ r. ⌜ Takes self (record { bytes = now (bytes .entry); time = time }) r ⌝ }
     {
-        let count = self.count;
-        let latest = self.latest;
-        let totals = self.totals;
-        let fit = is_acceptable(&self.times, &self.lens, &self.bytes, count, latest, totals);
-        let old = Summary {
-            count: count,
-            latest: latest,
-            totals: totals,
-        };
+        let old = self.summary;
+        let fit = is_acceptable(&self.times, &self.lens, &self.bytes, old);
         let decided = merging::decide(fit, &self.times, &self.lens, &self.bytes, old, bytes, time);
         let gone = decided.gone;
         let left = decided.left;
@@ -112,11 +110,8 @@ impl Collector {
             kept,
         );
         let next = decided.summary;
-        let counted = next.totals;
         let answer = decided.answer;
-        self.count = next.count;
-        self.latest = next.latest;
-        self.totals = counted;
+        self.summary = next;
         Taken {
             next: self,
             answer: answer,
@@ -128,58 +123,16 @@ impl Collector {
     pub fn copies(self, entry: usize) -> Heard
         ensures { λ r. ⌜ heardOf r ≡ copiesOf (viewOf self) entry ⌝ }
     {
-        let count = self.count;
-        let totals = self.totals;
-        if !is_acceptable(
-            &self.times,
-            &self.lens,
-            &self.bytes,
-            count,
-            self.latest,
-            totals,
-        ) {
+        let summary = self.summary;
+        if !is_acceptable(&self.times, &self.lens, &self.bytes, summary) {
             return not_heard(Refusal::NotAccepted);
         }
-        if count <= entry {
+        if summary.count <= entry {
             return not_heard(Refusal::Argument);
         }
         Heard {
             answer: Asked::Done,
             copies: self.copies[entry],
-        }
-    }
-
-    // The state with these parts: the entries' arrays, and what it holds beside them.
-    pub fn from_parts(
-        times: [u64; Collector::CAPACITY],
-        lens: [u8; Collector::CAPACITY],
-        bytes: [u8; Collector::CAPACITY * Collector::MAX_LEN],
-        copies: [u16; Collector::CAPACITY],
-        summary: Summary,
-    ) -> Collector
-        ensures { λ r. ⌜ r ≡ collectorOf (columns times lens bytes copies) summary ⌝ }
-    {
-        let totals = summary.totals;
-        Collector {
-            times: times,
-            lens: lens,
-            bytes: bytes,
-            copies: copies,
-            count: summary.count,
-            latest: summary.latest,
-            totals: totals,
-        }
-    }
-
-    // What the state holds beside its entries' arrays.
-    pub fn summary(self) -> Summary
-        ensures { λ r. ⌜ r ≡ record { count = self .count; latest = self .latest; totals = self .totals } ⌝ }
-    {
-        let totals = self.totals;
-        Summary {
-            count: self.count,
-            latest: self.latest,
-            totals: totals,
         }
     }
 }

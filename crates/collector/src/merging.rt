@@ -1,5 +1,6 @@
 // One reception (document 01, "Merging"): its classification, and what is counted; what is sent for one that is kept.
 use crate::Collector;
+use crate::Summary;
 use crate::acceptable;
 use crate::entries;
 use erp1::Checked;
@@ -22,14 +23,7 @@ ghost use Rattle.collector.specs.Collector.{columns, entriesAt};
 ghost use Rattle.collector.specs.Admission.{relayedFor, receptionCheck, Admits};
 ghost use Rattle.collector.specs.Private.{JudgedBy, Countable, Decides, unchanged};
 
-// What a state holds beside its entries' arrays.
-pub struct Summary {
-    pub count: usize,
-    pub latest: u64,
-    pub totals: Totals,
-}
-
-// The same after a reception, and the answer.
+// The summary after a reception, and the answer.
 pub struct Admitted {
     pub summary: Summary,
     pub answer: Answer,
@@ -48,7 +42,8 @@ pub fn admit<'a>(
     received: &'a [u8],
     time: u64,
 ) -> Admitted
-    ensures { λ r. ⌜ Admits fit (columns (now (times .entry)) (now (lens .entry)) (now (bytes .entry)) (now (copies .entry))) summary
+    ensures { λ r. ⌜ Admits fit
+        (columns (now (times .entry)) (now (lens .entry)) (now (bytes .entry)) (now (copies .entry))) summary
         (record { bytes = now (received .entry); time = time })
         (columns (now (times .exit)) (now (lens .exit)) (now (bytes .exit)) (now (copies .exit))) r ⌝ }
 {
@@ -97,7 +92,8 @@ pub(crate) fn decide<'a>(
     received: &'a [u8],
     time: u64,
 ) -> Decision
-    ensures { λ r. ⌜ ((copies : List ℕ) → Decides fit (columns (now (times .entry)) (now (lens .entry)) (now (bytes .entry)) copies) summary
+    ensures { λ r. ⌜ ((copies : List ℕ) → Decides fit
+        (columns (now (times .entry)) (now (lens .entry)) (now (bytes .entry)) copies) summary
         (record { bytes = now (received .entry); time = time }) r) ⌝ }
 {
     let count = summary.count;

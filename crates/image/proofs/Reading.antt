@@ -84,6 +84,7 @@ module _ (image : List ℕ) where
 
 -- of the first `count` entries i are read, into columns that were a₀
 pub record Reading (image : List ℕ) (count : ℕ) (a₀ : Columns) (i : ℕ) (a : Columns) : Type 0 where
+  pub bounded : i ≤ count
   pub times : Begun (a₀ .times) (take i (times-of image count)) i (a .times)
   pub lens : Begun (a₀ .lens) (take i (lens-of image count)) i (a .lens)
   pub bytes : Begun (a₀ .bytes) (flatten (take i (fields-of image count))) (maxLength * i) (a .bytes)
@@ -98,7 +99,13 @@ module _ (image : List ℕ) (count : ℕ) (long : length image ≡ imageLength) 
   module _ (a₀ : Columns) where
     pub reading-none : Reading image count a₀ 0 a₀
     unfolding flatten
-    reading-none = record { times = begin (a₀ .times); lens = begin (a₀ .lens); bytes = begin (a₀ .bytes); copies = begin (a₀ .copies) }
+    reading-none = record {
+      bounded = omega arith;
+      times = begin (a₀ .times);
+      lens = begin (a₀ .lens);
+      bytes = begin (a₀ .bytes);
+      copies = begin (a₀ .copies);
+    }
 
     module _ (i : ℕ) (a : Columns) (r : Reading image count a₀ i a) where
       -- what is read of the cell, and what is kept, the part's length
@@ -118,6 +125,7 @@ module _ (image : List ℕ) (count : ℕ) (long : length image ≡ imageLength) 
           let size = lent (r .bytes) maxLength (maxLength * i + maxLength) refl (omega arith) in
           let whole : ys ≡ field = s ∙ ap (λ (m : ℕ). resized m field) size ∙ resized-whole maxLength field (field-long i (omega arith)) in
           record {
+            bounded = omega arith;
             times = stored (a₀ .times) (times-of image count) i (a .times) t 0 (r .times) (rw row-length h) (omega arith) (p ∙ sym (row-at (time-of image) count i 0 h));
             lens = stored (a₀ .lens) (lens-of image count) i (a .lens) n 0 (r .lens) (rw row-length h) (omega arith) (q ∙ sym (row-at (len-of image) count i 0 h));
             copies = stored (a₀ .copies) (counts-of image count) i (a .copies) m 0 (r .copies) (rw row-length h) (omega arith) (u ∙ sym (row-at (count-of image) count i 0 h));
@@ -159,5 +167,7 @@ module _ (image : List ℕ) (count : ℕ) (long : length image ≡ imageLength) 
           let l : i < count = rw (row-length f count) at h in
           row-at f count i noEntry l ∙ entry-at i l ∙ sym (row-at (entryIn image) count i noEntry l))
 
-    pub reading-all : (i : ℕ) (a : Columns) → Reading image count a₀ i a → i ≡ count → entriesAt a count ≡ entriesIn image count
-    reading-all i a r e = entries-read a (rw e at r)
+    pub reading-all : (i : ℕ) (a : Columns) → Reading image count a₀ i a → count ≤ i → entriesAt a count ≡ entriesIn image count
+    reading-all i a r h =
+        let e : i ≡ count = omega (arith, r .bounded) in
+        entries-read a (rw e at r)

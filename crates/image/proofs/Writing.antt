@@ -25,13 +25,13 @@ use Rattle.model.specs.Header.{headerOf}
 use Rattle.layout.specs.Block.{cellsPerBlock, blockOf}
 use Rattle.buffers.proofs.Segments.{part-at}
 use Rattle.buffers.proofs.Buffer.{resized-length}
-use Rattle.model.specs.declared.Totals.{Totals}
 use Rattle.model.specs.View.{Entry, capacity}
 use Rattle.model.specs.Acceptable.{isEntry, acceptable}
 use Rattle.model.specs.Image.{entryCell, blockAt}
 use Rattle.model.proofs.Check.{valid-length}
 use Rattle.model.proofs.Invariant.{entry-valid}
-use Rattle.collector.specs.Collector.{Columns, entryAt, entriesAt, viewAt}
+use Rattle.collector.specs.declared.Summary.{Summary}
+use Rattle.collector.specs.Collector.{Columns, entryAt, entriesAt, viewIn}
 use Rattle.image.specs.Private.{blockCount, entriesFrom, blockWith, Writable}
 use Rattle.collector.proofs.Arrays as arrays
 use Rattle.collector.proofs.Arrays.{noEntry, entry-get}
@@ -71,26 +71,26 @@ writable-part lens k count h w = record {
 }
 
 -- an acceptable state can be written
-module _ (a : Columns) (count latest : ℕ) (totals : Totals) (ok : acceptable (viewAt a count latest totals) ≡ true) where
+module _ (a : Columns) (s : Summary) (ok : acceptable (viewIn a s) ≡ true) where
   abbrev held : List Entry
-  held = entriesAt a count
+  held = entriesAt a (s .count)
 
-  held-length : length held ≡ count
-  held-length = arrays.entries-length a count
+  held-length : length held ≡ s .count
+  held-length = arrays.entries-length a (s .count)
 
   -- the tests of its entries
-  few-each : (length held ≤ capacity) × (all (isEntry latest) held ≡ true)
+  few-each : (length held ≤ capacity) × (all (isEntry (s .latest)) held ≡ true)
   unfolding acceptable
   few-each =
       let b = both (leb (length held) capacity) _ ok in
-      (leb-true (length held) capacity (b .0), both (all (isEntry latest) held) _ (b .1) .0)
+      (leb-true (length held) capacity (b .0), both (all (isEntry (s .latest)) held) _ (b .1) .0)
 
-  short : (i : ℕ) → i < count → getD (a .lens) i 0 ≤ maxLength
+  short : (i : ℕ) → i < s .count → getD (a .lens) i 0 ≤ maxLength
   short i h =
-      let valid = entry-valid latest (getD held i noEntry) (all-getD (isEntry latest) held i noEntry (few-each .1) (omega (arith, held-length))) in
-      rw (entry-get a count i h, resized-length (getD (a .lens) i 0) (part (maxLength * i) maxLength (a .bytes))) at (valid-length (getD held i noEntry .bytes) valid)
+      let valid = entry-valid (s .latest) (getD held i noEntry) (all-getD (isEntry (s .latest)) held i noEntry (few-each .1) (omega (arith, held-length))) in
+      rw (entry-get a (s .count) i h, resized-length (getD (a .lens) i 0) (part (maxLength * i) maxLength (a .bytes))) at (valid-length (getD held i noEntry .bytes) valid)
 
-  pub writable-state : Writable (a .lens) 0 count
+  pub writable-state : Writable (a .lens) 0 (s .count)
   writable-state = record {
     bound = omega (arith, held-length, few-each .0);
     short = λ i h. rw zero-add (short i h);

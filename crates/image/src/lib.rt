@@ -1,7 +1,7 @@
 // The checkpoint of a collector and its restore (document 01, "Parked collector").
 use collector::Collector;
+use collector::Summary;
 use collector::acceptable;
-use collector::merging::Summary;
 use layout::BLOCK_LENGTH;
 use layout::CELL_LENGTH;
 use layout::CELLS_PER_BLOCK;
@@ -23,8 +23,7 @@ ghost use Rattle.model.specs.View.{capacity};
 ghost use Rattle.model.specs.Header.{headerOf};
 ghost use Rattle.model.specs.Image as model;
 ghost use Rattle.model.specs.Image.{imageLength, entryCell, imageWith, blockIn, usedIn, firstIn, secondIn, countIn, totalsIn, checkpointOf};
-ghost use Rattle.collector.specs.Collector.{columns, entriesAt, viewAt, viewOf};
-ghost use Rattle.collector.specs.Admission.{viewIn};
+ghost use Rattle.collector.specs.Collector.{columns, entriesAt, viewIn, viewOf};
 ghost use Rattle.image.specs.Checkpoint.{checkpointResult, loadedNumber, Restores};
 ghost use Rattle.image.specs.Private.{blockCount, cellsLength, entriesFrom, blockWith, Writable, isImageOf, isReadable, cellIn, entriesIn};
 
@@ -61,16 +60,10 @@ pub struct Restored {
 pub fn checkpoint(c: Collector, out: &mut [u8]) -> Saved
     ensures { λ r. ⌜ checkpointResult r (now (out .exit)) ≡ checkpointOf (viewOf c) (now (out .entry)) ⌝ }
 {
-    let totals = c.totals;
-    let summary = Summary {
-        count: c.count,
-        latest: c.latest,
-        totals: totals,
-    };
-    checkpoint_at(&c.times, &c.lens, &c.bytes, &c.copies, summary, out)
+    checkpoint_at(&c.times, &c.lens, &c.bytes, &c.copies, c.summary, out)
 }
 
-// The same of a state that is lent: its entries' arrays, and what it holds beside them.
+// The same of a state that is lent: its entries' arrays, and its summary.
 pub fn checkpoint_at<'a>(
     times: &'a [u64; Collector::CAPACITY],
     lens: &'a [u8; Collector::CAPACITY],
@@ -80,28 +73,17 @@ pub fn checkpoint_at<'a>(
     out: &'a mut [u8],
 ) -> Saved
     ensures { λ r. ⌜ checkpointResult r (now (out .exit))
-        ≡ checkpointOf (viewIn (columns (now (times .entry)) (now (lens .entry)) (now (bytes .entry)) (now (copies .entry))) summary) (now (out .entry)) ⌝ }
+        ≡ checkpointOf
+        (viewIn (columns (now (times .entry)) (now (lens .entry)) (now (bytes .entry)) (now (copies .entry))) summary)
+        (now (out .entry)) ⌝ }
 {
-    let count = summary.count;
-    let latest = summary.latest;
-    let totals = summary.totals;
-    if !acceptable::is_acceptable(times, lens, bytes, count, latest, totals) {
+    if !acceptable::is_acceptable(times, lens, bytes, summary) {
         return Saved::Refused(Refusal::NotAccepted);
     }
     if out.len() < IMAGE_LENGTH {
         return Saved::Refused(Refusal::ShortOutput);
     }
-    put_image(
-        out,
-        times,
-        lens,
-        bytes,
-        copies,
-        count,
-        latest,
-        NO_SETTING,
-        totals,
-    );
+    put_image(out, times, lens, bytes, copies, summary, NO_SETTING);
     Saved::Done
 }
 
@@ -110,7 +92,7 @@ pub fn checkpoint_at<'a>(
 pub fn restore(c: Collector, image: &[u8]) -> Restored
     ensures { λ r. ⌜ Restores c (now (image .entry)) r ⌝ }
 {
-    if !acceptable::is_acceptable(&c.times, &c.lens, &c.bytes, c.count, c.latest, c.totals) {
+    if !acceptable::is_acceptable(&c.times, &c.lens, &c.bytes, c.summary) {
         return refused(c);
     }
     if !is_readable(image) {
@@ -124,10 +106,8 @@ pub fn restore(c: Collector, image: &[u8]) -> Restored
         &next.lens,
         &next.bytes,
         &next.copies,
-        next.count,
-        next.latest,
+        next.summary,
         setting,
-        next.totals,
     ) {
         return refused(c);
     }
@@ -156,17 +136,17 @@ fn put_image<'a>(
     lens: &'a [u8; Collector::CAPACITY],
     bytes: &'a [u8; Collector::CAPACITY * Collector::MAX_LEN],
     copies: &'a [u16; Collector::CAPACITY],
-    count: usize,
-    latest: u64,
+    summary: Summary,
     setting: u64,
-    totals: Totals,
 )
-    requires { ⌜ (imageLength ≤ length (now out)) × Writable (now lens) 0 count ⌝ }
+    requires { ⌜ (imageLength ≤ length (now out)) × Writable (now lens) 0 (summary .count) ⌝ }
     ensures { λ _. ⌜ now (out .exit)
-        ≡ imageWith setting (viewAt (columns (now (times .entry)) (now (lens .entry)) (now (bytes .entry)) (now (copies .entry))) count latest totals)
+        ≡ imageWith setting
+        (viewIn (columns (now (times .entry)) (now (lens .entry)) (now (bytes .entry)) (now (copies .entry))) summary)
         ++ drop imageLength (now (out .entry)) ⌝ }
 {
-    let firsts = [latest, totals.kept, totals.loose, totals.late, 0];
+    let totals = summary.totals;
+    let firsts = [summary.latest, totals.kept, totals.loose, totals.late, 0];
     let seconds = [totals.received, totals.copies, totals.damaged, setting, 0];
     for k in 0..BLOCKS {
         put_block(
@@ -178,7 +158,7 @@ fn put_image<'a>(
             lens,
             bytes,
             copies,
-            count,
+            summary.count,
         );
     }
 }
@@ -197,7 +177,8 @@ fn put_block<'a>(
 )
     requires { ⌜ (length (now out) ≡ blockLength) × (k < blockCount) × Writable (now lens) 0 count ⌝ }
     ensures { λ _. ⌜ now (out .exit)
-        ≡ blockWith k a b (entriesAt (columns (now (times .entry)) (now (lens .entry)) (now (bytes .entry)) (now (copies .entry))) count) ⌝ }
+        ≡ blockWith k a b (entriesAt
+        (columns (now (times .entry)) (now (lens .entry)) (now (bytes .entry)) (now (copies .entry))) count) ⌝ }
 {
     let first = CELLS_PER_BLOCK * k;
     let used = used_from(count, first);
@@ -238,10 +219,12 @@ fn put_cells<'a>(
     first: usize,
     used: usize,
 )
-    requires { ⌜ (length (now out) ≡ cellsLength) × (length (now bytes) ≡ capacity * maxLength) × (used ≤ cellsPerBlock) × Writable (now lens) first used ⌝ }
+    requires { ⌜ (length (now out) ≡ cellsLength) × (length (now bytes) ≡ capacity * maxLength)
+        × (used ≤ cellsPerBlock) × Writable (now lens) first used ⌝ }
     ensures { λ _. ⌜ now (out .exit)
         ≡ padded cellsLength (flatten (map entryCell
-        (entriesFrom (columns (now (times .entry)) (now (lens .entry)) (now (bytes .entry)) (now (copies .entry))) first used))) ⌝ }
+        (entriesFrom (columns (now (times .entry)) (now (lens .entry)) (now (bytes .entry)) (now (copies .entry)))
+        first used))) ⌝ }
 {
     for i in 0..used {
         let e = first + i;
@@ -264,30 +247,18 @@ fn is_image_of<'a>(
     lens: &'a [u8; Collector::CAPACITY],
     bytes: &'a [u8; Collector::CAPACITY * Collector::MAX_LEN],
     copies: &'a [u16; Collector::CAPACITY],
-    count: usize,
-    latest: u64,
+    summary: Summary,
     setting: u64,
-    totals: Totals,
 ) -> bool
     ensures { λ r. ⌜ r ≡ isImageOf setting
-        (viewAt (columns (now (times .entry)) (now (lens .entry)) (now (bytes .entry)) (now (copies .entry))) count latest totals)
+        (viewIn (columns (now (times .entry)) (now (lens .entry)) (now (bytes .entry)) (now (copies .entry))) summary)
         (now (image .entry)) ⌝ }
 {
-    if !acceptable::is_acceptable(times, lens, bytes, count, latest, totals) {
+    if !acceptable::is_acceptable(times, lens, bytes, summary) {
         return false;
     }
     let mut again = [0u8; IMAGE_LENGTH];
-    put_image(
-        &mut again,
-        times,
-        lens,
-        bytes,
-        copies,
-        count,
-        latest,
-        setting,
-        totals,
-    );
+    put_image(&mut again, times, lens, bytes, copies, summary, setting);
     layout::equal(&again, image)
 }
 
@@ -336,9 +307,11 @@ fn parse(image: &[u8]) -> Collector
         lens,
         bytes,
         copies,
-        count,
-        latest,
-        totals,
+        summary: Summary {
+            count,
+            latest,
+            totals,
+        },
     }
 }
 
@@ -351,9 +324,11 @@ fn read_entries(
     image: &[u8],
     count: usize,
 )
-    requires { ⌜ (length (now times) ≡ capacity) × (length (now lens) ≡ capacity) × (length (now bytes) ≡ capacity * maxLength)
-        × (length (now copies) ≡ capacity) × (length (now image) ≡ imageLength) × (count ≤ capacity) ⌝ }
-    ensures { λ _. ⌜ entriesAt (columns (now (times .exit)) (now (lens .exit)) (now (bytes .exit)) (now (copies .exit))) count
+    requires { ⌜ (length (now times) ≡ capacity) × (length (now lens) ≡ capacity)
+        × (length (now bytes) ≡ capacity * maxLength) × (length (now copies) ≡ capacity)
+        × (length (now image) ≡ imageLength) × (count ≤ capacity) ⌝ }
+    ensures { λ _. ⌜ entriesAt
+        (columns (now (times .exit)) (now (lens .exit)) (now (bytes .exit)) (now (copies .exit))) count
         ≡ entriesIn (now (image .entry)) count ⌝ }
 {
     for i in 0..count {

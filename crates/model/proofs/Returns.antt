@@ -1,8 +1,9 @@
--- What the code's early returns show, by the cases of the definitions: a state that is not acceptable, and the two outcomes of a checkpoint.
-use Prim.Native.Nat.{ℕ, _≤_, _<_}
-use mathlib.Core.Path.{_≡_}
+-- What the code's returns show, by the cases of the definitions: a state that is not acceptable, the two outcomes of a checkpoint, and a reply for each
+-- reception of a burst.
+use Prim.Native.Nat.{ℕ, suc, _≤_, _<_}
+use mathlib.Core.Path.{_≡_, refl, ap}
 use mathlib.Core.Bool.{true, false}
-use mathlib.Core.List.{List, _++_}
+use mathlib.Core.List.{List, [], _∷_, _++_}
 use lib.ListN.{length, drop}
 use borrow.Author.Tests.{lt-ltb, le-ltb}
 use Rattle.refusal.specs.Number.{numberOf}
@@ -11,6 +12,7 @@ use Rattle.model.specs.Answer.{Refused}
 use Rattle.model.specs.View.{Reception, View}
 use Rattle.model.specs.Acceptable.{acceptable}
 use Rattle.model.specs.Step.{classify, advance, step}
+use Rattle.model.specs.Burst.{repliesTo}
 use Rattle.model.specs.Image.{imageLength, imageOf, checkpointOf, restoreOf}
 
 module _ (v : View) (bad : acceptable v ≡ false) where
@@ -34,3 +36,9 @@ module _ (v : View) (ok : acceptable v ≡ true) (output : List ℕ) where
   pub checkpoint-written : imageLength ≤ length output → record { number = 0; output = imageOf v ++ drop imageLength output } ≡ checkpointOf v output
   unfolding checkpointOf
   checkpoint-written h = rw (ok, le-ltb (length output) imageLength h)
+
+-- of a burst
+pub replies-to-length : (setting : ℕ) (v : View) (rs : List Reception) → length (repliesTo setting v rs) ≡ length rs
+unfolding repliesTo
+replies-to-length setting v [] = refl
+replies-to-length setting v (r ∷ rs) = ap suc (replies-to-length setting (step v r .next) rs)

@@ -36,7 +36,7 @@ pub(crate) fn received<'a>(c: Collector, r: &'a [u8], out: &'a mut [u8]) -> Coll
     let next = taken.next;
     let answer = taken.answer;
     let sent = sent_for(setting, answer, &r[10..10 + n]);
-    writing::put_answered(out, answer, sent, next.totals);
+    writing::put_answered(out, answer, sent, next.summary.totals);
     next
 }
 
@@ -75,7 +75,7 @@ pub(crate) fn cut<'a>(c: Collector, r: &'a [u8], out: &'a mut [u8]) -> Collector
     let restored = image::restore(Collector::fresh(), &out[BODY..last]);
     let next = restored.next;
     let answer = restored.answer;
-    writing::put_restored(&mut out[end..end + HEAD], answer, next.totals);
+    writing::put_restored(&mut out[end..end + HEAD], answer, next.summary.totals);
     next
 }
 
@@ -91,7 +91,7 @@ pub(crate) fn restored<'a>(
     let restored = image::restore(c, reading::lent_in(lent, r));
     let next = restored.next;
     let answer = restored.answer;
-    writing::put_restored(out, answer, next.totals);
+    writing::put_restored(out, answer, next.summary.totals);
     next
 }
 
@@ -112,7 +112,7 @@ pub(crate) fn delivered<'a>(
     let replies = made.replies;
     let next = bursted.next;
     let answer = bursted.answer;
-    writing::put_delivered(out, answer, replies, m, next.totals);
+    writing::put_delivered(out, answer, replies, m, next.summary.totals);
     next
 }
 
@@ -134,7 +134,7 @@ pub(crate) fn asked<'a>(c: Collector, r: &'a [u8], out: &'a mut [u8]) -> Collect
     let entry = reading::number_at(r, 1);
     let heard = c.copies(entry as usize);
     let answer = heard.answer;
-    writing::put_heard(out, answer, heard.copies, c.totals);
+    writing::put_heard(out, answer, heard.copies, c.summary.totals);
     c
 }
 
@@ -142,6 +142,6 @@ pub(crate) fn looked(c: Collector, out: &mut [u8]) -> Collector
     requires { ⌜ length (now out) ≡ headLength ⌝ }
     ensures { λ d. ⌜ Called (viewOf c) Look (now (out .exit)) d ⌝ }
 {
-    writing::put_head(out, crate::LOOKING, 0, c.totals);
+    writing::put_head(out, crate::LOOKING, 0, c.summary.totals);
     c
 }

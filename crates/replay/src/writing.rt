@@ -49,7 +49,7 @@ pub(crate) fn put_wrote(out: &mut [u8], c: Collector, fill: u8)
     let n = out.len() - BODY;
     let answer = save_into(&mut out[BODY..BODY + n], c, fill);
     let number = saved_number(answer);
-    put_head(&mut out[0..HEAD], crate::SAVING, number, c.totals);
+    put_head(&mut out[0..HEAD], crate::SAVING, number, c.summary.totals);
     layout::put_number(&mut out[HEAD..BODY], n as u64);
 }
 

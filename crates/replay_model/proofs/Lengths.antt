@@ -1,33 +1,31 @@
 -- How long the parts of a record are, and what calls show: a checkpoint leaves an output its length, and a burst a list its places.
-use Prim.Native.Nat.{ℕ, zero, suc, _+_, _-_, _*_, _≤_, _<_}
-use native.Mathlib.Nat.{mul-suc, mul-zero}
+use Prim.Native.Nat.{ℕ, _+_, _-_, _*_, _≤_, _<_}
+use native.Mathlib.Nat.{mul-suc}
 use native.Mathlib.Omega.{arith}
-use mathlib.Core.Path.{_≡_, refl, sym, ap, _∙_}
-use mathlib.Core.Bool.{Bool, true, false, cond, not, _&&_}
-use mathlib.Core.List.{List, [], _∷_, _++_, map, flatten}
+use mathlib.Core.Path.{_≡_, refl, ap, _∙_}
+use mathlib.Core.Bool.{true, false}
+use mathlib.Core.List.{List, [], _∷_, map, flatten}
 use lib.Dec.{leb, ltb, eqb}
-use lib.ListN.{length, getD, take, drop, length-append, length-map, length-take, length-drop}
-use borrow.Author.Tests.{ltb-true, ltb-false}
-use Rattle.lists.specs.Lists.{all, pairwise}
+use lib.ListN.{length, getD, drop, length-append, length-map, length-take, length-drop}
+use borrow.Author.Tests.{ltb-false}
+use Rattle.lists.specs.Lists.{all}
 use Rattle.lists.proofs.Choice.{both}
 use Rattle.lists.proofs.Tests.{all-getD, getD-map, by-test}
-use Rattle.refusal.specs.Number.{numberOf}
-use Rattle.refusal.specs.declared.Refusal.the-variants.{ShortOutput, NotAccepted}
-use Rattle.erp1.specs.Subtelegram.{maxLength, isValid}
+use Rattle.erp1.specs.Subtelegram.{maxLength}
 use Rattle.layout.specs.Cell.{cellLength}
 use Rattle.layout.specs.Block.{cellsPerBlock, blockLength}
 use Rattle.layout.proofs.BigEndian.{be-length}
 use Rattle.buffers.proofs.Buffer.{resized-length}
-use Rattle.buffers.proofs.Segments.{part-at, Each, flatten-length}
+use Rattle.buffers.proofs.Segments.{part-at, Each}
 use Rattle.layout.proofs.Cell.{cell-length}
 use Rattle.model.proofs.Header.{header-length}
+use Rattle.model.proofs.Returns.{replies-to-length}
 use Rattle.layout.proofs.Block.{block-length}
 use Rattle.model.specs.declared.Totals.{Totals}
 use Rattle.model.specs.View.{Reception, Entry, View, capacity}
 use Rattle.model.specs.Acceptable.{isEntry, acceptable}
-use Rattle.model.specs.Step.{step}
-use Rattle.model.specs.Image.{imageLength, entryCell, entriesOf, blockAt, blocksOf, imageWith, checkpointOf}
-use Rattle.model.specs.Burst.{Replied, repliesTo, callNumber, burstNumber, taken, burstOf}
+use Rattle.model.specs.Image.{imageLength, entryCell, entriesOf, blockAt, imageWith, checkpointOf}
+use Rattle.model.specs.Burst.{Replied, callNumber, burstNumber, taken, burstOf}
 use Rattle.model.proofs.Check.{valid-length}
 use Rattle.model.proofs.Invariant.{entry-valid}
 use Rattle.replay_model.specs.Record.{headOf, replyOf}
@@ -101,11 +99,6 @@ checkpoint-length v output =
     (λ ok. by-test (ltb (length output) imageLength) (λ short. rw (ok, short))
     (λ room. rw (ok, room) (simp (length-append, length-drop, image-length v ok 0) (omega (arith, ltb-false (length output) imageLength room)))))
     (λ no. rw no)
-
-replies-to-length : (setting : ℕ) (v : View) (rs : List Reception) → length (repliesTo setting v rs) ≡ length rs
-unfolding repliesTo
-replies-to-length setting v [] = refl
-replies-to-length setting v (r ∷ rs) = ap suc (replies-to-length setting (step v r .next) rs)
 
 -- a burst that is taken has a place for each reception
 burst-refused : (setting : ℕ) (v : View) (n m : ℕ) → ltb m n ≡ true → eqb (burstNumber setting v n m) 0 ≡ false

@@ -28,8 +28,9 @@ pub extern "C" fn bench_test(cells: &[u8], rounds: u64) -> u64 {
     let c = done.collector;
     let mut passed: u64 = 0;
     for i in 0..rounds {
-        let left = fewer(c.count, i % 2);
-        if acceptable::is_acceptable(&c.times, &c.lens, &c.bytes, left, c.latest, c.totals) {
+        let mut summary = c.summary;
+        summary.count = fewer(summary.count, i % 2);
+        if acceptable::is_acceptable(&c.times, &c.lens, &c.bytes, summary) {
             passed = std::num::wrapping_add_u64(passed, 1);
         }
     }
@@ -44,7 +45,7 @@ pub extern "C" fn bench_admit(cells: &[u8]) -> u64 {
     let mut lens = c.lens;
     let mut entries = c.bytes;
     let mut copies = c.copies;
-    let mut summary = c.summary();
+    let mut summary = c.summary;
     let mut figure: u64 = 0;
     for i in 0..cells.len() / CELL {
         let cell = &cells[CELL * i..CELL * i + CELL];

@@ -47,7 +47,7 @@ use denote.Triple.Table.{entered, cited}
 use denote.Triple.Walked.{says, Stays, stay-none, stay-none-slice, gave-slice, walkOf, goes-none, goes-none-slice, goes-gave-slice, Walks, ends-at, walked, walk-meets}
 use denote.Exit.{yes}
 use Rattle.collector.specs.declared.Collector.{Collector}
-use Rattle.collector.specs.declared.merging.Summary.{Summary}
+use Rattle.collector.specs.declared.Summary.{Summary}
 use Rattle.collector.specs.Collector.{Columns, columns, columnsOf}
 use Rattle.burst.specs.declared.Reception.{Reception}
 use Rattle.burst.specs.declared.Reply.{Reply}
@@ -59,8 +59,8 @@ use Rattle.burst.specs.Private.{Delivered, Planned, Finished}
 use Rattle.collector.proofs.Counts.{same}
 use Rattle.collector.proofs.Collector as C
 use Rattle.collector.proofs.Collector.Laws as C′
-use Rattle.collector.proofs.merging.Summary as S
-use Rattle.collector.proofs.merging.Summary.Laws as S′
+use Rattle.collector.proofs.Summary as S
+use Rattle.collector.proofs.Summary.Laws as S′
 use Rattle.burst.proofs.Reception as R
 use Rattle.burst.proofs.Reply as Y
 use Rattle.burst.proofs.Handed as E

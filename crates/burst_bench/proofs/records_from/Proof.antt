@@ -1,12 +1,16 @@
 -- `burst_bench::records_from` is safe and ends. The loop's invariant: the index is at most 256; the measure is what is left of it.
-use Prim.Native.Nat.{_≤_, _-_}
+use Prim.Native.Nat.{ℕ, _≤_, _-_}
 use borrow.Author.Needs.{needs}
 use native.Mathlib.Omega.{arith}
 use Rattle.burst_bench.proofs.records_from.Statement.{statement}
 use Rattle.burst_bench.proofs.records_from.Tie as tie
 
+record Reading (k i : ℕ) : Type 0 where
+  bounded : i ≤ 256
+  early : k ≤ 256
+
 abbrev Inv-loop : tie.InvT-loop
-Inv-loop cells k all₀ i₀ all i = (i ≤ 256) × (k ≤ 256)
+Inv-loop cells k all₀ i₀ all i = Reading k i
 
 abbrev μ-loop : tie.MeasureT-loop
 μ-loop cells k all₀ i₀ all i = 256 - i
@@ -26,5 +30,5 @@ records-from-spec =
     (λ c. search needs)
     (λ c. omega arith)
     (λ c. omega arith)
-    (λ c. (omega arith, omega arith))
+    (λ c. record { bounded = omega arith; early = omega arith })
     (λ c. search needs))

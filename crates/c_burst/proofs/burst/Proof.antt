@@ -9,8 +9,9 @@ use denote.Ref.{now}
 use lib.ListN.{length}
 use Rattle.model.specs.Acceptable.{acceptable}
 use Rattle.model.specs.Burst.{callNumber}
-use Rattle.collector.specs.declared.merging.Summary.{Summary}
-use Rattle.collector.specs.Admission.{viewIn, Tested}
+use Rattle.collector.specs.declared.Summary.{Summary}
+use Rattle.collector.specs.Collector.{viewIn}
+use Rattle.collector.specs.Admission.{Tested}
 use Rattle.c_collector.specs.State.{Arrays, arrays, columnsAt, stateAt}
 use Rattle.c_burst.specs.Bytes.{replyLength, isSized}
 use Rattle.c_burst.proofs.Sizes.{called, records-are}

@@ -1,24 +1,28 @@
 -- `c_burst::deliver` meets its contract. The invariant: the first i receptions are taken and answered, and what is left leads to the end; the measure:
 -- the receptions left.
-use mathlib.Core.Path.{_≡_, refl, sym, ap, _∙_}
+use mathlib.Core.Path.{refl, sym, ap, _∙_}
 use mathlib.Core.List.{List}
-use Prim.Native.Nat.{ℕ, _-_, _*_, _^_, _≤_, _<_}
+use Prim.Native.Nat.{ℕ, _-_, _*_, _≤_}
 use native.Mathlib.Omega.{arith}
 use lib.ListN.{length, getD}
 use Rattle.buffers.proofs.Segments.{begun-length, within, lent, part-length, part-ends}
+use Rattle.model.specs.View.{View}
 use Rattle.model.specs.Burst.{maxBurst}
-use Rattle.collector.specs.Collector.{columns}
-use Rattle.collector.specs.Admission.{viewIn}
+use Rattle.collector.specs.Collector.{columns, viewIn}
 use Rattle.c_layout.specs.Frame.{frameLength}
 use Rattle.c_burst.specs.Bytes.{receptionIn, receptionsIn, replyLength}
 use Rattle.c_burst.proofs.Turns.{Going, starts, turns, ends, receptions-count, reception-get}
 use Rattle.c_burst.proofs.deliver.Statement.{statement}
 use Rattle.c_burst.proofs.deliver.Tie as tie
 
+record Delivering (setting : ℕ) (v : View) (moments records old : List ℕ) (i : ℕ) (here : View) (out : List ℕ) : Type 0 where
+  bounded : i ≤ length moments
+  few : length moments ≤ maxBurst
+  going : Going setting v (receptionsIn moments records) old i here out
+
 abbrev Inv-loop : tie.InvT-loop
 Inv-loop times₀ lengths₀ bytes₀ copies₀ setting moments records replies₀ s₀ i₀ i-end times lengths bytes copies replies s i =
-    (i ≤ length moments) × (length moments ≤ maxBurst)
-    × Going setting (viewIn (columns times₀ lengths₀ bytes₀ copies₀) s₀) (receptionsIn moments records) replies₀ i (viewIn (columns times lengths bytes copies) s) replies
+    Delivering setting (viewIn (columns times₀ lengths₀ bytes₀ copies₀) s₀) moments records replies₀ i (viewIn (columns times lengths bytes copies) s) replies
 
 abbrev μ-loop : tie.MeasureT-loop
 μ-loop times₀ lengths₀ bytes₀ copies₀ setting moments records replies₀ s₀ i₀ i-end times lengths bytes copies replies s i = length moments - i
@@ -26,7 +30,7 @@ abbrev μ-loop : tie.MeasureT-loop
 loop-holds : tie.Need-loop-holds Inv-loop μ-loop
 loop-holds c =
     let s = c .before .before .before in
-    (omega arith, s .pre .0, starts _ _ _ _ (s .pre .3))
+    record { bounded = omega arith; few = s .pre .0; going = starts _ _ _ _ (s .pre .3) }
 
 take-frame-requires : tie.Need-take-frame-requires Inv-loop μ-loop
 take-frame-requires c κs =
@@ -34,7 +38,7 @@ take-frame-requires c κs =
     let s = at .before .before .before .before in
     let from = frameLength * at .loop .i in
     let records = s .args .records .now in
-    (ap length (part-ends from frameLength records) ∙ part-length from frameLength records (omega (arith, s .pre .1)), lent (at .loop .inv .2 .written) replyLength _ refl (omega (arith, s .pre .2)), sym (at .loop .inv .2 .tested .said))
+    (ap length (part-ends from frameLength records) ∙ part-length from frameLength records (omega (arith, s .pre .1)), lent (at .loop .inv .going .written) replyLength _ refl (omega (arith, s .pre .2)), sym (at .loop .inv .going .tested .said))
 
 loop-again : tie.Need-loop-again Inv-loop μ-loop
 loop-again c =
@@ -46,23 +50,24 @@ loop-again c =
     let i = at .loop .i in
     let moments = s .args .moments .now in
     let records = s .args .records .now in
-    let count = receptions-count moments records in (
-      omega arith,
-      at .loop .inv .1,
-      turns _ _ _ _ (at .loop .inv .2) (omega (arith, count)) _
+    let count = receptions-count moments records in
+    record {
+      bounded = omega arith;
+      few = at .loop .inv .few;
+      going = turns _ _ _ _ (at .loop .inv .going) (omega (arith, count)) _
           (reception-get moments records i (omega arith) ∙ ap (λ (f : List ℕ). receptionIn f (getD moments i 0)) (sym (part-ends (frameLength * i) frameLength records)))
           (omega (arith, known .shared-slice-known3 .given i))
           (omega (arith, count, s .pre .2))
           _
           _
           (took .take-frame .ensures)
-          (took .take-frame .kept .1 .1 .1 .1 .1 .1 .1 .1 .0),
-    )
+          (took .take-frame .kept .1 .1 .1 .1 .1 .1 .1 .1 .0);
+    }
 
 returns : tie.Need-returns Inv-loop μ-loop
 returns c =
     let a = c .before .before .before .before .before .args in
-    ends _ _ _ _ (c .before .loop .inv .2) (omega (arith, receptions-count (a .moments .now) (a .records .now)))
+    ends _ _ _ _ (c .before .loop .inv .going) (omega (arith, receptions-count (a .moments .now) (a .records .now)))
 
 pub deliver-spec : {M : Type 1} → statement M
 deliver-spec =
@@ -84,10 +89,10 @@ deliver-spec =
     (λ c. omega arith)
     (λ c. omega arith)
     (λ c. omega arith)
-    (λ c. within (c .before .before .before .before .before .before .before .loop .inv .2 .written) _ (omega arith))
+    (λ c. within (c .before .before .before .before .before .before .before .loop .inv .going .written) _ (omega arith))
     take-frame-requires
     (λ c. omega arith)
     (λ c. omega arith)
     loop-again
-    (λ c. begun-length (c .before .loop .inv .2 .written))
+    (λ c. begun-length (c .before .loop .inv .going .written))
     returns)

@@ -1,15 +1,13 @@
 -- `c_burst::summary_of` meets its contract: what is known of each number by its type.
-use mathlib.Core.Path.{_≡_, ap, subst}
-use mathlib.Core.List.{List}
-use Prim.Native.Nat.{ℕ, _^_, _<_}
+use mathlib.Core.Path.{subst}
+use Prim.Native.Nat.{_^_, _<_}
 use native.Mathlib.Omega.{arith}
 use borrow.Author.Needs.{needs}
 use denote.Ref.{now}
-use lib.ListN.{getD}
 use Rattle.model.specs.Exact.{Fits}
-use Rattle.collector.specs.declared.merging.Summary.{Summary}
-use Rattle.collector.specs.Collector.{columns, viewOf}
-use Rattle.collector.specs.Admission.{viewIn, collectorOf}
+use Rattle.collector.specs.declared.Summary.{Summary}
+use Rattle.collector.specs.Collector.{columns, viewIn, viewOf}
+use Rattle.collector.specs.Admission.{collectorOf}
 use Rattle.collector.proofs.Counts.{state-fits}
 use Rattle.c_burst.proofs.summary_of.Statement.{statement}
 use Rattle.c_burst.proofs.summary_of.Tie as tie

@@ -1,11 +1,10 @@
 -- `c_image::checkpoint` meets its contract: it is that of the state that the arrays hold.
-use mathlib.Core.Path.{_≡_, ap, _∙_}
+use mathlib.Core.Path.{ap, _∙_}
 use borrow.Author.Needs.{needs}
 use denote.Ref.{now}
 use Rattle.model.specs.Image.{checkpointOf}
-use Rattle.collector.specs.declared.merging.Summary.{Summary}
-use Rattle.collector.specs.Collector.{columns}
-use Rattle.collector.specs.Admission.{viewIn}
+use Rattle.collector.specs.declared.Summary.{Summary}
+use Rattle.collector.specs.Collector.{columns, viewIn}
 use Rattle.c_image.proofs.checkpoint.Statement.{statement}
 use Rattle.c_image.proofs.checkpoint.Tie as tie
 

@@ -1,15 +1,14 @@
 -- `collecting::begin` meets its contract, from what a fresh collector says.
 use mathlib.Core.Path.{ap}
 use borrow.Author.Needs.{needs}
-use Rattle.model.specs.View.{View}
-use Rattle.streams.specs.Collect.{running}
+use Rattle.collecting.specs.Session.{runningAt}
 use Rattle.collecting.proofs.begin.Statement.{statement}
 use Rattle.collecting.proofs.begin.Tie as tie
 
 returns : tie.Need-returns
 returns c =
     let s = c .before .before .setting in
-    rw (s .given .1) (ap (λ (v : View). running (record { setting = s .given .0 .0; view = v })) (c .fresh .ensures))
+    rw (s .given .1) (ap (runningAt (s .given .0 .0)) (c .fresh .ensures))
 
 pub begin-spec : {M : Type 1} → statement M
 begin-spec =

@@ -13,17 +13,14 @@ numbers c = state-fits (c .args .c) (search needs) (search needs) (small 64 (c .
 merge-lines-requires : tie.Need-merge-lines-requires
 unfolding viewOf
 merge-lines-requires c κs =
-    let s = c .before .before .before .before .before in
-    let a = s .before in
-    rw (s .summary .ensures) (record { said = a .is-acceptable .ensures _; fits = numbers (a .before .before .before .before .before .before .before .before .before .before) })
+    let a = c .before .before .before .before .before in
+    record { said = a .is-acceptable .ensures _; fits = numbers (a .before .before .before .before .before .before .before .before .before .before .before) }
 
 returns : tie.Need-returns
 unfolding viewOf
-returns c =
-    let t = c .before .before .before .before in
-    rw (c .from-parts .ensures) (rw (t .before .before .before .before .before .before .summary .ensures) at (t .merge-lines .ensures))
+returns c = c .before .before .before .merge-lines .ensures
 
 pub later-lines-spec : {M : Type 1} → statement M
 later-lines-spec =
     tie.close
-    (tie.spec (λ c κs. search needs) (λ c κs. search needs) merge-lines-requires (λ c κs. search needs) (λ c. search needs) returns)
+    (tie.spec (λ c κs. search needs) merge-lines-requires (λ c. search needs) returns)

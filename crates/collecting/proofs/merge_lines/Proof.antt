@@ -1,6 +1,7 @@
 -- `collecting::merge_lines` meets its contract. The invariant: the lines up to `at` were taken, what they give stands before `to`, and the test of
 -- the state says what it said. The measure is what is left of the input.
 use mathlib.Core.Path.{_≡_, refl, ap, _∙_}
+use mathlib.Core.Bool.{Bool}
 use mathlib.Core.List.{List}
 use Prim.Native.Nat.{ℕ, _+_, _-_, _*_, _^_, _<_, _≤_}
 use native.Mathlib.Omega.{arith}
@@ -10,9 +11,10 @@ use denote.Ref.{now}
 use lib.ListN.{length, take, drop, length-take, length-drop}
 use lib.Seq.{length-take-le}
 use Rattle.bytes.specs.Bytes.{indexOf}
+use Rattle.model.specs.View.{View}
 use Rattle.model.specs.Step.{Outcome}
-use Rattle.collector.specs.Collector.{columns}
-use Rattle.collector.specs.Admission.{viewIn, admittedOf, Tested}
+use Rattle.collector.specs.Collector.{columns, viewIn}
+use Rattle.collector.specs.Admission.{admittedOf, Tested}
 use Rattle.collector.proofs.Stepping.{admission-fit, tested-next}
 use Rattle.line_input.specs.Ascii.{newline}
 use Rattle.line_input.specs.Reading.{lineReading, reception, frontOf, lineOf, bytesIn}
@@ -20,31 +22,40 @@ use Rattle.line_input.proofs.Answers.{len-fits, bytes-fill, said-open, said-end
 use Rattle.line_input.proofs.Whole.{said}
 use Rattle.line_output.specs.Text.{decimalText}
 use Rattle.buffers.proofs.Stores.{take-rest, if-fits}
-use Rattle.streams.specs.Collect.{running, collect}
+use Rattle.streams.specs.Collect.{collect}
 use Rattle.streams.specs.Buffer.{Fed}
 use Rattle.streams.proofs.Segments.{open-whole}
 use Rattle.streams.proofs.Limit.{bounded}
 use Rattle.streams.proofs.Takes.{fed-none}
-use Rattle.collecting.specs.Session.{modelCollector, takenAt, longestLine}
+use Rattle.collecting.specs.Session.{modelCollector, runningAt, longestLine}
 use Rattle.collecting.proofs.Taking.{lineAt, none-written, open-from-start, bad-line, reception-line, time-room, time-short, time-text, same-length, relayed-bytes}
 use Rattle.collecting.proofs.merge_lines.Statement.{statement}
 use Rattle.collecting.proofs.merge_lines.Tie as tie
 
+record Merging (fit : Bool) (setting : ℕ) (v₀ : View) (input out₀ : List ℕ) (v : View) (out : List ℕ) (at to : ℕ) : Type 0 where
+  inside : at ≤ length input
+  room : to ≤ length out
+  long : length out ≡ length out₀
+  short : to ≤ longestLine * at
+  tested : Tested fit v
+  fed : Fed (collect modelCollector) (runningAt setting v₀) (take at input) out₀ (runningAt setting v) out to
+
 abbrev Inv-loop : tie.InvT-loop
 Inv-loop fit setting times₀ lens₀ entries₀ copies₀ input out₀ summary₀ bytes₀ at₀ to₀ times lens entries copies out summary bytes at to =
-    (at ≤ length input)
-    × (to ≤ length out)
-    × (length out ≡ length out₀)
-    × (to ≤ longestLine * at)
-    × Tested fit (viewIn (columns times lens entries copies) summary)
-    × Fed (collect modelCollector) (running (record { setting = setting; view = viewIn (columns times₀ lens₀ entries₀ copies₀) summary₀ })) (take at input) out₀
-    (running (record { setting = setting; view = viewIn (columns times lens entries copies) summary })) out to
+    Merging fit setting (viewIn (columns times₀ lens₀ entries₀ copies₀) summary₀) input out₀ (viewIn (columns times lens entries copies) summary) out at to
 
 abbrev μ-loop : tie.MeasureT-loop
 μ-loop fit setting times₀ lens₀ entries₀ copies₀ input out₀ summary₀ bytes₀ at₀ to₀ times lens entries copies out summary bytes at to = length input - at
 
 loop-holds : tie.Need-loop-holds Inv-loop μ-loop
-loop-holds c = (omega arith, omega arith, refl, omega arith, c .before .before .pre, fed-none (collect modelCollector) (bounded modelCollector) _ _)
+loop-holds c = record {
+  inside = omega arith;
+  room = omega arith;
+  long = refl;
+  short = omega arith;
+  tested = c .before .before .pre;
+  fed = fed-none (collect modelCollector) (bounded modelCollector) _ _;
+}
 
 -- ---- the line that was read
 
@@ -71,7 +82,7 @@ ended e = said-ended _ (answer (read e)) (e .if1 .left)
 within : (e : tie.Else1 Inv-loop μ-loop) → turn (read e) .loop .at + read e .parse .result .used ≤ length (input (turn (read e)))
 within e =
     let l = turn (read e) in
-    omega (arith, ended e .0, ended e .1, length-drop (l .loop .at) (input l), l .loop .inv .0)
+    omega (arith, ended e .0, ended e .1, length-drop (l .loop .at) (input l), l .loop .inv .inside)
 
 add-at : tie.Need-add-at Inv-loop μ-loop
 add-at c = let h = within (c .before) in omega arith
@@ -90,14 +101,15 @@ loop-again c =
     let b = said-bad _ (answer (read e)) (e .if1 .left) (not-true _ (i .if2 .taken)) in
     let w = if-fits (omega arith) (q .put-bad .ensures) in
     let h = within e in
-    let k = ended e .1 in (
-      h,
-      omega arith,
-      omega arith,
-      omega arith,
-      l .loop .inv .4,
-      bad-line (input l) (l .loop .at) (read e .parse .result .used) (l .loop .inv .5) (ended e) (l .loop .inv .0) (omega arith) b w,
-    )
+    let k = ended e .1 in
+    record {
+      inside = h;
+      room = omega arith;
+      long = omega arith;
+      short = omega arith;
+      tested = l .loop .inv .tested;
+      fed = bad-line (input l) (l .loop .at) (read e .parse .result .used) (l .loop .inv .fed) (ended e) (l .loop .inv .inside) (omega arith) b w;
+    }
 
 -- ---- a reception
 
@@ -195,34 +207,40 @@ loop-again-2 c =
     let l = here i in
     let a = g .before .before in
     let z : parsed i .parse .result .len - 0 ≡ parsed i .parse .result .len = omega arith in
-    let o = rw z at (a .admit .ensures .outcome ∙ admission-fit _ _ _ (l .loop .inv .4 .said)) in
+    let o = rw z at (a .admit .ensures .outcome ∙ admission-fit _ _ _ (l .loop .inv .tested .said)) in
     let small : parsed i .parse .result .time < 2 ^ 64 = search needs in
     let w = rw z at (q .put-answer .ensures) in
     let same = same-length w in
-    let spare-out = parsed i .before .before .before .loop-test .taken in (
-      within (passed i),
-      omega (arith, w .short, same, spare-out),
-      omega (arith, same, l .loop .inv .2),
-      omega (arith, w .short, l .loop .inv .3, ended (passed i) .1),
-      rw (← o) at (tested-next _ (record { bytes = bytes i; time = parsed i .parse .result .time }) (l .loop .inv .4) small),
-      reception-line (input l) (l .loop .at) (parsed i .parse .result .used) (l .loop .inv .5) (ended (passed i)) (l .loop .inv .0) (omega (arith, w .short, same, spare-out, l .loop .inv .2))
+    let spare-out = parsed i .before .before .before .loop-test .taken in
+    record {
+      inside = within (passed i);
+      room = omega (arith, w .short, same, spare-out);
+      long = omega (arith, same, l .loop .inv .long);
+      short = omega (arith, w .short, l .loop .inv .short, ended (passed i) .1);
+      tested = rw (← o) at (tested-next _ (record { bytes = bytes i; time = parsed i .parse .result .time }) (l .loop .inv .tested) small);
+      fed = reception-line (input l) (l .loop .at) (parsed i .parse .result .used) (l .loop .inv .fed) (ended (passed i)) (l .loop .inv .inside) (omega (arith, w .short, same, spare-out, l .loop .inv .long))
           (admittedOf (columns (a .admit .last .1 .0) (a .admit .last .1 .1 .0) (a .admit .last .1 .1 .1 .0) (a .admit .last .1 .1 .1 .1 .0)) (a .admit .result)) (says i) o (time g)
-          (relayed-bytes _ _ _ (record { bytes = bytes i; time = parsed i .parse .result .time }) _ (ap (λ (x : Outcome). x .answer) (rw z at (a .admit .ensures .outcome)))) w,
-    )
+          (relayed-bytes _ _ _ (record { bytes = bytes i; time = parsed i .parse .result .time }) _ (ap (λ (x : Outcome). x .answer) (rw z at (a .admit .ensures .outcome)))) w;
+    }
 
 returns : tie.Need-returns Inv-loop μ-loop
 returns c =
     let l = c .before in
-    record { within = omega arith; fed = l .loop .inv .5; short = l .loop .inv .3; rest = λ e h. absurd (let z = none-written (input l) (l .loop .inv .5) e in omega arith) }
+    record {
+      within = omega arith;
+      fed = l .loop .inv .fed;
+      short = l .loop .inv .short;
+      rest = λ e h. absurd (let z = none-written (input l) (l .loop .inv .fed) e in omega arith);
+    }
 
 returns-2 : tie.Need-returns-2 Inv-loop μ-loop
 returns-2 c =
     let p = c .before .before in
     let l = turn p in
     record {
-      within = l .loop .inv .0;
-      fed = l .loop .inv .5;
-      short = l .loop .inv .3;
+      within = l .loop .inv .inside;
+      fed = l .loop .inv .fed;
+      short = l .loop .inv .short;
       rest = λ e h. open-from-start (input l) (l .loop .at) e (open-whole (drop (l .loop .at) (input l)) (said-open _ (answer p) (c .if1 .taken)));
     }
 

@@ -11,7 +11,8 @@ use Rattle.telegram.proofs.Frames.{written-length}
 use Rattle.model.specs.Answer.{shownOf}
 use Rattle.collector.specs.Admission.{relayedFor}
 use Rattle.buffers.proofs.Stores.{loosened, if-fits}
-use Rattle.collecting.proofs.Taking.{relayed-short, sent-front}
+use Rattle.collector.proofs.Sending.{relayed-fits}
+use Rattle.collecting.proofs.Taking.{sent-front}
 use Rattle.collecting.proofs.put_answer.Statement.{statement}
 use Rattle.collecting.proofs.put_answer.Tie as tie
 
@@ -22,7 +23,7 @@ sent c =
     relayedFor (a .setting) (shownOf (a .answer)) (now (a .bytes))
 
 short : (c : tie.After-relay-kept) → length (sent c) ≤ 21
-short c = relayed-short _ _ _
+short c = relayed-fits _ _ _
 
 front : (c : tie.After-relay-kept) → (c .relay-kept .result ≡ length (sent c)) × (take (c .relay-kept .result) (c .relay-kept .last .1 .1 .1 .0) ≡ sent c)
 front c = sent-front (sent c) (replicate 21 0) (c .relay-kept .ensures)

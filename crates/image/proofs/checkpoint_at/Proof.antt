@@ -8,8 +8,7 @@ use Rattle.model.specs.View.{View}
 use Rattle.model.specs.Acceptable.{acceptable}
 use Rattle.model.proofs.Returns.{checkpoint-unacceptable, checkpoint-short, checkpoint-written}
 use Rattle.image.specs.declared.Saved.the-variants as saved
-use Rattle.collector.specs.Collector.{columns}
-use Rattle.collector.specs.Admission.{viewIn}
+use Rattle.collector.specs.Collector.{columns, viewIn}
 use Rattle.image.specs.Checkpoint.{checkpointResult}
 use Rattle.image.proofs.Writing.{writable-state}
 use Rattle.image.proofs.checkpoint_at.Statement.{statement}
@@ -22,10 +21,10 @@ state s =
     viewIn (columns (now (a .times)) (now (a .lens)) (now (a .bytes)) (now (a .copies))) (a .summary)
 
 -- what the test of the state says of it
-tested : (c : tie.After-is-acceptable) → c .is-acceptable .result ≡ acceptable (state (c .before .before .before))
+tested : (c : tie.After-is-acceptable) → c .is-acceptable .result ≡ acceptable (state (c .before .before))
 tested c = c .is-acceptable .ensures _
 
-passed : (c : tie.Else1) → acceptable (state (c .before .before .before .before)) ≡ true
+passed : (c : tie.Else1) → acceptable (state (c .before .before .before)) ≡ true
 passed c = sym (tested (c .before)) ∙ not-false _ (c .if1 .left)
 
 returns : tie.Need-returns
@@ -35,7 +34,7 @@ returns-2 : tie.Need-returns-2
 returns-2 c = checkpoint-short _ (passed (c .before)) _ (c .if2 .taken)
 
 put-image-requires : tie.Need-put-image-requires
-put-image-requires c κs = (c .before .if2 .left, writable-state _ _ _ _ (passed (c .before .before)))
+put-image-requires c κs = (c .before .if2 .left, writable-state _ _ (passed (c .before .before)))
 
 returns-3 : tie.Need-returns-3
 returns-3 c =

@@ -11,7 +11,7 @@ use Rattle.lists.specs.Lists.{equal}
 use Rattle.model.specs.View.{View}
 use Rattle.model.specs.Acceptable.{acceptable}
 use Rattle.model.specs.Image.{imageWith}
-use Rattle.collector.specs.Collector.{columns, viewAt}
+use Rattle.collector.specs.Collector.{columns, viewIn}
 use Rattle.image.proofs.Writing.{writable-state}
 use Rattle.image.proofs.is_image_of.Statement.{statement}
 use Rattle.image.proofs.is_image_of.Tie as tie
@@ -20,7 +20,7 @@ use Rattle.image.proofs.is_image_of.Tie as tie
 abbrev said : tie.After-is-acceptable → View
 said c =
     let a = c .before .before .args in
-    viewAt (columns (now (a .times)) (now (a .lens)) (now (a .bytes)) (now (a .copies))) (a .count) (a .latest) (a .totals)
+    viewIn (columns (now (a .times)) (now (a .lens)) (now (a .bytes)) (now (a .copies))) (a .summary)
 
 tested : (c : tie.After-is-acceptable) → c .is-acceptable .result ≡ acceptable (said c)
 tested c = c .is-acceptable .ensures _
@@ -32,7 +32,7 @@ returns : tie.Need-returns
 returns c = rw (sym (tested (c .before)) ∙ not-true _ (c .if1 .taken))
 
 put-image-requires : tie.Need-put-image-requires
-put-image-requires c κs = (omega arith, writable-state _ _ _ _ (passed (c .before)))
+put-image-requires c κs = (omega arith, writable-state _ _ (passed (c .before)))
 
 returns-2 : tie.Need-returns-2
 returns-2 c =

@@ -28,16 +28,19 @@ cells-length : (a : Columns) (first used : ℕ) → length (cells a first used) 
 unfolding cells
 cells-length a first used = length-map (entriesFrom a first used) entryCell ∙ entries-length a first used
 
+record Putting (out₀ : List ℕ) (a : Columns) (first used : ℕ) (out : List ℕ) (i : ℕ) : Type 0 where
+  bounded : i ≤ used
+  begun : Begun out₀ (flatten (take i (cells a first used))) (cellLength * i) out
+
 abbrev Inv-loop : tie.InvT-loop
-Inv-loop out₀ times lens bytes copies first used i₀ out i =
-    (i ≤ used) × Begun out₀ (flatten (take i (cells (columns times lens bytes copies) first used))) (cellLength * i) out
+Inv-loop out₀ times lens bytes copies first used i₀ out i = Putting out₀ (columns times lens bytes copies) first used out i
 
 abbrev μ-loop : tie.MeasureT-loop
 μ-loop out₀ times lens bytes copies first used i₀ out i = used - i
 
 loop-holds : tie.Need-loop-holds Inv-loop μ-loop
 unfolding flatten
-loop-holds c = (omega arith, begin _)
+loop-holds c = record { bounded = omega arith; begun = begin _ }
 
 -- the turn that an entry is shown in
 abbrev turn-of : tie.After-len Inv-loop μ-loop → tie.At-loop Inv-loop μ-loop
@@ -64,16 +67,19 @@ loop-again c =
     let is = bytes-shown (now (a .bytes)) e len (short seen) (omega arith) in
     let l : length shown ≤ maxLength = rw (is, resized-length) (short seen) in
     let w =
-    put .put-cell .ensures ∙ put-fits time shown count _ l (lent (at .loop .inv .1) cellLength _ refl (omega arith))
+    put .put-cell .ensures ∙ put-fits time shown count _ l (lent (at .loop .inv .begun) cellLength _ refl (omega arith))
     ∙ ap (λ (b : List ℕ). cellOf time b count) is
     ∙ sym (cell-read (columns (now (a .times)) (now (a .lens)) (now (a .bytes)) (now (a .copies))) (a .first) (a .used) (at .loop .i) (omega arith)) in
-    (omega arith, turn _ _ cellLength (at .loop .i) _ _ (at .loop .inv .1) (rw cells-length (omega arith)) w (put .put-cell .kept .0) (omega arith))
+    record {
+      bounded = omega arith;
+      begun = turn _ _ cellLength (at .loop .i) _ _ (at .loop .inv .begun) (rw cells-length (omega arith)) w (put .put-cell .kept .0) (omega arith);
+    }
 
 -- what is written, after the clearing
 abbrev all : tie.After-clear Inv-loop μ-loop → Writing cellsLength
 all c =
     let at = c .before .before .before in
-    packed (wipe (turned _ _ cellLength _ (at .loop .i) _ (at .loop .inv .1) (omega arith) (cells-length _ _ _)) _ cellsLength (c .clear .ensures) (c .clear .kept .0) (omega arith) (omega arith))
+    packed (wipe (turned _ _ cellLength _ (at .loop .i) _ (at .loop .inv .begun) (omega arith) (cells-length _ _ _)) _ cellsLength (c .clear .ensures) (c .clear .kept .0) (omega arith) (omega arith))
 
 returns : tie.Need-returns Inv-loop μ-loop
 unfolding cells
@@ -95,7 +101,7 @@ put-cells-spec =
     (λ c. omega arith)
     (λ c. omega arith)
     (λ c. omega arith)
-    (λ c. within (turn-of c .loop .inv .1) _ (omega arith))
+    (λ c. within (turn-of c .loop .inv .begun) _ (omega arith))
     (λ c. omega arith)
     (λ c. omega arith)
     (λ c. omega (arith, short (c .before .before)))
@@ -111,7 +117,7 @@ put-cells-spec =
     (λ c. omega arith)
     (λ c. omega arith)
     (λ c. omega arith)
-    (λ c. within (c .before .loop .inv .1) cellsLength (omega arith))
+    (λ c. within (c .before .loop .inv .begun) cellsLength (omega arith))
     (λ c κs. search needs)
     (λ c. begun-length (all (c .before .before) .begun))
     returns)

@@ -44,31 +44,38 @@ unfolding blocks
 one-more firsts seconds l k ys b h p q room =
     turn _ _ blockLength k _ ys b h (p ∙ block-of firsts seconds l k h) q (omega arith)
 
+record Putting (out₀ firsts seconds : List ℕ) (l : List Entry) (out : List ℕ) (k : ℕ) : Type 0 where
+  bounded : k ≤ 5
+  begun : Begun out₀ (flatten (take k (blocks firsts seconds l))) (blockLength * k) out
+
 abbrev Inv-loop : tie.InvT-loop
-Inv-loop out₀ times lens bytes copies count latest setting firsts seconds k₀ out k =
-    (k ≤ 5) × Begun out₀ (flatten (take k (blocks firsts seconds (entriesAt (columns times lens bytes copies) count)))) (blockLength * k) out
+Inv-loop out₀ times lens bytes copies summary setting firsts seconds k₀ out k =
+    Putting out₀ firsts seconds (entriesAt (columns times lens bytes copies) (summary .count)) out k
 
 abbrev μ-loop : tie.MeasureT-loop
-μ-loop out₀ times lens bytes copies count latest setting firsts seconds k₀ out k = 5 - k
+μ-loop out₀ times lens bytes copies summary setting firsts seconds k₀ out k = 5 - k
 
 loop-holds : tie.Need-loop-holds Inv-loop μ-loop
 unfolding flatten
-loop-holds c = (omega arith, begin _)
+loop-holds c = record { bounded = omega arith; begun = begin _ }
 
 put-block-requires : tie.Need-put-block-requires Inv-loop μ-loop
 put-block-requires c κs =
     let at = c .before .before in
-    (lent (at .loop .inv .1) blockLength _ refl (omega arith), omega arith, at .before .before .pre .1)
+    (lent (at .loop .inv .begun) blockLength _ refl (omega arith), omega arith, at .before .before .before .pre .1)
 
 loop-again : tie.Need-loop-again Inv-loop μ-loop
 loop-again c =
     let put = c .before .before in
     let at = put .before .before .before in
-    (omega arith, one-more _ _ _ (at .loop .k) _ (at .loop .inv .1) (omega arith) (put .put-block .ensures) (put .put-block .kept .0) (omega arith))
+    record {
+      bounded = omega arith;
+      begun = one-more _ _ _ (at .loop .k) _ (at .loop .inv .begun) (omega arith) (put .put-block .ensures) (put .put-block .kept .0) (omega arith);
+    }
 
 returns : tie.Need-returns Inv-loop μ-loop
 unfolding imageWith blocks blockAt
-returns c = turned _ _ blockLength 5 _ _ (c .before .loop .inv .1) (omega arith) refl .is
+returns c = turned _ _ blockLength 5 _ _ (c .before .loop .inv .begun) (omega arith) refl .is
 
 pub put-image-spec : {M : Type 1} → statement M
 put-image-spec =
@@ -82,7 +89,7 @@ put-image-spec =
     (λ c. omega arith)
     (λ c. omega arith)
     (λ c. omega arith)
-    (λ c. within (c .before .loop .inv .1) _ (omega arith))
+    (λ c. within (c .before .loop .inv .begun) _ (omega arith))
     (λ c. omega arith)
     (λ c. omega arith)
     (λ c. omega arith)
@@ -91,5 +98,5 @@ put-image-spec =
     (λ c. omega arith)
     (λ c. omega arith)
     loop-again
-    (λ c. begun-length (c .before .loop .inv .1))
+    (λ c. begun-length (c .before .loop .inv .begun))
     returns)

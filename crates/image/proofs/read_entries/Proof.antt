@@ -1,6 +1,6 @@
 -- `image::read_entries` meets its contract. The invariant: the first i entries are read; the measure: the entries left.
 use mathlib.Core.Path.{refl, ap, ap₂, _∙_}
-use Prim.Native.Nat.{_-_, _≤_}
+use Prim.Native.Nat.{_-_}
 use native.Mathlib.Omega.{arith}
 use borrow.Author.Needs.{needs}
 use Rattle.buffers.specs.Buffer.{resized}
@@ -13,7 +13,7 @@ use Rattle.image.proofs.read_entries.Tie as tie
 
 abbrev Inv-loop : tie.InvT-loop
 Inv-loop times₀ lens₀ bytes₀ copies₀ image count i₀ times lens bytes copies i =
-    (i ≤ count) × Reading image count (columns times₀ lens₀ bytes₀ copies₀) i (columns times lens bytes copies)
+    Reading image count (columns times₀ lens₀ bytes₀ copies₀) i (columns times lens bytes copies)
 
 abbrev μ-loop : tie.MeasureT-loop
 μ-loop times₀ lens₀ bytes₀ copies₀ image count i₀ times lens bytes copies i = count - i
@@ -21,7 +21,7 @@ abbrev μ-loop : tie.MeasureT-loop
 loop-holds : tie.Need-loop-holds Inv-loop μ-loop
 loop-holds c =
     let s = c .before .before .before .before .before in
-    (omega arith, reading-none _ _ (s .pre .4) (s .pre .5) _)
+    reading-none _ _ (s .pre .4) (s .pre .5) _
 
 loop-again : tie.Need-loop-again Inv-loop μ-loop
 loop-again c =
@@ -31,19 +31,17 @@ loop-again c =
     let shown = used .before .before in
     let at = shown .before .before in
     let s = at .before .before .before .before .before .before in
-    let cell = shown .cell-in .ensures in (
-      omega arith,
-      reading-more _ _ (s .pre .4) (s .pre .5) _ (at .loop .i) _ (at .loop .inv .1) _ _ _ _
-          (used .before .cell-time .ensures ∙ ap cellTime cell) (used .cell-used .ensures ∙ ap cellUsed cell) (last .cell-last .ensures ∙ ap cellLast cell)
-          (copied .copy-field .ensures ∙ ap₂ resized refl (ap cellField cell)) (copied .copy-field .kept .0)
-          (omega arith) (s .pre .0) (s .pre .1) (s .pre .2) (s .pre .3),
-    )
+    let cell = shown .cell-in .ensures in
+    reading-more _ _ (s .pre .4) (s .pre .5) _ (at .loop .i) _ (at .loop .inv) _ _ _ _
+    (used .before .cell-time .ensures ∙ ap cellTime cell) (used .cell-used .ensures ∙ ap cellUsed cell) (last .cell-last .ensures ∙ ap cellLast cell)
+    (copied .copy-field .ensures ∙ ap₂ resized refl (ap cellField cell)) (copied .copy-field .kept .0)
+    (omega arith) (s .pre .0) (s .pre .1) (s .pre .2) (s .pre .3)
 
 returns : tie.Need-returns Inv-loop μ-loop
 returns c =
     let at = c .before in
     let s = at .before .before .before .before .before .before in
-    reading-all _ _ (s .pre .4) (s .pre .5) _ (at .loop .i) _ (at .loop .inv .1) (omega arith)
+    reading-all _ _ (s .pre .4) (s .pre .5) _ (at .loop .i) _ (at .loop .inv) (omega arith)
 
 pub read-entries-spec : {M : Type 1} → statement M
 read-entries-spec =
@@ -55,24 +53,24 @@ read-entries-spec =
     (λ c κs. search needs)
     (λ c κs. search needs)
     (λ c. omega arith)
-    (λ c. within (c .before .before .before .loop .inv .1 .times) _ (omega arith))
+    (λ c. within (c .before .before .before .loop .inv .times) _ (omega arith))
     (λ c κs. search needs)
-    (λ c. within (c .before .before .before .before .loop .inv .1 .lens) _ (omega arith))
+    (λ c. within (c .before .before .before .before .loop .inv .lens) _ (omega arith))
     (λ c κs. search needs)
     (λ c. omega arith)
-    (λ c. within (c .before .before .before .before .before .loop .inv .1 .copies) _ (omega arith))
+    (λ c. within (c .before .before .before .before .before .loop .inv .copies) _ (omega arith))
     (λ c. omega arith)
     (λ c. omega arith)
     (λ c. omega arith)
     (λ c. omega arith)
     (λ c. omega arith)
-    (λ c. within (c .before .before .before .before .before .loop .inv .1 .bytes) _ (omega arith))
+    (λ c. within (c .before .before .before .before .before .loop .inv .bytes) _ (omega arith))
     (λ c κs. search needs)
     (λ c. omega arith)
     (λ c. omega arith)
     loop-again
-    (λ c. begun-length (c .before .loop .inv .1 .times))
-    (λ c. begun-length (c .before .loop .inv .1 .lens))
-    (λ c. begun-length (c .before .loop .inv .1 .bytes))
-    (λ c. begun-length (c .before .loop .inv .1 .copies))
+    (λ c. begun-length (c .before .loop .inv .times))
+    (λ c. begun-length (c .before .loop .inv .lens))
+    (λ c. begun-length (c .before .loop .inv .bytes))
+    (λ c. begun-length (c .before .loop .inv .copies))
     returns)

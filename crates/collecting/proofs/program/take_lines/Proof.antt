@@ -2,6 +2,7 @@
 -- The measure is what is left of the input.
 use mathlib.Core.Path.{_≡_, refl}
 use mathlib.Core.Bool.{true, false}
+use mathlib.Core.List.{List}
 use Prim.Native.Nat.{ℕ, _-_, _≤_}
 use native.Mathlib.Omega.{arith}
 use lib.ListN.{length, take, drop, length-drop}
@@ -11,6 +12,7 @@ use Rattle.line_input.specs.Reading.{lineLimit}
 use Rattle.streams.specs.Chunks.{atLineStart, feed}
 use Rattle.streams.specs.Collect.{collect}
 use Rattle.buffers.proofs.Stores.{take-rest}
+use Rattle.collecting.specs.declared.Session.{Session}
 use Rattle.collecting.specs.Session.{modelCollector, phaseOf, Ran}
 use Rattle.collecting.proofs.Draining.{more-taken, none-more, none-left}
 use Rattle.collecting.proofs.program.take_lines.Statement.{statement}
@@ -19,16 +21,20 @@ use Rattle.collecting.proofs.program.take_lines.Tie as tie
 failed : {A : Type 0} → false ≡ true → A
 failed e = let z : _≡_ {A = ℕ} 0 1 = cc in absurd (omega arith)
 
+record Taking (input out₀ : List ℕ) (s₀ : Session) (out : List ℕ) (s : Session) (at : ℕ) : Type 0 where
+  inside : at ≤ length input
+  long : length out ≡ length out₀
+  state : feed (collect modelCollector) lineLimit (atLineStart (phaseOf s₀)) (take at input) ≡ atLineStart (phaseOf s)
+
 abbrev Inv-loop : tie.InvT-loop
-Inv-loop input out₀ s₀ at₀ out s at =
-    (at ≤ length input) × (length out ≡ length out₀) × (feed (collect modelCollector) lineLimit (atLineStart (phaseOf s₀)) (take at input) ≡ atLineStart (phaseOf s))
+Inv-loop input out₀ s₀ at₀ out s at = Taking input out₀ s₀ out s at
 
 abbrev μ-loop : tie.MeasureT-loop
 μ-loop input out₀ s₀ at₀ out s at = length input - at
 
 loop-holds : tie.Need-loop-holds Inv-loop μ-loop
 unfolding feed
-loop-holds c = (omega arith, refl, refl)
+loop-holds c = record { inside = omega arith; long = refl; state = refl }
 
 -- what the call of `lines` gave, on the rest of the input
 ran : (c : tie.After-lines Inv-loop μ-loop)
@@ -40,7 +46,7 @@ ran c =
 returns : tie.Need-returns Inv-loop μ-loop
 returns c =
     let l = c .before .before .before .before .before .before .before in
-    record { within = l .before .before .before .before .loop .inv .0; state = λ e. failed e; rest = λ e. failed e }
+    record { within = l .before .before .before .before .loop .inv .inside; state = λ e. failed e; rest = λ e. failed e }
 
 add-at : tie.Need-add-at Inv-loop μ-loop
 add-at c =
@@ -58,12 +64,16 @@ loop-again c =
     let input = now (a .before .before .before .args .input) in
     let r = ran l in
     let h : l .lines .result .used ≤ length input - a .loop .at = omega (arith, r .within, length-drop (a .loop .at) input) in
-    (omega arith, omega arith, more-taken _ _ _ input (a .loop .at) (l .lines .result .used) (a .loop .inv .2) (r .fed .state))
+    record {
+      inside = omega arith;
+      long = omega arith;
+      state = more-taken _ _ _ input (a .loop .at) (l .lines .result .used) (a .loop .inv .state) (r .fed .state);
+    }
 
 returns-2 : tie.Need-returns-2 Inv-loop μ-loop
 returns-2 c =
     let a = c .before in
-    record { within = a .loop .inv .0; state = λ e. a .loop .inv .2; rest = λ e. none-left _ _ (c .loop-test .left) }
+    record { within = a .loop .inv .inside; state = λ e. a .loop .inv .state; rest = λ e. none-left _ _ (c .loop-test .left) }
 
 returns-3 : tie.Need-returns-3 Inv-loop μ-loop
 returns-3 c =
@@ -72,8 +82,8 @@ returns-3 c =
     let input = now (a .before .before .before .args .input) in
     let r = ran l in
     record {
-      within = a .loop .inv .0;
-      state = λ e. none-more _ _ _ input (a .loop .at) (l .lines .result .used) (a .loop .inv .2) (r .fed .state) (c .if2 .taken);
+      within = a .loop .inv .inside;
+      state = λ e. none-more _ _ _ input (a .loop .at) (l .lines .result .used) (a .loop .inv .state) (r .fed .state) (c .if2 .taken);
       rest = λ e. r .rest (c .if2 .taken) (omega arith);
     }
 

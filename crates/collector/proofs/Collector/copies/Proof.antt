@@ -27,14 +27,14 @@ returns : tie.Need-returns
 returns c = c .not-heard .ensures ∙ heard-unacceptable _ _ (sym (tested (c .before .before)) ∙ not-true _ (c .before .if1 .taken))
 
 returns-2 : tie.Need-returns-2
-returns-2 c = c .not-heard2 .ensures ∙ heard-closed _ _ (passed (c .before .before)) (c .before .if2 .taken)
+returns-2 c = c .not-heard2 .ensures ∙ heard-closed _ _ (passed (c .before .before .before)) (c .before .if2 .taken)
 
 -- the entry is open
-few : (c : tie.Else2) → start (c .before .before) .args .t1 .count ≤ capacity
-few c = heard-few _ (start (c .before .before) .args .entry) (passed (c .before))
+few : (c : tie.Else2) → start (c .before .before .before) .args .t1 .summary .count ≤ capacity
+few c = heard-few _ (start (c .before .before .before) .args .entry) (passed (c .before .before))
 
 returns-3 : tie.Need-returns-3
-returns-3 c = heard-open _ _ (passed (c .before .before)) (c .before .if2 .left)
+returns-3 c = heard-open _ _ (passed (c .before .before .before)) (c .before .if2 .left)
 
 pub copies-spec : {M : Type 1} → statement M
 copies-spec =

@@ -3,7 +3,6 @@ use mathlib.Core.Path.{_∙_}
 use borrow.Author.Needs.{needs}
 use denote.Ref.{now}
 use Rattle.model.specs.View.{Reception}
-use Rattle.collector.specs.declared.merging.Summary.{Summary}
 use Rattle.collector.specs.Collector.{columnsOf, viewOf}
 use Rattle.collector.specs.Admission.{collectorOf}
 use Rattle.collector.specs.Private.{Decides}
@@ -21,11 +20,8 @@ start c = testing c .before .before .before .before .before .before .before
 abbrev reception : tie.Start → Reception
 reception s = record { bytes = now (s .args .bytes); time = s .args .time }
 
-abbrev summary : tie.Start → Summary
-summary s = record { count = s .args .t1 .count; latest = s .args .t1 .latest; totals = s .args .t1 .totals }
-
 made : (c : tie.After-decide)
-    → Decides (testing c .is-acceptable .result) (columnsOf (start c .args .t1)) (summary (start c)) (reception (start c)) (c .decide .result)
+    → Decides (testing c .is-acceptable .result) (columnsOf (start c .args .t1)) (start c .args .t1 .summary) (reception (start c)) (c .decide .result)
 made c = c .decide .ensures (start c .args .t1 .copies)
 
 change-times-requires : tie.Need-change-times-requires
@@ -37,13 +33,13 @@ change-copies-requires c κs = let d = made (c .before .before .before .before .
 returns : tie.Need-returns
 unfolding viewOf
 returns c =
-    let d = c .before .before .before .before .before .before .before .before .before .before in
-    let times = c .before .before .before .before .before .before .before .before .change-times .ensures in
-    let lens = c .before .before .before .before .before .before .change-lens .ensures in
-    let bytes = c .before .before .before .before .change-bytes .ensures in
-    let k = carried-out (made d) times lens bytes (c .before .before .change-copies .ensures) in
+    let d = c .before .before .before .before .before .before .before .before .before in
+    let times = c .before .before .before .before .before .before .before .change-times .ensures in
+    let lens = c .before .before .before .before .before .change-lens .ensures in
+    let bytes = c .before .before .before .change-bytes .ensures in
+    let k = carried-out (made d) times lens bytes (c .before .change-copies .ensures) in
     record {
-      outcome = k .outcome ∙ admission-fit _ _ _ (testing d .is-acceptable .ensures _);
+      outcome = k .outcome ∙ admission-fit (viewOf (start d .args .t1)) (reception (start d)) _ (testing d .is-acceptable .ensures _);
       stays = λ e. let same = k .stays e in λ i. collectorOf (same .0 i) (same .1 i);
     }
 

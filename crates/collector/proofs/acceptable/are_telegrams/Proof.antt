@@ -16,9 +16,13 @@ use Rattle.collector.proofs.Marks.{Marked, marked-none, marked-more, va
 use Rattle.collector.proofs.acceptable.are_telegrams.Statement.{statement}
 use Rattle.collector.proofs.acceptable.are_telegrams.Tie as tie
 
+record Testing (times lens bytes : List ℕ) (count : ℕ) (seen : List ℕ) (i : ℕ) : Type 0 where
+  bounded : i ≤ count
+  passed : (copies : List ℕ) → areTelegrams (entriesAt (columns times lens bytes copies) i) ≡ true
+  marked : Marked lens bytes i seen
+
 abbrev Inv-loop : tie.InvT-loop
-Inv-loop times lens bytes count seen₀ i₀ seen i =
-    (i ≤ count) × ((copies : List ℕ) → areTelegrams (entriesAt (columns times lens bytes copies) i) ≡ true) × Marked lens bytes i seen
+Inv-loop times lens bytes count seen₀ i₀ seen i = Testing times lens bytes count seen i
 
 abbrev μ-loop : tie.MeasureT-loop
 μ-loop times lens bytes count seen₀ i₀ seen i = count - i
@@ -61,20 +65,21 @@ loop-again c =
     let e = c .before .before in
     let l = at (e .before) in
     let i = l .loop .i in
-    let mark = e .before .mark-at .ensures .mark (e .if1 .left) in (
-      omega arith,
-      λ copies. telegrams-more (table l copies) i (l .loop .inv .1 copies)
+    let mark = e .before .mark-at .ensures .mark (e .if1 .left) in
+    record {
+      bounded = omega arith;
+      passed = λ copies. telegrams-more (table l copies) i (l .loop .inv .passed copies)
           (new-both (table l copies) i (valid e)
           (not-known (c .before .is-repeated .ensures copies) (c .if2 .left)
-          (λ z. new-mark (table l copies) i (l .loop .seen) (l .loop .inv .2) (valid e) (ap (λ (n : ℕ). getD (l .loop .seen) n 0) (sym mark) ∙ z)))),
-      marked-more (now (start l .args .lens)) (now (start l .args .bytes)) i (l .loop .seen) (l .loop .inv .2) _ mark (e .if1 .left),
-    )
+          (λ z. new-mark (table l copies) i (l .loop .seen) (l .loop .inv .marked) (valid e) (ap (λ (n : ℕ). getD (l .loop .seen) n 0) (sym mark) ∙ z))));
+      marked = marked-more (now (start l .args .lens)) (now (start l .args .bytes)) i (l .loop .seen) (l .loop .inv .marked) _ mark (e .if1 .left);
+    }
 
 returns-3 : tie.Need-returns-3 Inv-loop μ-loop
 returns-3 c copies =
     let l = c .before in
     let e : l .loop .i ≡ start l .args .count = omega arith in
-    sym (rw e at (l .loop .inv .1 copies))
+    sym (rw e at (l .loop .inv .passed copies))
 
 pub are-telegrams-spec : {M : Type 1} → statement M
 are-telegrams-spec =
@@ -83,7 +88,7 @@ are-telegrams-spec =
     Inv-loop
     μ-loop
     (λ c κs. search needs)
-    (λ c. (omega arith, λ copies. telegrams-none _, marked-none _ _ _ (c .no-marks .ensures)))
+    (λ c. record { bounded = omega arith; passed = λ copies. telegrams-none _; marked = marked-none _ _ _ (c .no-marks .ensures) })
     (λ c κs. omega arith)
     returns
     (λ c. omega arith)

@@ -15,9 +15,12 @@ use Rattle.collector.proofs.Times.{rising, timely-by, rising-not, risin
 use Rattle.collector.proofs.acceptable.are_timely.Statement.{statement}
 use Rattle.collector.proofs.acceptable.are_timely.Tie as tie
 
+record Testing (times : List ℕ) (count latest earliest i : ℕ) : Type 0 where
+  bounded : i ≤ count
+  rest : rising earliest latest (slice i count times) ≡ rising (latest - maturity) latest (take count times)
+
 abbrev Inv-loop : tie.InvT-loop
-Inv-loop times count latest earliest₀ i₀ earliest i =
-    (i ≤ count) × (rising earliest latest (slice i count times) ≡ rising (latest - maturity) latest (take count times))
+Inv-loop times count latest earliest₀ i₀ earliest i = Testing times count latest earliest i
 
 abbrev μ-loop : tie.MeasureT-loop
 μ-loop times count latest earliest₀ i₀ earliest i = count - i
@@ -28,7 +31,7 @@ timely : (a : Columns) {times : List ℕ} → a .times ≡ times → (count late
 timely a e count latest h = rw (← e) (timely-by a count latest (rw e h))
 
 loop-holds : tie.Need-loop-holds Inv-loop μ-loop
-loop-holds c = (omega arith, rw (c .since .ensures))
+loop-holds c = record { bounded = omega arith; rest = rw (c .since .ensures) }
 
 returns : tie.Need-returns Inv-loop μ-loop
 returns c table e =
@@ -36,24 +39,25 @@ returns c table e =
     let a = l .before .before .before .args in
     sym (
     sym (timely table e (a .count) (a .latest) (omega arith))
-    ∙ sym (l .loop .inv .1)
+    ∙ sym (l .loop .inv .rest)
     ∙ rising-not (now (a .times)) (l .loop .i) (a .count) (l .loop .earliest) (a .latest) (omega arith) (omega arith) (c .if1 .taken)
     )
 
 loop-again : tie.Need-loop-again Inv-loop μ-loop
 loop-again c =
     let l = c .before .before .before in
-    let a = l .before .before .before .args in (
-      omega arith,
-      sym (rising-more (now (a .times)) (l .loop .i) (a .count) (l .loop .earliest) (a .latest) (omega arith) (omega arith) (c .if1 .left)) ∙ l .loop .inv .1,
-    )
+    let a = l .before .before .before .args in
+    record {
+      bounded = omega arith;
+      rest = sym (rising-more (now (a .times)) (l .loop .i) (a .count) (l .loop .earliest) (a .latest) (omega arith) (omega arith) (c .if1 .left)) ∙ l .loop .inv .rest;
+    }
 
 returns-2 : tie.Need-returns-2 Inv-loop μ-loop
 returns-2 c table t =
     let l = c .before in
     let a = l .before .before .before .args in
     let e : l .loop .i ≡ a .count = omega arith in
-    sym (rising-end (now (a .times)) (a .count) (l .loop .earliest) (a .latest)) ∙ (rw e at (l .loop .inv .1))
+    sym (rising-end (now (a .times)) (a .count) (l .loop .earliest) (a .latest)) ∙ (rw e at (l .loop .inv .rest))
     ∙ timely table t (a .count) (a .latest) (omega arith)
 
 pub are-timely-spec : {M : Type 1} → statement M

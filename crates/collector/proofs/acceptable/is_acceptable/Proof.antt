@@ -25,7 +25,7 @@ returns-2 c copies =
     not-timely _ _ (entries-length _ _) (t .before .before .if1 .left) (sym (t .are-timely .ensures _ refl) ∙ not-true _ (c .if2 .taken))
 
 timely : (c : tie.Else2) (copies : List ℕ)
-    → (let s = c .before .before .before .before in areTimely (s .args .latest) (entriesAt (table s copies) (s .args .count)) ≡ true)
+    → (let s = c .before .before .before .before .before in areTimely (s .args .summary .latest) (entriesAt (table s copies) (s .args .summary .count)) ≡ true)
 timely c copies = sym (c .before .are-timely .ensures _ refl) ∙ not-false _ (c .if2 .left)
 
 returns-3 : tie.Need-returns-3
@@ -35,7 +35,7 @@ returns-3 c copies =
     not-telegrams _ _ (entries-length _ _) (e .if1 .left) (timely (t .before) copies) (sym (t .are-telegrams .ensures copies) ∙ not-true _ (c .if3 .taken))
 
 telegrams : (c : tie.Else3) (copies : List ℕ)
-    → (let s = c .before .before .before .before .before .before in areTelegrams (entriesAt (table s copies) (s .args .count)) ≡ true)
+    → (let s = c .before .before .before .before .before .before .before in areTelegrams (entriesAt (table s copies) (s .args .summary .count)) ≡ true)
 telegrams c copies = sym (c .before .are-telegrams .ensures copies) ∙ not-false _ (c .if3 .left)
 
 returns-4 : tie.Need-returns-4

@@ -15,11 +15,14 @@ use Rattle.collector.proofs.Arrays.{not-same, same-echo, echo-said, las
 use Rattle.collector.proofs.entries.find.Statement.{statement}
 use Rattle.collector.proofs.entries.find.Tie as tie
 
+record Searching (a : List ℕ → Columns) (gone count : ℕ) (r : Reception) (i : ℕ) : Type 0 where
+  above : gone ≤ i
+  bounded : i ≤ count
+  none : (copies : List ℕ) (j : ℕ) → i ≤ j → j < count → isCopyOf (entryAt (a copies) j) r ≡ false
+
 abbrev Inv-loop : tie.InvT-loop
 Inv-loop times lens bytes gone count received time original i₀ i =
-    (gone ≤ i) × (i ≤ count)
-    × ((copies : List ℕ) (j : ℕ) → i ≤ j → j < count
-    → isCopyOf (entryAt (columns times lens bytes copies) j) (record { bytes = received; time = time }) ≡ false)
+    Searching (columns times lens bytes) gone count (record { bytes = received; time = time }) i
 
 abbrev μ-loop : tie.MeasureT-loop
 μ-loop times lens bytes gone count received time original i₀ i = i
@@ -66,30 +69,32 @@ returns c copies =
     let l = turn (held (c .before) .before) in
     last-found (table l copies) (start l .args .gone) (start l .args .count) (reception l) (l .loop .i - 1) (omega arith) (omega arith)
     (copied (c .before) copies ∙ c .if2 .taken)
-    (λ j h k. l .loop .inv .2 copies j (omega arith) k)
+    (λ j h k. l .loop .inv .none copies j (omega arith) k)
 
 loop-again : tie.Need-loop-again Inv-loop μ-loop
 loop-again c =
-    let l = turn (held (c .before) .before) in (
-      omega arith,
-      omega arith,
-      λ copies. down (λ j. isCopyOf (entryAt (table l copies) j) (reception l)) (l .loop .i) (start l .args .count)
-          (copied (c .before) copies ∙ c .if2 .left) (l .loop .inv .2 copies),
-    )
+    let l = turn (held (c .before) .before) in
+    record {
+      above = omega arith;
+      bounded = omega arith;
+      none = λ copies. down (λ j. isCopyOf (entryAt (table l copies) j) (reception l)) (l .loop .i) (start l .args .count)
+          (copied (c .before) copies ∙ c .if2 .left) (l .loop .inv .none copies);
+    }
 
 loop-again-2 : tie.Need-loop-again-2 Inv-loop μ-loop
 loop-again-2 c =
-    let l = turn (c .before) in (
-      omega arith,
-      omega arith,
-      λ copies. down (λ j. isCopyOf (entryAt (table l copies) j) (reception l)) (l .loop .i) (start l .args .count)
-          (not-same (table l copies) (l .loop .i - 1) (reception l) (sym (c .before .holds .ensures) ∙ c .if1 .left)) (l .loop .inv .2 copies),
-    )
+    let l = turn (c .before) in
+    record {
+      above = omega arith;
+      bounded = omega arith;
+      none = λ copies. down (λ j. isCopyOf (entryAt (table l copies) j) (reception l)) (l .loop .i) (start l .args .count)
+          (not-same (table l copies) (l .loop .i - 1) (reception l) (sym (c .before .holds .ensures) ∙ c .if1 .left)) (l .loop .inv .none copies);
+    }
 
 returns-2 : tie.Need-returns-2 Inv-loop μ-loop
 returns-2 c copies =
     let l = c .before in
-    none-found (table l copies) (start l .args .gone) (start l .args .count) (reception l) (λ j g k. l .loop .inv .2 copies j (omega arith) k)
+    none-found (table l copies) (start l .args .gone) (start l .args .count) (reception l) (λ j g k. l .loop .inv .none copies j (omega arith) k)
 
 pub find-spec : {M : Type 1} → statement M
 find-spec =
@@ -98,7 +103,7 @@ find-spec =
     Inv-loop
     μ-loop
     (λ c κs. search needs)
-    (λ c. (omega arith, omega arith, λ copies j h k. absurd (omega arith)))
+    (λ c. record { above = omega arith; bounded = omega arith; none = λ copies j h k. absurd (omega arith) })
     (λ c. omega arith)
     (λ c κs. search needs)
     (λ c. search needs)

@@ -11,8 +11,7 @@ use Rattle.refusal.specs.declared.Refusal.the-variants.{Full, NotAccepted}
 use Rattle.erp1.specs.Subtelegram.{checkedNumber}
 use Rattle.model.specs.View.{Reception}
 use Rattle.model.specs.Step.{maxCount}
-use Rattle.collector.specs.Collector.{Columns, columns, entriesAt}
-use Rattle.collector.specs.Admission.{viewIn}
+use Rattle.collector.specs.Collector.{Columns, columns, entriesAt, viewIn}
 use Rattle.collector.specs.Private.{JudgedBy}
 use Rattle.collector.proofs.Admitting.{Fit, Looked, passed-valid, valid-fits, fit-says, not-accepted, all-full, is-taken}
 use Rattle.collector.proofs.Admitting.{decides-nothing, room, decides}

@@ -80,7 +80,7 @@ returns c =
     let at = lengths (put t) in
     let h = room at in
     let v = viewOf (start at .args .c) in
-    let both = lend (first (put t) .begun) _ (seenBytes (Restored (loadedNumber (t .restore .result .answer)) (t .restore .result .next .totals)))
+    let both = lend (first (put t) .begun) _ (seenBytes (Restored (loadedNumber (t .restore .result .answer)) (t .restore .result .next .summary .totals)))
     (end at + 50)
     (second .put-restored .ensures) (second .put-restored .kept .0) (omega arith) (omega arith) in
     record {

@@ -30,8 +30,8 @@ returns c =
     let l = output-length (viewOf (a .c)) entry ys (a .fill) (savedNumber r) (start save .pre) (save .save-into .kept .0) in
     saved-output (viewOf (a .c)) entry ys (a .fill) (savedNumber r) (start save .pre) (save .save-into .ensures) (save .save-into .kept .0) _
     (lend-sized
-    (lend (begin _) _ (headOf saving (savedNumber r) (a .c .totals)) 50
-    (head .put-head .ensures ∙ λ i. headOf saving (answer .saved-number .ensures i) (a .c .totals)) (head .put-head .kept .0)
+    (lend (begin _) _ (headOf saving (savedNumber r) (a .c .summary .totals)) 50
+    (head .put-head .ensures ∙ λ i. headOf saving (answer .saved-number .ensures i) (a .c .summary .totals)) (head .put-head .kept .0)
     (omega arith) (omega (arith, l)))
     _ (λ w. be w (rest (viewOf (a .c)) entry ys (a .fill) (savedNumber r) (start save .pre))) 58 (number .put-number .ensures)
     (number .put-number .kept .0)
