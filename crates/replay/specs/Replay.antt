@@ -39,7 +39,8 @@ pub record Resumes (v : View) (h : List Call) (entry exit : List ℕ) (r : Repla
 pub record Replays (h : List Call) (entry exit : List ℕ) (r : Replayed) : Type 0 where
   pub shown : Resumes fresh h entry exit r
   pub reference : IsHistory h → replayedOf r exit ≡ putRecord (recordOf (expected [] h)) entry
-  pub uncutRun : (g : List Call) → IsHistory g → h ≡ uncut g → replayedOf r exit ≡ putRecord (recordOf (common (expected [] g))) entry
+  pub uncutRun : (g : List Call) → IsHistory g → h ≡ uncut g
+      → replayedOf r exit ≡ putRecord (recordOf (common (expected [] g))) entry
 
 -- ---- what private functions say
 
@@ -54,4 +55,5 @@ wroteOf v output = Wrote (checkpointOf v output .number) (checkpointOf v output 
 
 -- a burst of the receptions that bytes say, with the first m places that a record says
 pub record BurstMade (c : Collector) (r bytes : List ℕ) (m : ℕ) (w : Within) : Type 0 where
-  pub result : burstedOf (w .bursted) (take m (w .replies)) ≡ burstOf (settingIn r) (viewOf c) (receptionsIn bytes) (replicate m (placeIn r))
+  pub result : burstedOf (w .bursted) (take m (w .replies))
+      ≡ burstOf (settingIn r) (viewOf c) (receptionsIn bytes) (replicate m (placeIn r))

@@ -27,7 +27,9 @@ const RECEPTION: usize = 53;
 
 pub(crate) fn received<'a>(c: Collector, r: &'a [u8], out: &'a mut [u8]) -> Collector
     requires { ⌜ (length (now r) ≡ callLength) × (length (now out) ≡ headLength + replyLength) ⌝ }
-    ensures { λ d. ⌜ Called (viewOf c) (Receive (settingIn (now (r .entry))) (receptionIn (now (r .entry)))) (now (out .exit)) d ⌝ }
+    ensures { λ d. ⌜ Called (viewOf c)
+        (Receive (settingIn (now (r .entry))) (receptionIn (now (r .entry))))
+        (now (out .exit)) d ⌝ }
 {
     let time = reading::number_at(r, 1);
     let n = reading::least(reading::wide(r[9]), RECEPTION);
@@ -56,7 +58,8 @@ fn sent_for(setting: u8, answer: Answer, bytes: &[u8]) -> Frame
 }
 
 pub(crate) fn saved<'a>(c: Collector, r: &'a [u8], out: &'a mut [u8]) -> Collector
-    requires { ⌜ (length (now r) ≡ callLength) × (length (now out) ≡ headLength + countLength + length (outputIn (now r))) ⌝ }
+    requires { ⌜ (length (now r) ≡ callLength)
+        × (length (now out) ≡ headLength + countLength + length (outputIn (now r))) ⌝ }
     ensures { λ d. ⌜ Called (viewOf c) (Checkpoint (outputIn (now (r .entry)))) (now (out .exit)) d ⌝ }
 {
     writing::put_wrote(out, c, r[9]);
@@ -65,7 +68,8 @@ pub(crate) fn saved<'a>(c: Collector, r: &'a [u8], out: &'a mut [u8]) -> Collect
 
 // The second cell is of the restore into another collector, of the bytes in the first.
 pub(crate) fn cut<'a>(c: Collector, r: &'a [u8], out: &'a mut [u8]) -> Collector
-    requires { ⌜ (length (now r) ≡ callLength) × (length (now out) ≡ headLength + countLength + length (outputIn (now r)) + headLength) ⌝ }
+    requires { ⌜ (length (now r) ≡ callLength)
+        × (length (now out) ≡ headLength + countLength + length (outputIn (now r)) + headLength) ⌝ }
     ensures { λ d. ⌜ Called (viewOf c) (Cut (outputIn (now (r .entry)))) (now (out .exit)) d ⌝ }
 {
     let n = reading::output_length(r);
@@ -101,9 +105,11 @@ pub(crate) fn delivered<'a>(
     lent: &'a [u8],
     out: &'a mut [u8],
 ) -> Collector
-    requires { ⌜ (length (now r) ≡ callLength) × (length (now out) ≡ headLength + countLength + replyLength * min (numberAt 17 (now r)) listed) ⌝ }
+    requires { ⌜ (length (now r) ≡ callLength)
+        × (length (now out) ≡ headLength + countLength + replyLength * min (numberAt 17 (now r)) listed) ⌝ }
     ensures { λ d. ⌜ Called (viewOf c)
-        (Burst (settingIn (now (r .entry))) (receptionsIn (lentIn (now (lent .entry)) (now (r .entry)))) (placesIn (now (r .entry))))
+        (Burst (settingIn (now (r .entry))) (receptionsIn (lentIn (now (lent .entry)) (now (r .entry))))
+        (placesIn (now (r .entry))))
         (now (out .exit)) d ⌝ }
 {
     let m = reading::place_count(r);

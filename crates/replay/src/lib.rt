@@ -52,14 +52,16 @@ pub struct Replayed {
 
 // What a collector started fresh shows of all the calls. An output that is shorter than their record is refused with 6, and no call is made.
 pub fn replay<'a>(calls: &'a [u8], lent: &'a [u8], out: &'a mut [u8]) -> Replayed
-    ensures { λ r. ⌜ Replays (callsIn (now (lent .entry)) (now (calls .entry))) (now (out .entry)) (now (out .exit)) r ⌝ }
+    ensures { λ r. ⌜ Replays (callsIn (now (lent .entry)) (now (calls .entry)))
+        (now (out .entry)) (now (out .exit)) r ⌝ }
 {
     resume(Collector::fresh(), calls, lent, out)
 }
 
 // What a collector shows of them, whatever state it is in.
 pub fn resume<'a>(c: Collector, calls: &'a [u8], lent: &'a [u8], out: &'a mut [u8]) -> Replayed
-    ensures { λ r. ⌜ Resumes (viewOf c) (callsIn (now (lent .entry)) (now (calls .entry))) (now (out .entry)) (now (out .exit)) r ⌝ }
+    ensures { λ r. ⌜ Resumes (viewOf c) (callsIn (now (lent .entry)) (now (calls .entry)))
+        (now (out .entry)) (now (out .exit)) r ⌝ }
 {
     if !fits(calls, out.len()) {
         return Replayed {
@@ -89,7 +91,8 @@ fn fits(calls: &[u8], n: usize) -> bool
 // All the calls, one after the other.
 fn all<'a>(c: Collector, calls: &'a [u8], lent: &'a [u8], out: &'a mut [u8]) -> Replayed
     requires { ⌜ sizeOfAll (callsIn [] (now calls)) ≤ length (now out) ⌝ }
-    ensures { λ r. ⌜ Resumes (viewOf c) (callsIn (now (lent .entry)) (now (calls .entry))) (now (out .entry)) (now (out .exit)) r ⌝ }
+    ensures { λ r. ⌜ Resumes (viewOf c) (callsIn (now (lent .entry)) (now (calls .entry)))
+        (now (out .entry)) (now (out .exit)) r ⌝ }
 {
     let mut now = c;
     let mut at: usize = 0;

@@ -90,7 +90,8 @@ fn window(s: &[u8], a: u64, n: u64) -> &[u8]
 // The receptions of a burst: the first n records.
 pub(crate) fn receptions_in(bytes: &[u8], n: usize) -> [Reception; LISTED]
     requires { ⌜ (n ≤ listed) × (callLength * n ≤ length (now bytes)) ⌝ }
-    ensures { λ rs. ⌜ map receptionOf (take n rs) ≡ map (λ i. burstReceptionIn (recordAt (now (bytes .entry)) i)) (upFrom 0 n) ⌝ }
+    ensures { λ rs. ⌜ map receptionOf (take n rs)
+        ≡ map (λ i. burstReceptionIn (recordAt (now (bytes .entry)) i)) (upFrom 0 n) ⌝ }
 {
     let mut all = no_receptions();
     for i in 0..n {

@@ -44,7 +44,8 @@ pub(crate) fn put_answered(out: &mut [u8], answer: Answer, sent: Frame, totals: 
 // A checkpoint into all that stands behind the length, each byte of which is `fill` before.
 pub(crate) fn put_wrote(out: &mut [u8], c: Collector, fill: u8)
     requires { ⌜ headLength + countLength ≤ length (now out) ⌝ }
-    ensures { λ _. ⌜ now (out .exit) ≡ seenBytes (wroteOf (viewOf c) (replicate (length (now (out .entry)) - (headLength + countLength)) fill)) ⌝ }
+    ensures { λ _. ⌜ now (out .exit) ≡ seenBytes
+        (wroteOf (viewOf c) (replicate (length (now (out .entry)) - (headLength + countLength)) fill)) ⌝ }
 {
     let n = out.len() - BODY;
     let answer = save_into(&mut out[BODY..BODY + n], c, fill);
@@ -54,7 +55,8 @@ pub(crate) fn put_wrote(out: &mut [u8], c: Collector, fill: u8)
 }
 
 fn save_into(out: &mut [u8], c: Collector, fill: u8) -> Saved
-    ensures { λ r. ⌜ checkpointResult r (now (out .exit)) ≡ checkpointOf (viewOf c) (replicate (length (now (out .entry))) fill) ⌝ }
+    ensures { λ r. ⌜ checkpointResult r (now (out .exit))
+        ≡ checkpointOf (viewOf c) (replicate (length (now (out .entry))) fill) ⌝ }
 {
     set_all(out, fill);
     image::checkpoint(c, out)
@@ -85,7 +87,8 @@ pub(crate) fn put_delivered(
     totals: Totals,
 )
     requires { ⌜ (m ≤ listed) × (length (now out) ≡ headLength + countLength + replyLength * m) ⌝ }
-    ensures { λ _. ⌜ now (out .exit) ≡ seenBytes (Delivered (handedNumber answer) (map repliedOf (take m replies)) totals) ⌝ }
+    ensures { λ _. ⌜ now (out .exit)
+        ≡ seenBytes (Delivered (handedNumber answer) (map repliedOf (take m replies)) totals) ⌝ }
 {
     let number = handed_number(answer);
     put_head(&mut out[0..HEAD], crate::DELIVERING, number, totals);
