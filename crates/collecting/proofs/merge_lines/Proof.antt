@@ -35,7 +35,6 @@ Inv-loop fit setting times₀ lens₀ entries₀ copies₀ input out₀ summary�
     (at ≤ length input)
     × (to ≤ length out)
     × (length out ≡ length out₀)
-    × (to ≤ longestLine * at)
     × Tested fit (viewIn (columns times lens entries copies) summary)
     × Fed (collect modelCollector) (running (record { setting = setting; view = viewIn (columns times₀ lens₀ entries₀ copies₀) summary₀ })) (take at input) out₀
     (running (record { setting = setting; view = viewIn (columns times lens entries copies) summary })) out to
@@ -44,7 +43,7 @@ abbrev μ-loop : tie.MeasureT-loop
 μ-loop fit setting times₀ lens₀ entries₀ copies₀ input out₀ summary₀ bytes₀ at₀ to₀ times lens entries copies out summary bytes at to = length input - at
 
 loop-holds : tie.Need-loop-holds Inv-loop μ-loop
-loop-holds c = (omega arith, omega arith, refl, omega arith, c .before .before .pre, fed-none (collect modelCollector) (bounded modelCollector) _ _)
+loop-holds c = (omega arith, omega arith, refl, c .before .before .pre, fed-none (collect modelCollector) (bounded modelCollector) _ _)
 
 -- ---- the line that was read
 
@@ -94,9 +93,8 @@ loop-again c =
       h,
       omega arith,
       omega arith,
-      omega arith,
-      l .loop .inv .4,
-      bad-line (input l) (l .loop .at) (read e .parse .result .used) (l .loop .inv .5) (ended e) (l .loop .inv .0) (omega arith) b w,
+      l .loop .inv .3,
+      bad-line (input l) (l .loop .at) (read e .parse .result .used) (l .loop .inv .4) (ended e) (l .loop .inv .0) (omega arith) b w,
     )
 
 -- ---- a reception
@@ -195,7 +193,7 @@ loop-again-2 c =
     let l = here i in
     let a = g .before .before in
     let z : parsed i .parse .result .len - 0 ≡ parsed i .parse .result .len = omega arith in
-    let o = rw z at (a .admit .ensures .outcome ∙ admission-fit _ _ _ (l .loop .inv .4 .said)) in
+    let o = rw z at (a .admit .ensures .outcome ∙ admission-fit _ _ _ (l .loop .inv .3 .said)) in
     let small : parsed i .parse .result .time < 2 ^ 64 = search needs in
     let w = rw z at (q .put-answer .ensures) in
     let same = same-length w in
@@ -203,9 +201,8 @@ loop-again-2 c =
       within (passed i),
       omega (arith, w .short, same, spare-out),
       omega (arith, same, l .loop .inv .2),
-      omega (arith, w .short, l .loop .inv .3, ended (passed i) .1),
-      rw (← o) at (tested-next _ (record { bytes = bytes i; time = parsed i .parse .result .time }) (l .loop .inv .4) small),
-      reception-line (input l) (l .loop .at) (parsed i .parse .result .used) (l .loop .inv .5) (ended (passed i)) (l .loop .inv .0) (omega (arith, w .short, same, spare-out, l .loop .inv .2))
+      rw (← o) at (tested-next _ (record { bytes = bytes i; time = parsed i .parse .result .time }) (l .loop .inv .3) small),
+      reception-line (input l) (l .loop .at) (parsed i .parse .result .used) (l .loop .inv .4) (ended (passed i)) (l .loop .inv .0) (omega (arith, w .short, same, spare-out, l .loop .inv .2))
           (admittedOf (columns (a .admit .last .1 .0) (a .admit .last .1 .1 .0) (a .admit .last .1 .1 .1 .0) (a .admit .last .1 .1 .1 .1 .0)) (a .admit .result)) (says i) o (time g)
           (relayed-bytes _ _ _ (record { bytes = bytes i; time = parsed i .parse .result .time }) _ (ap (λ (x : Outcome). x .answer) (rw z at (a .admit .ensures .outcome)))) w,
     )
@@ -213,7 +210,7 @@ loop-again-2 c =
 returns : tie.Need-returns Inv-loop μ-loop
 returns c =
     let l = c .before in
-    record { within = omega arith; fed = l .loop .inv .5; short = l .loop .inv .3; rest = λ e h. absurd (let z = none-written (input l) (l .loop .inv .5) e in omega arith) }
+    record { within = omega arith; fed = l .loop .inv .4; rest = λ e h. absurd (let z = none-written (input l) (l .loop .inv .4) e in omega arith) }
 
 returns-2 : tie.Need-returns-2 Inv-loop μ-loop
 returns-2 c =
@@ -221,8 +218,7 @@ returns-2 c =
     let l = turn p in
     record {
       within = l .loop .inv .0;
-      fed = l .loop .inv .5;
-      short = l .loop .inv .3;
+      fed = l .loop .inv .4;
       rest = λ e h. open-from-start (input l) (l .loop .at) e (open-whole (drop (l .loop .at) (input l)) (said-open _ (answer p) (c .if1 .taken)));
     }
 
