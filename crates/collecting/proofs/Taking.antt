@@ -42,7 +42,7 @@ use Rattle.collecting.specs.Session.{Receiver, modelCollector, takenAt, 
 
 pub none-taken : {s : Phase Receiver} {x : Session} {r : Progress} (input out : List ℕ) → phaseOf x ≡ s → r ≡ record { session = x; used = 0; written = 0 }
     → (longestLine ≤ length out → isUnended input ≡ true) → Ran s input out out r
-none-taken {s} input out e k h = rw k (record { within = omega arith; fed = rw e (fed-none (collect modelCollector) (bounded modelCollector) s out); short = omega arith; rest = λ z l. h l })
+none-taken {s} input out e k h = rw k (record { within = omega arith; fed = rw e (fed-none (collect modelCollector) (bounded modelCollector) s out); rest = λ z l. h l })
 
 -- nothing is written for no line
 pub none-written : {s s' : Phase Receiver} {out out' : List ℕ} {n : ℕ} (input : List ℕ) {at : ℕ} → Fed (collect modelCollector) s (take at input) out s' out' n

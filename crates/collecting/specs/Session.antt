@@ -1,5 +1,5 @@
 -- The program `collect` over the collector of the model (document 01, "Cases"), and what a session says of its run.
-use Prim.Native.Nat.{ℕ, _*_, _≤_}
+use Prim.Native.Nat.{ℕ, _≤_}
 use mathlib.Core.Path.{_≡_}
 use mathlib.Core.Bool.{true}
 use mathlib.Core.List.{List}
@@ -60,12 +60,11 @@ longestEnd starting = 4
 longestEnd (running c) = longestTotals
 longestEnd over = 0
 
--- Whole lines of the input, of `used` characters, were taken from phase s on to s', and what they give, at most the longest row for each, stands
--- at the front of the output; where none was taken though the longest row fits, there is none.
+-- Whole lines of the input, of `used` characters, were taken from phase s on to s', and what they give stands at the front of the output; where none
+-- was taken though the longest row fits, there is none.
 pub record RanTo (s : Phase Receiver) (input out out' : List ℕ) (s' : Phase Receiver) (used written : ℕ) : Type 0 where
   pub within : used ≤ length input
   pub fed : Fed (collect modelCollector) s (take used input) out s' out' written
-  pub short : written ≤ longestLine * used
   pub rest : used ≡ 0 → longestLine ≤ length out → isUnended input ≡ true
 
 abbrev pub Ran : (s : Phase Receiver) (input out out' : List ℕ) (r : Progress) → Type 0

@@ -29,7 +29,6 @@ returns-3 c =
     record {
       within = omega arith;
       fed = rw (c .begin .ensures, p .parse-setting .ensures) (one-line starting input (g .find .ensures .0) (omega arith) k (omega arith));
-      short = omega arith;
       rest = λ e. absurd (omega arith);
     }
 

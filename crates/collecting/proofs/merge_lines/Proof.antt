@@ -27,7 +27,7 @@ use Rattle.streams.specs.Buffer.{Fed}
 use Rattle.streams.proofs.Segments.{open-whole}
 use Rattle.streams.proofs.Limit.{bounded}
 use Rattle.streams.proofs.Takes.{fed-none}
-use Rattle.collecting.specs.Session.{modelCollector, runningAt, longestLine}
+use Rattle.collecting.specs.Session.{modelCollector, runningAt}
 use Rattle.collecting.proofs.Taking.{lineAt, none-written, open-from-start, bad-line, reception-line, time-room, time-short, time-text, same-length, relayed-bytes}
 use Rattle.collecting.proofs.merge_lines.Statement.{statement}
 use Rattle.collecting.proofs.merge_lines.Tie as tie
@@ -36,7 +36,6 @@ record Merging (fit : Bool) (setting : ℕ) (v₀ : View) (input out₀ : List �
   inside : at ≤ length input
   room : to ≤ length out
   long : length out ≡ length out₀
-  short : to ≤ longestLine * at
   tested : Tested fit v
   fed : Fed (collect modelCollector) (runningAt setting v₀) (take at input) out₀ (runningAt setting v) out to
 
@@ -52,7 +51,6 @@ loop-holds c = record {
   inside = omega arith;
   room = omega arith;
   long = refl;
-  short = omega arith;
   tested = c .before .before .pre;
   fed = fed-none (collect modelCollector) (bounded modelCollector) _ _;
 }
@@ -106,7 +104,6 @@ loop-again c =
       inside = h;
       room = omega arith;
       long = omega arith;
-      short = omega arith;
       tested = l .loop .inv .tested;
       fed = bad-line (input l) (l .loop .at) (read e .parse .result .used) (l .loop .inv .fed) (ended e) (l .loop .inv .inside) (omega arith) b w;
     }
@@ -216,7 +213,6 @@ loop-again-2 c =
       inside = within (passed i);
       room = omega (arith, w .short, same, spare-out);
       long = omega (arith, same, l .loop .inv .long);
-      short = omega (arith, w .short, l .loop .inv .short, ended (passed i) .1);
       tested = rw (← o) at (tested-next _ (record { bytes = bytes i; time = parsed i .parse .result .time }) (l .loop .inv .tested) small);
       fed = reception-line (input l) (l .loop .at) (parsed i .parse .result .used) (l .loop .inv .fed) (ended (passed i)) (l .loop .inv .inside) (omega (arith, w .short, same, spare-out, l .loop .inv .long))
           (admittedOf (columns (a .admit .last .1 .0) (a .admit .last .1 .1 .0) (a .admit .last .1 .1 .1 .0) (a .admit .last .1 .1 .1 .1 .0)) (a .admit .result)) (says i) o (time g)
@@ -229,7 +225,6 @@ returns c =
     record {
       within = omega arith;
       fed = l .loop .inv .fed;
-      short = l .loop .inv .short;
       rest = λ e h. absurd (let z = none-written (input l) (l .loop .inv .fed) e in omega arith);
     }
 
@@ -240,7 +235,6 @@ returns-2 c =
     record {
       within = l .loop .inv .inside;
       fed = l .loop .inv .fed;
-      short = l .loop .inv .short;
       rest = λ e h. open-from-start (input l) (l .loop .at) e (open-whole (drop (l .loop .at) (input l)) (said-open _ (answer p) (c .if1 .taken)));
     }
 

@@ -20,7 +20,7 @@ returns-2 c out =
     let s = c .before .before .before in
     let input = now (s .args .input) in
     let w : Printed out 0 [] 0 out 0 = record { bytes = refl; next = refl; short = omega arith } in
-    record { within = omega arith; fed = rw (s .pre) (one-line over input (c .before .find .ensures .0) (c .if1 .left) w (omega arith)); short = omega arith; rest = λ e. absurd (omega arith) }
+    record { within = omega arith; fed = rw (s .pre) (one-line over input (c .before .find .ensures .0) (c .if1 .left) w (omega arith)); rest = λ e. absurd (omega arith) }
 
 pub skip-line-spec : {M : Type 1} → statement M
 skip-line-spec = tie.close (tie.spec (λ c κs. search needs) (λ c κs. search needs) returns (λ c. search needs) returns-2)
