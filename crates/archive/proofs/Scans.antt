@@ -20,7 +20,7 @@ use Rattle.layout.specs.Block.{cellsPerBlock, blockLength}
 use Rattle.archive_model.specs.Row.{blockNumber, rowCount, isSound, isBlank}
 use Rattle.archive_model.specs.Buffer.{blocksIn, Stage, Filling, Short, Wrong, Scan, stageAfter, stageBlank, scanBlock, scanBlocks}
 use Rattle.archive_model.proofs.Buffers.{blank-count}
-use Rattle.archive.specs.Archive.{soundRows}
+use Rattle.archive.specs.Archive.{soundCount}
 
 module _ (block : List ℕ) where
   -- a sound block has a row, and at most 15
@@ -30,37 +30,37 @@ module _ (block : List ℕ) where
       let a = both (leb 1 (rowCount block)) _ h in
       (leb-true 1 (rowCount block) (a .0), leb-true (rowCount block) cellsPerBlock (both (leb (rowCount block) cellsPerBlock) _ (a .1) .0))
 
-  pub sound-le : soundRows block ≤ cellsPerBlock
-  sound-le = by-test {X = soundRows block ≤ cellsPerBlock} (isSound block) (λ t. rw t (few t .1)) (λ f. rw f (omega arith))
+  pub sound-le : soundCount block ≤ cellsPerBlock
+  sound-le = by-test {X = soundCount block ≤ cellsPerBlock} (isSound block) (λ t. rw t (few t .1)) (λ f. rw f (omega arith))
 
-  none-sound : soundRows block ≡ 0 → isSound block ≡ false
+  none-sound : soundCount block ≡ 0 → isSound block ≡ false
   none-sound h = by-test {X = isSound block ≡ false} (isSound block) (λ t. absurd (let e : rowCount block ≡ 0 = rw t at h in omega (arith, few t .0))) (λ f. f)
 
-  some-sound : (soundRows block ≡ 0 → ⊥) → isSound block ≡ true
+  some-sound : (soundCount block ≡ 0 → ⊥) → isSound block ≡ true
   some-sound n = by-test {X = isSound block ≡ true} (isSound block) (λ t. t) (λ f. absurd (n (rw f refl)))
 
   -- an all-zero block has no row
-  pub blank-none : isBlank block ≡ true → soundRows block ≡ 0
-  blank-none h = by-test {X = soundRows block ≡ 0} (isSound block) (λ t. rw t (blank-count block h)) (λ f. rw f refl)
+  pub blank-none : isBlank block ≡ true → soundCount block ≡ 0
+  blank-none h = by-test {X = soundCount block ≡ 0} (isSound block) (λ t. rw t (blank-count block h)) (λ f. rw f refl)
 
   -- ---- what it makes of the stage
 
   module _ (k : ℕ) where
-    pub stage-wrong : soundRows block ≡ 0 → Wrong k ≡ stageAfter Filling k block
+    pub stage-wrong : soundCount block ≡ 0 → Wrong k ≡ stageAfter Filling k block
     stage-wrong h = rw (none-sound h)
 
-    module _ (some : soundRows block ≡ 0 → ⊥) where
+    module _ (some : soundCount block ≡ 0 → ⊥) where
       pub stage-number : (blockNumber block ≡ k → ⊥) → Wrong k ≡ stageAfter Filling k block
       stage-number h = rw (some-sound some, ne-eqb (blockNumber block) k h)
 
       module _ (e : blockNumber block ≡ k) where
-        rows-are : rowCount block ≡ soundRows block
+        rows-are : rowCount block ≡ soundCount block
         rows-are = rw (some-sound some)
 
-        pub stage-short : soundRows block < cellsPerBlock → Short ≡ stageAfter Filling k block
+        pub stage-short : soundCount block < cellsPerBlock → Short ≡ stageAfter Filling k block
         stage-short h = rw (some-sound some, eq-eqb (blockNumber block) k e, lt-ltb (rowCount block) cellsPerBlock (omega (arith, rows-are)))
 
-        pub stage-full : cellsPerBlock ≤ soundRows block → Filling ≡ stageAfter Filling k block
+        pub stage-full : cellsPerBlock ≤ soundCount block → Filling ≡ stageAfter Filling k block
         stage-full h = rw (some-sound some, eq-eqb (blockNumber block) k e, le-ltb (rowCount block) cellsPerBlock (omega (arith, rows-are)))
 
   -- ---- one block more
@@ -69,10 +69,10 @@ module _ (block : List ℕ) where
     pub scanned-blank : isBlank block ≡ true → stage ≡ stageBlank (s .stage) → record { blocks = s .blocks + 1; rows = s .rows; stage = stage } ≡ scanBlock s block
     unfolding scanBlock
     scanned-blank h e =
-        let z : s .rows ≡ s .rows + soundRows block = omega (arith, blank-none h) in
+        let z : s .rows ≡ s .rows + soundCount block = omega (arith, blank-none h) in
         rw (h, ← e) (λ j. record { blocks = s .blocks + 1; rows = z j; stage = stage })
 
-    pub scanned : isBlank block ≡ false → stage ≡ stageAfter (s .stage) (s .blocks) block → (used : ℕ) → used ≡ soundRows block
+    pub scanned : isBlank block ≡ false → stage ≡ stageAfter (s .stage) (s .blocks) block → (used : ℕ) → used ≡ soundCount block
         → record { blocks = s .blocks + 1; rows = s .rows + used; stage = stage } ≡ scanBlock s block
     unfolding scanBlock
     scanned h e used u = rw (h, e, u)

@@ -35,7 +35,7 @@ use Rattle.archive_model.proofs.Blocks.{header-length, head-part, last-lt, each
 use Rattle.archive_model.proofs.Buffers.{map-same, pieces}
 use Rattle.archive_model.proofs.Pieces.{rows-count}
 use Rattle.archive_model.proofs.Exact.{sound-is, sound-few, sound-shorts, sound-long, tests, valid-at, row-is, cell-is, zeros}
-use Rattle.archive.specs.Archive.{soundRows}
+use Rattle.archive.specs.Archive.{soundCount}
 use Rattle.archive.specs.Private.{isWritten, cellsFrom}
 use Rattle.archive.proofs.Cells.{bytes-shown, long-row, used-is}
 
@@ -158,20 +158,20 @@ module _ (block : List ℕ) where
 -- ---- a sound block passes every test
 
 module _ (b : List ℕ) where
-  pub not-sound : (isSound b ≡ true → ⊥) → 0 ≡ soundRows b
-  not-sound n = by-test {X = 0 ≡ soundRows b} (isSound b) (λ t. absurd (n t)) (λ f. rw f)
+  pub not-sound : (isSound b ≡ true → ⊥) → 0 ≡ soundCount b
+  not-sound n = by-test {X = 0 ≡ soundCount b} (isSound b) (λ t. absurd (n t)) (λ f. rw f)
 
-  pub other-length : (length b ≡ blockLength → ⊥) → 0 ≡ soundRows b
+  pub other-length : (length b ≡ blockLength → ⊥) → 0 ≡ soundCount b
   other-length h = not-sound (λ s. h (sound-long b s))
 
-  pub count-low : rowCount b < 1 → 0 ≡ soundRows b
+  pub count-low : rowCount b < 1 → 0 ≡ soundCount b
   count-low h = not-sound (λ s. omega (arith, tests b s .0))
 
-  pub count-high : cellsPerBlock < rowCount b → 0 ≡ soundRows b
+  pub count-high : cellsPerBlock < rowCount b → 0 ≡ soundCount b
   count-high h = not-sound (λ s. omega (arith, tests b s .1))
 
   -- a test that a sound block passes
-  pub fails : (p : Bool) → (isSound b ≡ true → p ≡ true) → p ≡ false → 0 ≡ soundRows b
+  pub fails : (p : Bool) → (isSound b ≡ true → p ≡ true) → p ≡ false → 0 ≡ soundCount b
   fails p h f = not-sound (λ s. let q : true ≡ false = sym (h s) ∙ f in let w : _≡_ {A = ℕ} 0 1 = cc in omega arith)
 
   module _ (s : isSound b ≡ true) where

@@ -51,8 +51,8 @@ readResult r = record {
 -- ---- a block by itself, and a scan
 
 -- the rows of a sound block, and 0 of any other
-abbrev pub soundRows : List ℕ → ℕ
-soundRows block = cond (isSound block) (rowCount block) 0
+abbrev pub soundCount : List ℕ → ℕ
+soundCount block = cond (isSound block) (rowCount block) 0
 
 abbrev pub stageOf : Stage → buffer.Stage
 stageOf stage.Filling = buffer.Filling

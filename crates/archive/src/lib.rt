@@ -17,7 +17,7 @@ ghost use Rattle.layout.specs.Block.{headerLength, cellsPerBlock, blockLength, 
 ghost use Rattle.archive_model.specs.Row.{rowLast, rowsHeader, blockNumber, rowIn, isRow};
 ghost use Rattle.archive_model.specs.Buffer as buffer;
 ghost use Rattle.archive_model.specs.Append as calls;
-ghost use Rattle.archive.specs.Archive.{openResult, appendResult, rowOf, readResult, soundRows, stageOf, scanOf, openFound, feedResult};
+ghost use Rattle.archive.specs.Archive.{openResult, appendResult, rowOf, readResult, soundCount, stageOf, scanOf, openFound, feedResult};
 ghost use Rattle.archive.specs.Private.{keptWith, NoBlock, noRowFor, rowInBlock, isWritten, cellsFrom};
 
 // The most blocks of an archive, and the most rows.
@@ -185,7 +185,7 @@ fn are_written(block: &[u8], used: usize) -> bool
 
 // How many rows a sound block has, and 0 for any other, bytes of another length included: each byte is tested where it stands.
 pub fn sound(block: &[u8]) -> usize
-    ensures { λ r. ⌜ r ≡ soundRows (now (block .entry)) ⌝ }
+    ensures { λ r. ⌜ r ≡ soundCount (now (block .entry)) ⌝ }
 {
     if block.len() != BLOCK_LENGTH {
         return 0;
@@ -324,7 +324,7 @@ fn after_blank(stage: Stage) -> Stage
 
 // What any other block makes of it, at position `k`, of which `used` rows are sound.
 fn after_block(stage: Stage, k: usize, block: &[u8], used: usize) -> Stage
-    requires { ⌜ (length (now block) ≡ blockLength) × (used ≡ soundRows (now block)) ⌝ }
+    requires { ⌜ (length (now block) ≡ blockLength) × (used ≡ soundCount (now block)) ⌝ }
     ensures { λ r. ⌜ stageOf r ≡ buffer.stageAfter (stageOf stage) k (now (block .entry)) ⌝ }
 {
     match stage {
@@ -337,7 +337,7 @@ fn after_block(stage: Stage, k: usize, block: &[u8], used: usize) -> Stage
 
 // The same where all before it are full.
 fn next_stage(k: usize, block: &[u8], used: usize) -> Stage
-    requires { ⌜ (length (now block) ≡ blockLength) × (used ≡ soundRows (now block)) ⌝ }
+    requires { ⌜ (length (now block) ≡ blockLength) × (used ≡ soundCount (now block)) ⌝ }
     ensures { λ r. ⌜ stageOf r ≡ buffer.stageAfter buffer.Filling k (now (block .entry)) ⌝ }
 {
     if used == 0 {

@@ -16,7 +16,7 @@ use Rattle.layout.specs.Block.{blockLength}
 use Rattle.archive_model.specs.Row.{Row, isRow}
 use Rattle.archive_model.specs.Buffer.{archiveOf, bufferOf, isWhole, rowsIn}
 use Rattle.archive_model.specs.Append.{verdict, appendOf}
-use Rattle.archive_model.specs.Claims.{isFit, Sizes, Layout, ReadBack, Exact, after, accepted, Run, AtCursor, Rows, Pieces}
+use Rattle.archive_model.specs.Claims.{isFit, Sizes, Layout, ReadBack, Exact, afterAppends, accepted, Run, AtCursor, Rows, Pieces}
 use Rattle.archive_model.proofs.Blocks.{Fits, Shorts, noRow, all-from}
 use Rattle.archive_model.proofs.Buffers.{rows-in}
 use Rattle.archive_model.proofs.ByByte.{laid}
@@ -67,12 +67,12 @@ in-pieces = (scan-append, scan-found, scan-rows)
 -- ---- the run
 
 run-from : (buffer : List ℕ) (rows : List Row) → verdict buffer .number ≡ 0 → all (λ r. ltb (r .time) (2 ^ 64)) rows ≡ true
-    → (verdict (after buffer rows) .number ≡ 0) × (rowsIn (after buffer rows) ≡ rowsIn buffer ++ accepted buffer rows)
+    → (verdict (afterAppends buffer rows) .number ≡ 0) × (rowsIn (afterAppends buffer rows) ≡ rowsIn buffer ++ accepted buffer rows)
 run-from buffer [] v ok = (v, sym (append-nil (rowsIn buffer)))
 run-from buffer (r ∷ rows) v ok =
     let b = both (ltb (r .time) (2 ^ 64)) _ ok in
     let next = appendOf buffer r .buffer in
-    by-test {X = (verdict (after next rows) .number ≡ 0) × (rowsIn (after next rows) ≡ rowsIn buffer ++ accepted buffer (r ∷ rows))} (eqb (appendOf buffer r .number) 0)
+    by-test {X = (verdict (afterAppends next rows) .number ≡ 0) × (rowsIn (afterAppends next rows) ≡ rowsIn buffer ++ accepted buffer (r ∷ rows))} (eqb (appendOf buffer r .number) 0)
     (λ t.
     let a = appended buffer v r (ltb-true (r .time) (2 ^ 64) (b .0)) (eqb-true (appendOf buffer r .number) 0 t) in
     let p = run-from next rows (a .0) (b .1) in

@@ -69,9 +69,9 @@ Exact =
 -- ---- appends, one after the other
 
 -- the buffer after them, and the rows that were answered 0
-abbrev pub after : List ℕ → List Row → List ℕ
-after buffer [] = buffer
-after buffer (r ∷ rows) = after (appendOf buffer r .buffer) rows
+abbrev pub afterAppends : List ℕ → List Row → List ℕ
+afterAppends buffer [] = buffer
+afterAppends buffer (r ∷ rows) = afterAppends (appendOf buffer r .buffer) rows
 
 abbrev pub accepted : List ℕ → List Row → List Row
 accepted buffer [] = []
@@ -83,8 +83,8 @@ accepted buffer (r ∷ rows) =
 abbrev pub Run : Type 0
 Run =
     (m : ℕ) (rows : List Row) → m ≤ 2 ^ 32 → all (λ r. ltb (r .time) (2 ^ 64)) rows ≡ true
-    → (verdict (after (replicate (512 * m) 0) rows) .number ≡ 0)
-    × (rowsIn (after (replicate (512 * m) 0) rows) ≡ accepted (replicate (512 * m) 0) rows)
+    → (verdict (afterAppends (replicate (512 * m) 0) rows) .number ≡ 0)
+    × (rowsIn (afterAppends (replicate (512 * m) 0) rows) ≡ accepted (replicate (512 * m) 0) rows)
 
 -- At the cursor: an append that looks at one block is an append, and the rows say where the next one goes.
 abbrev pub AtCursor : Type 0

@@ -19,7 +19,7 @@ use Rattle.burst.specs.declared.Reception.{Reception}
 use Rattle.burst.specs.declared.Reply.{Reply}
 use Rattle.burst.specs.declared.Stepped.{Stepped}
 use Rattle.burst.specs.Records.{receptionOf, repliedOf}
-use Rattle.burst.specs.Private.{StepResult, steppedOf, admittedWith, after, replies, Delivered}
+use Rattle.burst.specs.Private.{StepResult, steppedOf, admittedWith, afterTested, replies, Delivered}
 use Rattle.model.specs.History.{Timely}
 use Rattle.model.specs.Burst.{Replied}
 
@@ -37,7 +37,7 @@ module _ (setting : ℕ) (fit : Bool) (a₀ : Columns) (s₀ : Summary) (rs : Li
   pub record Going (i : ℕ) (a : Columns) (s : Summary) (zs : List Reply) : Type 0 where
     pub within : i ≤ n
     pub long : length zs ≡ length ys
-    pub state : after fit (viewIn a s) (drop i (take n rs)) ≡ after fit v (take n rs)
+    pub state : afterTested fit (viewIn a s) (drop i (take n rs)) ≡ afterTested fit v (take n rs)
     pub replied : map repliedOf (take i zs) ++ (replies setting fit (viewIn a s) (drop i (take n rs)) ++ map repliedOf (drop n zs))
         ≡ replies setting fit v (take n rs) ++ map repliedOf (drop n ys)
     pub timely : Timely (map receptionOf (drop i (take n rs))) → Timely (map receptionOf (take n rs))
@@ -56,11 +56,11 @@ module _ (setting : ℕ) (fit : Bool) (a₀ : Columns) (s₀ : Summary) (rs : Li
     pub turns : i < n → getD rs i noReception .time < 2 ^ 64 → (a' : Columns) (r : Stepped)
         → steppedOf a' r ≡ admittedWith setting fit (viewIn a s) (receptionOf (getD rs i noReception))
         → Going (i + 1) a' (r .summary) (set zs i (r .reply))
-    unfolding after replies
+    unfolding afterTested replies
     turns h small a' r said = record {
       within = omega arith;
       long = length-set zs i (r .reply) ∙ g .long;
-      state = ap (λ (u : View). after fit u rest) next ∙ ap (after fit here) (sym (left i h)) ∙ g .state;
+      state = ap (λ (u : View). afterTested fit u rest) next ∙ ap (afterTested fit here) (sym (left i h)) ∙ g .state;
       replied =
           ap (λ (l : List Reply). map repliedOf l ++ (replies setting fit (viewIn a' (r .summary)) rest ++ map repliedOf (drop n (set zs i (r .reply)))))
           (ap (λ (k : ℕ). take k (set zs i (r .reply))) (add-one i) ∙ take-suc-set zs i (r .reply) inside)
@@ -94,9 +94,9 @@ module _ (setting : ℕ) (fit : Bool) (a₀ : Columns) (s₀ : Summary) (rs : Li
         inside = omega (arith, g .long)
 
     pub ends : n ≤ i → Delivered setting fit a₀ s₀ n rs ys a s zs
-    unfolding after replies
+    unfolding afterTested replies
     ends h = record {
-      state = ap (after fit (viewIn a s)) (sym none) ∙ g .state;
+      state = ap (afterTested fit (viewIn a s)) (sym none) ∙ g .state;
       replied =
           ap (map repliedOf) (sym (take-append-drop i zs)) ∙ map-append repliedOf (take i zs) (drop i zs)
           ∙ ap (λ (k : ℕ). map repliedOf (take i zs) ++ map repliedOf (drop k zs)) all

@@ -24,15 +24,15 @@ use Rattle.burst.specs.declared.Within.{Within}
 use Rattle.model.specs.History.{Timely}
 use Rattle.model.specs.Burst.{Replied, replyWith, afterAll, repliesTo, burstNumber, taken}
 use Rattle.burst.specs.Records.{receptionOf, repliedOf, handedNumber, Bursts, WithinOf}
-use Rattle.burst.specs.Private.{after, replies, Delivered, Planned, Finished}
+use Rattle.burst.specs.Private.{afterTested, replies, Delivered, Planned, Finished}
 
 -- ---- records one by one
 
-after-steps : (fit : Bool) (v : View) (rs : List Reception) → Tested fit v → Timely (map receptionOf rs) → after fit v rs ≡ afterAll v (map receptionOf rs)
-unfolding after afterAll
+after-steps : (fit : Bool) (v : View) (rs : List Reception) → Tested fit v → Timely (map receptionOf rs) → afterTested fit v rs ≡ afterAll v (map receptionOf rs)
+unfolding afterTested afterAll
 after-steps fit v [] k t = refl
 after-steps fit v (r ∷ rs) k t =
-    ap (λ (o : Outcome). after fit (o .next) rs) (admission-fit v (receptionOf r) fit (k .said))
+    ap (λ (o : Outcome). afterTested fit (o .next) rs) (admission-fit v (receptionOf r) fit (k .said))
     ∙ after-steps fit (step v (receptionOf r) .next) rs (tested-next fit (receptionOf r) k (t .0)) (t .1)
 
 replies-steps : (setting : ℕ) (fit : Bool) (v : View) (rs : List Reception) → Tested fit v → Timely (map receptionOf rs) → replies setting fit v rs ≡ repliesTo setting v (map receptionOf rs)
@@ -113,7 +113,7 @@ module _ (c : Collector) (setting : ℕ) (rs : List Reception) (ys : List Reply)
 
       next-is : viewOf (r .next) ≡ afterAll v (taken (burstNumber setting v (length given) (length places)) given)
       next-is =
-          made ∙ d .state ∙ ap (λ (u : View). after (p .fit) u t) here ∙ after-steps (p .fit) v t (k .tested) (d .timely)
+          made ∙ d .state ∙ ap (λ (u : View). afterTested (p .fit) u t) here ∙ after-steps (p .fit) v t (k .tested) (d .timely)
           ∙ ap (afterAll v) (front (p .count) (k .count))
 
       -- a refused burst takes none

@@ -36,9 +36,9 @@ admittedWith setting fit v r =
     record { reply = replyWith setting (o .answer) r; next = o .next }
 
 -- records one by one
-unfoldable pub after : Bool → View → List Reception → View
-after fit v [] = v
-after fit v (r ∷ rs) = after fit (admission fit v (receptionOf r) .next) rs
+unfoldable pub afterTested : Bool → View → List Reception → View
+afterTested fit v [] = v
+afterTested fit v (r ∷ rs) = afterTested fit (admission fit v (receptionOf r) .next) rs
 
 unfoldable pub replies : ℕ → Bool → View → List Reception → List Replied
 replies setting fit v [] = []
@@ -49,7 +49,7 @@ replies setting fit v (r ∷ rs) =
 -- the first n were taken: the state, and every place of the second list
 pub record Delivered (setting : ℕ) (fit : Bool) (a : Columns) (s : Summary) (n : ℕ)
     (rs : List Reception) (ys : List Reply) (a' : Columns) (s' : Summary) (zs : List Reply) : Type 0 where
-  pub state : viewIn a' s' ≡ after fit (viewIn a s) (take n rs)
+  pub state : viewIn a' s' ≡ afterTested fit (viewIn a s) (take n rs)
   pub replied : map repliedOf zs ≡ replies setting fit (viewIn a s) (take n rs) ++ map repliedOf (drop n ys)
   pub timely : Timely (map receptionOf (take n rs))
   pub none : n ≡ 0 → (a' ≡ a) × (s' ≡ s)

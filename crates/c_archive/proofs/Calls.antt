@@ -17,7 +17,7 @@ use Rattle.archive.specs.Archive.{rowOf}
 use Rattle.repack_model.specs.Repack.{Removed}
 use Rattle.c_layout.specs.Frame.{wrongSize, frameBytes, flagByte}
 use Rattle.filling.specs.Fill.{rowLength}
-use Rattle.c_archive.specs.Calls.{rowBytes, RowCall, found, rowCall}
+use Rattle.c_archive.specs.Calls.{rowBytes, RowCall, rowFound, rowCall}
 
 abbrev pub opening : ℕ → ℕ → ℕ → Opening
 opening number position rows = record { number = number; position = position; rows = rows }
@@ -33,7 +33,7 @@ module _ (buffer : List ℕ) (i : ℕ) (old : List ℕ) (was : ℕ) where
   unfolding rowCall
   row-other h = rw (ne-eqb (length old) rowLength h)
 
-  pub row-done : length old ≡ rowLength → found (rowAtOf buffer i .number) (rowAtOf buffer i .row) ≡ rowCall buffer i old was
+  pub row-done : length old ≡ rowLength → rowFound (rowAtOf buffer i .number) (rowAtOf buffer i .row) ≡ rowCall buffer i old was
   unfolding rowCall
   row-done h = rw (eq-eqb (length old) rowLength h)
 

@@ -19,11 +19,11 @@ pub record RowCall : Type 0 where
   pub row : List ℕ
   pub time : ℕ
 
-abbrev pub found : ℕ → Row → RowCall
-found number r = record { number = number; row = rowBytes r; time = r .time }
+abbrev pub rowFound : ℕ → Row → RowCall
+rowFound number r = record { number = number; row = rowBytes r; time = r .time }
 
 -- row i as it stands, zero beside a refusal; a row of another size is left as it was, and the time too
 unfoldable pub rowCall : List ℕ → ℕ → List ℕ → ℕ → RowCall
 rowCall buffer i old was =
     cond (not (eqb (length old) rowLength)) (record { number = wrongSize; row = old; time = was })
-    (found (rowAtOf buffer i .number) (rowAtOf buffer i .row))
+    (rowFound (rowAtOf buffer i .number) (rowAtOf buffer i .row))

@@ -6,7 +6,7 @@ use mathlib.Core.List.{List}
 use lib.Dec.{eqb}
 use lib.ListN.{getD}
 use Rattle.report_model.specs.Pieces.{Tally, Adding, adding, Feeding, fed}
-use Rattle.report.specs.Lines.{linesOf}
+use Rattle.report.specs.Lines.{linesAt}
 use Rattle.c_report.specs.Calls.{reportAt}
 use Rattle.c_pieces.specs.Scan.{scanAt}
 
@@ -14,7 +14,7 @@ use Rattle.c_pieces.specs.Scan.{scanAt}
 -- numbers for each line, of which those past the lines are left to the program
 abbrev pub tallyAt : List ℕ → List ℕ → Tally
 tallyAt numbers lines = record {
-  lines = linesOf lines (getD numbers 4 0);
+  lines = linesAt lines (getD numbers 4 0);
   kept = getD numbers 5 0;
   loose = getD numbers 6 0;
   over = not (eqb (getD numbers 7 0) 0);
@@ -26,7 +26,8 @@ abbrev pub addingAt : List ℕ → List ℕ → List ℕ → List ℕ → Adding
 addingAt numbers lines so-far tally = adding (reportAt numbers lines) (tallyAt so-far tally)
 
 -- a piece, in the two arrays of what is known before and after it
-pub record Feeds (expected : Feeding) (numbers lines so-far tally : List ℕ) (number : ℕ) (so-far' tally' : List ℕ) : Type 0 where
+pub record Feeds (expected : Feeding) (numbers lines so-far tally : List ℕ) (number : ℕ)
+    (so-far' tally' : List ℕ) : Type 0 where
   pub result : fed number (addingAt numbers lines so-far' tally') ≡ expected
   -- beside any other number than 0 every number of both arrays is as it was
   pub numbersStay : (number ≡ 0 → ⊥) → so-far' ≡ so-far

@@ -61,8 +61,10 @@ pub fn end(
     position: &mut usize,
 ) -> u8
     ensures { λ r. ⌜ Adds
-        (pieces.endedOf (addingAt (now (numbers .entry)) (now (lines .entry)) (now (adding .entry)) (now (tally .entry))))
-        (now (numbers .entry)) (now (lines .entry)) r (now (position .exit)) (now (numbers .exit)) (now (lines .exit)) ⌝ }
+        (pieces.endedOf (addingAt (now (numbers .entry)) (now (lines .entry)) (now (adding .entry))
+        (now (tally .entry))))
+        (now (numbers .entry)) (now (lines .entry)) r (now (position .exit)) (now (numbers .exit))
+        (now (lines .exit)) ⌝ }
 {
     let a = adding_in(numbers, lines, adding, tally);
     let added = a.end();

@@ -33,7 +33,8 @@ pub fn add(
     position: &mut usize,
 ) -> u8
     ensures { λ r. ⌜ Adds (model.addOf (reportAt (now (numbers .entry)) (now (lines .entry))) (now (buffer .entry)))
-        (now (numbers .entry)) (now (lines .entry)) r (now (position .exit)) (now (numbers .exit)) (now (lines .exit)) ⌝ }
+        (now (numbers .entry)) (now (lines .entry)) r (now (position .exit)) (now (numbers .exit))
+        (now (lines .exit)) ⌝ }
 {
     let added = report_in(numbers, lines).add(buffer);
     let answer = added.answer;

@@ -12,7 +12,7 @@ use Rattle.telegram.specs.Fields.{fieldsOf, telegramBytes}
 use Rattle.telegram.specs.Repeater.{relayOf, repeatOf}
 use Rattle.layout.specs.BigEndian.{be, unbe, unbeFrom}
 use Rattle.erp2_model.specs.Reading.{checkOf as erp2Check, fieldsOf as erp2Fields, readOf}
-use Rattle.erp2_model.specs.Building.{sizeOf, isUnholdable, isAgainstHeader, isMisfitting, bodyOf, erp2Bytes, buildOf}
+use Rattle.erp2_model.specs.Building.{telegramSize, isUnholdable, isAgainstHeader, isMisfitting, bodyOf, erp2Bytes, buildOf}
 use Rattle.slots.specs.Plan.{plans, candidates, lawful}
 use Rattle.model.specs.View.{fresh}
 use Rattle.model.specs.Acceptable.{isCopyOf, acceptable}
@@ -21,5 +21,5 @@ use Rattle.cases.specs.Cases.{Case, cases}
 
 -- each row's two sides are equal
 pub every-case : (k : ℕ) → k < length cases → (d : Case) → getD cases k d .got ≡ getD cases k d .want
-unfolding upFrom remainderOf stepOf hashOf checkOf isSame fieldsOf telegramBytes relayOf repeatOf plans candidates lawful fresh isCopyOf acceptable classify advance step be unbe unbeFrom erp2Check erp2Fields readOf sizeOf isUnholdable isAgainstHeader isMisfitting bodyOf erp2Bytes buildOf
+unfolding upFrom remainderOf stepOf hashOf checkOf isSame fieldsOf telegramBytes relayOf repeatOf plans candidates lawful fresh isCopyOf acceptable classify advance step be unbe unbeFrom erp2Check erp2Fields readOf telegramSize isUnholdable isAgainstHeader isMisfitting bodyOf erp2Bytes buildOf
 every-case k h d = equal-eq _ _ (at (λ i c. equal (c .got) (c .want)) d cases tt k h)

@@ -23,12 +23,12 @@ use Rattle.line_output.specs.Longest.{longestTotals}
 use Rattle.line_output.proofs.Longest.{digits-short, row-short}
 use Rattle.buffers.proofs.Stores.{then, if-fits}
 use Rattle.streams.specs.Chunks.{Position, inLine, atLineStart, feed, lastText, endText}
-use Rattle.streams.specs.Collect.{Phase, starting, running, over, collect, firstText, lineText, endOf, nextPhase, phaseText}
+use Rattle.streams.specs.Collect.{Phase, starting, running, over, collect, firstText, lineText, phaseEnd, nextPhase, phaseText}
 use Rattle.streams.specs.Buffer.{isUnended}
 use Rattle.streams.proofs.Limit.{bounded}
 use Rattle.streams.proofs.Segments.{Drained, none, more, feed-open, open-front}
 use Rattle.collecting.specs.declared.Progress.{Progress}
-use Rattle.collecting.specs.Printed.{rowOf, sentBytes, receptionAt}
+use Rattle.collecting.specs.Printed.{printedRow, sentBytes, receptionAt}
 use Rattle.collecting.specs.Session.{Receiver, modelCollector, takenAt, phaseOf, longestLine, longestEnd, Ran}
 use Rattle.collecting.specs.Program.{longestFinish, Kept}
 use Rattle.collecting.proofs.Taking.{same-length, sent-bytes}
@@ -52,7 +52,7 @@ later-short : (c : Receiver) (x : Reading) → length (lineText modelCollector c
 later-short c (reception t bs) =
     let a = takenAt (c .view) t bs .answer in
     let sent = sentFor (c .setting) a (receptionAt t bs) in
-    omega (arith, row-short (decimalText t) (rowOf a) (sentBytes sent), digits-short 20 t, sent-short (c .setting) a (receptionAt t bs))
+    omega (arith, row-short (decimalText t) (printedRow a) (sentBytes sent), digits-short 20 t, sent-short (c .setting) a (receptionAt t bs))
 later-short c bad = omega arith
 
 line-short : (s : Phase Receiver) (l : List ℕ) → length (phaseText modelCollector s l) ≤ longestLine
@@ -68,7 +68,7 @@ end-short over = omega arith
 -- ---- nothing is kept
 
 pub no-line-kept : (s : Phase Receiver) (buffer : List ℕ) {out out' : List ℕ} {kept r : ℕ} → kept ≡ 0 → longestFinish ≤ length out
-    → PrintedIfFits out 0 (longestEnd s) (endOf modelCollector s) out' r → Printed out 0 (endText (collect modelCollector) (inLine s (take kept buffer))) longestFinish out' r
+    → PrintedIfFits out 0 (longestEnd s) (phaseEnd modelCollector s) out' r → Printed out 0 (endText (collect modelCollector) (inLine s (take kept buffer))) longestFinish out' r
 unfolding lastText
 no-line-kept s buffer e h p =
     let b = end-short s in
@@ -127,8 +127,8 @@ module _ (s : Phase Receiver) (l : List ℕ) (o : isUnended l ≡ true) (full : 
   text-taken = rw (taken .text) at (rw whole at (r .fed .output))
 
   then-end : {out₂ : List ℕ} {n : ℕ} → longestFinish ≤ length out
-      → PrintedIfFits out₁ (p .written) (longestEnd (phaseOf (p .session))) (endOf modelCollector (phaseOf (p .session))) out₂ n
-      → Printed out 0 (phaseText modelCollector s l ++ endOf modelCollector (nextPhase modelCollector s l)) longestFinish out₂ n
+      → PrintedIfFits out₁ (p .written) (longestEnd (phaseOf (p .session))) (phaseEnd modelCollector (phaseOf (p .session))) out₂ n
+      → Printed out 0 (phaseText modelCollector s l ++ phaseEnd modelCollector (nextPhase modelCollector s l)) longestFinish out₂ n
   then-end room q =
       let same = same-length text-taken in
       let short = end-short (phaseOf (p .session)) in
@@ -139,14 +139,14 @@ module _ (s : Phase Receiver) (l : List ℕ) (o : isUnended l ≡ true) (full : 
       rw (sym next-taken) (record { bytes = t .bytes; next = t .next; short = omega (arith, e .short) })
 
 last-full : (s : Phase Receiver) (l : List ℕ) → 0 < length l
-    → lastText (collect modelCollector) s l ≡ phaseText modelCollector s l ++ endOf modelCollector (nextPhase modelCollector s l)
+    → lastText (collect modelCollector) s l ≡ phaseText modelCollector s l ++ phaseEnd modelCollector (nextPhase modelCollector s l)
 unfolding lastText
 last-full s [] h = absurd (omega arith)
 last-full s (c ∷ l) h = refl
 
 pub line-kept : (s : Phase Receiver) (buffer : List ℕ) {kept n : ℕ} {out out₁ out₂ : List ℕ} (p : Progress) → Kept kept buffer → (kept ≡ 0 → ⊥)
     → longestFinish ≤ length out → Ran s (take (kept + 1 - 0) (set buffer kept newline)) out out₁ p
-    → PrintedIfFits out₁ (p .written) (longestEnd (phaseOf (p .session))) (endOf modelCollector (phaseOf (p .session))) out₂ n
+    → PrintedIfFits out₁ (p .written) (longestEnd (phaseOf (p .session))) (phaseEnd modelCollector (phaseOf (p .session))) out₂ n
     → Printed out 0 (endText (collect modelCollector) (inLine s (take kept buffer))) longestFinish out₂ n
 line-kept s buffer {kept} p k nonzero room r q =
     let l = take kept buffer in

@@ -21,11 +21,11 @@ use Rattle.line_input.specs.Decimal.{isDigit, decimalOf, hasLeadingZero, isNumb
 use Rattle.line_input.specs.Reading.{Reading, reception, bad, settingOf, lineReading}
 use Rattle.line_input.proofs.Whole.{said}
 use Rattle.line_output.specs.Text.{rowText, badText}
-use Rattle.streams.specs.Lines.{linesOf, after, written, outputOf}
+use Rattle.streams.specs.Lines.{linesOf, stateAfter, textOf, outputOf}
 use Rattle.streams.specs.Chunks.{joined}
-use Rattle.streams.specs.Collect.{Phase, starting, running, over, afterFirst, firstText, afterLine, lineText, endOf, collect, collected}
+use Rattle.streams.specs.Collect.{Phase, starting, running, over, afterFirst, firstText, afterLine, lineText, phaseEnd, collect, collected}
 use Rattle.streams.proofs.Limit.{collected-in-pieces}
-use Rattle.collecting.specs.Printed.{rowOf, sentBytes, totalsLine, receptionAt, rowAfter, pastAfterLine, rowsAfter, pastAfterLines}
+use Rattle.collecting.specs.Printed.{printedRow, sentBytes, totalsLine, receptionAt, rowAfter, pastAfterLine, rowsAfter, pastAfterLines}
 use Rattle.collecting.specs.Printed.{printedWith, printedFor, printedOf}
 use Rattle.collecting.specs.Session.{Receiver, modelCollector}
 use Rattle.collecting.specs.Claims.{CollectPrints}
@@ -45,7 +45,7 @@ said-small l e = let w = said l e in rw (w .saysTime) at (time-small (w .digits)
 
 -- what is written for lines and at the end
 abbrev writtenFrom : Phase Receiver → List (List ℕ) → List ℕ
-writtenFrom s ls = written (collect modelCollector) s ls ++ endOf modelCollector (after (collect modelCollector) s ls)
+writtenFrom s ls = textOf (collect modelCollector) s ls ++ phaseEnd modelCollector (stateAfter (collect modelCollector) s ls)
 
 module _ (setting : ℕ) where
   -- the run where the reference model was handed these receptions
@@ -66,51 +66,51 @@ module _ (setting : ℕ) where
       let step = same-step (logOf past) r g in
       record {
         row =
-            ap (λ (o : Outcome). rowText t (rowOf (o .answer)) (sentBytes (sentFor setting (o .answer) r))) step
-            ∙ ap (λ (f : Frame). rowText t (rowOf a) (sentBytes f)) (same-sent setting a r);
+            ap (λ (o : Outcome). rowText t (printedRow (o .answer)) (sentBytes (sentFor setting (o .answer) r))) step
+            ∙ ap (λ (f : Frame). rowText t (printedRow a) (sentBytes f)) (same-sent setting a r);
         next = ap (λ (o : Outcome). record { setting = setting; view = o .next }) step;
         good = good-after (logOf past) r g (said-small l e);
       }
 
   no-lines : (past : List Reception) → writtenFrom (running (at past)) [] ≡ totalsLine (totalsOf (logOf past))
-  unfolding written after modelView
+  unfolding textOf stateAfter modelView
   no-lines past = refl
 
   -- all of them: their rows, and the totals
   rows : (ls : List (List ℕ)) (past : List Reception) → Good (modelView (logOf past))
       → writtenFrom (running (at past)) ls ≡ joined (rowsAfter setting past ls) ++ totalsLine (totalsOf (logOf (pastAfterLines past ls)))
-  unfolding written after joined rowsAfter pastAfterLines
+  unfolding textOf stateAfter joined rowsAfter pastAfterLines
   rows [] past g = no-lines past
   rows (l ∷ ls) past g =
       let a = lineReading l in
       let w = took past l g a refl in
       let more = pastAfterLine past a in
       let row = rowAfter setting past a in
-      ap₂ (λ (x : List ℕ) (c : Receiver). (x ++ written (collect modelCollector) (running c) ls) ++ endOf modelCollector (after (collect modelCollector) (running c) ls))
+      ap₂ (λ (x : List ℕ) (c : Receiver). (x ++ textOf (collect modelCollector) (running c) ls) ++ phaseEnd modelCollector (stateAfter (collect modelCollector) (running c) ls))
       (w .row) (w .next)
-      ∙ append-assoc row (written (collect modelCollector) (running (at more)) ls) (endOf modelCollector (after (collect modelCollector) (running (at more)) ls))
+      ∙ append-assoc row (textOf (collect modelCollector) (running (at more)) ls) (phaseEnd modelCollector (stateAfter (collect modelCollector) (running (at more)) ls))
       ∙ ap (λ (x : List ℕ). row ++ x) (rows ls more (w .good))
       ∙ sym (append-assoc row (joined (rowsAfter setting more ls)) (totalsLine (totalsOf (logOf (pastAfterLines more ls)))))
 
 -- ---- the first line
 
 over-silent : (ls : List (List ℕ)) → writtenFrom over ls ≡ []
-unfolding written after
+unfolding textOf stateAfter
 over-silent [] = refl
 over-silent (l ∷ ls) = over-silent ls
 
 first-line : (s : Setting) (ls : List (List ℕ))
-    → (firstText modelCollector s ++ written (collect modelCollector) (afterFirst modelCollector s) ls)
-    ++ endOf modelCollector (after (collect modelCollector) (afterFirst modelCollector s) ls)
+    → (firstText modelCollector s ++ textOf (collect modelCollector) (afterFirst modelCollector s) ls)
+    ++ phaseEnd modelCollector (stateAfter (collect modelCollector) (afterFirst modelCollector s) ls)
     ≡ printedWith s ls
 first-line (Setting.Level n) ls =
     ap (λ (v : View). writtenFrom (running (record { setting = n; view = v })) ls) fresh-model ∙ rows n ls [] (rw fresh-model at good-fresh)
 first-line Setting.Bad ls =
-    append-assoc badText (written (collect modelCollector) over ls) (endOf modelCollector (after (collect modelCollector) over ls))
+    append-assoc badText (textOf (collect modelCollector) over ls) (phaseEnd modelCollector (stateAfter (collect modelCollector) over ls))
     ∙ ap (λ (x : List ℕ). badText ++ x) (over-silent ls)
 
 whole-input : (ls : List (List ℕ)) → writtenFrom starting ls ≡ printedFor ls
-unfolding written after
+unfolding textOf stateAfter
 whole-input [] = refl
 whole-input (l ∷ ls) = first-line (settingOf l) ls
 

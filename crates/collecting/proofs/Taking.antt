@@ -35,7 +35,7 @@ use Rattle.streams.proofs.Limit.{bounded}
 use Rattle.streams.proofs.Takes.{found, fed-none, fed-next}
 use Rattle.collecting.specs.declared.Session.{Session}
 use Rattle.collecting.specs.declared.Progress.{Progress}
-use Rattle.collecting.specs.Printed.{rowOf, sentBytes}
+use Rattle.collecting.specs.Printed.{printedRow, sentBytes}
 use Rattle.collecting.specs.Session.{Receiver, modelCollector, takenAt, phaseOf, longestLine, Ran}
 
 -- ---- none
@@ -94,7 +94,7 @@ module _ {c₀ c : Receiver} {out₀ out out' : List ℕ} {to most r : ℕ} (inp
 
   pub reception-line : {t : ℕ} {bs time sent : List ℕ} (o : Outcome) → lineReading (lineAt input at) ≡ reception t bs → o ≡ takenAt (c .view) t bs → time ≡ decimalText t
       → sent ≡ sentBytes (sentFor (c .setting) (o .answer) (record { bytes = bs; time = t }))
-      → Printed out to (rowBehind time (rowOf (o .answer)) sent) most out' r
+      → Printed out to (rowBehind time (printedRow (o .answer)) sent) most out' r
       → Fed (collect modelCollector) (running c₀) (take (at + used) input) out₀ (running (record { setting = c .setting; view = o .next })) out' r
   reception-line o b k e s q =
       let w : Printed out to (phaseText modelCollector (running c) (lineAt input at)) most out' r = rw b (rw (s, e, k) at q) in

@@ -18,11 +18,11 @@ use Rattle.streams.specs.Chunks.{joined}
 -- ---- what stands in a row and in the line of totals
 
 -- KEPT, COPY, LOOSE, or a refusal by its number
-abbrev pub rowOf : answer.Shown → Row
-rowOf answer.Kept = Row.Kept
-rowOf answer.Copy = Row.Copy
-rowOf answer.Loose = Row.Loose
-rowOf (answer.Refused n) = Row.Refused n
+abbrev pub printedRow : answer.Shown → Row
+printedRow answer.Kept = Row.Kept
+printedRow answer.Copy = Row.Copy
+printedRow answer.Loose = Row.Loose
+printedRow (answer.Refused n) = Row.Refused n
 
 -- the bytes to send, without the zero fill
 abbrev pub sentBytes : Frame → List ℕ
@@ -43,7 +43,7 @@ abbrev pub rowAfter : (setting : ℕ) → List Reception → Reading → List �
 rowAfter setting past (reception time bytes) =
     let r = receptionAt time bytes in
     let a = answerTo (logOf past) r in
-    rowText time (rowOf a) (sentBytes (sentWith setting a r))
+    rowText time (printedRow a) (sentBytes (sentWith setting a r))
 rowAfter setting past bad = badText
 
 -- the receptions handed over after it: a line that is BAD hands none over

@@ -19,11 +19,11 @@ abbrev pub longestFinish : ℕ
 longestFinish = longestLine + longestTotals
 
 -- nothing failed
-abbrev pub isSound : Next → Bool
-isSound Next.Read = true
-isSound Next.Finish = true
-isSound Next.NotRead = false
-isSound Next.NotWritten = false
+abbrev pub isUnfailed : Next → Bool
+isUnfailed Next.Read = true
+isUnfailed Next.Finish = true
+isUnfailed Next.NotRead = false
+isUnfailed Next.NotWritten = false
 
 -- the first n characters of the buffer are kept of a line that has not ended, and more can be read behind them
 pub record Kept (n : ℕ) (buffer : List ℕ) : Type 0 where
@@ -42,7 +42,7 @@ pub record Drained (s : Phase Receiver) (input : List ℕ) (r : Drain) : Type 0 
 -- a chunk was taken from phase s on, if its text was written: the session and what is kept are where the run then stands
 pub record Chunked (s : Phase Receiver) (text buffer' : List ℕ) (r : Turn) : Type 0 where
   pub few : r .kept ≤ lineLimit
-  pub line : isSound (r .next) ≡ true → isUnended (take (r .kept) buffer') ≡ true
-  pub position : isSound (r .next) ≡ true
+  pub line : isUnfailed (r .next) ≡ true → isUnended (take (r .kept) buffer') ≡ true
+  pub position : isUnfailed (r .next) ≡ true
       → feed (collect modelCollector) lineLimit (atLineStart s) text
       ≡ inLine (phaseOf (r .session)) (take (r .kept) buffer')

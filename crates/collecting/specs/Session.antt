@@ -14,7 +14,7 @@ use Rattle.streams.specs.Buffer.{isUnended, Fed}
 use Rattle.collecting.specs.declared.Stage.{Stage}
 use Rattle.collecting.specs.declared.Session.{Session}
 use Rattle.collecting.specs.declared.Progress.{Progress}
-use Rattle.collecting.specs.Printed.{rowOf, sentBytes, totalsLine, receptionAt}
+use Rattle.collecting.specs.Printed.{printedRow, sentBytes, totalsLine, receptionAt}
 
 -- ---- the model's collector
 
@@ -31,7 +31,7 @@ abbrev pub modelCollector : Collector Receiver
 modelCollector = record {
   fresh = λ setting. record { setting = setting; view = fresh };
   next = λ c time bytes. record { setting = c .setting; view = takenAt (c .view) time bytes .next };
-  answer = λ c time bytes. rowOf (takenAt (c .view) time bytes .answer);
+  answer = λ c time bytes. printedRow (takenAt (c .view) time bytes .answer);
   sent = λ c time bytes.
       sentBytes (sentFor (c .setting) (takenAt (c .view) time bytes .answer) (receptionAt time bytes));
   totals = λ c. totalsLine (c .view .totals);

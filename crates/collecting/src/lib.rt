@@ -20,8 +20,8 @@ ghost use Rattle.collector.specs.Admission.{relayedFor, Tested};
 ghost use Rattle.line_output.specs.Text.{rowBehind};
 ghost use Rattle.buffers.specs.Printed.{Printed, PrintedIfFits};
 ghost use Rattle.line_output.specs.Longest.{longestNumber};
-ghost use Rattle.streams.specs.Collect.{starting, over, afterFirst, firstText, endOf};
-ghost use Rattle.collecting.specs.Printed.{rowOf};
+ghost use Rattle.streams.specs.Collect.{starting, over, afterFirst, firstText, phaseEnd};
+ghost use Rattle.collecting.specs.Printed.{printedRow};
 ghost use Rattle.collecting.specs.Session.{modelCollector, runningAt, phaseOf, longestLine, longestEnd, RanTo, Ran};
 
 // Where a run stands: before its first line, past a right one, or ended by a wrong one.
@@ -88,7 +88,7 @@ impl Session {
     // The end of the output: BAD where there was no line, the totals after a run, nothing after one that was ended.
     pub fn put_end(self, out: &mut [u8], at: usize) -> usize
         ensures { λ r. ⌜ PrintedIfFits (now (out .entry)) at (longestEnd (phaseOf self))
-            (endOf modelCollector (phaseOf self)) (now (out .exit)) r ⌝ }
+            (phaseEnd modelCollector (phaseOf self)) (now (out .exit)) r ⌝ }
     {
         let stage = self.stage;
         let c = self.collector;
@@ -291,7 +291,7 @@ fn put_answer(
 ) -> usize
     requires { ⌜ (length (now time) ≤ longestNumber) × (at + longestLine ≤ length (now out)) ⌝ }
     ensures { λ r. ⌜ Printed (now (out .entry)) at
-        (rowBehind (now (time .entry)) (rowOf (shownOf answer))
+        (rowBehind (now (time .entry)) (printedRow (shownOf answer))
         (relayedFor setting (shownOf answer) (now (bytes .entry))))
         longestLine (now (out .exit)) r ⌝ }
 {
@@ -301,7 +301,7 @@ fn put_answer(
 }
 
 fn row_of(answer: Answer) -> Row
-    ensures { λ r. ⌜ r ≡ rowOf (shownOf answer) ⌝ }
+    ensures { λ r. ⌜ r ≡ printedRow (shownOf answer) ⌝ }
 {
     match answer {
         Answer::Kept => Row::Kept,

@@ -13,7 +13,7 @@ ghost use Rattle.streams.specs.Chunks.{endText, inLine};
 ghost use Rattle.streams.specs.Collect.{collect};
 ghost use Rattle.buffers.specs.Printed.{Printed};
 ghost use Rattle.collecting.specs.Session.{modelCollector, phaseOf, longestLine};
-ghost use Rattle.collecting.specs.Program.{longestFinish, isSound, Kept, Drained, Chunked};
+ghost use Rattle.collecting.specs.Program.{longestFinish, isUnfailed, Kept, Drained, Chunked};
 
 // What comes after a chunk.
 pub(crate) enum Next {
@@ -71,7 +71,7 @@ fn read_chunks(input: i32, buffer: &mut [u8], out: &mut [u8])
 }
 
 fn is_read(next: Next) -> bool
-    ensures { λ r. ⌜ (r ≡ true → isSound next ≡ true) ⌝ }
+    ensures { λ r. ⌜ (r ≡ true → isUnfailed next ≡ true) ⌝ }
 {
     match next {
         Next::Read => true,
@@ -82,7 +82,7 @@ fn is_read(next: Next) -> bool
 // Reads once behind what is kept of a line, and takes the chunk.
 fn read_chunk(input: i32, s: Session, kept: usize, buffer: &mut [u8], out: &mut [u8]) -> Turn
     requires { ⌜ Kept kept (now buffer) × (longestFinish ≤ length (now out)) ⌝ }
-    ensures { λ r. ⌜ (isSound (r .next) ≡ true → Kept (r .kept) (now (buffer .exit))) ⌝ }
+    ensures { λ r. ⌜ (isUnfailed (r .next) ≡ true → Kept (r .kept) (now (buffer .exit))) ⌝ }
 {
     let part = &mut buffer[kept..];
     let got = libc::read(input, part);
@@ -128,7 +128,7 @@ fn take_chunk(s: Session, buffer: &mut [u8], end: usize, out: &mut [u8]) -> Turn
 }
 
 fn next_after(s: Session, written: bool) -> Next
-    ensures { λ r. ⌜ isSound r ≡ written ⌝ }
+    ensures { λ r. ⌜ isUnfailed r ≡ written ⌝ }
 {
     if !written {
         return Next::NotWritten;
@@ -173,7 +173,7 @@ fn take_lines(s: Session, input: &[u8], out: &mut [u8]) -> Drain
 
 // The end of a run, or what stopped it.
 fn end(t: Turn, buffer: &mut [u8], out: &mut [u8])
-    requires { ⌜ (isSound (t .next) ≡ true → Kept (t .kept) (now buffer)) ⌝ }
+    requires { ⌜ (isUnfailed (t .next) ≡ true → Kept (t .kept) (now buffer)) ⌝ }
     requires { ⌜ longestFinish ≤ length (now out) ⌝ }
 {
     let next = t.next;

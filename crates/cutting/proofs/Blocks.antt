@@ -27,7 +27,7 @@ use Rattle.archive_model.proofs.Blocks.{head-part}
 use Rattle.archive_model.proofs.Buffers.{map-same, pieces}
 use Rattle.archive_model.proofs.Pieces.{rows-count}
 use Rattle.archive_model.proofs.Exact.{tests, sound-is, sound-few, sound-shorts, row-is, cell-is}
-use Rattle.archive.specs.Archive.{soundRows}
+use Rattle.archive.specs.Archive.{soundCount}
 use Rattle.cutting.specs.Cut.{firstRows, cutBlockOf}
 use Rattle.cutting.specs.Private.{keptRows}
 
@@ -116,14 +116,14 @@ module _ (m : ℕ) (b : List ℕ) where
     unfolding cutBlockOf
     other h = rw (eq-eqb (length b) blockLength long, h)
 
-    pub block-unsound : soundRows b ≡ 0 → (record { number = numberOf Mismatch; block = b }) ≡ cutBlockOf m b
+    pub block-unsound : soundCount b ≡ 0 → (record { number = numberOf Mismatch; block = b }) ≡ cutBlockOf m b
     block-unsound e =
         other
         (by-test {X = isSound b && leb m (rowCount b) ≡ false} (isSound b)
         (λ t. absurd (let z : rowCount b ≡ 0 = rw t at e in omega (arith, tests b t .0)))
         (λ f. rw f refl))
 
-    pub block-few : soundRows b < m → (record { number = numberOf Mismatch; block = b }) ≡ cutBlockOf m b
+    pub block-few : soundCount b < m → (record { number = numberOf Mismatch; block = b }) ≡ cutBlockOf m b
     block-few h =
         other
         (by-test {X = isSound b && leb m (rowCount b) ≡ false} (isSound b)
@@ -131,7 +131,7 @@ module _ (m : ℕ) (b : List ℕ) where
         (λ f. rw f refl))
 
     -- a block that has so many rows
-    pub block-has : (soundRows b ≡ 0 → ⊥) → m ≤ soundRows b → (isSound b ≡ true) × (m ≤ rowCount b)
+    pub block-has : (soundCount b ≡ 0 → ⊥) → m ≤ soundCount b → (isSound b ≡ true) × (m ≤ rowCount b)
     block-has some h =
         by-test {X = (isSound b ≡ true) × (m ≤ rowCount b)} (isSound b)
         (λ t. (t, rw t at h))

@@ -10,7 +10,7 @@ use Rattle.layout.specs.Block.{cellsPerBlock, blockLength}
 use Rattle.archive_model.specs.Row.{Row}
 use Rattle.archive_model.specs.Buffer.{bufferOf, maxBlocks, rowsIn}
 use Rattle.archive_model.specs.Append.{Appended, stored, appendOf, blockAt}
-use Rattle.archive_model.specs.Claims.{after}
+use Rattle.archive_model.specs.Claims.{afterAppends}
 use Rattle.archive_model.proofs.Blocks.{Fit, Fits, noRow}
 use Rattle.archive_model.proofs.Buffers.{buffer-length, rows-in}
 use Rattle.archive_model.proofs.Exact.{sound-long}
@@ -56,12 +56,12 @@ module _ (n : ℕ) (mb : n ≤ maxBlocks) where
       rw (written-verdict xs n fit (omega arith) mb, one .valid, rows-in xs n fit (omega arith), full, l)
 
   append-all : (xs ys : List Row) → Fits (xs ++ ys) → length (xs ++ ys) ≤ cellsPerBlock * n
-      → after (bufferOf (blockLength * n) xs) ys ≡ bufferOf (blockLength * n) (xs ++ ys)
+      → afterAppends (bufferOf (blockLength * n) xs) ys ≡ bufferOf (blockLength * n) (xs ++ ys)
   append-all xs [] fit few = ap (bufferOf (blockLength * n)) (sym (append-nil xs))
   append-all xs (y ∷ ys) fit few =
       let e = append-assoc xs (y ∷ []) ys in
       let room : length xs < cellsPerBlock * n = omega (arith, length-append xs (y ∷ ys)) in
-      ap (λ (b : List ℕ). after b ys) (append-one xs y (fits-front xs (y ∷ ys) fit) (fit-next xs y ys fit) room)
+      ap (λ (b : List ℕ). afterAppends b ys) (append-one xs y (fits-front xs (y ∷ ys) fit) (fit-next xs y ys fit) room)
       ∙ append-all (xs ++ (y ∷ [])) ys (rw e fit) (rw e few) ∙ ap (bufferOf (blockLength * n)) e
 
 pub undone : Undone
@@ -72,7 +72,7 @@ undone m buffer z =
     let e = take-append-drop m rows in
     let n = length buffer / blockLength in
     rw (d .is)
-    (ap (λ (c : ℕ). after (bufferOf c (take m rows)) (drop m rows)) (blocks-of buffer v .0)
+    (ap (λ (c : ℕ). afterAppends (bufferOf c (take m rows)) (drop m rows)) (blocks-of buffer v .0)
     ∙ append-all n (blocks-of buffer v .1) (take m rows) (drop m rows) (rw e (rows-fit buffer v)) (rw e (rows-few buffer v))
     ∙ ap (bufferOf (blockLength * n)) e ∙ is-exact buffer v)
 

@@ -6,7 +6,7 @@ use lib.ListN.{length, take, drop, replicate}
 use Rattle.layout.specs.Block.{cellsPerBlock, blockLength}
 use Rattle.archive_model.specs.Buffer.{rowsIn}
 use Rattle.archive_model.specs.Append.{verdict, stored, blockAt}
-use Rattle.archive_model.specs.Claims.{after}
+use Rattle.archive_model.specs.Claims.{afterAppends}
 use Rattle.cutting.specs.Cut.{cutOf, cutBlockOf}
 
 -- Remains: an archive of the same length, of exactly the first m rows.
@@ -26,7 +26,7 @@ CutAgain =
 abbrev pub Undone : Type 0
 Undone =
     (m : ℕ) (buffer : List ℕ) → cutOf m buffer .number ≡ 0
-    → after (cutOf m buffer .buffer) (drop m (rowsIn buffer)) ≡ buffer
+    → afterAppends (cutOf m buffer .buffer) (drop m (rowsIn buffer)) ≡ buffer
 
 -- One block: where rows are taken back, the blocks before block m / 15 stay, that block is cut by itself, and zeros stand behind it.
 abbrev pub AtOneBlock : Type 0

@@ -12,7 +12,7 @@ use Rattle.refusal.proofs.Numbers.{refused-number}
 use Rattle.erp2_model.specs.declared.Telegram.{Telegram}
 use Rattle.erp2_model.specs.Header.{isReserved}
 use Rattle.erp2_model.specs.Sizes.{shortSizes, longSizes, overhead}
-use Rattle.erp2_model.specs.Building.{isShortForm, sizesFor, sizeOf, isUnholdable, isAgainstHeader, isMisfitting}
+use Rattle.erp2_model.specs.Building.{isShortForm, sizesFor, telegramSize, isUnholdable, isAgainstHeader, isMisfitting}
 use Rattle.erp2_model.specs.Bounds.{Buildable}
 use Rattle.erp2.specs.Private.{admissionOf}
 use Rattle.erp2_model.proofs.Lookups.{short-high, originator-low, originator-high}
@@ -84,7 +84,7 @@ module _ (t : Telegram) where
   -- ---- what does not fit
 
   by-form-long-data : t .short ≤ 6 → 250 < t .len → (x : Bool) → isShortForm t ≡ x → isMisfitting t ≡ true
-  unfolding isMisfitting sizeOf
+  unfolding isMisfitting telegramSize
   by-form-long-data s h true f =
       let n : eqb (overhead (shortSizes (t .short)) + t .len) (t .short) ≡ false
       = ne-eqb (overhead (shortSizes (t .short)) + t .len) (t .short) (λ (e : overhead (shortSizes (t .short)) + t .len ≡ t .short). omega arith) in
@@ -98,10 +98,10 @@ module _ (t : Telegram) where
   pub long-data : t .short ≤ 6 → 250 < t .len → true ≡ isMisfitting t
   long-data s h = sym (by-form-long-data s h (isShortForm t) refl)
 
-  pub short-misfit : isShortForm t ≡ true → not (eqb (sizeOf t) (t .short)) ≡ isMisfitting t
+  pub short-misfit : isShortForm t ≡ true → not (eqb (telegramSize t) (t .short)) ≡ isMisfitting t
   unfolding isMisfitting
   short-misfit f = rw f
 
-  pub long-misfit : isShortForm t ≡ false → (ltb (sizeOf t) 7 || ltb 255 (sizeOf t)) ≡ isMisfitting t
+  pub long-misfit : isShortForm t ≡ false → (ltb (telegramSize t) 7 || ltb 255 (telegramSize t)) ≡ isMisfitting t
   unfolding isMisfitting
   long-misfit f = rw f

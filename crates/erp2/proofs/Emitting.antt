@@ -15,7 +15,7 @@ use Rattle.telegram.specs.Output.{Result, refused, written}
 use Rattle.erp2_model.specs.declared.Telegram.{Telegram}
 use Rattle.erp2_model.specs.Header.{isReserved}
 use Rattle.erp2_model.specs.Sizes.{longSizes, overhead}
-use Rattle.erp2_model.specs.Building.{isShortForm, sizesFor, sizeOf, isUnholdable, isAgainstHeader, isMisfitting, rowBytes, bodyOf, sealOf, erp2Bytes, buildOf}
+use Rattle.erp2_model.specs.Building.{isShortForm, sizesFor, telegramSize, isUnholdable, isAgainstHeader, isMisfitting, rowBytes, bodyOf, sealOf, erp2Bytes, buildOf}
 use Rattle.erp2_model.specs.Claims.{Shaped}
 use Rattle.erp2_model.specs.Bounds.{Buildable}
 use Rattle.erp2.specs.Private.{admissionOf, sealBy, rowWritten, Laid}
@@ -40,12 +40,12 @@ build-refused t out why e =
     (refused-number why) e
 
 module _ (t : Telegram) (v : Buildable t) (out : List ℕ) where
-  admitted-build : buildOf t out ≡ cond (ltb (length out) (1 + sizeOf t)) (refused (numberOf ShortOutput) out) (written (erp2Bytes t) out)
+  admitted-build : buildOf t out ≡ cond (ltb (length out) (1 + telegramSize t)) (refused (numberOf ShortOutput) out) (written (erp2Bytes t) out)
   unfolding buildOf
   admitted-build = rw (v .holds, v .agrees, v .allowed, v .fits)
 
-  pub build-short : length out < 1 + sizeOf t → refused (numberOf ShortOutput) out ≡ buildOf t out
-  build-short h = sym (admitted-build ∙ rw (lt-ltb (length out) (1 + sizeOf t) h))
+  pub build-short : length out < 1 + telegramSize t → refused (numberOf ShortOutput) out ≡ buildOf t out
+  build-short h = sym (admitted-build ∙ rw (lt-ltb (length out) (1 + telegramSize t) h))
 
   module _ (shape : Shaped t) where
     by-form-lengths : (x : Bool) → isShortForm t ≡ x → Lengths t
@@ -61,25 +61,25 @@ module _ (t : Telegram) (v : Buildable t) (out : List ℕ) where
 
     -- the row, written, is the telegram
     row-built : rowWritten t (sizesFor t) out ≡ erp2Bytes t ++ drop (length (erp2Bytes t)) out
-    unfolding rowWritten erp2Bytes bodyOf sizeOf
+    unfolding rowWritten erp2Bytes bodyOf telegramSize
     row-built =
         let n : 1 + overhead (sizesFor t) + t .len ≡ length (erp2Bytes t) = omega (arith, built-length t lengths) in
         ap (λ (x : List ℕ). ((overhead (sizesFor t) + t .len) ∷ (rowBytes t (sizesFor t) ++ x)) ++ drop (1 + overhead (sizesFor t) + t .len) out)
         (by-form-seal (isShortForm t) refl)
         ∙ ap (λ (m : ℕ). ((overhead (sizesFor t) + t .len) ∷ (rowBytes t (sizesFor t) ++ sealOf t)) ++ drop m out) n
 
-    pub build-done : 1 + sizeOf t ≤ length out → (n : ℕ) → n ≡ 1 + sizeOf t → (last : List ℕ) → last ≡ rowWritten t (sizesFor t) out
+    pub build-done : 1 + telegramSize t ≤ length out → (n : ℕ) → n ≡ 1 + telegramSize t → (last : List ℕ) → last ≡ rowWritten t (sizesFor t) out
         → record { number = 0; len = n; output = last } ≡ buildOf t out
     build-done h n e last f =
         let l = built-length t lengths in
         ap (λ (m : ℕ). record { number = 0; len = m; output = last }) (e ∙ sym l)
         ∙ ap (λ (xs : List ℕ). record { number = 0; len = length (erp2Bytes t); output = xs }) (f ∙ row-built)
-        ∙ sym (admitted-build ∙ rw (le-ltb (length out) (1 + sizeOf t) h))
+        ∙ sym (admitted-build ∙ rw (le-ltb (length out) (1 + telegramSize t) h))
 
 -- a telegram that can be built fits, and an output with room for it
-module _ (t : Telegram) (v : Buildable t) (n : ℕ) (room : 1 + sizeOf t ≤ n) where
+module _ (t : Telegram) (v : Buildable t) (n : ℕ) (room : 1 + telegramSize t ≤ n) where
   by-form-laid : (x : Bool) → isShortForm t ≡ x → Laid t (sizesFor t) n
-  unfolding sizeOf
+  unfolding telegramSize
   by-form-laid true f =
       let w = short-facts t v f in
       let m : overhead (sizesFor t) + t .len ≡ t .short = w .size in
@@ -108,4 +108,4 @@ module _ (t : Telegram) (v : Buildable t) (n : ℕ) (room : 1 + sizeOf t ≤ n) 
   laid-built = by-form-laid (isShortForm t) refl
 
 pub data-most : (t : Telegram) → Buildable t → t .len ≤ 250
-data-most t v = laid-built t v (1 + sizeOf t) (omega arith) .payload
+data-most t v = laid-built t v (1 + telegramSize t) (omega arith) .payload

@@ -24,7 +24,7 @@ use Rattle.erp2_model.specs.declared.Telegram.{Telegram}
 use Rattle.erp2_model.specs.Header.{headerOf, headerByte, isReserved, isTypeExtended, isAddressed, extensionOf, extensionByte}
 use Rattle.erp2_model.specs.Sizes.{shortSizes, longSizes, overhead, extensionAt}
 use Rattle.erp2_model.specs.Reading.{maxData, maxOptional, lengthByte, isShort, headerIn, sizesIn, fieldsOf, checkOf, noHeader, noExtension, noSubtype, noDestination}
-use Rattle.erp2_model.specs.Building.{isShortForm, sizesFor, sizeOf, dataOf, optionalOf, bodyOf, sealOf, erp2Bytes}
+use Rattle.erp2_model.specs.Building.{isShortForm, sizesFor, telegramSize, dataOf, optionalOf, bodyOf, sealOf, erp2Bytes}
 use Rattle.erp2_model.specs.Bounds.{Buildable}
 use Rattle.erp2_model.specs.Claims.{Shaped, normalOf}
 use Rattle.erp2_model.proofs.Bits.{header-forth, header-lt}
@@ -47,17 +47,17 @@ none : (n : ℕ) → unbe (be 0 n) ≡ 0
 unfolding be unbe unbeFrom
 none n = refl
 
-length-built : (t : Telegram) → lengthByte (erp2Bytes t) ≡ sizeOf t
+length-built : (t : Telegram) → lengthByte (erp2Bytes t) ≡ telegramSize t
 unfolding erp2Bytes
 length-built t = refl
 
-rest-built : (t : Telegram) → sizeOf t - overhead (sizesFor t) ≡ t .len
-unfolding sizeOf
+rest-built : (t : Telegram) → telegramSize t - overhead (sizesFor t) ≡ t .len
+unfolding telegramSize
 rest-built t = omega arith
 
 module _ (t : Telegram) (shape : Shaped t) (f : isShortForm t ≡ true) (v : Short t) (l : Lengths t) where
   short-is : isShort (erp2Bytes t) ≡ true
-  short-is = rw (length-built t) (le-leb (sizeOf t) 6 (omega (arith, v .size, v .most)))
+  short-is = rw (length-built t) (le-leb (telegramSize t) 6 (omega (arith, v .size, v .most)))
 
   short-sizes : sizesIn (erp2Bytes t) ≡ sizesFor t
   short-sizes = rw (short-is, length-built t, v .size, f) refl
@@ -68,9 +68,9 @@ module _ (t : Telegram) (shape : Shaped t) (f : isShortForm t ≡ true) (v : Sho
       rw (
         length-built t,
         built-length t l,
-        ne-eqb (sizeOf t) 0 (λ e. omega (arith, v .size, v .some)),
-        eq-eqb (1 + sizeOf t) (1 + sizeOf t) refl,
-        le-leb (sizeOf t) 6 (omega (arith, v .size, v .most)),
+        ne-eqb (telegramSize t) 0 (λ e. omega (arith, v .size, v .some)),
+        eq-eqb (1 + telegramSize t) (1 + telegramSize t) refl,
+        le-leb (telegramSize t) 6 (omega (arith, v .size, v .most)),
       )
 
   short-fields : fieldsOf (erp2Bytes t) ≡ normalOf t
@@ -97,7 +97,7 @@ module _ (t : Telegram) (shape : Shaped t) (f : isShortForm t ≡ true) (v : Sho
         c,
         d,
         e,
-        le-leb (sizeOf t) 6 (omega (arith, v .size, v .most)),
+        le-leb (telegramSize t) 6 (omega (arith, v .size, v .most)),
         v .size,
         f,
         v .extension,
@@ -107,7 +107,7 @@ module _ (t : Telegram) (shape : Shaped t) (f : isShortForm t ≡ true) (v : Sho
 
 module _ (t : Telegram) (shape : Shaped t) (f : isShortForm t ≡ false) (v : Long t) (l : Lengths t) where
   long-is : isShort (erp2Bytes t) ≡ false
-  long-is = rw (length-built t) (lt-leb (sizeOf t) 6 (omega (arith, v .low)))
+  long-is = rw (length-built t) (lt-leb (telegramSize t) 6 (omega (arith, v .low)))
 
   header-read : unbe (headerField t) ≡ headerByte (t .header)
   header-read = rw f (unbe-be 1 (headerByte (t .header)) (header-lt (t .header) (omega (arith, v .control)) (v .kind)))
@@ -247,7 +247,7 @@ module _ (t : Telegram) (shape : Shaped t) (f : isShortForm t ≡ false) (v : Lo
         part-payload t l,
         part-optional t l,
         d,
-        lt-leb (sizeOf t) 6 (omega (arith, v .low)),
+        lt-leb (telegramSize t) 6 (omega (arith, v .low)),
       )
       (ap readAs header-built
       ∙ ap (λ (e : Extension). made 0 (t .header) e (readSubtype (t .header)) (readDestination (t .header))) (extension-is (t .header .extended) refl)
@@ -255,37 +255,37 @@ module _ (t : Telegram) (shape : Shaped t) (f : isShortForm t ≡ false) (v : Lo
       ∙ ap (λ (w : Destination). made 0 (t .header) keptExtension keptSubtype w) (destination-is (isAddressed (t .header)) refl)
       ∙ sym long-normal)
 
-  body-length : length (bodyOf t) + 1 ≡ sizeOf t
-  unfolding bodyOf sizeOf
+  body-length : length (bodyOf t) + 1 ≡ telegramSize t
+  unfolding bodyOf telegramSize
   body-length = simp (length-append, be-length, l .payload, l .optional) (rw f (omega arith))
 
-  behind : part 1 (sizeOf t - 1) (erp2Bytes t) ≡ bodyOf t
+  behind : part 1 (telegramSize t - 1) (erp2Bytes t) ≡ bodyOf t
   unfolding erp2Bytes
-  behind = take-at (bodyOf t) (sealOf t) (sizeOf t - 1) (omega (arith, body-length))
+  behind = take-at (bodyOf t) (sealOf t) (telegramSize t - 1) (omega (arith, body-length))
 
-  last-byte : getD (erp2Bytes t) (sizeOf t) 0 ≡ crcOf (bodyOf t)
+  last-byte : getD (erp2Bytes t) (telegramSize t) 0 ≡ crcOf (bodyOf t)
   unfolding erp2Bytes
   last-byte =
       let s : sealOf t ≡ crcOf (bodyOf t) ∷ [] = rw f in
-      ap (λ (x : List ℕ). getD (sizeOf t ∷ (bodyOf t ++ x)) (sizeOf t) 0) s
-      ∙ getD-at (sizeOf t ∷ bodyOf t) (crcOf (bodyOf t)) [] 0 (sizeOf t) (omega (arith, body-length))
+      ap (λ (x : List ℕ). getD (telegramSize t ∷ (bodyOf t ++ x)) (telegramSize t) 0) s
+      ∙ getD-at (telegramSize t ∷ bodyOf t) (crcOf (bodyOf t)) [] 0 (telegramSize t) (omega (arith, body-length))
 
-  room : overhead (sizesFor t) ≤ sizeOf t
-  unfolding sizeOf
+  room : overhead (sizesFor t) ≤ telegramSize t
+  unfolding telegramSize
   room = omega arith
 
   long-checks : checkOf (erp2Bytes t) ≡ 0
   unfolding checkOf
   long-checks =
       let open-address : isReserved (headerIn (erp2Bytes t)) ≡ false = ap isReserved header-is ∙ lt-leb 4 (t .header .control) (v .control) in
-      let fit : ltb (sizeOf t) (overhead (longSizes (headerIn (erp2Bytes t)) (getD (erp2Bytes t) 2 0 % 16))) ≡ false
-      = ap (λ (y : Sizes). ltb (sizeOf t) (overhead y)) announced-sizes ∙ le-ltb (sizeOf t) (overhead (sizesFor t)) room in
+      let fit : ltb (telegramSize t) (overhead (longSizes (headerIn (erp2Bytes t)) (getD (erp2Bytes t) 2 0 % 16))) ≡ false
+      = ap (λ (y : Sizes). ltb (telegramSize t) (overhead y)) announced-sizes ∙ le-ltb (telegramSize t) (overhead (sizesFor t)) room in
       rw (
         length-built t,
         built-length t l,
-        ne-eqb (sizeOf t) 0 (λ e. omega (arith, v .low)),
-        eq-eqb (1 + sizeOf t) (1 + sizeOf t) refl,
-        lt-leb (sizeOf t) 6 (omega (arith, v .low)),
+        ne-eqb (telegramSize t) 0 (λ e. omega (arith, v .low)),
+        eq-eqb (1 + telegramSize t) (1 + telegramSize t) refl,
+        lt-leb (telegramSize t) 6 (omega (arith, v .low)),
         last-byte,
         behind,
         eq-eqb (crcOf (bodyOf t)) (crcOf (bodyOf t)) refl,

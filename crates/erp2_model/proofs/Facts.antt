@@ -16,7 +16,7 @@ use Rattle.telegram.specs.Output.{written}
 use Rattle.erp2_model.specs.declared.Telegram.{Telegram}
 use Rattle.erp2_model.specs.Header.{isReserved, isTypeExtended, isAddressed}
 use Rattle.erp2_model.specs.Sizes.{shortSizes, longSizes, overhead}
-use Rattle.erp2_model.specs.Building.{isShortForm, sizesFor, sizeOf, differ, isUnholdable, isAgainstHeader, isMisfitting, dataOf, optionalOf, sealOf, erp2Bytes, buildOf}
+use Rattle.erp2_model.specs.Building.{isShortForm, sizesFor, telegramSize, differ, isUnholdable, isAgainstHeader, isMisfitting, dataOf, optionalOf, sealOf, erp2Bytes, buildOf}
 use Rattle.erp2_model.specs.Bounds.{Buildable}
 use Rattle.erp2_model.specs.Claims.{Shaped}
 use Rattle.erp2_model.proofs.Lookups.{originator-low}
@@ -27,7 +27,7 @@ build-facts t out e =
     let p = unrefused (isUnholdable t || isAgainstHeader t) _ out _ (refused-number Argument) e in
     let q = unrefused (not (isShortForm t) && isReserved (t .header)) _ out _ (refused-number ReservedAddress) (p .1) in
     let r = unrefused (isMisfitting t) _ out _ (refused-number Misfit) (q .1) in
-    let u = unrefused (ltb (length out) (1 + sizeOf t)) _ out (written (erp2Bytes t) out) (refused-number ShortOutput) (r .1) in
+    let u = unrefused (ltb (length out) (1 + telegramSize t)) _ out (written (erp2Bytes t) out) (refused-number ShortOutput) (r .1) in
     let w = neither (isUnholdable t) (isAgainstHeader t) (p .0) in
     (record { holds = w .0; agrees = w .1; allowed = q .0; fits = r .0 }, rw (p .0, q .0, r .0, u .0))
 
@@ -43,7 +43,7 @@ pub record Short (t : Telegram) : Type 0 where
   pub most : t .short ≤ 6
   pub some : 0 < t .short
   pub originator : t .originator < 256 ^ shortSizes (t .short) .originator
-  pub size : sizeOf t ≡ t .short
+  pub size : telegramSize t ≡ t .short
   pub extension : t .extension .present ≡ false
   pub subtype : t .subtype .present ≡ false
   pub destination : t .destination .present ≡ false
@@ -55,8 +55,8 @@ pub record Long (t : Telegram) : Type 0 where
   pub originator : t .originator < 256 ^ longSizes (t .header) 0 .originator
   pub hops : t .extension .present ≡ true → t .extension .hops < 16
   pub announced : t .extension .present ≡ true → t .extension .announced < 16
-  pub low : 7 ≤ sizeOf t
-  pub high : sizeOf t ≤ 255
+  pub low : 7 ≤ telegramSize t
+  pub high : telegramSize t ≤ 255
   pub extension : t .extension .present ≡ t .header .extended
   pub subtype : t .subtype .present ≡ isTypeExtended (t .header)
   pub destination : t .destination .present ≡ isAddressed (t .header)
@@ -90,7 +90,7 @@ module _ (t : Telegram) (v : Buildable t) where
       let before-destination = differ (t .extension .present) (t .header .extended) || differ (t .subtype .present) (isTypeExtended (t .header)) in
       let g = neither before-destination (differ (t .destination .present) (isAddressed (t .header))) (rw f at (v .agrees)) in
       let g2 = neither (differ (t .extension .present) (t .header .extended)) (differ (t .subtype .present) (isTypeExtended (t .header))) (g .0) in
-      let k = neither (ltb (sizeOf t) 7) (ltb 255 (sizeOf t)) (rw f at (v .fits)) in
+      let k = neither (ltb (telegramSize t) 7) (ltb 255 (telegramSize t)) (rw f at (v .fits)) in
       let bits : t .extension .present ≡ true → (ltb 15 (t .extension .hops) ≡ false) × (ltb 15 (t .extension .announced) ≡ false)
       = λ e. neither (ltb 15 (t .extension .hops)) (ltb 15 (t .extension .announced)) (rw e at (h1 .1)) in
       record {
@@ -100,8 +100,8 @@ module _ (t : Telegram) (v : Buildable t) where
         originator = leb-false _ _ (h .0);
         hops = λ e. omega (arith, ltb-false 15 (t .extension .hops) (bits e .0));
         announced = λ e. omega (arith, ltb-false 15 (t .extension .announced) (bits e .1));
-        low = ltb-false (sizeOf t) 7 (k .0);
-        high = ltb-false 255 (sizeOf t) (k .1);
+        low = ltb-false (telegramSize t) 7 (k .0);
+        high = ltb-false 255 (telegramSize t) (k .1);
         extension = same-flags _ _ (g2 .0);
         subtype = same-flags _ _ (g2 .1);
         destination = same-flags _ _ (g .1);
@@ -120,7 +120,7 @@ optional-high t v false e = omega arith
 
 module _ (t : Telegram) (shape : Shaped t) where
   pub short-lengths : isShortForm t ≡ true → Short t → Lengths t
-  unfolding sizeOf
+  unfolding telegramSize
   short-lengths f v =
       let n : overhead (shortSizes (t .short)) + t .len ≡ t .short = rw f at (v .size) in
       record {
@@ -130,7 +130,7 @@ module _ (t : Telegram) (shape : Shaped t) where
       }
 
   pub long-lengths : isShortForm t ≡ false → Long t → Lengths t
-  unfolding sizeOf
+  unfolding telegramSize
   long-lengths f v =
       let n : overhead (longSizes (t .header) (t .extension .announced)) + t .len ≤ 255 = rw f at (v .high) in
       let o = originator-low (t .header .control) in

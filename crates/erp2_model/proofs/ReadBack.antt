@@ -16,7 +16,7 @@ use Rattle.layout.proofs.BigEndian.{field-back, field-one}
 use Rattle.erp2_model.specs.declared.Sizes.{Sizes}
 use Rattle.erp2_model.specs.Sizes.{longSizes, overhead, extensionAt, subtypeAt, originatorAt, destinationAt, payloadAt}
 use Rattle.erp2_model.specs.Reading.{maxData, maxOptional, lengthByte, isShort, headerIn, sizesIn, fieldsOf}
-use Rattle.erp2_model.specs.Building.{isShortForm, sizesFor, sizeOf, bodyOf, erp2Bytes}
+use Rattle.erp2_model.specs.Building.{isShortForm, sizesFor, telegramSize, bodyOf, erp2Bytes}
 use Rattle.erp2_model.proofs.Lookups.{short-fits}
 use Rattle.erp2_model.proofs.Bits.{header-back, extension-back}
 use Rattle.erp2_model.proofs.Sound.{Sound}
@@ -90,8 +90,8 @@ module _ (s : List ℕ) (v : Sound s) where
   pub sizes-read : sizesFor (fieldsOf s) ≡ sizesIn s
   sizes-read = by-form-sizes (isShort s) refl
 
-  pub length-read : sizeOf (fieldsOf s) ≡ lengthByte s
-  unfolding fieldsOf sizeOf
+  pub length-read : telegramSize (fieldsOf s) ≡ lengthByte s
+  unfolding fieldsOf telegramSize
   length-read = rw sizes-read (omega (arith, v .fits))
 
   pub form-short : isShort s ≡ true → isShortForm (fieldsOf s) ≡ true

@@ -13,7 +13,7 @@ use Rattle.erp2_model.specs.declared.Telegram.{Telegram}
 use Rattle.erp2_model.specs.declared.Sizes.{Sizes}
 use Rattle.erp2_model.specs.Header.{headerByte, extensionByte}
 use Rattle.erp2_model.specs.Sizes.{extensionAt, subtypeAt, originatorAt, destinationAt, payloadAt}
-use Rattle.erp2_model.specs.Building.{sizesFor, sizeOf, dataOf, optionalOf, bodyOf, sealOf, erp2Bytes}
+use Rattle.erp2_model.specs.Building.{sizesFor, telegramSize, dataOf, optionalOf, bodyOf, sealOf, erp2Bytes}
 use Rattle.erp2_model.proofs.Facts.{Lengths}
 
 joined : (l : ℕ) (A B C D E F G H : List ℕ) → l ∷ ((A ++ B ++ C ++ D ++ E ++ F ++ G) ++ H) ≡ flatten ((l ∷ []) ∷ A ∷ B ∷ C ∷ D ∷ E ∷ F ∷ G ∷ H ∷ [])
@@ -41,11 +41,11 @@ module _ (t : Telegram) where
 
   abbrev segments : List (List ℕ)
   segments =
-      (sizeOf t ∷ []) ∷ headerField ∷ extensionField ∷ subtypeField ∷ originatorField ∷ destinationField ∷ dataOf t ∷ optionalOf t ∷ sealOf t ∷ []
+      (telegramSize t ∷ []) ∷ headerField ∷ extensionField ∷ subtypeField ∷ originatorField ∷ destinationField ∷ dataOf t ∷ optionalOf t ∷ sealOf t ∷ []
 
   is-segments : erp2Bytes t ≡ flatten segments
   unfolding erp2Bytes bodyOf
-  is-segments = joined (sizeOf t) headerField extensionField subtypeField originatorField destinationField (dataOf t) (optionalOf t) (sealOf t)
+  is-segments = joined (telegramSize t) headerField extensionField subtypeField originatorField destinationField (dataOf t) (optionalOf t) (sealOf t)
 
   segment : (k a n : ℕ) → start k segments ≡ a → length (getD segments k []) ≡ n → part a n (erp2Bytes t) ≡ getD segments k []
   segment k a n e h = rw is-segments (part-nth k segments a n e h)
@@ -97,6 +97,6 @@ module _ (t : Telegram) where
     pub part-optional : part (payloadAt z + t .len) (z .optional) (erp2Bytes t) ≡ optionalOf t
     part-optional = segment 7 (payloadAt z + t .len) (z .optional) (omega (arith, data-start, l .payload)) (l .optional)
 
-    pub built-length : length (erp2Bytes t) ≡ 1 + sizeOf t
-    unfolding erp2Bytes bodyOf sizeOf
+    pub built-length : length (erp2Bytes t) ≡ 1 + telegramSize t
+    unfolding erp2Bytes bodyOf telegramSize
     built-length = simp (length-append, be-length, l .payload, l .optional, l .seal) (omega arith)

@@ -22,8 +22,8 @@ abbrev pub sizesFor : Telegram → Sizes
 sizesFor t = cond (isShortForm t) (shortSizes (t .short)) (longSizes (t .header) (t .extension .announced))
 
 -- bytes of Data_PL
-unfoldable pub sizeOf : Telegram → ℕ
-sizeOf t = overhead (sizesFor t) + t .len
+unfoldable pub telegramSize : Telegram → ℕ
+telegramSize t = overhead (sizesFor t) + t .len
 
 -- "a value its bits can't hold": what is not there has no bits
 unfoldable pub isUnholdable : Telegram → Bool
@@ -48,8 +48,8 @@ isAgainstHeader t =
 -- "fields that don't fit the length": that of a short form is named, that of a long one is 7 to 255
 unfoldable pub isMisfitting : Telegram → Bool
 isMisfitting t =
-    cond (isShortForm t) (not (eqb (sizeOf t) (t .short)))
-    (ltb (sizeOf t) (maxShort + 1) || ltb maxLength (sizeOf t))
+    cond (isShortForm t) (not (eqb (telegramSize t) (t .short)))
+    (ltb (telegramSize t) (maxShort + 1) || ltb maxLength (telegramSize t))
 
 -- ---- the bytes
 
@@ -79,7 +79,7 @@ sealOf t = cond (isShortForm t) [] (crcOf (bodyOf t) ∷ [])
 
 -- every byte of a telegram: the length byte, and Data_PL
 unfoldable pub erp2Bytes : Telegram → List ℕ
-erp2Bytes t = sizeOf t ∷ (bodyOf t ++ sealOf t)
+erp2Bytes t = telegramSize t ∷ (bodyOf t ++ sealOf t)
 
 -- ---- what building answers: the refusals of document 02, A4, in their order: 10, 14, 15, 6
 
@@ -88,5 +88,5 @@ buildOf t output =
     cond (isUnholdable t || isAgainstHeader t) (refused (numberOf Argument) output)
     (cond (not (isShortForm t) && isReserved (t .header)) (refused (numberOf ReservedAddress) output)
     (cond (isMisfitting t) (refused (numberOf Misfit) output)
-    (cond (ltb (length output) (1 + sizeOf t)) (refused (numberOf ShortOutput) output)
+    (cond (ltb (length output) (1 + telegramSize t)) (refused (numberOf ShortOutput) output)
     (written (erp2Bytes t) output))))

@@ -27,7 +27,7 @@ use Rattle.buffers.proofs.Segments.{part-at}
 use Rattle.buffers.proofs.Buffer.{resized-length}
 use Rattle.model.specs.View.{Entry, capacity}
 use Rattle.model.specs.Acceptable.{isEntry, acceptable}
-use Rattle.model.specs.Image.{entryCell, blockAt}
+use Rattle.model.specs.Image.{entryCell, imageBlock}
 use Rattle.model.proofs.Check.{valid-length}
 use Rattle.model.proofs.Invariant.{entry-valid}
 use Rattle.collector.specs.declared.Summary.{Summary}
@@ -60,7 +60,7 @@ module _ (a : Columns) where
 
   pub block-written : (k x y count n : ℕ) → n ≡ min cellsPerBlock (count - cellsPerBlock * k)
       → blockOf (headerOf k n x y) (map entryCell (entriesFrom a (cellsPerBlock * k) n)) ≡ blockWith k x y (entriesAt a count)
-  unfolding blockAt
+  unfolding imageBlock
   block-written k x y count n e =
       rw (e, entries-part (cellsPerBlock * k) cellsPerBlock count, entries-length (cellsPerBlock * k) (min cellsPerBlock (count - cellsPerBlock * k)))
 

@@ -10,7 +10,7 @@ use Rattle.telegram.specs.Repeater.{maxSetting}
 use Rattle.layout.specs.Block.{headerLength, cellsPerBlock, bodyLength, blockCell}
 use Rattle.model.specs.View.{Entry, View, capacity, noTotals}
 use Rattle.model.specs.Acceptable.{acceptable}
-use Rattle.model.specs.Image.{imageLength, imageWith, blockAt, blockIn, settingIn, countIn, entryIn}
+use Rattle.model.specs.Image.{imageLength, imageWith, imageBlock, blockIn, settingIn, countIn, entryIn}
 use Rattle.collector.specs.Collector.{Columns, entryAt}
 
 abbrev pub blockCount : ℕ
@@ -26,7 +26,7 @@ entriesFrom a first n = map (entryAt a) (upFrom first n)
 
 -- block k of an image, which looks at the entries alone
 abbrev pub blockWith : ℕ → ℕ → ℕ → List Entry → List ℕ
-blockWith k a b entries = blockAt k a b (record { latest = 0; totals = noTotals; entries = entries })
+blockWith k a b entries = imageBlock k a b (record { latest = 0; totals = noTotals; entries = entries })
 
 -- the arrays have n entries from `first` on, each short enough for a cell
 pub record Writable (lens : List ℕ) (first n : ℕ) : Type 0 where

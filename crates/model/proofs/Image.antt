@@ -28,7 +28,7 @@ use Rattle.model.proofs.Header.{header-length, header-used, header-firs
 use Rattle.layout.proofs.Block.{block-length, block-header, block-cell}
 use Rattle.model.specs.View.{Entry, View, ceiling}
 use Rattle.model.specs.Acceptable.{isEntry, acceptable}
-use Rattle.model.specs.Image.{imageLength, entryCell, entriesOf, blockAt, blocksOf, imageWith, blockIn, usedIn, firstIn, secondIn, settingIn, countIn, cellEntry, entryIn, totalsIn, parse, accepts}
+use Rattle.model.specs.Image.{imageLength, entryCell, entriesOf, imageBlock, blocksOf, imageWith, blockIn, usedIn, firstIn, secondIn, settingIn, countIn, cellEntry, entryIn, totalsIn, parse, accepts}
 use Rattle.model.specs.Exact.{fitsCell, FitsLayout, Exact}
 use Rattle.model.proofs.Check.{valid-length}
 use Rattle.model.proofs.Copies.{noEntry}
@@ -114,7 +114,7 @@ module _ (setting : ℕ) (v : View) (f : FitsLayout v) where
 
   -- ---- blocks
 
-  block-at : (k : ℕ) → k < 5 → (a : ℕ) × (b : ℕ) × (getD (blocksOf setting v) k [] ≡ blockAt k a b v)
+  block-at : (k : ℕ) → k < 5 → (a : ℕ) × (b : ℕ) × (getD (blocksOf setting v) k [] ≡ imageBlock k a b v)
   block-at zero h = (_, _, refl)
   block-at (suc zero) h = (_, _, refl)
   block-at (suc (suc zero)) h = (_, _, refl)
@@ -123,7 +123,7 @@ module _ (setting : ℕ) (v : View) (f : FitsLayout v) where
   block-at (suc (suc (suc (suc (suc k))))) h = absurd (omega arith)
 
   pub blocks-long : Each blockLength (blocksOf setting v)
-  unfolding blockAt
+  unfolding imageBlock
   blocks-long k h =
       let w = block-at k h in
       ap length (w .2) ∙ block-length _ _ (header-length k (length (entriesOf k v)) (w .0) (w .1)) (cells-long k) (cells-few k)
@@ -136,9 +136,9 @@ module _ (setting : ℕ) (v : View) (f : FitsLayout v) where
   unfolding imageWith
   block-in k h = flatten-part blockLength (blocksOf setting v) blocks-long k h
 
-  module _ (k a b : ℕ) (low : k < 5) (is : getD (blocksOf setting v) k [] ≡ blockAt k a b v) where
+  module _ (k a b : ℕ) (low : k < 5) (is : getD (blocksOf setting v) k [] ≡ imageBlock k a b v) where
     header-in : blockHeader (blockIn k (imageWith setting v)) ≡ headerOf k (length (entriesOf k v)) a b
-    unfolding blockAt
+    unfolding imageBlock
     header-in = ap blockHeader (block-in k low ∙ is) ∙ block-header _ _ (header-length k (length (entriesOf k v)) a b) (cells-long k) (cells-few k)
 
     used-in : usedIn k (imageWith setting v) ≡ min cellsPerBlock (count - cellsPerBlock * k)
@@ -151,7 +151,7 @@ module _ (setting : ℕ) (v : View) (f : FitsLayout v) where
     second-in h = ap headerSecond header-in ∙ header-second k (length (entriesOf k v)) a b h
 
     cell-in : (i : ℕ) → i < length (entriesOf k v) → blockCell i (blockIn k (imageWith setting v)) ≡ entryCell (entryAt (cellsPerBlock * k + i))
-    unfolding blockAt
+    unfolding imageBlock
     cell-in i h =
         ap (blockCell i) (block-in k low ∙ is)
         ∙ block-cell _ _ (header-length k (length (entriesOf k v)) a b) (cells-long k) (cells-few k) i (omega (arith, length-map (entriesOf k v) entryCell))

@@ -31,17 +31,17 @@ abbrev pub entriesOf : ℕ → View → List Entry
 entriesOf k v = part (cellsPerBlock * k) cellsPerBlock (v .entries)
 
 -- block k, with its two numbers
-unfoldable pub blockAt : ℕ → ℕ → ℕ → View → List ℕ
-blockAt k a b v = blockOf (headerOf k (length (entriesOf k v)) a b) (map entryCell (entriesOf k v))
+unfoldable pub imageBlock : ℕ → ℕ → ℕ → View → List ℕ
+imageBlock k a b v = blockOf (headerOf k (length (entriesOf k v)) a b) (map entryCell (entriesOf k v))
 
 -- "block 0 latest accepted time, received; 1 kept, copies; 2 loose, damaged; 3 late, repeater setting; 4 zero, zero"
 abbrev pub blocksOf : ℕ → View → List (List ℕ)
 blocksOf setting v =
-    blockAt 0 (v .latest) (v .totals .received) v
-    ∷ blockAt 1 (v .totals .kept) (v .totals .copies) v
-    ∷ blockAt 2 (v .totals .loose) (v .totals .damaged) v
-    ∷ blockAt 3 (v .totals .late) setting v
-    ∷ blockAt 4 0 0 v
+    imageBlock 0 (v .latest) (v .totals .received) v
+    ∷ imageBlock 1 (v .totals .kept) (v .totals .copies) v
+    ∷ imageBlock 2 (v .totals .loose) (v .totals .damaged) v
+    ∷ imageBlock 3 (v .totals .late) setting v
+    ∷ imageBlock 4 0 0 v
     ∷ []
 
 -- with a number in the setting's place

@@ -18,7 +18,8 @@ pub extern "C" fn mooringeye_archive_verify(
     rows: &mut usize,
     position: &mut usize,
 ) -> u8
-    ensures { λ r. ⌜ record { number = r; position = now (position .exit); rows = now (rows .exit) } ≡ calls.openOf (now (buffer .entry)) ⌝ }
+    ensures { λ r. ⌜ record { number = r; position = now (position .exit); rows = now (rows .exit) }
+        ≡ calls.openOf (now (buffer .entry)) ⌝ }
 {
     c_archive::verify(buffer, rows, position)
 }
@@ -49,7 +50,8 @@ pub extern "C" fn mooringeye_archive_append_at(
     position: &mut usize,
 ) -> u8
     ensures { λ r. ⌜ record { number = r; position = now (position .exit); buffer = now (buffer .exit) }
-        ≡ calls.appendAtOf (now (buffer .entry)) n (record { bytes = now (bytes .entry); time = time; loose = loose }) ⌝ }
+        ≡ calls.appendAtOf (now (buffer .entry)) n
+        (record { bytes = now (bytes .entry); time = time; loose = loose }) ⌝ }
 {
     c_archive::append_at(buffer, n, bytes, time, loose, position)
 }
@@ -128,7 +130,12 @@ pub extern "C" fn mooringeye_archive_remove(
     freed: &mut usize,
     position: &mut usize,
 ) -> u8
-    ensures { λ r. ⌜ record { number = r; position = now (position .exit); freed = now (freed .exit); buffer = now (buffer .exit) }
+    ensures { λ r. ⌜ record {
+      number = r;
+      position = now (position .exit);
+      freed = now (freed .exit);
+      buffer = now (buffer .exit);
+    }
         ≡ repack.removeOf (now (buffer .entry)) (now (identities .entry)) ⌝ }
 {
     c_archive::remove(buffer, identities, freed, position)
@@ -137,7 +144,8 @@ pub extern "C" fn mooringeye_archive_remove(
 // Leaves the first `rows` rows of an archive.
 #[no_mangle]
 pub extern "C" fn mooringeye_archive_cut(buffer: &mut [u8], rows: usize, position: &mut usize) -> u8
-    ensures { λ r. ⌜ record { number = r; position = now (position .exit); buffer = now (buffer .exit) } ≡ cutOf rows (now (buffer .entry)) ⌝ }
+    ensures { λ r. ⌜ record { number = r; position = now (position .exit); buffer = now (buffer .exit) }
+        ≡ cutOf rows (now (buffer .entry)) ⌝ }
 {
     c_archive::cut(buffer, rows, position)
 }
@@ -155,7 +163,8 @@ pub extern "C" fn mooringeye_archive_cut_block(block: &mut [u8], rows: usize) ->
 // The next piece of an archive that is verified.
 #[no_mangle]
 pub extern "C" fn mooringeye_scan_feed(numbers: &mut [u64; scan::NUMBERS], piece: &[u8]) -> u8
-    ensures { λ r. ⌜ record { number = r; numbers = now (numbers .exit) } ≡ scanCall (now (numbers .entry)) (now (piece .entry)) ⌝ }
+    ensures { λ r. ⌜ record { number = r; numbers = now (numbers .exit) }
+        ≡ scanCall (now (numbers .entry)) (now (piece .entry)) ⌝ }
 {
     scan::feed(numbers, piece)
 }
@@ -167,7 +176,8 @@ pub extern "C" fn mooringeye_scan_end(
     rows: &mut usize,
     position: &mut usize,
 ) -> u8
-    ensures { λ r. ⌜ record { number = r; position = now (position .exit); rows = now (rows .exit) } ≡ scanEnd (scanAt (now (numbers .entry))) ⌝ }
+    ensures { λ r. ⌜ record { number = r; position = now (position .exit); rows = now (rows .exit) }
+        ≡ scanEnd (scanAt (now (numbers .entry))) ⌝ }
 {
     scan::end(numbers, rows, position)
 }
@@ -190,7 +200,8 @@ pub extern "C" fn mooringeye_pack_feed(
       output = now (out .exit);
       positions = now (positions .exit);
     }
-        ≡ packCall (now (numbers .entry)) (now (waiting .entry)) (now (piece .entry)) (now (identities .entry)) (now (out .entry))
+        ≡ packCall (now (numbers .entry)) (now (waiting .entry)) (now (piece .entry)) (now (identities .entry))
+        (now (out .entry))
         (now (positions .entry)) ⌝ }
 {
     packer::feed(numbers, waiting, piece, identities, out, positions, dropped)

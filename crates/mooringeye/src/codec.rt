@@ -25,7 +25,8 @@ pub extern "C" fn mooringeye_same(a: &[u8], b: &[u8]) -> bool
 // Reads a subtelegram into the 26 bytes of its fields.
 #[no_mangle]
 pub extern "C" fn mooringeye_read(bytes: &[u8], fields: &mut [u8]) -> u8
-    ensures { λ r. ⌜ record { number = r; values = now (fields .exit) } ≡ readCall (now (bytes .entry)) (now (fields .entry)) ⌝ }
+    ensures { λ r. ⌜ record { number = r; values = now (fields .exit) }
+        ≡ readCall (now (bytes .entry)) (now (fields .entry)) ⌝ }
 {
     c_codec::read(bytes, fields)
 }
@@ -65,7 +66,8 @@ pub extern "C" fn mooringeye_decapsulate(bytes: &[u8], out: &mut [u8], length: &
 // What a repeater sends, as a frame of 22 bytes.
 #[no_mangle]
 pub extern "C" fn mooringeye_repeat(setting: u8, bytes: &[u8], sent: &mut [u8]) -> u8
-    ensures { λ r. ⌜ record { number = r; values = now (sent .exit) } ≡ repeatCall setting (now (bytes .entry)) (now (sent .entry)) ⌝ }
+    ensures { λ r. ⌜ record { number = r; values = now (sent .exit) }
+        ≡ repeatCall setting (now (bytes .entry)) (now (sent .entry)) ⌝ }
 {
     c_codec::repeat(setting, bytes, sent)
 }

@@ -20,7 +20,8 @@ pub extern "C" fn mooringeye_collector_fresh(
     copies: &mut [u16; CAPACITY],
     numbers: &mut [u64; NUMBERS],
 )
-    ensures { λ _. ⌜ Fresh (arrays (now (times .exit)) (now (lengths .exit)) (now (bytes .exit)) (now (copies .exit)) (now (numbers .exit))) ⌝ }
+    ensures { λ _. ⌜ Fresh (arrays (now (times .exit)) (now (lengths .exit)) (now (bytes .exit)) (now (copies .exit))
+        (now (numbers .exit))) ⌝ }
 {
     c_collector::fresh(times, lengths, bytes, copies, numbers);
 }
@@ -36,9 +37,11 @@ pub extern "C" fn mooringeye_collector_take<'a>(
     received: &'a [u8],
     time: u64,
 ) -> u16
-    ensures { λ r. ⌜ Takes (arrays (now (times .entry)) (now (lengths .entry)) (now (bytes .entry)) (now (copies .entry)) (now (numbers .entry)))
+    ensures { λ r. ⌜ Takes (arrays (now (times .entry)) (now (lengths .entry)) (now (bytes .entry))
+        (now (copies .entry)) (now (numbers .entry)))
         (record { bytes = now (received .entry); time = time }) r
-        (arrays (now (times .exit)) (now (lengths .exit)) (now (bytes .exit)) (now (copies .exit)) (now (numbers .exit))) ⌝ }
+        (arrays (now (times .exit)) (now (lengths .exit)) (now (bytes .exit)) (now (copies .exit))
+        (now (numbers .exit))) ⌝ }
 {
     c_collector::take(times, lengths, bytes, copies, numbers, received, time)
 }
@@ -54,7 +57,8 @@ pub extern "C" fn mooringeye_collector_totals<'a>(
     totals: &'a mut [u64; TOTALS],
 ) -> u8
     ensures { λ r. ⌜ record { number = r; values = now (totals .exit) }
-        ≡ totalsCall (stateAt (arrays (now (times .entry)) (now (lengths .entry)) (now (bytes .entry)) (now (copies .entry)) (now (numbers .entry))))
+        ≡ totalsCall (stateAt (arrays (now (times .entry)) (now (lengths .entry)) (now (bytes .entry))
+        (now (copies .entry)) (now (numbers .entry))))
         (now (totals .entry)) ⌝ }
 {
     c_collector::totals(times, lengths, bytes, copies, numbers, totals)
@@ -72,7 +76,8 @@ pub extern "C" fn mooringeye_collector_copies<'a>(
     heard: &'a mut u64,
 ) -> u8
     ensures { λ r. ⌜ record { number = r; copies = now (heard .exit) }
-        ≡ copiesOf (stateAt (arrays (now (times .entry)) (now (lengths .entry)) (now (bytes .entry)) (now (copies .entry)) (now (numbers .entry)))) entry ⌝ }
+        ≡ copiesOf (stateAt (arrays (now (times .entry)) (now (lengths .entry)) (now (bytes .entry))
+        (now (copies .entry)) (now (numbers .entry)))) entry ⌝ }
 {
     c_collector::copies_of(times, lengths, bytes, copies, numbers, entry, heard)
 }
@@ -88,7 +93,9 @@ pub extern "C" fn mooringeye_collector_checkpoint<'a>(
     out: &'a mut [u8],
 ) -> u8
     ensures { λ r. ⌜ record { number = r; output = now (out .exit) }
-        ≡ checkpointOf (stateAt (arrays (now (times .entry)) (now (lengths .entry)) (now (bytes .entry)) (now (copies .entry)) (now (numbers .entry)))) (now (out .entry)) ⌝ }
+        ≡ checkpointOf (stateAt
+        (arrays (now (times .entry)) (now (lengths .entry)) (now (bytes .entry)) (now (copies .entry))
+        (now (numbers .entry)))) (now (out .entry)) ⌝ }
 {
     c_image::checkpoint(times, lengths, bytes, copies, numbers, out)
 }
@@ -103,8 +110,10 @@ pub extern "C" fn mooringeye_collector_restore(
     numbers: &mut [u64; NUMBERS],
     image: &[u8],
 ) -> u8
-    ensures { λ r. ⌜ Restores (arrays (now (times .entry)) (now (lengths .entry)) (now (bytes .entry)) (now (copies .entry)) (now (numbers .entry))) (now (image .entry)) r
-        (arrays (now (times .exit)) (now (lengths .exit)) (now (bytes .exit)) (now (copies .exit)) (now (numbers .exit))) ⌝ }
+    ensures { λ r. ⌜ Restores (arrays (now (times .entry)) (now (lengths .entry)) (now (bytes .entry))
+        (now (copies .entry)) (now (numbers .entry))) (now (image .entry)) r
+        (arrays (now (times .exit)) (now (lengths .exit)) (now (bytes .exit)) (now (copies .exit))
+        (now (numbers .exit))) ⌝ }
 {
     c_image::restore(times, lengths, bytes, copies, numbers, image)
 }
@@ -122,9 +131,11 @@ pub extern "C" fn mooringeye_collector_burst(
     records: &[u8],
     replies: &mut [u8],
 ) -> u8
-    ensures { λ r. ⌜ Bursts (arrays (now (times .entry)) (now (lengths .entry)) (now (bytes .entry)) (now (copies .entry)) (now (numbers .entry)))
+    ensures { λ r. ⌜ Bursts (arrays (now (times .entry)) (now (lengths .entry)) (now (bytes .entry))
+        (now (copies .entry)) (now (numbers .entry)))
         setting (now (moments .entry)) (now (records .entry)) (now (replies .entry)) r
-        (arrays (now (times .exit)) (now (lengths .exit)) (now (bytes .exit)) (now (copies .exit)) (now (numbers .exit))) (now (replies .exit)) ⌝ }
+        (arrays (now (times .exit)) (now (lengths .exit)) (now (bytes .exit)) (now (copies .exit))
+        (now (numbers .exit))) (now (replies .exit)) ⌝ }
 {
     c_burst::burst(
         times,

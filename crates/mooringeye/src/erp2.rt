@@ -10,7 +10,12 @@ pub extern "C" fn mooringeye_erp2_read(
     originator: &mut u64,
     destination: &mut u32,
 ) -> u8
-    ensures { λ r. ⌜ record { number = r; fields = now (fields .exit); originator = now (originator .exit); destination = now (destination .exit) }
+    ensures { λ r. ⌜ record {
+      number = r;
+      fields = now (fields .exit);
+      originator = now (originator .exit);
+      destination = now (destination .exit);
+    }
         ≡ readCall (now (bytes .entry)) (now (fields .entry)) (now (originator .entry)) (now (destination .entry)) ⌝ }
 {
     c_erp2::read(bytes, fields, originator, destination)

@@ -39,7 +39,8 @@ pub extern "C" fn mooringeye_report_line(
     i: usize,
     line: &mut [u64; LINE_NUMBERS],
 ) -> u8
-    ensures { λ r. ⌜ record { number = r; values = now (line .exit) } ≡ lineCall (reportAt (now (numbers .entry)) (now (lines .entry))) i ⌝ }
+    ensures { λ r. ⌜ record { number = r; values = now (line .exit) }
+        ≡ lineCall (reportAt (now (numbers .entry)) (now (lines .entry))) i ⌝ }
 {
     c_report::line(numbers, lines, i, line)
 }
@@ -52,7 +53,8 @@ pub extern "C" fn mooringeye_report_share(
     received: u64,
     thousandths: &mut u64,
 ) -> u8
-    ensures { λ r. ⌜ record { number = r; thousandths = now (thousandths .exit) } ≡ model.shareOf (reportAt (now (numbers .entry)) (now (lines .entry))) received ⌝ }
+    ensures { λ r. ⌜ record { number = r; thousandths = now (thousandths .exit) }
+        ≡ model.shareOf (reportAt (now (numbers .entry)) (now (lines .entry))) received ⌝ }
 {
     c_report::share(numbers, lines, received, thousandths)
 }
@@ -82,8 +84,10 @@ pub extern "C" fn mooringeye_report_feed(
     tally: &mut [u64; LINES],
     piece: &[u8],
 ) -> u8
-    ensures { λ r. ⌜ pieces.fed r (addingAt (now (numbers .entry)) (now (lines .entry)) (now (adding .exit)) (now (tally .exit)))
-        ≡ pieces.feedOf (addingAt (now (numbers .entry)) (now (lines .entry)) (now (adding .entry)) (now (tally .entry))) (now (piece .entry)) ⌝ }
+    ensures { λ r. ⌜ pieces.fed r
+        (addingAt (now (numbers .entry)) (now (lines .entry)) (now (adding .exit)) (now (tally .exit)))
+        ≡ pieces.feedOf (addingAt (now (numbers .entry)) (now (lines .entry)) (now (adding .entry))
+        (now (tally .entry))) (now (piece .entry)) ⌝ }
 {
     adding::feed(numbers, lines, adding, tally, piece)
 }
@@ -98,7 +102,8 @@ pub extern "C" fn mooringeye_report_end(
     position: &mut usize,
 ) -> u8
     ensures { λ r. ⌜ model.answer r (now (position .exit)) (reportAt (now (numbers .exit)) (now (lines .exit)))
-        ≡ pieces.endedOf (addingAt (now (numbers .entry)) (now (lines .entry)) (now (adding .entry)) (now (tally .entry))) ⌝ }
+        ≡ pieces.endedOf (addingAt (now (numbers .entry)) (now (lines .entry)) (now (adding .entry))
+        (now (tally .entry))) ⌝ }
 {
     adding::end(numbers, lines, adding, tally, position)
 }

@@ -25,7 +25,7 @@ use Rattle.archive_model.specs.Buffer.{blocksIn}
 use Rattle.archive_model.specs.Append.{blockAt}
 use Rattle.archive_model.proofs.Pieces.{rows-count}
 use Rattle.archive_model.proofs.Exact.{sound-some}
-use Rattle.archive.specs.Archive.{soundRows}
+use Rattle.archive.specs.Archive.{soundCount}
 use Rattle.archive.specs.Private.{isWritten, cellsFrom}
 use Rattle.archive.proofs.Scans.{blocksFrom, rest-first, sound-le}
 use Rattle.archive.proofs.Tested.{sound-cells}
@@ -69,7 +69,7 @@ module _ (identities : List ℕ) where
   unfolding keptFrom keptIn flatten cellsFrom upFrom
   kept-other b n = rw n
 
-  pub kept-block : (b : List ℕ) (rows : ℕ) → rows ≡ soundRows b → keptFrom identities b 0 rows ≡ keptIn identities (b ∷ [])
+  pub kept-block : (b : List ℕ) (rows : ℕ) → rows ≡ soundCount b → keptFrom identities b 0 rows ≡ keptIn identities (b ∷ [])
   kept-block b rows e =
       by-test {X = keptFrom identities b 0 rows ≡ keptIn identities (b ∷ [])} (isSound b)
       (λ t. ap (keptFrom identities b 0) (rw t at e) ∙ kept-sound b t)
@@ -86,7 +86,7 @@ no-cells : (b : List ℕ) → areRows b 0 ≡ true
 unfolding cellsFrom upFrom
 no-cells b = refl
 
-pub block-rows : (b : List ℕ) (rows : ℕ) → rows ≡ soundRows b → areRows b rows ≡ true
+pub block-rows : (b : List ℕ) (rows : ℕ) → rows ≡ soundCount b → areRows b rows ≡ true
 block-rows b rows e =
     by-test {X = areRows b rows ≡ true} (isSound b)
     (λ t. ap (areRows b) (rw t at e) ∙ written-rows (cellsFrom b 0 (rowCount b)) (sound-cells b t))
@@ -192,7 +192,7 @@ module _ (p : Packing) (identities piece old : List ℕ) (most n : ℕ) where
 
   -- the next block
   module _ (k put waits : ℕ) (pending out : List ℕ) (at : Walking p identities piece old most n k put waits pending out) (below : k < n)
-      (rows total waits2 : ℕ) (pending1 pending2 full2 : List ℕ) (sound : rows ≡ soundRows (blockAt k piece))
+      (rows total waits2 : ℕ) (pending1 pending2 full2 : List ℕ) (sound : rows ≡ soundCount (blockAt k piece))
       (pushes : Waits (take (cellLength * waits) pending) (keptFrom identities (blockAt k piece) 0 rows) pending1 (waits + rows) total)
       (l1 : length pending1 ≡ pendingLength)
       (flushes : Flushed (p .next + put) total pending1 pending2
@@ -319,7 +319,7 @@ module _ (p : Packing) (identities piece old : List ℕ) (most n : ℕ) where
 
 -- ---- the list of dropped blocks
 
-module _ (b : List ℕ) (rows : ℕ) (e : rows ≡ soundRows b) where
+module _ (b : List ℕ) (rows : ℕ) (e : rows ≡ soundCount b) where
   pub kept-not-dropped : (rows ≡ 0 → ⊥) → isDropped b ≡ false
   kept-not-dropped n =
       by-test {X = isDropped b ≡ false} (isSound b) (λ t. rw t) (λ f. absurd (n (rw f at e)))

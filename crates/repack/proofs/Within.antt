@@ -18,7 +18,7 @@ use Rattle.archive_model.specs.Append.{verdict, blockAt}
 use Rattle.archive_model.proofs.Blocks.{block-sound}
 use Rattle.archive_model.proofs.Buffers.{map-same, pieces, group-fits, group-few, group-length, used-block, rows-in}
 use Rattle.archive_model.proofs.Cursor.{blocks-of, is-exact, rows-fit, rows-few, written-verdict}
-use Rattle.archive.specs.Archive.{soundRows}
+use Rattle.archive.specs.Archive.{soundCount}
 use Rattle.repack_model.specs.Repack as model
 use Rattle.repack_model.specs.Packer.{keptCells, cellsOf}
 use Rattle.repack_model.proofs.Rows.{intact-rows}
@@ -58,8 +58,8 @@ module _ (buffer : List ℕ) (v : verdict buffer .number ≡ 0) (blocks : ℕ) (
       let low : k < 2 ^ 32 = omega (arith, blocks-of buffer v .1, in-use-few) in
       ap isSound (block-is k h) ∙ block-sound k (rowsAt k rows) (group-fits rows (rows-fit buffer v) k) (group-few rows k) some low
 
-  pub in-use-count : (k : ℕ) → k < blocks → rowCount (blockAt k buffer) ≡ soundRows (blockAt k inUse)
-  in-use-count k h = sym (ap soundRows (in-use-block k h) ∙ (rw (in-use-sound k h)))
+  pub in-use-count : (k : ℕ) → k < blocks → rowCount (blockAt k buffer) ≡ soundCount (blockAt k inUse)
+  in-use-count k h = sym (ap soundCount (in-use-block k h) ∙ (rw (in-use-sound k h)))
 
   pub in-use-archive : inUse ≡ archiveOf rows
   unfolding archiveOf

@@ -19,7 +19,7 @@ ghost use Rattle.archive_model.specs.Row.{rowIn, isRow};
 ghost use Rattle.archive_model.specs.Buffer.{blocksFor, rowsIn, maxRows};
 ghost use Rattle.archive_model.specs.Append.{verdict};
 ghost use Rattle.archive_model.specs.Identity.{identityOf};
-ghost use Rattle.archive.specs.Archive.{soundRows};
+ghost use Rattle.archive.specs.Archive.{soundCount};
 ghost use Rattle.repack_model.specs.Repack as model;
 ghost use Rattle.repack_model.specs.Packer as packer;
 ghost use Rattle.repack_model.specs.Packer.{pendingLength, packing};
@@ -182,8 +182,9 @@ fn flush(pending: &mut [u8], total: usize, k: usize, full: &mut [u8]) -> usize
 
 // Position `k` goes behind `gone` others, where its block, of which `rows` rows are sound, is dropped.
 fn list_block(positions: &mut [u64], gone: usize, k: usize, block: &[u8], rows: usize) -> usize
-    requires { ⌜ (rows ≡ soundRows (now block)) × HasRoom (now block) gone (now positions) ⌝ }
-    ensures { λ r. ⌜ Listed (model.isDropped (now (block .entry))) gone k (now (positions .entry)) (now (positions .exit))
+    requires { ⌜ (rows ≡ soundCount (now block)) × HasRoom (now block) gone (now positions) ⌝ }
+    ensures { λ r. ⌜ Listed (model.isDropped (now (block .entry))) gone k (now (positions .entry))
+        (now (positions .exit))
         r ⌝ }
 {
     if rows != 0 {
@@ -211,7 +212,8 @@ fn pack_blocks(
         × (next + length (now piece) / blockLength < 2 ^ 64) × (length (now piece) ≤ length (now out))
         × (length (model.dropped (now piece)) ≤ length (now positions)) ⌝ }
     ensures { λ r. ⌜ Walked (packing next used (now (pending .entry)))
-        (packer.keptCells (now (identities .entry)) (now (piece .entry))) r (now (pending .exit)) (now (out .entry)) (now (out .exit)) ⌝ }
+        (packer.keptCells (now (identities .entry)) (now (piece .entry))) r (now (pending .exit)) (now (out .entry))
+        (now (out .exit)) ⌝ }
     ensures { λ r. ⌜ (r .dropped ≡ length (model.dropped (now (piece .entry))))
         × (now (positions .exit) ≡ model.fronted (model.dropped (now (piece .entry))) (now (positions .entry))) ⌝ }
 {
@@ -428,7 +430,8 @@ pub fn pack(
     positions: &mut [u64],
 ) -> Repacked
     ensures { λ r. ⌜ packResult r (now (pending .exit)) (now (out .exit)) (now (positions .exit))
-        ≡ packer.packOf next used (now (pending .entry)) (now (piece .entry)) (now (identities .entry)) (now (out .entry))
+        ≡ packer.packOf next used (now (pending .entry)) (now (piece .entry)) (now (identities .entry))
+        (now (out .entry))
         (now (positions .entry)) ⌝ }
 {
     if !is_packing(pending, used, next) {

@@ -27,7 +27,7 @@ use Rattle.buffers.proofs.Buffer.{resized-whole}
 use Rattle.buffers.proofs.Segments.{part-length, part-ends, take-clamped}
 use Rattle.model.specs.History.{Call, Receive, Checkpoint, Restore, Cut, Burst, Ask, Look}
 use Rattle.replay_model.specs.Operation.{receiving, saving, cutting, restoring, delivering, asking}
-use Rattle.replay_model.specs.Replay.{sizeOf, sizeOfAll}
+use Rattle.replay_model.specs.Replay.{callSize, sizeOfAll}
 use Rattle.replay_model.proofs.Sizes.{size-append, size-part}
 use Rattle.replay.specs.Calls.{callLength, recordAt, settingIn, receptionIn, outputIn, lentIn, receptionsIn, placesIn, entryIn, callIn, callsIn}
 
@@ -116,7 +116,7 @@ module _ (lent r : List ℕ) where
       )
 
 -- what is written of a call has a length that the bytes lent beside it do not change
-pub size-lent : (lent r : List ℕ) → sizeOf (callIn lent r) ≡ sizeOf (callIn [] r)
+pub size-lent : (lent r : List ℕ) → callSize (callIn lent r) ≡ callSize (callIn [] r)
 unfolding callIn
 size-lent lent r =
     by-test (eqb (getD r 0 0) receiving) (λ a. rw a)
@@ -159,7 +159,7 @@ module _ (lent calls : List ℕ) where
   calls-all i e = take-all i (callsIn lent calls) (omega (arith, calls-length))
 
 -- how long the record of the first i + 1 calls is
-pub sizes-more : (calls : List ℕ) (i size : ℕ) → i < length calls / callLength → size ≡ sizeOf (callIn [] (lentRecord calls i))
+pub sizes-more : (calls : List ℕ) (i size : ℕ) → i < length calls / callLength → size ≡ callSize (callIn [] (lentRecord calls i))
     → sizeOfAll (take (i + 1) (callsIn [] calls)) ≡ sizeOfAll (take i (callsIn [] calls)) + size
 sizes-more calls i size h e =
     let k = callIn [] (recordAt calls i) in

@@ -19,7 +19,7 @@ use Rattle.model.proofs.Theorem.{whole-history}
 use Rattle.collector.specs.declared.Collector.{Collector}
 use Rattle.collector.specs.Collector.{viewOf}
 use Rattle.replay_model.specs.Record.{recordOf}
-use Rattle.replay_model.specs.Replay.{after, afterCalls, sizeOf, sizeOfAll, putRecord}
+use Rattle.replay_model.specs.Replay.{afterCall, afterCalls, callSize, sizeOfAll, putRecord}
 use Rattle.replay_model.proofs.Parts.{after-append, in-parts}
 use Rattle.replay_model.proofs.Sizes.{sized, size-append, size-part}
 use Rattle.replay.specs.declared.Ran.the-variants.{Done, Refused}
@@ -48,7 +48,7 @@ module _ {v : View} {h : List Call} {entry xs : List ℕ} {at : ℕ} {c : Collec
       → Made v (h ++ (k ∷ [])) entry (take at xs ++ (ys ++ drop (at + m - at) (drop at xs))) (at + m) d
   one-more m l room = record {
     begun = named (lend (b .begun) ys _ (at + m) (q .bytes) l (omega arith) room) _ both-are;
-    state = q .next ∙ ap (λ (w : View). after w k) (b .state) ∙ sym (after-append v h (k ∷ []));
+    state = q .next ∙ ap (λ (w : View). afterCall w k) (b .state) ∙ sym (after-append v h (k ∷ []));
   }
 
 module _ (lent calls : List ℕ) where
@@ -63,13 +63,13 @@ module _ (lent calls : List ℕ) where
 
   -- and there is room for it where there is for all
   pub enough : {v : View} {entry xs : List ℕ} {at : ℕ} {c : Collector} (i size : ℕ) → i < length calls / callLength
-      → Made v (take i (callsIn lent calls)) entry xs at c → size ≡ sizeOf (callIn [] (lentRecord calls i))
+      → Made v (take i (callsIn lent calls)) entry xs at c → size ≡ callSize (callIn [] (lentRecord calls i))
       → sizeOfAll (callsIn [] calls) ≤ length entry → at + size ≤ length entry
   enough {v} i size h b e room =
       let l = callsIn lent calls in
       let k = callIn lent (recordAt calls i) in
-      let is : size ≡ sizeOf k = e ∙ ap (λ (r : List ℕ). sizeOf (callIn [] r)) (lent-record calls i) ∙ sym (size-lent lent (recordAt calls i)) in
-      let one : sizeOfAll (take (i + 1) l) ≡ sizeOfAll (take i l) + (sizeOf k + 0) = ap sizeOfAll (calls-more lent calls i h)
+      let is : size ≡ callSize k = e ∙ ap (λ (r : List ℕ). callSize (callIn [] r)) (lent-record calls i) ∙ sym (size-lent lent (recordAt calls i)) in
+      let one : sizeOfAll (take (i + 1) l) ≡ sizeOfAll (take i l) + (callSize k + 0) = ap sizeOfAll (calls-more lent calls i h)
       ∙ size-append (take i l) (k ∷ []) in
       omega (arith, b .begun .long, sized v (take i l), size-part (i + 1) l, sizes-lent lent calls)
 

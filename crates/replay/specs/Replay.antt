@@ -15,7 +15,7 @@ use Rattle.collector.specs.Collector.{viewOf}
 use Rattle.burst.specs.declared.Within.{Within}
 use Rattle.burst.specs.Records.{burstedOf}
 use Rattle.replay_model.specs.Record.{recordOf}
-use Rattle.replay_model.specs.Replay.{after, afterCalls, putRecord, madeBy}
+use Rattle.replay_model.specs.Replay.{afterCall, afterCalls, putRecord, madeBy}
 use Rattle.replay.specs.declared.Ran.{Ran}
 use Rattle.replay.specs.declared.Ran.the-variants.{Done, Refused}
 use Rattle.replay.specs.declared.Replayed.{Replayed}
@@ -47,7 +47,7 @@ pub record Replays (h : List Call) (entry exit : List ℕ) (r : Replayed) : Type
 -- one call: its part of the record fills the output, and the state after it
 pub record Called (v : View) (k : Call) (exit : List ℕ) (c : Collector) : Type 0 where
   pub bytes : exit ≡ recordOf (run v (k ∷ []))
-  pub next : viewOf c ≡ after v k
+  pub next : viewOf c ≡ afterCall v k
 
 -- what is seen of a checkpoint
 abbrev pub wroteOf : View → List ℕ → Seen

@@ -12,7 +12,7 @@ ghost use Prim.Native.Nat.{_≤_};
 ghost use lib.Dec.{leb};
 ghost use lib.ListN.{length};
 ghost use Rattle.collector.specs.Collector.{viewOf};
-ghost use Rattle.replay_model.specs.Replay.{sizeOf, sizeOfAll};
+ghost use Rattle.replay_model.specs.Replay.{callSize, sizeOfAll};
 ghost use Rattle.replay.specs.Calls.{callLength, callIn, callsIn};
 ghost use Rattle.replay.specs.Replay.{Resumes, Replays, Called};
 
@@ -115,7 +115,7 @@ fn all<'a>(c: Collector, calls: &'a [u8], lent: &'a [u8], out: &'a mut [u8]) -> 
 
 // One call: the state after it.
 fn call<'a>(c: Collector, r: &'a [u8], lent: &'a [u8], out: &'a mut [u8]) -> Collector
-    requires { ⌜ (length (now r) ≡ callLength) × (length (now out) ≡ sizeOf (callIn [] (now r))) ⌝ }
+    requires { ⌜ (length (now r) ≡ callLength) × (length (now out) ≡ callSize (callIn [] (now r))) ⌝ }
     ensures { λ d. ⌜ Called (viewOf c) (callIn (now (lent .entry)) (now (r .entry))) (now (out .exit)) d ⌝ }
 {
     let operation = r[0];

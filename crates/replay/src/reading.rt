@@ -13,13 +13,13 @@ ghost use Rattle.lists.specs.Lists.{upFrom};
 ghost use Rattle.buffers.specs.Buffer.{part};
 ghost use Rattle.model.specs.Answer.{shownOf};
 ghost use Rattle.burst.specs.Records.{receptionOf, repliedOf, listed};
-ghost use Rattle.replay_model.specs.Replay.{sizeOf};
+ghost use Rattle.replay_model.specs.Replay.{callSize};
 ghost use Rattle.replay.specs.Calls.{callLength, recordAt, numberAt, maxOutput, lentIn, burstReceptionIn, formIn, placeIn, callIn};
 
 // How many bytes are written of the call that a record says.
 pub(crate) fn size_in(r: &[u8]) -> usize
     requires { ⌜ length (now r) ≡ callLength ⌝ }
-    ensures { λ n. ⌜ n ≡ sizeOf (callIn [] (now (r .entry))) ⌝ }
+    ensures { λ n. ⌜ n ≡ callSize (callIn [] (now (r .entry))) ⌝ }
 {
     let operation = r[0];
     if operation == crate::RECEIVING {

@@ -24,7 +24,7 @@ use Rattle.layout.proofs.Block.{block-length}
 use Rattle.model.specs.declared.Totals.{Totals}
 use Rattle.model.specs.View.{Reception, Entry, View, capacity}
 use Rattle.model.specs.Acceptable.{isEntry, acceptable}
-use Rattle.model.specs.Image.{imageLength, entryCell, entriesOf, blockAt, imageWith, checkpointOf}
+use Rattle.model.specs.Image.{imageLength, entryCell, entriesOf, imageBlock, imageWith, checkpointOf}
 use Rattle.model.specs.Burst.{Replied, callNumber, burstNumber, taken, burstOf}
 use Rattle.model.proofs.Check.{valid-length}
 use Rattle.model.proofs.Invariant.{entry-valid}
@@ -76,8 +76,8 @@ module _ (v : View) (ok : acceptable v ≡ true) where
       ∙ ap entryCell (part-at (cellsPerBlock * k) cellsPerBlock (v .entries) i none (omega (arith, group-length k))))
       ∙ cell-length (e .time) (e .bytes) (e .copies) (short (cellsPerBlock * k + i) inside)
 
-  block-long : (k a b : ℕ) → length (blockAt k a b v) ≡ blockLength
-  unfolding blockAt
+  block-long : (k a b : ℕ) → length (imageBlock k a b v) ≡ blockLength
+  unfolding imageBlock
   block-long k a b =
       block-length _ _ (header-length k (length (entriesOf k v)) a b) (cells-long k) (omega (
         arith,

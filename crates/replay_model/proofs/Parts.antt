@@ -8,7 +8,7 @@ use Rattle.model.specs.Image.{imageLength, checkpointOf, restoreOf}
 use Rattle.model.specs.Burst.{burstOf}
 use Rattle.model.specs.History.{Call, Receive, Checkpoint, Restore, Cut, Burst, Ask, Look, Seen, run}
 use Rattle.replay_model.specs.Record.{seenBytes, recordOf}
-use Rattle.replay_model.specs.Replay.{after, afterCalls}
+use Rattle.replay_model.specs.Replay.{afterCall, afterCalls}
 use Rattle.replay_model.specs.Claims.{InParts}
 
 pub run-append : (v : View) (h g : List Call) → run v (h ++ g) ≡ run v h ++ run (afterCalls v h) g
@@ -24,7 +24,7 @@ run-append v (Look ∷ h) g = ap₂ _∷_ refl (run-append v h g)
 
 pub after-append : (v : View) (h g : List Call) → afterCalls v (h ++ g) ≡ afterCalls (afterCalls v h) g
 after-append v [] g = refl
-after-append v (k ∷ h) g = after-append (after v k) h g
+after-append v (k ∷ h) g = after-append (afterCall v k) h g
 
 pub record-append : (l m : List Seen) → recordOf (l ++ m) ≡ recordOf l ++ recordOf m
 unfolding recordOf flatten

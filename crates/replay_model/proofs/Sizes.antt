@@ -14,7 +14,7 @@ use Rattle.model.specs.Burst.{burstOf}
 use Rattle.model.specs.History.{Call, Receive, Checkpoint, Restore, Cut, Burst, Ask, Look, run}
 use Rattle.model.specs.History.{Seen, Answered, Wrote, Restored, Delivered, Heard, Looked}
 use Rattle.replay_model.specs.Record.{seenBytes, recordOf}
-use Rattle.replay_model.specs.Replay.{after, sizeOf, sizeOfAll}
+use Rattle.replay_model.specs.Replay.{afterCall, callSize, sizeOfAll}
 use Rattle.replay_model.specs.Claims.{Sized}
 use Rattle.replay_model.proofs.Lengths.{head-length, reply-length, replies-length, checkpoint-length, burst-length}
 

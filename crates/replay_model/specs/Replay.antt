@@ -15,34 +15,34 @@ use Rattle.model.specs.History.{Call, Receive, Checkpoint, Restore, Cut, Burst,
 use Rattle.replay_model.specs.Record.{headLength, countLength, replyLength}
 
 -- what a collector says after a call: "each call gets the state that the one before returned"
-abbrev pub after : View → Call → View
-after v (Receive setting r) = step v r .next
-after v (Checkpoint output) = v
-after v (Restore image) = restoreOf v image .next
-after v (Cut output) = restoreOf fresh (take imageLength (checkpointOf v output .output)) .next
-after v (Burst setting rs places) = burstOf setting v rs places .next
-after v (Ask k) = v
-after v Look = v
+abbrev pub afterCall : View → Call → View
+afterCall v (Receive setting r) = step v r .next
+afterCall v (Checkpoint output) = v
+afterCall v (Restore image) = restoreOf v image .next
+afterCall v (Cut output) = restoreOf fresh (take imageLength (checkpointOf v output .output)) .next
+afterCall v (Burst setting rs places) = burstOf setting v rs places .next
+afterCall v (Ask k) = v
+afterCall v Look = v
 
 -- and after all
 abbrev pub afterCalls : View → List Call → View
 afterCalls v [] = v
-afterCalls v (c ∷ h) = afterCalls (after v c) h
+afterCalls v (c ∷ h) = afterCalls (afterCall v c) h
 
 -- how many bytes are written of a call
-abbrev pub sizeOf : Call → ℕ
-sizeOf (Receive setting r) = headLength + replyLength
-sizeOf (Checkpoint output) = headLength + countLength + length output
-sizeOf (Restore image) = headLength
-sizeOf (Cut output) = headLength + countLength + length output + headLength
-sizeOf (Burst setting rs places) = headLength + countLength + replyLength * length places
-sizeOf (Ask k) = headLength + countLength
-sizeOf Look = headLength
+abbrev pub callSize : Call → ℕ
+callSize (Receive setting r) = headLength + replyLength
+callSize (Checkpoint output) = headLength + countLength + length output
+callSize (Restore image) = headLength
+callSize (Cut output) = headLength + countLength + length output + headLength
+callSize (Burst setting rs places) = headLength + countLength + replyLength * length places
+callSize (Ask k) = headLength + countLength
+callSize Look = headLength
 
 -- and of all
 abbrev pub sizeOfAll : List Call → ℕ
 sizeOfAll [] = 0
-sizeOfAll (c ∷ h) = sizeOf c + sizeOfAll h
+sizeOfAll (c ∷ h) = callSize c + sizeOfAll h
 
 -- a record is put into an output: 6, and nothing is written, where it is shorter; else what stood past the record stays
 unfoldable pub putRecord : List ℕ → List ℕ → Result

@@ -35,13 +35,13 @@ use Rattle.archive_model.specs.Identity.{identityOf}
 use Rattle.archive.proofs.Scans.{blocksFrom}
 use Rattle.archive.proofs.Calls.{scan-facts}
 use Rattle.archive.proofs.Cells.{used-is, bytes-shown}
-use Rattle.report_model.specs.Report.{Line, Report, isReport, maxArchives, maxLines, lineOf, joined, insert, addRows, keptIn, looseIn, rowsOfLine, isRising, sumOf}
+use Rattle.report_model.specs.Report.{Line, Report, isReport, maxArchives, maxLines, lineOf, joined, insert, addRows, keptIn, looseIn, rowsOfLine, isRising, sumBy}
 use Rattle.report_model.specs.Pieces.{Tally, startTally, countedRows, counted, addBlock, addBlocks, Adding, isAdding}
 use Rattle.report_model.proofs.Adding.{rows-after, sound-facts, counted-length, scanned-next, blocks-one, tally-facts, going}
 use Rattle.report_model.proofs.Order.{add-first, add-none}
 use Rattle.report_model.proofs.Additions.{facts}
 use Rattle.report_model.proofs.Lines.{rising-insert, rising-added, sum-insert, more-added, kinds}
-use Rattle.report.specs.Lines.{linesLength, linesOf}
+use Rattle.report.specs.Lines.{linesLength, linesAt}
 use Rattle.report.specs.Private.{rowsBetween, totalOf, Inserted, Sane}
 
 -- ---- one cell
@@ -133,19 +133,19 @@ module _ (block : List ℕ) where
   pub record Running (used : ℕ) (start : List Line) (n i : ℕ) (xs : List ℕ) : Type 0 where
     pub long : length xs ≡ linesLength
     pub few : n ≤ maxLines
-    pub rising : isRising (linesOf xs n) ≡ true
-    pub total : totalOf (linesOf xs n) ≡ totalOf start + i
-    pub rest : addRows (rowsBetween block i (used - i)) (linesOf xs n) ≡ addRows (rowsBetween block 0 used) start
+    pub rising : isRising (linesAt xs n) ≡ true
+    pub total : totalOf (linesAt xs n) ≡ totalOf start + i
+    pub rest : addRows (rowsBetween block i (used - i)) (linesAt xs n) ≡ addRows (rowsBetween block 0 used) start
 
-  pub running-first : (used n : ℕ) (xs : List ℕ) → length xs ≡ linesLength → n ≤ maxLines → isRising (linesOf xs n) ≡ true → Running used (linesOf xs n) n 0 xs
+  pub running-first : (used n : ℕ) (xs : List ℕ) → length xs ≡ linesLength → n ≤ maxLines → isRising (linesAt xs n) ≡ true → Running used (linesAt xs n) n 0 xs
   running-first used n xs l f r =
       let e : used - 0 ≡ used = omega arith in
-      record { long = l; few = f; rising = r; total = omega arith; rest = ap (λ (m : ℕ). addRows (rowsBetween block 0 m) (linesOf xs n)) e }
+      record { long = l; few = f; rising = r; total = omega arith; rest = ap (λ (m : ℕ). addRows (rowsBetween block 0 m) (linesAt xs n)) e }
 
   module _ (used n i r : ℕ) (start : List Line) (xs ys : List ℕ) (go : Running used start n i xs) (h : i < used) (ins : Inserted n (lineOf (rowIn (blockCell i block))) xs ys r) where
-    step : addRows (rowsBetween block 0 used) start ≡ addRows (rowsBetween block (i + 1) (used - (i + 1))) (insert (lineOf (rowIn (blockCell i block))) (linesOf xs n))
+    step : addRows (rowsBetween block 0 used) start ≡ addRows (rowsBetween block (i + 1) (used - (i + 1))) (insert (lineOf (rowIn (blockCell i block))) (linesAt xs n))
     unfolding addRows
-    step = sym (go .rest) ∙ ap (λ (rows : List Row). addRows rows (linesOf xs n)) (turn used i h)
+    step = sym (go .rest) ∙ ap (λ (rows : List Row). addRows rows (linesAt xs n)) (turn used i h)
 
     pub running-next : r ≤ maxLines → Running used start r (i + 1) ys
     running-next f =
@@ -154,20 +154,20 @@ module _ (block : List ℕ) where
         record {
           long = ins .long ∙ go .long;
           few = f;
-          rising = ap isRising is ∙ rising-insert a (linesOf xs n) (go .rising);
+          rising = ap isRising is ∙ rising-insert a (linesAt xs n) (go .rising);
           total =
-              ap totalOf is ∙ sum-insert rowsOfLine both-kinds a (linesOf xs n)
+              ap totalOf is ∙ sum-insert rowsOfLine both-kinds a (linesAt xs n)
               ∙ omega (arith, one-row (rowIn (blockCell i block)), go .total);
           rest = ap (addRows (rowsBetween block (i + 1) (used - (i + 1)))) is ∙ sym step;
         }
 
     pub running-many : maxLines < r → maxLines < length (addRows (rowsBetween block 0 used) start)
     running-many f =
-        omega (arith, ins .count, more-added (insert (lineOf (rowIn (blockCell i block))) (linesOf xs n)) (rowsBetween block (i + 1) (used - (i + 1))), ap length step)
+        omega (arith, ins .count, more-added (insert (lineOf (rowIn (blockCell i block))) (linesAt xs n)) (rowsBetween block (i + 1) (used - (i + 1))), ap length step)
 
-  pub running-end : (used n i : ℕ) (start : List Line) (xs : List ℕ) → Running used start n i xs → used ≤ i → linesOf xs n ≡ addRows (rowsBetween block 0 used) start
+  pub running-end : (used n i : ℕ) (start : List Line) (xs : List ℕ) → Running used start n i xs → used ≤ i → linesAt xs n ≡ addRows (rowsBetween block 0 used) start
   running-end used n i start xs go h =
-      sym (ap (λ (rows : List Row). addRows rows (linesOf xs n)) (over used i h) ∙ add-none (linesOf xs n)) ∙ go .rest
+      sym (ap (λ (rows : List Row). addRows rows (linesAt xs n)) (over used i h) ∙ add-none (linesAt xs n)) ∙ go .rest
 
   -- ---- LOOSE rows
 
@@ -290,7 +290,7 @@ blocks-of u t block e = ap (λ (v : Tally). v .scan .blocks) e ∙ blocks-one t 
 
 -- ---- before the first block
 
-total-sums : (lines : List Line) → totalOf lines ≡ sumOf (λ a. a .kept) lines + sumOf (λ a. a .loose) lines
+total-sums : (lines : List Line) → totalOf lines ≡ sumBy (λ a. a .kept) lines + sumBy (λ a. a .loose) lines
 total-sums [] = refl
 total-sums (a ∷ lines) = omega (arith, total-sums lines)
 

@@ -18,7 +18,7 @@ use Rattle.lists.proofs.Choice.{both}
 use Rattle.lists.proofs.Tests.{and-true, by-test}
 use Rattle.report_model.specs.Report.{Line, maxLines, joined, insert}
 use Rattle.report_model.proofs.Order.{insert-before, insert-same, insert-after, insert-nil}
-use Rattle.report.specs.Lines.{lineLength, lineAt, linesFrom, linesOf}
+use Rattle.report.specs.Lines.{lineLength, lineAt, linesFrom, linesAt}
 use Rattle.report.specs.Private.{Ordered, Place, Gap, Stored, Inserted}
 use Rattle.report.proofs.Windows.{lines-count, lines-split, lines-next, lines-none, lines-same}
 
@@ -141,22 +141,22 @@ strictly x y h n = elim (decLt x y) [
 
 module _ (old : List ℕ) (n r : ℕ) (a : Line) (p : Place old n (a .identity) r) where
   -- the lines before it, and where it is inserted among the others
-  split : insert a (linesOf old n) ≡ linesOf old r ++ insert a (linesFrom old r (n - r))
+  split : insert a (linesAt old n) ≡ linesAt old r ++ insert a (linesFrom old r (n - r))
   split =
       ap (insert a) (lines-split old r n (p .within))
-      ∙ insert-behind a (linesOf old r) (linesFrom old r (n - r)) (all-before old (a .identity) 0 r (λ i h. p .below i (omega arith)))
+      ∙ insert-behind a (linesAt old r) (linesFrom old r (n - r)) (all-before old (a .identity) 0 r (λ i h. p .below i (omega arith)))
 
   module _ (there : r < n) (same : lineAt old r .identity ≡ a .identity) where
-    at-line : insert a (linesOf old n) ≡ linesOf old r ++ (joined a (lineAt old r) ∷ linesFrom old (suc r) (n - suc r))
+    at-line : insert a (linesAt old n) ≡ linesAt old r ++ (joined a (lineAt old r) ∷ linesFrom old (suc r) (n - suc r))
     at-line =
         let e : n - r ≡ suc (n - suc r) = omega arith in
-        split ∙ ap (λ (l : List Line). linesOf old r ++ insert a l) (ap (linesFrom old r) e ∙ lines-next old r (n - suc r))
-        ∙ ap (λ (l : List Line). linesOf old r ++ l) (insert-same a (lineAt old r) (linesFrom old (suc r) (n - suc r)) (sym same))
+        split ∙ ap (λ (l : List Line). linesAt old r ++ insert a l) (ap (linesFrom old r) e ∙ lines-next old r (n - suc r))
+        ∙ ap (λ (l : List Line). linesAt old r ++ l) (insert-same a (lineAt old r) (linesFrom old (suc r) (n - suc r)) (sym same))
 
     pub joined-there : (new : List ℕ) → Stored r (joined a (lineAt old r)) old new → Inserted n a old new n
     joined-there new s =
         let e : n - r ≡ suc (n - suc r) = omega arith in
-        let is : linesOf new n ≡ insert a (linesOf old n) =
+        let is : linesAt new n ≡ insert a (linesAt old n) =
         lines-split new r n (p .within)
         ∙ ap₂ _++_ (lines-same new old 0 0 r (λ i h. s .elsewhere (0 + i) (λ q. omega arith)))
         (ap (linesFrom new r) e ∙ lines-next new r (n - suc r)
@@ -180,12 +180,12 @@ module _ (old : List ℕ) (n r : ℕ) (a : Line) (p : Place old n (a .identity) 
           ap (insert a) is ∙ insert-nil a ∙ ap (λ (l : List Line). a ∷ l) (sym is)
     ]
 
-    at-gap : insert a (linesOf old n) ≡ linesOf old r ++ (a ∷ linesFrom old r (n - r))
-    at-gap = split ∙ ap (λ (l : List Line). linesOf old r ++ l) new-line
+    at-gap : insert a (linesAt old n) ≡ linesAt old r ++ (a ∷ linesFrom old r (n - r))
+    at-gap = split ∙ ap (λ (l : List Line). linesAt old r ++ l) new-line
 
-    one-more : length (insert a (linesOf old n)) ≡ n + 1
+    one-more : length (insert a (linesAt old n)) ≡ n + 1
     one-more =
-        ap length at-gap ∙ length-append (linesOf old r) (a ∷ linesFrom old r (n - r))
+        ap length at-gap ∙ length-append (linesAt old r) (a ∷ linesFrom old r (n - r))
         ∙ omega (arith, lines-count old 0 r, lines-count old r (n - r), p .within)
 
     pub no-room : n ≡ maxLines → Inserted n a old old (n + 1)
@@ -225,7 +225,7 @@ module _ (old : List ℕ) (n r : ℕ) (a : Line) (p : Place old n (a .identity) 
     put-there mid new g s =
         let within = p .within in
         let e : n + 1 - r ≡ suc (n - r) = omega arith in
-        let is : linesOf new (n + 1) ≡ insert a (linesOf old n) =
+        let is : linesAt new (n + 1) ≡ insert a (linesAt old n) =
         lines-split new r (n + 1) (omega arith)
         ∙ ap₂ _++_ (lines-same new old 0 0 r (λ i h. ap (lineAt new) (zero-add i) ∙ front-line mid new g s i h ∙ ap (lineAt old) (sym (zero-add i))))
         (ap (linesFrom new r) e ∙ lines-next new r (n - r) ∙ ap₂ _∷_ (s .here) (lines-same new old (suc r) r (n - r) (moved-line mid new g s)))

@@ -13,9 +13,9 @@ use borrow.Author.Tests.{lt-ltb, ltb-true, le-leb, lt-leb, leb-true, eq-eqb, eqb
 use Rattle.lists.specs.Lists.{all}
 use Rattle.lists.proofs.Choice.{both}
 use Rattle.lists.proofs.Tests.{and-true}
-use Rattle.report_model.specs.Report.{Line, rowsOfLine, isLine, isRising, sumOf, isTally}
+use Rattle.report_model.specs.Report.{Line, rowsOfLine, isLine, isRising, sumBy, isTally}
 use Rattle.report_model.proofs.Lines.{above-all}
-use Rattle.report.specs.Lines.{lineAt, linesFrom, linesOf}
+use Rattle.report.specs.Lines.{lineAt, linesFrom, linesAt}
 use Rattle.report.specs.Private.{isLineOf, isBefore, lineFits}
 use Rattle.report.proofs.Windows.{lines-next, lines-none}
 
@@ -42,10 +42,10 @@ rising-next a (b ∷ lines) =
 
 module _ (a : Line) (lines : List Line) (kept loose : ℕ) (time : a .latest < 2 ^ 64) where
   abbrev keptSum : ℕ
-  keptSum = sumOf (λ b. b .kept) lines
+  keptSum = sumBy (λ b. b .kept) lines
 
   abbrev looseSum : ℕ
-  looseSum = sumOf (λ b. b .loose) lines
+  looseSum = sumBy (λ b. b .loose) lines
 
   forth : isTally (a ∷ lines) kept loose ≡ true → lineFits a lines kept loose && isTally lines (kept - a .kept) (loose - a .loose) ≡ true
   unfolding isTally
@@ -85,7 +85,7 @@ module _ (a : Line) (lines : List Line) (kept loose : ℕ) (time : a .latest < 2
 -- ---- the loop over an array
 
 module _ (xs : List ℕ) where
-  pub rest-first : (n kept loose : ℕ) → isTally (linesFrom xs 0 (n - 0)) kept loose ≡ isTally (linesOf xs n) kept loose
+  pub rest-first : (n kept loose : ℕ) → isTally (linesFrom xs 0 (n - 0)) kept loose ≡ isTally (linesAt xs n) kept loose
   rest-first n kept loose =
       let e : n - 0 ≡ n = omega arith in
       ap (λ (m : ℕ). isTally (linesFrom xs 0 m) kept loose) e

@@ -17,8 +17,8 @@ use Rattle.lists.specs.Lists.{all, upFrom}
 use Rattle.lists.proofs.Choice.{both}
 use Rattle.lists.proofs.Tests.{all-getD}
 use Rattle.lists.proofs.UpFrom.{upFrom-add, length-upFrom, getD-upFrom}
-use Rattle.report_model.specs.Report.{Line, noLine, isRising, sumOf, rowsOfLine}
-use Rattle.report.specs.Lines.{lineLength, lineAt, linesFrom, linesOf}
+use Rattle.report_model.specs.Report.{Line, noLine, isRising, sumBy, rowsOfLine}
+use Rattle.report.specs.Lines.{lineLength, lineAt, linesFrom, linesAt}
 use Rattle.report.specs.Private.{totalOf, Ordered, Stored, Inserted}
 
 module _ (xs : List ℕ) where
@@ -26,11 +26,11 @@ module _ (xs : List ℕ) where
   unfolding linesFrom
   lines-count a n = length-map (upFrom a n) (lineAt xs) ∙ length-upFrom a n
 
-  pub line-at : (n i : ℕ) → i < n → getD (linesOf xs n) i noLine ≡ lineAt xs i
+  pub line-at : (n i : ℕ) → i < n → getD (linesAt xs n) i noLine ≡ lineAt xs i
   unfolding linesFrom
   line-at n i h = getD-upFrom (lineAt xs) 0 n i noLine h ∙ ap (lineAt xs) (zero-add i)
 
-  pub lines-split : (r n : ℕ) → r ≤ n → linesOf xs n ≡ linesOf xs r ++ linesFrom xs r (n - r)
+  pub lines-split : (r n : ℕ) → r ≤ n → linesAt xs n ≡ linesAt xs r ++ linesFrom xs r (n - r)
   unfolding linesFrom
   lines-split r n h =
       let e : n ≡ r + (n - r) = omega arith in
@@ -66,21 +66,21 @@ pairwise-at (c ∷ l) (suc i) (suc j) t h k =
     let w = both (all (λ b. ltb (c .identity) (b .identity)) l) (isRising l) t in
     pairwise-at l i j (w .1) (omega arith) (omega arith)
 
-pub ordered-of : (xs : List ℕ) (n : ℕ) → isRising (linesOf xs n) ≡ true → Ordered xs n
+pub ordered-of : (xs : List ℕ) (n : ℕ) → isRising (linesAt xs n) ≡ true → Ordered xs n
 ordered-of xs n t i j h k =
-    let p = pairwise-at (linesOf xs n) i j t h (omega (arith, lines-count xs 0 n)) in
+    let p = pairwise-at (linesAt xs n) i j t h (omega (arith, lines-count xs 0 n)) in
     let e = ap (λ (a : Line). a .identity) (line-at xs n i (omega arith)) in
     let f = ap (λ (a : Line). a .identity) (line-at xs n j k) in
     omega (arith, p, e, f)
 
-sum-at : (f : Line → ℕ) (l : List Line) (i : ℕ) → i < length l → f (getD l i noLine) ≤ sumOf f l
+sum-at : (f : Line → ℕ) (l : List Line) (i : ℕ) → i < length l → f (getD l i noLine) ≤ sumBy f l
 sum-at f [] i h = absurd (omega arith)
 sum-at f (c ∷ l) zero h = omega arith
 sum-at f (c ∷ l) (suc i) h = omega (arith, sum-at f l i (omega arith))
 
-pub total-at : (xs : List ℕ) (n i : ℕ) → i < n → rowsOfLine (lineAt xs i) ≤ totalOf (linesOf xs n)
+pub total-at : (xs : List ℕ) (n i : ℕ) → i < n → rowsOfLine (lineAt xs i) ≤ totalOf (linesAt xs n)
 total-at xs n i h =
-    subst (λ (a : Line). rowsOfLine a ≤ totalOf (linesOf xs n)) (line-at xs n i h) (sum-at rowsOfLine (linesOf xs n) i (omega (arith, lines-count xs 0 n)))
+    subst (λ (a : Line). rowsOfLine a ≤ totalOf (linesAt xs n)) (line-at xs n i h) (sum-at rowsOfLine (linesAt xs n) i (omega (arith, lines-count xs 0 n)))
 
 -- ---- a line is written
 

@@ -27,5 +27,5 @@ unfoldable pub linesFrom : List ℕ → ℕ → ℕ → List Line
 linesFrom xs a n = map (lineAt xs) (upFrom a n)
 
 -- the first n lines
-abbrev pub linesOf : List ℕ → ℕ → List Line
-linesOf xs n = linesFrom xs 0 n
+abbrev pub linesAt : List ℕ → ℕ → List Line
+linesAt xs n = linesFrom xs 0 n

@@ -14,11 +14,11 @@ use Rattle.archive_model.specs.Buffer.{maxRows, startScan}
 use Rattle.archive_model.specs.Append.{isScan}
 use Rattle.archive.specs.Archive.{scanOf}
 use Rattle.report_model.specs.Report as model
-use Rattle.report_model.specs.Report.{Line, maxLines, insert, addRows, rowsOfLine, sumOf}
+use Rattle.report_model.specs.Report.{Line, maxLines, insert, addRows, rowsOfLine, sumBy}
 use Rattle.report_model.specs.Pieces as pieces
 use Rattle.report.specs.declared.Report.{Report}
 use Rattle.report.specs.declared.tally.Tally.{Tally}
-use Rattle.report.specs.Lines.{lineLength, lineAt, linesOf}
+use Rattle.report.specs.Lines.{lineLength, lineAt, linesAt}
 use Rattle.report.specs.Report.{reportOf}
 
 -- ---- rows, lines and their array
@@ -39,7 +39,7 @@ rowLine identity time loose = record {
 
 -- the rows of all lines
 abbrev pub totalOf : List Line → ℕ
-totalOf lines = sumOf rowsOfLine lines
+totalOf lines = sumBy rowsOfLine lines
 
 -- identities rise
 abbrev pub Ordered : List ℕ → ℕ → Type 0
@@ -66,14 +66,14 @@ pub record Stored (i : ℕ) (a : Line) (old new : List ℕ) : Type 0 where
 -- n lines and one more make r, and where these are not too many, they stand there
 pub record Inserted (n : ℕ) (a : Line) (old new : List ℕ) (r : ℕ) : Type 0 where
   pub long : length new ≡ length old
-  pub count : r ≡ length (insert a (linesOf old n))
-  pub lines : r ≤ maxLines → linesOf new r ≡ insert a (linesOf old n)
+  pub count : r ≡ length (insert a (linesAt old n))
+  pub lines : r ≤ maxLines → linesAt new r ≡ insert a (linesAt old n)
 
 -- n lines and these rows make r, or too many
 pub record AddedRows (n : ℕ) (rows : List Row) (old new : List ℕ) (r : ℕ) : Type 0 where
   pub long : length new ≡ length old
-  pub lines : r ≤ maxLines → linesOf new r ≡ addRows rows (linesOf old n)
-  pub many : maxLines < r → maxLines < length (addRows rows (linesOf old n))
+  pub lines : r ≤ maxLines → linesAt new r ≡ addRows rows (linesAt old n)
+  pub many : maxLines < r → maxLines < length (addRows rows (linesAt old n))
 
 -- ---- the test of the lines, one after the other
 
@@ -99,7 +99,7 @@ lineFits a lines kept loose =
 -- a tally, with the lines that stand in the array
 abbrev pub tallyOf : Tally → List ℕ → pieces.Tally
 tallyOf t lines = record {
-  lines = linesOf lines (t .count);
+  lines = linesAt lines (t .count);
   kept = t .kept;
   loose = t .loose;
   over = t .over;
@@ -119,7 +119,7 @@ abbrev pub Starts : ℕ → ℕ → ℕ → Tally → Type 0
 Starts count kept loose t =
     (lines : List ℕ)
     → tallyOf t lines
-    ≡ record { lines = linesOf lines count; kept = kept; loose = loose; over = false; scan = startScan }
+    ≡ record { lines = linesAt lines count; kept = kept; loose = loose; over = false; scan = startScan }
 
 -- a report that stays as it was
 abbrev pub keptWith : Report → Refusal → model.Addition

@@ -16,12 +16,12 @@ use Rattle.report.specs.declared.Share.the-variants as share
 use Rattle.report.specs.declared.Looked.{Looked}
 use Rattle.report.specs.declared.Looked.the-variants as looked
 use Rattle.report.specs.declared.LineAt.{LineAt}
-use Rattle.report.specs.Lines.{linesOf}
+use Rattle.report.specs.Lines.{linesAt}
 
 -- ---- what a report says: its lines are the first `count`, and what stands past them is left to the program
 
 abbrev pub reportOf : Report → model.Report
-reportOf s = record { archives = s .archives; lines = linesOf (s .lines) (s .count); kept = s .kept; loose = s .loose }
+reportOf s = record { archives = s .archives; lines = linesAt (s .lines) (s .count); kept = s .kept; loose = s .loose }
 
 -- ---- the number of each answer, the position beside 12, and what else is handed back
 
@@ -64,7 +64,7 @@ abbrev pub addingOf : Adding → pieces.Adding
 addingOf a = record {
   report = reportOf (a .before);
   tally = record {
-    lines = linesOf (a .lines) (a .count);
+    lines = linesAt (a .lines) (a .count);
     kept = a .kept;
     loose = a .loose;
     over = a .over;

@@ -7,7 +7,7 @@ ghost use lib.Dec.{ltb, leb, eqb};
 ghost use Prim.Native.Nat.{_+_, _-_, _*_, _^_, _≤_, _<_, min, max};
 ghost use lib.ListN.{length};
 ghost use Rattle.report_model.specs.Report.{maxLines, joined, rowsOfLine, isRising, isTally};
-ghost use Rattle.report.specs.Lines.{lineLength, linesLength, lineAt, linesFrom, linesOf};
+ghost use Rattle.report.specs.Lines.{lineLength, linesLength, lineAt, linesFrom, linesAt};
 ghost use Rattle.report.specs.Private.{rowLine, totalOf, isLineOf, isBefore, lineFits, Ordered, Place, Gap, Stored, Inserted};
 
 // `end` where so many lines are all there and below this identity, else `low`.
@@ -144,8 +144,8 @@ pub(crate) fn add_row(
     time: u64,
     loose: bool,
 ) -> usize
-    requires { ⌜ (count ≤ maxLines) × (length (now lines) ≡ linesLength) × (isRising (linesOf (now lines) count) ≡ true)
-        × (totalOf (linesOf (now lines) count) < 2 ^ 63) ⌝ }
+    requires { ⌜ (count ≤ maxLines) × (length (now lines) ≡ linesLength) × (isRising (linesAt (now lines) count) ≡ true)
+        × (totalOf (linesAt (now lines) count) < 2 ^ 63) ⌝ }
     ensures { λ r. ⌜ Inserted count (rowLine identity time loose) (now (lines .entry)) (now (lines .exit)) r ⌝ }
 {
     let i = find(lines, count, identity);
@@ -195,7 +195,8 @@ fn is_line(identity: u64, rows: u64, earliest: u64, latest: u64) -> bool
 fn fits(lines: &[u64], count: usize, i: usize, kept: u64, loose: u64) -> bool
     requires { ⌜ (i < count) × (count ≤ maxLines) × (length (now lines) ≡ linesLength) × (kept + loose < 2 ^ 63) ⌝ }
     ensures { λ r. ⌜ r
-        ≡ lineFits (lineAt (now (lines .entry)) i) (linesFrom (now (lines .entry)) (i + 1) (count - (i + 1))) kept loose ⌝ }
+        ≡ lineFits (lineAt (now (lines .entry)) i) (linesFrom (now (lines .entry)) (i + 1) (count - (i + 1))) kept
+        loose ⌝ }
 {
     let at = LINE_LENGTH * i;
     if kept < lines[at + 1] {
@@ -211,7 +212,7 @@ fn fits(lines: &[u64], count: usize, i: usize, kept: u64, loose: u64) -> bool
 // Whether the first `count` lines are lines in order with these totals.
 pub(crate) fn are_lines(lines: &[u64], count: usize, kept: u64, loose: u64) -> bool
     requires { ⌜ (count ≤ maxLines) × (length (now lines) ≡ linesLength) × (kept + loose < 2 ^ 63) ⌝ }
-    ensures { λ r. ⌜ r ≡ isTally (linesOf (now (lines .entry)) count) kept loose ⌝ }
+    ensures { λ r. ⌜ r ≡ isTally (linesAt (now (lines .entry)) count) kept loose ⌝ }
 {
     let mut k = kept;
     let mut l = loose;

@@ -17,7 +17,7 @@ ghost use Rattle.archive_model.specs.Identity.{identityOf};
 ghost use Rattle.archive_model.specs.Buffer.{blocksIn, maxBlocks};
 ghost use Rattle.report_model.specs.Report.{maxLines, isRising, looseIn, lineOf};
 ghost use Rattle.report_model.specs.Pieces.{addBlock, addBlocks};
-ghost use Rattle.report.specs.Lines.{linesLength, linesOf};
+ghost use Rattle.report.specs.Lines.{linesLength, linesAt};
 ghost use Rattle.report.specs.Private.{rowsBetween, totalOf, Inserted, AddedRows, tallyOf, Sane};
 
 // Whether a cell says LOOSE.
@@ -40,8 +40,8 @@ fn identity_of(cell: &[u8]) -> u64
 // The row of a cell is counted in its line.
 fn add_cell(lines: &mut [u64], count: usize, cell: &[u8]) -> usize
     requires { ⌜ (length (now cell) ≡ cellLength) × (isRow (rowIn (now cell)) ≡ true) × (count ≤ maxLines)
-        × (length (now lines) ≡ linesLength) × (isRising (linesOf (now lines) count) ≡ true)
-        × (totalOf (linesOf (now lines) count) < 2 ^ 63) ⌝ }
+        × (length (now lines) ≡ linesLength) × (isRising (linesAt (now lines) count) ≡ true)
+        × (totalOf (linesAt (now lines) count) < 2 ^ 63) ⌝ }
     ensures { λ r. ⌜ Inserted count (lineOf (rowIn (now (cell .entry)))) (now (lines .entry)) (now (lines .exit)) r ⌝ }
 {
     lines::add_row(
@@ -57,8 +57,8 @@ fn add_cell(lines: &mut [u64], count: usize, cell: &[u8]) -> usize
 fn add_rows(lines: &mut [u64], count: usize, block: &[u8], used: usize) -> usize
     requires { ⌜ (length (now block) ≡ blockLength) × (used ≤ cellsPerBlock)
         × (all isRow (rowsBetween (now block) 0 used) ≡ true) × (count ≤ maxLines) × (length (now lines) ≡ linesLength)
-        × (isRising (linesOf (now lines) count) ≡ true)
-        × (totalOf (linesOf (now lines) count) + cellsPerBlock < 2 ^ 63) ⌝ }
+        × (isRising (linesAt (now lines) count) ≡ true)
+        × (totalOf (linesAt (now lines) count) + cellsPerBlock < 2 ^ 63) ⌝ }
     ensures { λ r. ⌜ AddedRows count (rowsBetween (now (block .entry)) 0 used) (now (lines .entry)) (now (lines .exit))
         r ⌝ }
 {

@@ -24,7 +24,7 @@ use Rattle.archive_model.specs.Row.{Row, rowCount, rowsOf, isRow, isSound}
 use Rattle.archive_model.specs.Buffer.{maxBlocks, isWhole, blocksIn, Scan, scanBlock}
 use Rattle.archive_model.specs.Append.{isScan}
 use Rattle.archive_model.proofs.Pieces.{blocks-count, pieces-blocks, rows-count}
-use Rattle.report_model.specs.Report.{Line, Report, maxLines, lineOf, addRows, keptIn, looseIn, isLine, isRising, sumOf, isTally, isReport, addOf}
+use Rattle.report_model.specs.Report.{Line, Report, maxLines, lineOf, addRows, keptIn, looseIn, isLine, isRising, sumBy, isTally, isReport, addOf}
 use Rattle.report_model.specs.Pieces.{Tally, startTally, countedRows, counted, addBlock, addBlocks, closing, Adding, adding, startAdding, rowsSoFar, isAdding, isPiece, fed, feedOf, endedOf}
 use Rattle.report_model.specs.Claims.{areBytes, feedAll, fedPieces, PiecesAreWhole}
 use Rattle.report_model.proofs.Lines.{all-added, rising-added, kept-added, loose-added, kinds}
@@ -71,12 +71,12 @@ module _ (block : List ℕ) where
       by-test {X = all (λ (r : Row). isLine (lineOf r)) (countedRows block) ≡ true} (isSound block) (λ s. rw s (cell-lines block t)) (λ f. rw f)
 
 pub tally-facts : (lines : List Line) (kept loose : ℕ) → isTally lines kept loose ≡ true
-    → (isRising lines ≡ true) × (kept ≡ sumOf (λ l. l .kept) lines) × (loose ≡ sumOf (λ l. l .loose) lines)
+    → (isRising lines ≡ true) × (kept ≡ sumBy (λ l. l .kept) lines) × (loose ≡ sumBy (λ l. l .loose) lines)
 unfolding isTally
 tally-facts lines kept loose t =
     let b = both (isRising lines) _ (both (all isLine lines) _ t .1) in
-    let c = both (eqb kept (sumOf (λ l. l .kept) lines)) _ (b .1) in
-    (b .0, eqb-true kept (sumOf (λ l. l .kept) lines) (c .0), eqb-true loose (sumOf (λ l. l .loose) lines) (c .1))
+    let c = both (eqb kept (sumBy (λ l. l .kept) lines)) _ (b .1) in
+    (b .0, eqb-true kept (sumBy (λ l. l .kept) lines) (c .0), eqb-true loose (sumBy (λ l. l .loose) lines) (c .1))
 
 tally-added : (lines : List Line) (kept loose : ℕ) (rows : List Row) → all (λ r. isLine (lineOf r)) rows ≡ true → isTally lines kept loose ≡ true
     → isTally (addRows rows lines) (kept + keptIn rows) (loose + looseIn rows) ≡ true
@@ -85,8 +85,8 @@ tally-added lines kept loose rows h t =
     let f = tally-facts lines kept loose t in
     and-true (all-added lines isLine rows h line-joined (both (all isLine lines) _ t .0))
     (and-true (rising-added lines rows (f .0))
-    (and-true (eq-eqb (kept + keptIn rows) (sumOf (λ l. l .kept) (addRows rows lines)) (omega (arith, f .1, kept-added lines rows)))
-    (eq-eqb (loose + looseIn rows) (sumOf (λ l. l .loose) (addRows rows lines)) (omega (arith, f .2, loose-added lines rows)))))
+    (and-true (eq-eqb (kept + keptIn rows) (sumBy (λ l. l .kept) (addRows rows lines)) (omega (arith, f .1, kept-added lines rows)))
+    (eq-eqb (loose + looseIn rows) (sumBy (λ l. l .loose) (addRows rows lines)) (omega (arith, f .2, loose-added lines rows)))))
 
 -- ---- an adding
 

@@ -18,7 +18,7 @@ use Rattle.lists.proofs.Tests.{and-true, by-test}
 use Rattle.archive_model.specs.Row.{Row}
 use Rattle.archive_model.specs.Buffer.{maxRows, rowsIn}
 use Rattle.archive_model.specs.Append.{verdict}
-use Rattle.report_model.specs.Report.{Line, Report, maxArchives, maxLines, lineOf, joined, addRows, keptIn, looseIn, isLine, isRising, sumOf, isTally, isReport, answer, added, addOf}
+use Rattle.report_model.specs.Report.{Line, Report, maxArchives, maxLines, lineOf, joined, addRows, keptIn, looseIn, isLine, isRising, sumBy, isTally, isReport, answer, added, addOf}
 use Rattle.report_model.proofs.Lines.{all-added, rising-added, kept-added, loose-added, kinds}
 
 -- ---- a report
@@ -29,8 +29,8 @@ pub record Passed (s : Report) : Type 0 where
   pub rows : s .kept + s .loose ≤ maxRows * s .archives
   pub each : all isLine (s .lines) ≡ true
   pub rising : isRising (s .lines) ≡ true
-  pub kept : s .kept ≡ sumOf (λ a. a .kept) (s .lines)
-  pub loose : s .loose ≡ sumOf (λ a. a .loose) (s .lines)
+  pub kept : s .kept ≡ sumBy (λ a. a .kept) (s .lines)
+  pub loose : s .loose ≡ sumBy (λ a. a .loose) (s .lines)
 
 pub facts : (s : Report) → isReport s ≡ true → Passed s
 unfolding isReport isTally
@@ -40,15 +40,15 @@ facts s h =
     let c = both (leb (s .kept + s .loose) (maxRows * s .archives)) _ (b .1) in
     let d = both (all isLine (s .lines)) _ (c .1) in
     let e = both (isRising (s .lines)) _ (d .1) in
-    let f = both (eqb (s .kept) (sumOf (λ a. a .kept) (s .lines))) _ (e .1) in
+    let f = both (eqb (s .kept) (sumBy (λ a. a .kept) (s .lines))) _ (e .1) in
     record {
       archives = leb-true (s .archives) maxArchives (a .0);
       few = leb-true (length (s .lines)) maxLines (b .0);
       rows = leb-true (s .kept + s .loose) (maxRows * s .archives) (c .0);
       each = d .0;
       rising = e .0;
-      kept = eqb-true (s .kept) (sumOf (λ a. a .kept) (s .lines)) (f .0);
-      loose = eqb-true (s .loose) (sumOf (λ a. a .loose) (s .lines)) (f .1);
+      kept = eqb-true (s .kept) (sumBy (λ a. a .kept) (s .lines)) (f .0);
+      loose = eqb-true (s .loose) (sumBy (λ a. a .loose) (s .lines)) (f .1);
     }
 
 pub report-tally : (s : Report) → isReport s ≡ true → isTally (s .lines) (s .kept) (s .loose) ≡ true
@@ -66,8 +66,8 @@ passed s p =
     (and-true (le-leb (s .kept + s .loose) (maxRows * s .archives) (p .rows))
     (and-true (p .each)
     (and-true (p .rising)
-    (and-true (eq-eqb (s .kept) (sumOf (λ a. a .kept) (s .lines)) (p .kept))
-    (eq-eqb (s .loose) (sumOf (λ a. a .loose) (s .lines)) (p .loose)))))))
+    (and-true (eq-eqb (s .kept) (sumBy (λ a. a .kept) (s .lines)) (p .kept))
+    (eq-eqb (s .loose) (sumBy (λ a. a .loose) (s .lines)) (p .loose)))))))
 
 -- ---- a line of one row, and two lines joined
 

@@ -16,7 +16,7 @@ use Rattle.archive_model.specs.Append.{verdict}
 use Rattle.archive_model.specs.Claims.{isFit}
 use Rattle.archive_model.proofs.Claims.{read-back}
 use Rattle.archive_model.proofs.Buffers.{pieces, map-same}
-use Rattle.report_model.specs.Report.{Line, Report, emptyReport, maxArchives, maxLines, lineOf, addRows, keptIn, looseIn, isLine, sumOf, isTally, isReport, added}
+use Rattle.report_model.specs.Report.{Line, Report, emptyReport, maxArchives, maxLines, lineOf, addRows, keptIn, looseIn, isLine, sumBy, isTally, isReport, added}
 use Rattle.report_model.specs.Claims.{addAll, noneRefused, rowsOfAll, Complete}
 use Rattle.report_model.proofs.Order.{add-append}
 use Rattle.report_model.proofs.Lines.{more-added, kept-added, loose-added, kinds}
@@ -89,10 +89,10 @@ module _ (s : Report) (h : isReport s ≡ true) where
   back = rows-lines (s .lines) (p .each) (p .rising)
 
   kept-is : keptIn rows ≡ s .kept
-  kept-is = omega (arith, kept-added [] rows, ap (sumOf (λ (a : Line). a .kept)) back, p .kept)
+  kept-is = omega (arith, kept-added [] rows, ap (sumBy (λ (a : Line). a .kept)) back, p .kept)
 
   loose-is : looseIn rows ≡ s .loose
-  loose-is = omega (arith, loose-added [] rows, ap (sumOf (λ (a : Line). a .loose)) back, p .loose)
+  loose-is = omega (arith, loose-added [] rows, ap (sumBy (λ (a : Line). a .loose)) back, p .loose)
 
   rows-few : length rows ≤ maxRows * s .archives
   rows-few = omega (arith, kinds rows, kept-is, loose-is, p .rows)

@@ -16,7 +16,7 @@ use Rattle.lists.proofs.Choice.{both}
 use Rattle.lists.proofs.Tests.{and-true}
 use Rattle.lists.proofs.Members.{all-of, all-at}
 use Rattle.archive_model.specs.Row.{Row}
-use Rattle.report_model.specs.Report.{Line, lineOf, joined, insert, addRows, isRising, sumOf, keptIn, looseIn}
+use Rattle.report_model.specs.Report.{Line, lineOf, joined, insert, addRows, isRising, sumBy, keptIn, looseIn}
 use Rattle.report_model.proofs.Order.{insert-cases, insert-nil, add-first, add-none}
 
 -- ---- one line more
@@ -54,10 +54,10 @@ rising-insert a (c ∷ l) t =
     (λ k. and-true (same-all a c l k (w .0)) (w .1))
     (λ k. and-true (all-insert (above c) a l (lt-ltb (c .identity) (a .identity) k) (λ b h. lt-ltb (c .identity) (a .identity) k) (w .0)) (rising-insert a l (w .1)))
 
-pub sum-insert : (f : Line → ℕ) → ((a b : Line) → f (joined a b) ≡ f a + f b) → (a : Line) (l : List Line) → sumOf f (insert a l) ≡ f a + sumOf f l
-sum-insert f j a [] = ap (sumOf f) (insert-nil a)
+pub sum-insert : (f : Line → ℕ) → ((a b : Line) → f (joined a b) ≡ f a + f b) → (a : Line) (l : List Line) → sumBy f (insert a l) ≡ f a + sumBy f l
+sum-insert f j a [] = ap (sumBy f) (insert-nil a)
 sum-insert f j a (c ∷ l) =
-    insert-cases (λ (m : List Line). sumOf f m ≡ f a + (f c + sumOf f l)) a c l
+    insert-cases (λ (m : List Line). sumBy f m ≡ f a + (f c + sumBy f l)) a c l
     (λ k. refl)
     (λ k. omega (arith, j a c))
     (λ k. omega (arith, sum-insert f j a l))
@@ -85,13 +85,13 @@ module _ (lines : List Line) where
   rising-added (r ∷ rows) t = ap isRising (add-first r rows lines) ∙ rising-insert (lineOf r) (addRows rows lines) (rising-added rows t)
 
   pub sum-added : (f : Line → ℕ) (p : Row → Bool) → ((a b : Line) → f (joined a b) ≡ f a + f b) → ((r : Row) → f (lineOf r) ≡ cond (p r) 1 0)
-      → (rows : List Row) → sumOf f (addRows rows lines) ≡ sumOf f lines + count p rows
-  sum-added f p j o [] = ap (sumOf f) (add-none lines) ∙ (omega arith)
+      → (rows : List Row) → sumBy f (addRows rows lines) ≡ sumBy f lines + count p rows
+  sum-added f p j o [] = ap (sumBy f) (add-none lines) ∙ (omega arith)
   sum-added f p j o (r ∷ rows) =
-      ap (sumOf f) (add-first r rows lines) ∙ sum-insert f j (lineOf r) (addRows rows lines) ∙ go (p r) (o r) (sum-added f p j o rows)
+      ap (sumBy f) (add-first r rows lines) ∙ sum-insert f j (lineOf r) (addRows rows lines) ∙ go (p r) (o r) (sum-added f p j o rows)
     where
-      go : (b : Bool) → f (lineOf r) ≡ cond b 1 0 → sumOf f (addRows rows lines) ≡ sumOf f lines + count p rows
-          → f (lineOf r) + sumOf f (addRows rows lines) ≡ sumOf f lines + cond b (count p rows + 1) (count p rows)
+      go : (b : Bool) → f (lineOf r) ≡ cond b 1 0 → sumBy f (addRows rows lines) ≡ sumBy f lines + count p rows
+          → f (lineOf r) + sumBy f (addRows rows lines) ≡ sumBy f lines + cond b (count p rows + 1) (count p rows)
       go true e k = omega arith
       go false e k = omega arith
 
@@ -106,10 +106,10 @@ kept-one r = go (r .loose)
     go true = refl
     go false = refl
 
-pub kept-added : (lines : List Line) (rows : List Row) → sumOf (λ a. a .kept) (addRows rows lines) ≡ sumOf (λ a. a .kept) lines + keptIn rows
+pub kept-added : (lines : List Line) (rows : List Row) → sumBy (λ a. a .kept) (addRows rows lines) ≡ sumBy (λ a. a .kept) lines + keptIn rows
 kept-added lines rows = sum-added lines (λ a. a .kept) (λ r. not (r .loose)) (λ a b. refl) kept-one rows
 
-pub loose-added : (lines : List Line) (rows : List Row) → sumOf (λ a. a .loose) (addRows rows lines) ≡ sumOf (λ a. a .loose) lines + looseIn rows
+pub loose-added : (lines : List Line) (rows : List Row) → sumBy (λ a. a .loose) (addRows rows lines) ≡ sumBy (λ a. a .loose) lines + looseIn rows
 loose-added lines rows = sum-added lines (λ a. a .loose) (λ r. r .loose) (λ a b. refl) (λ r. refl) rows
 
 -- every row is of one kind

@@ -95,17 +95,17 @@ isLine a =
 abbrev pub isRising : List Line → Bool
 isRising lines = pairwise (λ a b. ltb (a .identity) (b .identity)) lines
 
-abbrev pub sumOf : (Line → ℕ) → List Line → ℕ
-sumOf f [] = 0
-sumOf f (a ∷ lines) = f a + sumOf f lines
+abbrev pub sumBy : (Line → ℕ) → List Line → ℕ
+sumBy f [] = 0
+sumBy f (a ∷ lines) = f a + sumBy f lines
 
 -- lines in order, and their sums
 unfoldable pub isTally : List Line → ℕ → ℕ → Bool
 isTally lines kept loose =
     all isLine lines
     && (isRising lines
-    && (eqb kept (sumOf (λ a. a .kept) lines)
-    && eqb loose (sumOf (λ a. a .loose) lines)))
+    && (eqb kept (sumBy (λ a. a .kept) lines)
+    && eqb loose (sumBy (λ a. a .loose) lines)))
 
 -- few archives hold few rows
 unfoldable pub isReport : Report → Bool

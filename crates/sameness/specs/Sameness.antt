@@ -31,4 +31,5 @@ isSameTelegram a b =
 
 -- THE CLAIM: it is document 01's rule "for every two valid subtelegrams"
 abbrev pub SameByFields : Type 0
-SameByFields = (a b : List ℕ) → isValid a ≡ true → isValid b ≡ true → isSame a b ≡ isSameTelegram (fieldsOf a) (fieldsOf b)
+SameByFields = (a b : List ℕ) → isValid a ≡ true → isValid b ≡ true → isSame a b
+    ≡ isSameTelegram (fieldsOf a) (fieldsOf b)

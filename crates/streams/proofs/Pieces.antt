@@ -7,7 +7,7 @@ use native.Mathlib.Omega.{arith}
 use lib.Dec.{eqb}
 use lib.ListN.{take}
 use Rattle.line_input.specs.Ascii.{newline}
-use Rattle.streams.specs.Lines.{prepend, linesOf, Program, after, written, outputOf}
+use Rattle.streams.specs.Lines.{prepend, linesOf, Program, stateAfter, textOf, outputOf}
 use Rattle.streams.specs.Chunks.{Position, Bounded, atLineStart, fed, fedText, feed, feedText, feedAll, feedAllText, lastText, endText, joined, inLine}
 use Rattle.streams.specs.Claims.{InPieces}
 
@@ -86,10 +86,10 @@ module _ {S : Type 0} (p : Program S) (n : ℕ) (b : Bounded p (suc n)) where
   fromPosition a input = feedText p (suc n) a input ++ endText p (feed p (suc n) a input)
 
   forLines : S → List (List ℕ) → List ℕ
-  forLines s ls = written p s ls ++ p .end (after p s ls)
+  forLines s ls = textOf p s ls ++ p .end (stateAfter p s ls)
 
   ends : (s : S) (r : List ℕ) → fromPosition (inLine s (take (suc n) r)) [] ≡ forLines s (alone r)
-  unfolding fromPosition forLines feed feedText lastText written after alone
+  unfolding fromPosition forLines feed feedText lastText textOf stateAfter alone
   ends s [] = refl
   ends s (x ∷ r) = rw (b .next s (x ∷ r), b .text s (x ∷ r), append-nil (p .text s (x ∷ r)))
 
@@ -100,8 +100,8 @@ module _ {S : Type 0} (p : Program S) (n : ℕ) (b : Bounded p (suc n)) where
       append-assoc (fedText p (suc n) a c) (feedText p (suc n) d input) (endText p (feed p (suc n) d input))
 
   lines-next : (s : S) (l : List ℕ) (ls : List (List ℕ)) → forLines s (l ∷ ls) ≡ p .text s l ++ forLines (p .next s l) ls
-  unfolding forLines written after
-  lines-next s l ls = append-assoc (p .text s l) (written p (p .next s l) ls) (p .end (after p (p .next s l) ls))
+  unfolding forLines textOf stateAfter
+  lines-next s l ls = append-assoc (p .text s l) (textOf p (p .next s l) ls) (p .end (stateAfter p (p .next s l) ls))
 
   whole : (input r : List ℕ) (s : S) → fromPosition (inLine s (take (suc n) r)) input ≡ forLines s (linesFrom r input)
   unfolding linesFrom

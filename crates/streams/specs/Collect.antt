@@ -51,13 +51,13 @@ module _ {C : Type 0} (m : Collector C) where
   phaseText over l = []
 
   -- the end: BAD where there was no line, the totals after a run, nothing after one that was ended
-  abbrev pub endOf : Phase C → List ℕ
-  endOf starting = badText
-  endOf (running c) = m .totals c
-  endOf over = []
+  abbrev pub phaseEnd : Phase C → List ℕ
+  phaseEnd starting = badText
+  phaseEnd (running c) = m .totals c
+  phaseEnd over = []
 
   abbrev pub collect : Program (Phase C)
-  collect = record { next = nextPhase; text = phaseText; end = endOf }
+  collect = record { next = nextPhase; text = phaseText; end = phaseEnd }
 
   -- what `collect` writes for an input
   unfoldable pub collected : List ℕ → List ℕ

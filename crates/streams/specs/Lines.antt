@@ -23,14 +23,14 @@ pub record Program (S : Type 0) : Type 0 where
 
 module _ {S : Type 0} (p : Program S) where
   -- the state after lines, and what was written for them
-  unfoldable pub after : S → List (List ℕ) → S
-  after s [] = s
-  after s (l ∷ ls) = after (p .next s l) ls
+  unfoldable pub stateAfter : S → List (List ℕ) → S
+  stateAfter s [] = s
+  stateAfter s (l ∷ ls) = stateAfter (p .next s l) ls
 
-  unfoldable pub written : S → List (List ℕ) → List ℕ
-  written s [] = []
-  written s (l ∷ ls) = p .text s l ++ written (p .next s l) ls
+  unfoldable pub textOf : S → List (List ℕ) → List ℕ
+  textOf s [] = []
+  textOf s (l ∷ ls) = p .text s l ++ textOf (p .next s l) ls
 
   -- all that it writes for a text
   unfoldable pub outputOf : S → List ℕ → List ℕ
-  outputOf s input = written s (linesOf input) ++ p .end (after s (linesOf input))
+  outputOf s input = textOf s (linesOf input) ++ p .end (stateAfter s (linesOf input))

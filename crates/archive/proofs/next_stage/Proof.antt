@@ -3,7 +3,7 @@ use mathlib.Core.Path.{_≡_, sym, _∙_}
 use borrow.Author.Needs.{needs}
 use denote.Ref.{now}
 use Rattle.archive_model.specs.Row.{blockNumber}
-use Rattle.archive.specs.Archive.{soundRows}
+use Rattle.archive.specs.Archive.{soundCount}
 use Rattle.archive.proofs.Scans.{stage-wrong, stage-number, stage-short, stage-full}
 use Rattle.archive.proofs.next_stage.Statement.{statement}
 use Rattle.archive.proofs.next_stage.Tie as tie
@@ -14,7 +14,7 @@ none c =
     stage-wrong (now (s .args .block)) (s .args .k) (sym (s .pre .1) ∙ c .if1 .taken)
 
 -- where there are rows
-some : (c : tie.Else1) → soundRows (now (c .before .before .args .block)) ≡ 0 → ⊥
+some : (c : tie.Else1) → soundCount (now (c .before .before .args .block)) ≡ 0 → ⊥
 some c e = c .if1 .left (c .before .before .pre .1 ∙ e)
 
 other : tie.Need-returns-2

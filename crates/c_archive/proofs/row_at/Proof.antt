@@ -10,7 +10,7 @@ use Rattle.buffers.proofs.Buffer.{overwritten-fits}
 use Rattle.archive_model.specs.Append.{ReadRow}
 use Rattle.archive.specs.Archive.{readResult}
 use Rattle.c_layout.specs.Frame.{frameLength, frameBytes}
-use Rattle.c_archive.specs.Calls.{found}
+use Rattle.c_archive.specs.Calls.{rowFound}
 use Rattle.c_archive.proofs.Calls.{row-other, row-done, row-are}
 use Rattle.c_archive.proofs.row_at.Statement.{statement}
 use Rattle.c_archive.proofs.row_at.Tie as tie
@@ -46,7 +46,7 @@ written c =
     let bytes : length (r .bytes) ≡ 21 = search needs in
     let n : c .before .before .before .before .before .before .before .before .most .result - 0 ≡ min (r .len) 21 = omega (arith, c .before .before .before .before .before .before .before .before .most .ensures) in
     rw (c .found-number .ensures, done (step2 (c .before .before .before) .begun) long, row-are _ (r .len) _ (r .bytes) (r .time) (r .loose) (c .before .before .before .before .before .before .before .flag-byte .ensures) n bytes)
-    (ap (λ (x : ReadRow). found (x .number) (x .row)) (c .before .before .before .before .before .before .before .before .before .before .row-at .ensures) ∙ row-done (now (a .buffer)) (a .i) (now (a .row)) (now (a .time)) long)
+    (ap (λ (x : ReadRow). rowFound (x .number) (x .row)) (c .before .before .before .before .before .before .before .before .before .before .row-at .ensures) ∙ row-done (now (a .buffer)) (a .i) (now (a .row)) (now (a .time)) long)
 
 part-end : tie.Need-part-put-frame-end-2
 part-end c =

@@ -7,7 +7,7 @@ use native.Mathlib.Omega.{arith}
 use borrow.Author.Needs.{needs}
 use denote.Ref.{now}
 use Rattle.archive_model.specs.Row.{rowCount, isSound}
-use Rattle.archive.specs.Archive.{soundRows}
+use Rattle.archive.specs.Archive.{soundCount}
 use Rattle.cutting.specs.Cut.{CutBlock}
 use Rattle.cutting.proofs.Blocks.{block-size, block-unsound, block-few, block-has, block-done}
 use Rattle.cutting.proofs.cut_block.Statement.{statement}

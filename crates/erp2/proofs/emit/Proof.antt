@@ -6,7 +6,7 @@ use borrow.Author.Needs.{needs}
 use denote.Ref.{now}
 use Rattle.erp2_model.specs.declared.Sizes.{Sizes}
 use Rattle.erp2_model.specs.Sizes.{overhead}
-use Rattle.erp2_model.specs.Building.{sizesFor, sizeOf}
+use Rattle.erp2_model.specs.Building.{sizesFor, telegramSize}
 use Rattle.erp2_model.specs.Claims.{Shaped}
 use Rattle.erp2.specs.Private.{rowWritten}
 use Rattle.erp2.proofs.Admitting.{for-small}
@@ -36,8 +36,8 @@ add-end-2 c =
     = data-most (c .before .before .before .before .args .t) (c .before .before .before .before .pre) in
     omega (arith, n, m)
 
-end-is : (c : tie.After-overhead) → 1 + c .overhead .result + c .before .before .before .args .t .len ≡ 1 + sizeOf (c .before .before .before .args .t)
-unfolding sizeOf
+end-is : (c : tie.After-overhead) → 1 + c .overhead .result + c .before .before .before .args .t .len ≡ 1 + telegramSize (c .before .before .before .args .t)
+unfolding telegramSize
 end-is c =
     let e = c .overhead .ensures ∙ ap overhead (c .before .sizes-for .ensures) in
     rw e (omega arith)

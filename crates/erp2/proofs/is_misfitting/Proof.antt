@@ -6,7 +6,7 @@ use native.Mathlib.Omega.{arith}
 use borrow.Author.Needs.{needs}
 use borrow.Author.Tests.{eq-eqb, ne-eqb}
 use Rattle.erp2_model.specs.Sizes.{overhead}
-use Rattle.erp2_model.specs.Building.{sizeOf}
+use Rattle.erp2_model.specs.Building.{telegramSize}
 use Rattle.erp2.proofs.Admitting.{for-small, long-data, short-misfit, long-misfit}
 use Rattle.erp2.proofs.is_misfitting.Statement.{statement}
 use Rattle.erp2.proofs.is_misfitting.Tie as tie
@@ -17,9 +17,9 @@ returns c = long-data _ (c .before .before .pre) (c .if1 .taken)
 overhead-requires : tie.Need-overhead-requires
 overhead-requires c κs = rw (c .sizes-for .ensures) (for-small (c .before .before .before .args .t) (search needs))
 
-size-is : (c : tie.After-overhead) → c .overhead .result + c .before .before .before .before .args .t .len ≡ sizeOf
+size-is : (c : tie.After-overhead) → c .overhead .result + c .before .before .before .before .args .t .len ≡ telegramSize
     (c .before .before .before .before .args .t)
-unfolding sizeOf
+unfolding telegramSize
 size-is c = ap (λ (n : ℕ). n + c .before .before .before .before .args .t .len) (c .overhead .ensures ∙ ap overhead (c .before .sizes-for .ensures))
 
 add-size : tie.Need-add-size

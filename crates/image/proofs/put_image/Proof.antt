@@ -9,7 +9,7 @@ use Rattle.buffers.specs.Buffer.{part}
 use Rattle.layout.specs.Block.{blockLength}
 use Rattle.buffers.proofs.Segments.{Begun, begin, begun-length, within, lent, turn, turned}
 use Rattle.model.specs.View.{Entry}
-use Rattle.model.specs.Image.{blockAt, imageWith}
+use Rattle.model.specs.Image.{imageBlock, imageWith}
 use Rattle.collector.specs.Collector.{columns, entriesAt}
 use Rattle.image.specs.Private.{blockWith}
 use Rattle.image.proofs.put_image.Statement.{statement}
@@ -74,7 +74,7 @@ loop-again c =
     }
 
 returns : tie.Need-returns Inv-loop μ-loop
-unfolding imageWith blocks blockAt
+unfolding imageWith blocks imageBlock
 returns c = turned _ _ blockLength 5 _ _ (c .before .loop .inv .begun) (omega arith) refl .is
 
 pub put-image-spec : {M : Type 1} → statement M

@@ -11,7 +11,7 @@ use Rattle.buffers.specs.Buffer.{part}
 use Rattle.layout.specs.Block.{blockLength}
 use Rattle.buffers.proofs.Segments.{part-length, part-ends, begun-length, within, lent}
 use Rattle.archive_model.specs.Append.{blockAt}
-use Rattle.archive.specs.Archive.{soundRows}
+use Rattle.archive.specs.Archive.{soundCount}
 use Rattle.archive.proofs.Scans.{sound-le}
 use Rattle.repack_model.specs.Repack.{isDropped}
 use Rattle.repack_model.specs.Packer.{Packing, packing}
@@ -109,7 +109,7 @@ loop-again c =
     let push = c .before .before .before .before .before .before .before .before .before in
     let fl = c .before .before .before .before in
     let piece = now (a .piece) in
-    let sound = so .sound .ensures ∙ ap soundRows (shown at) in
+    let sound = so .sound .ensures ∙ ap soundCount (shown at) in
     record {
       bounded = omega arith;
       ends = refl;

@@ -12,7 +12,7 @@ use Rattle.buffers.specs.Buffer.{part}
 use Rattle.layout.specs.Block.{blockLength}
 use Rattle.buffers.proofs.Segments.{part-length, part-ends, begun-length, begun-after, within, lent}
 use Rattle.archive_model.specs.Append.{blockAt}
-use Rattle.archive.specs.Archive.{soundRows}
+use Rattle.archive.specs.Archive.{soundCount}
 use Rattle.archive.proofs.Scans.{sound-le}
 use Rattle.repack_model.specs.Packer.{startPacking, packing}
 use Rattle.repack.proofs.Walks.{Walking, walk-start, walk-turn, walk-packed, walk-put, walk-long, block-rows}
@@ -96,7 +96,7 @@ shown t =
 
 -- and its fifth byte is how many rows it has
 rows : (c : tie.After-byte-at Inv-loop μ-loop)
-    → c .byte-at .result ≡ soundRows (blockAt (c .before .before .before .before .loop .k) (source (c .before .before .before .before)))
+    → c .byte-at .result ≡ soundCount (blockAt (c .before .before .before .before .loop .k) (source (c .before .before .before .before)))
 rows c =
     let t = c .before .before .before in
     let at = t .before in

@@ -11,7 +11,7 @@ use Rattle.archive.specs.Archive.{scanOf}
 use Rattle.report_model.specs.Report.{maxLines, isReport}
 use Rattle.report_model.specs.Pieces.{rowsSoFar}
 use Rattle.report_model.proofs.Additions.{facts}
-use Rattle.report.specs.Lines.{linesOf}
+use Rattle.report.specs.Lines.{linesAt}
 use Rattle.report.specs.Report.{reportOf, addingOf}
 use Rattle.report.proofs.Windows.{lines-count}
 use Rattle.report.proofs.Blocks.{scan-few, few-so-far}
@@ -31,7 +31,7 @@ abbrev start : tie.Else2 → tie.Start
 start c = c .before .before .before .before .before .before
 
 -- and there are no more lines than there may be
-short : (c : tie.Else3) → length (linesOf (start (c .before) .args .t1 .lines) (start (c .before) .args .t1 .count)) ≤ maxLines
+short : (c : tie.Else3) → length (linesAt (start (c .before) .args .t1 .lines) (start (c .before) .args .t1 .count)) ≤ maxLines
 short c = omega (arith, lines-count (start (c .before) .args .t1 .lines) 0 (start (c .before) .args .t1 .count), c .if3 .left)
 
 few : (c : tie.Else2) → start c .args .t1 .before .kept + start c .args .t1 .before .loose + start c .args .t1 .scan .rows < 2 ^ 62

@@ -6,14 +6,14 @@ use lib.ListN.{length}
 use Prim.Native.Nat.{_-_, _≤_}
 use Rattle.report.proofs.Windows.{lines-count}
 use Rattle.report_model.specs.Report.{maxLines}
-use Rattle.report.specs.Lines.{linesOf}
+use Rattle.report.specs.Lines.{linesAt}
 use Rattle.report.specs.Report.{reportOf}
 use Rattle.report.proofs.Calls.{report-archives, report-lines, report-rows, report-tally}
 use Rattle.report.proofs.is_report.Statement.{statement}
 use Rattle.report.proofs.is_report.Tie as tie
 
 -- no more lines than there may be
-short : (c : tie.Else2) → length (linesOf (c .before .before .args .t1 .lines) (c .before .before .args .t1 .count)) ≤ maxLines
+short : (c : tie.Else2) → length (linesAt (c .before .before .args .t1 .lines) (c .before .before .args .t1 .count)) ≤ maxLines
 short c = omega (arith, lines-count (c .before .before .args .t1 .lines) 0 (c .before .before .args .t1 .count), c .if2 .left)
 
 returns-2 : tie.Need-returns-2

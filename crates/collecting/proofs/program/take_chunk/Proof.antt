@@ -7,7 +7,7 @@ use lib.ListN.{length, take, length-take}
 use borrow.Author.Needs.{needs}
 use denote.Ref.{now}
 use Rattle.collecting.specs.Session.{phaseOf}
-use Rattle.collecting.specs.Program.{isSound, Drained}
+use Rattle.collecting.specs.Program.{isUnfailed, Drained}
 use Rattle.collecting.proofs.Chunk.{kept-few, kept-open, chunk-position}
 use Rattle.collecting.proofs.program.take_chunk.Statement.{statement}
 use Rattle.collecting.proofs.program.take_chunk.Tie as tie
@@ -24,7 +24,7 @@ returns c =
     let d : Drained (phaseOf (s .args .s)) (take end buffer) (l .take-lines .result) = rw z at (l .take-lines .ensures) in
     let fits : end ≤ length buffer = s .pre .0 in
     let ordered : used ≤ end = omega (arith, d .within, length-take end buffer) in
-    let sound : isSound (c .next-after .result) ≡ true → l .take-lines .result .written ≡ true = λ e. sym (c .next-after .ensures) ∙ e in
+    let sound : isUnfailed (c .next-after .result) ≡ true → l .take-lines .result .written ≡ true = λ e. sym (c .next-after .ensures) ∙ e in
     record {
       few = kept-few buffer used end fits ordered (k .carry .ensures);
       line = λ e. kept-open buffer used end fits ordered (k .carry .ensures) (d .rest (sound e));

@@ -8,7 +8,7 @@ use mathlib.Core.List.{List}
 use Prim.Native.Nat.{ℕ, _+_, _-_, _*_, _^_, _≤_, _<_}
 use borrow.Author.Tests.{not-true, not-false}
 use Rattle.report_model.specs.Report.{Line, isTally}
-use Rattle.report.specs.Lines.{lineLength, lineAt, linesFrom, linesOf}
+use Rattle.report.specs.Lines.{lineLength, lineAt, linesFrom, linesAt}
 use Rattle.report.specs.Private.{lineFits}
 use Rattle.report.proofs.Testing.{fits-facts, rest-first, rest-next, rest-end}
 use Rattle.report.proofs.lines.are_lines.Statement.{statement}
@@ -17,7 +17,7 @@ use Rattle.report.proofs.lines.are_lines.Tie as tie
 record Testing (lines : List ℕ) (count kept loose k l i : ℕ) : Type 0 where
   bounded : i ≤ count
   few : k + l ≤ kept + loose
-  rest : isTally (linesFrom lines i (count - i)) k l ≡ isTally (linesOf lines count) kept loose
+  rest : isTally (linesFrom lines i (count - i)) k l ≡ isTally (linesAt lines count) kept loose
 
 abbrev Inv-loop : tie.InvT-loop
 Inv-loop lines count kept loose k₀ l₀ i₀ k l i = Testing lines count kept loose k l i

@@ -18,7 +18,7 @@ use Rattle.report_model.specs.Report.{maxLines, addRows, looseIn}
 use Rattle.report_model.specs.Pieces.{countedRows}
 use Rattle.report_model.proofs.Lines.{kinds}
 use Rattle.report.specs.declared.tally.Tally.{Tally}
-use Rattle.report.specs.Lines.{linesOf}
+use Rattle.report.specs.Lines.{linesAt}
 use Rattle.report.specs.Private.{rowsBetween, AddedRows, tallyOf}
 use Rattle.report.proofs.Windows.{lines-count, lines-none}
 use Rattle.report_model.proofs.Adding.{rows-after, used-few}
@@ -38,7 +38,7 @@ module _ {n m : ℕ} {rows : List Row} {old new : List ℕ} (added : AddedRows n
       → tallyOf r new ≡ record { lines = []; kept = 0; loose = 0; over = true; scan = scanOf next }
   none-there = none-left new
 
-  few-there : m ≤ maxLines → length (linesOf new m) ≤ maxLines
+  few-there : m ≤ maxLines → length (linesAt new m) ≤ maxLines
   few-there h = omega (arith, lines-count new 0 m, h)
 
 -- the start, the block, and the tally there
@@ -78,7 +78,7 @@ returns c =
     let xs = now (a .lines) in
     none-left xs (c .overflowed .result) (f .feed .result .next) (c .overflowed .ensures)
     ∙ over-block (tallyOf (a .t) xs) (block f) (scanOf (f .feed .result .next)) (scanned f)
-    (over-before (tallyOf (a .t) xs) (ltb maxLines (length (addRows (countedRows (block f)) (linesOf xs (a .t .count))))) (t .if1 .taken))
+    (over-before (tallyOf (a .t) xs) (ltb maxLines (length (addRows (countedRows (block f)) (linesAt xs (a .t .count))))) (t .if1 .taken))
 
 add-rows-requires : tie.Need-add-rows-requires
 add-rows-requires c κs =
@@ -103,8 +103,8 @@ returns-2 c =
     let xs = now (a .lines) in
     none-there (r .add-rows .ensures) (c .overflowed2 .result) (f .feed .result .next) (c .overflowed2 .ensures)
     ∙ over-block (tallyOf (a .t) xs) (block f) (scanOf (f .feed .result .next)) (scanned f)
-    (over-now (tallyOf (a .t) xs) (length (addRows (countedRows (block f)) (linesOf xs (a .t .count))))
-    (omega (arith, r .add-rows .ensures .many (t .if2 .taken), ap (λ (l : List Row). length (addRows l (linesOf xs (a .t .count)))) (rows f))))
+    (over-now (tallyOf (a .t) xs) (length (addRows (countedRows (block f)) (linesAt xs (a .t .count))))
+    (omega (arith, r .add-rows .ensures .many (t .if2 .taken), ap (λ (l : List Row). length (addRows l (linesAt xs (a .t .count)))) (rows f))))
 
 loose-rows-requires : tie.Need-loose-rows-requires
 loose-rows-requires c κs =
@@ -136,7 +136,7 @@ returns-3 c =
     let a = start f .args in
     let xs = now (a .lines) in
     let t = tallyOf (a .t) xs in
-    let is = r .add-rows .ensures .lines (e .if2 .left) ∙ ap (λ (v : List Row). addRows v (linesOf xs (a .t .count))) (rows f) in
+    let is = r .add-rows .ensures .lines (e .if2 .left) ∙ ap (λ (v : List Row). addRows v (linesAt xs (a .t .count))) (rows f) in
     let o = l .loose-rows .ensures ∙ ap looseIn (rows f) in
     let n : length (countedRows (block f)) ≡ used f = ap length (sym (rows f)) ∙ between-length (block f) 0 (used f) in
     done-block t (block f) (scanOf (f .feed .result .next)) (scanned f) _ _ _ (e1 .if1 .left) is (few-there (r .add-rows .ensures) (e .if2 .left))

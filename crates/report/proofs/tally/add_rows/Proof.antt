@@ -11,7 +11,7 @@ use Rattle.layout.specs.Block.{headerLength}
 use Rattle.buffers.proofs.Segments.{part-length, part-ends}
 use Rattle.archive_model.specs.Row.{rowIn, isRow}
 use Rattle.report_model.specs.Report.{lineOf}
-use Rattle.report.specs.Lines.{linesOf}
+use Rattle.report.specs.Lines.{linesAt}
 use Rattle.report.proofs.Windows.{inserted-as}
 use Rattle.report.proofs.Blocks.{valid-row, Running, running-first, running-next, running-many, running-end}
 use Rattle.report.proofs.tally.add_rows.Statement.{statement}
@@ -19,7 +19,7 @@ use Rattle.report.proofs.tally.add_rows.Tie as tie
 
 record Adding (lines₀ : List ℕ) (count : ℕ) (block : List ℕ) (used : ℕ) (lines : List ℕ) (n i : ℕ) : Type 0 where
   bounded : i ≤ used
-  running : Running block used (linesOf lines₀ count) n i lines
+  running : Running block used (linesAt lines₀ count) n i lines
 
 abbrev Inv-loop : tie.InvT-loop
 Inv-loop lines₀ count block used n₀ i₀ lines n i = Adding lines₀ count block used lines n i
@@ -68,7 +68,7 @@ returns c =
     record {
       long = ins .long ∙ at .loop .inv .running .long ∙ sym (s .pre .4);
       lines = λ h. absurd (omega (arith, h, c .if1 .taken));
-      many = λ h. running-many block (s .args .used) (at .loop .n) (at .loop .i) (r .add-cell .result) (linesOf (now (s .args .lines)) (s .args .count)) (at .loop .lines) _ (at .loop .inv .running) (d .loop-test .taken) ins h;
+      many = λ h. running-many block (s .args .used) (at .loop .n) (at .loop .i) (r .add-cell .result) (linesAt (now (s .args .lines)) (s .args .count)) (at .loop .lines) _ (at .loop .inv .running) (d .loop-test .taken) ins h;
     }
 
 loop-again : tie.Need-loop-again Inv-loop μ-loop
@@ -81,7 +81,7 @@ loop-again c =
     let ins = inserted-as (ap (λ (l : List ℕ). lineOf (rowIn l)) (part-ends (headerLength + cellLength * at .loop .i) cellLength block)) (r .add-cell .ensures) in
     record {
       bounded = omega (arith, d .loop-test .taken);
-      running = running-next block (s .args .used) (at .loop .n) (at .loop .i) (r .add-cell .result) (linesOf (now (s .args .lines)) (s .args .count)) (at .loop .lines) _ (at .loop .inv .running) (d .loop-test .taken) ins (c .if1 .left);
+      running = running-next block (s .args .used) (at .loop .n) (at .loop .i) (r .add-cell .result) (linesAt (now (s .args .lines)) (s .args .count)) (at .loop .lines) _ (at .loop .inv .running) (d .loop-test .taken) ins (c .if1 .left);
     }
 
 returns-2 : tie.Need-returns-2 Inv-loop μ-loop
@@ -91,7 +91,7 @@ returns-2 c =
     let go = at .loop .inv .running in
     record {
       long = go .long ∙ sym (s .pre .4);
-      lines = λ h. running-end (now (s .args .block)) (s .args .used) (at .loop .n) (at .loop .i) (linesOf (now (s .args .lines)) (s .args .count)) (at .loop .lines) go (c .loop-test .left);
+      lines = λ h. running-end (now (s .args .block)) (s .args .used) (at .loop .n) (at .loop .i) (linesAt (now (s .args .lines)) (s .args .count)) (at .loop .lines) go (c .loop-test .left);
       many = λ h. absurd (omega (arith, h, go .few));
     }
 
