@@ -1,8 +1,9 @@
 -- A row put into its block: the cases of `putRowOf`, each from the facts that its tests give.
 use Prim.Native.Nat.{ℕ, _/_, _≤_, _<_}
 use mathlib.Core.Path.{_≡_}
-use mathlib.Core.Bool.{true, false}
+use mathlib.Core.Bool.{Bool, true, false, _&&_}
 use mathlib.Core.List.{List}
+use lib.Dec.{eqb}
 use lib.ListN.{length}
 use borrow.Author.Tests.{eq-eqb, ne-eqb, lt-ltb, le-ltb}
 use Rattle.refusal.specs.Number.{numberOf}
@@ -14,6 +15,11 @@ use Rattle.layout.specs.Block.{cellsPerBlock, blockLength}
 use Rattle.archive_model.specs.Row.{Row}
 use Rattle.archive_model.specs.Buffer.{maxRows}
 use Rattle.archive_model.specs.Append.{refusedAppend, stored, isNext, putRow, putRowOf}
+
+-- what `is_next` says of the bytes of a block
+pub next-told : (n : ℕ) (block : List ℕ) {b : Bool} → length block ≡ blockLength → eqb (length block) blockLength && isNext n block ≡ b
+    → isNext n block ≡ b
+next-told n block h e = rw (eq-eqb (length block) blockLength h) at e
 
 module _ (block : List ℕ) (n : ℕ) (r : Row) where
   pub put-size : (length block ≡ blockLength → ⊥) → refusedAppend (numberOf Size) 0 block ≡ putRowOf block n r

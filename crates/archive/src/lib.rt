@@ -7,7 +7,7 @@ use layout::CELLS_PER_BLOCK;
 use layout::HEADER_LENGTH;
 use refusal::Refusal;
 ghost use mathlib.Core.Path.{_≡_};
-ghost use mathlib.Core.Bool.{true};
+ghost use mathlib.Core.Bool.{true, _&&_};
 ghost use Prim.Native.Nat.{_+_, _-_, _*_, _/_, _≤_, _<_};
 ghost use lib.Dec.{eqb};
 ghost use lib.ListN.{length};
@@ -117,7 +117,7 @@ fn cell_at(block: &[u8], i: usize) -> &[u8]
 }
 
 // Bytes 30 and 31 of a row as one number.
-fn last_of(loose: bool) -> u16
+pub fn last_of(loose: bool) -> u16
     ensures { λ r. ⌜ r ≡ rowLast loose ⌝ }
 {
     if loose {
@@ -398,11 +398,13 @@ fn rows_found(stage: Stage, rows: usize) -> Opened
     }
 }
 
-// Whether a block's first five bytes say that row `n` is the next.
-fn is_next(block: &[u8], n: usize) -> bool
-    requires { ⌜ length (now block) ≡ blockLength ⌝ }
-    ensures { λ r. ⌜ r ≡ calls.isNext n (now (block .entry)) ⌝ }
+// Whether these are the bytes of a block, and the first five say that row `n` is the next.
+pub fn is_next(block: &[u8], n: usize) -> bool
+    ensures { λ r. ⌜ r ≡ (eqb (length (now (block .entry))) blockLength && calls.isNext n (now (block .entry))) ⌝ }
 {
+    if block.len() != BLOCK_LENGTH {
+        return false;
+    }
     let used = n % CELLS_PER_BLOCK;
     if used == 0 {
         return layout::is_blank(&block[0..5]);

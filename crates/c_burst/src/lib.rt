@@ -183,7 +183,7 @@ fn take_frame<'a>(
     next
 }
 
-// The kind and the number of an answer, and the frame of what is sent.
+// The kind and the number of an answer, and the frame of what is sent: its length is known, so that it is copied at once.
 fn put_reply(reply: &mut [u8], answer: Answer, len: usize, sent: &[u8; Collector::MAX_LEN])
     requires { ⌜ (length (now reply) ≡ replyLength) × (len ≤ maxLength) ⌝ }
     ensures { λ _. ⌜ now (reply .exit)
@@ -191,7 +191,8 @@ fn put_reply(reply: &mut [u8], answer: Answer, len: usize, sent: &[u8; Collector
 {
     reply[0] = c_collector::kind_of(answer);
     reply[1] = c_collector::number_of(answer);
-    c_layout::put_frame(&mut reply[2..REPLY_LENGTH], len as u8, sent);
+    reply[2] = len as u8;
+    bytes::copy(sent, &mut reply[3..REPLY_LENGTH]);
 }
 
 // The bytes that a frame hands over: none where its length is over 21, which the check answers alike.

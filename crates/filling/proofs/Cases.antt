@@ -25,7 +25,7 @@ use Rattle.archive_model.specs.Row.{Row, isRow}
 use Rattle.archive_model.specs.Buffer.{maxRows}
 use Rattle.archive_model.specs.Append.{refusedAppend, stored, isNext, noRow}
 use Rattle.filling.specs.Fill.{rowLength, rowsGiven, putRows, checkRows, putRowsOf, putRowsGiven}
-use Rattle.filling.specs.Calls.{isGiven}
+use Rattle.filling.specs.Private.{isGiven}
 use Rattle.filling.proofs.Records.{rows-count}
 
 -- ---- the lengths

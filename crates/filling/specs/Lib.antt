@@ -1,3 +1,4 @@
 pub mod Fill
 pub mod Calls
+pub mod Private
 pub mod Claims

@@ -9,20 +9,18 @@ use layout::CELLS_PER_BLOCK;
 use layout::HEADER_LENGTH;
 use refusal::Refusal;
 ghost use mathlib.Core.Path.{_≡_};
-ghost use mathlib.Core.Bool.{true, not};
+ghost use mathlib.Core.Bool.{true};
 ghost use mathlib.Core.List.{map, flatten};
-ghost use Prim.Native.Nat.{_+_, _*_, _%_, _<_};
-ghost use lib.Dec.{eqb};
+ghost use Prim.Native.Nat.{_*_};
 ghost use lib.ListN.{length};
 ghost use Rattle.lists.specs.Lists.{all};
 ghost use Rattle.refusal.specs.Number.{numberOf};
 ghost use Rattle.erp1.specs.Subtelegram.{checkOf, checkedNumber};
 ghost use Rattle.layout.specs.Cell.{cellLength};
-ghost use Rattle.layout.specs.Block.{blockLength};
-ghost use Rattle.archive_model.specs.Row.{rowLast, rowCell, isRow};
-ghost use Rattle.archive_model.specs.Append.{isNext};
+ghost use Rattle.archive_model.specs.Row.{rowCell, isRow};
 ghost use Rattle.filling.specs.Fill.{rowLength, rowGiven, rowsGiven, checkRows, putRows, putRowsGiven};
-ghost use Rattle.filling.specs.Calls.{putRowsResult, verdictOf, isGiven, Ready};
+ghost use Rattle.filling.specs.Calls.{putRowsResult, verdictOf};
+ghost use Rattle.filling.specs.Private.{isGiven, Ready};
 
 // A row but its time: a byte that is not 0 for LOOSE, its length, and 21 bytes.
 pub const ROW_LENGTH: usize = 2 + CELL_CAPACITY;
@@ -47,16 +45,6 @@ fn check_record(given: &[u8]) -> Checked
     erp1::check(&given[2..2 + len])
 }
 
-// Bytes 30 and 31 of a row as one number.
-fn last_of(flag: u8) -> u16
-    ensures { λ r. ⌜ r ≡ rowLast (not (eqb flag 0)) ⌝ }
-{
-    if flag == 0 {
-        return 0;
-    }
-    256
-}
-
 // The cell of the row of a record.
 fn put_record(cell: &mut [u8], time: u64, given: &[u8])
     requires { ⌜ (length (now cell) ≡ cellLength) × (length (now given) ≡ rowLength)
@@ -64,7 +52,7 @@ fn put_record(cell: &mut [u8], time: u64, given: &[u8])
     ensures { λ _. ⌜ now (cell .exit) ≡ rowCell (rowGiven time (now (given .entry))) ⌝ }
 {
     let len = layout::byte_at(given, 1) as usize;
-    let last = last_of(layout::byte_at(given, 0));
+    let last = archive::last_of(layout::byte_at(given, 0) != 0);
     layout::put_cell(cell, time, &given[2..2 + len], last);
 }
 
@@ -118,19 +106,6 @@ fn is_given(block: usize, n: usize, times: usize, rows: usize) -> bool
     rows % ROW_LENGTH == 0
 }
 
-// Whether a block's first five bytes say that row `n` is the next.
-fn is_next(block: &[u8], n: usize) -> bool
-    requires { ⌜ length (now block) ≡ blockLength ⌝ }
-    ensures { λ r. ⌜ r ≡ isNext n (now (block .entry)) ⌝ }
-{
-    let used = n % CELLS_PER_BLOCK;
-    if used == 0 {
-        return layout::is_blank(&block[0..5]);
-    }
-    (layout::read_number(&block[0..4]) == (n / CELLS_PER_BLOCK) as u64)
-        & (layout::byte_at(block, 4) as usize == used)
-}
-
 // The cells from row `n` on, the header with the count of all rows, and the CRC; the other cells are as they were.
 fn write_rows(block: &mut [u8], n: usize, times: &[u64], rows: &[u8])
     requires { ⌜ Ready (now block) n (now times) (now rows) ⌝ }
@@ -159,7 +134,7 @@ pub fn put_rows(block: &mut [u8], n: usize, times: &[u64], rows: &[u8]) -> Fille
     if !is_given(block.len(), n, count, rows.len()) {
         return refused(Refusal::Size, 0);
     }
-    if !is_next(block, n) {
+    if !archive::is_next(block, n) {
         return refused(Refusal::Mismatch, n / CELLS_PER_BLOCK);
     }
     let checked = check_rows(times, rows);

@@ -6,8 +6,8 @@ use c_report::NUMBERS;
 ghost use mathlib.Core.Path.{_≡_};
 ghost use Rattle.report_model.specs.Report as model;
 ghost use Rattle.report_model.specs.Pieces as pieces;
-ghost use Rattle.c_report.specs.Calls.{reportAt, lineCall};
-ghost use Rattle.c_pieces.specs.Adding.{addingAt};
+ghost use Rattle.c_report.specs.Calls.{reportAt, Adds, lineCall};
+ghost use Rattle.c_pieces.specs.Adding.{addingAt, Feeds};
 
 // A report of no archive.
 #[no_mangle]
@@ -17,7 +17,7 @@ pub extern "C" fn mooringeye_report_empty(numbers: &mut [u64; NUMBERS], lines: &
     c_report::empty(numbers, lines);
 }
 
-// Adds the rows of an archive.
+// Adds the rows of an archive. Beside a refusal every number of the report is as it was.
 #[no_mangle]
 pub extern "C" fn mooringeye_report_add(
     numbers: &mut [u64; NUMBERS],
@@ -25,8 +25,9 @@ pub extern "C" fn mooringeye_report_add(
     buffer: &[u8],
     position: &mut usize,
 ) -> u8
-    ensures { λ r. ⌜ model.answer r (now (position .exit)) (reportAt (now (numbers .exit)) (now (lines .exit)))
-        ≡ model.addOf (reportAt (now (numbers .entry)) (now (lines .entry))) (now (buffer .entry)) ⌝ }
+    ensures { λ r. ⌜ Adds (model.addOf (reportAt (now (numbers .entry)) (now (lines .entry))) (now (buffer .entry)))
+        (now (numbers .entry)) (now (lines .entry)) r (now (position .exit)) (now (numbers .exit))
+        (now (lines .exit)) ⌝ }
 {
     c_report::add(numbers, lines, buffer, position)
 }
@@ -75,7 +76,7 @@ pub extern "C" fn mooringeye_report_start(
     adding::start(numbers, lines, adding, tally);
 }
 
-// The next piece of an archive that is added.
+// The next piece of an archive that is added. Beside a refusal every number is as it was.
 #[no_mangle]
 pub extern "C" fn mooringeye_report_feed(
     numbers: &[u64; NUMBERS],
@@ -84,15 +85,16 @@ pub extern "C" fn mooringeye_report_feed(
     tally: &mut [u64; LINES],
     piece: &[u8],
 ) -> u8
-    ensures { λ r. ⌜ pieces.fed r
-        (addingAt (now (numbers .entry)) (now (lines .entry)) (now (adding .exit)) (now (tally .exit)))
-        ≡ pieces.feedOf (addingAt (now (numbers .entry)) (now (lines .entry)) (now (adding .entry))
-        (now (tally .entry))) (now (piece .entry)) ⌝ }
+    ensures { λ r. ⌜ Feeds
+        (pieces.feedOf (addingAt (now (numbers .entry)) (now (lines .entry)) (now (adding .entry)) (now (tally .entry)))
+        (now (piece .entry)))
+        (now (numbers .entry)) (now (lines .entry)) (now (adding .entry)) (now (tally .entry))
+        r (now (adding .exit)) (now (tally .exit)) ⌝ }
 {
     adding::feed(numbers, lines, adding, tally, piece)
 }
 
-// All pieces added as one archive.
+// All pieces added as one archive. Beside a refusal every number of the report is as it was.
 #[no_mangle]
 pub extern "C" fn mooringeye_report_end(
     numbers: &mut [u64; NUMBERS],
@@ -101,9 +103,11 @@ pub extern "C" fn mooringeye_report_end(
     tally: &[u64; LINES],
     position: &mut usize,
 ) -> u8
-    ensures { λ r. ⌜ model.answer r (now (position .exit)) (reportAt (now (numbers .exit)) (now (lines .exit)))
-        ≡ pieces.endedOf (addingAt (now (numbers .entry)) (now (lines .entry)) (now (adding .entry))
-        (now (tally .entry))) ⌝ }
+    ensures { λ r. ⌜ Adds
+        (pieces.endedOf (addingAt (now (numbers .entry)) (now (lines .entry)) (now (adding .entry))
+        (now (tally .entry))))
+        (now (numbers .entry)) (now (lines .entry)) r (now (position .exit)) (now (numbers .exit))
+        (now (lines .exit)) ⌝ }
 {
     adding::end(numbers, lines, adding, tally, position)
 }

@@ -7,7 +7,7 @@ use denote.Ref.{now}
 use Rattle.erp1.proofs.Checks.{told-valid, told-refused, check-facts}
 use Rattle.archive_model.specs.Append.{stored, isNext}
 use Rattle.archive.specs.Archive.{rowOf}
-use Rattle.archive.proofs.Puts.{put-size, put-far, put-other, put-invalid, put-done}
+use Rattle.archive.proofs.Puts.{next-told, put-size, put-far, put-other, put-invalid, put-done}
 use Rattle.archive.proofs.put_row.Statement.{statement}
 use Rattle.archive.proofs.put_row.Tie as tie
 
@@ -26,10 +26,12 @@ other : tie.Need-returns-3
 other c =
     let e = c .before .before .before in
     let a = e .before .before .before .before .args in
-    put-other (now (a .block)) (a .n) (rowOf (now (a .bytes)) (a .time) (a .loose)) (e .before .if1 .left) (e .if2 .left) (sym (c .before .is-next .ensures) ∙ not-true _ (c .if3 .taken))
+    put-other (now (a .block)) (a .n) (rowOf (now (a .bytes)) (a .time) (a .loose)) (e .before .if1 .left) (e .if2 .left) (next-told (a .n) (now (a .block)) (e .before .if1 .left) (sym (c .before .is-next .ensures) ∙ not-true _ (c .if3 .taken)))
 
 next : (c : tie.Else3) → isNext (c .before .before .before .before .before .before .before .args .n) (now (c .before .before .before .before .before .before .before .args .block)) ≡ true
-next c = sym (c .before .is-next .ensures) ∙ not-false _ (c .if3 .left)
+next c =
+    let a = c .before .before .before .before .before .before .before .args in
+    next-told (a .n) (now (a .block)) (c .before .before .before .before .if1 .left) (sym (c .before .is-next .ensures) ∙ not-false _ (c .if3 .left))
 
 invalid : tie.Need-returns-4
 invalid c =

@@ -1,12 +1,15 @@
 -- `c_burst::put_reply` meets its contract: a step for each byte that is stored, and for the part that is lent.
-use mathlib.Core.Path.{_≡_, _∙_}
+use mathlib.Core.Path.{_≡_, refl, sym, ap₂, _∙_}
+use mathlib.Core.List.{_++_, append-nil}
 use native.Mathlib.Omega.{arith}
 use borrow.Author.Needs.{needs}
 use denote.Ref.{now}
-use lib.ListN.{length}
+use lib.ListN.{length, drop-of-length-le}
+use lib.Seq.{take-all}
+use Rattle.erp1.specs.Subtelegram.{maxLength}
 use Rattle.buffers.proofs.Segments.{Writing, packed, begin, begun-length, within, lent, store, lend, done}
-use Rattle.buffers.proofs.Buffer.{overwritten-fits}
-use Rattle.c_layout.specs.Frame.{frameLength, frameBytes}
+use Rattle.buffers.proofs.Buffer.{resized-whole}
+use Rattle.c_layout.specs.Frame.{frameBytes}
 use Rattle.c_burst.specs.Bytes.{replyBytes}
 use Rattle.c_burst.proofs.put_reply.Statement.{statement}
 use Rattle.c_burst.proofs.put_reply.Tie as tie
@@ -16,30 +19,40 @@ long : (c : tie.Start) → length (now (c .args .reply)) ≡ 24
 long c = c .pre .0
 
 -- what is written, after each step
-abbrev answered : tie.After-number-of → Writing 2
-answered c =
+abbrev headed : tie.After-number-of → Writing 3
+headed c =
     let s = c .before .before .before in
     packed
+    (store
     (store (store (begin (now (s .args .reply))) (c .before .kind-of .result) (omega (arith, long s))) (c .number-of .result)
     (omega (arith, long s)))
+    (s .args .len)
+    (omega (arith, long s)))
 
-abbrev replied : tie.After-put-frame → Writing 24
+-- what is sent has 21 bytes
+sized : (c : tie.After-copy-arg) → length (now (c .before .before .before .before .args .sent)) ≡ maxLength
+sized c = c .copy-arg .given .0
+
+abbrev replied : tie.After-copy → Writing 24
 replied c =
     let at = c .before .before .before in
     let s = at .before .before .before in
+    let sent = now (s .args .sent) in
+    let place = lent (headed at .begun) 21 24 (omega arith) (omega (arith, long s)) in
     packed
-    (lend (answered at .begun) _ (frameBytes (s .args .len) (now (s .args .sent))) 24
-    (c .put-frame .ensures ∙ overwritten-fits frameLength _ _ (lent (answered at .begun) 22 24 (omega arith) (omega (arith, long s))))
-    (c .put-frame .kept .0)
+    (lend (headed at .begun) _ sent 24
+    (c .copy .ensures .1 ∙ ap₂ _++_ (take-all (length sent) sent (omega arith)) (drop-of-length-le _ {i = length sent} (omega (arith, place, sized (c .before .before)))) ∙ append-nil sent)
+    (c .copy .kept .1 .0)
     (omega arith)
     (omega (arith, long s)))
 
 returns : tie.Need-returns
-unfolding replyBytes
+unfolding replyBytes frameBytes
 returns c =
     let put = c .before .before in
     let at = put .before .before .before in
-    rw (done (replied put .begun) (long (at .before .before .before)), at .before .kind-of .ensures, at .number-of .ensures)
+    let s = at .before .before .before in
+    rw (done (replied put .begun) (long s), at .before .kind-of .ensures, at .number-of .ensures, resized-whole maxLength (now (s .args .sent)) (sized (put .before .before)))
 
 pub put-reply-spec : {M : Type 1} → statement M
 put-reply-spec =
@@ -51,8 +64,9 @@ put-reply-spec =
     (λ c. search needs)
     (λ c. search needs)
     (λ c. search needs)
-    (λ c. within (answered c .begun) 24 (omega (arith, long (c .before .before .before))))
     (λ c. search needs)
+    (λ c. search needs)
+    (λ c. within (headed (c .before) .begun) 24 (omega (arith, long (c .before .before .before .before))))
     (λ c κs. search needs)
     (λ c. begun-length (replied (c .before .before) .begun))
     returns)

@@ -14,6 +14,7 @@ use Rattle.archive_model.specs.Row.{Row}
 use Rattle.archive_model.specs.Buffer.{maxRows}
 use Rattle.archive_model.specs.Append.{Verdict, Appended, isNext}
 use Rattle.archive.specs.Archive.{takenNumber}
+use Rattle.archive.proofs.Puts.{next-told}
 use Rattle.filling.specs.Fill.{rowLength, rowsGiven, checkRows}
 use Rattle.filling.proofs.Cases.{given-facts, check-valid, put-size, put-other, put-invalid, put-many, put-done, put-none}
 use Rattle.filling.proofs.put_rows.Statement.{statement}
@@ -48,7 +49,7 @@ abbrev first : tie.Else2 → tie.Else1
 first c = c .before .before .before
 
 next : (c : tie.Else2) → isNext (start (first c .before) .args .n) (block (first c .before)) ≡ true
-next c = sym (c .before .is-next .ensures) ∙ not-false _ (c .if2 .left)
+next c = next-told (start (first c .before) .args .n) (block (first c .before)) (facts (first c) .0) (sym (c .before .is-next .ensures) ∙ not-false _ (c .if2 .left))
 
 abbrev second : tie.After-enum-told2 → tie.Else2
 second c = c .before .before .before
@@ -71,7 +72,7 @@ other c =
     let e = t .before .before .before in
     let g = e .before in
     ap (beside (block g)) (c .refused2 .ensures)
-    ∙ put-other (block g) (start g .args .n) (times g) (records g) (facts e) (sym (t .before .is-next .ensures) ∙ not-true _ (t .if2 .taken))
+    ∙ put-other (block g) (start g .args .n) (times g) (records g) (facts e) (next-told (start g .args .n) (block g) (facts e .0) (sym (t .before .is-next .ensures) ∙ not-true _ (t .if2 .taken)))
 
 invalid : tie.Need-returns-3
 invalid c =
@@ -131,7 +132,7 @@ put-rows-spec =
     (λ c κs. search needs)
     (λ c κs. search needs)
     size
-    (λ c κs. facts (c .before) .0)
+    (λ c κs. search needs)
     (λ c κs. search needs)
     (λ c. search needs)
     other

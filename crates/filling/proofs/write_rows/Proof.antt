@@ -14,7 +14,7 @@ use Rattle.layout.specs.Block.{headerLength, cellsPerBlock, bodyLength, sealed}
 use Rattle.layout.proofs.Block.{seal-front}
 use Rattle.archive_model.specs.Row.{rowCell, rowsHeader}
 use Rattle.filling.specs.Fill.{rowsGiven, putRows}
-use Rattle.filling.specs.Calls.{Ready}
+use Rattle.filling.specs.Private.{Ready}
 use Rattle.filling.proofs.Records.{rows-count}
 use Rattle.filling.proofs.Together.{together, put-together}
 use Rattle.filling.proofs.write_rows.Statement.{statement}
