@@ -137,6 +137,7 @@ impl Appender {
     }
 
     /// Appends a row, of which a frame says the telegram. It waits.
+    #[inline]
     pub fn append(&mut self, frame: &[u8; FRAME], time: u64, loose: bool) -> Result<(), Failure> {
         if self.rows.is_multiple_of(ROWS) {
             self.begin_block()?;
@@ -150,6 +151,7 @@ impl Appender {
     }
 
     /// Behind a full block, and before the first one.
+    #[inline(never)]
     fn begin_block(&mut self) -> Result<(), Failure> {
         self.put_rows()?;
         if self.is_changed {

@@ -1,6 +1,6 @@
 //! Lines that are handed to the collector in one call: the library tests the state once for up to 256 receptions.
 use crate::failure::Failure;
-use crate::lines::{self, Before, Reception, FRAME_ROOM, WINDOW};
+use crate::lines::{self, Before, Reception, AT_A_TIME, FRAME_ROOM, WINDOW};
 use mooringeye::Collector;
 
 /// The bytes of a frame: a length and 21 bytes.
@@ -35,12 +35,16 @@ impl Taken<'_> {
 /// Lines that were read, and what the collector said of them.
 pub struct Burst {
     lines: Vec<Line>,
+    /// The first of them that ends in CR LF, and so is BAD.
+    cr_lf: Option<usize>,
     /// When each reception was complete, its frame, and the reply to it.
     moments: Vec<u64>,
     records: Vec<u8>,
     replies: Vec<u8>,
     /// What the last time says of the next one.
     before: Before,
+    /// Where the lines end.
+    ends: Vec<usize>,
 }
 
 impl Default for Burst {
@@ -48,36 +52,46 @@ impl Default for Burst {
         let most = Collector::MAX_BURST;
         Burst {
             lines: Vec::with_capacity(most),
+            cr_lf: None,
             moments: Vec::with_capacity(most),
             records: vec![0; most * FRAME + FRAME_ROOM],
             replies: vec![0; most * REPLY],
             before: Before::default(),
+            ends: vec![0; most + AT_A_TIME],
         }
     }
 }
 
 impl Burst {
-    /// Reads at most so many lines of a text, from one that starts there on, in the place of those it had. Answers where the next one starts.
+    /// Reads at most so many lines of a text that ends with a newline, from one that starts there on, in the place of those it had. Answers where the
+    /// next one starts.
     pub fn read(&mut self, text: &[u8], start: usize, most: usize) -> usize {
         self.lines.clear();
         self.moments.clear();
+        self.cr_lf = None;
+        let count = lines::find_ends(text, start, most.min(Collector::MAX_BURST), &mut self.ends);
         let mut start = start;
-        while start < text.len() && self.lines.len() < most.min(Collector::MAX_BURST) {
+        for end in &self.ends[..count] {
             // What is written behind a frame stands where the next one is written.
             let frame = self.records[FRAME * self.moments.len()..].first_chunk_mut().expect("room for each frame");
             let found = match text[start..].first_chunk() {
                 Some(line) => lines::reception(line, &mut self.before, frame),
                 None => last_reception(&text[start..], frame),
             };
-            let (width, length) = match found {
+            let width = match found {
                 Some(reception) => {
                     self.moments.push(reception.time);
-                    (reception.width, reception.length())
+                    reception.width
                 }
-                None => (0, lines::length(&text[start..])),
+                None => {
+                    if text[start..*end].ends_with(b"\r") {
+                        self.cr_lf.get_or_insert(self.lines.len());
+                    }
+                    0
+                }
             };
             self.lines.push(Line { start, width });
-            start += length;
+            start = end + 1;
         }
         start
     }
@@ -91,6 +105,10 @@ impl Burst {
 
     pub fn lines(&self) -> &[Line] {
         &self.lines
+    }
+
+    pub fn cr_lf(&self) -> Option<usize> {
+        self.cr_lf
     }
 
     /// The receptions, in the order of their lines.
@@ -120,6 +138,7 @@ impl Burst {
 
 /// The line at the start of a text that ends soon behind it.
 #[cold]
+#[inline(never)]
 fn last_reception(text: &[u8], frame: &mut [u8; FRAME_ROOM]) -> Option<Reception> {
     let mut line = [0; WINDOW];
     line[..text.len()].copy_from_slice(text);

@@ -257,8 +257,8 @@ impl Run {
             (Some(said), _) => self.level = Some(said),
             (None, Some(_)) => return Ok(0),
             (None, None) => {
-                if is_cr_lf(text) {
-                    self.tell_cr(self.read);
+                if text[..used].ends_with(b"\r\n") {
+                    self.tell_cr(0);
                 }
                 return Err(Failure::Usage("without --level the first line is `level 0`, `level 1` or `level 2`".into()));
             }
@@ -287,19 +287,20 @@ impl Run {
                 store.append(row.frame, row.time, row.is_loose())?;
             }
         }
-        let (before, count) = (self.read, self.burst.lines().len() as u64);
-        if let Some(at) = self.burst.lines().iter().position(|line| line.width == 0 && is_cr_lf(&text[line.start..])) {
-            self.tell_cr(before + at as u64);
+        if let Some(at) = self.burst.cr_lf() {
+            self.tell_cr(at as u64);
         }
+        let count = self.burst.lines().len() as u64;
         self.read += count;
         self.state.lines += count;
         Ok(())
     }
 
-    fn tell_cr(&mut self, before: u64) {
+    /// Says once that a line ends in CR LF, so many behind those that were read.
+    fn tell_cr(&mut self, behind: u64) {
         if !self.told_cr {
             self.told_cr = true;
-            tell(format!("line {} ends in CR LF: a carriage return is no hexadecimal digit, so such lines are BAD", before + 1));
+            tell(format!("line {} ends in CR LF: a carriage return is no hexadecimal digit, so such lines are BAD", self.read + behind + 1));
         }
     }
 
@@ -324,11 +325,6 @@ impl Run {
         tell(totals);
         Ok(())
     }
-}
-
-/// Whether the line at the start of a text ends in CR LF.
-fn is_cr_lf(text: &[u8]) -> bool {
-    text[..lines::length(text)].ends_with(b"\r\n")
 }
 
 /// The state of a file, and whether it is a new one.

@@ -1,5 +1,5 @@
-//! Digits many at a time: hexadecimal ones sixteen at once by SSE2, decimal ones eight at once in a word. `sys` has the former as functions that can be
-//! called anywhere.
+//! Characters many at a time: hexadecimal digits sixteen at once and newlines by SSE2, decimal digits eight at once in a word. `sys` has those by SSE2
+//! as functions that can be called anywhere.
 use std::arch::x86_64::*;
 
 /// The bytes that characters say as hexadecimal digits of either case, and a bit for each character that is such a digit, the first one lowest.
@@ -38,6 +38,15 @@ pub fn digits_of_bytes(bytes: [u8; 8]) -> [u8; 16] {
     out
 }
 
+/// A bit for each character that is a newline, the first one lowest.
+#[target_feature(enable = "sse2")]
+#[inline]
+pub fn newlines(characters: &[u8; 64]) -> u64 {
+    let (sixteens, _) = characters.as_chunks();
+    let found = |sixteen| _mm_movemask_epi8(_mm_cmpeq_epi8(load(sixteen), _mm_set1_epi8(b'\n' as i8))) as u64;
+    sixteens.iter().rev().fold(0, |behind, sixteen| behind << 16 | found(sixteen))
+}
+
 #[target_feature(enable = "sse2")]
 #[inline]
 fn load(bytes: &[u8; 16]) -> __m128i {
@@ -72,7 +81,7 @@ pub fn number_of_digits(characters: [u8; 8], count: usize) -> u64 {
 #[cfg(test)]
 mod tests {
     use super::{leading_digits, number_of_digits};
-    use crate::sys::{bytes_of_digits, digits_of_bytes};
+    use crate::sys::{bytes_of_digits, digits_of_bytes, newlines};
     use crate::text::{bytes_of_hex, put_hex};
 
     #[test]
@@ -89,6 +98,18 @@ mod tests {
                     assert_eq!(Some(bytes.to_vec()), bytes_of_hex(text));
                 }
             }
+        }
+    }
+
+    #[test]
+    fn every_newline() {
+        for place in 0..64 {
+            for character in 0..=u8::MAX {
+                let mut characters = [b'\n' ^ 0x80; 64];
+                characters[place] = character;
+                assert_eq!(newlines(&characters), u64::from(character == b'\n') << place);
+            }
+            assert_eq!(newlines(&[b'\n'; 64]), u64::MAX);
         }
     }
 

@@ -1,6 +1,6 @@
 //! The lines that a collector reads (docs/FORMATS.md, "Text of `collect`").
 use crate::digits::{leading_digits, number_of_digits};
-use crate::sys::bytes_of_digits;
+use crate::sys::{bytes_of_digits, newlines};
 
 /// The most bytes that a line carries.
 pub const MAX_BYTES: usize = 64;
@@ -29,13 +29,6 @@ pub struct Reception {
     pub width: usize,
     /// How many bytes were received.
     pub count: usize,
-}
-
-impl Reception {
-    /// How long the line is, its newline included.
-    pub fn length(&self) -> usize {
-        self.width + 1 + 2 * self.count + 1
-    }
 }
 
 /// Reads the line at the start of a text that holds its newline. How many bytes it says and the first of them go to `frame`; what stands behind them
@@ -128,6 +121,40 @@ fn time(line: &[u8; WINDOW]) -> Option<(u64, usize)> {
     (width == 1 || width > 1 && line[0] != b'0').then_some((value, width))
 }
 
+/// Where the lines of a text end, from one that starts there on: the places of at most so many newlines, and how many they are. What stands behind
+/// these in `ends` is left to chance. So that a line can be read before the one before it is.
+pub fn find_ends(text: &[u8], start: usize, most: usize, ends: &mut [usize]) -> usize {
+    let (mut at, mut count) = (start, 0);
+    while count < most && at < text.len() {
+        let mut found = match text[at..].first_chunk() {
+            Some(characters) => newlines(characters),
+            None => last_newlines(&text[at..]),
+        };
+        // One or two lines end in most 64 characters: two are noted without a branch.
+        while found != 0 {
+            for _ in 0..2 {
+                ends[count] = at + found.trailing_zeros() as usize;
+                count += usize::from(found != 0);
+                found &= found.wrapping_sub(1);
+            }
+        }
+        at += AT_A_TIME;
+    }
+    count.min(most)
+}
+
+/// The characters that are searched for newlines at once; so many places more than lines are asked for are written.
+pub const AT_A_TIME: usize = 64;
+
+/// The newlines of a text that is shorter.
+#[cold]
+#[inline(never)]
+fn last_newlines(text: &[u8]) -> u64 {
+    let mut characters = [0; AT_A_TIME];
+    characters[..text.len()].copy_from_slice(text);
+    newlines(&characters)
+}
+
 /// How long the line at the start of a text is, its newline included; all of a text without one.
 pub fn length(text: &[u8]) -> usize {
     text.iter().position(|c| *c == b'\n').map_or(text.len(), |at| at + 1)
@@ -176,8 +203,8 @@ mod tests {
         for mut before in befores(&window) {
             let mut frame = [0xEE; FRAME_ROOM];
             let found = reception(&window, &mut before, &mut frame);
-            let told = found.map(|r| (r.time, r.width, r.count, r.length()));
-            assert_eq!(told, expected.as_ref().map(|(time, width, bytes)| (*time, *width, bytes.len(), line.len() + 1)));
+            let told = found.map(|r| (r.time, r.width, r.count));
+            assert_eq!(told, expected.as_ref().map(|(time, width, bytes)| (*time, *width, bytes.len())));
             if let Some((_, _, bytes)) = &expected {
                 let most = bytes.len().min(AT_ONCE);
                 assert_eq!((usize::from(frame[0]), &frame[1..1 + most]), (bytes.len(), &bytes[..most]));
@@ -250,6 +277,20 @@ mod tests {
         for (text, expected) in [("18446744073709551615", Some(u64::MAX)), ("18446744073709551616", None), ("18446744073709551620", None)] {
             assert_eq!(read(&format!("{text} ")), expected.map(|time| (time, vec![])));
         }
+    }
+
+    #[test]
+    fn ends() {
+        let text: Vec<u8> = (0..300).flat_map(|i| [vec![b'x'; i * i % 83], vec![b'\n'; i % 3]].concat()).collect();
+        for start in [0, 1, 63, 64, 100, text.len() - 1, text.len()] {
+            let places: Vec<usize> = (start..text.len()).filter(|at| text[*at] == b'\n').collect();
+            for most in [0, 1, 2, 7, 256] {
+                let mut ends = [0; 256 + AT_A_TIME];
+                let count = find_ends(&text, start, most, &mut ends);
+                assert_eq!(ends[..count], places[..most.min(places.len())]);
+            }
+        }
+        assert_eq!(find_ends(&[b'\n'; 1_000], 0, 256, &mut [0; 256 + AT_A_TIME]), 256);
     }
 
     #[test]

@@ -85,25 +85,29 @@ pub fn put_burst(out: &mut Printed, format: Format, text: &[u8], burst: &Burst) 
 fn put_texts(out: &mut Printed, text: &[u8], burst: &Burst) {
     out.make_room(TEXT_ROOM * burst.lines().len());
     let mut taken = burst.taken();
+    let mut end = out.end;
     for line in burst.lines() {
-        let room = out.room[out.end..].first_chunk_mut().expect("room for each row");
-        out.end += match line.width {
+        let room = out.room[end..].first_chunk_mut().expect("room for each row");
+        end += match line.width {
             0 => put_at(room, 0, b"BAD\n"),
             width => {
-                put_time(room, &text[line.start..]);
+                match text[line.start..].first_chunk::<20>() {
+                    Some(front) => put_at(room, 0, front),
+                    None => put_last(room, &text[line.start..]),
+                };
                 put_text(room, width, &taken.next().expect("a reception for each right line"))
             }
         };
     }
+    out.end = end;
 }
 
-/// The time at the start of a line, and what stands behind it.
-#[inline]
-fn put_time(room: &mut [u8; TEXT_ROOM], line: &[u8]) {
-    match line.first_chunk::<20>() {
-        Some(front) => room[..20].copy_from_slice(front),
-        None => room[..line.len()].copy_from_slice(line),
-    }
+/// A line that ends before the longest time would.
+#[cold]
+#[inline(never)]
+fn put_last(room: &mut [u8; TEXT_ROOM], line: &[u8]) -> usize {
+    room[..line.len()].copy_from_slice(line);
+    line.len()
 }
 
 /// What stands behind the time of a row, and the row's length.
@@ -119,10 +123,15 @@ fn put_text(room: &mut [u8; TEXT_ROOM], width: usize, row: &Taken) -> usize {
         0 => end + 1,
         count => {
             let digits = put_at(room, end, b" SEND ");
-            // Eight bytes at once; the last eight of 21 meet the second.
-            for first in [0, 8, 13] {
+            // Eight bytes at once; the last eight of 21 meet those before them.
+            let mut put = |first: usize| {
                 let bytes = row.sent[1 + first..].first_chunk().expect("eight of 21 bytes");
                 put_at(room, digits + 2 * first, &digits_of_bytes(*bytes));
+            };
+            put(0);
+            put(8);
+            if count > 16 {
+                put(13);
             }
             put_at(room, digits + 2 * count, b"\n")
         }

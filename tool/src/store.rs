@@ -135,6 +135,7 @@ impl Store {
         self.file.rows()
     }
 
+    #[inline]
     pub fn append(&mut self, frame: &[u8; FRAME], time: u64, loose: bool) -> Result<(), Failure> {
         if self.file.is_full() {
             self.next_file()?;

@@ -1,4 +1,4 @@
-//! The few functions of the C library that std lacks, and two that use SSE2. This is the only module with `unsafe`.
+//! The few functions of the C library that std lacks, and three that use SSE2. This is the only module with `unsafe`.
 //!
 //! - `signal`: std has no signals, and the collector must end in order at SIGTERM, SIGINT and SIGHUP;
 //! - `write`: the one thing that a handler may do to wake the program;
@@ -150,4 +150,11 @@ pub fn bytes_of_digits(characters: &[u8; 16]) -> ([u8; 8], u16) {
 pub fn digits_of_bytes(bytes: [u8; 8]) -> [u8; 16] {
     // SAFETY: every x86-64 processor has SSE2.
     unsafe { digits::digits_of_bytes(bytes) }
+}
+
+/// Which of 64 characters are newlines (`digits::newlines`).
+#[inline]
+pub fn newlines(characters: &[u8; 64]) -> u64 {
+    // SAFETY: every x86-64 processor has SSE2.
+    unsafe { digits::newlines(characters) }
 }
