@@ -1,5 +1,5 @@
 -- What is done with a burst, by each test.
-use mathlib.Core.Path.{_≡_, refl, sym, _∙_}
+use mathlib.Core.Path.{_≡_, sym, _∙_}
 use mathlib.Core.Bool.{Bool, true, false}
 use Prim.Native.Nat.{ℕ, _≤_, _<_}
 use native.Mathlib.Omega.{arith}
@@ -19,24 +19,23 @@ use Rattle.burst.specs.Private.{Planned}
 
 module _ (c : Collector) (setting n m : ℕ) (fit : Bool) (e : fit ≡ acceptable (viewOf c)) (fits : Fits (viewOf c)) where
   abbrev plan : ℕ → Handed → Plan
-  plan count answer = record { fit = fit; count = count; summary = c .summary; answer = answer }
+  plan count answer = record { fit = fit; count = count; answer = answer }
 
   tested : Tested fit (viewOf c)
   tested = record { said = e; fits = fits }
 
   pub not-accepted : fit ≡ false → Planned c setting n m (plan 0 (Refused NotAccepted))
   unfolding burstNumber callNumber
-  not-accepted f = record { tested = tested; summary = refl; count = rw (sym e ∙ f); few = omega arith; placed = omega arith; answer = rw (sym e ∙ f) }
+  not-accepted f = record { tested = tested; count = rw (sym e ∙ f); few = omega arith; placed = omega arith; answer = rw (sym e ∙ f) }
 
   pub no-room : fit ≡ true → m < n → Planned c setting n m (plan 0 (Refused ShortOutput))
   unfolding burstNumber callNumber
-  no-room f h = record { tested = tested; summary = refl; count = rw (sym e ∙ f, lt-ltb m n h); few = omega arith; placed = omega arith; answer = rw (sym e ∙ f, lt-ltb m n h) }
+  no-room f h = record { tested = tested; count = rw (sym e ∙ f, lt-ltb m n h); few = omega arith; placed = omega arith; answer = rw (sym e ∙ f, lt-ltb m n h) }
 
   pub too-many : fit ≡ true → n ≤ m → maxBurst < n → Planned c setting n m (plan 0 (Refused Argument))
   unfolding burstNumber callNumber
   too-many f h k = record {
     tested = tested;
-    summary = refl;
     count = rw (sym e ∙ f, le-ltb m n h, lt-ltb maxBurst n k);
     few = omega arith;
     placed = omega arith;
@@ -47,7 +46,6 @@ module _ (c : Collector) (setting n m : ℕ) (fit : Bool) (e : fit ≡ acceptabl
   unfolding burstNumber callNumber
   bad-setting f h k l = record {
     tested = tested;
-    summary = refl;
     count = rw (sym e ∙ f, le-ltb m n h, le-ltb maxBurst n k, lt-ltb maxSetting setting l);
     few = omega arith;
     placed = omega arith;
@@ -58,7 +56,6 @@ module _ (c : Collector) (setting n m : ℕ) (fit : Bool) (e : fit ≡ acceptabl
   unfolding burstNumber callNumber
   all-right f h k l = record {
     tested = tested;
-    summary = refl;
     count = rw (sym e ∙ f, le-ltb m n h, le-ltb maxBurst n k, le-ltb maxSetting setting l);
     few = omega arith;
     placed = omega arith;

@@ -85,7 +85,7 @@ module _ (c : Collector) (setting : ℕ) (rs : List Reception) (ys : List Reply)
         go false = refl
 
   pub whole : {p : Plan} {a : Columns} {s : Summary} {zs : List Reply} (r : Bursted) → Planned c setting (length rs) (length ys) p
-      → Delivered setting (p .fit) (columnsOf c) (p .summary) (p .count) rs ys a s zs → Finished a s (p .answer) r
+      → Delivered setting (p .fit) (columnsOf c) (c .summary) (p .count) rs ys a s zs → Finished a s (p .answer) r
       → Bursts c setting rs ys r zs
   unfolding viewOf
   whole {p} {a} {s} {zs} r k d f = record { result = rw (number-is, replies-is, next-is); stays = stays }
@@ -96,13 +96,9 @@ module _ (c : Collector) (setting : ℕ) (rs : List Reception) (ys : List Reply)
       number-is : handedNumber (r .answer) ≡ burstNumber setting v (length given) (length places)
       number-is = ap handedNumber (f .same) ∙ k .answer ∙ sym same-number
 
-      here : viewIn (columnsOf c) (p .summary) ≡ v
-      here = ap (viewIn (columnsOf c)) (k .summary)
-
       replies-is : map repliedOf zs ≡ repliesTo setting v (taken (burstNumber setting v (length given) (length places)) given) ++ drop (length (taken (burstNumber setting v (length given) (length places)) given)) places
       replies-is =
           d .replied
-          ∙ ap (λ (u : View). replies setting (p .fit) u t ++ map repliedOf (drop (p .count) ys)) here
           ∙ ap (λ (l : List Replied). l ++ map repliedOf (drop (p .count) ys)) (replies-steps setting (p .fit) v t (k .tested) (d .timely))
           ∙ ap (λ (l : List view.Reception). repliesTo setting v l ++ map repliedOf (drop (p .count) ys)) (front (p .count) (k .count))
           ∙ ap (λ (l : List Replied). repliesTo setting v (taken (burstNumber setting v (length given) (length places)) given) ++ l)
@@ -113,7 +109,7 @@ module _ (c : Collector) (setting : ℕ) (rs : List Reception) (ys : List Reply)
 
       next-is : viewOf (r .next) ≡ afterAll v (taken (burstNumber setting v (length given) (length places)) given)
       next-is =
-          made ∙ d .state ∙ ap (λ (u : View). afterTested (p .fit) u t) here ∙ after-steps (p .fit) v t (k .tested) (d .timely)
+          made ∙ d .state ∙ after-steps (p .fit) v t (k .tested) (d .timely)
           ∙ ap (afterAll v) (front (p .count) (k .count))
 
       -- a refused burst takes none
@@ -123,7 +119,7 @@ module _ (c : Collector) (setting : ℕ) (rs : List Reception) (ys : List Reply)
       stays : (handedNumber (r .answer) ≡ 0 → ⊥) → r .next ≡ c
       stays n =
           let same = d .none (taken-none n) in
-          f .next ∙ (λ i. collectorOf (same .0 i) ((same .1 ∙ k .summary) i))
+          f .next ∙ (λ i. collectorOf (same .0 i) (same .1 i))
 
 -- ---- the first places of lists that are held by value
 

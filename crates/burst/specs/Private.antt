@@ -57,7 +57,6 @@ pub record Delivered (setting : ℕ) (fit : Bool) (a : Columns) (s : Summary) (n
 -- what is done with a burst at a setting, of so many receptions and places
 pub record Planned (c : Collector) (setting receptions places : ℕ) (r : Plan) : Type 0 where
   pub tested : Tested (r .fit) (viewOf c)
-  pub summary : r .summary ≡ c .summary
   pub count : r .count ≡ cond (eqb (burstNumber setting (viewOf c) receptions places) 0) receptions 0
   pub few : r .count ≤ receptions
   pub placed : r .count ≤ places

@@ -146,11 +146,10 @@ pub struct Bursted {
     pub answer: Handed,
 }
 
-// What is done with a burst: how many of its receptions are taken, at what state, and the answer.
+// What is done with a burst: what the test of the state said, how many of its receptions are taken, and the answer.
 pub struct Plan {
     pub fit: bool,
     pub count: usize,
-    pub summary: Summary,
     pub answer: Handed,
 }
 
@@ -170,7 +169,7 @@ pub fn burst(c: Collector, setting: u8, receptions: &[Reception], replies: &mut 
         &mut lens,
         &mut entries,
         &mut copies,
-        plan.summary,
+        c.summary,
         setting,
         plan.count,
         receptions,
@@ -184,13 +183,11 @@ fn prepare(c: Collector, setting: u8, receptions: usize, places: usize) -> Plan
 {
     let times = c.times;
     let lens = c.lens;
-    let summary = c.summary;
-    let fit = acceptable::is_acceptable(&times, &lens, &c.bytes, summary);
+    let fit = acceptable::is_acceptable(&times, &lens, &c.bytes, c.summary);
     if !fit {
         return Plan {
             fit: fit,
             count: 0,
-            summary: summary,
             answer: Handed::Refused(Refusal::NotAccepted),
         };
     }
@@ -198,7 +195,6 @@ fn prepare(c: Collector, setting: u8, receptions: usize, places: usize) -> Plan
         return Plan {
             fit: fit,
             count: 0,
-            summary: summary,
             answer: Handed::Refused(Refusal::ShortOutput),
         };
     }
@@ -206,7 +202,6 @@ fn prepare(c: Collector, setting: u8, receptions: usize, places: usize) -> Plan
         return Plan {
             fit: fit,
             count: 0,
-            summary: summary,
             answer: Handed::Refused(Refusal::Argument),
         };
     }
@@ -214,14 +209,12 @@ fn prepare(c: Collector, setting: u8, receptions: usize, places: usize) -> Plan
         return Plan {
             fit: fit,
             count: 0,
-            summary: summary,
             answer: Handed::Refused(Refusal::Argument),
         };
     }
     Plan {
         fit: fit,
         count: receptions,
-        summary: summary,
         answer: Handed::Done,
     }
 }

@@ -231,9 +231,9 @@ module _ {M : Type 1} (𝓤 : URA M) (H : Heap 𝓤) (A : Atoms 𝓤) (mem : Mem
   finished-of a s h r = exE 𝓤 _ (λ ws. snd∗ 𝓤 (sem 𝓤 H A (lasts fin.ended tt (a .times, (a .lens, (a .bytes, (a .copies, (s, (h, tt)))))) ws)) (fact 𝓤 (Finished a s h r)))
 
   -- ---- `deliver`: the four arrays at lifetimes that are made for the call, the two lists at their own
-  module _ (α₀ α₁ α₂ α₃ : ℕ) (κ₀ κ₁ : Lft) (q₀ q₁ : Share) (b₀ b₁ b₂ b₃ : ℕ) (δ₀ δ₁ δ₂ δ₃ : GName) (a : Columns) (p : Plan) (setting : ℕ) (receptions : RefT (List Reception)) (replies : RefT (List Reply)) where
+  module _ (α₀ α₁ α₂ α₃ : ℕ) (κ₀ κ₁ : Lft) (q₀ q₁ : Share) (b₀ b₁ b₂ b₃ : ℕ) (δ₀ δ₁ δ₂ δ₃ : GName) (a : Columns) (s₀ : Summary) (p : Plan) (setting : ℕ) (receptions : RefT (List Reception)) (replies : RefT (List Reply)) where
     abbrev passed : Bool × (RefT (List ℕ) × (RefT (List ℕ) × (RefT (List ℕ) × (RefT (List ℕ) × (Summary × (ℕ × (ℕ × (RefT (List Reception) × (RefT (List Reply) × Unit {0})))))))))
-    passed = (p .fit, (ref-at b₀ δ₀ (a .times), (ref-at b₁ δ₁ (a .lens), (ref-at b₂ δ₂ (a .bytes), (ref-at b₃ δ₃ (a .copies), (p .summary, (setting, (p .count, (receptions, (replies, tt))))))))))
+    passed = (p .fit, (ref-at b₀ δ₀ (a .times), (ref-at b₁ δ₁ (a .lens), (ref-at b₂ δ₂ (a .bytes), (ref-at b₃ δ₃ (a .copies), (s₀, (setting, (p .count, (receptions, (replies, tt))))))))))
 
     abbrev shared-val : List Val
     shared-val = sliceVal (receptions .ptr) (length (receptions .now)) ∷ []
@@ -248,7 +248,7 @@ module _ {M : Type 1} (𝓤 : URA M) (H : Heap 𝓤) (A : Atoms 𝓤) (mem : Mem
         (fullShare, (fullShare, (fullShare, (fullShare, (q₀, (q₁, tt)))))),
         tt,
         passed,
-        (vbool (p .fit) ∷ [], (vptr b₀ 0 ∷ [], (vptr b₁ 0 ∷ [], (vptr b₂ 0 ∷ [], (vptr b₃ 0 ∷ [], (ofSummary (p .summary) ∷ [], (vint w8 setting ∷ [], (vint w64 (p .count) ∷ [], (shared-val, (lent-val, tt)))))))))),
+        (vbool (p .fit) ∷ [], (vptr b₀ 0 ∷ [], (vptr b₁ 0 ∷ [], (vptr b₂ 0 ∷ [], (vptr b₃ 0 ∷ [], (ofSummary s₀ ∷ [], (vint w8 setting ∷ [], (vint w64 (p .count) ∷ [], (shared-val, (lent-val, tt)))))))))),
       ),
       tt,
     )
@@ -266,16 +266,16 @@ module _ {M : Type 1} (𝓤 : URA M) (H : Heap 𝓤) (A : Atoms 𝓤) (mem : Mem
     abbrev arrays : Item 𝓤
     arrays = ‵ (times-at (α₀ ∷ []) b₀ δ₀ (a .times)) ⊛ ‵ (lens-at (α₁ ∷ []) b₁ δ₁ (a .lens)) ⊛ ‵ (entries-at (α₂ ∷ []) b₂ δ₂ (a .bytes)) ⊛ ‵ (copies-at (α₃ ∷ []) b₃ δ₃ (a .copies))
 
-    goes-deliver : (W : Given 𝓤 H A) → IsPlan p → IsLevel setting → (p .count ≤ length (receptions .now)) × (p .count ≤ length (replies .now))
+    goes-deliver : (W : Given 𝓤 H A) → IsSummary s₀ → IsPlan p → IsLevel setting → (p .count ≤ length (receptions .now)) × (p .count ≤ length (replies .now))
         → ent 𝓤 (⋆ 𝓤 H A (alive ∷ arrays ∷ (‵ shared-own ⊛ ‵ lent-own) ∷ [])) (ToDeliver .pre to-deliver)
-    goes-deliver W ip ig fits =
+    goes-deliver W is ip ig fits =
         qed W (alive ∷ arrays ∷ (‵ shared-own ⊛ ‵ lent-own) ∷ []) ∵
         says ! fits $ frame ! $ split ! $ move ! (1 ∷ []) $ split ! $ move ! (1 ∷ []) $ split ! $ move ! (4 ∷ []) $ split ! $
         -- [the first list; the second; entries; copies; lens; times]
         nothing ! $ move ! (2 ∷ 0 ∷ []) $ fjoin ! $ move ! (1 ∷ 0 ∷ []) $ fjoin ! $
         owned ! usize (Is usize) (uint-makes 𝓤 H A W w64) (p .count) _ (LL.owed P.the-type P′.the-laws p _ ip .1 .0) $ fjoin ! $
         owned ! u8 (Is u8) (uint-makes 𝓤 H A W w8) setting _ ig $ fjoin ! $
-        owned ! S.the-row (Is S.the-row) (LL.makes S.the-type S′.the-plain 𝓤 H A) (p .summary) _ (LL.owed P.the-type P′.the-laws p _ ip .1 .1 .0) $
+        owned ! S.the-row (Is S.the-row) (LL.makes S.the-type S′.the-plain 𝓤 H A) s₀ _ is $
         fjoin ! $
         -- [the last five; entries; copies; lens; times]
         move ! (2 ∷ 0 ∷ []) $ fjoin ! $ move ! (1 ∷ 0 ∷ []) $ fjoin ! $ move ! (1 ∷ 0 ∷ []) $ fjoin ! $ move ! (1 ∷ 0 ∷ []) $ fjoin ! $
@@ -420,21 +420,21 @@ module _ {M : Type 1} (𝓤 : URA M) (H : Heap 𝓤) (A : Atoms 𝓤) (W : Given
         move ! (8 ∷ 57 ∷ []) $ join ! $ move ! (9 ∷ 0 ∷ []) $ join ! $ move ! (9 ∷ 0 ∷ []) $ join ! $ move ! (9 ∷ 0 ∷ []) $ join ! $
         -- [all tokens; copies, its lender's part; entries, its; lens, its; times, its; the second list; the first, twice; the locals, at 12]
         move ! (3 ∷ 1 ∷ []) $ join ! $ move ! (4 ∷ 0 ∷ []) $ join ! $ move ! (5 ∷ 0 ∷ []) $ join ! $ move ! (7 ∷ 6 ∷ []) $ join ! $ move ! (2 ∷ 1 ∷ 0 ∷ []) $
-        use3 W (raw (ToDeliver 𝓤 H A mem run .pre (to-deliver 𝓤 H A mem run α₀ α₁ α₂ α₃ κ₀ κ₁ q₀ q₁ l₆ l₇ l₈ l₉ δ₀ δ₁ δ₂ δ₃ (columnsOf c) p setting receptions replies)))
-        (goes-deliver 𝓤 H A mem run α₀ α₁ α₂ α₃ κ₀ κ₁ q₀ q₁ l₆ l₇ l₈ l₉ δ₀ δ₁ δ₂ δ₃ (columnsOf c) p setting receptions replies W (is-plan p w ipw) ig (planned .few, planned .placed)) $
+        use3 W (raw (ToDeliver 𝓤 H A mem run .pre (to-deliver 𝓤 H A mem run α₀ α₁ α₂ α₃ κ₀ κ₁ q₀ q₁ l₆ l₇ l₈ l₉ δ₀ δ₁ δ₂ δ₃ (columnsOf c) (c .summary) p setting receptions replies)))
+        (goes-deliver 𝓤 H A mem run α₀ α₁ α₂ α₃ κ₀ κ₁ q₀ q₁ l₆ l₇ l₈ l₉ δ₀ δ₁ δ₂ δ₃ (columnsOf c) (c .summary) p setting receptions replies W (LL.owed C.the-type C′.the-laws c _ ic .1 .1 .1 .1 .0) (is-plan p w ipw) ig (planned .few, planned .placed)) $
         -- [..; what is kept of copies, entries, lens, times; the first list; the locals, at 6]
-        calls-at ! (fmOf 𝓤 H (W .laws) 𝓣) (ToDeliver 𝓤 H A mem run) known-deliver (to-deliver 𝓤 H A mem run α₀ α₁ α₂ α₃ κ₀ κ₁ q₀ q₁ l₆ l₇ l₈ l₉ δ₀ δ₁ δ₂ δ₃ (columnsOf c) p setting receptions replies)
+        calls-at ! (fmOf 𝓤 H (W .laws) 𝓣) (ToDeliver 𝓤 H A mem run) known-deliver (to-deliver 𝓤 H A mem run α₀ α₁ α₂ α₃ κ₀ κ₁ q₀ q₁ l₆ l₇ l₈ l₉ δ₀ δ₁ δ₂ δ₃ (columnsOf c) (c .summary) p setting receptions replies)
         (and-then ! (load ! (from ! (fld ! refl (stop !))) (look-in ! (low 6 5) (sub ! 0 refl (whole !)))) (and-then ! (load ! (from ! (stop !)) (look ! (cell 6 13) refl)) (and-then ! (load ! (from ! (stop !)) (look ! (cell 6 14) refl)) (and-then ! (load ! (from ! (stop !)) (look ! (cell 6 15) refl)) (and-then ! (load ! (from ! (stop !)) (look ! (cell 6 16) refl))
-        (and-then ! (load ! (from ! (fld ! refl (stop !))) (look-in ! (low 6 5) (sub ! 2 refl (whole !)))) (and-then ! (load ! (from ! (stop !)) (look ! (low 6 2) refl)) (and-then ! (load ! (from ! (fld ! refl (stop !))) (look-in ! (low 6 5) (sub ! 1 refl (whole !)))) (and-then ! (load ! (from ! (stop !)) (look ! (low 6 3) refl)) (and-then ! (load ! (from ! (stop !)) (look ! (cell 6 18) refl)) (no-more !))))))))))) (λ w₁.
-        use1 W (later (some (λ (s : Summary). (alive 𝓤 H A mem run α₀ α₁ α₂ α₃ κ₀ κ₁ q₀ q₁ l₆ l₇ l₈ l₉ δ₀ δ₁ δ₂ δ₃ (columnsOf c) p setting receptions replies ⊛ ‵ (S.the-row .own s (w₁ ∷ [])))
-        ⊛ raw (ensured 𝓤 H A give.ended (give.clauses 𝓤 H A mem run) (α₀ ∷ [], (α₁ ∷ [], (α₂ ∷ [], (α₃ ∷ [], (κ₀, (κ₁, tt)))))) (passed 𝓤 H A mem run α₀ α₁ α₂ α₃ κ₀ κ₁ q₀ q₁ l₆ l₇ l₈ l₉ δ₀ δ₁ δ₂ δ₃ (columnsOf c) p setting receptions replies) tt s)))) (id⊢ 𝓤 _) $
+        (and-then ! (load ! (from ! (fld ! refl (stop !))) (look-in ! (low 6 1) (sub ! 4 refl (whole !)))) (and-then ! (load ! (from ! (stop !)) (look ! (low 6 2) refl)) (and-then ! (load ! (from ! (fld ! refl (stop !))) (look-in ! (low 6 5) (sub ! 1 refl (whole !)))) (and-then ! (load ! (from ! (stop !)) (look ! (low 6 3) refl)) (and-then ! (load ! (from ! (stop !)) (look ! (cell 6 18) refl)) (no-more !))))))))))) (λ w₁.
+        use1 W (later (some (λ (s : Summary). (alive 𝓤 H A mem run α₀ α₁ α₂ α₃ κ₀ κ₁ q₀ q₁ l₆ l₇ l₈ l₉ δ₀ δ₁ δ₂ δ₃ (columnsOf c) (c .summary) p setting receptions replies ⊛ ‵ (S.the-row .own s (w₁ ∷ [])))
+        ⊛ raw (ensured 𝓤 H A give.ended (give.clauses 𝓤 H A mem run) (α₀ ∷ [], (α₁ ∷ [], (α₂ ∷ [], (α₃ ∷ [], (κ₀, (κ₁, tt)))))) (passed 𝓤 H A mem run α₀ α₁ α₂ α₃ κ₀ κ₁ q₀ q₁ l₆ l₇ l₈ l₉ δ₀ δ₁ δ₂ δ₃ (columnsOf c) (c .summary) p setting receptions replies) tt s)))) (id⊢ 𝓤 _) $
         await ! tt $ pick ! (λ s.
         split ! $ move ! (1 ∷ []) $
-        use1 W (some (λ (ws : Lasts). ‵ (lasts give.ended (α₀ ∷ [], (α₁ ∷ [], (α₂ ∷ [], (α₃ ∷ [], (κ₀, (κ₁, tt)))))) (passed 𝓤 H A mem run α₀ α₁ α₂ α₃ κ₀ κ₁ q₀ q₁ l₆ l₇ l₈ l₉ δ₀ δ₁ δ₂ δ₃ (columnsOf c) p setting receptions replies) ws)
-        ⊛ raw (fact 𝓤 (Delivered setting (p .fit) (columnsOf c) (p .summary) (p .count) rs ys (last-in ws) s (last-replies ws))))) (id⊢ 𝓤 _) $
+        use1 W (some (λ (ws : Lasts). ‵ (lasts give.ended (α₀ ∷ [], (α₁ ∷ [], (α₂ ∷ [], (α₃ ∷ [], (κ₀, (κ₁, tt)))))) (passed 𝓤 H A mem run α₀ α₁ α₂ α₃ κ₀ κ₁ q₀ q₁ l₆ l₇ l₈ l₉ δ₀ δ₁ δ₂ δ₃ (columnsOf c) (c .summary) p setting receptions replies) ws)
+        ⊛ raw (fact 𝓤 (Delivered setting (p .fit) (columnsOf c) (c .summary) (p .count) rs ys (last-in ws) s (last-replies ws))))) (id⊢ 𝓤 _) $
         pick ! (λ ws.
         split ! $ move ! (1 ∷ []) $
-        heard ! (Delivered setting (p .fit) (columnsOf c) (p .summary) (p .count) rs ys (last-in ws) s (last-replies ws)) (λ delivered.
+        heard ! (Delivered setting (p .fit) (columnsOf c) (c .summary) (p .count) rs ys (last-in ws) s (last-replies ws)) (λ delivered.
         fsplit ! $ drop ! $ fsplit ! $ move ! (1 ∷ []) $ fsplit ! $ move ! (1 ∷ []) $ fsplit ! $ move ! (1 ∷ []) $ fsplit ! $ move ! (1 ∷ []) $ fsplit ! $
         drop ! $ fsplit ! $ drop ! $ fsplit ! $ drop ! $ fsplit ! $ drop ! $ fsplit ! $ fsplit ! $ move ! (1 ∷ []) $ feqL ! (λ long.
         -- [the last second list; true; copies, entries, lens, times at last; the tokens and the result; what is kept of copies, entries, lens, times; the first list; the locals, at 12]
@@ -460,10 +460,10 @@ module _ {M : Type 1} (𝓤 : URA M) (H : Heap 𝓤) (A : Atoms 𝓤) (W : Given
         assigns ! (of-opd ! (load ! (from ! (stop !)) (look ! 2 refl))) (from ! (stop !)) (init ! (cell 8 21) refl (typed-e (last-in ws .bytes) ie)) $
         assigns ! (of-opd ! (load ! (from ! (stop !)) (look ! 0 refl))) (from ! (stop !)) (init ! (cell 8 22) refl (typed-c (last-in ws .copies) ic′)) $
         use0 W (raw (ToFinish 𝓤 H A mem run .pre (to-finish 𝓤 H A mem run (last-in ws) s (p .answer))))
-        (goes-finish 𝓤 H A mem run W (last-in ws) s (p .answer) it il ie ic′ (subst (Is S.the-row s) (LL.tells S.the-type S′.the-laws s _ isw) isw) (LL.owed P.the-type P′.the-laws p _ ipw .1 .1 .1 .0)) $
+        (goes-finish 𝓤 H A mem run W (last-in ws) s (p .answer) it il ie ic′ (subst (Is S.the-row s) (LL.tells S.the-type S′.the-laws s _ isw) isw) (LL.owed P.the-type P′.the-laws p _ ipw .1 .1 .0)) $
         calls-at ! (fmOf 𝓤 H (W .laws) 𝓣) (ToFinish 𝓤 H A mem run) known-finish (to-finish 𝓤 H A mem run (last-in ws) s (p .answer))
         (and-then ! (load ! (from ! (stop !)) (look ! (cell 9 19) refl)) (and-then ! (load ! (from ! (stop !)) (look ! (cell 9 20) refl)) (and-then ! (load ! (from ! (stop !)) (look ! (cell 9 21) refl)) (and-then ! (load ! (from ! (stop !)) (look ! (cell 9 22) refl)) (and-then ! (load ! (from ! (stop !)) (look ! (cell 9 10) refl))
-        (and-then ! (load ! (from ! (fld ! refl (stop !))) (look-in ! (low 9 5) (sub ! 3 refl (whole !)))) (no-more !))))))) (λ w₂.
+        (and-then ! (load ! (from ! (fld ! refl (stop !))) (look-in ! (low 9 5) (sub ! 2 refl (whole !)))) (no-more !))))))) (λ w₂.
         use1 W (later (some (λ (r : Bursted). (‵ ftrue ⊛ ‵ (B.the-row .own r (w₂ ∷ []))) ⊛ raw (ensured 𝓤 H A fin.ended (fin.clauses 𝓤 H A mem run) tt (last-in ws .times, (last-in ws .lens, (last-in ws .bytes, (last-in ws .copies, (s, (p .answer, tt)))))) tt r)))) (id⊢ 𝓤 _) $
         await ! tt $ pick ! (λ r.
         split ! $ move ! (1 ∷ []) $
