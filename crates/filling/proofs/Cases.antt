@@ -1,7 +1,7 @@
 -- The cases of `putRowsGiven`, each from the facts that its tests give.
 --     given-block, given-far, given-other, given-same, given-facts     the test of the lengths, by what the code tests; what it says
---     check-next, check-stop, check-end, check-valid       the walk that looks for a row that the check refuses; where there is none, all rows are valid
---     put-size, put-other, put-invalid, put-many, put-done     the answers
+--     check-next, check-stop, check-end, check-valid                   the walk to the first row that the check refuses; where there is none
+--     put-size, put-other, put-invalid, put-many, put-done, put-none   the answers
 use Prim.Native.Nat.{ℕ, _+_, _*_, _/_, _%_, _≤_, _<_}
 use native.Mathlib.Numerals.{add-one}
 use native.Mathlib.Omega.{arith}

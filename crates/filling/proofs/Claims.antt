@@ -22,7 +22,7 @@ use Rattle.filling.proofs.Cases.{check-valid}
 use Rattle.filling.proofs.InArchive.{grown-by}
 
 -- what is known where rows are put
-pub record Put (block : List ℕ) (n : ℕ) (rows : List Row) : Type 0 where
+record Put (block : List ℕ) (n : ℕ) (rows : List Row) : Type 0 where
   pub long : length block ≡ blockLength
   pub near : n < maxRows
   pub next : isNext n block ≡ true
@@ -30,7 +30,7 @@ pub record Put (block : List ℕ) (n : ℕ) (rows : List Row) : Type 0 where
   pub few : n % cellsPerBlock + length rows ≤ cellsPerBlock
   pub is : putRowsOf block n rows ≡ stored (putRows n rows block)
 
-pub put-facts : (block : List ℕ) (n : ℕ) (rows : List Row) → putRowsOf block n rows .number ≡ 0 → Put block n rows
+put-facts : (block : List ℕ) (n : ℕ) (rows : List Row) → putRowsOf block n rows .number ≡ 0 → Put block n rows
 unfolding putRowsOf
 put-facts block n rows z =
     go (eqb (length block) blockLength && ltb n maxRows) (isNext n block) (eqb (checkRows 0 rows .number) 0)
