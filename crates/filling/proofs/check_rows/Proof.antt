@@ -18,8 +18,12 @@ use Rattle.filling.proofs.Cases.{check-next, check-stop, check-end}
 use Rattle.filling.proofs.check_rows.Statement.{statement}
 use Rattle.filling.proofs.check_rows.Tie as tie
 
+record Checking (times rows : List ℕ) (i : ℕ) : Type 0 where
+  bounded : i ≤ length times
+  rest : checkRows i (drop i (rowsGiven times rows)) ≡ checkRows 0 (rowsGiven times rows)
+
 abbrev Inv-loop : tie.InvT-loop
-Inv-loop times rows i₀ i-end i = (i ≤ length times) × (checkRows i (drop i (rowsGiven times rows)) ≡ checkRows 0 (rowsGiven times rows))
+Inv-loop times rows i₀ i-end i = Checking times rows i
 
 abbrev μ-loop : tie.MeasureT-loop
 μ-loop times rows i₀ i-end i = length times - i
@@ -58,7 +62,7 @@ returns c =
     let count = rows-count (now (start ch .args .times)) (now (start ch .args .rows)) in
     c .refused .ensures
     ∙ check-stop (given ch) (turn-of ch) (omega (arith, count)) why (told-refused _ _ (told ch) why (known .checked .given .1))
-    ∙ ch .before .before .before .loop .inv .1
+    ∙ ch .before .before .before .loop .inv .rest
 
 loop-again : tie.Need-loop-again Inv-loop μ-loop
 loop-again c =
@@ -66,14 +70,17 @@ loop-again c =
     let i = turn-of ch in
     let count = rows-count (now (start ch .args .times)) (now (start ch .args .rows)) in
     let valid = eq-eqb (checkOf (getD (given ch) i noRow .bytes)) 0 (told-valid _ _ (told ch) (c .enum-told .given .1)) in
-    (omega arith, sym (check-next (given ch) i (omega (arith, count)) valid) ∙ ch .before .before .before .loop .inv .1)
+    record {
+      bounded = omega arith;
+      rest = sym (check-next (given ch) i (omega (arith, count)) valid) ∙ ch .before .before .before .loop .inv .rest;
+    }
 
 returns-2 : tie.Need-returns-2 Inv-loop μ-loop
 returns-2 c =
     let at = c .before .before in
     let a = at .before .before .before .args in
     let rows = rowsGiven (now (a .times)) (now (a .rows)) in
-    c .done .ensures ∙ check-end rows (at .loop .i) (omega (arith, rows-count (now (a .times)) (now (a .rows)))) ∙ at .loop .inv .1
+    c .done .ensures ∙ check-end rows (at .loop .i) (omega (arith, rows-count (now (a .times)) (now (a .rows)))) ∙ at .loop .inv .rest
 
 pub check-rows-spec : {M : Type 1} → statement M
 check-rows-spec =
@@ -81,7 +88,7 @@ check-rows-spec =
     (tie.spec
     Inv-loop
     μ-loop
-    (λ c. (omega arith, refl))
+    (λ c. record { bounded = omega arith; rest = refl })
     (λ c. omega arith)
     (λ c. omega arith)
     (λ c. omega arith)

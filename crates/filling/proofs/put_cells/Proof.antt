@@ -28,15 +28,19 @@ cell-get : (times rows : List ℕ) (i : ℕ) → i < length times
 unfolding cells
 cell-get times rows i h = getD-map rowCell (rowsGiven times rows) i noRow [] (omega (arith, rows-count times rows)) ∙ ap rowCell (row-get times rows i h)
 
+record Putting (out₀ times rows out : List ℕ) (i : ℕ) : Type 0 where
+  bounded : i ≤ length times
+  begun : Begun out₀ (flatten (take i (cells times rows))) (cellLength * i) out
+
 abbrev Inv-loop : tie.InvT-loop
-Inv-loop out₀ times rows i₀ i-end out i = (i ≤ length times) × Begun out₀ (flatten (take i (cells times rows))) (cellLength * i) out
+Inv-loop out₀ times rows i₀ i-end out i = Putting out₀ times rows out i
 
 abbrev μ-loop : tie.MeasureT-loop
 μ-loop out₀ times rows i₀ i-end out i = length times - i
 
 loop-holds : tie.Need-loop-holds Inv-loop μ-loop
 unfolding flatten
-loop-holds c = (omega arith, begin _)
+loop-holds c = record { bounded = omega arith; begun = begin _ }
 
 abbrev turn-of : tie.After-shared-slice-known3 Inv-loop μ-loop → tie.At-loop Inv-loop μ-loop
 turn-of c = c .before .before .before
@@ -54,7 +58,7 @@ put-record-requires c κs =
     let from = rowLength * i in
     let valid = all-getD isRow (rowsGiven times rows) i noRow (s .pre .2) (omega (arith, rows-count times rows)) in
     let row = ap isRow (sym (row-get times rows i (omega arith))) ∙ valid in (
-      lent (at .loop .inv .1) cellLength _ refl (omega (arith, s .pre .0)),
+      lent (at .loop .inv .begun) cellLength _ refl (omega (arith, s .pre .0)),
       ap length (part-ends from rowLength rows) ∙ part-length from rowLength rows (omega (arith, s .pre .1)),
       ap (λ (l : List ℕ). isRow (rowGiven (getD times i 0) l)) (part-ends from rowLength rows) ∙ row,
     )
@@ -69,10 +73,11 @@ loop-again c =
     let rows = now (s .args .rows) in
     let is =
     put .put-record .ensures ∙ ap (λ (l : List ℕ). rowCell (rowGiven (getD times i 0) l)) (part-ends (rowLength * i) rowLength rows)
-    ∙ sym (cell-get times rows i (omega arith)) in (
-      omega arith,
-      turn _ _ cellLength i _ _ (at .loop .inv .1) (omega (arith, cells-count times rows)) is (put .put-record .kept .0) (omega (arith, s .pre .0)),
-    )
+    ∙ sym (cell-get times rows i (omega arith)) in
+    record {
+      bounded = omega arith;
+      begun = turn _ _ cellLength i _ _ (at .loop .inv .begun) (omega (arith, cells-count times rows)) is (put .put-record .kept .0) (omega (arith, s .pre .0));
+    }
 
 returns : tie.Need-returns Inv-loop μ-loop
 unfolding cells
@@ -80,7 +85,7 @@ returns c =
     let at = c .before in
     let s = start at in
     let times = now (s .args .times) in
-    done (turned _ _ cellLength (length times) (at .loop .i) _ (at .loop .inv .1) (omega arith) (cells-count times (now (s .args .rows)))) (s .pre .0)
+    done (turned _ _ cellLength (length times) (at .loop .i) _ (at .loop .inv .begun) (omega arith) (cells-count times (now (s .args .rows)))) (s .pre .0)
 
 pub put-cells-spec : {M : Type 1} → statement M
 put-cells-spec =
@@ -94,7 +99,7 @@ put-cells-spec =
     (λ c. omega arith)
     (λ c. omega arith)
     (λ c. omega arith)
-    (λ c. within (c .before .loop .inv .1) _ (omega (arith, start (c .before) .pre .0)))
+    (λ c. within (c .before .loop .inv .begun) _ (omega (arith, start (c .before) .pre .0)))
     (λ c. omega arith)
     (λ c. omega arith)
     (λ c. omega arith)
@@ -107,5 +112,5 @@ put-cells-spec =
     (λ c. omega arith)
     (λ c. omega arith)
     loop-again
-    (λ c. begun-length (c .before .loop .inv .1))
+    (λ c. begun-length (c .before .loop .inv .begun))
     returns)
