@@ -9,6 +9,7 @@ pub const FRAME: usize = 22;
 const REPLY: usize = 24;
 
 /// Of a line where it starts, and how many digits its time has: none where the line is BAD.
+#[derive(Clone, Default)]
 pub struct Line {
     pub start: usize,
     pub width: usize,
@@ -34,13 +35,16 @@ impl Taken<'_> {
 
 /// Lines that were read, and what the collector said of them.
 pub struct Burst {
+    /// The first so many are those that were read.
     lines: Vec<Line>,
+    line_count: usize,
     /// The first of them that ends in CR LF, and so is BAD.
     cr_lf: Option<usize>,
-    /// When each reception was complete, its frame, and the reply to it.
+    /// When each reception was complete, its frame, and the reply to it; the first so many of each.
     moments: Vec<u64>,
     records: Vec<u8>,
     replies: Vec<u8>,
+    count: usize,
     /// What the last time says of the next one.
     before: Before,
     /// Where the lines end.
@@ -51,11 +55,13 @@ impl Default for Burst {
     fn default() -> Burst {
         let most = Collector::MAX_BURST;
         Burst {
-            lines: Vec::with_capacity(most),
+            lines: vec![Line::default(); most],
+            line_count: 0,
             cr_lf: None,
-            moments: Vec::with_capacity(most),
+            moments: vec![0; most],
             records: vec![0; most * FRAME + FRAME_ROOM],
             replies: vec![0; most * REPLY],
+            count: 0,
             before: Before::default(),
             ends: vec![0; most + AT_A_TIME],
         }
@@ -65,46 +71,46 @@ impl Default for Burst {
 impl Burst {
     /// Reads at most so many lines of a text that ends with a newline, from one that starts there on, in the place of those it had. Answers where the
     /// next one starts.
+    #[inline(never)]
     pub fn read(&mut self, text: &[u8], start: usize, most: usize) -> usize {
-        self.lines.clear();
-        self.moments.clear();
+        self.line_count = lines::find_ends(text, start, most.min(Collector::MAX_BURST), &mut self.ends);
         self.cr_lf = None;
-        let count = lines::find_ends(text, start, most.min(Collector::MAX_BURST), &mut self.ends);
-        let mut start = start;
-        for end in &self.ends[..count] {
+        let (mut start, mut count) = (start, 0);
+        for (at, (line, end)) in self.lines.iter_mut().zip(&self.ends[..self.line_count]).enumerate() {
             // What is written behind a frame stands where the next one is written.
-            let frame = self.records[FRAME * self.moments.len()..].first_chunk_mut().expect("room for each frame");
+            let frame = self.records[FRAME * count..].first_chunk_mut().expect("room for each frame");
             let found = match text[start..].first_chunk() {
-                Some(line) => lines::reception(line, &mut self.before, frame),
+                Some(window) => lines::reception(window, &mut self.before, frame),
                 None => last_reception(&text[start..], frame),
             };
-            let width = match found {
+            line.start = start;
+            line.width = match found {
                 Some(reception) => {
-                    self.moments.push(reception.time);
+                    self.moments[count] = reception.time;
+                    count += 1;
                     reception.width
                 }
                 None => {
                     if text[start..*end].ends_with(b"\r") {
-                        self.cr_lf.get_or_insert(self.lines.len());
+                        self.cr_lf.get_or_insert(at);
                     }
                     0
                 }
             };
-            self.lines.push(Line { start, width });
             start = end + 1;
         }
+        self.count = count;
         start
     }
 
     /// Hands them over.
     pub fn take(&mut self, collector: &mut Collector, level: u8) -> Result<(), Failure> {
-        let count = self.moments.len();
-        let (records, replies) = (&self.records[..FRAME * count], &mut self.replies[..REPLY * count]);
-        collector.burst_into(level, &self.moments, records, replies).map_err(|why| Failure::refused("the collector", why))
+        let (moments, records) = (&self.moments[..self.count], &self.records[..FRAME * self.count]);
+        collector.burst_into(level, moments, records, &mut self.replies[..REPLY * self.count]).map_err(|why| Failure::refused("the collector", why))
     }
 
     pub fn lines(&self) -> &[Line] {
-        &self.lines
+        &self.lines[..self.line_count]
     }
 
     pub fn cr_lf(&self) -> Option<usize> {
@@ -114,7 +120,7 @@ impl Burst {
     /// The receptions, in the order of their lines.
     #[inline]
     pub fn taken(&self) -> impl Iterator<Item = Taken<'_>> {
-        (0..self.moments.len()).map(|at| self.taken_at(at))
+        (0..self.count).map(|at| self.taken_at(at))
     }
 
     #[inline]
@@ -128,7 +134,7 @@ impl Burst {
     #[inline]
     pub fn rows(&self) -> impl Iterator<Item = Taken<'_>> {
         let (mut rows, mut count) = ([0u8; Collector::MAX_BURST], 0);
-        for (at, reply) in self.replies.chunks_exact(REPLY).take(self.moments.len()).enumerate() {
+        for (at, reply) in self.replies.chunks_exact(REPLY).take(self.count).enumerate() {
             rows[count] = at as u8;
             count += usize::from(reply[1] == 0 && reply[0] != 1);
         }

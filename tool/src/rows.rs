@@ -82,6 +82,7 @@ pub fn put_burst(out: &mut Printed, format: Format, text: &[u8], burst: &Burst) 
 }
 
 /// Room for all of them is made first: each row is then written by pieces of fixed lengths, and the next one over what was too much.
+#[inline(never)]
 fn put_texts(out: &mut Printed, text: &[u8], burst: &Burst) {
     out.make_room(TEXT_ROOM * burst.lines().len());
     let mut taken = burst.taken();
