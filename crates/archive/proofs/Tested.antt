@@ -19,7 +19,7 @@ use Rattle.lists.specs.Lists.{all, equal, padded, upFrom}
 use Rattle.lists.proofs.Choice.{both}
 use Rattle.lists.proofs.Equal.{equal-eq, equal-refl}
 use Rattle.lists.proofs.Tests.{and-true, by-test, all-getD}
-use Rattle.lists.proofs.UpFrom.{length-upFrom, getD-upFrom}
+use Rattle.lists.proofs.UpFrom.{length-upFrom, getD-upFrom, map-same}
 use Rattle.crc8.specs.Crc8.{crcOf}
 use Rattle.buffers.specs.Buffer.{part}
 use Rattle.layout.specs.BigEndian.{be}
@@ -32,7 +32,7 @@ use Rattle.layout.proofs.Cell.{cell-field, cell-last}
 use Rattle.layout.proofs.Block.{block-crc}
 use Rattle.archive_model.specs.Row.{Row, rowLast, rowCell, rowsHeader, rowsBlock, blockNumber, rowCount, rowIn, rowsOf, isRow, isSound, isBlank}
 use Rattle.archive_model.proofs.Blocks.{header-length, head-part, last-lt, each}
-use Rattle.archive_model.proofs.Buffers.{map-same, pieces}
+use Rattle.archive_model.proofs.Buffers.{pieces}
 use Rattle.archive_model.proofs.Pieces.{rows-count}
 use Rattle.archive_model.proofs.Exact.{sound-is, sound-few, sound-shorts, sound-long, tests, valid-at, row-is, cell-is, zeros}
 use Rattle.archive.specs.Archive.{soundCount}

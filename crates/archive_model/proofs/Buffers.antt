@@ -9,14 +9,15 @@ use native.Mathlib.Decide.{decLt}
 use native.Mathlib.Omega.{arith}
 use mathlib.Core.Path.{_≡_, refl, sym, ap, ap₂, _∙_}
 use mathlib.Core.Bool.{Bool, true, false, _&&_}
-use mathlib.Core.List.{List, [], _∷_, _++_, map, flatten, append-assoc, append-nil, map-append, map-map}
+use mathlib.Core.List.{List, [], _∷_, _++_, map, flatten, append-nil, map-append, map-map}
 use lib.ListN.{length, getD, take, drop, replicate, length-map, length-take, length-drop, List·getD-eq-default}
 use lib.Seq.{take-all, take-add, drop-drop}
 use lib.Dec.{eqb}
 use borrow.Author.Tests.{eqb-true, eq-eqb, le-ltb}
 use Rattle.lists.specs.Lists.{upFrom}
 use Rattle.lists.proofs.Tests.{by-test, all-getD}
-use Rattle.lists.proofs.UpFrom.{length-upFrom, getD-upFrom, upFrom-add}
+use Rattle.lists.proofs.UpFrom.{length-upFrom, getD-upFrom, upFrom-add, map-same}
+use Rattle.lists.proofs.Parts.{flatten-append}
 use Rattle.buffers.specs.Buffer.{part}
 use Rattle.layout.specs.Block.{cellsPerBlock, blockLength}
 use Rattle.buffers.proofs.Segments.{part-at, left, right, part-replicate, Each, flatten-length, flatten-part}
@@ -27,20 +28,10 @@ use Rattle.archive_model.proofs.Blocks.{Fits, rows-block-length, number
 
 -- ---- lists over numbers in a row
 
-pub map-same : {A : Type 0} (f g : ℕ → A) (a n : ℕ) → ((i : ℕ) → a ≤ i → i < a + n → f i ≡ g i) → map f (upFrom a n) ≡ map g (upFrom a n)
-unfolding upFrom
-map-same f g a zero h = refl
-map-same f g a (suc n) h = ap₂ _∷_ (h a (omega arith) (omega arith)) (map-same f g (suc a) n (λ i k l. h i (omega arith) (omega arith)))
-
 map-constant : {A : Type 0} (x : A) (a n : ℕ) → map (λ (i : ℕ). x) (upFrom a n) ≡ replicate n x
 unfolding upFrom
 map-constant x a zero = refl
 map-constant x a (suc n) = ap (λ (l : List _). x ∷ l) (map-constant x (suc a) n)
-
-pub flatten-append : {A : Type 0} (xs ys : List (List A)) → flatten (xs ++ ys) ≡ flatten xs ++ flatten ys
-unfolding flatten
-flatten-append [] ys = refl
-flatten-append (x ∷ xs) ys = ap (λ (l : List _). x ++ l) (flatten-append xs ys) ∙ sym (append-assoc x (flatten xs) (flatten ys))
 
 -- a list in pieces of w
 pub pieces : {A : Type 0} (w : ℕ) (xs : List A) (a n : ℕ) → flatten (map (λ k. part (w * k) w xs) (upFrom a n)) ≡ part (w * a) (w * n) xs

@@ -16,6 +16,8 @@ use borrow.Author.Tests.{eqb-true, eqb-false, leb-true, eq-eqb, ne-eqb, lt-ltb, 
 use Rattle.lists.specs.Lists.{padded, upFrom}
 use Rattle.lists.proofs.Choice.{both}
 use Rattle.lists.proofs.Tests.{by-test, and-true}
+use Rattle.lists.proofs.UpFrom.{map-same}
+use Rattle.lists.proofs.Parts.{flatten-append}
 use Rattle.refusal.specs.Number.{numberOf}
 use Rattle.refusal.specs.declared.Refusal.the-variants.{ShortOutput, Size}
 use Rattle.erp1.specs.Subtelegram.{checkOf, isValid}
@@ -30,7 +32,7 @@ use Rattle.archive_model.specs.Row.{Row, rowLast, rowCell, rowsHeader, r
 use Rattle.archive_model.specs.Buffer.{Found, At, None, rowsAt, bufferOf, maxBlocks, isWhole, rowsIn, mismatch}
 use Rattle.archive_model.specs.Append.{Appended, refusedAppend, stored, found, verdict, rowNumber, appendOf, blockAt, putRow, isNext, appendAtOf}
 use Rattle.archive_model.proofs.Blocks.{Fit, Fits, short, shorts, header-length, each, number-back, count-back}
-use Rattle.archive_model.proofs.Buffers.{map-same, flatten-append, pieces, blank, blank-is, group-length, group-few, group-fits, used-block, free-block, buffer-length, rows-in, no-mismatch}
+use Rattle.archive_model.proofs.Buffers.{pieces, blank, blank-is, group-length, group-few, group-fits, used-block, free-block, buffer-length, rows-in, no-mismatch}
 use Rattle.archive_model.proofs.Exact.{exact, exact-fits, exact-few, fits-append}
 
 -- ---- one row more in a block

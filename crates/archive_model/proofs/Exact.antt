@@ -18,7 +18,7 @@ use Rattle.lists.specs.Lists.{all, equal, padded, upFrom}
 use Rattle.lists.proofs.Choice.{both}
 use Rattle.lists.proofs.Equal.{equal-eq}
 use Rattle.lists.proofs.Tests.{by-test, all-getD}
-use Rattle.lists.proofs.UpFrom.{length-upFrom, getD-upFrom}
+use Rattle.lists.proofs.UpFrom.{length-upFrom, getD-upFrom, map-same}
 use Rattle.erp1.specs.Subtelegram.{checkOf}
 use Rattle.erp1.proofs.Checks.{check-facts}
 use Rattle.buffers.specs.Buffer.{part}
@@ -29,7 +29,7 @@ use Rattle.layout.proofs.Cell.{cell-time-lt}
 use Rattle.archive_model.specs.Row.{Row, rowLast, rowCell, rowsBlock, blockNumber, rowCount, rowIn, rowsOf, isRow, isSound, isBlank}
 use Rattle.archive_model.specs.Buffer.{At, None, blocksFor, rowsAt, archiveOf, bufferOf, blocksIn, rowsIn, nonZero, isShort, isFollowed, mismatchFrom, mismatch}
 use Rattle.archive_model.proofs.Blocks.{Fits, Shorts, noRow, written-length, written-cell}
-use Rattle.archive_model.proofs.Buffers.{map-same, pieces, blank, blank-is, none-flat}
+use Rattle.archive_model.proofs.Buffers.{pieces, blank, blank-is, none-flat}
 use Rattle.archive_model.proofs.Pieces.{blocks-count, rows-count, at-none}
 
 -- ---- one sound block

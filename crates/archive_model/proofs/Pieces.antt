@@ -14,13 +14,13 @@ use lib.Dec.{eqb}
 use lib.ListN.{length, length-append, length-map}
 use Rattle.lists.specs.Lists.{upFrom}
 use Rattle.lists.proofs.Tests.{by-test}
-use Rattle.lists.proofs.UpFrom.{upFrom-add, length-upFrom, map-shift}
+use Rattle.lists.proofs.UpFrom.{upFrom-add, length-upFrom, map-shift, map-same}
 use Rattle.buffers.specs.Buffer.{part}
 use Rattle.buffers.proofs.Segments.{left, right}
 use Rattle.layout.specs.Block.{blockLength, blockCell}
 use Rattle.archive_model.specs.Row.{blockNumber, rowCount, rowIn, rowsOf, isSound, isBlank}
 use Rattle.archive_model.specs.Buffer.{At, None, blocksIn, rowsIn, nonZero, isShort, isFollowed, mismatchFrom, mismatch, Stage, Filling, Short, Ended, Wrong, Scan, startScan, stageAfter, stageBlank, scanBlock, scanBlocks, stageFound}
-use Rattle.archive_model.proofs.Buffers.{map-same, blank-count}
+use Rattle.archive_model.proofs.Buffers.{blank-count}
 
 -- ---- the blocks of a buffer, and of two pieces
 

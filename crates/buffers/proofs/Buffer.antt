@@ -5,14 +5,15 @@
 --     resized-more                                     one number more, which a loop puts
 --     resized-back                                     a list, zero filled, and its front again
 --     overwritten-fits, overwritten-not                a buffer of the right length, and one of another
-use mathlib.Core.Path.{_≡_, refl, sym, _∙_}
-use mathlib.Core.List.{List, [], _∷_, _++_, append-assoc}
+--     copied                                           what a copy of the same length leaves
+use mathlib.Core.Path.{_≡_, refl, sym, ap₂, _∙_}
+use mathlib.Core.List.{List, [], _∷_, _++_, append-assoc, append-nil}
 use Prim.Native.Nat.{ℕ, zero, suc, _+_, _-_, _≤_}
 use native.Mathlib.Numerals.{add-one}
 use native.Mathlib.Decide.{decLt}
 use native.Mathlib.Omega.{arith}
 use borrow.Author.Tests.{eq-eqb, ne-eqb}
-use lib.ListN.{length, getD, take, replicate, length-append, length-take, length-replicate, replicate-append-replicate, List·getD-eq-default}
+use lib.ListN.{length, getD, take, drop, replicate, drop-of-length-le, length-append, length-take, length-replicate, replicate-append-replicate, List·getD-eq-default}
 use lib.Seq.{take-all, take-at, take-append-le, take-suc}
 use Rattle.lists.specs.Lists.{padded}
 use Rattle.buffers.specs.Buffer.{resized, overwritten}
@@ -74,3 +75,9 @@ module _ (n : ℕ) (new old : List ℕ) where
   pub overwritten-not : (length old ≡ n → ⊥) → overwritten n new old ≡ old
   unfolding overwritten
   overwritten-not h = rw (ne-eqb (length old) n h)
+
+pub copied : (src dst ys : List ℕ) → length src ≡ length dst → ys ≡ take (length src) src ++ drop (length src) dst → ys ≡ src
+copied src dst ys e c =
+    let l : length dst ≤ length src = omega arith in
+    let k : length src ≤ length src = omega arith in
+    c ∙ ap₂ _++_ (take-all (length src) src k) (drop-of-length-le dst l) ∙ append-nil src

@@ -1,23 +1,22 @@
 -- Records by their fields; a row of another size, and of the right size; a row's bytes, cut and zero filled.
-use mathlib.Core.Path.{_≡_, refl, sym, ap, ap₂, _∙_}
+use mathlib.Core.Path.{_≡_, sym, _∙_}
 use mathlib.Core.Bool.{Bool}
 use mathlib.Core.List.{List, [], _∷_, _++_}
-use Prim.Native.Nat.{ℕ, _-_, _≤_, _<_, min}
+use Prim.Native.Nat.{ℕ, _-_, _≤_, min}
 use native.Mathlib.Decide.{decLt}
 use native.Mathlib.Omega.{arith}
-use lib.ListN.{length, take, drop, replicate, length-take, length-replicate, length-append}
+use lib.ListN.{length, take, replicate, length-append}
 use lib.Seq.{take-all, take-append-le}
 use borrow.Author.Tests.{eq-eqb, ne-eqb}
 use Rattle.lists.specs.Lists.{padded}
 use Rattle.buffers.specs.Buffer.{resized}
 use Rattle.buffers.proofs.Buffer.{resized-length, resized-padded, resized-cut, resized-whole}
-use Rattle.archive_model.specs.Row.{Row}
 use Rattle.archive_model.specs.Append.{Opening, rowAtOf}
 use Rattle.archive.specs.Archive.{rowOf}
 use Rattle.repack_model.specs.Repack.{Removed}
 use Rattle.c_layout.specs.Frame.{wrongSize, frameBytes, flagByte}
 use Rattle.filling.specs.Fill.{rowLength}
-use Rattle.c_archive.specs.Calls.{rowBytes, RowCall, rowFound, rowCall}
+use Rattle.c_archive.specs.Calls.{rowBytes, rowFound, rowCall}
 
 abbrev pub opening : ℕ → ℕ → ℕ → Opening
 opening number position rows = record { number = number; position = position; rows = rows }

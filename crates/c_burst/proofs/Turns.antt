@@ -14,7 +14,7 @@ use lib.Seq.{drop-cons}
 use Rattle.lists.specs.Lists.{upFrom}
 use Rattle.lists.proofs.UpFrom.{length-upFrom, getD-upFrom}
 use Rattle.buffers.specs.Buffer.{part}
-use Rattle.buffers.proofs.Segments.{Begun, begin, lend, done}
+use Rattle.buffers.proofs.Segments.{Begun, begin, lend}
 use Rattle.model.specs.View.{Reception, View}
 use Rattle.model.specs.Step.{step}
 use Rattle.model.specs.Burst.{Replied, replyWith, afterAll, repliesTo}

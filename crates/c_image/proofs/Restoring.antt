@@ -17,7 +17,6 @@ use Rattle.model.proofs.Returns.{restore-unacceptable}
 use Rattle.collector.specs.declared.Collector.{Collector}
 use Rattle.collector.specs.Collector.{columnsOf, viewOf}
 use Rattle.image.specs.declared.Restored.{Restored}
-use Rattle.image.specs.declared.Loaded.{Loaded}
 use Rattle.image.specs.declared.Loaded.the-variants.{Done, Refused}
 use Rattle.image.specs.Checkpoint as image
 use Rattle.image.specs.Checkpoint.{loadedNumber}

@@ -1,14 +1,14 @@
 -- What is kept of a chunk whose lines were taken.
-use mathlib.Core.Path.{_≡_, refl, sym, _∙_}
+use mathlib.Core.Path.{_≡_, refl, _∙_}
 use mathlib.Core.Bool.{true}
-use mathlib.Core.List.{List, [], _∷_}
-use Prim.Native.Nat.{ℕ, zero, suc, _+_, _-_, _≤_}
+use mathlib.Core.List.{List}
+use Prim.Native.Nat.{ℕ, _+_, _-_, _≤_}
 use native.Mathlib.Omega.{arith}
-use native.Mathlib.Nat.{sub-zero, zero-sub, suc-sub-suc}
 use lib.ListN.{length, take, drop, take-append-drop, length-take, length-drop}
-use lib.Seq.{sets, sets-eq, take-append-seam, take-nil}
+use lib.Seq.{sets, sets-eq, take-append-seam}
 use borrow.Author.Tests.{le-leb}
 use borrow.Rule.Slice.PartMut.{midOf, putMid, take-put, same-len-mid}
+use Rattle.lists.proofs.Parts.{drop-take}
 use Rattle.line_input.specs.Reading.{lineLimit}
 use Rattle.streams.specs.Chunks.{inLine, atLineStart, feed, feedText}
 use Rattle.streams.specs.Collect.{Phase, collect}
@@ -16,13 +16,6 @@ use Rattle.streams.specs.Buffer.{isUnended, keptLine, Carried}
 use Rattle.streams.proofs.Segments.{Drained, left, open-front}
 use Rattle.collecting.specs.Session.{Receiver, modelCollector}
 use Rattle.collecting.specs.Program.{Kept}
-
--- a part of the front is the front of a part
-drop-take : (l : List ℕ) (from end : ℕ) → drop from (take end l) ≡ take (end - from) (drop from l)
-drop-take l zero end = rw (sub-zero end)
-drop-take l (suc from) zero = rw (zero-sub (suc from))
-drop-take [] (suc from) (suc end) = sym (take-nil (suc end - suc from))
-drop-take (x ∷ l) (suc from) (suc end) = rw (suc-sub-suc end from) (drop-take l from end)
 
 -- ---- what was kept stays while more is read behind it
 

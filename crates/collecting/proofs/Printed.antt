@@ -2,7 +2,7 @@
 -- of a line is a number of 64 bits, so that no view is left that the model's theorem does not speak of.
 use Prim.Native.Nat.{ℕ, _^_, _<_}
 use mathlib.Core.Path.{_≡_, refl, sym, ap, ap₂, _∙_}
-use mathlib.Core.Bool.{Bool, true, false, not, _&&_}
+use mathlib.Core.Bool.{true, not, _&&_}
 use mathlib.Core.List.{List, [], _∷_, _++_, append-assoc}
 use lib.Dec.{ltb}
 use borrow.Author.Tests.{ltb-true}
@@ -10,7 +10,7 @@ use lib.ListN.{length}
 use Rattle.lists.specs.Lists.{all}
 use Rattle.lists.proofs.Choice.{both}
 use Rattle.telegram.specs.declared.frame.Frame.{Frame}
-use Rattle.model.specs.View.{Reception, View, fresh}
+use Rattle.model.specs.View.{Reception, View}
 use Rattle.model.specs.Step.{Outcome, sentFor}
 use Rattle.model.specs.Reference.{totalsOf, modelView, answerTo, logOf}
 use Rattle.model.proofs.Invariant.{Good, good-fresh}

@@ -3,12 +3,13 @@ use Prim.Native.Nat.{ℕ, _+_, _-_, _≤_, _<_}
 use native.Mathlib.Omega.{arith}
 use mathlib.Core.Path.{_≡_, refl, sym, _∙_, ap}
 use mathlib.Core.Bool.{and-false, Bool, true, false, not, _&&_, false≢true}
-use mathlib.Core.List.{List, [], _∷_, _++_}
+use mathlib.Core.List.{List, _∷_, _++_}
 use lib.Dec.{leb, eqb}
 use lib.ListN.{length}
 use borrow.Author.Tests.{le-leb, lt-leb, leb-true, eqb-true, eq-eqb, ne-eqb, not-true}
 use Rattle.lists.specs.Lists.{any, all, pairwise}
 use Rattle.lists.proofs.Choice.{both}
+use Rattle.lists.proofs.Pairwise.{all-and, pairwise-and}
 use Rattle.lists.proofs.Tests.{and-true, all-last, none, pairwise-last}
 use Rattle.erp1.specs.Subtelegram.{isValid}
 use Rattle.model.specs.declared.Totals.{Totals}
@@ -73,20 +74,6 @@ module _ (a : Columns) (i : ℕ) where
   new-both e f = rw (e, f)
 
 -- ---- all of it
-
-swapped : (a b c d : Bool) → ((a && b) && (c && d)) ≡ ((a && c) && (b && d))
-swapped true true c d = refl
-swapped true false true d = refl
-swapped true false false d = refl
-swapped false b c d = refl
-
-all-and : {A : Type 0} (p q : A → Bool) (l : List A) → all (λ x. p x && q x) l ≡ (all p l && all q l)
-all-and p q [] = refl
-all-and p q (x ∷ l) = rw (all-and p q l) (swapped (p x) (q x) (all p l) (all q l))
-
-pairwise-and : {A : Type 0} (r s : A → A → Bool) (l : List A) → pairwise (λ x y. r x y && s x y) l ≡ (pairwise r l && pairwise s l)
-pairwise-and r s [] = refl
-pairwise-and r s (x ∷ l) = rw (all-and (r x) (s x) l, pairwise-and r s l) (swapped (all (r x) l) (all (s x) l) (pairwise r l) (pairwise s l))
 
 arranged : (v t o d x : Bool) → ((v && t) && ((o && d) && x)) ≡ ((t && o) && ((v && d) && x))
 arranged true true true d x = refl

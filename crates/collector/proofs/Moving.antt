@@ -13,7 +13,7 @@ use lib.Seq.{take-take, take-at, drop-at, take-append-seam, take-length, drop-ap
 use borrow.Author.Tests.{eqb-true, eqb-false}
 use borrow.Rule.Slice.PartMut.{midOf, putMid}
 use Rattle.lists.specs.Lists.{upFrom}
-use Rattle.lists.proofs.UpFrom.{upFrom-add, length-upFrom}
+use Rattle.lists.proofs.UpFrom.{upFrom-add, length-upFrom, map-moved}
 use Rattle.lists.proofs.Tests.{by-test}
 use Rattle.erp1.specs.Subtelegram.{maxLength}
 use Rattle.buffers.specs.Buffer.{part, resized}
@@ -95,13 +95,6 @@ module _ {gone n : ℕ} {old new : List ℕ} (m : Moved gone n old new) where
   moved-part a k h =
       sym (part-take a k n new h) ∙ ap (part a k) (m .front) ∙ part-take a k n (drop gone old) h ∙ ap (take k) (drop-drop a gone old)
 
-map-same : {A : Type 0} (f g : ℕ → A) (a b n : ℕ) → ((i : ℕ) → i < n → f (a + i) ≡ g (b + i)) → map f (upFrom a n) ≡ map g (upFrom b n)
-unfolding upFrom
-map-same f g a b zero h = refl
-map-same f g a b (suc n) h =
-    ap₂ _∷_ (rw (add-zero, add-zero) at (h 0 (omega arith)))
-    (map-same f g (suc a) (suc b) n (λ i k. rw (suc-add, suc-add, ← add-suc, ← add-suc) (h (suc i) (omega arith))))
-
 -- the entries after the first `gone`, by their index
 entries-after : (a : Columns) (gone n count : ℕ) → gone + n ≡ count → drop gone (entriesAt a count) ≡ map (entryAt a) (upFrom gone n)
 unfolding entriesAt
@@ -119,7 +112,7 @@ record MovedColumns (gone n : ℕ) (a a' : Columns) : Type 0 where
 moved-entries : (gone n count : ℕ) (a a' : Columns) → gone + n ≡ count → MovedColumns gone n a a' → entriesAt a' n ≡ drop gone (entriesAt a count)
 unfolding entriesAt
 moved-entries gone n count a a' size m =
-    map-same (entryAt a') (entryAt a) 0 gone n (λ i h. rw (zero-add) (same i h)) ∙ sym (entries-after a gone n count size)
+    map-moved (entryAt a') (entryAt a) 0 gone n (λ i h. rw (zero-add) (same i h)) ∙ sym (entries-after a gone n count size)
   where
     same : (i : ℕ) → i < n → entryAt a' i ≡ entryAt a (gone + i)
     same i h =

@@ -10,6 +10,7 @@ use lib.ListN.{length}
 use borrow.Author.Tests.{le-leb, leb-true}
 use Rattle.lists.specs.Lists.{keep, all, pairwise}
 use Rattle.lists.proofs.Choice.{both}
+use Rattle.lists.proofs.Keep.{keep-every}
 use Rattle.lists.proofs.Tests.{by-test, all-both}
 use Rattle.erp1.specs.Subtelegram.{isValid}
 use Rattle.refusal.specs.declared.Refusal.the-variants.{Full}
@@ -23,12 +24,6 @@ use Rattle.collector.specs.Admission.{hasCopy, receptionCheck, answerFor
 use Rattle.collector.proofs.Accepting.{accepted-few, accepted-each, accepted-order, accepted-summed}
 
 -- ---- the open telegrams
-
-keep-every : {A : Type 0} (p : A → Bool) (l : List A) → all p l ≡ true → keep p l ≡ l
-keep-every p [] e = refl
-keep-every p (x ∷ l) e =
-    let w = both (p x) (all p l) e in
-    rw (w .0) (ap (λ (m : List _). x ∷ m) (keep-every p l (w .1)))
 
 later-open : (t : ℕ) (e later : Entry) → isOpen t e ≡ true → mayFollow e later ≡ true → isOpen t later ≡ true
 later-open t e later o f =

@@ -13,7 +13,7 @@ use lib.Seq.{take-at, drop-drop}
 use borrow.Author.Tests.{eq-eqb, ne-eqb, le-leb, lt-leb}
 use Rattle.lists.specs.Lists.{padded, upFrom}
 use Rattle.lists.proofs.Tests.{by-test}
-use Rattle.lists.proofs.UpFrom.{length-upFrom, upFrom-add}
+use Rattle.lists.proofs.UpFrom.{length-upFrom, upFrom-add, map-same}
 use Rattle.refusal.specs.Number.{numberOf}
 use Rattle.refusal.specs.declared.Refusal.the-variants.{Mismatch, Size}
 use Rattle.buffers.specs.Buffer.{part}
@@ -24,7 +24,7 @@ use Rattle.buffers.proofs.Segments.{left, last, whole, part-join}
 use Rattle.layout.proofs.BigEndian.{be-length}
 use Rattle.archive_model.specs.Row.{Row, rowCell, rowsHeader, rowsBlock, blockNumber, rowCount, rowIn, rowsOf, isSound}
 use Rattle.archive_model.proofs.Blocks.{head-part}
-use Rattle.archive_model.proofs.Buffers.{map-same, pieces}
+use Rattle.archive_model.proofs.Buffers.{pieces}
 use Rattle.archive_model.proofs.Pieces.{rows-count}
 use Rattle.archive_model.proofs.Exact.{tests, sound-is, sound-few, sound-shorts, row-is, cell-is}
 use Rattle.archive.specs.Archive.{soundCount}

@@ -9,13 +9,13 @@ use borrow.Author.Tests.{lt-leb}
 use Rattle.layout.specs.Block.{cellsPerBlock, blockLength}
 use Rattle.archive_model.specs.Row.{Row}
 use Rattle.archive_model.specs.Buffer.{bufferOf, maxBlocks, rowsIn}
-use Rattle.archive_model.specs.Append.{Appended, stored, appendOf, blockAt}
+use Rattle.archive_model.specs.Append.{stored, appendOf, blockAt}
 use Rattle.archive_model.specs.Claims.{afterAppends}
 use Rattle.archive_model.proofs.Blocks.{Fit, Fits, noRow}
 use Rattle.archive_model.proofs.Buffers.{buffer-length, rows-in}
 use Rattle.archive_model.proofs.Exact.{sound-long}
 use Rattle.archive_model.proofs.Cursor.{written-verdict, blocks-of, is-exact, rows-fit, rows-few}
-use Rattle.cutting.specs.Cut.{firstRows, cutBlockOf, CutBlock, cutOf}
+use Rattle.cutting.specs.Cut.{firstRows, CutBlock}
 use Rattle.cutting.specs.Claims.{Remains, CutAgain, Undone, AtOneBlock, ZerosBehind}
 use Rattle.cutting.proofs.Blocks.{first-none, block-done}
 use Rattle.cutting.proofs.Cutting.{remaining, cut-is, cut-done, remaining-length, remaining-verdict, remaining-rows, cut-enough, cut-parts}

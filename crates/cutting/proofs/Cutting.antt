@@ -3,28 +3,28 @@
 --     first-fits                the first of rows that fit
 --     after-is                  the buffer, part by part
 --     CutDone, cut-is, cut-done     what a cut that is answered 0 says
-use Prim.Native.Nat.{ℕ, zero, suc, _+_, _-_, _*_, _/_, _%_, _^_, _≤_, _<_}
-use native.Mathlib.Nat.{zero-add}
+use Prim.Native.Nat.{ℕ, zero, suc, _+_, _-_, _*_, _/_, _%_, _≤_, _<_}
 use native.Mathlib.Omega.{arith}
 use mathlib.Core.Path.{_≡_, refl, sym, ap, ap₂, _∙_}
 use mathlib.Core.Bool.{Bool, true, false, cond, not}
-use mathlib.Core.List.{List, [], _∷_, _++_, map, flatten, append-assoc}
+use mathlib.Core.List.{List, [], _++_, map, flatten, append-assoc}
 use lib.Dec.{ltb, eqb}
 use lib.ListN.{length, take, drop, replicate, length-take, length-drop, take-append-drop, replicate-append-replicate}
 use lib.Seq.{take-all, take-add, take-take, drop-at, drop-drop, getD-take}
 use borrow.Author.Tests.{eqb-true, eqb-false, ltb-false, lt-ltb, le-ltb}
 use Rattle.lists.specs.Lists.{padded, upFrom}
 use Rattle.lists.proofs.Tests.{by-test}
+use Rattle.lists.proofs.UpFrom.{map-same}
 use Rattle.refusal.specs.Number.{numberOf}
 use Rattle.refusal.specs.declared.Refusal.the-variants.{Argument}
 use Rattle.buffers.specs.Buffer.{part}
 use Rattle.layout.specs.Block.{cellsPerBlock, blockLength}
 use Rattle.buffers.proofs.Segments.{part-take}
 use Rattle.archive_model.specs.Row.{Row, rowsBlock, blockNumber, rowCount, rowsOf, isSound}
-use Rattle.archive_model.specs.Buffer.{blocksFor, rowsAt, bufferOf, maxBlocks, rowsIn}
+use Rattle.archive_model.specs.Buffer.{rowsAt, bufferOf, maxBlocks, rowsIn}
 use Rattle.archive_model.specs.Append.{verdict, refusedAppend, stored, blockAt}
 use Rattle.archive_model.proofs.Blocks.{Fits, noRow, number-back, count-back, rows-back, block-sound}
-use Rattle.archive_model.proofs.Buffers.{map-same, pieces, blank, blank-is, group-length, group-few, group-fits, used-block, free-block}
+use Rattle.archive_model.proofs.Buffers.{pieces, blank, blank-is, group-length, group-few, group-fits, used-block, free-block}
 use Rattle.archive_model.proofs.Buffers.{buffer-length, rows-in}
 use Rattle.archive_model.proofs.Cursor.{written-verdict, blocks-of, is-exact, rows-fit, rows-few}
 use Rattle.cutting.specs.Cut.{firstRows, cutOf}

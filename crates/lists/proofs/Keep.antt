@@ -3,8 +3,8 @@ use mathlib.Core.Path.{_≡_, refl, sym, _∙_, ap}
 use mathlib.Core.Bool.{Bool, true, false, cond}
 use mathlib.Core.List.{List, [], _∷_, _++_, map, flatMap, List·Memᴰ, List·Memᴰ·head, List·Memᴰ·tail, List·Memᴰ·not-nil, List·Memᴰ·cases-cons}
 use mathlib.Core.Logic.{⊎-elim}
-use Rattle.lists.specs.Lists.{keep}
-use Rattle.lists.proofs.Choice.{cond-ap}
+use Rattle.lists.specs.Lists.{keep, all}
+use Rattle.lists.proofs.Choice.{both, cond-ap}
 
 module _ {A : Type 0} (p : A → Bool) where
   pub keep-append : (xs ys : List A) → keep p (xs ++ ys) ≡ keep p xs ++ keep p ys
@@ -47,3 +47,10 @@ keep-same p q h (x ∷ xs) = rw (h x, keep-same p q h xs)
 pub keep-false : {A : Type 0} (xs : List A) → keep (λ x. false) xs ≡ []
 keep-false [] = refl
 keep-false (x ∷ xs) = keep-false xs
+
+-- where all pass
+pub keep-every : {A : Type 0} (p : A → Bool) (l : List A) → all p l ≡ true → keep p l ≡ l
+keep-every p [] e = refl
+keep-every p (x ∷ l) e =
+    let w = both (p x) (all p l) e in
+    rw (w .0) (ap (λ (m : List _). x ∷ m) (keep-every p l (w .1)))

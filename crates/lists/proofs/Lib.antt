@@ -9,3 +9,4 @@ pub mod UpFrom
 pub mod Tests
 pub mod First
 pub mod Last
+pub mod Parts

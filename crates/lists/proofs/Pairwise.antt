@@ -1,6 +1,6 @@
--- `pairwise` of two lists put together and of what `keep` leaves.
+-- `pairwise` of two lists put together, of what `keep` leaves, and of two tests at once.
 use mathlib.Core.Path.{_≡_, refl}
-use mathlib.Core.Bool.{Bool, true, false, cond}
+use mathlib.Core.Bool.{Bool, true, false, cond, _&&_}
 use mathlib.Core.List.{List, [], _∷_, _++_, List·Memᴰ, List·Memᴰ·head, List·Memᴰ·tail, List·Memᴰ·append-cases}
 use mathlib.Core.Logic.{⊎-elim}
 use Rattle.lists.specs.Lists.{keep, all, pairwise}
@@ -27,3 +27,19 @@ module _ {A : Type 0} (r : A → A → Bool) where
       step : (t : Bool) → pairwise r (keep p xs) ≡ true → all (r x) (keep p xs) ≡ true → pairwise r (cond t (x ∷ keep p xs) (keep p xs)) ≡ true
       step true k l = rw l k
       step false k l = k
+
+-- ---- two tests at once
+
+swapped : (a b c d : Bool) → ((a && b) && (c && d)) ≡ ((a && c) && (b && d))
+swapped true true c d = refl
+swapped true false true d = refl
+swapped true false false d = refl
+swapped false b c d = refl
+
+pub all-and : {A : Type 0} (p q : A → Bool) (l : List A) → all (λ x. p x && q x) l ≡ (all p l && all q l)
+all-and p q [] = refl
+all-and p q (x ∷ l) = rw (all-and p q l) (swapped (p x) (q x) (all p l) (all q l))
+
+pub pairwise-and : {A : Type 0} (r s : A → A → Bool) (l : List A) → pairwise (λ x y. r x y && s x y) l ≡ (pairwise r l && pairwise s l)
+pairwise-and r s [] = refl
+pairwise-and r s (x ∷ l) = rw (all-and (r x) (s x) l, pairwise-and r s l) (swapped (all (r x) l) (all (s x) l) (pairwise r l) (pairwise s l))

@@ -1,5 +1,5 @@
 -- Laws of `upFrom`: lists over numbers in a row.
-use mathlib.Core.Path.{_≡_, refl, sym, ap, _∙_}
+use mathlib.Core.Path.{_≡_, refl, sym, ap, ap₂, _∙_}
 use mathlib.Core.Bool.{Bool, true, false}
 use mathlib.Core.List.{List, [], _∷_, _++_, map, flatMap, append-assoc, append-nil, List·Memᴰ, List·Memᴰ·head, List·Memᴰ·tail, List·Memᴰ·not-nil, List·Memᴰ·append-cases, List·Memᴰ·eq-of-singleton, Memᴰ·append-left, Memᴰ·append-right}
 use mathlib.Core.Logic.{⊎-elim}
@@ -41,6 +41,17 @@ pub map-shift : {A : Type 0} (f : ℕ → A) (n a m : ℕ) → map f (upFrom (n 
 unfolding upFrom
 map-shift f n a zero = refl
 map-shift f n a (suc m) = ap (λ (l : List _). f (n + a) ∷ l) (ap (λ (i : ℕ). map f (upFrom i m)) (sym (add-suc n a)) ∙ map-shift f n (suc a) m)
+
+-- two maps that agree, over numbers in a row from a on and from b on
+pub map-moved : {A : Type 0} (f g : ℕ → A) (a b n : ℕ) → ((i : ℕ) → i < n → f (a + i) ≡ g (b + i)) → map f (upFrom a n) ≡ map g (upFrom b n)
+unfolding upFrom
+map-moved f g a b zero h = refl
+map-moved f g a b (suc n) h =
+    ap₂ _∷_ (rw (add-zero, add-zero) at (h 0 (omega arith)))
+    (map-moved f g (suc a) (suc b) n (λ i k. rw (suc-add, suc-add, ← add-suc, ← add-suc) (h (suc i) (omega arith))))
+
+pub map-same : {A : Type 0} (f g : ℕ → A) (a n : ℕ) → ((i : ℕ) → a ≤ i → i < a + n → f i ≡ g i) → map f (upFrom a n) ≡ map g (upFrom a n)
+map-same f g a n h = map-moved f g a a n (λ i k. h (a + i) (omega arith) (omega arith))
 
 -- ── keep ──
 

@@ -1,6 +1,5 @@
 -- Cells: the transmitter of one, and those that stay of a block.
 --     used-bounds, identity-shown           a valid row has 8 to 21 bytes; the four before its STATUS and HASH
---     copied                                what a copy of the same length leaves
 --     row-at, kept-first, kept-turn, kept-end     the loop over the cells of a block: a cell's row; its start, a turn, its end
 use Prim.Native.Nat.{ℕ, suc, _+_, _-_, _≤_, _<_}
 use native.Mathlib.Nat.{zero-add}
@@ -8,7 +7,7 @@ use native.Mathlib.Numerals.{add-one}
 use native.Mathlib.Omega.{arith}
 use mathlib.Core.Path.{_≡_, sym, ap, ap₂, _∙_}
 use mathlib.Core.Bool.{Bool, true, false, cond}
-use mathlib.Core.List.{List, [], _++_, map, flatten, append-nil}
+use mathlib.Core.List.{List, [], _++_, map, flatten}
 use lib.ListN.{length, getD, take, drop, length-map, drop-of-length-le}
 use lib.Dec.{eqb}
 use lib.Seq.{take-all, drop-drop, drop-cons}
@@ -29,12 +28,6 @@ use Rattle.archive_model.specs.Identity.{identityOf}
 use Rattle.repack_model.specs.Repack.{isListed}
 use Rattle.archive.specs.Private.{cellsFrom}
 use Rattle.repack.specs.Private.{areRows, keptCell, keptFrom}
-
-pub copied : (src dst ys : List ℕ) → length src ≡ length dst → ys ≡ take (length src) src ++ drop (length src) dst → ys ≡ src
-copied src dst ys e c =
-    let l : length dst ≤ length src = omega arith in
-    let k : length src ≤ length src = omega arith in
-    c ∙ ap₂ _++_ (take-all (length src) src k) (drop-of-length-le dst l) ∙ append-nil src
 
 -- ---- one cell
 

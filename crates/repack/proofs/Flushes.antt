@@ -1,23 +1,18 @@
 -- A block put of the first 15 of some cells, where there are so many.
 --     flush-few, flush-full       what waits and what is put, of fewer than 15 cells and of 15 to 29
-use Prim.Native.Nat.{ℕ, zero, suc, _+_, _-_, _*_, _/_, _≤_, _<_}
-use native.Mathlib.Nat.{zero-add, suc-add}
+use Prim.Native.Nat.{ℕ, _+_, _-_, _*_, _/_, _≤_, _<_}
 use native.Mathlib.Omega.{arith}
 use mathlib.Core.Path.{_≡_, sym, ap, ap₂, _∙_}
-use mathlib.Core.List.{List, [], _∷_, _++_, append-nil}
+use mathlib.Core.List.{List, _++_, append-nil}
 use lib.ListN.{length, take, drop, length-take, length-drop, drop-of-length-le}
-use lib.Seq.{take-nil, take-take, take-append-le}
+use lib.Seq.{take-take, take-append-le}
+use Rattle.lists.proofs.Parts.{drop-take}
 use Rattle.buffers.specs.Buffer.{part}
 use Rattle.layout.specs.Cell.{cellLength}
 use Rattle.layout.specs.Block.{cellsPerBlock, blockLength}
 use Rattle.repack_model.specs.Packer.{fullLength, cellsBlock, fullBlocks, pendingLength}
 use Rattle.repack_model.proofs.Packing.{few-blocks, one-block, cells-block-length}
 use Rattle.repack.specs.Private.{Flushed}
-
-drop-take : (a n : ℕ) (xs : List ℕ) → drop a (take (a + n) xs) ≡ take n (drop a xs)
-drop-take zero n xs = rw zero-add
-drop-take (suc a) n [] = ap (drop (suc a)) (take-nil (suc a + n)) ∙ sym (take-nil n)
-drop-take (suc a) n (x ∷ xs) = rw suc-add (drop-take a n xs)
 
 module _ (k total : ℕ) (before : List ℕ) where
   abbrev cells : List ℕ
@@ -55,7 +50,8 @@ module _ (k total : ℕ) (before : List ℕ) where
               ∙ take-append-le (cellLength * (total - cellsPerBlock)) (drop fullLength before) (drop fullLength before)
               (omega (arith, length-drop fullLength before))
               ∙ sym (ap₂ (λ (a b : ℕ). drop (fullLength * a) (take b before)) one split
-              ∙ drop-take fullLength (cellLength * (total - cellsPerBlock)) before);
+              ∙ drop-take before fullLength (fullLength + cellLength * (total - cellsPerBlock))
+              ∙ ap (λ (n : ℕ). take n (drop fullLength before)) (omega arith));
           put =
               put ∙ sym (append-nil (cellsBlock k (take fullLength before)))
               ∙ sym (ap (λ (b : List ℕ). b ++ drop (length b) full) block

@@ -10,13 +10,14 @@ use mathlib.Core.Bool.{true}
 use mathlib.Core.List.{List, _++_, map, flatten, append-nil}
 use lib.ListN.{length, take, replicate, length-take}
 use Rattle.lists.specs.Lists.{upFrom}
+use Rattle.lists.proofs.UpFrom.{map-same}
 use Rattle.layout.specs.Block.{cellsPerBlock, blockLength}
 use Rattle.buffers.proofs.Segments.{part-take}
 use Rattle.archive_model.specs.Row.{Row, rowsBlock, rowCount, isSound}
 use Rattle.archive_model.specs.Buffer.{blocksFor, rowsAt, rowsIn, archiveOf, bufferOf, maxBlocks}
 use Rattle.archive_model.specs.Append.{verdict, blockAt}
 use Rattle.archive_model.proofs.Blocks.{block-sound}
-use Rattle.archive_model.proofs.Buffers.{map-same, pieces, group-fits, group-few, group-length, used-block, rows-in}
+use Rattle.archive_model.proofs.Buffers.{pieces, group-fits, group-few, group-length, used-block, rows-in}
 use Rattle.archive_model.proofs.Cursor.{blocks-of, is-exact, rows-fit, rows-few, written-verdict}
 use Rattle.archive.specs.Archive.{soundCount}
 use Rattle.repack_model.specs.Repack as model

@@ -13,7 +13,8 @@ use lib.ListN.{length, take, drop, length-append, length-drop}
 use lib.Seq.{take-all, take-at, take-add, take-nil, drop-drop, drop-append-le, drop-at, getD-drop}
 use borrow.Author.Tests.{eq-eqb, ne-eqb}
 use Rattle.lists.specs.Lists.{padded, upFrom}
-use Rattle.lists.proofs.UpFrom.{upFrom-add, map-shift}
+use Rattle.lists.proofs.UpFrom.{upFrom-add, map-shift, map-same}
+use Rattle.lists.proofs.Parts.{flatten-append}
 use Rattle.buffers.specs.Buffer.{part}
 use Rattle.layout.specs.Cell.{cellLength}
 use Rattle.layout.specs.Block.{cellsPerBlock, bodyLength, blockLength, sealed, blockOf}
@@ -23,7 +24,7 @@ use Rattle.layout.proofs.Cell.{cell-length}
 use Rattle.archive_model.specs.Row.{Row, rowLast, rowCell, rowsHeader, rowsBlock}
 use Rattle.archive_model.specs.Buffer.{blocksFor, rowsAt, archiveOf}
 use Rattle.archive_model.proofs.Blocks.{Fit, Fits, noRow, short, header-length}
-use Rattle.archive_model.proofs.Buffers.{map-same, flatten-append, group-fits}
+use Rattle.archive_model.proofs.Buffers.{group-fits}
 use Rattle.repack_model.specs.Packer.{Packing, startPacking, fullLength, cellsBlock, fullBlocks, pushedBlocks, pushed, lastBlock, cellsOf}
 
 -- ---- two lists of cells

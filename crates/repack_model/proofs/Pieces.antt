@@ -12,10 +12,10 @@ use borrow.Author.Tests.{eqb-true}
 use Rattle.lists.specs.Lists.{keep, all, upFrom}
 use Rattle.lists.proofs.Choice.{both}
 use Rattle.lists.proofs.Keep.{keep-append}
+use Rattle.lists.proofs.Parts.{flatten-append}
 use Rattle.layout.specs.Block.{blockLength}
 use Rattle.archive_model.specs.Row.{Row, rowCell, rowsOf, isSound}
 use Rattle.archive_model.specs.Buffer.{blocksIn, archiveOf}
-use Rattle.archive_model.proofs.Buffers.{flatten-append}
 use Rattle.archive_model.proofs.Pieces.{pieces-blocks}
 use Rattle.repack_model.specs.Repack.{soundRows, isListed, others}
 use Rattle.repack_model.specs.Packer.{Packing, startPacking, fullLength, pushedBlocks, pushed, lastBlock, cellsOf, keptCells, packedIn}

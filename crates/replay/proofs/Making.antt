@@ -2,30 +2,29 @@
 --     answered, loaded, delivered, heard, seen      receptions, restores, bursts, asks, looks
 --     saved-output, saved                     a checkpoint, whose output is written before its head
 --     image-lent, cut-made                    a cut: the image in the first cell, and the second cell
-use Prim.Native.Nat.{ℕ, _+_, _-_, _≤_, _<_, min}
+use Prim.Native.Nat.{ℕ, _+_, _-_, _≤_, min}
 use native.Mathlib.Omega.{arith}
-use mathlib.Core.Path.{_≡_, refl, sym, ap, _∙_}
+use mathlib.Core.Path.{_≡_, sym, ap, _∙_}
 use mathlib.Core.List.{List, [], _∷_, _++_, append-assoc, append-nil}
 use lib.ListN.{length, getD, take, drop, length-append, length-take, length-drop, drop-of-length-le, replicate, length-replicate}
-use lib.Seq.{take-append-le, take-all, drop-at, drop-drop, length-take-le}
+use lib.Seq.{take-append-le, drop-at, drop-drop, length-take-le}
 use Rattle.telegram.specs.declared.frame.Frame.{Frame}
 use Rattle.buffers.specs.Buffer.{part}
 use Rattle.layout.specs.BigEndian.{be}
 use Rattle.layout.proofs.BigEndian.{be-length}
 use Rattle.buffers.proofs.Segments.{part-length, part-ends, take-clamped, Begun}
-use Rattle.model.specs.declared.Totals.{Totals}
 use Rattle.model.specs.View.{Reception, View, fresh}
 use Rattle.model.specs.Step.{Outcome, step, sentFor}
 use Rattle.model.specs.Image.{CheckpointResult, RestoreResult, imageLength, checkpointOf, restoreOf}
 use Rattle.model.specs.Burst.{Replied, BurstResult, burstOf}
 use Rattle.model.specs.Heard.{HeardResult, copiesOf}
-use Rattle.model.specs.History.{Call, Receive, Checkpoint, Restore, Cut, Burst, Ask, Look, Answered, Wrote, Restored, Delivered, Heard, Looked, run}
+use Rattle.model.specs.History.{Receive, Checkpoint, Restore, Cut, Burst, Ask, Look, Answered, Wrote, Restored, Delivered, Heard, Looked, run}
 use Rattle.replay_model.specs.Operation.{saving}
 use Rattle.replay_model.specs.Record.{headOf, seenBytes, recordOf}
 use Rattle.replay_model.proofs.Parts.{record-one, record-two}
 use Rattle.replay_model.proofs.Lengths.{head-length, checkpoint-length}
 use Rattle.replay.specs.Calls.{numberAt, maxOutput, outputIn}
-use Rattle.replay.specs.Replay.{wroteOf}
+use Rattle.replay.specs.Private.{wroteOf}
 
 module _ (v : View) where
   pub answered : (setting : ℕ) (r : Reception) (o : Outcome) (sent : Frame) → o ≡ step v r → sent ≡ sentFor setting (o .answer) r

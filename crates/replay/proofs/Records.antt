@@ -11,7 +11,6 @@ use native.Mathlib.Numerals.{add-one}
 use native.Mathlib.Decide.{decLt}
 use native.Mathlib.Omega.{arith}
 use mathlib.Core.Path.{_≡_, refl, sym, ap, ap₂, _∙_}
-use mathlib.Core.Bool.{true, false}
 use mathlib.Core.List.{List, [], _∷_, _++_, map}
 use lib.Dec.{eqb}
 use lib.ListN.{length, length-map, getD, take, drop, length-drop, length-take, drop-of-length-le}
@@ -25,10 +24,10 @@ use Rattle.buffers.specs.Buffer.{part, resized}
 use Rattle.layout.specs.BigEndian.{unbe}
 use Rattle.buffers.proofs.Buffer.{resized-whole}
 use Rattle.buffers.proofs.Segments.{part-length, part-ends, take-clamped}
-use Rattle.model.specs.History.{Call, Receive, Checkpoint, Restore, Cut, Burst, Ask, Look}
+use Rattle.model.specs.History.{Receive, Checkpoint, Restore, Cut, Burst, Ask, Look}
 use Rattle.replay_model.specs.Operation.{receiving, saving, cutting, restoring, delivering, asking}
 use Rattle.replay_model.specs.Replay.{callSize, sizeOfAll}
-use Rattle.replay_model.proofs.Sizes.{size-append, size-part}
+use Rattle.replay_model.proofs.Sizes.{size-append}
 use Rattle.replay.specs.Calls.{callLength, recordAt, settingIn, receptionIn, outputIn, lentIn, receptionsIn, placesIn, entryIn, callIn, callsIn}
 
 -- ---- the fields of a record

@@ -3,7 +3,7 @@
 --     enough                      there is room for a call more
 --     ran, refused                all of them, and none of them
 --     replays                     from a fresh collector: by the whole-history theorem
-use Prim.Native.Nat.{ℕ, _+_, _-_, _*_, _/_, _≤_, _<_}
+use Prim.Native.Nat.{ℕ, _+_, _-_, _/_, _≤_, _<_}
 use native.Mathlib.Omega.{arith}
 use mathlib.Core.Path.{_≡_, refl, sym, ap, _∙_}
 use mathlib.Core.List.{List, [], _∷_, _++_, flatten}
@@ -12,7 +12,6 @@ use borrow.Author.Tests.{lt-ltb, le-ltb}
 use Rattle.refusal.specs.declared.Refusal.the-variants.{ShortOutput}
 use Rattle.buffers.specs.Buffer.{part}
 use Rattle.buffers.proofs.Segments.{Begun, begin, lend, named}
-use Rattle.telegram.specs.Output.{Result}
 use Rattle.model.specs.View.{View, fresh}
 use Rattle.model.specs.History.{Call, run, common}
 use Rattle.model.proofs.Theorem.{whole-history}
@@ -25,7 +24,8 @@ use Rattle.replay_model.proofs.Sizes.{sized, size-append, size-part}
 use Rattle.replay.specs.declared.Ran.the-variants.{Done, Refused}
 use Rattle.replay.specs.declared.Replayed.{Replayed}
 use Rattle.replay.specs.Calls.{callLength, callIn, callsIn, recordAt}
-use Rattle.replay.specs.Replay.{replayedOf, Resumes, Replays, Called}
+use Rattle.replay.specs.Replay.{Resumes, Replays}
+use Rattle.replay.specs.Private.{Called}
 use Rattle.replay.proofs.Records.{lentRecord, lent-record, calls-more, size-lent, sizes-lent}
 
 -- ---- one call more

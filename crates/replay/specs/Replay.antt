@@ -2,24 +2,17 @@
 -- history, and the clerk who writes it down").
 use Prim.Native.Nat.{ℕ}
 use mathlib.Core.Path.{_≡_}
-use mathlib.Core.List.{List, [], _∷_}
-use lib.ListN.{take, replicate}
+use mathlib.Core.List.{List, []}
 use Rattle.refusal.specs.Number.{numberOf}
 use Rattle.telegram.specs.Output.{Result}
 use Rattle.model.specs.View.{View, fresh}
-use Rattle.model.specs.Image.{checkpointOf}
-use Rattle.model.specs.Burst.{burstOf}
-use Rattle.model.specs.History.{Call, IsHistory, Seen, Wrote, run, expected, uncut, common}
-use Rattle.collector.specs.declared.Collector.{Collector}
+use Rattle.model.specs.History.{Call, IsHistory, run, expected, uncut, common}
 use Rattle.collector.specs.Collector.{viewOf}
-use Rattle.burst.specs.declared.Within.{Within}
-use Rattle.burst.specs.Records.{burstedOf}
 use Rattle.replay_model.specs.Record.{recordOf}
-use Rattle.replay_model.specs.Replay.{afterCall, afterCalls, putRecord, madeBy}
+use Rattle.replay_model.specs.Replay.{afterCalls, putRecord, madeBy}
 use Rattle.replay.specs.declared.Ran.{Ran}
 use Rattle.replay.specs.declared.Ran.the-variants.{Done, Refused}
 use Rattle.replay.specs.declared.Replayed.{Replayed}
-use Rattle.replay.specs.Calls.{settingIn, receptionsIn, placeIn}
 
 abbrev pub ranNumber : Ran → ℕ
 ranNumber Done = 0
@@ -41,19 +34,3 @@ pub record Replays (h : List Call) (entry exit : List ℕ) (r : Replayed) : Type
   pub reference : IsHistory h → replayedOf r exit ≡ putRecord (recordOf (expected [] h)) entry
   pub uncutRun : (g : List Call) → IsHistory g → h ≡ uncut g
       → replayedOf r exit ≡ putRecord (recordOf (common (expected [] g))) entry
-
--- ---- what private functions say
-
--- one call: its part of the record fills the output, and the state after it
-pub record Called (v : View) (k : Call) (exit : List ℕ) (c : Collector) : Type 0 where
-  pub bytes : exit ≡ recordOf (run v (k ∷ []))
-  pub next : viewOf c ≡ afterCall v k
-
--- what is seen of a checkpoint
-abbrev pub wroteOf : View → List ℕ → Seen
-wroteOf v output = Wrote (checkpointOf v output .number) (checkpointOf v output .output) (v .totals)
-
--- a burst of the receptions that bytes say, with the first m places that a record says
-pub record BurstMade (c : Collector) (r bytes : List ℕ) (m : ℕ) (w : Within) : Type 0 where
-  pub result : burstedOf (w .bursted) (take m (w .replies))
-      ≡ burstOf (settingIn r) (viewOf c) (receptionsIn bytes) (replicate m (placeIn r))

@@ -20,7 +20,7 @@ ghost use Rattle.collector.specs.Collector.{viewOf};
 ghost use Rattle.burst.specs.Records.{listed};
 ghost use Rattle.replay_model.specs.Record.{headLength, countLength, replyLength};
 ghost use Rattle.replay.specs.Calls.{callLength, numberAt, settingIn, receptionIn, outputIn, lentIn, receptionsIn, placesIn, entryIn};
-ghost use Rattle.replay.specs.Replay.{Called, BurstMade};
+ghost use Rattle.replay.specs.Private.{Called, BurstMade};
 
 // The most bytes that a record has for a reception.
 const RECEPTION: usize = 53;

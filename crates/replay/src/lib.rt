@@ -14,7 +14,8 @@ ghost use lib.ListN.{length};
 ghost use Rattle.collector.specs.Collector.{viewOf};
 ghost use Rattle.replay_model.specs.Replay.{callSize, sizeOfAll};
 ghost use Rattle.replay.specs.Calls.{callLength, callIn, callsIn};
-ghost use Rattle.replay.specs.Replay.{Resumes, Replays, Called};
+ghost use Rattle.replay.specs.Replay.{Resumes, Replays};
+ghost use Rattle.replay.specs.Private.{Called};
 
 // How long the record of a call is.
 pub const CALL_LENGTH: usize = 64;

@@ -21,7 +21,7 @@ ghost use Rattle.collector.specs.Heard.{askedNumber};
 ghost use Rattle.image.specs.Checkpoint.{savedNumber, loadedNumber, checkpointResult};
 ghost use Rattle.burst.specs.Records.{repliedOf, handedNumber, listed};
 ghost use Rattle.replay_model.specs.Record.{headLength, countLength, replyLength, headOf, formOf, replyOf, seenBytes};
-ghost use Rattle.replay.specs.Replay.{wroteOf};
+ghost use Rattle.replay.specs.Private.{wroteOf};
 
 // The operation, the number and the totals; with a length behind them; a reply; all of an answer.
 pub(crate) const HEAD: usize = 50;

@@ -1,6 +1,6 @@
 -- Calls in two parts: what is seen of them, the state after them, and the record.
 use mathlib.Core.Path.{_≡_, refl, sym, ap, ap₂, _∙_}
-use mathlib.Core.List.{List, [], _∷_, _++_, append-assoc, append-nil, map, flatten}
+use mathlib.Core.List.{List, [], _∷_, _++_, append-assoc, append-nil, flatten}
 use lib.ListN.{take}
 use Rattle.model.specs.View.{View, fresh}
 use Rattle.model.specs.Step.{step}

@@ -7,14 +7,14 @@ use mathlib.Core.Path.{_≡_, refl, sym, ap, _∙_}
 use mathlib.Core.List.{List, [], _∷_, _++_, flatten}
 use lib.ListN.{length, take, drop, length-append, take-append-drop}
 use Rattle.layout.proofs.BigEndian.{be-length}
-use Rattle.model.specs.View.{View, fresh}
+use Rattle.model.specs.View.{fresh}
 use Rattle.model.specs.Step.{step}
 use Rattle.model.specs.Image.{imageLength, checkpointOf, restoreOf}
 use Rattle.model.specs.Burst.{burstOf}
-use Rattle.model.specs.History.{Call, Receive, Checkpoint, Restore, Cut, Burst, Ask, Look, run}
+use Rattle.model.specs.History.{Call, Receive, Checkpoint, Restore, Cut, Burst, Ask, Look}
 use Rattle.model.specs.History.{Seen, Answered, Wrote, Restored, Delivered, Heard, Looked}
 use Rattle.replay_model.specs.Record.{seenBytes, recordOf}
-use Rattle.replay_model.specs.Replay.{afterCall, callSize, sizeOfAll}
+use Rattle.replay_model.specs.Replay.{sizeOfAll}
 use Rattle.replay_model.specs.Claims.{Sized}
 use Rattle.replay_model.proofs.Lengths.{head-length, reply-length, replies-length, checkpoint-length, burst-length}
 

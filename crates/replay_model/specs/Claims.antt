@@ -1,6 +1,6 @@
 -- What is claimed of a record: it reads back, and the reference model's is never cut; its length is told by the calls alone; and calls made in parts
 -- are one run.
-use Prim.Native.Nat.{ℕ, _^_, _<_}
+use Prim.Native.Nat.{_^_, _<_}
 use mathlib.Core.Path.{_≡_}
 use mathlib.Core.List.{List, [], _∷_, _++_}
 use lib.ListN.{length}

@@ -8,14 +8,14 @@ use mathlib.Core.List.{List, [], _∷_, map, flatten, map-map}
 use lib.ListN.{length, take, drop, length-take, length-map}
 use lib.Seq.{take-all}
 use Rattle.lists.specs.Lists.{all, upFrom}
-use Rattle.lists.proofs.UpFrom.{length-upFrom}
+use Rattle.lists.proofs.UpFrom.{length-upFrom, map-same}
 use Rattle.buffers.specs.Buffer.{part}
 use Rattle.archive_model.specs.Row.{Row}
 use Rattle.archive_model.specs.Buffer.{maxRows, bufferOf, rowsIn}
 use Rattle.archive_model.specs.Append.{verdict}
 use Rattle.archive_model.specs.Claims.{isFit}
 use Rattle.archive_model.proofs.Claims.{read-back}
-use Rattle.archive_model.proofs.Buffers.{pieces, map-same}
+use Rattle.archive_model.proofs.Buffers.{pieces}
 use Rattle.report_model.specs.Report.{Line, Report, emptyReport, maxArchives, maxLines, lineOf, addRows, keptIn, looseIn, isLine, sumBy, isTally, isReport, added}
 use Rattle.report_model.specs.Claims.{addAll, noneRefused, rowsOfAll, Complete}
 use Rattle.report_model.proofs.Order.{add-append}

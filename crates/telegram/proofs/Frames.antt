@@ -18,7 +18,8 @@ use Rattle.telegram.specs.declared.frame.Built.the-variants.{Done, Refus
 use Rattle.lists.specs.Lists.{padded}
 use Rattle.lists.proofs.Padded.{drop-replicate}
 use Rattle.erp1.specs.Subtelegram.{maxLength}
-use Rattle.telegram.specs.Frame.{frameOf, Extended}
+use Rattle.telegram.specs.Frame.{frameOf}
+use Rattle.telegram.specs.Private.{Extended}
 use Rattle.telegram.specs.Output.{Result, resultOf, refused, written, putOf}
 
 replicate-cons : (n a : ℕ) → 0 < n → replicate n a ≡ a ∷ replicate (n - 1) a

@@ -1,7 +1,6 @@
 -- A frame: the bytes of a subtelegram by value, zero filled to 21, with their length.
-use Prim.Native.Nat.{ℕ, _+_}
-use mathlib.Core.Path.{_≡_}
-use mathlib.Core.List.{List, _++_}
+use Prim.Native.Nat.{ℕ}
+use mathlib.Core.List.{List}
 use lib.ListN.{length}
 use Rattle.lists.specs.Lists.{padded}
 use Rattle.erp1.specs.Subtelegram.{maxLength}
@@ -10,8 +9,3 @@ use Rattle.telegram.specs.declared.frame.Frame.{Frame}
 -- "in 21 bytes, zero filled, with its length, 0 if none" (document 01, "Numbers a caller sees")
 unfoldable pub frameOf : List ℕ → Frame
 frameOf xs = record { len = length xs; bytes = padded maxLength xs }
-
--- the frame r is f with ys more (private functions say this)
-pub record Extended (f r : Frame) (ys : List ℕ) : Type 0 where
-  pub len : r .len ≡ f .len + length ys
-  pub bytes : (xs : List ℕ) → f ≡ frameOf xs → r ≡ frameOf (xs ++ ys)

@@ -4,3 +4,4 @@ pub mod Fields
 pub mod Addressing
 pub mod Repeater
 pub mod Claims
+pub mod Private

@@ -4,7 +4,8 @@ ghost use mathlib.Core.List.{List, [], _∷_};
 ghost use Prim.Native.Nat.{ℕ, _+_, _≤_, _<_};
 ghost use lib.ListN.{length};
 ghost use Rattle.erp1.specs.Subtelegram.{maxLength, sealedOf};
-ghost use Rattle.telegram.specs.Frame.{frameOf, Extended};
+ghost use Rattle.telegram.specs.Frame.{frameOf};
+ghost use Rattle.telegram.specs.Private.{Extended};
 ghost use Rattle.telegram.specs.Output.{resultOf, putOf};
 use refusal::Refusal;
 

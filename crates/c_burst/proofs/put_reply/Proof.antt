@@ -1,14 +1,12 @@
 -- `c_burst::put_reply` meets its contract: a step for each byte that is stored, and for the part that is lent.
-use mathlib.Core.Path.{_≡_, refl, sym, ap₂, _∙_}
-use mathlib.Core.List.{_++_, append-nil}
+use mathlib.Core.Path.{_≡_, sym, _∙_}
 use native.Mathlib.Omega.{arith}
 use borrow.Author.Needs.{needs}
 use denote.Ref.{now}
-use lib.ListN.{length, drop-of-length-le}
-use lib.Seq.{take-all}
+use lib.ListN.{length}
 use Rattle.erp1.specs.Subtelegram.{maxLength}
 use Rattle.buffers.proofs.Segments.{Writing, packed, begin, begun-length, within, lent, store, lend, done}
-use Rattle.buffers.proofs.Buffer.{resized-whole}
+use Rattle.buffers.proofs.Buffer.{resized-whole, copied}
 use Rattle.c_layout.specs.Frame.{frameBytes}
 use Rattle.c_burst.specs.Bytes.{replyBytes}
 use Rattle.c_burst.proofs.put_reply.Statement.{statement}
@@ -41,7 +39,7 @@ replied c =
     let place = lent (headed at .begun) 21 24 (omega arith) (omega (arith, long s)) in
     packed
     (lend (headed at .begun) _ sent 24
-    (c .copy .ensures .1 ∙ ap₂ _++_ (take-all (length sent) sent (omega arith)) (drop-of-length-le _ {i = length sent} (omega (arith, place, sized (c .before .before)))) ∙ append-nil sent)
+    (copied sent _ _ (sized (c .before .before) ∙ sym place) (c .copy .ensures .1))
     (c .copy .kept .1 .0)
     (omega arith)
     (omega (arith, long s)))

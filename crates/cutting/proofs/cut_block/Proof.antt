@@ -2,13 +2,11 @@
 use mathlib.Core.Path.{_≡_, sym, ap, _∙_}
 use mathlib.Core.Bool.{true}
 use mathlib.Core.List.{List}
-use Prim.Native.Nat.{ℕ, _≤_, _<_}
+use Prim.Native.Nat.{ℕ, _≤_}
 use native.Mathlib.Omega.{arith}
 use borrow.Author.Needs.{needs}
 use denote.Ref.{now}
 use Rattle.archive_model.specs.Row.{rowCount, isSound}
-use Rattle.archive.specs.Archive.{soundCount}
-use Rattle.cutting.specs.Cut.{CutBlock}
 use Rattle.cutting.proofs.Blocks.{block-size, block-unsound, block-few, block-has, block-done}
 use Rattle.cutting.proofs.cut_block.Statement.{statement}
 use Rattle.cutting.proofs.cut_block.Tie as tie

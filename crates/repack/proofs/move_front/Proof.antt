@@ -1,5 +1,5 @@
 -- `repack::move_front` meets its contract: the cells behind the first 15 are copied out, and in again.
-use mathlib.Core.Path.{_≡_, refl, sym, ap, _∙_}
+use mathlib.Core.Path.{_≡_, ap, _∙_}
 use native.Mathlib.Omega.{arith}
 use borrow.Author.Needs.{needs}
 use denote.Ref.{now}
@@ -7,9 +7,9 @@ use mathlib.Core.List.{List, _++_}
 use Prim.Native.Nat.{ℕ, _≤_}
 use lib.ListN.{length, drop, length-drop}
 use lib.Seq.{take-all}
+use Rattle.buffers.proofs.Buffer.{copied}
 use Rattle.buffers.proofs.Segments.{part-length}
 use Rattle.repack_model.specs.Packer.{fullLength}
-use Rattle.repack.proofs.Cells.{copied}
 use Rattle.repack.proofs.move_front.Statement.{statement}
 use Rattle.repack.proofs.move_front.Tie as tie
 

@@ -10,9 +10,10 @@ use lib.Dec.{eqb}
 use lib.ListN.{take}
 use Rattle.lists.specs.Lists.{any}
 use Rattle.layout.specs.Cell.{cellLength}
+use Rattle.buffers.proofs.Buffer.{copied}
 use Rattle.buffers.proofs.Segments.{Writing, packed, begin, begun-length, skip, named, lend, lent, so-far}
 use Rattle.repack.specs.Private.{keptCell}
-use Rattle.repack.proofs.Cells.{copied, cell-listed}
+use Rattle.repack.proofs.Cells.{cell-listed}
 use Rattle.repack.proofs.push_cell.Statement.{statement}
 use Rattle.repack.proofs.push_cell.Tie as tie
 

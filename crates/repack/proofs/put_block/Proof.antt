@@ -1,5 +1,5 @@
 -- `repack::put_block` meets its contract: a step for each part that is lent and each byte that is stored.
-use mathlib.Core.Path.{_≡_, refl, sym, _∙_}
+use mathlib.Core.Path.{refl, sym, _∙_}
 use mathlib.Core.List.{List}
 use Prim.Native.Nat.{ℕ, _+_, _/_}
 use native.Mathlib.Omega.{arith}
@@ -8,11 +8,11 @@ use denote.Ref.{now}
 use lib.ListN.{length, replicate}
 use Rattle.layout.specs.BigEndian.{be}
 use Rattle.layout.specs.Cell.{cellLength}
-use Rattle.layout.specs.Block.{headerLength, bodyLength, sealed}
+use Rattle.layout.specs.Block.{headerLength, bodyLength}
+use Rattle.buffers.proofs.Buffer.{copied}
 use Rattle.buffers.proofs.Segments.{Writing, packed, begin, begun-length, within, lent, store, lend, lend-sized, wipe}
 use Rattle.layout.proofs.Block.{seal-front}
 use Rattle.repack_model.specs.Packer.{cellsBlock}
-use Rattle.repack.proofs.Cells.{copied}
 use Rattle.repack.proofs.put_block.Statement.{statement}
 use Rattle.repack.proofs.put_block.Tie as tie
 

@@ -6,7 +6,6 @@ use native.Mathlib.Omega.{arith}
 use denote.Ref.{now}
 use lib.ListN.{length, take}
 use borrow.Author.Tests.{le-leb, lt-leb}
-use Rattle.buffers.proofs.Segments.{part-length}
 use Rattle.replay_model.specs.Replay.{sizeOfAll}
 use Rattle.replay_model.proofs.Sizes.{size-part}
 use Rattle.replay.specs.Calls.{callLength, callsIn}

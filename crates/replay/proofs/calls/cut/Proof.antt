@@ -15,7 +15,7 @@ use Rattle.collector.specs.Collector.{viewOf}
 use Rattle.image.specs.Checkpoint.{loadedNumber, restoreResult}
 use Rattle.replay_model.specs.Record.{seenBytes}
 use Rattle.replay.specs.Calls.{outputIn}
-use Rattle.replay.specs.Replay.{wroteOf}
+use Rattle.replay.specs.Private.{wroteOf}
 use Rattle.replay.proofs.Making.{output-is, image-lent, cut-made}
 use Rattle.replay.proofs.calls.cut.Statement.{statement}
 use Rattle.replay.proofs.calls.cut.Tie as tie

@@ -6,7 +6,7 @@ use denote.Ref.{now}
 use Rattle.collector.specs.Collector.{viewOf}
 use Rattle.replay_model.specs.Record.{seenBytes}
 use Rattle.replay.specs.Calls.{outputIn}
-use Rattle.replay.specs.Replay.{wroteOf}
+use Rattle.replay.specs.Private.{wroteOf}
 use Rattle.replay.proofs.Making.{output-is, saved}
 use Rattle.replay.proofs.calls.saved.Statement.{statement}
 use Rattle.replay.proofs.calls.saved.Tie as tie

@@ -1,15 +1,13 @@
 -- `replay::writing::put_replies` meets its contract. The invariant: the first i places are written; the measure: the places left.
 use mathlib.Core.Path.{_≡_, sym, _∙_}
-use mathlib.Core.List.{List, map, flatten}
+use mathlib.Core.List.{List, flatten}
 use Prim.Native.Nat.{ℕ, _-_, _*_, _+_, _≤_}
 use native.Mathlib.Omega.{arith}
 use borrow.Author.Needs.{needs}
 use denote.Ref.{now}
 use lib.ListN.{length, take}
 use Rattle.buffers.proofs.Segments.{Begun, begin, begun-length, within, turn, turned, done}
-use Rattle.replay_model.specs.Record.{replyOf}
 use Rattle.burst.specs.declared.Reply.{Reply}
-use Rattle.burst.specs.Records.{repliedOf}
 use Rattle.replay.proofs.Filling.{cells, cells-length, cell-at}
 use Rattle.replay.proofs.writing.put_replies.Statement.{statement}
 use Rattle.replay.proofs.writing.put_replies.Tie as tie
