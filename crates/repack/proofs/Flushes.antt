@@ -37,6 +37,7 @@ module _ (k total : ℕ) (before : List ℕ) where
         let long : length cells ≡ cellLength * total = length-take (cellLength * total) before ∙ omega arith in
         let one : total / cellsPerBlock ≡ 1 = omega arith in
         let split : cellLength * total ≡ fullLength + cellLength * (total - cellsPerBlock) = omega arith in
+        let left : fullLength + cellLength * (total - cellsPerBlock) - fullLength ≡ cellLength * (total - cellsPerBlock) = omega arith in
         let first : take fullLength cells ≡ take fullLength before = take-take fullLength (cellLength * total) before (omega arith) in
         let block : fullBlocks k cells ≡ cellsBlock k (take fullLength before) =
         one-block k cells (omega (arith, long)) (omega (arith, long)) ∙ ap (cellsBlock k) first in
@@ -51,7 +52,7 @@ module _ (k total : ℕ) (before : List ℕ) where
               (omega (arith, length-drop fullLength before))
               ∙ sym (ap₂ (λ (a b : ℕ). drop (fullLength * a) (take b before)) one split
               ∙ drop-take before fullLength (fullLength + cellLength * (total - cellsPerBlock))
-              ∙ ap (λ (n : ℕ). take n (drop fullLength before)) (omega arith));
+              ∙ ap (λ (n : ℕ). take n (drop fullLength before)) left);
           put =
               put ∙ sym (append-nil (cellsBlock k (take fullLength before)))
               ∙ sym (ap (λ (b : List ℕ). b ++ drop (length b) full) block
