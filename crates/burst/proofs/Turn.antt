@@ -1,7 +1,7 @@
 -- What holds at each turn of the loop over a list of receptions: what is left of them leads to the whole list's end.
 --     Going        i receptions are taken, at these arrays, this summary and this list of replies
 --     starts, turns, ends      it holds before the loop, from one turn to the next, and says the result after it
-use mathlib.Core.Path.{_≡_, refl, sym, _∙_, ap, subst}
+use mathlib.Core.Path.{_≡_, refl, sym, _∙_, ap, ap₂, subst}
 use Prim.Native.Nat.{ℕ, _+_, _^_, _≤_, _<_, zero-le}
 use native.Mathlib.Nat.{le-antisymm}
 use native.Mathlib.Numerals.{add-one}
@@ -19,7 +19,7 @@ use Rattle.burst.specs.declared.Reception.{Reception}
 use Rattle.burst.specs.declared.Reply.{Reply}
 use Rattle.burst.specs.declared.Stepped.{Stepped}
 use Rattle.burst.specs.Records.{receptionOf, repliedOf}
-use Rattle.burst.specs.Private.{StepResult, steppedOf, admittedWith, afterTested, replies, Delivered}
+use Rattle.burst.specs.Private.{StepResult, Steps, admittedWith, afterTested, columnsTested, replies, Delivered}
 use Rattle.model.specs.History.{Timely}
 use Rattle.model.specs.Burst.{Replied}
 
@@ -38,13 +38,14 @@ module _ (setting : ℕ) (fit : Bool) (a₀ : Columns) (s₀ : Summary) (rs : Li
     pub within : i ≤ n
     pub long : length zs ≡ length ys
     pub state : afterTested fit (viewIn a s) (drop i (take n rs)) ≡ afterTested fit v (take n rs)
+    pub elements : columnsTested fit (viewIn a s) (drop i (take n rs)) a ≡ columnsTested fit v (take n rs) a₀
     pub replied : map repliedOf (take i zs) ++ (replies setting fit (viewIn a s) (drop i (take n rs)) ++ map repliedOf (drop n zs))
         ≡ replies setting fit v (take n rs) ++ map repliedOf (drop n ys)
     pub timely : Timely (map receptionOf (drop i (take n rs))) → Timely (map receptionOf (take n rs))
     pub none : i ≡ 0 → (a ≡ a₀) × (s ≡ s₀)
 
   pub starts : Going 0 a₀ s₀ ys
-  starts = record { within = zero-le; long = refl; state = refl; replied = refl; timely = λ t. t; none = λ _. (refl, refl) }
+  starts = record { within = zero-le; long = refl; state = refl; elements = refl; replied = refl; timely = λ t. t; none = λ _. (refl, refl) }
 
   -- what is left of the receptions begins with the next one
   left : (i : ℕ) → i < n → drop i (take n rs) ≡ getD rs i noReception ∷ drop (i + 1) (take n rs)
@@ -54,13 +55,17 @@ module _ (setting : ℕ) (fit : Bool) (a₀ : Columns) (s₀ : Summary) (rs : Li
 
   module _ {i : ℕ} {a : Columns} {s : Summary} {zs : List Reply} (g : Going i a s zs) where
     pub turns : i < n → getD rs i noReception .time < 2 ^ 64 → (a' : Columns) (r : Stepped)
-        → steppedOf a' r ≡ admittedWith setting fit (viewIn a s) (receptionOf (getD rs i noReception))
+        → Steps setting fit a s (getD rs i noReception) a' r
         → Going (i + 1) a' (r .summary) (set zs i (r .reply))
-    unfolding afterTested replies
+    unfolding afterTested columnsTested replies
     turns h small a' r said = record {
       within = omega arith;
       long = length-set zs i (r .reply) ∙ g .long;
       state = ap (λ (u : View). afterTested fit u rest) next ∙ ap (afterTested fit here) (sym (left i h)) ∙ g .state;
+      elements =
+          ap₂ (λ (u : View) (c : Columns). columnsTested fit u rest c) next (said .elements)
+          ∙ ap (λ (l : List Reception). columnsTested fit here l a) (sym (left i h))
+          ∙ g .elements;
       replied =
           ap (λ (l : List Reply). map repliedOf l ++ (replies setting fit (viewIn a' (r .summary)) rest ++ map repliedOf (drop n (set zs i (r .reply)))))
           (ap (λ (k : ℕ). take k (set zs i (r .reply))) (add-one i) ∙ take-suc-set zs i (r .reply) inside)
@@ -85,18 +90,19 @@ module _ (setting : ℕ) (fit : Bool) (a₀ : Columns) (s₀ : Summary) (rs : Li
         rest = drop (i + 1) (take n rs)
 
         next : viewIn a' (r .summary) ≡ o .next
-        next = ap (λ (x : StepResult). x .next) said
+        next = ap (λ (x : StepResult). x .next) (said .said)
 
         answered : repliedOf (r .reply) ≡ o .reply
-        answered = ap (λ (x : StepResult). x .reply) said
+        answered = ap (λ (x : StepResult). x .reply) (said .said)
 
         inside : i < length zs
         inside = omega (arith, g .long)
 
     pub ends : n ≤ i → Delivered setting fit a₀ s₀ n rs ys a s zs
-    unfolding afterTested replies
+    unfolding afterTested columnsTested replies
     ends h = record {
       state = ap (afterTested fit (viewIn a s)) (sym none) ∙ g .state;
+      elements = ap (λ (l : List Reception). columnsTested fit (viewIn a s) l a) (sym none) ∙ g .elements;
       replied =
           ap (map repliedOf) (sym (take-append-drop i zs)) ∙ map-append repliedOf (take i zs) (drop i zs)
           ∙ ap (λ (k : ℕ). map repliedOf (take i zs) ++ map repliedOf (drop k zs)) all

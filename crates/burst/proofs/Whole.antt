@@ -1,6 +1,6 @@
 -- A burst as the model says it: records that are admitted one by one, at a state that was tested once, are steps; and what is planned, delivered and finished
 -- is the burst's result.
-use mathlib.Core.Path.{_≡_, refl, sym, _∙_, ap}
+use mathlib.Core.Path.{_≡_, refl, sym, _∙_, ap, ap₂}
 use mathlib.Core.Bool.{Bool, true, false, cond}
 use mathlib.Core.List.{List, [], _∷_, _++_, map}
 use Prim.Native.Nat.{ℕ, zero, suc}
@@ -13,9 +13,9 @@ use Rattle.model.specs.View.{View}
 use Rattle.model.specs.Step.{Outcome, step}
 use Rattle.collector.specs.declared.Collector.{Collector}
 use Rattle.collector.specs.declared.Summary.{Summary}
-use Rattle.collector.specs.Collector.{Columns, columnsOf, viewIn, viewOf}
+use Rattle.collector.specs.Collector.{Columns, columnsOf, columnsAfter, viewIn, viewOf}
 use Rattle.collector.specs.Admission.{collectorOf, Tested}
-use Rattle.collector.proofs.Stepping.{admission-fit, tested-next}
+use Rattle.collector.proofs.Stepping.{admission-fit, columns-fit, tested-next}
 use Rattle.burst.specs.declared.Reception.{Reception}
 use Rattle.burst.specs.declared.Reply.{Reply}
 use Rattle.burst.specs.declared.Bursted.{Bursted}
@@ -23,8 +23,8 @@ use Rattle.burst.specs.declared.Plan.{Plan}
 use Rattle.burst.specs.declared.Within.{Within}
 use Rattle.model.specs.History.{Timely}
 use Rattle.model.specs.Burst.{Replied, replyWith, afterAll, repliesTo, burstNumber, taken}
-use Rattle.burst.specs.Records.{receptionOf, repliedOf, handedNumber, Bursts, WithinOf}
-use Rattle.burst.specs.Private.{afterTested, replies, Delivered, Planned, Finished}
+use Rattle.burst.specs.Records.{receptionOf, repliedOf, handedNumber, columnsAfterAll, Bursts, WithinOf}
+use Rattle.burst.specs.Private.{afterTested, columnsTested, replies, Delivered, Planned, Finished}
 
 -- ---- records one by one
 
@@ -34,6 +34,14 @@ after-steps fit v [] k t = refl
 after-steps fit v (r ∷ rs) k t =
     ap (λ (o : Outcome). afterTested fit (o .next) rs) (admission-fit v (receptionOf r) fit (k .said))
     ∙ after-steps fit (step v (receptionOf r) .next) rs (tested-next fit (receptionOf r) k (t .0)) (t .1)
+
+columns-steps : (fit : Bool) (v : View) (rs : List Reception) (a : Columns) → Tested fit v → Timely (map receptionOf rs)
+    → columnsTested fit v rs a ≡ columnsAfterAll v (map receptionOf rs) a
+unfolding columnsTested columnsAfterAll
+columns-steps fit v [] a k t = refl
+columns-steps fit v (r ∷ rs) a k t =
+    ap₂ (λ (o : Outcome) (c : Columns). columnsTested fit (o .next) rs c) (admission-fit v (receptionOf r) fit (k .said)) (columns-fit v (receptionOf r) fit a (k .said))
+    ∙ columns-steps fit (step v (receptionOf r) .next) rs (columnsAfter v (receptionOf r) a) (tested-next fit (receptionOf r) k (t .0)) (t .1)
 
 replies-steps : (setting : ℕ) (fit : Bool) (v : View) (rs : List Reception) → Tested fit v → Timely (map receptionOf rs) → replies setting fit v rs ≡ repliesTo setting v (map receptionOf rs)
 unfolding replies repliesTo
@@ -88,7 +96,7 @@ module _ (c : Collector) (setting : ℕ) (rs : List Reception) (ys : List Reply)
       → Delivered setting (p .fit) (columnsOf c) (c .summary) (p .count) rs ys a s zs → Finished a s (p .answer) r
       → Bursts c setting rs ys r zs
   unfolding viewOf
-  whole {p} {a} {s} {zs} r k d f = record { result = rw (number-is, replies-is, next-is); stays = stays }
+  whole {p} {a} {s} {zs} r k d f = record { result = rw (number-is, replies-is, next-is); elements = elements; stays = stays }
     where
       t : List Reception
       t = take (p .count) rs
@@ -111,6 +119,12 @@ module _ (c : Collector) (setting : ℕ) (rs : List Reception) (ys : List Reply)
       next-is =
           made ∙ d .state ∙ after-steps (p .fit) v t (k .tested) (d .timely)
           ∙ ap (afterAll v) (front (p .count) (k .count))
+
+      elements : columnsOf (r .next) ≡ columnsAfterAll v (taken (handedNumber (r .answer)) given) (columnsOf c)
+      elements =
+          ap columnsOf (f .next) ∙ d .elements ∙ columns-steps (p .fit) v t (columnsOf c) (k .tested) (d .timely)
+          ∙ ap (λ (l : List view.Reception). columnsAfterAll v l (columnsOf c)) (front (p .count) (k .count))
+          ∙ ap (λ (n : ℕ). columnsAfterAll v (taken n given) (columnsOf c)) (sym number-is)
 
       -- a refused burst takes none
       taken-none : (handedNumber (r .answer) ≡ 0 → ⊥) → p .count ≡ 0

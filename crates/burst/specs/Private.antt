@@ -10,7 +10,7 @@ use Rattle.model.specs.View.{View}
 use Rattle.collector.specs.declared.Collector.{Collector}
 use Rattle.collector.specs.declared.Summary.{Summary}
 use Rattle.collector.specs.Collector.{Columns, viewIn, viewOf}
-use Rattle.collector.specs.Admission.{collectorOf, admission, Tested}
+use Rattle.collector.specs.Admission.{collectorOf, admission, columnsAdmitted, Tested}
 use Rattle.burst.specs.declared.Reception.{Reception}
 use Rattle.burst.specs.declared.Reply.{Reply}
 use Rattle.burst.specs.declared.Stepped.{Stepped}
@@ -35,7 +35,17 @@ admittedWith setting fit v r =
     let o = admission fit v r in
     record { reply = replyWith setting (o .answer) r; next = o .next }
 
+-- so it is, in every element of the columns
+pub record Steps (setting : ℕ) (fit : Bool) (a : Columns) (s : Summary) (e : Reception) (a' : Columns) (r : Stepped) : Type 0 where
+  pub said : steppedOf a' r ≡ admittedWith setting fit (viewIn a s) (receptionOf e)
+  pub elements : a' ≡ columnsAdmitted fit (viewIn a s) (receptionOf e) a
+
 -- records one by one
+unfoldable pub columnsTested : Bool → View → List Reception → Columns → Columns
+columnsTested fit v [] a = a
+columnsTested fit v (r ∷ rs) a =
+    columnsTested fit (admission fit v (receptionOf r) .next) rs (columnsAdmitted fit v (receptionOf r) a)
+
 unfoldable pub afterTested : Bool → View → List Reception → View
 afterTested fit v [] = v
 afterTested fit v (r ∷ rs) = afterTested fit (admission fit v (receptionOf r) .next) rs
@@ -50,6 +60,7 @@ replies setting fit v (r ∷ rs) =
 pub record Delivered (setting : ℕ) (fit : Bool) (a : Columns) (s : Summary) (n : ℕ)
     (rs : List Reception) (ys : List Reply) (a' : Columns) (s' : Summary) (zs : List Reply) : Type 0 where
   pub state : viewIn a' s' ≡ afterTested fit (viewIn a s) (take n rs)
+  pub elements : a' ≡ columnsTested fit (viewIn a s) (take n rs) a
   pub replied : map repliedOf zs ≡ replies setting fit (viewIn a s) (take n rs) ++ map repliedOf (drop n ys)
   pub timely : Timely (map receptionOf (take n rs))
   pub none : n ≡ 0 → (a' ≡ a) × (s' ≡ s)

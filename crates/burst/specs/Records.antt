@@ -1,7 +1,7 @@
 -- The records that a burst is handed over in, and what it gives (document 02, A1 and A7).
 use mathlib.Core.Path.{_≡_}
 use mathlib.Core.Bool.{cond}
-use mathlib.Core.List.{List, map}
+use mathlib.Core.List.{List, [], _∷_, map}
 use Prim.Native.Nat.{ℕ, _+_}
 use lib.Dec.{ltb}
 use lib.ListN.{take, drop}
@@ -10,15 +10,17 @@ use Rattle.erp1.specs.Subtelegram.{maxLength}
 use Rattle.buffers.specs.Buffer.{resized}
 use Rattle.model.specs.Answer.{shownOf}
 use Rattle.model.specs.View as view
+use Rattle.model.specs.View.{View}
+use Rattle.model.specs.Step.{step}
 use Rattle.collector.specs.declared.Collector.{Collector}
-use Rattle.collector.specs.Collector.{viewOf}
+use Rattle.collector.specs.Collector.{Columns, columnsOf, columnsAfter, viewOf}
 use Rattle.burst.specs.declared.Reception.{Reception}
 use Rattle.burst.specs.declared.Reply.{Reply}
 use Rattle.burst.specs.declared.Handed.{Handed}
 use Rattle.burst.specs.declared.Handed.the-variants.{Done, Refused}
 use Rattle.burst.specs.declared.Bursted.{Bursted}
 use Rattle.burst.specs.declared.Within.{Within}
-use Rattle.model.specs.Burst.{Replied, maxBurst, BurstResult, burstOf}
+use Rattle.model.specs.Burst.{Replied, maxBurst, BurstResult, taken, burstOf}
 
 -- what a record hands over: as many bytes as its length says, so that a length over 21 fails the check with 1
 abbrev pub receptionOf : Reception → view.Reception
@@ -44,10 +46,17 @@ burstedOf r replies = record {
   next = viewOf (r .next);
 }
 
--- what a burst gives, with the second list before and after it; beside a refusal the very state that was handed in
+-- the columns after receptions that are taken one by one
+unfoldable pub columnsAfterAll : View → List view.Reception → Columns → Columns
+columnsAfterAll v [] a = a
+columnsAfterAll v (r ∷ rs) a = columnsAfterAll (step v r .next) rs (columnsAfter v r a)
+
+-- what a burst gives, with the second list before and after it, and every element of the arrays; beside a refusal the very state that was handed in
 pub record Bursts (c : Collector) (setting : ℕ) (rs : List Reception) (places : List Reply)
     (r : Bursted) (after : List Reply) : Type 0 where
   pub result : burstedOf r after ≡ burstOf setting (viewOf c) (map receptionOf rs) (map repliedOf places)
+  pub elements : columnsOf (r .next)
+      ≡ columnsAfterAll (viewOf c) (taken (handedNumber (r .answer)) (map receptionOf rs)) (columnsOf c)
   pub stays : (handedNumber (r .answer) ≡ 0 → ⊥) → r .next ≡ c
 
 -- the places of a list that is held by value: enough for 10, and for places past its receptions

@@ -11,9 +11,9 @@ ghost use mathlib.Core.Path.{_≡_};
 ghost use Prim.Native.Nat.{_≤_, min};
 ghost use lib.ListN.{length};
 ghost use Rattle.erp1.specs.Subtelegram.{maxLength};
-ghost use Rattle.collector.specs.Collector.{columns, viewIn};
-ghost use Rattle.burst.specs.Records.{receptionOf, Bursts, listed, WithinOf, sizeOf};
-ghost use Rattle.burst.specs.Private.{steppedOf, admittedWith, Delivered, Planned, Finished};
+ghost use Rattle.collector.specs.Collector.{columns};
+ghost use Rattle.burst.specs.Records.{Bursts, listed, WithinOf, sizeOf};
+ghost use Rattle.burst.specs.Private.{Steps, Delivered, Planned, Finished};
 
 // The most receptions of a burst.
 pub const MAX_BURST: usize = 256;
@@ -51,11 +51,9 @@ fn take_record<'a>(
     setting: u8,
     reception: Reception,
 ) -> Stepped
-    ensures { λ r. ⌜ steppedOf
-        (columns (now (times .exit)) (now (lens .exit)) (now (entries .exit)) (now (copies .exit))) r
-        ≡ admittedWith setting fit
-        (viewIn (columns (now (times .entry)) (now (lens .entry)) (now (entries .entry)) (now (copies .entry))) summary)
-        (receptionOf reception) ⌝ }
+    ensures { λ r. ⌜ Steps setting fit
+        (columns (now (times .entry)) (now (lens .entry)) (now (entries .entry)) (now (copies .entry))) summary reception
+        (columns (now (times .exit)) (now (lens .exit)) (now (entries .exit)) (now (copies .exit))) r ⌝ }
 {
     let bytes = reception.bytes;
     let n = size(reception.len);

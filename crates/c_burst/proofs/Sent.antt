@@ -16,12 +16,14 @@ use Rattle.model.specs.View.{Reception, View}
 use Rattle.model.specs.Acceptable.{acceptable}
 use Rattle.model.specs.Step.{Outcome, step}
 use Rattle.model.specs.Burst.{replyWith}
-use Rattle.collector.specs.Admission.{relayedFor, admission}
-use Rattle.collector.proofs.Stepping.{admission-fit}
+use Rattle.collector.specs.Collector.{Columns}
+use Rattle.burst.specs.declared.Reception as burst
+use Rattle.collector.specs.Admission.{relayedFor, admission, columnsAdmitted}
+use Rattle.collector.proofs.Stepping.{admission-fit, columns-fit}
 use Rattle.collector.proofs.Sending.{relayed-fits}
 use Rattle.burst.specs.Records.{sizeOf}
 use Rattle.burst.specs.Private.{StepResult, admittedWith}
-use Rattle.burst.proofs.Records.{sent-with, handed}
+use Rattle.burst.proofs.Records.{sent-with, handed, handed-columns}
 use Rattle.c_layout.specs.Frame.{frameLength}
 use Rattle.c_burst.specs.Bytes.{receptionIn, replyBytes}
 use Rattle.c_burst.specs.Private.{Answered}
@@ -38,19 +40,29 @@ module _ (setting : ℕ) (v : View) (ok : acceptable v ≡ true) (frame : List �
   as-step : admittedWith setting true v r ≡ record { reply = replyWith setting (step v r .answer) r; next = step v r .next }
   as-step = ap (λ (o : Outcome). record { reply = replyWith setting (o .answer) r; next = o .next }) (admission-fit v r true (sym ok))
 
-  pub answered : (bytes : List ℕ) → bytes ≡ part 0 (sizeOf (getD frame 0 0)) (drop 1 frame) → (o : Outcome)
-      → o ≡ admission true v (record { bytes = bytes; time = time }) → (len : ℕ) (out : List ℕ)
+  pub answered : (a a' : Columns) (bytes : List ℕ) → bytes ≡ part 0 (sizeOf (getD frame 0 0)) (drop 1 frame) → (o : Outcome)
+      → o ≡ admission true v (record { bytes = bytes; time = time }) → a' ≡ columnsAdmitted true v (record { bytes = bytes; time = time }) a → (len : ℕ) (out : List ℕ)
       → _≡_ {A = Result} (record { number = 0; len = len; output = out }) (written (relayedFor setting (o .answer) bytes) (replicate maxLength 0))
       → (reply : List ℕ) → reply ≡ replyBytes (record { answer = o .answer; sent = record { len = len; bytes = out } })
-      → Answered setting v r reply (o .next)
-  answered bytes e o admits len out relays reply put = record {
+      → Answered setting v a r reply (o .next) a'
+  answered a a' bytes e o admits elements len out relays reply put = record {
     replied = put ∙ ap (λ (x : StepResult). replyBytes (x .reply)) whole;
     stepped = ap (λ (x : StepResult). x .next) whole;
+    elements =
+        elements
+        ∙ ap (λ (l : List ℕ). columnsAdmitted true v (record { bytes = l; time = time }) a) e
+        ∙ handed-columns setting true v handing whole-frame a ∙ columns-fit v r true a (sym ok);
   }
     where
+      handing : burst.Reception
+      handing = record { bytes = drop 1 frame; len = getD frame 0 0; time = time }
+
+      whole-frame : length (drop 1 frame) ≡ maxLength
+      whole-frame = length-drop 1 frame ∙ omega (arith, full)
+
       whole : _≡_ {A = StepResult} (record { reply = record { answer = o .answer; sent = record { len = len; bytes = out } }; next = o .next })
           (record { reply = replyWith setting (step v r .answer) r; next = step v r .next })
       whole =
           sent-with setting true v (record { bytes = bytes; time = time }) o (record { len = len; bytes = out }) admits (frame-written _ relays)
           ∙ ap (λ (l : List ℕ). admittedWith setting true v (record { bytes = l; time = time })) e
-          ∙ handed setting true v (record { bytes = drop 1 frame; len = getD frame 0 0; time = time }) (length-drop 1 frame ∙ omega (arith, full)) ∙ as-step
+          ∙ handed setting true v handing whole-frame ∙ as-step

@@ -6,10 +6,9 @@ use Prim.Native.Nat.{ℕ, _*_, _/_, _%_, _≤_, _<_}
 use native.Mathlib.Omega.{arith}
 use native.Mathlib.Decide.{decLt}
 use mathlib.Core.Path.{_≡_, refl, sym, ap, _∙_}
-use mathlib.Core.Bool.{Bool, true, false, _&&_}
+use mathlib.Core.Bool.{true, false}
 use lib.Dec.{eqb}
 use borrow.Author.Tests.{eq-eqb, ne-eqb, eqb-true, eqb-false, lt-ltb, le-ltb}
-use Rattle.lists.proofs.Choice.{both}
 use Rattle.lists.proofs.Tests.{by-test}
 use Rattle.refusal.specs.Number.{numberOf}
 use Rattle.refusal.specs.declared.Refusal.the-variants.{ShortOutput, Argument}
@@ -19,20 +18,17 @@ use Rattle.model.specs.Burst.{maxBurst, callNumber}
 use Rattle.c_layout.specs.Frame.{frameLength}
 use Rattle.c_burst.specs.Bytes.{isSized}
 
-module _ (moments records places : ℕ) where
-  pub sized-other : (records / 22 ≡ moments → ⊥) → false ≡ isSized moments records places
+module _ (moments records : ℕ) where
+  pub sized-other : (records / 22 ≡ moments → ⊥) → false ≡ isSized moments records
   sized-other other = rw (ne-eqb records (22 * moments) (λ e. other (omega arith)))
 
-  pub sized-same : records / 22 ≡ moments → eqb (records % 22) 0 && eqb (places % 24) 0 ≡ isSized moments records places
-  sized-same e = ap (λ (b : Bool). b && eqb (places % 24) 0) same
-    where
-      same : eqb (records % 22) 0 ≡ eqb records (22 * moments)
-      same = by-test (eqb (records % 22) 0)
-          (λ t. let z : records % 22 ≡ 0 = eqb-true (records % 22) 0 t in t ∙ sym (eq-eqb records (22 * moments) (omega arith)))
-          (λ t. t ∙ sym (ne-eqb records (22 * moments) (λ s. eqb-false (records % 22) 0 t (omega arith))))
+  pub sized-same : records / 22 ≡ moments → eqb (records % 22) 0 ≡ isSized moments records
+  sized-same e = by-test (eqb (records % 22) 0)
+      (λ t. let z : records % 22 ≡ 0 = eqb-true (records % 22) 0 t in t ∙ sym (eq-eqb records (22 * moments) (omega arith)))
+      (λ t. t ∙ sym (ne-eqb records (22 * moments) (λ s. eqb-false (records % 22) 0 t (omega arith))))
 
-  pub records-are : isSized moments records places ≡ true → records ≡ frameLength * moments
-  records-are e = eqb-true records (frameLength * moments) (both (eqb records (frameLength * moments)) _ e .0)
+  pub records-are : isSized moments records ≡ true → records ≡ frameLength * moments
+  records-are e = eqb-true records (frameLength * moments) e
 
 module _ (setting n m : ℕ) where
   pub call-short : m < n → numberOf ShortOutput ≡ callNumber setting n m

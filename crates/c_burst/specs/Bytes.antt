@@ -1,6 +1,6 @@
 -- The bytes of the receptions of a burst and of the replies to them (document 02, A1 and A7).
-use Prim.Native.Nat.{ℕ, _*_, _%_}
-use mathlib.Core.Bool.{Bool, _&&_}
+use Prim.Native.Nat.{ℕ, _*_}
+use mathlib.Core.Bool.{Bool}
 use mathlib.Core.List.{List, [], _∷_, _++_, map}
 use lib.Dec.{eqb}
 use lib.ListN.{length, getD, drop}
@@ -28,6 +28,6 @@ replyLength = 24
 unfoldable pub replyBytes : Replied → List ℕ
 replyBytes r = (kindOf (r .answer) ∷ shownNumber (r .answer) ∷ []) ++ frameBytes (r .sent .len) (r .sent .bytes)
 
--- a frame for each moment, and whole places
-abbrev pub isSized : ℕ → ℕ → ℕ → Bool
-isSized moments records places = eqb records (frameLength * moments) && eqb (places % replyLength) 0
+-- a frame for each moment
+abbrev pub isSized : ℕ → ℕ → Bool
+isSized moments records = eqb records (frameLength * moments)

@@ -1,15 +1,17 @@
 -- What a burst answers, and what it leaves in what it is lent (document 02, A1 and A7).
 use Prim.Native.Nat.{ℕ, _*_, _/_}
 use mathlib.Core.Path.{_≡_}
-use mathlib.Core.Bool.{cond, not}
+use mathlib.Core.Bool.{cond, not, _&&_}
 use mathlib.Core.List.{List, [], _++_, map, flatten}
 use lib.ListN.{length, take, drop, replicate}
 use Rattle.telegram.specs.Frame.{frameOf}
 use Rattle.model.specs.Answer.{Kept}
 use Rattle.model.specs.View.{View}
+use Rattle.model.specs.Acceptable.{acceptable}
 use Rattle.model.specs.Burst.{Replied, taken, burstOf}
+use Rattle.burst.specs.Records.{columnsAfterAll}
 use Rattle.c_layout.specs.Frame.{wrongSize}
-use Rattle.c_collector.specs.State.{Arrays, stateAt, numbersOf}
+use Rattle.c_collector.specs.State.{Arrays, columnsAt, stateAt, numbersOf}
 use Rattle.c_burst.specs.Bytes.{receptionsIn, replyLength, replyBytes, isSized}
 
 -- the number, every byte of the second list, and the next state
@@ -26,21 +28,23 @@ anyPlace = record { answer = Kept; sent = frameOf [] }
 abbrev pub repliesWith : ℕ → List Replied → List ℕ → List ℕ
 repliesWith n replies old = flatten (map replyBytes (take n replies)) ++ drop (replyLength * n) old
 
--- sizes first; then as `burstOf` says, whose second list has as many places as there are bytes for
+-- 11 before all else, then 255 for records that are not as many as the moments; else as `burstOf` says, whose second list has as many places as there are
+-- bytes for: a part of a place is none
 unfoldable pub burstCall : ℕ → View → List ℕ → List ℕ → List ℕ → BurstCall
 burstCall setting v moments records old =
-    cond (not (isSized (length moments) (length records) (length old)))
+    cond (acceptable v && not (isSized (length moments) (length records)))
     (record { number = wrongSize; replies = old; next = v })
     (let rs = receptionsIn moments records in
     let b = burstOf setting v rs (replicate (length old / replyLength) anyPlace) in
     let n = length (taken (b .number) rs) in
     record { number = b .number; replies = repliesWith n (b .replies) old; next = b .next })
 
--- a burst in the arrays before and after it
+-- a burst in every number of the five arrays before and after it
 pub record Bursts (s : Arrays) (setting : ℕ) (moments records old : List ℕ) (number : ℕ) (s' : Arrays)
     (new : List ℕ) : Type 0 where
   pub result : record { number = number; replies = new; next = stateAt s' }
       ≡ burstCall setting (stateAt s) moments records old
   pub counted : number ≡ 0 → s' .numbers ≡ numbersOf (burstCall setting (stateAt s) moments records old .next)
+  pub elements : columnsAt s' ≡ columnsAfterAll (stateAt s) (taken number (receptionsIn moments records)) (columnsAt s)
   -- beside any other number than 0 every number of the five arrays is as it was
   pub stays : (number ≡ 0 → ⊥) → s' ≡ s

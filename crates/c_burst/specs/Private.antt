@@ -6,14 +6,18 @@ use lib.ListN.{length, drop}
 use Rattle.model.specs.View.{Reception, View}
 use Rattle.model.specs.Step.{step}
 use Rattle.model.specs.Burst.{replyWith, afterAll, repliesTo}
+use Rattle.collector.specs.Collector.{Columns, columnsAfter}
+use Rattle.burst.specs.Records.{columnsAfterAll}
 use Rattle.c_burst.specs.Bytes.{replyLength, replyBytes}
 
--- one reception: the bytes of the reply, and the next state
-pub record Answered (setting : ℕ) (v : View) (r : Reception) (reply : List ℕ) (next : View) : Type 0 where
+-- one reception at a state and its columns: the bytes of the reply, the next state, and every element of the columns
+pub record Answered (setting : ℕ) (v : View) (a : Columns) (r : Reception) (reply : List ℕ) (next : View) (a' : Columns) : Type 0 where
   pub replied : reply ≡ replyBytes (replyWith setting (step v r .answer) r)
   pub stepped : next ≡ step v r .next
+  pub elements : a' ≡ columnsAfter v r a
 
--- all of them: the second list, and the state
-pub record Delivered (setting : ℕ) (v : View) (rs : List Reception) (old new : List ℕ) (next : View) : Type 0 where
+-- all of them: the second list, the state, and every element of the columns
+pub record Delivered (setting : ℕ) (v : View) (a : Columns) (rs : List Reception) (old new : List ℕ) (next : View) (a' : Columns) : Type 0 where
   pub replied : new ≡ flatten (map replyBytes (repliesTo setting v rs)) ++ drop (replyLength * length rs) old
   pub stepped : next ≡ afterAll v rs
+  pub elements : a' ≡ columnsAfterAll v rs a

@@ -34,7 +34,7 @@ ghost use Rattle.c_burst.specs.Private.{Answered, Delivered};
 // The kind and the number of an answer, and the frame of what is sent.
 const REPLY_LENGTH: usize = 2 + FRAME_LENGTH;
 
-// Takes receptions one by one, with one test of the state: 255, then 11, 6, 10; then all is as it was.
+// Takes receptions one by one, with one test of the state: 11, then 255 where there is no frame for each moment, 6, 10; then all is as it was.
 pub fn burst(
     times: &mut [u64; CAPACITY],
     lengths: &mut [u8; CAPACITY],
@@ -54,15 +54,14 @@ pub fn burst(
         (now (numbers .exit)))
         (now (replies .exit)) ⌝ }
 {
-    let n = moments.len();
-    let room = replies.len();
-    if !is_sized(n, records.len(), room) {
-        return WRONG_SIZE;
-    }
     if !c_collector::is_acceptable(times, lengths, bytes, numbers) {
         return refusal::number(Refusal::NotAccepted);
     }
-    let number = call_number(setting, n, room / REPLY_LENGTH);
+    let n = moments.len();
+    if !is_sized(n, records.len()) {
+        return WRONG_SIZE;
+    }
+    let number = call_number(setting, n, replies.len() / REPLY_LENGTH);
     if number != 0 {
         return number;
     }
@@ -82,14 +81,14 @@ pub fn burst(
     0
 }
 
-// Whether there is a frame for each moment, and whole places.
-fn is_sized(moments: usize, records: usize, places: usize) -> bool
-    ensures { λ r. ⌜ r ≡ isSized moments records places ⌝ }
+// Whether there is a frame for each moment.
+fn is_sized(moments: usize, records: usize) -> bool
+    ensures { λ r. ⌜ r ≡ isSized moments records ⌝ }
 {
     if records / FRAME_LENGTH != moments {
         return false;
     }
-    (records % FRAME_LENGTH == 0) & (places % REPLY_LENGTH == 0)
+    records % FRAME_LENGTH == 0
 }
 
 // What a burst is refused for at an acceptable state: 6, 10; 0 if for nothing.
@@ -134,8 +133,10 @@ fn deliver(
         × Tested true (viewIn (columns (now times) (now lengths) (now bytes) (now copies)) summary) ⌝ }
     ensures { λ r. ⌜ Delivered setting (viewIn
         (columns (now (times .entry)) (now (lengths .entry)) (now (bytes .entry)) (now (copies .entry))) summary)
+        (columns (now (times .entry)) (now (lengths .entry)) (now (bytes .entry)) (now (copies .entry)))
         (receptionsIn (now (moments .entry)) (now (records .entry))) (now (replies .entry)) (now (replies .exit))
-        (viewIn (columns (now (times .exit)) (now (lengths .exit)) (now (bytes .exit)) (now (copies .exit))) r) ⌝ }
+        (viewIn (columns (now (times .exit)) (now (lengths .exit)) (now (bytes .exit)) (now (copies .exit))) r)
+        (columns (now (times .exit)) (now (lengths .exit)) (now (bytes .exit)) (now (copies .exit))) ⌝ }
 {
     let mut s = summary;
     for i in 0..moments.len() {
@@ -170,8 +171,10 @@ fn take_frame<'a>(
         × (acceptable (viewIn (columns (now times) (now lengths) (now bytes) (now copies)) summary) ≡ true) ⌝ }
     ensures { λ r. ⌜ Answered setting (viewIn
         (columns (now (times .entry)) (now (lengths .entry)) (now (bytes .entry)) (now (copies .entry))) summary)
+        (columns (now (times .entry)) (now (lengths .entry)) (now (bytes .entry)) (now (copies .entry)))
         (receptionIn (now (frame .entry)) time) (now (reply .exit))
-        (viewIn (columns (now (times .exit)) (now (lengths .exit)) (now (bytes .exit)) (now (copies .exit))) r) ⌝ }
+        (viewIn (columns (now (times .exit)) (now (lengths .exit)) (now (bytes .exit)) (now (copies .exit))) r)
+        (columns (now (times .exit)) (now (lengths .exit)) (now (bytes .exit)) (now (copies .exit))) ⌝ }
 {
     let received = telegram_in(frame);
     let done = merging::admit(true, times, lengths, bytes, copies, summary, received, time);

@@ -18,9 +18,9 @@ use Rattle.model.specs.Step.{Outcome, step}
 use Rattle.collector.specs.declared.Summary.{Summary}
 use Rattle.collector.specs.declared.merging.Admitted.{Admitted}
 use Rattle.collector.specs.Collector.{Columns, viewIn}
-use Rattle.collector.specs.Admission.{admittedOf, admission, Admits}
+use Rattle.collector.specs.Admission.{admittedOf, admission, columnsAdmitted, Admits}
 use Rattle.collector.proofs.Arrays.{entries-length}
-use Rattle.collector.proofs.Stepping.{admission-fit}
+use Rattle.collector.proofs.Stepping.{admission-fit, columns-fit}
 use Rattle.c_collector.specs.State.{Arrays, arrays, columnsAt, summaryIn, stateAt, totalNumbers, numbersOf, numbersIn}
 use Rattle.c_collector.specs.Calls.{answerNumber, Takes, TotalsCall, totalsCall}
 
@@ -47,6 +47,7 @@ module _ (s : Arrays) (r : Reception) (fit : Bool) (old : Summary) (a : Columns)
     answered = shown ∙ ap (λ (o : Outcome). answerNumber (o .answer)) stepped;
     next = ap (λ (l : List ℕ). viewIn a (summaryIn l)) stored ∙ next;
     counted = stored ∙ numbers-counted a (d .summary) ∙ ap numbersOf next;
+    elements = admits .elements ∙ ap (λ (x : Summary). columnsAdmitted fit (viewIn (columnsAt s) x) r (columnsAt s)) read ∙ columns-fit _ _ _ _ tested;
     stays = λ e.
         let k = admits .stays (rw (← stepped) at e) in
         let same = stored ∙ ap numbersIn (k .1 ∙ read) ∙ numbers-back (s .numbers) eight in

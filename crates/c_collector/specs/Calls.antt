@@ -11,7 +11,8 @@ use Rattle.model.specs.Answer.{Shown, Kept, Copy, Loose, Refused, shownNumber, 
 use Rattle.model.specs.View.{Reception, View, capacity, fresh}
 use Rattle.model.specs.Acceptable.{acceptable}
 use Rattle.model.specs.Step.{step}
-use Rattle.c_collector.specs.State.{Arrays, arrays, stateAt, totalNumbers, numbersOf}
+use Rattle.collector.specs.Collector.{columnsAfter}
+use Rattle.c_collector.specs.State.{Arrays, arrays, columnsAt, stateAt, totalNumbers, numbersOf}
 
 -- "KEPT, COPY and LOOSE are three forms" of 0 (document 01, "Numbers a caller sees"): which of them; 0 beside a refusal
 abbrev pub kindOf : Shown → ℕ
@@ -24,11 +25,12 @@ kindOf (Refused n) = 0
 abbrev pub answerNumber : Shown → ℕ
 answerNumber a = 256 * kindOf a + shownNumber a
 
--- one reception: the step of the reference model, in the arrays before and after it
+-- one reception: the step of the reference model, in every number of the five arrays before and after it
 pub record Takes (s : Arrays) (r : Reception) (answer : ℕ) (s' : Arrays) : Type 0 where
   pub answered : answer ≡ answerNumber (step (stateAt s) r .answer)
   pub next : stateAt s' ≡ step (stateAt s) r .next
   pub counted : s' .numbers ≡ numbersOf (step (stateAt s) r .next)
+  pub elements : columnsAt s' ≡ columnsAfter (stateAt s) r (columnsAt s)
   -- at 8 and 11 every number of the five arrays is as it was
   pub stays : isReceived (step (stateAt s) r .answer) ≡ false → s' ≡ s
 

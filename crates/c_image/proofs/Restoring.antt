@@ -20,7 +20,7 @@ use Rattle.image.specs.declared.Restored.{Restored}
 use Rattle.image.specs.declared.Loaded.the-variants.{Done, Refused}
 use Rattle.image.specs.Checkpoint as image
 use Rattle.image.specs.Checkpoint.{loadedNumber}
-use Rattle.c_collector.specs.State.{Arrays, stateAt, numbersOf}
+use Rattle.c_collector.specs.State.{Arrays, columnsAt, stateAt, numbersOf}
 use Rattle.c_collector.proofs.State.{numbers-counted}
 use Rattle.c_image.specs.Calls.{Restores, restoreResult}
 use Rattle.c_image.specs.Private.{arraysOf}
@@ -41,6 +41,7 @@ module _ (s : Arrays) (bytes : List ℕ) where
   refused same n e = record {
     result = ap (λ (k : ℕ). restoreResult k s) e ∙ same;
     counted = λ z. absurd (refused-number NotAccepted (sym e ∙ z));
+    elements = λ z. absurd (refused-number NotAccepted (sym e ∙ z));
     stays = λ _. refl;
   }
 
@@ -69,6 +70,7 @@ module _ (s : Arrays) (bytes : List ℕ) where
     restored e s' put = record {
       result = ap (restoreResult 0) put ∙ ap (λ (v : View). record { number = 0; next = v }) next ∙ sym (held (stateAt s) ok bytes yes);
       counted = λ _. ap (λ (x : Arrays). x .numbers) put ∙ numbers-counted (columnsOf (r .next)) _ ∙ ap numbersOf next;
+      elements = λ _. ap columnsAt put ∙ done .elements (ap loadedNumber e);
       stays = λ n. absurd (n refl);
     }
       where

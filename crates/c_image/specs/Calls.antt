@@ -3,7 +3,8 @@ use Prim.Native.Nat.{ℕ}
 use mathlib.Core.Path.{_≡_}
 use mathlib.Core.List.{List}
 use Rattle.model.specs.Image.{RestoreResult, parse, restoreOf}
-use Rattle.c_collector.specs.State.{Arrays, stateAt, numbersOf}
+use Rattle.collector.specs.Collector.{columnsHolding}
+use Rattle.c_collector.specs.State.{Arrays, columnsAt, stateAt, numbersOf}
 
 abbrev pub restoreResult : ℕ → Arrays → RestoreResult
 restoreResult number s = record { number = number; next = stateAt s }
@@ -12,5 +13,6 @@ restoreResult number s = record { number = number; next = stateAt s }
 pub record Restores (s : Arrays) (image : List ℕ) (number : ℕ) (s' : Arrays) : Type 0 where
   pub result : restoreResult number s' ≡ restoreOf (stateAt s) image
   pub counted : number ≡ 0 → s' .numbers ≡ numbersOf (parse image)
+  pub elements : number ≡ 0 → columnsAt s' ≡ columnsHolding (parse image .entries)
   -- beside a refusal every number of the five arrays is as it was
   pub stays : (number ≡ 0 → ⊥) → s' ≡ s

@@ -1,7 +1,4 @@
 -- Every row of the table holds: one test that antt computes over the whole table, and a law that turns it into each row's equation.
-use mathlib.Core.Path.{_≡_}
-use Prim.Native.Nat.{ℕ, _<_}
-use lib.ListN.{length, getD}
 use Rattle.lists.specs.Lists.{equal, upFrom}
 use Rattle.lists.proofs.Equal.{equal-eq}
 use Rattle.lists.proofs.Table.{at}
@@ -17,9 +14,9 @@ use Rattle.slots.specs.Plan.{plans, candidates, lawful}
 use Rattle.model.specs.View.{fresh}
 use Rattle.model.specs.Acceptable.{isCopyOf, acceptable}
 use Rattle.model.specs.Step.{classify, advance, step}
-use Rattle.cases.specs.Cases.{Case, cases}
+use Rattle.cases.specs.Cases.{cases, EveryCase}
 
 -- each row's two sides are equal
-pub every-case : (k : ℕ) → k < length cases → (d : Case) → getD cases k d .got ≡ getD cases k d .want
+pub every-case : EveryCase
 unfolding upFrom remainderOf stepOf hashOf checkOf isSame fieldsOf telegramBytes relayOf repeatOf plans candidates lawful fresh isCopyOf acceptable classify advance step be unbe unbeFrom erp2Check erp2Fields readOf telegramSize isUnholdable isAgainstHeader isMisfitting bodyOf erp2Bytes buildOf
 every-case k h d = equal-eq _ _ (at (λ i c. equal (c .got) (c .want)) d cases tt k h)

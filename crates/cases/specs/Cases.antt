@@ -1,9 +1,10 @@
 -- Document 01, "Cases, P marks those proved", as document 02 changes them, with figures of document 02: each row is what a definition gives, and
 -- what the documents say. Behind these stand three rows of our own on ERP2 telegrams.
-use Prim.Native.Nat.{ℕ, _+_}
+use Prim.Native.Nat.{ℕ, _+_, _<_}
+use mathlib.Core.Path.{_≡_}
 use mathlib.Core.List.{List, [], _∷_, _++_}
 use mathlib.Core.Bool.{cond}
-use lib.ListN.{length, take, replicate}
+use lib.ListN.{length, take, replicate, getD}
 use Rattle.crc8.specs.Crc8.{crcOf}
 use Rattle.erp1.specs.Subtelegram.{hashOf, checkOf}
 use Rattle.telegram.specs.Addressing.{encapsulated}
@@ -156,3 +157,7 @@ cases =
       want = (0 ∷ 0 ∷ 2 ∷ 15 ∷ 1 ∷ 1 ∷ 2 ∷ 1 ∷ 0x32 ∷ 1 ∷ 0xF1F2F3F4 ∷ 0x01020304 ∷ 0xAA ∷ 0xBB ∷ 0xCC ∷ []) ++ everyField;
     }
     ∷ []
+
+-- THE CLAIM: in every row what a definition gives is what the documents say
+abbrev pub EveryCase : Type 0
+EveryCase = (k : ℕ) → k < length cases → (d : Case) → getD cases k d .got ≡ getD cases k d .want

@@ -16,6 +16,7 @@ use Rattle.refusal.specs.declared.Refusal.the-variants as refusal
 use Rattle.refusal.specs.declared.Refusal.the-variants.{Full, NotAccepted}
 use Rattle.erp1.specs.Subtelegram.{minLength, maxLength, checkOf, isValid}
 use Rattle.erp1.proofs.Checks.{check-facts}
+use Rattle.model.specs.declared.Answer.the-variants as answer
 use Rattle.model.specs.declared.Totals.{Totals}
 use Rattle.model.specs.Answer.{Shown, Kept, Copy, Loose, Refused, isKept, isCopy, isReceived, shownOf}
 use Rattle.model.specs.View.{Reception, Entry, View, opened, capacity}
@@ -26,11 +27,11 @@ use Rattle.collector.specs.declared.Summary.{Summary}
 use Rattle.collector.specs.declared.merging.Admitted.{Admitted}
 use Rattle.collector.specs.declared.merging.Judged.{Judged}
 use Rattle.collector.specs.declared.merging.Decision.{Decision}
-use Rattle.collector.specs.Collector.{Columns, columns, entriesAt, viewIn}
-use Rattle.collector.specs.Admission.{hasCopy, receptionCheck, answerFor, admittedOf, isSafe, numberOn, latestAfter, leftAfter, answerOn, entriesWith, admitted, notAdmitted, admission, Admits}
-use Rattle.collector.specs.Private.{JudgedBy, Expired, moved, Becomes, unchanged, changed, Whole, Decides}
+use Rattle.collector.specs.Collector.{Columns, columns, entriesAt, viewIn, moved, setIf, lastCopy, columnsWith}
+use Rattle.collector.specs.Admission.{hasCopy, receptionCheck, answerFor, admittedOf, isSafe, numberOn, latestAfter, leftAfter, answerOn, entriesWith, admitted, notAdmitted, admission, columnsAdmitted, Admits}
+use Rattle.collector.specs.Private.{JudgedBy, Expired, Becomes, unchanged, changed, Whole, Decides}
 use Rattle.collector.proofs.Arrays.{entries-length, left-length, found-known}
-use Rattle.collector.proofs.Moving.{creditIf, addIf, changed-entries, expired-open}
+use Rattle.collector.proofs.Moving.{creditIf, addIf, more-at, changed-entries, expired-open}
 
 -- ---- any view
 
@@ -122,21 +123,38 @@ module _ (fit : Bool) (a : Columns) (s : Summary) (r : Reception) where
       let u = both (leb (s .count) capacity) (isSummed (s .totals)) (w .1) in
       record { found = w .0; few = leb-true _ _ (u .0); summed = u .1 }
 
+  -- the columns by whether the reception was received
+  stay-put : (o : Outcome) → o ≡ admission fit (viewIn a s) r → isReceived (o .answer) ≡ false → a ≡ columnsAdmitted fit (viewIn a s) r a
+  unfolding columnsAdmitted
+  stay-put o e n = rw (← e, n)
+
+  are-changed : (o : Outcome) → o ≡ admission fit (viewIn a s) r → isReceived (o .answer) ≡ true
+      → columnsWith (answerOn (viewIn a s) r) r (length (viewIn a s .entries)) (leftAfter (viewIn a s) r) a ≡ columnsAdmitted fit (viewIn a s) r a
+  unfolding columnsAdmitted
+  are-changed o e n = rw (← e, n)
+
   -- at 8 and 11 nothing is changed
-  pub decides-nothing : (why : Refusal) → notAdmitted why (viewIn a s) ≡ admission fit (viewIn a s) r → Decides fit a s r (unchanged s why)
+  pub admits-nothing : (why : Refusal) → isReceived (Refused (numberOf why)) ≡ false → notAdmitted why (viewIn a s) ≡ admission fit (viewIn a s) r
+      → Admits fit a s r a (record { summary = s; answer = answer.Refused why })
+  admits-nothing why n e = record { outcome = e; elements = stay-put _ e n; stays = λ _. (refl, refl) }
+
+  pub decides-nothing : (why : Refusal) → isReceived (Refused (numberOf why)) ≡ false → notAdmitted why (viewIn a s) ≡ admission fit (viewIn a s) r
+      → Decides fit a s r (unchanged s why)
   unfolding moved
-  decides-nothing why e = record {
+  decides-nothing why n e = record {
     few = omega arith;
     room = λ k. absurd (false≢true k);
     inside = λ k. absurd (false≢true k);
-    admits = λ _. record { outcome = e; stays = λ _. (refl, refl) };
+    admits = λ _. admits-nothing why n e;
   }
 
-  taken-admits : {a' : Columns} (d : Admitted) → admittedOf a' d ≡ admitted (viewIn a s) r → admitted (viewIn a s) r ≡ admission fit (viewIn a s) r
-      → Admits fit a s r a' d
+  taken-admits : {a' : Columns} (d : Admitted) → admittedOf a' d ≡ admitted (viewIn a s) r
+      → a' ≡ columnsWith (answerOn (viewIn a s) r) r (length (viewIn a s .entries)) (leftAfter (viewIn a s) r) a
+      → admitted (viewIn a s) r ≡ admission fit (viewIn a s) r → Admits fit a s r a' d
   unfolding admitted
-  taken-admits d k e = record {
+  taken-admits d k c e = record {
     outcome = k ∙ e;
+    elements = c ∙ are-changed (admitted (viewIn a s) r) e (is-received (viewIn a s) r);
     stays = λ f. absurd (false≢true (sym f ∙ ap (λ (o : Outcome). isReceived (o .answer)) k ∙ is-received (viewIn a s) r));
   }
 
@@ -217,12 +235,23 @@ module _ {a : Columns} {s : Summary} {r : Reception} {n time gone : ℕ} (k : Lo
         unfolding admitted
         outcome whole = rw (counts, tallies, latest-is, next-entries whole, answer-said)
 
+        -- every element is as the definition says
+        elements : changed decision r a ≡ columnsWith (answerOn view r) r (length (view .entries)) (leftAfter view r) a
+        unfolding columnsWith
+        elements =
+            let below = k .expired .few in
+            let back : s .count - (s .count - gone) ≡ gone = omega arith in
+            ap (λ (l : List ℕ). columns (changed decision r a .times) (changed decision r a .lens) (changed decision r a .bytes) (setIf kept left 0 l))
+            (more-at heard (j .entry) (lastCopy (leftAfter view r) r) (moved gone left (a .copies))
+            (λ e. by .entry (sym hears ∙ e) ∙ ap (λ (l : List Entry). lastCopy l r) left-open))
+            ∙ rw (keeps, hears, answer-said, open-length, entries-length a (s .count), back)
+
         pub decides : (fit : Bool) → admitted view r ≡ admission fit view r → Decides fit a s r decision
         decides fit taken = record {
           few = (let below = k .expired .few in omega arith);
           room = room;
           inside = λ e. omega (arith, inside (sym hears ∙ e));
-          admits = λ whole. taken-admits fit a s r _ (outcome whole) taken;
+          admits = λ whole. taken-admits fit a s r _ (outcome whole) elements taken;
         }
 
 -- ---- what is decided is carried out, column by column

@@ -23,9 +23,9 @@ use Rattle.buffers.proofs.Buffer.{resized-length, resized-cut}
 use Rattle.telegram.specs.Repeater.{levelOf}
 use Rattle.model.specs.View.{Reception, Entry, txMaturity}
 use Rattle.model.specs.Acceptable.{isEcho, isCopyOf}
-use Rattle.collector.specs.Collector.{Columns, entryAt, entriesAt}
+use Rattle.collector.specs.Collector.{Columns, entryAt, entriesAt, lastCopy}
 use Rattle.collector.specs.Admission.{hasCopy}
-use Rattle.collector.specs.Private.{lastCopy, shownAt}
+use Rattle.collector.specs.Private.{shownAt}
 use Rattle.collector.proofs.Inside.{any-last}
 
 -- the bytes of an entry, as the code lends them

@@ -24,9 +24,9 @@ use Rattle.model.specs.Acceptable.{isCopyOf}
 use Rattle.model.specs.Step.{plusIf, credit}
 use Rattle.model.proofs.Copies.{length-credit, credit-at}
 use Rattle.collector.specs.declared.merging.Decision.{Decision}
-use Rattle.collector.specs.Collector.{Columns, columns, entryAt, entriesAt}
+use Rattle.collector.specs.Collector.{Columns, columns, entryAt, entriesAt, moved, setIf, moreIf, putIf, lastCopy}
 use Rattle.collector.specs.Admission.{openFrom}
-use Rattle.collector.specs.Private.{lastCopy, Expired, moved, setIf, moreIf, putIf, changed, Whole}
+use Rattle.collector.specs.Private.{Expired, changed, Whole}
 use Rattle.collector.proofs.Arrays.{noEntry, entries-length, entry-get, entries-more}
 
 -- ---- the loop that moves, over an array of any numbers: the first i of n stand there, and the others are as they were
@@ -141,6 +141,10 @@ module _ (i : ℕ) (l : List ℕ) {test : Bool} where
 
   pub more-one : {x : ℕ} → test ≡ true → x ≡ capped (getD l i 0 + 1) → set l i x ≡ moreIf test i l
   more-one e f = rw (e, f)
+
+pub more-at : (test : Bool) (i k : ℕ) (l : List ℕ) → (test ≡ true → i ≡ k) → moreIf test i l ≡ moreIf test k l
+more-at true i k l e = ap (λ (n : ℕ). moreIf true n l) (e refl)
+more-at false i k l e = refl
 
 more-length : (test : Bool) (i : ℕ) (l : List ℕ) → length (moreIf test i l) ≡ length l
 more-length true i l = length-set l i _

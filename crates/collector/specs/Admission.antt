@@ -13,15 +13,16 @@ use lib.Dec.{leb, ltb, eqb}
 use Rattle.model.specs.Acceptable.{isCopyOf, isSummed, acceptable}
 use Rattle.refusal.specs.Number.{numberOf}
 use Rattle.refusal.specs.declared.Refusal.the-variants as refusal
+use Rattle.telegram.specs.Frame.{frameOf}
 use Rattle.telegram.specs.Repeater.{relayOf}
 use Rattle.model.specs.Answer.{Shown, Kept, Copy, Loose, Refused, isKept, isReceived, shownOf}
-use Rattle.model.specs.Step.{Outcome, maxCount, step, tally, credit}
+use Rattle.model.specs.Step.{Outcome, maxCount, step, tally, credit, sentFor}
 use Rattle.refusal.specs.declared.Refusal.{Refusal}
 use Rattle.refusal.specs.declared.Refusal.the-variants.{Full, NotAccepted}
 use Rattle.model.specs.Exact.{Fits}
 use Rattle.collector.specs.declared.Summary.{Summary}
 use Rattle.collector.specs.declared.merging.Admitted.{Admitted}
-use Rattle.collector.specs.Collector.{Columns, viewIn}
+use Rattle.collector.specs.Collector.{Columns, viewIn, columnsWith, columnsAfter}
 
 -- ---- one reception
 
@@ -109,9 +110,16 @@ admission fit v r =
     (cond (leb maxCount (v .totals .received)) (notAdmitted Full v)
     (admitted v r))
 
+-- the columns after it: what is received leaves what `leftAfter` says
+unfoldable pub columnsAdmitted : Bool → View → Reception → Columns → Columns
+columnsAdmitted fit v r a =
+    cond (isReceived (admission fit v r .answer)) (columnsWith (answerOn v r) r (length (v .entries)) (leftAfter v r) a) a
+
 -- what `admit` makes of columns and a summary, told whether the state is acceptable
 pub record Admits (fit : Bool) (a : Columns) (s : Summary) (r : Reception) (a' : Columns) (d : Admitted) : Type 0 where
   pub outcome : admittedOf a' d ≡ admission fit (viewIn a s) r
+  -- every element
+  pub elements : a' ≡ columnsAdmitted fit (viewIn a s) r a
   -- at 8 and 11 every element is as it was
   pub stays : isReceived (shownOf (d .answer)) ≡ false → (a' ≡ a) × (d .summary ≡ s)
 
@@ -123,4 +131,11 @@ pub record Tested (fit : Bool) (v : View) : Type 0 where
 -- THE CLAIM for a run of receptions: told rightly, each is admitted as the model's step, and what was told is right of the next state too
 pub record ToldRightly : Type 0 where
   pub isStep : (fit : Bool) (v : View) (r : Reception) → fit ≡ acceptable v → admission fit v r ≡ step v r
+  pub elements : (fit : Bool) (v : View) (r : Reception) (a : Columns) → fit ≡ acceptable v → columnsAdmitted fit v r a ≡ columnsAfter v r a
   pub goesOn : (fit : Bool) (v : View) (r : Reception) → Tested fit v → r .time < 2 ^ 64 → Tested fit (step v r .next)
+
+-- THE CLAIM for what is sent: for a reception that was admitted, `relay_kept` gives the telegram that the model says is sent
+abbrev pub RelayedSent : Type 0
+RelayedSent =
+    (fit : Bool) (v : View) (r : Reception) (setting : ℕ)
+    → frameOf (relayedFor setting (admission fit v r .answer) (r .bytes)) ≡ sentFor setting (admission fit v r .answer) r

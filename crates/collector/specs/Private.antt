@@ -19,7 +19,7 @@ use Rattle.refusal.specs.declared.Refusal.{Refusal}
 use Rattle.model.specs.declared.Answer.the-variants as answer
 use Rattle.collector.specs.declared.Summary.{Summary}
 use Rattle.collector.specs.declared.merging.Decision.{Decision}
-use Rattle.collector.specs.Collector.{Columns, entryAt, entriesAt}
+use Rattle.collector.specs.Collector.{Columns, entryAt, entriesAt, moved, setIf, moreIf, putIf, lastCopy}
 use Rattle.collector.specs.Admission.{answerFor, hasCopy, Admits}
 
 -- ---- the test of a state
@@ -33,10 +33,6 @@ areTimely latest l =
 -- "valid", "no two the same telegram"
 unfoldable pub areTelegrams : List Entry → Bool
 areTelegrams l = all (λ e. isValid (e .bytes)) l && pairwise (λ e later. not (isCopyOf e (openedBy later))) l
-
--- the index of the last entry that r is a copy of, or their number where there is none
-unfoldable pub lastCopy : List Entry → Reception → ℕ
-lastCopy l r = lastIndex (λ e. isCopyOf e r) l
 
 -- entry i is a copy of one before it
 abbrev pub isRepeatedAt : Columns → ℕ → Bool
@@ -81,22 +77,6 @@ pub record Expired (times : List ℕ) (count time r : ℕ) : Type 0 where
   pub few : r ≤ count
   pub closed : (i : ℕ) → i < r → leb (time - getD times i 0) maturity ≡ false
   pub first : r < count → leb (time - getD times r 0) maturity ≡ true
-
--- the n elements after the first `gone` stand at the front, and behind them what stood there
-unfoldable pub moved : ℕ → ℕ → List ℕ → List ℕ
-moved gone n l = take n (drop gone l) ++ drop n l
-
--- x stands at i, where a test passes
-abbrev pub setIf : Bool → ℕ → ℕ → List ℕ → List ℕ
-setIf test i x l = cond test (set l i x) l
-
--- one more stands at i, up to the ceiling
-abbrev pub moreIf : Bool → ℕ → List ℕ → List ℕ
-moreIf test i l = setIf test i (capped (getD l i 0 + 1)) l
-
--- xs stand from `at` on
-abbrev pub putIf : Bool → ℕ → List ℕ → List ℕ → List ℕ
-putIf test at xs l = cond test (take at l ++ (xs ++ drop (at + length xs) l)) l
 
 -- an array of n elements, `old` before, is now `new`, which is as said
 pub record Becomes (n : ℕ) (old new said : List ℕ) : Type 0 where

@@ -13,8 +13,8 @@ ghost use Rattle.buffers.specs.Buffer.{part, resized};
 ghost use Rattle.erp1.specs.Same.{isSame};
 ghost use Rattle.telegram.specs.Repeater.{levelOf};
 ghost use Rattle.model.specs.View.{capacity, txMaturity, capped};
-ghost use Rattle.collector.specs.Collector.{columns, entriesAt};
-ghost use Rattle.collector.specs.Private.{lastCopy, shownAt, Expired, moved, setIf, moreIf, putIf, Becomes};
+ghost use Rattle.collector.specs.Collector.{columns, entriesAt, moved, setIf, moreIf, putIf, lastCopy};
+ghost use Rattle.collector.specs.Private.{shownAt, Expired, Becomes};
 
 // Which of the entries after the first `gone` of `count` is the last that a reception is a copy of, counted from the first of these, or how many they
 // are where it is of none; no number of copies is looked at.
@@ -109,6 +109,38 @@ pub(crate) fn expired(times: &[u64; Collector::CAPACITY], count: usize, time: u6
 
 // ---- what one reception makes of each array: the `left` entries after the first `gone` are moved to the front, a copy is counted for one of them,
 // and what is kept is put behind them
+
+// All four.
+pub(crate) fn change<'a>(
+    times: &'a mut [u64; Collector::CAPACITY],
+    lens: &'a mut [u8; Collector::CAPACITY],
+    bytes: &'a mut [u8; Collector::CAPACITY * Collector::MAX_LEN],
+    copies: &'a mut [u16; Collector::CAPACITY],
+    gone: usize,
+    left: usize,
+    heard: bool,
+    entry: usize,
+    kept: bool,
+    received: &'a [u8],
+    time: u64,
+)
+    requires { ⌜ (gone + left ≤ capacity) × (heard ≡ true → entry < capacity)
+        × (kept ≡ true → (left < capacity) × (length (now received) ≤ maxLength)) ⌝ }
+    ensures { λ _. ⌜ Becomes capacity (now (times .entry)) (now (times .exit))
+        (setIf kept left time (moved gone left (now (times .entry))))
+        × Becomes capacity (now (lens .entry)) (now (lens .exit))
+        (setIf kept left (length (now (received .entry))) (moved gone left (now (lens .entry))))
+        × Becomes (maxLength * capacity) (now (bytes .entry)) (now (bytes .exit))
+        (putIf kept (maxLength * left) (now (received .entry))
+        (moved (maxLength * gone) (maxLength * left) (now (bytes .entry))))
+        × Becomes capacity (now (copies .entry)) (now (copies .exit))
+        (setIf kept left 0 (moreIf heard entry (moved gone left (now (copies .entry))))) ⌝ }
+{
+    change_times(times, gone, left, kept, time);
+    change_lens(lens, gone, left, kept, received);
+    change_bytes(bytes, gone, left, kept, received);
+    change_copies(copies, gone, left, heard, entry, kept);
+}
 
 pub(crate) fn change_times(
     times: &mut [u64; Collector::CAPACITY],

@@ -9,10 +9,9 @@ use model::Answer;
 use model::Totals;
 use refusal::Refusal;
 ghost use mathlib.Core.Path.{_≡_};
-ghost use Rattle.model.specs.View as model;
 ghost use Rattle.model.specs.Heard.{copiesOf};
 ghost use Rattle.refusal.specs.Number.{numberOf};
-ghost use Rattle.collector.specs.Collector.{viewOf, Takes};
+ghost use Rattle.collector.specs.Collector.{viewOf, IsFresh, Takes};
 ghost use Rattle.collector.specs.Heard.{heardOf};
 
 // The state, in flat arrays. Entry i of the first `summary.count`, in opening order, has times[i], lens[i], copies[i] and the 21 bytes from 21 i, of
@@ -64,7 +63,7 @@ impl Collector {
 
     // A collector with no telegram open and nothing counted.
     pub fn fresh() -> Collector
-        ensures { λ r. ⌜ viewOf r ≡ model.fresh ⌝ }
+        ensures { λ r. ⌜ IsFresh r ⌝ }
     {
         Collector {
             times: [0u64; Collector::CAPACITY],

@@ -17,6 +17,7 @@ ghost use Rattle.erp1.specs.Subtelegram.{minLength, maxLength, checkedNumber};
 ghost use Rattle.telegram.specs.Output.{written};
 ghost use Rattle.model.specs.Answer.{shownOf, shownNumber, isKept, isCopy, isLoose, isDamaged, isLate, isReceived};
 ghost use Rattle.model.specs.View.{capacity};
+ghost use Rattle.model.specs.declared.Answer.the-variants as answer;
 ghost use Rattle.model.specs.Acceptable.{isSummed};
 ghost use Rattle.model.specs.Step.{maxCount, plusIf, tally};
 ghost use Rattle.collector.specs.Collector.{columns, entriesAt};
@@ -47,18 +48,107 @@ pub fn admit<'a>(
         (record { bytes = now (received .entry); time = time })
         (columns (now (times .exit)) (now (lens .exit)) (now (bytes .exit)) (now (copies .exit))) r ⌝ }
 {
-    let decided = decide(fit, times, lens, bytes, summary, received, time);
-    let gone = decided.gone;
-    let left = decided.left;
-    let kept = decided.kept;
-    entries::change_times(times, gone, left, kept, time);
-    entries::change_lens(lens, gone, left, kept, received);
-    entries::change_bytes(bytes, gone, left, kept, received);
-    entries::change_copies(copies, gone, left, decided.heard, decided.entry, kept);
-    let after = decided.summary;
-    let answer = decided.answer;
+    let count = summary.count;
+    let totals = summary.totals;
+    if !is_safe(fit, count, totals) {
+        return not_admitted(summary, Refusal::NotAccepted);
+    }
+    if totals.received == u64::MAX {
+        return not_admitted(summary, Refusal::Full);
+    }
+    let checked = check_reception(summary.latest, received, time);
+    let latest = latest_after(checked, summary.latest, time);
+    let gone = entries::expired(times, count, latest);
+    let judged = classify(times, lens, bytes, gone, count, checked, received, time);
+    let answer = judged.answer;
+    let entry = judged.entry;
+    let left = count - gone;
+    match answer {
+        Answer::Kept => {
+            entries::change(
+                times,
+                lens,
+                bytes,
+                copies,
+                gone,
+                left,
+                false,
+                entry,
+                true,
+                received,
+                time,
+            );
+            now_open(left + 1, latest, counted(totals, answer), answer)
+        }
+        Answer::Copy => {
+            entries::change(
+                times,
+                lens,
+                bytes,
+                copies,
+                gone,
+                left,
+                true,
+                entry,
+                false,
+                received,
+                time,
+            );
+            now_open(left, latest, counted(totals, answer), answer)
+        }
+        Answer::Loose => {
+            entries::change(
+                times,
+                lens,
+                bytes,
+                copies,
+                gone,
+                left,
+                false,
+                entry,
+                false,
+                received,
+                time,
+            );
+            now_open(left, latest, counted(totals, answer), answer)
+        }
+        Answer::Refused(_) => {
+            entries::change(
+                times,
+                lens,
+                bytes,
+                copies,
+                gone,
+                left,
+                false,
+                entry,
+                false,
+                received,
+                time,
+            );
+            now_open(left, latest, counted(totals, answer), answer)
+        }
+    }
+}
+
+fn not_admitted(summary: Summary, why: Refusal) -> Admitted
+    ensures { λ r. ⌜ r ≡ record { summary = summary; answer = answer.Refused why } ⌝ }
+{
     Admitted {
-        summary: after,
+        summary: summary,
+        answer: Answer::Refused(why),
+    }
+}
+
+fn now_open(count: usize, latest: u64, totals: Totals, answer: Answer) -> Admitted
+    ensures { λ r. ⌜ r ≡ record { summary = record { count = count; latest = latest; totals = totals }; answer = answer } ⌝ }
+{
+    Admitted {
+        summary: Summary {
+            count: count,
+            latest: latest,
+            totals: totals,
+        },
         answer: answer,
     }
 }
@@ -236,8 +326,42 @@ fn no_copy(answer: Answer) -> Judged
     }
 }
 
-// The totals after one more answer.
+// The totals after one more answer. By cases, for what is known of an answer where it is given is then known here.
 fn counted(n: Totals, answer: Answer) -> Totals
+    requires { ⌜ Countable n ⌝ }
+    ensures { λ r. ⌜ r ≡ tally (shownOf answer) n ⌝ }
+{
+    match answer {
+        Answer::Kept => Totals {
+            received: n.received + 1,
+            kept: n.kept + 1,
+            copies: n.copies,
+            loose: n.loose,
+            damaged: n.damaged,
+            late: n.late,
+        },
+        Answer::Copy => Totals {
+            received: n.received + 1,
+            kept: n.kept,
+            copies: n.copies + 1,
+            loose: n.loose,
+            damaged: n.damaged,
+            late: n.late,
+        },
+        Answer::Loose => Totals {
+            received: n.received + 1,
+            kept: n.kept,
+            copies: n.copies,
+            loose: n.loose + 1,
+            damaged: n.damaged,
+            late: n.late,
+        },
+        Answer::Refused(_) => counted_any(n, answer),
+    }
+}
+
+// The same, total by total.
+fn counted_any(n: Totals, answer: Answer) -> Totals
     requires { ⌜ Countable n ⌝ }
     ensures { λ r. ⌜ r ≡ tally (shownOf answer) n ⌝ }
 {

@@ -1,3 +1,4 @@
 pub mod Statuses
 pub mod Checks
 pub mod Sames
+pub mod Blocks

@@ -2,3 +2,4 @@ pub mod Status
 pub mod Subtelegram
 pub mod Same
 pub mod Claims
+pub mod Private

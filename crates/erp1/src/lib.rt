@@ -3,11 +3,12 @@ pub mod status;
 
 use refusal::Refusal;
 ghost use mathlib.Core.Path.{_≡_};
-ghost use Prim.Native.Nat.{_≤_, _%_};
+ghost use Prim.Native.Nat.{_+_, _≤_, _%_};
 ghost use lib.ListN.{length, take};
 ghost use Rattle.lists.specs.Lists.{equal};
 ghost use Rattle.erp1.specs.Subtelegram.{sumOf, hashOf, wrongHash, checkOf, checkedNumber};
 ghost use Rattle.erp1.specs.Same.{isSame};
+ghost use Rattle.erp1.specs.Private.{Agrees};
 
 // The house limits: the whole length of a subtelegram, and of an addressed one.
 pub const MIN_LEN: usize = 8;
@@ -106,8 +107,51 @@ fn sum(bytes: &[u8]) -> u8
     sum
 }
 
-// Whether the first `n` bytes agree, from the last of them on: that is where TXID stands, by which most telegrams differ.
+// Whether the first `n` bytes agree, from the last of them on: that is where TXID stands, by which most telegrams differ. Of most telegrams these are
+// two blocks of eight, or of four, which may meet.
 fn agree(a: &[u8], b: &[u8], n: usize) -> bool
+    requires { ⌜ (n ≤ length (now a)) × (n ≤ length (now b)) ⌝ }
+    ensures { λ r. ⌜ r ≡ equal (take n (now (a .entry))) (take n (now (b .entry))) ⌝ }
+{
+    if (8 <= n) & (n <= 16) {
+        if !agree_eight(a, b, n - 8) {
+            return false;
+        }
+        return agree_eight(a, b, 0);
+    }
+    if (4 <= n) & (n < 8) {
+        if !agree_four(a, b, n - 4) {
+            return false;
+        }
+        return agree_four(a, b, 0);
+    }
+    agree_each(a, b, n)
+}
+
+// Whether eight bytes agree: no branch is taken before all are looked at, so that they are compared at once.
+fn agree_eight(a: &[u8], b: &[u8], from: usize) -> bool
+    requires { ⌜ (from + 8 ≤ length (now a)) × (from + 8 ≤ length (now b)) ⌝ }
+    ensures { λ r. ⌜ Agrees (now (a .entry)) (now (b .entry)) from 8 r ⌝ }
+{
+    let mut all = true;
+    for k in 0..8 {
+        all = all & (a[from + k] == b[from + k]);
+    }
+    all
+}
+
+fn agree_four(a: &[u8], b: &[u8], from: usize) -> bool
+    requires { ⌜ (from + 4 ≤ length (now a)) × (from + 4 ≤ length (now b)) ⌝ }
+    ensures { λ r. ⌜ Agrees (now (a .entry)) (now (b .entry)) from 4 r ⌝ }
+{
+    let mut all = true;
+    for k in 0..4 {
+        all = all & (a[from + k] == b[from + k]);
+    }
+    all
+}
+
+fn agree_each(a: &[u8], b: &[u8], n: usize) -> bool
     requires { ⌜ (n ≤ length (now a)) × (n ≤ length (now b)) ⌝ }
     ensures { λ r. ⌜ r ≡ equal (take n (now (a .entry))) (take n (now (b .entry))) ⌝ }
 {

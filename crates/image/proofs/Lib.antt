@@ -3,3 +3,4 @@ pub mod Reading
 pub mod Restoring
 pub mod Histories
 pub mod Isolation
+pub mod Spelled

@@ -23,7 +23,7 @@ use Rattle.model.specs.View.{capacity}
 use Rattle.model.specs.Image.{imageLength, blockIn, entryIn}
 use Rattle.collector.specs.Collector.{Columns, entryAt, entriesAt}
 use Rattle.collector.proofs.Arrays.{noEntry}
-use Rattle.image.specs.Private.{blockCount, cellIn, entriesIn}
+use Rattle.image.specs.Private.{blockCount, cellIn, columnsOver, entriesIn, Reads}
 
 pub block-long : (image : List ℕ) (k : ℕ) → length image ≡ imageLength → k < blockCount → length (blockIn k image) ≡ blockLength
 block-long image k l h = part-length (blockLength * k) blockLength image (omega arith)
@@ -167,7 +167,20 @@ module _ (image : List ℕ) (count : ℕ) (long : length image ≡ imageLength) 
           let l : i < count = rw (row-length f count) at h in
           row-at f count i noEntry l ∙ entry-at i l ∙ sym (row-at (entryIn image) count i noEntry l))
 
-    pub reading-all : (i : ℕ) (a : Columns) → Reading image count a₀ i a → count ≤ i → entriesAt a count ≡ entriesIn image count
+      elements-read : a ≡ columnsOver image count a₀
+      unfolding columnsOver times-of lens-of counts-of fields-of row
+      elements-read =
+          let all-of : (f : ℕ → ℕ) (orig xs : List ℕ) → Begun orig (take count (row f count)) count xs → xs ≡ row f count ++ drop count orig =
+          λ f orig xs b. b .is ∙ ap (λ (ys : List ℕ). ys ++ drop count orig) (take-all count (row f count) (omega (arith, row-length f count)))
+          in
+          λ j. record {
+            times = all-of (time-of image) (a₀ .times) (a .times) (r .times) j;
+            lens = all-of (len-of image) (a₀ .lens) (a .lens) (r .lens) j;
+            bytes = turned (a₀ .bytes) (fields-of image count) maxLength count count (a .bytes) (r .bytes) refl (row-length (field-of image) count) .is j;
+            copies = all-of (count-of image) (a₀ .copies) (a .copies) (r .copies) j;
+          }
+
+    pub reading-all : (i : ℕ) (a : Columns) → Reading image count a₀ i a → count ≤ i → Reads image count a₀ a
     reading-all i a r h =
         let e : i ≡ count = omega (arith, r .bounded) in
-        entries-read a (rw e at r)
+        record { entries = entries-read a (rw e at r); elements = elements-read a (rw e at r) }

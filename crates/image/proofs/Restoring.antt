@@ -15,6 +15,7 @@ use Rattle.lists.proofs.Tests.{and-true}
 use Rattle.lists.proofs.UpFrom.{length-upFrom}
 use Rattle.refusal.specs.Number.{numberOf}
 use Rattle.refusal.specs.declared.Refusal.the-variants.{NotAccepted}
+use Rattle.refusal.proofs.Numbers.{refused-number}
 use Rattle.telegram.specs.Repeater.{maxSetting}
 use Rattle.model.specs.View.{View, capacity}
 use Rattle.model.specs.Acceptable.{acceptable}
@@ -78,5 +79,6 @@ pub stayed : (c : Collector) (image : List ℕ) (r : Restored) → (r .next ≡ 
     → refusedWith (viewOf c) ≡ restoreOf (viewOf c) image → Restores c image r
 stayed c image r k e = record {
   result = (λ i. record { number = k .1 i; next = viewOf (k .0 i) }) ∙ e;
+  elements = λ z. absurd (refused-number NotAccepted (sym (k .1) ∙ z));
   stays = λ _. k .0;
 }

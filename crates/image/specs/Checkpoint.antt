@@ -3,9 +3,9 @@ use Prim.Native.Nat.{ℕ}
 use mathlib.Core.Path.{_≡_}
 use mathlib.Core.List.{List}
 use Rattle.refusal.specs.Number.{numberOf}
-use Rattle.model.specs.Image.{CheckpointResult, RestoreResult, restoreOf}
+use Rattle.model.specs.Image.{CheckpointResult, RestoreResult, parse, restoreOf}
 use Rattle.collector.specs.declared.Collector.{Collector}
-use Rattle.collector.specs.Collector.{viewOf}
+use Rattle.collector.specs.Collector.{columnsOf, columnsHolding, viewOf}
 use Rattle.image.specs.declared.Saved.{Saved}
 use Rattle.image.specs.declared.Saved.the-variants as saved
 use Rattle.image.specs.declared.Loaded.{Loaded}
@@ -28,7 +28,8 @@ loadedNumber (loaded.Refused why) = numberOf why
 abbrev pub restoreResult : Restored → RestoreResult
 restoreResult r = record { number = loadedNumber (r .answer); next = viewOf (r .next) }
 
--- "11: .. the collector stays as it was": beside a refusal the very state that was handed in
+-- every element of the arrays; "11: .. the collector stays as it was": beside a refusal the very state that was handed in
 pub record Restores (c : Collector) (image : List ℕ) (r : Restored) : Type 0 where
   pub result : restoreResult r ≡ restoreOf (viewOf c) image
+  pub elements : loadedNumber (r .answer) ≡ 0 → columnsOf (r .next) ≡ columnsHolding (parse image .entries)
   pub stays : (loadedNumber (r .answer) ≡ 0 → ⊥) → r .next ≡ c

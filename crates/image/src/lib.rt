@@ -21,11 +21,10 @@ ghost use Rattle.layout.specs.Block.{headerLength, cellsPerBlock, blockLength, 
 ghost use Rattle.erp1.specs.Subtelegram.{maxLength};
 ghost use Rattle.model.specs.View.{capacity};
 ghost use Rattle.model.specs.Header.{headerOf};
-ghost use Rattle.model.specs.Image as model;
 ghost use Rattle.model.specs.Image.{imageLength, entryCell, imageWith, blockIn, usedIn, firstIn, secondIn, countIn, totalsIn, checkpointOf};
 ghost use Rattle.collector.specs.Collector.{columns, entriesAt, viewIn, viewOf};
 ghost use Rattle.image.specs.Checkpoint.{checkpointResult, loadedNumber, Restores};
-ghost use Rattle.image.specs.Private.{blockCount, cellsLength, entriesFrom, blockWith, Writable, isImageOf, isReadable, cellIn, entriesIn};
+ghost use Rattle.image.specs.Private.{blockCount, cellsLength, entriesFrom, blockWith, Writable, isImageOf, isReadable, cellIn, Reads, Parses};
 
 // How many blocks an image has.
 const BLOCKS: usize = 5;
@@ -292,7 +291,7 @@ fn is_readable(image: &[u8]) -> bool
 // The state that an image spells, right or not.
 fn parse(image: &[u8]) -> Collector
     requires { ⌜ (length (now image) ≡ imageLength) × (countIn (now image) ≤ capacity) ⌝ }
-    ensures { λ r. ⌜ viewOf r ≡ model.parse (now (image .entry)) ⌝ }
+    ensures { λ r. ⌜ Parses (now (image .entry)) r ⌝ }
 {
     let mut times = [0u64; Collector::CAPACITY];
     let mut lens = [0u8; Collector::CAPACITY];
@@ -327,9 +326,9 @@ fn read_entries(
     requires { ⌜ (length (now times) ≡ capacity) × (length (now lens) ≡ capacity)
         × (length (now bytes) ≡ capacity * maxLength) × (length (now copies) ≡ capacity)
         × (length (now image) ≡ imageLength) × (count ≤ capacity) ⌝ }
-    ensures { λ _. ⌜ entriesAt
-        (columns (now (times .exit)) (now (lens .exit)) (now (bytes .exit)) (now (copies .exit))) count
-        ≡ entriesIn (now (image .entry)) count ⌝ }
+    ensures { λ _. ⌜ Reads (now (image .entry)) count
+        (columns (now (times .entry)) (now (lens .entry)) (now (bytes .entry)) (now (copies .entry)))
+        (columns (now (times .exit)) (now (lens .exit)) (now (bytes .exit)) (now (copies .exit))) ⌝ }
 {
     for i in 0..count {
         let cell = cell_in(image, i);

@@ -149,7 +149,7 @@ keep-end p up (x ∷ l) s =
     all-kept [] e = refl
     all-kept (y ∷ l) e = let w = both (p y) (all p l) e in rw (w .0) (ap (λ (m : List Entry). y ∷ m) (all-kept l (w .1)))
 
-open-later : (t : ℕ) (e later : Entry) → inTime e later ≡ true → isOpen t e ≡ true → isOpen t later ≡ true
+pub open-later : (t : ℕ) (e later : Entry) → inTime e later ≡ true → isOpen t e ≡ true → isOpen t later ≡ true
 open-later t e later h o =
     le-leb (t - later .time) maturity (omega (arith, leb-true (t - e .time) maturity o, leb-true (e .time) (later .time) h))
 

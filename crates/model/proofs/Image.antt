@@ -59,175 +59,186 @@ fits-layout {v} g = record {
       (g .entries .each) (g .entries .copies);
 }
 
-module _ (setting : ℕ) (v : View) (f : FitsLayout v) where
-  -- ---- entries
-
+module _ (setting : ℕ) (v : View) where
   abbrev count : ℕ
   count = length (v .entries)
 
   abbrev entryAt : ℕ → Entry
   entryAt i = getD (v .entries) i noEntry
 
-  room : (i : ℕ) → i < count → fitsCell (entryAt i) ≡ true
-  room i h = all-getD fitsCell (v .entries) i noEntry (f .entries) h
+  -- ---- entries that cells hold
 
-  timed : (i : ℕ) → i < count → entryAt i .time < 2 ^ 64
-  timed i h = ltb-true (entryAt i .time) (2 ^ 64) (both (ltb (entryAt i .time) (2 ^ 64)) _ (room i h) .0)
+  module _ (short : (i : ℕ) → i < count → length (entryAt i .bytes) ≤ cellCapacity) where
+    -- the entries of block k
 
-  sized : (i : ℕ) → i < count → (leb (length (entryAt i .bytes)) cellCapacity ≡ true) × (leb (entryAt i .copies) ceiling ≡ true)
-  sized i h = both _ (leb (entryAt i .copies) ceiling) (both (ltb (entryAt i .time) (2 ^ 64)) _ (room i h) .1)
+    group-length : (k : ℕ) → length (entriesOf k v) ≡ min cellsPerBlock (count - cellsPerBlock * k)
+    group-length k = simp (length-take, length-drop)
 
-  short : (i : ℕ) → i < count → length (entryAt i .bytes) ≤ cellCapacity
-  short i h = leb-true (length (entryAt i .bytes)) cellCapacity (sized i h .0)
+    cell-at : (k i : ℕ) → i < length (entriesOf k v) → getD (map entryCell (entriesOf k v)) i [] ≡ entryCell (entryAt (cellsPerBlock * k + i))
+    cell-at k i h =
+        getD-map entryCell (entriesOf k v) i noEntry [] h
+        ∙ ap entryCell (part-at (cellsPerBlock * k) cellsPerBlock (v .entries) i noEntry (omega (arith, group-length k)))
 
-  counted : (i : ℕ) → i < count → entryAt i .copies < 2 ^ 16
-  counted i h = omega (arith, leb-true (entryAt i .copies) ceiling (sized i h .1))
+    pub cells-long : (k : ℕ) → Each cellLength (map entryCell (entriesOf k v))
+    cells-long k i h =
+        let l : i < length (entriesOf k v) = rw (length-map (entriesOf k v) entryCell) at h in
+        let e = entryAt (cellsPerBlock * k + i) in
+        ap length (cell-at k i l) ∙ cell-length (e .time) (e .bytes) (e .copies) (short (cellsPerBlock * k + i) (omega (arith, group-length k)))
 
-  -- an entry is read back from its cell
-  entry-cell : (i : ℕ) → i < count → cellEntry (entryCell (entryAt i)) ≡ entryAt i
-  entry-cell i h =
-      let e = entryAt i in
-      λ j. record {
-        bytes = cell-bytes (e .time) (e .bytes) (e .copies) (short i h) j;
-        time = cell-time (e .time) (e .bytes) (e .copies) (short i h) (timed i h) j;
-        copies = cell-last (e .time) (e .bytes) (e .copies) (short i h) (counted i h) j;
-      }
+    pub cells-few : (k : ℕ) → length (map entryCell (entriesOf k v)) ≤ cellsPerBlock
+    cells-few k = omega (arith, length-map (entriesOf k v) entryCell, group-length k)
 
-  -- ---- the entries of block k
+    -- blocks
 
-  group-length : (k : ℕ) → length (entriesOf k v) ≡ min cellsPerBlock (count - cellsPerBlock * k)
-  group-length k = simp (length-take, length-drop)
+    block-at : (k : ℕ) → k < 5 → (a : ℕ) × (b : ℕ) × (getD (blocksOf setting v) k [] ≡ imageBlock k a b v)
+    block-at zero h = (_, _, refl)
+    block-at (suc zero) h = (_, _, refl)
+    block-at (suc (suc zero)) h = (_, _, refl)
+    block-at (suc (suc (suc zero))) h = (_, _, refl)
+    block-at (suc (suc (suc (suc zero)))) h = (_, _, refl)
+    block-at (suc (suc (suc (suc (suc k))))) h = absurd (omega arith)
 
-  cell-at : (k i : ℕ) → i < length (entriesOf k v) → getD (map entryCell (entriesOf k v)) i [] ≡ entryCell (entryAt (cellsPerBlock * k + i))
-  cell-at k i h =
-      getD-map entryCell (entriesOf k v) i noEntry [] h
-      ∙ ap entryCell (part-at (cellsPerBlock * k) cellsPerBlock (v .entries) i noEntry (omega (arith, group-length k)))
-
-  pub cells-long : (k : ℕ) → Each cellLength (map entryCell (entriesOf k v))
-  cells-long k i h =
-      let l : i < length (entriesOf k v) = rw (length-map (entriesOf k v) entryCell) at h in
-      let e = entryAt (cellsPerBlock * k + i) in
-      ap length (cell-at k i l) ∙ cell-length (e .time) (e .bytes) (e .copies) (short (cellsPerBlock * k + i) (omega (arith, group-length k)))
-
-  pub cells-few : (k : ℕ) → length (map entryCell (entriesOf k v)) ≤ cellsPerBlock
-  cells-few k = omega (arith, length-map (entriesOf k v) entryCell, group-length k)
-
-  -- ---- blocks
-
-  block-at : (k : ℕ) → k < 5 → (a : ℕ) × (b : ℕ) × (getD (blocksOf setting v) k [] ≡ imageBlock k a b v)
-  block-at zero h = (_, _, refl)
-  block-at (suc zero) h = (_, _, refl)
-  block-at (suc (suc zero)) h = (_, _, refl)
-  block-at (suc (suc (suc zero))) h = (_, _, refl)
-  block-at (suc (suc (suc (suc zero)))) h = (_, _, refl)
-  block-at (suc (suc (suc (suc (suc k))))) h = absurd (omega arith)
-
-  pub blocks-long : Each blockLength (blocksOf setting v)
-  unfolding imageBlock
-  blocks-long k h =
-      let w = block-at k h in
-      ap length (w .2) ∙ block-length _ _ (header-length k (length (entriesOf k v)) (w .0) (w .1)) (cells-long k) (cells-few k)
-
-  pub image-length : length (imageWith setting v) ≡ imageLength
-  unfolding imageWith
-  image-length = flatten-length blockLength (blocksOf setting v) blocks-long
-
-  block-in : (k : ℕ) → k < 5 → blockIn k (imageWith setting v) ≡ getD (blocksOf setting v) k []
-  unfolding imageWith
-  block-in k h = flatten-part blockLength (blocksOf setting v) blocks-long k h
-
-  module _ (k a b : ℕ) (low : k < 5) (is : getD (blocksOf setting v) k [] ≡ imageBlock k a b v) where
-    header-in : blockHeader (blockIn k (imageWith setting v)) ≡ headerOf k (length (entriesOf k v)) a b
+    pub blocks-long : Each blockLength (blocksOf setting v)
     unfolding imageBlock
-    header-in = ap blockHeader (block-in k low ∙ is) ∙ block-header _ _ (header-length k (length (entriesOf k v)) a b) (cells-long k) (cells-few k)
+    blocks-long k h =
+        let w = block-at k h in
+        ap length (w .2) ∙ block-length _ _ (header-length k (length (entriesOf k v)) (w .0) (w .1)) (cells-long k) (cells-few k)
 
-    used-in : usedIn k (imageWith setting v) ≡ min cellsPerBlock (count - cellsPerBlock * k)
-    used-in = ap headerUsed header-in ∙ header-used k (length (entriesOf k v)) a b ∙ group-length k
+    written-length : length (imageWith setting v) ≡ imageLength
+    unfolding imageWith
+    written-length = flatten-length blockLength (blocksOf setting v) blocks-long
 
-    first-in : a < 2 ^ 64 → firstIn k (imageWith setting v) ≡ a
-    first-in h = ap headerFirst header-in ∙ header-first k (length (entriesOf k v)) a b h
+    block-in : (k : ℕ) → k < 5 → blockIn k (imageWith setting v) ≡ getD (blocksOf setting v) k []
+    unfolding imageWith
+    block-in k h = flatten-part blockLength (blocksOf setting v) blocks-long k h
 
-    second-in : b < 2 ^ 64 → secondIn k (imageWith setting v) ≡ b
-    second-in h = ap headerSecond header-in ∙ header-second k (length (entriesOf k v)) a b h
+    module _ (k a b : ℕ) (low : k < 5) (is : getD (blocksOf setting v) k [] ≡ imageBlock k a b v) where
+      header-in : blockHeader (blockIn k (imageWith setting v)) ≡ headerOf k (length (entriesOf k v)) a b
+      unfolding imageBlock
+      header-in = ap blockHeader (block-in k low ∙ is) ∙ block-header _ _ (header-length k (length (entriesOf k v)) a b) (cells-long k) (cells-few k)
 
-    cell-in : (i : ℕ) → i < length (entriesOf k v) → blockCell i (blockIn k (imageWith setting v)) ≡ entryCell (entryAt (cellsPerBlock * k + i))
-    unfolding imageBlock
-    cell-in i h =
-        ap (blockCell i) (block-in k low ∙ is)
-        ∙ block-cell _ _ (header-length k (length (entriesOf k v)) a b) (cells-long k) (cells-few k) i (omega (arith, length-map (entriesOf k v) entryCell))
-        ∙ cell-at k i h
+      used-in : usedIn k (imageWith setting v) ≡ min cellsPerBlock (count - cellsPerBlock * k)
+      used-in = ap headerUsed header-in ∙ header-used k (length (entriesOf k v)) a b ∙ group-length k
 
-  -- ---- the whole
+      first-in : a < 2 ^ 64 → firstIn k (imageWith setting v) ≡ a
+      first-in h = ap headerFirst header-in ∙ header-first k (length (entriesOf k v)) a b h
 
-  count-in : countIn (imageWith setting v) ≡ count
-  count-in =
-      rw (
-        used-in 0 _ _ (omega arith) refl,
-        used-in 1 _ _ (omega arith) refl,
-        used-in 2 _ _ (omega arith) refl,
-        used-in 3 _ _ (omega arith) refl,
-        used-in 4 _ _ (omega arith) refl,
-        sub-zero count,
-        more 15 count,
-        more 30 count,
-        more 45 count,
-        more 60 count,
-      ) (omega (arith, f .few))
+      second-in : b < 2 ^ 64 → secondIn k (imageWith setting v) ≡ b
+      second-in h = ap headerSecond header-in ∙ header-second k (length (entriesOf k v)) a b h
 
-  entry-in : (i : ℕ) → i < count → entryIn (imageWith setting v) i ≡ entryAt i
-  unfolding entryIn
-  entry-in i h =
-      let k : i / 15 < 5 = omega (arith, f .few) in
-      let w = block-at (i / 15) k in
-      ap cellEntry (cell-in (i / 15) (w .0) (w .1) k (w .2) (i % 15) (omega (arith, group-length (i / 15))))
-      ∙ ap (λ (n : ℕ). cellEntry (entryCell (entryAt n))) (div-add-mod i 15) ∙ entry-cell i h
+      cell-in : (i : ℕ) → i < length (entriesOf k v) → blockCell i (blockIn k (imageWith setting v)) ≡ entryCell (entryAt (cellsPerBlock * k + i))
+      unfolding imageBlock
+      cell-in i h =
+          ap (blockCell i) (block-in k low ∙ is)
+          ∙ block-cell _ _ (header-length k (length (entriesOf k v)) a b) (cells-long k) (cells-few k) i (omega (arith, length-map (entriesOf k v) entryCell))
+          ∙ cell-at k i h
 
-  entries-in : map (entryIn (imageWith setting v)) (upFrom 0 (countIn (imageWith setting v))) ≡ v .entries
-  entries-in =
-      let long : length (map (entryIn (imageWith setting v)) (upFrom 0 count)) ≡ count = length-map (upFrom 0 count) (entryIn (imageWith setting v)) ∙ length-upFrom 0 count in
-      rw count-in
-      (ext-getD noEntry (map (entryIn (imageWith setting v)) (upFrom 0 count)) (v .entries) long
-      (λ i h.
-      let low : i < count = omega arith in
-      getD-upFrom (entryIn (imageWith setting v)) 0 count i noEntry low ∙ ap (entryIn (imageWith setting v)) (zero-add i) ∙ entry-in i low))
+    -- the cell of each entry
+    pub cell-written : (i : ℕ) → i < count → count ≤ 5 * cellsPerBlock → blockCell (i % 15) (blockIn (i / 15) (imageWith setting v)) ≡ entryCell (entryAt i)
+    cell-written i h few =
+        let k : i / 15 < 5 = omega arith in
+        let w = block-at (i / 15) k in
+        cell-in (i / 15) (w .0) (w .1) k (w .2) (i % 15) (omega (arith, group-length (i / 15)))
+        ∙ ap (λ (n : ℕ). entryCell (entryAt n)) (div-add-mod i 15)
 
-  pub parse-image : parse (imageWith setting v) ≡ v
-  unfolding parse totalsIn
-  parse-image = λ i. record {
-    latest = first-in 0 _ _ (omega arith) refl (f .latest) i;
-    totals = record {
-      received = second-in 0 _ _ (omega arith) refl (f .received) i;
-      kept = first-in 1 _ _ (omega arith) refl (f .kept) i;
-      copies = second-in 1 _ _ (omega arith) refl (f .copies) i;
-      loose = first-in 2 _ _ (omega arith) refl (f .loose) i;
-      damaged = second-in 2 _ _ (omega arith) refl (f .damaged) i;
-      late = first-in 3 _ _ (omega arith) refl (f .late) i;
-    };
-    entries = entries-in i;
-  }
+  -- ---- a view that the layout holds
 
-  -- 0, 1 or 2 stands in the setting's place
-  module _ (low : setting ≤ maxSetting) where
-    setting-in : settingIn (imageWith setting v) ≡ setting
-    setting-in = second-in 3 _ _ (omega arith) refl (omega arith)
+  module _ (f : FitsLayout v) where
+    room : (i : ℕ) → i < count → fitsCell (entryAt i) ≡ true
+    room i h = all-getD fitsCell (v .entries) i noEntry (f .entries) h
 
-    pub accepts-image : acceptable v ≡ true → accepts (imageWith setting v) ≡ true
-    unfolding accepts
-    accepts-image ok =
+    timed : (i : ℕ) → i < count → entryAt i .time < 2 ^ 64
+    timed i h = ltb-true (entryAt i .time) (2 ^ 64) (both (ltb (entryAt i .time) (2 ^ 64)) _ (room i h) .0)
+
+    sized : (i : ℕ) → i < count → (leb (length (entryAt i .bytes)) cellCapacity ≡ true) × (leb (entryAt i .copies) ceiling ≡ true)
+    sized i h = both _ (leb (entryAt i .copies) ceiling) (both (ltb (entryAt i .time) (2 ^ 64)) _ (room i h) .1)
+
+    short : (i : ℕ) → i < count → length (entryAt i .bytes) ≤ cellCapacity
+    short i h = leb-true (length (entryAt i .bytes)) cellCapacity (sized i h .0)
+
+    counted : (i : ℕ) → i < count → entryAt i .copies < 2 ^ 16
+    counted i h = omega (arith, leb-true (entryAt i .copies) ceiling (sized i h .1))
+
+    -- an entry is read back from its cell
+    entry-cell : (i : ℕ) → i < count → cellEntry (entryCell (entryAt i)) ≡ entryAt i
+    entry-cell i h =
+        let e = entryAt i in
+        λ j. record {
+          bytes = cell-bytes (e .time) (e .bytes) (e .copies) (short i h) j;
+          time = cell-time (e .time) (e .bytes) (e .copies) (short i h) (timed i h) j;
+          copies = cell-last (e .time) (e .bytes) (e .copies) (short i h) (counted i h) j;
+        }
+
+    -- ---- the whole
+
+    pub image-length : length (imageWith setting v) ≡ imageLength
+    image-length = written-length short
+
+    count-in : countIn (imageWith setting v) ≡ count
+    count-in =
         rw (
-          eq-eqb (length (imageWith setting v)) imageLength image-length,
-          setting-in,
-          le-leb setting maxSetting low,
-          parse-image,
-          ok,
-          equal-refl (imageWith setting v),
-        )
+          used-in short 0 _ _ (omega arith) refl,
+          used-in short 1 _ _ (omega arith) refl,
+          used-in short 2 _ _ (omega arith) refl,
+          used-in short 3 _ _ (omega arith) refl,
+          used-in short 4 _ _ (omega arith) refl,
+          sub-zero count,
+          more 15 count,
+          more 30 count,
+          more 45 count,
+          more 60 count,
+        ) (omega (arith, f .few))
 
-  refuses-image : acceptable v ≡ false → accepts (imageWith setting v) ≡ false
-  unfolding accepts
-  refuses-image bad =
-      let low = leb (settingIn (imageWith setting v)) maxSetting in
-      rw (eq-eqb (length (imageWith setting v)) imageLength image-length, parse-image, bad) (and-false low)
+    entry-in : (i : ℕ) → i < count → entryIn (imageWith setting v) i ≡ entryAt i
+    unfolding entryIn
+    entry-in i h = ap cellEntry (cell-written short i h (f .few)) ∙ entry-cell i h
+
+    entries-in : map (entryIn (imageWith setting v)) (upFrom 0 (countIn (imageWith setting v))) ≡ v .entries
+    entries-in =
+        let long : length (map (entryIn (imageWith setting v)) (upFrom 0 count)) ≡ count = length-map (upFrom 0 count) (entryIn (imageWith setting v)) ∙ length-upFrom 0 count in
+        rw count-in
+        (ext-getD noEntry (map (entryIn (imageWith setting v)) (upFrom 0 count)) (v .entries) long
+        (λ i h.
+        let low : i < count = omega arith in
+        getD-upFrom (entryIn (imageWith setting v)) 0 count i noEntry low ∙ ap (entryIn (imageWith setting v)) (zero-add i) ∙ entry-in i low))
+
+    pub parse-image : parse (imageWith setting v) ≡ v
+    unfolding parse totalsIn
+    parse-image = λ i. record {
+      latest = first-in short 0 _ _ (omega arith) refl (f .latest) i;
+      totals = record {
+        received = second-in short 0 _ _ (omega arith) refl (f .received) i;
+        kept = first-in short 1 _ _ (omega arith) refl (f .kept) i;
+        copies = second-in short 1 _ _ (omega arith) refl (f .copies) i;
+        loose = first-in short 2 _ _ (omega arith) refl (f .loose) i;
+        damaged = second-in short 2 _ _ (omega arith) refl (f .damaged) i;
+        late = first-in short 3 _ _ (omega arith) refl (f .late) i;
+      };
+      entries = entries-in i;
+    }
+
+    -- 0, 1 or 2 stands in the setting's place
+    module _ (low : setting ≤ maxSetting) where
+      setting-in : settingIn (imageWith setting v) ≡ setting
+      setting-in = second-in short 3 _ _ (omega arith) refl (omega arith)
+
+      pub accepts-image : acceptable v ≡ true → accepts (imageWith setting v) ≡ true
+      unfolding accepts
+      accepts-image ok =
+          rw (
+            eq-eqb (length (imageWith setting v)) imageLength image-length,
+            setting-in,
+            le-leb setting maxSetting low,
+            parse-image,
+            ok,
+            equal-refl (imageWith setting v),
+          )
+
+    refuses-image : acceptable v ≡ false → accepts (imageWith setting v) ≡ false
+    unfolding accepts
+    refuses-image bad =
+        let low = leb (settingIn (imageWith setting v)) maxSetting in
+        rw (eq-eqb (length (imageWith setting v)) imageLength image-length, parse-image, bad) (and-false low)
 
 -- what an image says that is accepted
 pub record Accepted (image : List ℕ) : Type 0 where

@@ -41,7 +41,7 @@ no-loose false true l′ e f = absurd (false≢true (sym e))
 no-loose false false true e f = absurd (false≢true (f refl))
 no-loose false false false e f = refl
 
-length-log : (past : List Reception) → length (logOf past) ≡ length past
+pub length-log : (past : List Reception) → length (logOf past) ≡ length past
 length-log [] = refl
 length-log (r ∷ past) = ap suc (length-log past)
 

@@ -23,7 +23,7 @@ use Rattle.model.proofs.Copies.{keep-credit, credit-and, credit-cap}
 use Rattle.model.proofs.Invariant.{Good, good-acceptable, good-advance, accepted-time, classified}
 
 -- a later time leaves open only what was open before
-open-before : {t u : ℕ} → t ≤ u → (e : Entry) → isOpen u e ≡ true → isOpen t e ≡ true
+pub open-before : {t u : ℕ} → t ≤ u → (e : Entry) → isOpen u e ≡ true → isOpen t e ≡ true
 open-before {t} {u} h e o = le-leb (t - e .time) maturity (omega (arith, leb-true (u - e .time) maturity o))
 
 open-now : (e : Entry) → isOpen (e .time) e ≡ true

@@ -17,13 +17,13 @@ use Rattle.model.proofs.Theorem.{restore-image, restore-refused, same-c
 use Rattle.model.proofs.Division.{any-division}
 
 -- the receptions of a burst, and those of the calls after it
-past-joined : (setting : ℕ) (past rs : List Reception) (more : List Given)
+pub past-joined : (setting : ℕ) (past rs : List Reception) (more : List Given)
     → pastAfter past (map (λ g. g .reception) (map (givenAt setting) rs ++ more)) ≡ pastAfter (pastAfter past rs) (map (λ g. g .reception) more)
 past-joined setting past [] more = refl
 past-joined setting past (r ∷ rs) more = past-joined setting (r ∷ past) rs more
 
 module _ {State : Type 0} (view : State → View) where
-  shows-run : {c : State} {h : List Call} {l : List Seen} → Shows view c h l → l ≡ run (view c) h
+  pub shows-run : {c : State} {h : List Call} {l : List Seen} → Shows view c h l → l ≡ run (view c) h
   shows-run ended = refl
   shows-run (received e s t) = rw (← e, s) (ap₂ _∷_ refl (shows-run t))
   shows-run (saved e t) = rw (← e) (ap₂ _∷_ refl (shows-run t))
@@ -49,7 +49,7 @@ module _ {State : Type 0} (view : State → View) where
 
   -- ---- the state that is left
 
-  left-model : (past : List Reception) {c : State} {h : List Call} {l : List Seen} (t : Shows view c h l)
+  pub left-model : (past : List Reception) {c : State} {h : List Call} {l : List Seen} (t : Shows view c h l)
       → view c ≡ modelView (logOf past) → Good (modelView (logOf past)) → IsHistory h
       → view (leftBy view t) ≡ modelView (logOf (pastAfter past (map (λ g. g .reception) (receptionsOf h))))
   left-model past ended e g ok = e

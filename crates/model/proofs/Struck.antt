@@ -18,26 +18,26 @@ use Rattle.model.proofs.Division.{repliesAt, expected-replies}
 use Rattle.model.proofs.States.{fresh-shows, states-left}
 use Rattle.model.proofs.Isolation.{quiet-tail, answer-isolated, entries-isolated}
 
-abbrev bare : List Given → List Reception
+abbrev pub bare : List Given → List Reception
 bare gs = map (λ g. g .reception) gs
 
 -- ---- receptions handed over one by one
 
-abbrev oneByOne : List Given → List Call
+abbrev pub oneByOne : List Given → List Call
 oneByOne gs = map (λ g. Receive (g .setting) (g .reception)) gs
 
-receptions-one-by-one : (gs : List Given) → receptionsOf (oneByOne gs) ≡ gs
+pub receptions-one-by-one : (gs : List Given) → receptionsOf (oneByOne gs) ≡ gs
 receptions-one-by-one [] = refl
 receptions-one-by-one (g ∷ gs) = ap (λ (l : List Given). g ∷ l) (receptions-one-by-one gs)
 
-abbrev AllTimely : List Given → Type 0
+abbrev pub AllTimely : List Given → Type 0
 AllTimely gs = Timely (bare gs)
 
 burst-timely : (setting : ℕ) (rs : List Reception) (gs : List Given) → Timely rs → AllTimely gs → AllTimely (map (givenAt setting) rs ++ gs)
 burst-timely setting [] gs t u = u
 burst-timely setting (r ∷ rs) gs t u = (t .0, burst-timely setting rs gs (t .1) u)
 
-history-timely : (h : List Call) → IsHistory h → AllTimely (receptionsOf h)
+pub history-timely : (h : List Call) → IsHistory h → AllTimely (receptionsOf h)
 history-timely [] ok = tt
 history-timely (Receive setting r ∷ h) ok = (ok .0, history-timely h (ok .1))
 history-timely (Checkpoint output ∷ h) ok = history-timely h ok

@@ -53,7 +53,7 @@ module _ (log : List Logged) (output : List ℕ) where
 
 -- ---- receptions one by one, from the reference model's view
 
-burst-after : (past rs : List Reception) → Good (modelView (logOf past)) → Timely rs
+pub burst-after : (past rs : List Reception) → Good (modelView (logOf past)) → Timely rs
     → afterAll (modelView (logOf past)) rs ≡ modelView (logOf (pastAfter past rs))
 unfolding afterAll
 burst-after past [] g t = refl
@@ -125,7 +125,7 @@ module _ (setting : ℕ) (past rs : List Reception) (places : List Replied) (g :
 -- ---- all calls
 
 -- from the reference model's view the collector shows what the model says
-same-run : (past : List Reception) (h : List Call) → Good (modelView (logOf past)) → IsHistory h
+pub same-run : (past : List Reception) (h : List Call) → Good (modelView (logOf past)) → IsHistory h
     → run (modelView (logOf past)) h ≡ expected past h
 unfolding modelView
 same-run past [] g ok = refl

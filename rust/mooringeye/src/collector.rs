@@ -181,7 +181,8 @@ impl Collector {
     /// 21 bytes; what stands behind them is not looked at. `replies` gets 24 bytes for each: 0, 1 or 2 for KEPT, COPY or LOOSE, the number of a refusal or 0, and a frame of what is
     /// sent, length 0 for nothing.
     ///
-    /// Refused, and nothing taken: [`Refusal::WrongSize`] for records or replies that are not as many as the moments, and as [`Collector::burst`].
+    /// Refused, and nothing taken: [`Refusal::WrongSize`] for records that are not as many as the moments, [`Refusal::ShortOutput`] for fewer replies, and as
+    /// [`Collector::burst`].
     ///
     /// ```
     /// let record = [8, 0xD5, 0x09, 1, 2, 3, 4, 0, 0xE8, 0, 0, 0, 0, 0, 0, 0, 0, 0, 0, 0, 0, 0];

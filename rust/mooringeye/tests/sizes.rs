@@ -109,7 +109,10 @@ fn bursts() {
             refused(WRONG, 0, n, size, 24 * n);
         }
         for room in (24 * n + 1..24 * n + 24).chain(24 * n + 25..24 * n + 48) {
-            refused(WRONG, 9, n, 22 * n, room);
+            refused(10, 9, n, 22 * n, room);
+        }
+        for room in (24 * n).saturating_sub(47)..24 * n {
+            refused(6, 9, n, 22 * n, room);
         }
     }
     refused(6, 9, 2, 44, 0);
@@ -126,7 +129,7 @@ fn bursts() {
 fn the_longest_burst() {
     let mut state = fresh();
     let record = [&[8][..], &VALID, &[0xEE; 13]].concat();
-    let mut replies = vec![0xEE; 24 * 300];
+    let mut replies = vec![0xEE; 24 * 256 + 23];
     assert_eq!(raw::collector_burst(&mut state, 1, &[1_000; 256], &record.repeat(256), &mut replies), 0);
     assert!(untouched(&replies[24 * 256..]));
     assert_eq!(replies[..4], [0, 0, 8, 0xD5]);
@@ -152,7 +155,7 @@ fn arrays_that_no_collector_has() {
         assert_eq!(raw::collector_checkpoint(&state.shared(), &mut image[..9]), 11);
         assert_eq!(raw::collector_restore(&mut state, &image_of(&fresh())), 11);
         assert_eq!(raw::collector_burst(&mut state, 9, &[1_000], &[0xEE; 22], &mut image[..24]), 11);
-        assert_eq!(raw::collector_burst(&mut state, 9, &[1_000], &[0xEE; 23], &mut image[..24]), WRONG);
+        assert_eq!(raw::collector_burst(&mut state, 9, &[1_000], &[0xEE; 23], &mut image[..24]), 11);
         assert!(untouched(&image));
         assert!(state.lengths.iter().chain(state.bytes.iter()).all(|b| *b == content));
         assert!(state.times.iter().chain(state.numbers.iter()).all(|n| *n == u64::from(content)));

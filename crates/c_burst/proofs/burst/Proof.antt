@@ -27,20 +27,20 @@ lent s =
 
 -- ---- what each test says
 
+abbrev start : tie.After-is-acceptable → tie.Start
+start c = c .before .before .before .before .before .before .before .before
+
 abbrev entry1 : tie.Else1 → tie.Start
-entry1 c = c .before .before .before .before .before
+entry1 c = start (c .before)
 
-sized : (c : tie.Else1) → let a = entry1 c .args in isSized (length (now (a .moments))) (length (now (a .records))) (length (now (a .replies))) ≡ true
-sized c = sym (c .before .is-sized .ensures) ∙ not-false _ (c .if1 .left)
-
-abbrev after-sized : tie.After-is-acceptable → tie.Else1
-after-sized c = c .before .before .before .before .before
-
-acceptable-here : (c : tie.Else2) → acceptable (stateAt (lent (entry1 (after-sized (c .before))))) ≡ true
-acceptable-here c = sym (c .before .is-acceptable .ensures _) ∙ not-false _ (c .if2 .left)
+acceptable-here : (c : tie.Else1) → acceptable (stateAt (lent (entry1 c))) ≡ true
+acceptable-here c = sym (c .before .is-acceptable .ensures _) ∙ not-false _ (c .if1 .left)
 
 abbrev entry2 : tie.Else2 → tie.Start
-entry2 c = entry1 (after-sized (c .before))
+entry2 c = entry1 (c .before .before)
+
+sized : (c : tie.Else2) → let a = entry2 c .args in isSized (length (now (a .moments))) (length (now (a .records))) ≡ true
+sized c = sym (c .before .is-sized .ensures) ∙ not-false _ (c .if2 .left)
 
 -- no call is refused after the third
 abbrev after-tests : tie.After-summary-of → tie.Else3
@@ -54,7 +54,7 @@ entry3 c = entry2 (after-tests c .before .before)
 
 tested : (c : tie.After-summary-of) → Tested true (viewIn (columnsAt (lent (entry3 c))) (c .summary-of .result))
 tested c =
-    let e = after-tests c .before .before in
+    let e = after-tests c .before .before .before .before in
     subst (λ (s : Summary). Tested true (viewIn (columnsAt (lent (entry3 c))) s)) (sym (c .summary-of .ensures .0))
     (record { said = sym (acceptable-here e); fits = c .summary-of .ensures .1 _ _ _ })
 
@@ -62,19 +62,20 @@ tested c =
 
 returns : tie.Need-returns
 returns c =
-    let s = c .before .before .before .before .before in
-    wrong-size (lent s) (s .args .setting) _ _ _ (sym (c .before .is-sized .ensures) ∙ not-true _ (c .if1 .taken))
+    let t = c .before .before in
+    let s = start t in
+    refused-state (lent s) (s .args .setting) _ _ _ (sym (t .is-acceptable .ensures _) ∙ not-true _ (c .before .if1 .taken)) _ (c .number .ensures)
 
 returns-2 : tie.Need-returns-2
 returns-2 c =
-    let t = c .before .before in
-    let e = after-sized t in
-    refused-state (lent (entry1 e)) (entry1 e .args .setting) _ _ _ (sized e) (sym (t .is-acceptable .ensures _) ∙ not-true _ (c .before .if2 .taken)) _ (c .number .ensures)
+    let t = c .before in
+    let e = t .before in
+    wrong-size (lent (entry1 e)) (entry1 e .args .setting) _ _ _ (acceptable-here e) (sym (t .is-sized .ensures) ∙ not-true _ (c .if2 .taken))
 
 returns-3 : tie.Need-returns-3
 returns-3 c =
     let e = c .before .before in
-    refused-call (lent (entry2 e)) (entry2 e .args .setting) _ _ _ (sized (after-sized (e .before))) (acceptable-here e) _ (c .before .call-number .ensures) (c .if3 .taken)
+    refused-call (lent (entry2 e)) (entry2 e .args .setting) _ _ _ (acceptable-here (e .before .before)) (sized e) _ (c .before .call-number .ensures) (c .if3 .taken)
 
 deliver-requires : tie.Need-deliver-requires
 deliver-requires c κs =
@@ -82,7 +83,7 @@ deliver-requires c κs =
     let e = after-tests k in
     let a = entry3 k .args in
     let few = called (a .setting) _ _ (allowed e) in
-    (few .1, records-are _ _ (length (now (a .replies))) (sized (after-sized (e .before .before .before))), omega (arith, few .0), tested k)
+    (few .1, records-are _ _ (sized (e .before .before)), omega (arith, few .0), tested k)
 
 returns-4 : tie.Need-returns-4
 returns-4 c =
@@ -91,7 +92,7 @@ returns-4 c =
     let e = after-tests k in
     let s = entry3 k in
     let a = s .args in
-    all-taken (lent s) (a .setting) (now (a .moments)) (now (a .records)) (now (a .replies)) (sized (after-sized (e .before .before .before))) (acceptable-here (e .before .before)) (allowed e) _
+    all-taken (lent s) (a .setting) (now (a .moments)) (now (a .records)) (now (a .replies)) (acceptable-here (e .before .before .before .before)) (sized (e .before .before)) (allowed e) _
     (k .summary-of .ensures .0) _ _ _ (d .deliver .ensures) _ (c .store .ensures)
 
 pub burst-spec : {M : Type 1} → statement M
@@ -99,8 +100,8 @@ burst-spec =
     tie.close
     (tie.spec
     (λ c κs. search needs)
-    returns
     (λ c κs. search needs)
+    returns
     (λ c κs. search needs)
     returns-2
     (λ c κs. search needs)

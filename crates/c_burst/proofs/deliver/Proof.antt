@@ -8,21 +8,22 @@ use lib.ListN.{length, getD}
 use Rattle.buffers.proofs.Segments.{begun-length, within, lent, part-length, part-ends}
 use Rattle.model.specs.View.{View}
 use Rattle.model.specs.Burst.{maxBurst}
-use Rattle.collector.specs.Collector.{columns, viewIn}
+use Rattle.collector.specs.Collector.{Columns, columns, viewIn}
 use Rattle.c_layout.specs.Frame.{frameLength}
 use Rattle.c_burst.specs.Bytes.{receptionIn, receptionsIn, replyLength}
 use Rattle.c_burst.proofs.Turns.{Going, starts, turns, ends, receptions-count, reception-get}
 use Rattle.c_burst.proofs.deliver.Statement.{statement}
 use Rattle.c_burst.proofs.deliver.Tie as tie
 
-record Delivering (setting : ℕ) (v : View) (moments records old : List ℕ) (i : ℕ) (here : View) (out : List ℕ) : Type 0 where
+record Delivering (setting : ℕ) (v : View) (a₀ : Columns) (moments records old : List ℕ) (i : ℕ) (here : View) (a : Columns) (out : List ℕ) : Type 0 where
   bounded : i ≤ length moments
   few : length moments ≤ maxBurst
-  going : Going setting v (receptionsIn moments records) old i here out
+  going : Going setting v a₀ (receptionsIn moments records) old i here a out
 
 abbrev Inv-loop : tie.InvT-loop
 Inv-loop times₀ lengths₀ bytes₀ copies₀ setting moments records replies₀ s₀ i₀ i-end times lengths bytes copies replies s i =
-    Delivering setting (viewIn (columns times₀ lengths₀ bytes₀ copies₀) s₀) moments records replies₀ i (viewIn (columns times lengths bytes copies) s) replies
+    Delivering setting (viewIn (columns times₀ lengths₀ bytes₀ copies₀) s₀) (columns times₀ lengths₀ bytes₀ copies₀) moments records replies₀ i
+    (viewIn (columns times lengths bytes copies) s) (columns times lengths bytes copies) replies
 
 abbrev μ-loop : tie.MeasureT-loop
 μ-loop times₀ lengths₀ bytes₀ copies₀ setting moments records replies₀ s₀ i₀ i-end times lengths bytes copies replies s i = length moments - i
@@ -30,7 +31,7 @@ abbrev μ-loop : tie.MeasureT-loop
 loop-holds : tie.Need-loop-holds Inv-loop μ-loop
 loop-holds c =
     let s = c .before .before .before in
-    record { bounded = omega arith; few = s .pre .0; going = starts _ _ _ _ (s .pre .3) }
+    record { bounded = omega arith; few = s .pre .0; going = starts _ _ _ _ _ (s .pre .3) }
 
 take-frame-requires : tie.Need-take-frame-requires Inv-loop μ-loop
 take-frame-requires c κs =
@@ -54,10 +55,11 @@ loop-again c =
     record {
       bounded = omega arith;
       few = at .loop .inv .few;
-      going = turns _ _ _ _ (at .loop .inv .going) (omega (arith, count)) _
+      going = turns _ _ _ _ _ (at .loop .inv .going) (omega (arith, count)) _
           (reception-get moments records i (omega arith) ∙ ap (λ (f : List ℕ). receptionIn f (getD moments i 0)) (sym (part-ends (frameLength * i) frameLength records)))
           (omega (arith, known .shared-slice-known3 .given i))
           (omega (arith, count, s .pre .2))
+          _
           _
           _
           (took .take-frame .ensures)
@@ -67,7 +69,7 @@ loop-again c =
 returns : tie.Need-returns Inv-loop μ-loop
 returns c =
     let a = c .before .before .before .before .before .args in
-    ends _ _ _ _ (c .before .loop .inv .going) (omega (arith, receptions-count (a .moments .now) (a .records .now)))
+    ends _ _ _ _ _ (c .before .loop .inv .going) (omega (arith, receptions-count (a .moments .now) (a .records .now)))
 
 pub deliver-spec : {M : Type 1} → statement M
 deliver-spec =

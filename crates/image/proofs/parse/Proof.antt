@@ -1,10 +1,12 @@
 -- `image::parse` meets its contract, field by field.
 use mathlib.Core.Path.{refl, ap, _∙_}
+use Prim.Native.Nat.{ℕ}
+use mathlib.Core.List.{[], flatten}
 use borrow.Author.Needs.{needs}
 use denote.Ref.{now}
 use Rattle.model.specs.Image.{parse}
-use Rattle.collector.specs.Collector.{viewOf}
-use Rattle.image.specs.Private.{entriesIn}
+use Rattle.collector.specs.Collector.{columnsHolding, viewOf}
+use Rattle.image.specs.Private.{columnsOver, entriesIn}
 use Rattle.image.proofs.parse.Statement.{statement}
 use Rattle.image.proofs.parse.Tie as tie
 
@@ -14,14 +16,18 @@ read-entries-requires c κs =
     (refl, refl, refl, refl, n .before .before .pre .0, rw (n .count-in .ensures) (n .before .before .pre .1))
 
 returns : tie.Need-returns
-unfolding viewOf parse
+unfolding viewOf parse columnsHolding flatten
 returns c =
     let read = c .before .before .before .before .before .before in
     let n = read .before .before .before .before .before in
-    λ i. record {
-      latest = c .before .first-in .ensures i;
-      totals = c .totals-in .ensures i;
-      entries = (read .read-entries .ensures ∙ ap (entriesIn (now (n .before .before .args .image))) (n .count-in .ensures)) i;
+    let image = now (n .before .before .args .image) in
+    record {
+      state = λ i. record {
+        latest = c .before .first-in .ensures i;
+        totals = c .totals-in .ensures i;
+        entries = (read .read-entries .ensures .entries ∙ ap (entriesIn image) (n .count-in .ensures)) i;
+      };
+      elements = read .read-entries .ensures .elements ∙ ap (λ (k : ℕ). columnsOver image k (columnsHolding [])) (n .count-in .ensures);
     }
 
 pub parse-spec : {M : Type 1} → statement M

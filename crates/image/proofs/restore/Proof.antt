@@ -8,14 +8,17 @@ use borrow.Author.Needs.{needs}
 use borrow.Author.Tests.{not-true, not-false}
 use denote.Ref.{now}
 use lib.ListN.{length}
+use Rattle.lists.specs.Lists.{equal}
+use Rattle.lists.proofs.Choice.{both}
 use Rattle.telegram.specs.Repeater.{maxSetting}
 use Rattle.model.specs.View.{View, capacity}
 use Rattle.model.specs.Acceptable.{acceptable}
-use Rattle.model.specs.Image.{imageLength, settingIn, countIn, parse}
+use Rattle.model.specs.Image.{imageLength, imageWith, settingIn, countIn, parse}
 use Rattle.model.proofs.Returns.{restore-unacceptable}
 use Rattle.collector.specs.Collector.{viewOf}
 use Rattle.image.specs.Private.{isImageOf}
 use Rattle.image.proofs.Restoring.{restoredWith, readable, restore-unreadable, restore-other, restore-done, stayed}
+use Rattle.image.proofs.Spelled.{spelled}
 use Rattle.image.proofs.restore.Statement.{statement}
 use Rattle.image.proofs.restore.Tie as tie
 
@@ -58,7 +61,7 @@ unfolding viewOf
 compared c =
     let p = parsed c in
     let image = image-of (p .before .before .before .before .before) in
-    c .is-image-of .ensures ∙ ap₂ (λ (n : ℕ) (v : View). isImageOf n v image) (p .before .second-in .ensures) (p .parse .ensures)
+    c .is-image-of .ensures ∙ ap₂ (λ (n : ℕ) (v : View). isImageOf n v image) (p .before .second-in .ensures) (p .parse .ensures .state)
 
 returns-3 : tie.Need-returns-3
 returns-3 c =
@@ -73,8 +76,12 @@ returns-4 c =
     let e = p .before .before in
     record {
       result =
-          ap restoredWith (p .parse .ensures)
+          ap restoredWith (p .parse .ensures .state)
           ∙ restore-done _ _ (passed (e .before .before)) (read e .0) (read e .2) (sym (compared (c .before)) ∙ not-false _ (c .if3 .left));
+      elements = λ _.
+          let image = image-of (e .before .before .before) in
+          let w = both (acceptable (parse image)) (equal (imageWith (settingIn image) (parse image)) image) (sym (compared (c .before)) ∙ not-false _ (c .if3 .left)) in
+          p .parse .ensures .elements ∙ spelled image (w .0) (w .1);
       stays = λ n. absurd (n refl);
     }
 

@@ -8,7 +8,7 @@ returns : tie.Need-returns
 returns c =
     let done = c .before .before in
     let started = done .before .before in
-    replays (started .fresh .result) (done .resume .result) (started .fresh .ensures) (done .resume .ensures)
+    replays (started .fresh .result) (done .resume .result) (started .fresh .ensures .state) (done .resume .ensures)
 
 pub replay-spec : {M : Type 1} → statement M
 replay-spec =

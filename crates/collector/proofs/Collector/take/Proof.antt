@@ -7,7 +7,7 @@ use Rattle.collector.specs.Collector.{columnsOf, viewOf}
 use Rattle.collector.specs.Admission.{collectorOf}
 use Rattle.collector.specs.Private.{Decides}
 use Rattle.collector.proofs.Admitting.{carried-out}
-use Rattle.collector.proofs.Stepping.{admission-fit}
+use Rattle.collector.proofs.Stepping.{admission-fit, columns-fit}
 use Rattle.collector.proofs.Collector.take.Statement.{statement}
 use Rattle.collector.proofs.Collector.take.Tie as tie
 
@@ -40,6 +40,7 @@ returns c =
     let k = carried-out (made d) times lens bytes (c .before .change-copies .ensures) in
     record {
       outcome = k .outcome ∙ admission-fit (viewOf (start d .args .t1)) (reception (start d)) _ (testing d .is-acceptable .ensures _);
+      elements = k .elements ∙ columns-fit (viewOf (start d .args .t1)) (reception (start d)) _ _ (testing d .is-acceptable .ensures _);
       stays = λ e. let same = k .stays e in λ i. collectorOf (same .0 i) (same .1 i);
     }
 

@@ -1,6 +1,6 @@
 -- `collector::merging::decide` meets its contract: the steps of `admitted` are decided, or 11 or 8 and nothing.
 use Prim.Native.Nat.{ℕ, _-_, _<_}
-use mathlib.Core.Path.{sym, _∙_}
+use mathlib.Core.Path.{refl, sym, _∙_}
 use mathlib.Core.List.{List, []}
 use native.Mathlib.Omega.{arith}
 use borrow.Author.Needs.{needs}
@@ -68,7 +68,7 @@ returns : tie.Need-returns
 returns c copies =
     let s = c .before .before .before .before .before in
     rw (c .nothing .ensures)
-    (decides-nothing (s .args .fit) (table s copies) (s .args .summary) (reception s) NotAccepted
+    (decides-nothing (s .args .fit) (table s copies) (s .args .summary) (reception s) NotAccepted refl
     (not-accepted (s .args .fit) (table s copies) (s .args .summary) (reception s)
     (sym (c .before .before .is-safe .ensures) ∙ not-true _ (c .before .if1 .taken))))
 
@@ -77,7 +77,7 @@ returns-2 c copies =
     let f = c .before .before .before in
     let s = start f in
     rw (c .nothing2 .ensures)
-    (decides-nothing (s .args .fit) (table s copies) (s .args .summary) (reception s) Full
+    (decides-nothing (s .args .fit) (table s copies) (s .args .summary) (reception s) Full refl
     (all-full (s .args .fit) (table s copies) (s .args .summary) (reception s) (fit f) (omega (arith, c .before .if2 .taken))))
 
 classify-requires : tie.Need-classify-requires

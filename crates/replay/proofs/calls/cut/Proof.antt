@@ -69,7 +69,7 @@ restored c =
     let at = lengths (put c) in
     let v = viewOf (start at .args .c) in
     c .restore .ensures .result
-    ∙ λ i. restoreOf (other .fresh .ensures i)
+    ∙ λ i. restoreOf (other .fresh .ensures .state i)
     (image-lent v (output at) _ _ (m .least .result) (first (put c) .begun .is) (m .least .ensures ∙ omega (arith, output-length at)) i)
 
 returns : tie.Need-returns
