@@ -3,3 +3,4 @@ pub mod Draining
 pub mod Chunk
 pub mod Finishing
 pub mod Printed
+pub mod Storing

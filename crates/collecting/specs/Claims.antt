@@ -4,12 +4,21 @@ use Prim.Native.Nat.{ℕ}
 use mathlib.Core.List.{List}
 use Rattle.line_input.specs.Reading.{lineLimit}
 use Rattle.streams.specs.Chunks.{joined}
-use Rattle.streams.specs.Collect.{starting, collect}
+use Rattle.streams.specs.Lines.{outputOf}
+use Rattle.streams.specs.Collect.{Phase, starting, collect}
 use Rattle.streams.specs.Claims.{piecesText}
-use Rattle.collecting.specs.Session.{modelCollector}
+use Rattle.collecting.specs.Session.{Receiver, modelCollector}
 use Rattle.collecting.specs.Printed.{printedOf}
+use Rattle.collecting.specs.Rows.{rowTimes, rowRecords, lineTicks}
 
 -- THE CLAIM: for every input, cut into pieces anywhere, what the contracts of the program say is written for the pieces and at the end is what the
 -- reference model says
 abbrev pub CollectPrints : Type 0
 CollectPrints = (xs : List (List ℕ)) → piecesText (collect modelCollector) lineLimit starting xs ≡ printedOf (joined xs)
+
+-- the times and the records of the rows that an archive keeps, and the count of lines, however the input is cut into pieces: those of its lines, one after the other
+abbrev pub RowsInPieces : Type 0
+RowsInPieces = (s : Phase Receiver) (xs : List (List ℕ))
+    → (piecesText rowTimes lineLimit s xs ≡ outputOf rowTimes s (joined xs))
+    × (piecesText rowRecords lineLimit s xs ≡ outputOf rowRecords s (joined xs))
+    × (piecesText lineTicks lineLimit s xs ≡ outputOf lineTicks s (joined xs))

@@ -11,9 +11,10 @@ use model::Answer;
 pub use program::run;
 pub use program::run_on;
 ghost use mathlib.Core.Path.{_≡_};
-ghost use mathlib.Core.List.{List};
-ghost use Prim.Native.Nat.{ℕ, _+_, _≤_};
-ghost use lib.ListN.{length};
+ghost use mathlib.Core.List.{List, [], _∷_};
+ghost use Prim.Native.Nat.{ℕ, _+_, _*_, _<_, _≤_};
+ghost use lib.ListN.{length, take};
+ghost use Rattle.lists.specs.Lists.{padded};
 ghost use Rattle.model.specs.Answer.{shownOf};
 ghost use Rattle.collector.specs.Collector.{columns, viewIn, viewOf};
 ghost use Rattle.collector.specs.Admission.{relayedFor, Tested};
@@ -23,6 +24,8 @@ ghost use Rattle.line_output.specs.Longest.{longestNumber};
 ghost use Rattle.streams.specs.Collect.{starting, over, afterFirst, firstText, phaseEnd};
 ghost use Rattle.collecting.specs.Printed.{printedRow};
 ghost use Rattle.collecting.specs.Session.{modelCollector, runningAt, phaseOf, longestLine, longestEnd, RanTo, Ran};
+ghost use Rattle.collecting.specs.Rows.{storedTime, storedRecord};
+ghost use Rattle.collecting.specs.Stored.{StoredTo};
 
 // Where a run stands: before its first line, past a right one, or ended by a wrong one.
 pub enum Stage {
@@ -50,6 +53,15 @@ struct Merged {
     pub summary: Summary,
     pub used: usize,
     pub written: usize,
+}
+
+// The same with the rows that an archive keeps, and how many lines they are.
+pub struct Stored {
+    pub summary: Summary,
+    pub used: usize,
+    pub written: usize,
+    pub rows: usize,
+    pub lines: usize,
 }
 
 // The longest text of one line: a row that sends 21 bytes.
@@ -278,6 +290,136 @@ fn merge_lines<'a>(
         used: at,
         written: to,
     }
+}
+
+// The same with the rows that an archive keeps, while `most` lines were not taken and a place for a row is left.
+pub fn take_rows<'a>(
+    fit: bool,
+    setting: u8,
+    times: &'a mut [u64; Collector::CAPACITY],
+    lens: &'a mut [u8; Collector::CAPACITY],
+    entries: &'a mut [u8; Collector::CAPACITY * Collector::MAX_LEN],
+    copies: &'a mut [u16; Collector::CAPACITY],
+    summary: Summary,
+    input: &'a [u8],
+    most: usize,
+    out: &'a mut [u8],
+    moments: &'a mut [u64],
+    rows: &'a mut [u8],
+) -> Stored
+    requires { ⌜ Tested fit (viewIn (columns (now times) (now lens) (now entries) (now copies)) summary)
+        × (length (now rows) ≡ 23 * length (now moments)) ⌝ }
+    ensures { λ r. ⌜ StoredTo
+        (runningAt setting (viewIn
+        (columns (now (times .entry)) (now (lens .entry)) (now (entries .entry)) (now (copies .entry))) summary))
+        (now (input .entry)) most (now (out .entry)) (now (moments .entry)) (now (rows .entry))
+        (now (out .exit)) (now (moments .exit)) (now (rows .exit))
+        (runningAt setting (viewIn
+        (columns (now (times .exit)) (now (lens .exit)) (now (entries .exit)) (now (copies .exit))) (r .summary)))
+        (r .used) (r .written) (r .rows) (r .lines) ⌝ }
+{
+    let mut summary = summary;
+    let mut bytes = [0u8; line_input::MAX_BYTES];
+    let mut at = 0;
+    let mut to = 0;
+    let mut n = 0;
+    let mut left = most;
+    while LONGEST <= out.len() - to {
+        if left == 0 {
+            break;
+        }
+        if moments.len() <= n {
+            break;
+        }
+        let l = line_input::parse(&input[at..], &mut bytes);
+        if l.used == 0 {
+            break;
+        }
+        let from = at;
+        at += l.used;
+        left -= 1;
+        let ok = l.ok;
+        if !ok {
+            to = line_output::put_bad(out, to);
+            continue;
+        }
+        // Behind the time stand a space, two digits for each byte, and the newline.
+        let len = l.len;
+        let end = at - (2 * len + 2);
+        let done = merging::admit(
+            fit,
+            times,
+            lens,
+            entries,
+            copies,
+            summary,
+            &bytes[0..len],
+            l.time,
+        );
+        summary = done.summary;
+        let answer = done.answer;
+        n = store_row(moments, rows, n, answer, l.time, len, &bytes);
+        to = put_answer(out, to, &input[from..end], setting, answer, &bytes[0..len]);
+    }
+    Stored {
+        summary: summary,
+        used: at,
+        written: to,
+        rows: n,
+        lines: most - left,
+    }
+}
+
+// The row that an archive keeps of a reception that is KEPT or LOOSE, at place n: how many there are then.
+fn store_row(
+    moments: &mut [u64],
+    rows: &mut [u8],
+    n: usize,
+    answer: Answer,
+    time: u64,
+    len: usize,
+    bytes: &[u8; line_input::MAX_BYTES],
+) -> usize
+    requires { ⌜ (n < length (now moments)) × (23 * n + 23 ≤ length (now rows)) × (now bytes ≡ padded 64 (take len (now bytes)))
+        × (len ≤ 64) ⌝ }
+    ensures { λ r. ⌜ Printed (now (moments .entry)) n
+        (storedTime (shownOf answer) time (take len (now (bytes .entry)))) 1 (now (moments .exit)) r
+        × Printed (now (rows .entry)) (23 * n)
+        (storedRecord (shownOf answer) (take len (now (bytes .entry)))) 23 (now (rows .exit)) (23 * r) ⌝ }
+{
+    if Collector::MAX_LEN < len {
+        return n;
+    }
+    match answer {
+        Answer::Kept => put_record(moments, rows, n, 0, time, len, bytes),
+        Answer::Copy => n,
+        Answer::Loose => put_record(moments, rows, n, 1, time, len, bytes),
+        Answer::Refused(_) => n,
+    }
+}
+
+fn put_record(
+    moments: &mut [u64],
+    rows: &mut [u8],
+    n: usize,
+    flag: u8,
+    time: u64,
+    len: usize,
+    bytes: &[u8; line_input::MAX_BYTES],
+) -> usize
+    requires { ⌜ (n < length (now moments)) × (23 * n + 23 ≤ length (now rows)) × (now bytes ≡ padded 64 (take len (now bytes)))
+        × (len ≤ 21) ⌝ }
+    ensures { λ r. ⌜ Printed (now (moments .entry)) n (time ∷ []) 1 (now (moments .exit)) r
+        × Printed (now (rows .entry)) (23 * n)
+        (flag ∷ len ∷ padded 21 (take len (now (bytes .entry)))) 23 (now (rows .exit)) (23 * r) ⌝ }
+{
+    moments[n] = time;
+    let mut record = [0u8; 23];
+    record[0] = flag;
+    record[1] = len as u8;
+    line_input::copy_part(bytes, 0, 21, &mut record, 2);
+    line_input::copy_part(&record, 0, 23, rows, 23 * n);
+    n + 1
 }
 
 // The row of a reception behind the text of its time, with what is sent for it at the setting.

@@ -6,3 +6,6 @@ pub mod Starts
 pub mod Parts
 pub mod Long
 pub mod Answers
+pub mod Fills
+pub mod AtOnce
+pub mod Blocks

@@ -35,7 +35,7 @@ hexed s e =
     let v = both (leb (length s) 128) (eqb (length s % 2) 0) (u .0) in
     record { short = leb-true (length s) 128 (v .0); even = eqb-true (length s % 2) 0 (v .1); digits = u .1 }
 
-is-hex : {s : List ℕ} → Hexed s → isHex s ≡ true
+pub is-hex : {s : List ℕ} → Hexed s → isHex s ≡ true
 unfolding isHex
 is-hex {s} h = rw (le-leb (length s) 128 (h .short), eq-eqb (length s % 2) 0 (h .even), h .digits)
 

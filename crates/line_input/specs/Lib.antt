@@ -3,3 +3,4 @@ pub mod Decimal
 pub mod Hex
 pub mod Reading
 pub mod Claims
+pub mod Private

@@ -1,10 +1,10 @@
 // What the lines say that the program `collect` reads (document 01, "Cases").
 ghost use mathlib.Core.Path.{_≡_};
 ghost use mathlib.Core.Bool.{true};
-ghost use Prim.Native.Nat.{_/_, min};
-ghost use lib.ListN.{replicate};
-ghost use Rattle.lists.specs.Lists.{isTableOf};
-ghost use Rattle.line_input.specs.Decimal.{appended, timedOf};
+ghost use Prim.Native.Nat.{ℕ, _+_, _*_, _/_, _%_, _<_, _≤_, min};
+ghost use lib.ListN.{length, getD, take, replicate};
+ghost use Rattle.line_input.specs.Decimal.{isDigit, decimalOf, appended, timedOf};
+ghost use Rattle.line_input.specs.Private.{Thirteen, Ended, PutTwo, CopiedPart};
 ghost use Rattle.line_input.specs.Hex.{maxBytes, nibbleOf, Decoded};
 ghost use Rattle.line_input.specs.Reading.{settingOf, frontOf, badFront, lineOf, bytesIn};
 
@@ -42,272 +42,6 @@ enum Timed {
     At(u64, usize),
     Bad,
 }
-
-// The value of each character as a hexadecimal digit, in either case; 16 where it is none.
-const NIBBLES: [u8; 256] = [
-    16,
-    16,
-    16,
-    16,
-    16,
-    16,
-    16,
-    16,
-    16,
-    16,
-    16,
-    16,
-    16,
-    16,
-    16,
-    16,
-    16,
-    16,
-    16,
-    16,
-    16,
-    16,
-    16,
-    16,
-    16,
-    16,
-    16,
-    16,
-    16,
-    16,
-    16,
-    16,
-    16,
-    16,
-    16,
-    16,
-    16,
-    16,
-    16,
-    16,
-    16,
-    16,
-    16,
-    16,
-    16,
-    16,
-    16,
-    16,
-    // 0 to 9
-    0,
-    1,
-    2,
-    3,
-    4,
-    5,
-    6,
-    7,
-    8,
-    9,
-    // no digit
-    16,
-    16,
-    16,
-    16,
-    16,
-    16,
-    16,
-    // A to F
-    10,
-    11,
-    12,
-    13,
-    14,
-    15,
-    // no digit
-    16,
-    16,
-    16,
-    16,
-    16,
-    16,
-    16,
-    16,
-    16,
-    16,
-    16,
-    16,
-    16,
-    16,
-    16,
-    16,
-    16,
-    16,
-    16,
-    16,
-    16,
-    16,
-    16,
-    16,
-    16,
-    16,
-    // a to f
-    10, // a
-    11,
-    12,
-    13,
-    14,
-    15,
-    // no digit
-    16,
-    16,
-    16,
-    16,
-    16,
-    16,
-    16,
-    16,
-    16,
-    16,
-    16,
-    16,
-    16,
-    16,
-    16,
-    16,
-    16,
-    16,
-    16,
-    16,
-    16,
-    16,
-    16,
-    16,
-    16,
-    16,
-    16,
-    16,
-    16,
-    16,
-    16,
-    16,
-    16,
-    16,
-    16,
-    16,
-    16,
-    16,
-    16,
-    16,
-    16,
-    16,
-    16,
-    16,
-    16,
-    16,
-    16,
-    16,
-    16,
-    16,
-    16,
-    16,
-    16,
-    16,
-    16,
-    16,
-    16,
-    16,
-    16,
-    16,
-    16,
-    16,
-    16,
-    16,
-    16,
-    16,
-    16,
-    16,
-    16,
-    16,
-    16,
-    16,
-    16,
-    16,
-    16,
-    16,
-    16,
-    16,
-    16,
-    16,
-    16,
-    16,
-    16,
-    16,
-    16,
-    16,
-    16,
-    16,
-    16,
-    16,
-    16,
-    16,
-    16,
-    16,
-    16,
-    16,
-    16,
-    16,
-    16,
-    16,
-    16,
-    16,
-    16,
-    16,
-    16,
-    16,
-    16,
-    16,
-    16,
-    16,
-    16,
-    16,
-    16,
-    16,
-    16,
-    16,
-    16,
-    16,
-    16,
-    16,
-    16,
-    16,
-    16,
-    16,
-    16,
-    16,
-    16,
-    16,
-    16,
-    16,
-    16,
-    16,
-    16,
-    16,
-    16,
-    16,
-    16,
-    16,
-    16,
-    16,
-    16,
-    16,
-    16,
-    16,
-    16,
-    16,
-    16,
-    16,
-    16,
-    16,
-    16,
-    16,
-    16,
-];
 
 // The repeater setting that the first line says.
 pub fn parse_setting(line: &[u8]) -> Setting
@@ -374,8 +108,58 @@ fn bad_line(text: &[u8], bytes: &mut [u8; MAX_BYTES]) -> Line
     }
 }
 
-// The time at the start of a text: digits up to the first character that no number goes on with, which has to be a space.
+// The time at the start of a text. In ms it has thirteen digits from 2001 to 2286: these are read at once.
 fn parse_time(text: &[u8]) -> Timed
+    ensures { λ r. ⌜ r ≡ timedOf (now (text .entry)) ⌝ }
+{
+    if 13 < text.len() {
+        if has_thirteen(text) {
+            return Timed::At(thirteen(text), 13);
+        }
+    }
+    read_time(text)
+}
+
+// Whether thirteen digits and a space stand at the start of a text, the first digit no zero.
+fn has_thirteen(text: &[u8]) -> bool
+    requires { ⌜ 13 < length (now text) ⌝ }
+    ensures { λ r. ⌜ (r ≡ true → Thirteen (now (text .entry))) ⌝ }
+{
+    (are_digits(text, 0) & are_digits(text, 5)) & ((text[0] != 48) & (text[13] == 32))
+}
+
+// Whether eight characters are digits: no branch is taken before all are looked at, so that they are looked at in one vector.
+fn are_digits(text: &[u8], from: usize) -> bool
+    requires { ⌜ from + 8 ≤ length (now text) ⌝ }
+    ensures { λ r. ⌜ (r ≡ true → (k : ℕ) → k < 8 → isDigit (getD (now (text .entry)) (from + k) 0) ≡ true) ⌝ }
+{
+    let mut all = true;
+    for k in 0..8 {
+        all = all & is_digit(text[from + k]);
+    }
+    all
+}
+
+fn is_digit(c: u8) -> bool
+    ensures { λ r. ⌜ r ≡ isDigit c ⌝ }
+{
+    (48 <= c) & (c < 58)
+}
+
+// The number that thirteen digits say: none of so many passes 64 bits.
+fn thirteen(text: &[u8]) -> u64
+    requires { ⌜ Thirteen (now text) ⌝ }
+    ensures { λ r. ⌜ r ≡ decimalOf (take 13 (now (text .entry))) ⌝ }
+{
+    let mut n: u64 = 0;
+    for k in 0..13 {
+        n = n * 10 + (text[k] - 48) as u64;
+    }
+    n
+}
+
+// The time at the start of a text: digits up to the first character that no number goes on with, which has to be a space.
+fn read_time(text: &[u8]) -> Timed
     ensures { λ r. ⌜ r ≡ timedOf (now (text .entry)) ⌝ }
 {
     let mut time: u64 = 0;
@@ -421,18 +205,123 @@ fn append(n: u64, c: u8) -> Number
 }
 
 // Writes the bytes of the pairs of digits at the front of s to the front of `bytes`, MAX_BYTES at most, and answers how many they are.
-// The table is named once: a constant array is built anew wherever it is named.
 fn decode(s: &[u8], bytes: &mut [u8; MAX_BYTES]) -> usize
     ensures { λ r. ⌜ Decoded (now (s .entry)) (now (bytes .exit)) r ⌝ }
 {
+    let n = count_pairs(s);
+    if n == 0 {
+        return decode_pairs(s, bytes);
+    }
     *bytes = [0u8; MAX_BYTES];
-    let table = NIBBLES;
+    if !decode_at_once(s, n, bytes) {
+        return decode_pairs(s, bytes);
+    }
+    n
+}
+
+// How many pairs stand before a newline, if they are digits: 8 to 24, which is every length of a subtelegram. 0 where there is none, or where
+// less than 24 pairs and a newline can be looked at.
+fn count_pairs(s: &[u8]) -> usize
+    ensures { λ r. ⌜ (0 < r → Ended (now (s .entry)) r) ⌝ }
+{
+    if s.len() < 49 {
+        return 0;
+    }
+    let mut n = 8;
+    while n <= 24 {
+        if s[2 * n] == 10 {
+            return n;
+        }
+        n += 1;
+    }
+    0
+}
+
+// Writes the bytes of n pairs to the front of zeros, eight at a time, the last eight where the pairs end; whether all are of digits.
+fn decode_at_once(s: &[u8], n: usize, bytes: &mut [u8; MAX_BYTES]) -> bool
+    requires { ⌜ Ended (now s) n × (now bytes ≡ replicate maxBytes 0) ⌝ }
+    ensures { λ r. ⌜ (r ≡ true → Decoded (now (s .entry)) (now (bytes .exit)) n) ⌝ }
+{
+    if n <= 16 {
+        return put_two(s, 0, n - 8, bytes);
+    }
+    if !put_two(s, 0, 8, bytes) {
+        return false;
+    }
+    put_two(s, 8, n - 8, bytes)
+}
+
+// Writes the bytes of the eight pairs from pair i on, and of those from pair j on, to their places; whether all are of digits. No branch is taken
+// on a character, so that they are read sixteen in one vector.
+fn put_two(s: &[u8], i: usize, j: usize, bytes: &mut [u8; MAX_BYTES]) -> bool
+    requires { ⌜ (i + 8 ≤ maxBytes) × (j + 8 ≤ maxBytes) × (2 * i + 16 ≤ length (now s)) × (2 * j + 16 ≤ length (now s)) ⌝ }
+    ensures { λ r. ⌜ PutTwo (now (s .entry)) i j (now (bytes .entry)) (now (bytes .exit)) r ⌝ }
+{
+    let mut c = [0u8; 32];
+    copy_part(s, 2 * i, 16, &mut c, 0);
+    copy_part(s, 2 * j, 16, &mut c, 16);
+    let v = nibbles(c);
+    let b = joined(v);
+    copy_part(&b, 0, 8, bytes, i);
+    copy_part(&b, 8, 8, bytes, j);
+    are_nibbles(v)
+}
+
+// Copies n bytes from one place of a slice to a place of another.
+pub fn copy_part(src: &[u8], from: usize, n: usize, dst: &mut [u8], to: usize)
+    requires { ⌜ (from + n ≤ length (now src)) × (to + n ≤ length (now dst)) ⌝ }
+    ensures { λ _. ⌜ CopiedPart (now (src .entry)) from n (now (dst .entry)) to (now (dst .exit)) ⌝ }
+{
+    for k in 0..n {
+        dst[to + k] = src[from + k];
+    }
+}
+
+// The values of characters as hexadecimal digits.
+fn nibbles(c: [u8; 32]) -> [u8; 32]
+    ensures { λ r. ⌜ (length r ≡ 32) × ((k : ℕ) → k < 32 → getD r k 0 ≡ nibbleOf (getD c k 0)) ⌝ }
+{
+    let mut v = [0u8; 32];
+    for k in 0..32 {
+        v[k] = nibble(c[k]);
+    }
+    v
+}
+
+// Whether all are of digits.
+fn are_nibbles(v: [u8; 32]) -> bool
+    ensures { λ r. ⌜ (r ≡ true → (k : ℕ) → k < 32 → getD v k 0 < 16) ⌝ }
+{
+    let mut all = true;
+    for k in 0..32 {
+        all = all & (v[k] < 16);
+    }
+    all
+}
+
+// The bytes of pairs.
+fn joined(v: [u8; 32]) -> [u8; 16]
+    ensures { λ r. ⌜ (length r ≡ 16) × ((k : ℕ) → k < 16
+        → getD r k 0 ≡ getD v (2 * k) 0 % 16 * 16 + getD v (2 * k + 1) 0 % 16) ⌝ }
+{
+    let mut b = [0u8; 16];
+    for k in 0..16 {
+        b[k] = v[2 * k] % 16 * 16 + v[2 * k + 1] % 16;
+    }
+    b
+}
+
+// The same one pair after the other, for any text.
+fn decode_pairs(s: &[u8], bytes: &mut [u8; MAX_BYTES]) -> usize
+    ensures { λ r. ⌜ Decoded (now (s .entry)) (now (bytes .exit)) r ⌝ }
+{
+    *bytes = [0u8; MAX_BYTES];
     let limit = pairs_of(s.len());
     let mut i = 0;
     while i < limit {
         let at = 2 * i;
-        let high = nibble(&table, s[at]);
-        let low = nibble(&table, s[at + 1]);
+        let high = nibble(s[at]);
+        let low = nibble(s[at + 1]);
         if (15 < high) | (15 < low) {
             break;
         }
@@ -440,6 +329,22 @@ fn decode(s: &[u8], bytes: &mut [u8; MAX_BYTES]) -> usize
         i += 1;
     }
     i
+}
+
+// The value of c as a hexadecimal digit, or 16.
+fn nibble(c: u8) -> u8
+    ensures { λ r. ⌜ r ≡ nibbleOf c ⌝ }
+{
+    if (48 <= c) & (c < 58) {
+        return c - 48;
+    }
+    if (65 <= c) & (c < 71) {
+        return c - 55;
+    }
+    if (97 <= c) & (c < 103) {
+        return c - 87;
+    }
+    16
 }
 
 // How many pairs n characters are, MAX_BYTES at most.
@@ -450,12 +355,4 @@ fn pairs_of(n: usize) -> usize
         return n / 2;
     }
     MAX_BYTES
-}
-
-// The value of c as a hexadecimal digit, or 16.
-fn nibble(table: &[u8; 256], c: u8) -> u8
-    requires { ⌜ isTableOf 256 nibbleOf (now table) ≡ true ⌝ }
-    ensures { λ r. ⌜ r ≡ nibbleOf c ⌝ }
-{
-    table[c as usize]
 }

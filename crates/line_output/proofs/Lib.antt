@@ -2,3 +2,4 @@ pub mod Digits
 pub mod Words
 pub mod Longest
 pub mod ReadBack
+pub mod Pasted

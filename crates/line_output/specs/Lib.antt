@@ -2,3 +2,4 @@ pub mod Codes
 pub mod Text
 pub mod Longest
 pub mod Claims
+pub mod Private

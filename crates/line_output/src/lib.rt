@@ -1,14 +1,14 @@
 // The lines that the program `collect` writes (document 01, "Cases"). Each function writes to a lent buffer from `at` on and answers the
 // position behind its text; where the longest such text would not fit it writes nothing and answers `at`.
 ghost use mathlib.Core.Path.{_≡_};
-ghost use mathlib.Core.Bool.{true};
 ghost use Prim.Native.Nat.{_+_, _*_, _≤_, _<_};
 ghost use lib.Dec.{leb};
 ghost use lib.ListN.{length, drop};
-ghost use Rattle.lists.specs.Lists.{isTableOf};
+ghost use Rattle.line_input.specs.Private.{CopiedPart};
 ghost use Rattle.line_output.specs.Text.{decimalText, hexDigitOf, hexText, answerText, rowBehind, badText, counted, totalsText};
 ghost use Rattle.buffers.specs.Printed.{Printed, PrintedIfFits};
 ghost use Rattle.line_output.specs.Longest.{longestNumber, longestAnswer, longestRow, longestTotals};
+ghost use Rattle.line_output.specs.Private.{DigitsOf};
 
 // What the row of a reception says; a refusal by its number.
 pub enum Row {
@@ -28,26 +28,6 @@ pub const BAD_LENGTH: usize = 4;
 
 // The longest line of totals.
 pub const LONGEST_TOTALS: usize = 166;
-
-// The hexadecimal digits.
-const DIGITS: [u8; 16] = [
-    48,
-    49,
-    50,
-    51,
-    52,
-    53,
-    54,
-    55,
-    56,
-    57,
-    65,
-    66,
-    67,
-    68,
-    69,
-    70,
-];
 
 // The row of a reception behind the text of its time, as it was read; `sent` is what KEPT sends.
 pub fn put_row(out: &mut [u8], at: usize, time: &[u8], row: Row, sent: &[u8]) -> usize
@@ -181,7 +161,25 @@ fn write_count(out: &mut [u8], at: usize, name: &[u8], n: u64) -> usize
     write_decimal(out, from, n)
 }
 
+// Short texts and those of 8 to 16 characters, as nearly all times are, are the usual ones: the latter are written as two blocks of eight, which meet.
 fn write(out: &mut [u8], at: usize, s: &[u8]) -> usize
+    requires { ⌜ at + length (now s) ≤ length (now out) ⌝ }
+    ensures { λ r. ⌜ Printed (now (out .entry)) at (now (s .entry)) (length (now (s .entry))) (now (out .exit)) r ⌝ }
+{
+    let n = s.len();
+    if n < 8 {
+        return write_each(out, at, s);
+    }
+    if 16 < n {
+        return write_each(out, at, s);
+    }
+    put_eight(out, at, s, 0);
+    let last = n - 8;
+    put_eight(out, at + last, s, last);
+    at + n
+}
+
+fn write_each(out: &mut [u8], at: usize, s: &[u8]) -> usize
     requires { ⌜ at + length (now s) ≤ length (now out) ⌝ }
     ensures { λ r. ⌜ Printed (now (out .entry)) at (now (s .entry)) (length (now (s .entry))) (now (out .exit)) r ⌝ }
 {
@@ -189,6 +187,16 @@ fn write(out: &mut [u8], at: usize, s: &[u8]) -> usize
         out[at + i] = s[i];
     }
     at + s.len()
+}
+
+// Copies eight characters, by an array: nothing else says that the two slices do not meet.
+fn put_eight(out: &mut [u8], at: usize, s: &[u8], from: usize)
+    requires { ⌜ (from + 8 ≤ length (now s)) × (at + 8 ≤ length (now out)) ⌝ }
+    ensures { λ _. ⌜ CopiedPart (now (s .entry)) from 8 (now (out .entry)) at (now (out .exit)) ⌝ }
+{
+    let mut c = [0u8; 8];
+    line_input::copy_part(s, from, 8, &mut c, 0);
+    line_input::copy_part(&c, 0, 8, out, at);
 }
 
 fn write_decimal(out: &mut [u8], at: usize, n: u64) -> usize
@@ -223,30 +231,74 @@ fn spell(n: u64, digits: &mut [u8]) -> usize
     i - 2
 }
 
-// The table is named once: a constant array is built anew wherever it is named.
+// The digits of bytes: those of 8 to 24, as telegrams have them, eight at a time, the last eight where the bytes end.
 fn write_hex(out: &mut [u8], at: usize, s: &[u8]) -> usize
     requires { ⌜ at + 2 * length (now s) ≤ length (now out) ⌝ }
     ensures { λ r. ⌜ Printed (now (out .entry)) at
         (hexText (now (s .entry))) (2 * length (now (s .entry)))
         (now (out .exit)) r ⌝ }
 {
-    let table = DIGITS;
+    let n = s.len();
+    if n < 8 {
+        return write_pairs(out, at, s);
+    }
+    if 24 < n {
+        return write_pairs(out, at, s);
+    }
+    let last = n - 8;
+    put_digits(out, at, s, 0);
+    if n <= 16 {
+        put_digits(out, at + 2 * last, s, last);
+        return at + 2 * n;
+    }
+    put_digits(out, at + 16, s, 8);
+    put_digits(out, at + 2 * last, s, last);
+    at + 2 * n
+}
+
+// Writes the digits of eight bytes.
+fn put_digits(out: &mut [u8], at: usize, s: &[u8], from: usize)
+    requires { ⌜ (from + 8 ≤ length (now s)) × (at + 16 ≤ length (now out)) ⌝ }
+    ensures { λ _. ⌜ CopiedPart (hexText (now (s .entry))) (2 * from) 16 (now (out .entry)) at (now (out .exit)) ⌝ }
+{
+    let d = digits_of(s, from);
+    line_input::copy_part(&d, 0, 16, out, at);
+}
+
+// The digits of eight bytes, in an array of its own: nothing else says that the two slices do not meet.
+fn digits_of(s: &[u8], from: usize) -> [u8; 16]
+    requires { ⌜ from + 8 ≤ length (now s) ⌝ }
+    ensures { λ r. ⌜ DigitsOf (now (s .entry)) from r ⌝ }
+{
+    let mut d = [0u8; 16];
+    for k in 0..8 {
+        d[2 * k] = hex_digit(s[from + k] / 16);
+        d[2 * k + 1] = hex_digit(s[from + k] % 16);
+    }
+    d
+}
+
+fn write_pairs(out: &mut [u8], at: usize, s: &[u8]) -> usize
+    requires { ⌜ at + 2 * length (now s) ≤ length (now out) ⌝ }
+    ensures { λ r. ⌜ Printed (now (out .entry)) at
+        (hexText (now (s .entry))) (2 * length (now (s .entry)))
+        (now (out .exit)) r ⌝ }
+{
     let mut i = 0;
     let mut to = at;
     while i < s.len() {
         let b = s[i];
-        out[to] = hex_digit(&table, b / 16);
-        out[to + 1] = hex_digit(&table, b % 16);
+        out[to] = hex_digit(b / 16);
+        out[to + 1] = hex_digit(b % 16);
         to += 2;
         i += 1;
     }
     to
 }
 
-fn hex_digit(table: &[u8; 16], d: u8) -> u8
-    requires { ⌜ isTableOf 16 hexDigitOf (now table) ≡ true ⌝ }
+fn hex_digit(d: u8) -> u8
     requires { ⌜ d < 16 ⌝ }
     ensures { λ r. ⌜ r ≡ hexDigitOf d ⌝ }
 {
-    table[d as usize]
+    if d < 10 { 48 + d } else { 55 + d }
 }

@@ -8,7 +8,7 @@ use Rattle.collecting.proofs.begin.Tie as tie
 returns : tie.Need-returns
 returns c =
     let s = c .before .before .setting in
-    rw (s .given .1) (ap (runningAt (s .given .0 .0)) (c .fresh .ensures))
+    rw (s .given .1) (ap (runningAt (s .given .0 .0)) (c .fresh .ensures .state))
 
 pub begin-spec : {M : Type 1} → statement M
 begin-spec =

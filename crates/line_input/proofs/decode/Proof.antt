@@ -1,95 +1,40 @@
--- `line_input::decode` meets its contract. The invariant: the count and the stores of the pairs that are left are those of all.
--- The measure is what is left of the limit.
+-- `line_input::decode` meets its contract: what is read at once, or else pair by pair.
 use mathlib.Core.Path.{_≡_, refl}
-use mathlib.Core.List.{List}
-use Prim.Native.Nat.{ℕ, min, _-_, _/_, _≤_}
+use borrow.Author.Tests.{not-false}
 use native.Mathlib.Omega.{arith}
 use borrow.Author.Needs.{needs}
-use lib.ListN.{length, length-set}
-use Rattle.lists.specs.Lists.{isTableOf}
-use Rattle.line_input.specs.Hex.{nibbleOf}
-use Rattle.line_input.proofs.Pairs.{Left, left-all, left-next, both-digits, decoded-all, decoded-front}
 use Rattle.line_input.proofs.decode.Statement.{statement}
 use Rattle.line_input.proofs.decode.Tie as tie
 
-record Decoding (s : List ℕ) (limit i : ℕ) (bytes : List ℕ) : Type 0 where
-  pairs : limit ≡ min (length s / 2) 64
-  long : length bytes ≡ 64
-  rest : Left s i bytes
+count-pairs-requires : tie.Need-count-pairs-requires
+count-pairs-requires c κs = search needs
 
-abbrev Inv-loop : tie.InvT-loop
-Inv-loop s bytes₀ table limit i₀ bytes i = Decoding s limit i bytes
+decode-pairs-requires : tie.Need-decode-pairs-requires
+decode-pairs-requires c κs = search needs
 
-abbrev μ-loop : tie.MeasureT-loop
-μ-loop s bytes₀ table limit i₀ bytes i = limit - i
+returns : tie.Need-returns
+returns c = search needs
 
-loop-holds : tie.Need-loop-holds Inv-loop μ-loop
-loop-holds c = record { pairs = search needs; long = refl; rest = left-all _ }
+decode-at-once-requires : tie.Need-decode-at-once-requires
+decode-at-once-requires c κs = (c .before .before .before .count-pairs .ensures (omega arith), refl)
 
--- the test of the table's rule, which antt computes
-high-requires : tie.Need-nibble-requires Inv-loop μ-loop
-unfolding isTableOf nibbleOf
-high-requires c κs = refl
+decode-pairs-requires-2 : tie.Need-decode-pairs-requires-2
+decode-pairs-requires-2 c κs = search needs
 
-low-requires : tie.Need-nibble-requires-2 Inv-loop μ-loop
-unfolding isTableOf nibbleOf
-low-requires c κs = refl
+returns-2 : tie.Need-returns-2
+returns-2 c = search needs
 
--- the values of a pair, where both are of digits
-module _ (c : tie.Else1 Inv-loop μ-loop) where
-  abbrev high : ℕ
-  high = c .before .before .before .before .nibble .result
-
-  abbrev low : ℕ
-  low = c .before .nibble2 .result
-
-  digits : (high ≤ 15) × (low ≤ 15)
-  digits = both-digits high low (c .if1 .left)
-
-mul-bytes : tie.Need-mul-bytes Inv-loop μ-loop
-mul-bytes c = let d = digits c in search needs
-
-add-bytes : tie.Need-add-bytes Inv-loop μ-loop
-add-bytes c = let d = digits c in search needs
-
-loop-again : tie.Need-loop-again Inv-loop μ-loop
-loop-again c =
-    let inv = c .before .before .before .before .before .before .before .before .loop .inv in
-    record {
-      pairs = inv .pairs;
-      long = simp length-set (inv .long);
-      rest =
-          left-next (inv .rest) (omega arith) (omega arith) (c .before .before .before .before .nibble .ensures) (c .before .nibble2 .ensures)
-          (c .if1 .left);
-    }
-
-returns : tie.Need-returns Inv-loop μ-loop
-returns c = decoded-all (c .before .loop .inv .rest) (omega arith)
-
-stopped : tie.Need-returns-2 Inv-loop μ-loop
-stopped c =
-    let l = c .before .before .before .before .before .before .before .before .loop in
-    decoded-front (l .inv .rest) (omega arith) (omega arith) (c .before .before .before .before .nibble .ensures) (c .before .nibble2 .ensures) (c .if1 .taken)
+returns-3 : tie.Need-returns-3
+returns-3 c = c .before .decode-at-once .ensures (not-false _ (c .if2 .left))
 
 pub decode-spec : {M : Type 1} → statement M
 decode-spec =
     tie.close
     (tie.spec
-    Inv-loop
-    μ-loop
-    (λ c κs. search needs)
-    loop-holds
-    (λ c. search needs)
-    (λ c. search needs)
-    high-requires
-    (λ c. search needs)
-    (λ c. search needs)
-    low-requires
-    mul-bytes
-    add-bytes
-    (λ c. search needs)
-    (λ c. search needs)
-    (λ c. search needs)
-    loop-again
+    count-pairs-requires
+    decode-pairs-requires
     returns
-    stopped)
+    decode-at-once-requires
+    decode-pairs-requires-2
+    returns-2
+    returns-3)

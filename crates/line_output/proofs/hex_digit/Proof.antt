@@ -1,12 +1,24 @@
--- `line_output::hex_digit` meets its contract: the table passes the test of its rule.
-use borrow.Author.Needs.{needs}
-use Rattle.lists.proofs.Table.{table-entry}
+-- `line_output::hex_digit` meets its contract: its test is that of `hexDigitOf`.
+use native.Mathlib.Omega.{arith}
+use borrow.Author.Tests.{lt-ltb, le-ltb}
 use Rattle.line_output.specs.Text.{hexDigitOf}
+use borrow.Author.Needs.{needs}
 use Rattle.line_output.proofs.hex_digit.Statement.{statement}
 use Rattle.line_output.proofs.hex_digit.Tie as tie
 
+add-result : tie.Need-add-result
+add-result c = search needs
+
+add-result-2 : tie.Need-add-result-2
+add-result-2 c = search needs
+
 returns : tie.Need-returns
-returns c = table-entry 16 hexDigitOf _ (c .before .pre .0) (c .before .args .d) (c .before .pre .1)
+unfolding hexDigitOf
+returns c = rw (lt-ltb (c .before .args .d) 10 (c .if1 .taken))
+
+returns-2 : tie.Need-returns-2
+unfolding hexDigitOf
+returns-2 c = rw (le-ltb (c .before .args .d) 10 (c .if1 .left)) (omega arith)
 
 pub hex-digit-spec : {M : Type 1} → statement M
-hex-digit-spec = tie.close (tie.spec (λ c. search needs) returns)
+hex-digit-spec = tie.close (tie.spec add-result add-result-2 returns returns-2)

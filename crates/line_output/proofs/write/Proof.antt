@@ -1,64 +1,67 @@
--- `line_output::write` meets its contract. The loop's invariant: the stores that are left, after those made, are all of them.
--- The measure is what is left of the length.
-use mathlib.Core.Path.{_≡_, refl, sym, _∙_}
-use mathlib.Core.List.{List}
-use Prim.Native.Nat.{ℕ, _+_, _-_, _≤_}
-use native.Mathlib.Nat.{add-zero}
+-- `line_output::write` meets its contract: two blocks that meet are all of the text.
+use mathlib.Core.Path.{_≡_, refl}
 use native.Mathlib.Omega.{arith}
+use Rattle.line_output.proofs.Pasted.{paste-first, paste-next, pasted}
 use borrow.Author.Needs.{needs}
-use denote.Ref.{now}
-use lib.ListN.{length, drop, length-set, drop-of-length-le}
-use lib.Seq.{sets}
-use Rattle.buffers.proofs.Stores.{copy-next}
 use Rattle.line_output.proofs.write.Statement.{statement}
 use Rattle.line_output.proofs.write.Tie as tie
 
-record Writing (s : List ℕ) (at i i-end : ℕ) (old new : List ℕ) : Type 0 where
-  bounded : i ≤ length s
-  end : i-end ≡ length s
-  long : length new ≡ length old
-  stores : sets new (at + i) (drop i s) ≡ sets old at s
+write-each-requires : tie.Need-write-each-requires
+write-each-requires c κs = search needs
 
-abbrev Inv-loop : tie.InvT-loop
-Inv-loop out₀ at s i₀ i-end out i = Writing s at i i-end out₀ out
+same-length : tie.Need-same-length
+same-length c = search needs
 
-abbrev μ-loop : tie.MeasureT-loop
-μ-loop out₀ at s i₀ i-end out i = length s - i
+returns : tie.Need-returns
+returns c = search needs
 
-loop-holds : tie.Need-loop-holds Inv-loop μ-loop
-loop-holds c = record { bounded = search needs; end = search needs; long = search needs; stores = rw (add-zero (c .args .at)) }
+write-each-requires-2 : tie.Need-write-each-requires-2
+write-each-requires-2 c κs = search needs
 
-loop-again : tie.Need-loop-again Inv-loop μ-loop
-loop-again c =
-    let a = c .before .before .before .args in
-    let l = c .before .before .loop in
+same-length-2 : tie.Need-same-length-2
+same-length-2 c = search needs
+
+returns-2 : tie.Need-returns-2
+returns-2 c = search needs
+
+put-eight-requires : tie.Need-put-eight-requires
+put-eight-requires c κs = search needs
+
+add-put-eight : tie.Need-add-put-eight
+add-put-eight c = search needs
+
+put-eight-requires-2 : tie.Need-put-eight-requires-2
+put-eight-requires-2 c κs = search needs
+
+add-result : tie.Need-add-result
+add-result c = search needs
+
+same-length-3 : tie.Need-same-length-3
+same-length-3 c = search needs
+
+returns-3 : tie.Need-returns-3
+returns-3 c =
+    let front = c .before .before .before .before .before .before .put-eight .ensures in
+    let back = c .before .before .put-eight2 .ensures in
     record {
-      bounded = omega arith;
-      end = search needs;
-      long = simp length-set (l .inv .long);
-      stores = sym (copy-next (l .out) (now (a .s)) (a .at) (l .i) (omega arith)) ∙ l .inv .stores;
+      bytes = pasted (paste-next (paste-first front) (omega arith) (omega arith) back) (omega arith) (omega arith);
+      next = refl;
+      short = omega arith;
     }
-
-returns : tie.Need-returns Inv-loop μ-loop
-returns c =
-    let a = c .before .before .args in
-    let l = c .before .loop in
-    let h : length (now (a .s)) ≤ l .i = omega arith in
-    record { bytes = rw (drop-of-length-le (now (a .s)) h) at (l .inv .stores); next = refl; short = omega arith }
 
 pub write-spec : {M : Type 1} → statement M
 write-spec =
     tie.close
     (tie.spec
-    Inv-loop
-    μ-loop
-    loop-holds
-    (λ c. search needs)
-    (λ c. search needs)
-    (λ c. search needs)
-    (λ c. search needs)
-    (λ c. search needs)
-    loop-again
-    (λ c. search needs)
-    (λ c. search needs)
-    returns)
+    write-each-requires
+    same-length
+    returns
+    write-each-requires-2
+    same-length-2
+    returns-2
+    put-eight-requires
+    add-put-eight
+    put-eight-requires-2
+    add-result
+    same-length-3
+    returns-3)

@@ -1,68 +1,101 @@
--- `line_output::write_hex` meets its contract. The loop's invariant: the stores that are left, after those made, are all of them.
--- The measure is what is left of the length.
-use mathlib.Core.Path.{_≡_, refl, sym, _∙_}
-use mathlib.Core.List.{List}
-use Prim.Native.Nat.{ℕ, _+_, _-_, _*_, _≤_}
+-- `line_output::write_hex` meets its contract: two blocks that meet, or three, are the digits of all bytes.
+use mathlib.Core.Path.{_≡_, refl}
+use Prim.Native.Nat.{_+_, _*_}
 use native.Mathlib.Omega.{arith}
-use borrow.Author.Needs.{needs}
 use denote.Ref.{now}
-use lib.ListN.{length, drop, length-set, drop-of-length-le}
-use lib.Seq.{sets}
-use Rattle.lists.specs.Lists.{isTableOf}
-use Rattle.line_output.specs.Text.{hexText, hexDigitOf}
-use Rattle.line_output.proofs.Words.{hex-next, hex-length}
+use lib.ListN.{length}
+use Rattle.line_output.specs.Text.{hexText}
+use Rattle.line_output.proofs.Words.{hex-length}
+use Rattle.line_output.proofs.Pasted.{paste-first, paste-next, pasted}
+use borrow.Author.Needs.{needs}
 use Rattle.line_output.proofs.write_hex.Statement.{statement}
 use Rattle.line_output.proofs.write_hex.Tie as tie
 
-record Writing (s : List ℕ) (at i to : ℕ) (old new : List ℕ) : Type 0 where
-  bounded : i ≤ length s
-  place : to ≡ at + 2 * i
-  long : length new ≡ length old
-  stores : sets new to (hexText (drop i s)) ≡ sets old at (hexText s)
+write-pairs-requires : tie.Need-write-pairs-requires
+write-pairs-requires c κs = search needs
 
-abbrev Inv-loop : tie.InvT-loop
-Inv-loop out₀ at s table i₀ to₀ out i to = Writing s at i to out₀ out
+same-length : tie.Need-same-length
+same-length c = search needs
 
-abbrev μ-loop : tie.MeasureT-loop
-μ-loop out₀ at s table i₀ to₀ out i to = length s - i
+returns : tie.Need-returns
+returns c = search needs
 
-loop-holds : tie.Need-loop-holds Inv-loop μ-loop
-loop-holds c = record { bounded = search needs; place = search needs; long = refl; stores = refl }
+write-pairs-requires-2 : tie.Need-write-pairs-requires-2
+write-pairs-requires-2 c κs = search needs
 
--- the test of the table's rule, which antt computes
-high-requires : tie.Need-hex-digit-requires Inv-loop μ-loop
-unfolding isTableOf hexDigitOf
-high-requires c κs = (refl, omega (arith, c .before .shared-slice-known2 .given (c .before .before .before .loop .i)))
+same-length-2 : tie.Need-same-length-2
+same-length-2 c = search needs
 
-low-requires : tie.Need-hex-digit-requires-2 Inv-loop μ-loop
-unfolding isTableOf hexDigitOf
-low-requires c κs = (refl, search needs)
+returns-2 : tie.Need-returns-2
+returns-2 c = search needs
 
-low-fits : tie.Need-slice-write-out-2 Inv-loop μ-loop
-low-fits c = simp length-set (omega arith)
+put-digits-requires : tie.Need-put-digits-requires
+put-digits-requires c κs = search needs
 
-loop-again : tie.Need-loop-again Inv-loop μ-loop
-loop-again c =
-    let a = c .before .before .before .before .before .before .before .before .before .args in
-    let l = c .before .before .before .before .before .before .loop in
+mul-put-digits : tie.Need-mul-put-digits
+mul-put-digits c = search needs
+
+add-put-digits : tie.Need-add-put-digits
+add-put-digits c = search needs
+
+put-digits-requires-2 : tie.Need-put-digits-requires-2
+put-digits-requires-2 c κs = search needs
+
+mul-result : tie.Need-mul-result
+mul-result c = search needs
+
+add-result : tie.Need-add-result
+add-result c = search needs
+
+same-length-3 : tie.Need-same-length-3
+same-length-3 c = search needs
+
+returns-3 : tie.Need-returns-3
+returns-3 c =
+    let s = now (c .before .before .before .before .before .before .before .before .before .before .before .before .before .args .s) in
+    let front = c .before .before .before .before .before .before .before .put-digits .ensures in
+    let back = c .before .before .put-digits2 .ensures in
     record {
-      bounded = omega arith;
-      place = omega arith;
-      long = simp length-set (l .inv .long);
-      stores =
-          rw (c .before .before .hex-digit .ensures, c .hex-digit2 .ensures) (sym (hex-next (l .out) (now (a .s)) (l .to) (l .i) (omega arith)))
-          ∙ l .inv .stores;
+      bytes = pasted (paste-next (paste-first front) (omega arith) (omega arith) back) (omega (arith, hex-length s)) (omega arith);
+      next = omega (arith, hex-length s);
+      short = omega arith;
     }
 
-returns : tie.Need-returns Inv-loop μ-loop
-unfolding hexText
-returns c =
-    let a = c .before .before .before .before .args in
-    let l = c .before .loop in
-    let h : length (now (a .s)) ≤ l .i = omega arith in
+add-put-digits-2 : tie.Need-add-put-digits-2
+add-put-digits-2 c = search needs
+
+put-digits-requires-3 : tie.Need-put-digits-requires-3
+put-digits-requires-3 c κs = search needs
+
+mul-put-digits-2 : tie.Need-mul-put-digits-2
+mul-put-digits-2 c = search needs
+
+add-put-digits-3 : tie.Need-add-put-digits-3
+add-put-digits-3 c = search needs
+
+put-digits-requires-4 : tie.Need-put-digits-requires-4
+put-digits-requires-4 c κs = search needs
+
+mul-result-2 : tie.Need-mul-result-2
+mul-result-2 c = search needs
+
+add-result-2 : tie.Need-add-result-2
+add-result-2 c = search needs
+
+same-length-4 : tie.Need-same-length-4
+same-length-4 c = search needs
+
+returns-4 : tie.Need-returns-4
+returns-4 c =
+    let s = now (c .before .before .before .before .before .before .before .before .before .before .before .before .before .before .before .before .before .args .s) in
+    let front = c .before .before .before .before .before .before .before .before .before .before .before .put-digits .ensures in
+    let middle = c .before .before .before .before .before .before .put-digits3 .ensures in
+    let back = c .before .before .put-digits4 .ensures in
     record {
-      bytes = rw (drop-of-length-le (now (a .s)) h) at (l .inv .stores);
-      next = omega (arith, hex-length (now (a .s)));
+      bytes =
+          pasted (paste-next (paste-next (paste-first front) (omega arith) (omega arith) middle) (omega arith) (omega arith) back)
+          (omega (arith, hex-length s)) (omega arith);
+      next = omega (arith, hex-length s);
       short = omega arith;
     }
 
@@ -70,18 +103,26 @@ pub write-hex-spec : {M : Type 1} → statement M
 write-hex-spec =
     tie.close
     (tie.spec
-    Inv-loop
-    μ-loop
-    loop-holds
-    (λ c. search needs)
-    high-requires
-    (λ c. search needs)
-    low-requires
-    (λ c. search needs)
-    low-fits
-    (λ c. search needs)
-    (λ c. search needs)
-    (λ c. search needs)
-    loop-again
-    (λ c. search needs)
-    returns)
+    write-pairs-requires
+    same-length
+    returns
+    write-pairs-requires-2
+    same-length-2
+    returns-2
+    put-digits-requires
+    mul-put-digits
+    add-put-digits
+    put-digits-requires-2
+    mul-result
+    add-result
+    same-length-3
+    returns-3
+    add-put-digits-2
+    put-digits-requires-3
+    mul-put-digits-2
+    add-put-digits-3
+    put-digits-requires-4
+    mul-result-2
+    add-result-2
+    same-length-4
+    returns-4)

@@ -1,0 +1,362 @@
+-- `collecting::take_rows` meets its contract. The invariant: the lines up to `at` were taken, what they give stands before `to`, and the test of
+-- the state says what it said. The measure is what is left of the input.
+use mathlib.Core.Path.{_≡_, refl, ap, _∙_}
+use mathlib.Core.Bool.{Bool, true}
+use mathlib.Core.List.{List}
+use Prim.Native.Nat.{ℕ, _+_, _-_, _*_, _^_, _<_, _≤_}
+use native.Mathlib.Omega.{arith}
+use native.Mathlib.Nat.{sub-self, zero-add}
+use mathlib.Core.Logic.{⊎-elim}
+use borrow.Author.Needs.{needs}
+use borrow.Author.Tests.{not-true, not-false}
+use denote.Ref.{now}
+use lib.ListN.{length, take, drop, replicate, length-take, length-drop, length-replicate}
+use lib.Seq.{length-take-le}
+use Rattle.bytes.specs.Bytes.{indexOf}
+use Rattle.model.specs.View.{View}
+use Rattle.model.specs.Step.{Outcome}
+use Rattle.collector.specs.Collector.{columns, viewIn}
+use Rattle.collector.specs.Admission.{admittedOf, Tested}
+use Rattle.collector.proofs.Stepping.{admission-fit, tested-next}
+use Rattle.line_input.specs.Ascii.{newline}
+use Rattle.line_input.specs.Reading.{lineReading, reception, frontOf, lineOf, bytesIn}
+use Rattle.line_input.proofs.Answers.{len-fits, bytes-fill, said-open, said-ended, said-bad, said-reception}
+use Rattle.line_input.proofs.Whole.{said}
+use Rattle.line_output.specs.Text.{decimalText}
+use Rattle.buffers.proofs.Stores.{take-rest, if-fits}
+use Rattle.streams.specs.Collect.{collect}
+use Rattle.streams.specs.Buffer.{Fed, isUnended}
+use Rattle.streams.proofs.Segments.{open-whole}
+use Rattle.streams.proofs.Limit.{bounded}
+use Rattle.streams.proofs.Takes.{fed-none}
+use Rattle.collecting.specs.Rows.{rowTimes, rowRecords, lineTicks}
+use Rattle.collecting.proofs.Storing.{printed-none, ticks-bounded, tick, times-bounded, records-bounded, rows-line, bad-next, bad-times, bad-records, said-next, said-times, said-records, said-padded}
+use Rattle.collecting.specs.Session.{modelCollector, runningAt}
+use Rattle.collecting.proofs.Taking.{lineAt, none-written, open-from-start, bad-line, reception-line, time-room, time-short, time-text, same-length, relayed-bytes}
+use Rattle.collecting.proofs.take_rows.Statement.{statement}
+use Rattle.collecting.proofs.take_rows.Tie as tie
+
+record Merging (fit : Bool) (setting : ℕ) (v₀ : View) (input out₀ moments₀ rows₀ : List ℕ) (most : ℕ) (v : View) (out moments rows : List ℕ) (at to n left : ℕ) : Type 0 where
+  inside : at ≤ length input
+  room : to ≤ length out
+  long : length out ≡ length out₀
+  tested : Tested fit v
+  fed : Fed (collect modelCollector) (runningAt setting v₀) (take at input) out₀ (runningAt setting v) out to
+  few : left ≤ most
+  places : n ≤ length moments
+  same-moments : length moments ≡ length moments₀
+  same-rows : length rows ≡ length rows₀
+  sized : length rows₀ ≡ 23 * length moments₀
+  times : Fed rowTimes (runningAt setting v₀) (take at input) moments₀ (runningAt setting v) moments n
+  records : Fed rowRecords (runningAt setting v₀) (take at input) rows₀ (runningAt setting v) rows (23 * n)
+  ticks : Fed lineTicks (runningAt setting v₀) (take at input) (replicate most 0) (runningAt setting v) (replicate most 0) (most - left)
+
+abbrev Inv-loop : tie.InvT-loop
+Inv-loop fit setting times₀ lens₀ entries₀ copies₀ input most out₀ moments₀ rows₀ summary₀ bytes₀ at₀ to₀ n₀ left₀ times lens entries copies out moments rows summary bytes at to n left =
+    Merging fit setting (viewIn (columns times₀ lens₀ entries₀ copies₀) summary₀) input out₀ moments₀ rows₀ most (viewIn (columns times lens entries copies) summary) out moments rows at to n left
+
+abbrev μ-loop : tie.MeasureT-loop
+μ-loop fit setting times₀ lens₀ entries₀ copies₀ input most out₀ moments₀ rows₀ summary₀ bytes₀ at₀ to₀ n₀ left₀ times lens entries copies out moments rows summary bytes at to n left =
+    length input - at
+
+loop-holds : tie.Need-loop-holds Inv-loop μ-loop
+loop-holds c = record {
+  inside = omega arith;
+  room = omega arith;
+  long = refl;
+  tested = c .before .before .before .before .pre .0;
+  fed = fed-none (collect modelCollector) (bounded modelCollector) _ _;
+  few = omega arith;
+  places = omega arith;
+  same-moments = refl;
+  same-rows = refl;
+  sized = c .before .before .before .before .pre .1;
+  times = fed-none rowTimes times-bounded _ _;
+  records = fed-none rowRecords records-bounded _ _;
+  ticks = rw (sub-self (c .before .before .before .before .args .most)) (fed-none lineTicks ticks-bounded _ _);
+}
+
+-- ---- the line that was read
+
+abbrev turn : tie.After-parse Inv-loop μ-loop → tie.At-loop Inv-loop μ-loop
+turn p = p .before .before .before .before .before .before
+
+abbrev input : tie.At-loop Inv-loop μ-loop → List ℕ
+input l = now (l .before .before .before .before .before .args .input)
+
+answer : (p : tie.After-parse Inv-loop μ-loop)
+    → (p .parse .result ≡ lineOf (frontOf (drop (turn p .loop .at) (input (turn p)))))
+    × (p .parse .last .1 .0 ≡ bytesIn (frontOf (drop (turn p .loop .at) (input (turn p)))))
+answer p = rw (take-rest (input (turn p)) (length (input (turn p))) (turn p .loop .at) refl) at (p .parse .ensures)
+
+-- it has ended
+abbrev read : tie.Else3 Inv-loop μ-loop → tie.After-parse Inv-loop μ-loop
+read e = e .before .before
+
+ended : (e : tie.Else3 Inv-loop μ-loop)
+    → (indexOf newline (drop (turn (read e) .loop .at) (input (turn (read e)))) < length (drop (turn (read e) .loop .at) (input (turn (read e)))))
+    × (read e .parse .result .used ≡ indexOf newline (drop (turn (read e) .loop .at) (input (turn (read e)))) + 1)
+ended e = said-ended _ (answer (read e)) (e .if3 .left)
+
+within : (e : tie.Else3 Inv-loop μ-loop) → turn (read e) .loop .at + read e .parse .result .used ≤ length (input (turn (read e)))
+within e =
+    let l = turn (read e) in
+    omega (arith, ended e .0, ended e .1, length-drop (l .loop .at) (input l), l .loop .inv .inside)
+
+add-at : tie.Need-add-at Inv-loop μ-loop
+add-at c = let h = within (c .before) in omega arith
+
+-- ---- a BAD one
+
+loop-less : tie.Need-loop-less Inv-loop μ-loop
+loop-less c = let e = c .before .before .before .before .before .before in omega (arith, within e, ended e .1)
+
+loop-again : tie.Need-loop-again Inv-loop μ-loop
+loop-again c =
+    let q = c .before .before in
+    let i = q .before .before in
+    let e = i .before .before in
+    let l = turn (read e) in
+    let b = said-bad _ (answer (read e)) (e .if3 .left) (not-true _ (i .if4 .taken)) in
+    let test = read e .before .before .before .before .before .loop-test .taken in
+    let inv = l .loop .inv in
+    let w = if-fits (omega arith) (q .put-bad .ensures) in
+    let h = within e in
+    let k = ended e .1 in
+    record {
+      inside = h;
+      room = omega arith;
+      long = omega arith;
+      tested = l .loop .inv .tested;
+      fed = bad-line (input l) (l .loop .at) (read e .parse .result .used) (l .loop .inv .fed) (ended e) (l .loop .inv .inside) (omega arith) b w;
+      few = omega arith;
+      places = l .loop .inv .places;
+      same-moments = l .loop .inv .same-moments;
+      same-rows = l .loop .inv .same-rows;
+      sized = l .loop .inv .sized;
+      times =
+          rows-line rowTimes times-bounded (input l) (l .loop .at) (read e .parse .result .used) (l .loop .inv .times) (ended e) (l .loop .inv .inside)
+          (omega (arith, l .loop .inv .places, l .loop .inv .same-moments)) (bad-times _ _ b) (bad-next _ _ b) (printed-none _ (l .loop .n) 0);
+      records =
+          rows-line rowRecords records-bounded (input l) (l .loop .at) (read e .parse .result .used) (l .loop .inv .records) (ended e) (l .loop .inv .inside)
+          (omega (arith, l .loop .inv .places, l .loop .inv .same-moments, l .loop .inv .sized)) (bad-records _ _ b) (bad-next _ _ b) (printed-none _ (23 * l .loop .n) 0);
+      ticks =
+          rows-line lineTicks ticks-bounded (input l) (l .loop .at) (read e .parse .result .used) (l .loop .inv .ticks) (ended e) (l .loop .inv .inside)
+          (simp length-replicate (omega (arith, l .loop .inv .few))) refl (bad-next _ _ b) (tick _ (l .loop .left) (l .loop .inv .few) (read e .before .before .before .before .if1 .left));
+    }
+
+-- ---- a reception
+
+abbrev passed : tie.Else4 Inv-loop μ-loop → tie.Else3 Inv-loop μ-loop
+passed c = c .before .before
+
+abbrev parsed : tie.Else4 Inv-loop μ-loop → tie.After-parse Inv-loop μ-loop
+parsed c = read (passed c)
+
+abbrev here : tie.Else4 Inv-loop μ-loop → tie.At-loop Inv-loop μ-loop
+here c = turn (parsed c)
+
+abbrev rest : tie.Else4 Inv-loop μ-loop → List ℕ
+rest c = drop (here c .loop .at) (input (here c))
+
+abbrev bytes : tie.Else4 Inv-loop μ-loop → List ℕ
+bytes c = take (parsed c .parse .result .len) (parsed c .parse .last .1 .0)
+
+says : (c : tie.Else4 Inv-loop μ-loop) → lineReading (lineAt (input (here c)) (here c .loop .at)) ≡ reception (parsed c .parse .result .time) (bytes c)
+says c = said-reception _ (answer (parsed c)) (not-false _ (c .if4 .left))
+
+long : (c : tie.Else4 Inv-loop μ-loop) → length (bytes c) ≡ parsed c .parse .result .len
+long c = length-take-le _ _ (len-fits _ (answer (parsed c)))
+
+few : (c : tie.Else4 Inv-loop μ-loop) → parsed c .parse .result .len ≤ 64
+few c = omega (arith, len-fits _ (answer (parsed c)), bytes-fill _ (answer (parsed c)))
+
+spare : (c : tie.Else4 Inv-loop μ-loop) → 2 * parsed c .parse .result .len + 2 ≤ parsed c .parse .result .used
+spare c =
+    let e = ended (passed c) in
+    omega (arith, e .1, long c, time-room (rest c) (indexOf newline (rest c)) (omega (arith, e .0)) (said _ (says c)))
+
+mul-end : tie.Need-mul-end Inv-loop μ-loop
+mul-end c = let h = few c in omega arith
+
+add-end : tie.Need-add-end Inv-loop μ-loop
+add-end c = let h = few c in omega arith
+
+sub-end : tie.Need-sub-end Inv-loop μ-loop
+sub-end c = omega (arith, spare c)
+
+part-admit-end : tie.Need-part-admit-end Inv-loop μ-loop
+part-admit-end c =
+    let i = c .before .before .before .before .before in
+    omega (arith, len-fits _ (answer (parsed i)))
+
+-- the text of its time
+abbrev reading : tie.After-put-answer-arg Inv-loop μ-loop → tie.Else4 Inv-loop μ-loop
+reading c = c .before .before .before .before .before .before .before .before .before .before .before .before .before .before .before .before .before
+
+time : (c : tie.After-put-answer-arg Inv-loop μ-loop)
+    → take (here (reading c) .loop .at + parsed (reading c) .parse .result .used - (2 * parsed (reading c) .parse .result .len + 2) - here (reading c) .loop .at) (rest (reading c))
+    ≡ decimalText (parsed (reading c) .parse .result .time)
+time c =
+    let i = reading c in
+    let e = ended (passed i) in
+    let k = indexOf newline (rest i) in
+    let n : here i .loop .at + parsed i .parse .result .used - (2 * parsed i .parse .result .len + 2) - here i .loop .at ≡ k - (2 * length (bytes i) + 1) =
+    omega (arith, e .1, long i, spare i)
+    in
+    rw n (time-text (rest i) k (omega (arith, e .0)) (said _ (says i)))
+
+sub-put-answer : tie.Need-sub-put-answer Inv-loop μ-loop
+sub-put-answer c = omega (arith, spare (reading c))
+
+part-put-answer-start : tie.Need-part-put-answer-start Inv-loop μ-loop
+part-put-answer-start c = omega (arith, spare (reading c))
+
+part-put-answer-end : tie.Need-part-put-answer-end Inv-loop μ-loop
+part-put-answer-end c = omega (arith, within (passed (reading c)))
+
+part-put-answer-end-2 : tie.Need-part-put-answer-end-2 Inv-loop μ-loop
+part-put-answer-end-2 c =
+    let i = reading (c .before .before) in
+    omega (arith, len-fits _ (answer (parsed i)))
+
+put-answer-requires : tie.Need-put-answer-requires Inv-loop μ-loop
+put-answer-requires c κs =
+    let i = reading (c .before .before .before) in
+    let e = ended (passed i) in
+    let k = indexOf newline (rest i) in
+    let n = here i .loop .at + parsed i .parse .result .used - (2 * parsed i .parse .result .len + 2) - here i .loop .at in
+    (omega (arith, length-take n (rest i), e .1, long i, time-short (rest i) k (omega (arith, e .0)) (said _ (says i))), omega arith)
+
+loop-less-2 : tie.Need-loop-less-2 Inv-loop μ-loop
+loop-less-2 c =
+    let i = passed (reading (c .before .before .before .before .before .before)) in
+    omega (arith, within i, ended i .1)
+
+loop-again-2 : tie.Need-loop-again-2 Inv-loop μ-loop
+loop-again-2 c =
+    let q = c .before .before in
+    let g = q .before .before .before .before in
+    let i = reading g in
+    let l = here i in
+    let a = g .before .before .before .before .before .before .before .before .before .before in
+    let d = g .before .before .before .before .before .store-row .ensures in
+    let z : parsed i .parse .result .len - 0 ≡ parsed i .parse .result .len = omega arith in
+    let o = rw z at (a .admit .ensures .outcome ∙ admission-fit _ _ _ (l .loop .inv .tested .said)) in
+    let small : parsed i .parse .result .time < 2 ^ 64 = search needs in
+    let w = rw z at (q .put-answer .ensures) in
+    let same = same-length w in
+    let spare-out = parsed i .before .before .before .before .before .loop-test .taken in
+    let free = parsed i .before .before .before .if2 .left in
+    record {
+      inside = within (passed i);
+      room = omega (arith, w .short, same, spare-out);
+      long = omega (arith, same, l .loop .inv .long);
+      tested = rw (← o) at (tested-next _ (record { bytes = bytes i; time = parsed i .parse .result .time }) (l .loop .inv .tested) small);
+      fed = reception-line (input l) (l .loop .at) (parsed i .parse .result .used) (l .loop .inv .fed) (ended (passed i)) (l .loop .inv .inside) (omega (arith, w .short, same, spare-out, l .loop .inv .long))
+          (admittedOf (columns (a .admit .last .1 .0) (a .admit .last .1 .1 .0) (a .admit .last .1 .1 .1 .0) (a .admit .last .1 .1 .1 .1 .0)) (a .admit .result)) (says i) o (time g)
+          (relayed-bytes _ _ _ (record { bytes = bytes i; time = parsed i .parse .result .time }) _ (ap (λ (x : Outcome). x .answer) (rw z at (a .admit .ensures .outcome)))) w;
+      few = omega arith;
+      places = omega (arith, d .0 .short, same-length (d .0), free);
+      same-moments = same-length (d .0) ∙ l .loop .inv .same-moments;
+      same-rows = same-length (d .1) ∙ l .loop .inv .same-rows;
+      sized = l .loop .inv .sized;
+      times =
+          rows-line rowTimes times-bounded (input l) (l .loop .at) (parsed i .parse .result .used) (l .loop .inv .times) (ended (passed i)) (l .loop .inv .inside)
+          (omega (arith, d .0 .short, free, l .loop .inv .same-moments)) (said-times _ _ (admittedOf (columns (a .admit .last .1 .0) (a .admit .last .1 .1 .0) (a .admit .last .1 .1 .1 .0) (a .admit .last .1 .1 .1 .1 .0)) (a .admit .result)) (says i) o)
+          (said-next _ _ (admittedOf (columns (a .admit .last .1 .0) (a .admit .last .1 .1 .0) (a .admit .last .1 .1 .1 .0) (a .admit .last .1 .1 .1 .1 .0)) (a .admit .result)) (says i) o) (d .0);
+      records =
+          rows-line rowRecords records-bounded (input l) (l .loop .at) (parsed i .parse .result .used) (l .loop .inv .records) (ended (passed i)) (l .loop .inv .inside)
+          (omega (arith, d .0 .short, free, l .loop .inv .same-moments, l .loop .inv .sized)) (said-records _ _ (admittedOf (columns (a .admit .last .1 .0) (a .admit .last .1 .1 .0) (a .admit .last .1 .1 .1 .0) (a .admit .last .1 .1 .1 .1 .0)) (a .admit .result)) (says i) o)
+          (said-next _ _ (admittedOf (columns (a .admit .last .1 .0) (a .admit .last .1 .1 .0) (a .admit .last .1 .1 .1 .0) (a .admit .last .1 .1 .1 .1 .0)) (a .admit .result)) (says i) o) (d .1);
+      ticks =
+          rows-line lineTicks ticks-bounded (input l) (l .loop .at) (parsed i .parse .result .used) (l .loop .inv .ticks) (ended (passed i)) (l .loop .inv .inside)
+          (simp length-replicate (omega (arith, l .loop .inv .few))) refl
+          (said-next _ _ (admittedOf (columns (a .admit .last .1 .0) (a .admit .last .1 .1 .0) (a .admit .last .1 .1 .1 .0) (a .admit .last .1 .1 .1 .1 .0)) (a .admit .result)) (says i) o)
+          (tick _ (l .loop .left) (l .loop .inv .few) (parsed i .before .before .before .before .if1 .left));
+    }
+
+store-row-requires : tie.Need-store-row-requires Inv-loop μ-loop
+store-row-requires c κs =
+    let i = c .before .before .before .before .before .before .before .before .before .before .before in
+    let l = here i in
+    let free = parsed i .before .before .before .if2 .left in (
+      omega (arith, free),
+      omega (arith, free, l .loop .inv .same-moments, l .loop .inv .same-rows, l .loop .inv .sized),
+      said-padded _ (answer (parsed i)) (not-false _ (i .if4 .left)),
+      few i,
+    )
+
+ended-there : (c : tie.Left-loop Inv-loop μ-loop) → (let l = c .before .loop in let s = c .before .before .before .before .before .before .args in
+    s .most - l .left < s .most → l .n < length (now (s .moments)) → l .to + 92 ≤ length (now (s .out)) → isUnended (drop (l .at) (now (s .input))) ≡ true)
+ended-there c x y z =
+    let i = c .before .loop .inv in
+    ⊎-elim (λ w. absurd (omega (arith, w .left, i .long)))
+    (⊎-elim (λ w. absurd (omega (arith, w .1 .taken)))
+    (⊎-elim (λ w. absurd (omega (arith, w .2 .taken, i .same-moments)))
+    (λ w.
+    let p : tie.After-parse Inv-loop μ-loop = record {
+      before = record {
+        before = record {
+          before = record { before = record { before = record { before = c .before; loop-test = w .0 }; if1 = w .1 }; if2 = w .2 };
+          parse-arg = w .3;
+        };
+        bytes = w .4;
+      };
+      parse = w .5;
+    } in
+    open-whole (drop (c .before .loop .at) (input (c .before))) (said-open _ (answer p) (w .7 .taken)))))
+    (c .loop-test .came)
+
+returns : tie.Need-returns Inv-loop μ-loop
+returns c =
+    let l = c .before .loop .inv in
+    record {
+      within = l .inside;
+      text = l .fed;
+      times = l .times;
+      records = l .records;
+      ticks = l .ticks .output .next ∙ zero-add _;
+      few = omega arith;
+      rest = λ x y z. ended-there c x y z;
+    }
+
+pub take-rows-spec : {M : Type 1} → statement M
+take-rows-spec =
+    tie.close
+    (tie.spec
+    Inv-loop
+    μ-loop
+    loop-holds
+    (λ c. search needs)
+    (λ c. search needs)
+    (λ c. search needs)
+    (λ c. search needs)
+    (λ c κs. search needs)
+    add-at
+    (λ c. search needs)
+    (λ c κs. search needs)
+    loop-less
+    loop-again
+    mul-end
+    add-end
+    sub-end
+    (λ c. search needs)
+    (λ c. search needs)
+    part-admit-end
+    (λ c κs. search needs)
+    store-row-requires
+    sub-put-answer
+    part-put-answer-start
+    part-put-answer-end
+    (λ c. search needs)
+    (λ c. search needs)
+    part-put-answer-end-2
+    put-answer-requires
+    loop-less-2
+    loop-again-2
+    (λ c. search needs)
+    (λ c. search needs)
+    (λ c. search needs)
+    (λ c. search needs)
+    returns)
