@@ -1,0 +1,129 @@
+-- `c_lines::lines` meets its contract: a case for each answer.
+use mathlib.Core.Path.{_≡_, refl, sym, subst, _∙_}
+use mathlib.Core.Bool.{true, false}
+use Prim.Native.Nat.{ℕ}
+use native.Mathlib.Omega.{arith}
+use borrow.Author.Tests.{not-true, not-false, lt-ltb, le-ltb, eqb-true}
+use denote.Ref.{now}
+use lib.Dec.{eqb, ltb}
+use lib.ListN.{length}
+use Rattle.model.specs.Acceptable.{acceptable}
+use Rattle.collector.specs.declared.Summary.{Summary}
+use Rattle.collector.specs.Collector.{viewIn}
+use Rattle.collector.specs.Admission.{Tested}
+use Rattle.c_collector.specs.State.{Arrays, arrays, columnsAt, stateAt}
+use Rattle.c_lines.specs.Calls.{isSized}
+use borrow.Author.Needs.{needs}
+use Rattle.c_lines.proofs.lines.Statement.{statement}
+use Rattle.c_lines.proofs.lines.Tie as tie
+
+-- what is lent
+abbrev lent : tie.Start → Arrays
+lent s =
+    let a = s .args in
+    arrays (now (a .times)) (now (a .lengths)) (now (a .bytes)) (now (a .copies)) (now (a .numbers))
+
+abbrev entry1 : tie.Else1 → tie.Start
+entry1 c = c .before .before .before .before .before .before
+
+sized : (c : tie.Else1) → isSized (length (now (entry1 c .args .moments))) (length (now (entry1 c .args .rows))) ≡ true
+sized c = sym (c .before .is-sized .ensures) ∙ not-false _ (c .if1 .left)
+
+abbrev after-sized : tie.After-is-acceptable → tie.Else1
+after-sized c = c .before .before .before .before .before
+
+acceptable-here : (c : tie.Else2) → acceptable (stateAt (lent (entry1 (after-sized (c .before))))) ≡ true
+acceptable-here c = sym (c .before .is-acceptable .ensures _) ∙ not-false _ (c .if2 .left)
+
+abbrev after-tests : tie.After-summary-of → tie.Else3
+after-tests c = c .before .before .before .before
+
+abbrev entry3 : tie.After-summary-of → tie.Start
+entry3 c = entry1 (after-sized (after-tests c .before .before))
+
+tested : (c : tie.After-summary-of) → Tested true (viewIn (columnsAt (lent (entry3 c))) (c .summary-of .result))
+tested c =
+    let e = after-tests c .before in
+    subst (λ (s : Summary). Tested true (viewIn (columnsAt (lent (entry3 c))) s)) (sym (c .summary-of .ensures .0))
+    (record { said = sym (acceptable-here e); fits = c .summary-of .ensures .1 _ _ _ })
+
+is-sized-requires : tie.Need-is-sized-requires
+is-sized-requires c κs = search needs
+
+returns : tie.Need-returns
+returns c =
+    let e = sym (c .before .is-sized .ensures) ∙ not-true _ (c .if1 .taken) in
+    record { answer = rw e; taken = λ z. absurd (omega arith); stays = λ n. (refl, refl, refl, refl, refl) }
+
+is-acceptable-requires : tie.Need-is-acceptable-requires
+is-acceptable-requires c κs = search needs
+
+number-requires : tie.Need-number-requires
+number-requires c κs = search needs
+
+returns-2 : tie.Need-returns-2
+returns-2 c =
+    let k = c .before .before in
+    let e : acceptable (stateAt (lent (entry1 (after-sized k)))) ≡ false = sym (k .is-acceptable .ensures _) ∙ not-true _ (c .before .if2 .taken) in
+    record { answer = rw (sized (after-sized k), e) (c .number .ensures); taken = λ z. absurd (omega (arith, c .number .ensures)); stays = λ n. (refl, refl, refl, refl, refl) }
+
+number-requires-2 : tie.Need-number-requires-2
+number-requires-2 c κs = search needs
+
+returns-3 : tie.Need-returns-3
+returns-3 c =
+    let e = c .before .before in
+    record {
+      answer = rw (sized (after-sized (e .before)), acceptable-here e, lt-ltb 2 _ (c .before .if3 .taken)) (c .number2 .ensures);
+      taken = λ z. absurd (omega (arith, c .number2 .ensures));
+      stays = λ n. (refl, refl, refl, refl, refl);
+    }
+
+summary-of-requires : tie.Need-summary-of-requires
+summary-of-requires c κs = search needs
+
+take-rows-requires : tie.Need-take-rows-requires
+take-rows-requires c κs =
+    let k = c .before .before .before .before .before .before .before in
+    (tested k, eqb-true _ _ (sized (after-sized (after-tests k .before .before))))
+
+store-requires : tie.Need-store-requires
+store-requires c κs = search needs
+
+same-length : tie.Need-same-length
+same-length c = search needs
+
+same-length-2 : tie.Need-same-length-2
+same-length-2 c = search needs
+
+same-length-3 : tie.Need-same-length-3
+same-length-3 c = search needs
+
+returns-4 : tie.Need-returns-4
+returns-4 c =
+    let k = c .before .before .before .before .before .before .before .before .before .before .before .before .before .before .before .before .before .before in
+    let e = after-tests k .before in
+    record {
+      answer = rw (sized (after-sized (e .before)), acceptable-here e, le-ltb 2 _ (after-tests k .if3 .left));
+      taken = λ z. rw (c .before .store .ensures) (rw (k .summary-of .ensures .0) at (c .before .before .before .before .before .before .before .before .before .before .take-rows .ensures));
+      stays = λ n. absurd (n refl);
+    }
+
+pub lines-spec : {M : Type 1} → statement M
+lines-spec =
+    tie.close
+    (tie.spec
+    is-sized-requires
+    returns
+    is-acceptable-requires
+    number-requires
+    returns-2
+    number-requires-2
+    returns-3
+    summary-of-requires
+    take-rows-requires
+    store-requires
+    same-length
+    same-length-2
+    same-length-3
+    returns-4)

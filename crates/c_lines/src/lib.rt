@@ -1,0 +1,99 @@
+// Lines of text taken by a collector in five lent arrays, with their rows as text and as an archive keeps them, as other languages call it.
+use c_collector::BYTES;
+use c_collector::CAPACITY;
+use c_collector::NUMBERS;
+use c_layout::WRONG_SIZE;
+use collector::Summary;
+use refusal::Refusal;
+use telegram::repeater::MAX_SETTING;
+ghost use mathlib.Core.Path.{_≡_};
+ghost use mathlib.Core.List.{List};
+ghost use Prim.Native.Nat.{ℕ};
+ghost use lib.ListN.{length};
+ghost use Rattle.model.specs.Exact.{Fits};
+ghost use Rattle.c_collector.specs.State.{arrays, summaryIn, stateAt};
+ghost use Rattle.c_lines.specs.Calls.{isSized, Lines};
+
+// A row but its time: a byte that is not 0 for LOOSE, its length, and 21 bytes.
+const ROW_LENGTH: usize = 23;
+
+// How many characters were used, how many were written, how many rows, and how many lines.
+pub const DONE: usize = 4;
+
+// Takes whole lines from the start of the input, at most `most`, with one test of the state: 255, then 11, then 10; then all is as it was.
+pub fn lines(
+    times: &mut [u64; CAPACITY],
+    lengths: &mut [u8; CAPACITY],
+    bytes: &mut [u8; BYTES],
+    copies: &mut [u16; CAPACITY],
+    numbers: &mut [u64; NUMBERS],
+    setting: u8,
+    input: &[u8],
+    most: usize,
+    out: &mut [u8],
+    moments: &mut [u64],
+    rows: &mut [u8],
+    done: &mut [u64; DONE],
+) -> u8
+    ensures { λ r. ⌜ Lines
+        (arrays (now (times .entry)) (now (lengths .entry)) (now (bytes .entry)) (now (copies .entry))
+        (now (numbers .entry)))
+        setting (now (input .entry)) most (now (out .entry)) (now (moments .entry)) (now (rows .entry))
+        (now (done .entry)) r
+        (arrays (now (times .exit)) (now (lengths .exit)) (now (bytes .exit)) (now (copies .exit))
+        (now (numbers .exit)))
+        (now (out .exit)) (now (moments .exit)) (now (rows .exit)) (now (done .exit)) ⌝ }
+{
+    if !is_sized(moments.len(), rows.len()) {
+        return WRONG_SIZE;
+    }
+    if !c_collector::is_acceptable(times, lengths, bytes, numbers) {
+        return refusal::number(Refusal::NotAccepted);
+    }
+    if MAX_SETTING < setting {
+        return refusal::number(Refusal::Argument);
+    }
+    let summary = summary_of(copies, numbers);
+    let taken = collecting::take_rows(
+        true,
+        setting,
+        times,
+        lengths,
+        bytes,
+        copies,
+        summary,
+        input,
+        most,
+        out,
+        moments,
+        rows,
+    );
+    let next = taken.summary;
+    c_collector::store(next, numbers);
+    *done = [
+        taken.used as u64,
+        taken.written as u64,
+        taken.rows as u64,
+        taken.lines as u64,
+    ];
+    0
+}
+
+// Whether there is a record for each time.
+fn is_sized(moments: usize, rows: usize) -> bool
+    ensures { λ r. ⌜ r ≡ isSized moments rows ⌝ }
+{
+    if rows / ROW_LENGTH != moments {
+        return false;
+    }
+    rows % ROW_LENGTH == 0
+}
+
+// The summary of a state, whose numbers have the bits of their types: it is known of a slice, and not of an array that is lent.
+fn summary_of(copies: &[u16], numbers: &[u64; NUMBERS]) -> Summary
+    ensures { λ r. ⌜ (r ≡ summaryIn (now (numbers .entry)))
+        × ((times lengths bytes : List ℕ)
+        → Fits (stateAt (arrays times lengths bytes (now (copies .entry)) (now (numbers .entry))))) ⌝ }
+{
+    c_collector::summary_in(numbers)
+}
