@@ -4,7 +4,9 @@ use mathlib.Core.Bool.{Bool, cond}
 use mathlib.Core.List.{List}
 use Rattle.refusal.specs.Number.{numberOf}
 use Rattle.refusal.specs.declared.Refusal.the-variants.{Mismatch}
-use Rattle.buffers.specs.Buffer.{resized}
+use lib.ListN.{length}
+use Rattle.lists.specs.Lists.{padded}
+use Rattle.layout.specs.Cell.{cellCapacity}
 use Rattle.archive_model.specs.Row.{Row, rowCount, isSound}
 use Rattle.archive_model.specs.Buffer as buffer
 use Rattle.archive_model.specs.Append.{Opening, Appended, Feeding, ReadRow}
@@ -41,11 +43,31 @@ abbrev pub foundNumber : Found → ℕ
 foundNumber found.Row = 0
 foundNumber (found.Refused why) = numberOf why
 
--- as many bytes as the length says
-unfoldable pub readResult : RowAt → ReadRow
+-- a row as it is handed back: its length, and all 21 bytes
+pub record Shown : Type 0 where
+  pub number : ℕ
+  pub len : ℕ
+  pub bytes : List ℕ
+  pub time : ℕ
+  pub loose : Bool
+
+abbrev pub readResult : RowAt → Shown
 readResult r = record {
   number = foundNumber (r .answer);
-  row = rowOf (resized (r .len) (r .bytes)) (r .time) (r .loose);
+  len = r .len;
+  bytes = r .bytes;
+  time = r .time;
+  loose = r .loose;
+}
+
+-- zero filled; beside a refusal all is zero
+abbrev pub rowShown : ReadRow → Shown
+rowShown a = record {
+  number = a .number;
+  len = length (a .row .bytes);
+  bytes = padded cellCapacity (a .row .bytes);
+  time = a .row .time;
+  loose = a .row .loose;
 }
 
 -- ---- a block by itself, and a scan

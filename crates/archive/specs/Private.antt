@@ -11,7 +11,7 @@ use Rattle.refusal.specs.declared.Refusal.the-variants.{ShortOutput, Argument}
 use Rattle.erp1.specs.Subtelegram.{checkOf, isValid}
 use Rattle.layout.specs.Block.{blockCell}
 use Rattle.archive_model.specs.Row.{rowCell, rowIn, rowCount, isRow}
-use Rattle.archive_model.specs.Append.{Feeding, ReadRow, refusedAppend, noRow}
+use Rattle.archive_model.specs.Append.{Feeding, ReadRow, refusedAppend, noRow, cellRow}
 use Rattle.archive.specs.declared.Outcome.{Outcome}
 use Rattle.archive.specs.declared.Scan.{Scan}
 use Rattle.archive.specs.Archive.{appendResult, scanOf}
@@ -34,7 +34,7 @@ noRowFor why = record { number = numberOf why; row = noRow }
 -- row i of a block, where it has one
 abbrev pub rowInBlock : List ℕ → ℕ → ReadRow
 rowInBlock block i =
-    cond (ltb i (rowCount block)) (record { number = 0; row = rowIn (blockCell i block) }) (noRowFor Argument)
+    cond (ltb i (rowCount block)) (cellRow (blockCell i block)) (noRowFor Argument)
 
 -- a cell that is byte for byte what is written of the row that it says, which is valid
 abbrev pub isWritten : List ℕ → Bool

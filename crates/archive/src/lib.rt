@@ -7,17 +7,18 @@ use layout::CELLS_PER_BLOCK;
 use layout::HEADER_LENGTH;
 use refusal::Refusal;
 ghost use mathlib.Core.Path.{_≡_};
-ghost use mathlib.Core.Bool.{true, _&&_};
+ghost use mathlib.Core.Bool.{true, cond, _&&_};
 ghost use Prim.Native.Nat.{_+_, _-_, _*_, _/_, _≤_, _<_};
-ghost use lib.Dec.{eqb};
+ghost use lib.Dec.{ltb, eqb};
 ghost use lib.ListN.{length};
 ghost use Rattle.lists.specs.Lists.{all};
+ghost use Rattle.buffers.specs.Buffer.{part, resized};
 ghost use Rattle.layout.specs.Cell.{cellLength, cellCapacity, cellLast};
 ghost use Rattle.layout.specs.Block.{headerLength, cellsPerBlock, blockLength, blockCell};
 ghost use Rattle.archive_model.specs.Row.{rowLast, rowsHeader, blockNumber, rowIn, isRow};
 ghost use Rattle.archive_model.specs.Buffer as buffer;
 ghost use Rattle.archive_model.specs.Append as calls;
-ghost use Rattle.archive.specs.Archive.{openResult, appendResult, rowOf, readResult, soundCount, stageOf, scanOf, openFound, feedResult};
+ghost use Rattle.archive.specs.Archive.{openResult, appendResult, rowOf, readResult, rowShown, soundCount, stageOf, scanOf, openFound, feedResult};
 ghost use Rattle.archive.specs.Private.{keptWith, NoBlock, noRowFor, rowInBlock, isWritten, cellsFrom};
 
 // The most blocks of an archive, and the most rows.
@@ -53,7 +54,7 @@ pub enum Found {
     Refused(Refusal),
 }
 
-// A row as it stands, zero filled.
+// A row as it stands, zero filled; beside a refusal all is zero.
 pub struct RowAt {
     pub answer: Found,
     pub time: u64,
@@ -490,9 +491,9 @@ fn no_block(bytes: &[u8]) -> Outcome
     }
 }
 
-// Row `i` as it stands, zero filled. Refused: 16, 10 where there is no row i.
+// Row `i` as it stands, zero filled. Refused: 16, 10 where there is no row i, 12 where its length is over 21, as in no archive.
 pub fn row_at(buffer: &[u8], i: usize) -> RowAt
-    ensures { λ r. ⌜ readResult r ≡ calls.rowAtOf (now (buffer .entry)) i ⌝ }
+    ensures { λ r. ⌜ readResult r ≡ rowShown (calls.rowAtOf (now (buffer .entry)) i) ⌝ }
 {
     if !is_whole(buffer.len()) {
         return no_row(Refusal::Size);
@@ -510,17 +511,21 @@ pub fn row_at(buffer: &[u8], i: usize) -> RowAt
 // Row `i` of a block.
 fn read_row(block: &[u8], i: usize) -> RowAt
     requires { ⌜ (length (now block) ≡ blockLength) × (i < cellsPerBlock) ⌝ }
-    ensures { λ r. ⌜ readResult r ≡ rowInBlock (now (block .entry)) i ⌝ }
+    ensures { λ r. ⌜ readResult r ≡ rowShown (rowInBlock (now (block .entry)) i) ⌝ }
 {
     if layout::byte_at(block, 4) as usize <= i {
         return no_row(Refusal::Argument);
     }
     let cell = cell_at(block, i);
+    let len = layout::cell_used(cell);
+    let n = len as usize;
+    if CELL_CAPACITY < n {
+        return no_row(Refusal::Mismatch);
+    }
     let mut bytes = [0u8; CELL_CAPACITY];
-    layout::copy_field(&mut bytes, cell);
+    put_row_bytes(&mut bytes, cell, n);
     let time = layout::cell_time(cell);
     let loose = is_loose(cell);
-    let len = layout::cell_used(cell);
     RowAt {
         answer: Found::Row,
         time,
@@ -530,9 +535,29 @@ fn read_row(block: &[u8], i: usize) -> RowAt
     }
 }
 
+// The first `n` bytes of a cell's field, zero filled. All 21 are read, so that there is no branch on the length.
+fn put_row_bytes(out: &mut [u8], cell: &[u8], n: usize)
+    requires { ⌜ (length (now out) ≡ cellCapacity) × (length (now cell) ≡ cellLength) ⌝ }
+    ensures { λ _. ⌜ now (out .exit) ≡ resized cellCapacity (part 9 n (now (cell .entry))) ⌝ }
+{
+    for i in 0..CELL_CAPACITY {
+        out[i] = byte_below(i, n, cell[FIELD + i]);
+    }
+}
+
+// A byte at an index below `n`, and 0 from there on.
+fn byte_below(i: usize, n: usize, byte: u8) -> u8
+    ensures { λ r. ⌜ r ≡ cond (ltb i n) byte 0 ⌝ }
+{
+    if i < n {
+        return byte;
+    }
+    0
+}
+
 // No row, and why.
 fn no_row(why: Refusal) -> RowAt
-    ensures { λ r. ⌜ readResult r ≡ noRowFor why ⌝ }
+    ensures { λ r. ⌜ readResult r ≡ rowShown (noRowFor why) ⌝ }
 {
     RowAt {
         answer: Found::Refused(why),

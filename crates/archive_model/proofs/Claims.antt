@@ -16,13 +16,13 @@ use Rattle.layout.specs.Block.{blockLength}
 use Rattle.archive_model.specs.Row.{Row, isRow}
 use Rattle.archive_model.specs.Buffer.{archiveOf, bufferOf, isWhole, rowsIn}
 use Rattle.archive_model.specs.Append.{verdict, appendOf}
-use Rattle.archive_model.specs.Claims.{isFit, Sizes, Layout, ReadBack, Exact, afterAppends, accepted, Run, AtCursor, Rows, Pieces}
+use Rattle.archive_model.specs.Claims.{isFit, Sizes, Layout, ReadBack, Exact, afterAppends, accepted, Run, AtCursor, Rows, RowShort, Pieces}
 use Rattle.archive_model.proofs.Blocks.{Fits, Shorts, noRow, all-from}
 use Rattle.archive_model.proofs.Buffers.{rows-in}
 use Rattle.archive_model.proofs.ByByte.{laid}
 use Rattle.archive_model.proofs.Pieces.{scan-append, scan-found, scan-rows}
 use Rattle.archive_model.proofs.Cursor.{written-verdict, blocks-of, is-exact, rows-fit, rows-few, cursor, appended, append-kept}
-use Rattle.archive_model.proofs.Reading.{row-at}
+use Rattle.archive_model.proofs.Reading.{row-at, row-short}
 
 fits : (rows : List Row) → all isFit rows ≡ true → Fits rows
 unfolding Fits
@@ -60,6 +60,9 @@ at-cursor buffer r v t = (cursor buffer v r t, λ z. ap length (appended buffer 
 pub row-read : Rows
 row-read buffer i v =
     rw (is-exact buffer v) at (row-at (rowsIn buffer) (length buffer / blockLength) (rows-fit buffer v) (rows-few buffer v) (blocks-of buffer v .1) i)
+
+pub row-fits : RowShort
+row-fits = row-short
 
 pub in-pieces : Pieces
 in-pieces = (scan-append, scan-found, scan-rows)

@@ -1,24 +1,49 @@
 -- Row i of an archive stands in block i / 15, in its cell i % 15.
+--     cell-found, cell-long     the two cases of `cellRow`
 --     row-at       what is answered, of a buffer that was written
+--     row-short    and of any buffer: at most 21 bytes
 use Prim.Native.Nat.{ℕ, _+_, _-_, _*_, _/_, _%_, _≤_, _<_}
 use native.Mathlib.Decide.{decLt}
 use native.Mathlib.Omega.{arith}
-use mathlib.Core.Path.{_≡_, ap, _∙_}
-use mathlib.Core.Bool.{Bool, true, false, cond, _&&_}
+use mathlib.Core.Path.{_≡_, refl, sym, ap, _∙_}
+use mathlib.Core.Bool.{Bool, true, false, cond, not, _&&_}
 use mathlib.Core.List.{List}
-use lib.Dec.{ltb}
+use lib.Dec.{ltb, leb}
 use lib.ListN.{length, getD}
-use borrow.Author.Tests.{lt-ltb, le-ltb}
+use borrow.Author.Tests.{lt-ltb, le-ltb, le-leb, lt-leb, leb-true}
 use Rattle.refusal.specs.Number.{numberOf}
-use Rattle.refusal.specs.declared.Refusal.the-variants.{Argument}
+use Rattle.refusal.specs.declared.Refusal.the-variants.{Argument, Mismatch}
+use Rattle.layout.specs.Cell.{cellCapacity, cellUsed, cellField, cellBytes}
 use Rattle.layout.specs.Block.{cellsPerBlock, blockLength, blockCell}
+use Rattle.lists.proofs.Tests.{by-test}
+use Rattle.buffers.proofs.Buffer.{resized-length}
 use Rattle.buffers.proofs.Segments.{part-at}
 use Rattle.archive_model.specs.Row.{Row, rowsBlock, rowCount, rowIn}
-use Rattle.archive_model.specs.Buffer.{blocksFor, rowsAt, bufferOf, maxBlocks}
-use Rattle.archive_model.specs.Append.{ReadRow, blockAt, isInside, rowAtOf}
-use Rattle.archive_model.proofs.Blocks.{Fits, noRow, shorts, row-back, count-back, written-cell}
+use Rattle.archive_model.specs.Buffer.{blocksFor, rowsAt, bufferOf, maxBlocks, isWhole}
+use Rattle.archive_model.specs.Append.{ReadRow, blockAt, isInside, cellRow, rowAtOf}
+use Rattle.archive_model.proofs.Blocks.{Fits, noRow, short, shorts, row-back, count-back, written-cell}
 use Rattle.archive_model.proofs.Buffers.{blank, blank-blank, blank-count, group-length, group-few, group-fits, used-block, free-block, buffer-length}
 use Rattle.archive_model.proofs.Cursor.{written-whole}
+
+-- a cell shows as many bytes as its length byte says
+cell-shown : (cell : List ℕ) → length (rowIn cell .bytes) ≡ cellUsed cell
+unfolding cellBytes
+cell-shown cell = resized-length (cellUsed cell) (cellField cell)
+
+module _ (cell : List ℕ) where
+  pub cell-found : cellUsed cell ≤ cellCapacity → cellRow cell ≡ (record { number = 0; row = rowIn cell })
+  unfolding cellRow
+  cell-found h = rw (le-leb (cellUsed cell) cellCapacity h)
+
+  pub cell-long : cellCapacity < cellUsed cell → cellRow cell ≡ (record { number = numberOf Mismatch; row = noRow })
+  unfolding cellRow
+  cell-long h = rw (lt-leb (cellUsed cell) cellCapacity h)
+
+  cell-short : length (cellRow cell .row .bytes) ≤ cellCapacity
+  cell-short = elim (decLt cellCapacity (cellUsed cell)) [
+    | yes h ↦ rw (cell-long h) (omega arith)
+    | no h ↦ rw (cell-found (omega arith)) (omega (arith, cell-shown cell))
+  ]
 
 -- what is answered, by whether there is such a row
 abbrev answer : List Row → ℕ → Bool → ReadRow
@@ -58,6 +83,10 @@ module _ (rows : List Row) (m : ℕ) (fit : Fits rows) (few : length rows ≤ ce
       ∙ row-back (getD group j noRow) (group-fits rows fit k j l)
       ∙ part-at (cellsPerBlock * k) cellsPerBlock rows j noRow (omega arith) ∙ ap (λ (n : ℕ). getD rows n noRow) e
 
+  is-short : i < length rows → length (getD rows i noRow .bytes) ≤ cellCapacity
+  unfolding Fits
+  is-short h = short (fit i h)
+
   -- the two tests of the answer
   here : i < length rows → isInside i buffer && ltb (i % cellsPerBlock) (rowCount (blockAt k buffer)) ≡ true
   here h =
@@ -82,8 +111,22 @@ module _ (rows : List Row) (m : ℕ) (fit : Fits rows) (few : length rows ≤ ce
   pub row-at : rowAtOf buffer i ≡ answer rows i (ltb i (length rows))
   unfolding rowAtOf
   row-at = elim (decLt i (length rows)) [
-    | yes h ↦ rw (written-whole rows m fit few mb, here h, lt-ltb i (length rows) h, found h)
+    | yes h ↦
+        let cell = blockCell (i % cellsPerBlock) (blockAt k buffer) in
+        let l : cellUsed cell ≤ cellCapacity = omega (arith, cell-shown cell, ap (λ (r : Row). length (r .bytes)) (found h), is-short h) in
+        rw (written-whole rows m fit few mb, here h, lt-ltb i (length rows) h, cell-found cell l, found h)
     | no h ↦
         let l : length rows ≤ i = omega arith in
         rw (written-whole rows m fit few mb, away l, le-ltb i (length rows) l)
   ]
+
+pub row-short : (buffer : List ℕ) (i : ℕ) → length (rowAtOf buffer i .row .bytes) ≤ cellCapacity
+unfolding rowAtOf
+row-short buffer i =
+    let cell = blockCell (i % cellsPerBlock) (blockAt (i / cellsPerBlock) buffer) in
+    by-test {X = length (rowAtOf buffer i .row .bytes) ≤ cellCapacity} (isWhole (length buffer))
+    (λ w.
+    by-test {X = length (rowAtOf buffer i .row .bytes) ≤ cellCapacity} (isInside i buffer && ltb (i % cellsPerBlock) (rowCount (blockAt (i / cellsPerBlock) buffer)))
+    (λ t. rw (w, t) (cell-short cell))
+    (λ f. rw (w, f) (omega arith)))
+    (λ w. rw w (omega arith))

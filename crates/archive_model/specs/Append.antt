@@ -7,7 +7,7 @@ use lib.ListN.{length, take, drop}
 use Rattle.refusal.specs.Number.{numberOf}
 use Rattle.refusal.specs.declared.Refusal.the-variants.{ShortOutput, Argument, NotAccepted, Mismatch, Size}
 use Rattle.buffers.specs.Buffer.{part}
-use Rattle.layout.specs.Cell.{cellLength}
+use Rattle.layout.specs.Cell.{cellLength, cellCapacity, cellUsed}
 use Rattle.layout.specs.Block.{headerLength, cellsPerBlock, bodyLength, blockLength, sealed, blockCell}
 use Rattle.erp1.specs.Subtelegram.{checkOf, isValid}
 use Rattle.archive_model.specs.Row.{Row, rowCell, rowsHeader, blockNumber, rowCount, rowIn, isBlank}
@@ -139,9 +139,16 @@ pub record ReadRow : Type 0 where
 abbrev pub noRow : Row
 noRow = record { bytes = []; time = 0; loose = false }
 
+-- the row of a cell; 12 where its length is over 21, so that the block is none of an archive
+unfoldable pub cellRow : List ℕ → ReadRow
+cellRow cell =
+    cond (leb (cellUsed cell) cellCapacity) (record { number = 0; row = rowIn cell })
+    (record { number = numberOf Mismatch; row = noRow })
+
+-- 16, 10 where there is no row i, 12
 unfoldable pub rowAtOf : List ℕ → ℕ → ReadRow
 rowAtOf buffer i =
     cond (not (isWhole (length buffer))) (record { number = numberOf Size; row = noRow })
     (cond (isInside i buffer && ltb (i % cellsPerBlock) (rowCount (blockAt (i / cellsPerBlock) buffer)))
-    (record { number = 0; row = rowIn (blockCell (i % cellsPerBlock) (blockAt (i / cellsPerBlock) buffer)) })
+    (cellRow (blockCell (i % cellsPerBlock) (blockAt (i / cellsPerBlock) buffer)))
     (record { number = numberOf Argument; row = noRow }))

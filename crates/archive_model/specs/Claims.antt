@@ -101,6 +101,10 @@ Rows =
     ≡ cond (ltb i (length (rowsIn buffer))) (record { number = 0; row = getD (rowsIn buffer) i noRow })
     (record { number = numberOf Argument; row = noRow })
 
+-- Short: of any buffer, a row that is answered has at most 21 bytes.
+abbrev pub RowShort : Type 0
+RowShort = (buffer : List ℕ) (i : ℕ) → length (rowAtOf buffer i .row .bytes) ≤ 21
+
 -- Pieces: a scan of blocks in two pieces is one scan, and of all blocks it finds the first mismatch, or how many rows there are.
 abbrev pub Pieces : Type 0
 Pieces =

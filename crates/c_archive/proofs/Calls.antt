@@ -1,18 +1,15 @@
--- Records by their fields; a row of another size, and of the right size; a row's bytes, cut and zero filled.
-use mathlib.Core.Path.{_≡_, sym, _∙_}
+-- Records by their fields; a row of another size, and of the right size; a row's bytes, zero filled.
+use mathlib.Core.Path.{_≡_, sym, ap, _∙_}
 use mathlib.Core.Bool.{Bool}
 use mathlib.Core.List.{List, [], _∷_, _++_}
-use Prim.Native.Nat.{ℕ, _-_, _≤_, min}
-use native.Mathlib.Decide.{decLt}
+use Prim.Native.Nat.{ℕ, _-_, _≤_}
 use native.Mathlib.Omega.{arith}
-use lib.ListN.{length, take, replicate, length-append}
-use lib.Seq.{take-all, take-append-le}
+use lib.ListN.{length, replicate, length-append}
 use borrow.Author.Tests.{eq-eqb, ne-eqb}
-use Rattle.lists.specs.Lists.{padded}
 use Rattle.buffers.specs.Buffer.{resized}
-use Rattle.buffers.proofs.Buffer.{resized-length, resized-padded, resized-cut, resized-whole}
-use Rattle.archive_model.specs.Append.{Opening, rowAtOf}
-use Rattle.archive.specs.Archive.{rowOf}
+use Rattle.buffers.proofs.Buffer.{resized-padded, resized-whole}
+use Rattle.archive_model.specs.Append.{Opening, ReadRow, rowAtOf}
+use Rattle.archive.specs.Archive.{Shown, rowShown}
 use Rattle.repack_model.specs.Repack.{Removed}
 use Rattle.c_layout.specs.Frame.{wrongSize, frameBytes, flagByte}
 use Rattle.filling.specs.Fill.{rowLength}
@@ -36,22 +33,18 @@ module _ (buffer : List ℕ) (i : ℕ) (old : List ℕ) (was : ℕ) where
   unfolding rowCall
   row-done h = rw (eq-eqb (length old) rowLength h)
 
--- the first bytes, as many as there are up to 21, are those that so many bytes show
-shown : (len : ℕ) (xs : List ℕ) → length xs ≡ 21 → resized 21 (take (min len 21) xs) ≡ resized 21 (resized len xs)
-shown len xs h = elim (decLt len 21) [
-  | yes k ↦
-      (let e : min len 21 ≡ len = omega arith in
-      rw (e, resized-cut len xs (omega arith)))
-  | no k ↦
-      (let e : min len 21 ≡ 21 = omega arith in
-      let few : length xs ≤ len = omega arith in
-      let many : 21 ≤ length (xs ++ replicate (len - length xs) 0) = simp length-append (omega arith) in
-      rw (e, take-all 21 xs (omega arith), resized-whole 21 xs h, resized-padded len xs few, resized-cut 21 (padded len xs) many)
-      (sym (take-append-le 21 xs (replicate (len - length xs) 0) (omega arith) ∙ take-all 21 xs (omega arith))))
-]
-
--- what is written of a row as it was found
-pub row-are : (flag len n : ℕ) (xs : List ℕ) (time : ℕ) (loose : Bool) → flag ≡ flagByte loose → n ≡ min len 21 → length xs ≡ 21
-    → (flag ∷ []) ++ frameBytes len (take n xs) ≡ rowBytes (rowOf (resized len xs) time loose)
+-- what is written of a row as it is handed back
+pub row-are : (flag number len time : ℕ) (xs : List ℕ) (loose : Bool) (a : ReadRow) → flag ≡ flagByte loose → length xs ≡ 21
+    → _≡_ {A = Shown} (record { number = number; len = len; bytes = xs; time = time; loose = loose }) (rowShown a)
+    → (record { number = number; row = (flag ∷ []) ++ frameBytes len xs; time = time }) ≡ rowFound (a .number) (a .row)
 unfolding frameBytes rowBytes
-row-are flag len n xs time loose e m h = rw (e, m, resized-length len xs, shown len xs h)
+row-are flag number len time xs loose a f h e =
+    let bs = a .row .bytes in
+    let b = ap (λ (s : Shown). s .bytes) e in
+    let n = ap (λ (s : Shown). s .number) e in
+    let l = ap (λ (s : Shown). s .len) e in
+    let t = ap (λ (s : Shown). s .time) e in
+    let o = ap (λ (s : Shown). s .loose) e in
+    let few : length bs ≤ 21 = omega (arith, h, ap length b, length-append bs (replicate {A = ℕ} (21 - length bs) 0)) in
+    let r : resized 21 xs ≡ resized 21 bs = resized-whole 21 xs h ∙ b ∙ sym (resized-padded 21 bs few) in
+    rw (r, f, o, n, l, t)

@@ -9,7 +9,7 @@ use Rattle.archive_model.specs.Append.{rowAtOf}
 use Rattle.filling.specs.Fill.{rowLength}
 use Rattle.c_layout.specs.Frame.{wrongSize, frameBytes, flagByte}
 
--- a row but its time: 1 for LOOSE, its length, and its bytes, zero filled to 21 (of a length over 21, which no archive has, the first 21)
+-- a row but its time: 1 for LOOSE, its length, and its bytes, zero filled to 21
 unfoldable pub rowBytes : Row → List ℕ
 rowBytes r = (flagByte (r .loose) ∷ []) ++ frameBytes (length (r .bytes)) (r .bytes)
 

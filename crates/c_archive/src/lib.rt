@@ -9,7 +9,7 @@ use refusal::Refusal;
 use repack::Removed;
 ghost use mathlib.Core.Path.{_≡_};
 ghost use mathlib.Core.List.{List};
-ghost use Prim.Native.Nat.{ℕ, min};
+ghost use Prim.Native.Nat.{ℕ};
 ghost use Rattle.archive_model.specs.Append as calls;
 ghost use Rattle.archive.specs.Archive.{appendResult, rowOf, foundNumber, takenNumber};
 ghost use Rattle.repack_model.specs.Repack as repack;
@@ -93,7 +93,7 @@ pub fn put_rows(block: &mut [u8], n: usize, times: &[u64], rows: &[u8], position
     taken_number(answer)
 }
 
-// Row `i` as it stands, in 23 bytes and its time, all zero beside a refusal: 255, then 16, 10.
+// Row `i` as it stands, in 23 bytes and its time, all zero beside a refusal: 255, then 16, 10, 12.
 pub fn row_at(buffer: &[u8], i: usize, row: &mut [u8], time: &mut u64) -> u8
     ensures { λ r. ⌜ record { number = r; row = now (row .exit); time = now (time .exit) }
         ≡ rowCall (now (buffer .entry)) i (now (row .entry)) (now (time .entry)) ⌝ }
@@ -104,9 +104,8 @@ pub fn row_at(buffer: &[u8], i: usize, row: &mut [u8], time: &mut u64) -> u8
     let found = archive::row_at(buffer, i);
     let answer = found.answer;
     let bytes = found.bytes;
-    let n = most(found.len);
     row[0] = c_layout::flag_byte(found.loose);
-    c_layout::put_frame(&mut row[1..ROW_LENGTH], found.len, &bytes[0..n]);
+    c_layout::put_frame(&mut row[1..ROW_LENGTH], found.len, &bytes);
     *time = found.time;
     found_number(answer)
 }
@@ -226,13 +225,4 @@ pub fn taken_number(taken: Taken) -> u8
         Taken::Done => 0,
         Taken::Refused(why) => refusal::number(why),
     }
-}
-
-fn most(len: u8) -> usize
-    ensures { λ r. ⌜ r ≡ min len 21 ⌝ }
-{
-    if len < 21 {
-        return len as usize;
-    }
-    21
 }

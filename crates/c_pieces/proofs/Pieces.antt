@@ -107,7 +107,7 @@ taken : (numbers p : List ℕ) (ps : List (List ℕ)) (next : Scan) → feedOf (
 taken numbers p ps next e = (rw e, rw e)
 
 not-taken : (numbers p : List ℕ) (ps : List (List ℕ)) (next : Scan) → feedOf (scanAt numbers) p ≡ record { number = numberOf Size; next = next }
-    → (scanAll numbers (p ∷ ps) ≡ scanAll (scanNumbers next) ps) × (scanned numbers (p ∷ ps) ≡ scanned (scanNumbers next) ps)
+    → (scanAll numbers (p ∷ ps) ≡ scanAll numbers ps) × (scanned numbers (p ∷ ps) ≡ scanned numbers ps)
 not-taken numbers p ps next e = (rw e, rw e)
 
 pieces-from : (pieces : List (List ℕ)) (done numbers : List ℕ) → Reached done numbers
@@ -126,7 +126,7 @@ pieces-from (p ∷ ps) done numbers r =
     (λ f.
     let none = not-taken numbers p ps s (feed-not s p (r .goes) f) in
     ap (λ (l : List ℕ). scanEnd (scanAt l)) (none .0)
-    ∙ pieces-from ps done (scanNumbers s) (reached-as done s (r .is) (r .goes) (r .whole) (r .blocks))
+    ∙ pieces-from ps done numbers r
     ∙ ap (λ (l : List (List ℕ)). openOf (done ++ flatten l)) (sym (none .1)))
 
 pub pieces-verified : PiecesVerified

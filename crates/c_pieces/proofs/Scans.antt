@@ -2,9 +2,10 @@
 --     stage-filling, stage-short, stage-ended, stage-wrong     the cases of `stageAt`
 --     end-not, end-wrong, end-done                             those of `scanEnd`
 --     stage-back                                               a stage is read back
+--     shown-kept, shown-taken                                  what a call leaves in the numbers, by its answer
 use Prim.Native.Nat.{ℕ, zero, suc, _≤_, _<_}
 use native.Mathlib.Omega.{arith}
-use mathlib.Core.Path.{_≡_, refl, sym, ap}
+use mathlib.Core.Path.{_≡_, refl, sym, ap, _∙_}
 use mathlib.Core.Bool.{true, false}
 use mathlib.Core.List.{List}
 use lib.ListN.{getD}
@@ -12,9 +13,9 @@ use borrow.Author.Tests.{ne-eqb}
 use Rattle.refusal.specs.Number.{numberOf}
 use Rattle.refusal.specs.declared.Refusal.the-variants.{Mismatch, NotAccepted}
 use Rattle.archive_model.specs.Buffer.{Found, None, Stage, Filling, Short, Ended, Wrong, stageFound}
-use Rattle.archive_model.specs.Append.{isScan}
+use Rattle.archive_model.specs.Append.{isScan, Feeding}
 use Rattle.archive.specs.Archive.{openFound}
-use Rattle.c_pieces.specs.Scan.{stageAt, stageNumber, stagePosition, scanAt, scanEnd}
+use Rattle.c_pieces.specs.Scan.{stageAt, stageNumber, stagePosition, scanAt, scanNumbers, ScanCall, scanShown, scanEnd}
 
 module _ (s p : ℕ) where
   pub stage-filling : s ≡ 0 → Filling ≡ stageAt s p
@@ -63,3 +64,11 @@ stage-back Filling = refl
 stage-back Short = refl
 stage-back Ended = refl
 stage-back (Wrong k) = refl
+
+-- the answer n to a piece, as a fed scan says it
+module _ (numbers : List ℕ) (f : Feeding) (n : ℕ) (is : n ≡ f .number) where
+  pub shown-kept : (n ≡ 0 → ⊥) → (record { number = n; numbers = numbers }) ≡ scanShown numbers f
+  shown-kept other = rw (ne-eqb (f .number) 0 (λ z. other (is ∙ z))) (ap (λ (x : ℕ). record { number = x; numbers = numbers }) is)
+
+  pub shown-taken : n ≡ 0 → (record { number = n; numbers = scanNumbers (f .next) }) ≡ scanShown numbers f
+  shown-taken z = rw (z, sym is ∙ z)

@@ -1,17 +1,18 @@
 -- An archive that is added to a report in pieces, in two arrays beside the two of the report.
 use Prim.Native.Nat.{ℕ}
 use mathlib.Core.Path.{_≡_}
-use mathlib.Core.Bool.{not}
-use mathlib.Core.List.{List}
+use mathlib.Core.Bool.{cond, not}
+use mathlib.Core.List.{List, [], _∷_, _++_}
 use lib.Dec.{eqb}
-use lib.ListN.{getD}
+use lib.ListN.{length, getD}
 use Rattle.report_model.specs.Pieces.{Tally, Adding, adding, Feeding, fed}
 use Rattle.report.specs.Lines.{linesAt}
+use Rattle.report.specs.Report.{linesFed}
 use Rattle.c_report.specs.Calls.{reportAt}
-use Rattle.c_pieces.specs.Scan.{scanAt}
+use Rattle.c_pieces.specs.Scan.{scanAt, scanNumbers}
 
 -- the four numbers of a scan, how many lines there are, KEPT rows, LOOSE rows, and another number than 0 where a transmitter was one too many; five
--- numbers for each line, of which those past the lines are left to the program
+-- numbers for each line
 abbrev pub tallyAt : List ℕ → List ℕ → Tally
 tallyAt numbers lines = record {
   lines = linesAt lines (getD numbers 4 0);
@@ -20,6 +21,11 @@ tallyAt numbers lines = record {
   over = not (eqb (getD numbers 7 0) 0);
   scan = scanAt numbers;
 }
+
+-- as they are written
+abbrev pub tallyNumbers : Tally → List ℕ
+tallyNumbers t =
+    scanNumbers (t .scan) ++ (length (t .lines) ∷ t .kept ∷ t .loose ∷ cond (t .over) 1 0 ∷ [])
 
 -- with the report, which stays as it is until the end
 abbrev pub addingAt : List ℕ → List ℕ → List ℕ → List ℕ → Adding
@@ -32,3 +38,6 @@ pub record Feeds (expected : Feeding) (numbers lines so-far tally : List ℕ) (n
   -- beside any other number than 0 every number of both arrays is as it was
   pub numbersStay : (number ≡ 0 → ⊥) → so-far' ≡ so-far
   pub linesStay : (number ≡ 0 → ⊥) → tally' ≡ tally
+  -- beside 0 every number of both is told: behind the lines stands what stood there
+  pub numbersAre : number ≡ 0 → so-far' ≡ tallyNumbers (expected .next .tally)
+  pub linesAre : number ≡ 0 → tally' ≡ linesFed expected tally

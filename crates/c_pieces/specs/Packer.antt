@@ -2,12 +2,9 @@
 use Prim.Native.Nat.{ℕ}
 use mathlib.Core.List.{List}
 use lib.ListN.{getD}
-use Rattle.repack_model.specs.Packer.{Packing, packing, Packed, packOf, Finished, finishOf}
+use Rattle.repack_model.specs.Packer.{Packed, packOf, Finished, finishOf}
 
--- rows that wait, and blocks written
-abbrev pub packingAt : List ℕ → List ℕ → Packing
-packingAt numbers waiting = packing (getD numbers 1 0) (getD numbers 0 0) waiting
-
+-- the numbers are the rows that wait, and the blocks written
 abbrev pub packCall : List ℕ → List ℕ → List ℕ → List ℕ → List ℕ → List ℕ → Packed
 packCall numbers waiting piece identities output positions =
     packOf (getD numbers 1 0) (getD numbers 0 0) waiting piece identities output positions

@@ -7,7 +7,7 @@ use lib.ListN.{getD}
 use Rattle.refusal.specs.Number.{numberOf}
 use Rattle.refusal.specs.declared.Refusal.the-variants.{NotAccepted}
 use Rattle.archive_model.specs.Buffer.{Stage, Filling, Short, Ended, Wrong, Scan, stageFound}
-use Rattle.archive_model.specs.Append.{Opening, isScan, feedOf}
+use Rattle.archive_model.specs.Append.{Opening, isScan, Feeding, feedOf}
 use Rattle.archive.specs.Archive.{openFound}
 
 -- ---- the numbers: blocks passed, their rows, the stage, and the position of the block that does not match
@@ -50,12 +50,16 @@ pub record ScanCall : Type 0 where
   pub number : ℕ
   pub numbers : List ℕ
 
--- 11, 16; the stage and its position come back in their one form
-abbrev pub scanCall : List ℕ → List ℕ → ScanCall
-scanCall numbers piece = record {
-  number = feedOf (scanAt numbers) piece .number;
-  numbers = scanNumbers (feedOf (scanAt numbers) piece .next);
+-- beside a refusal every number is as it was; beside success the stage and its position come in their one form
+abbrev pub scanShown : List ℕ → Feeding → ScanCall
+scanShown numbers f = record {
+  number = f .number;
+  numbers = cond (eqb (f .number) 0) (scanNumbers (f .next)) numbers;
 }
+
+-- 11, 16
+abbrev pub scanCall : List ℕ → List ℕ → ScanCall
+scanCall numbers piece = scanShown numbers (feedOf (scanAt numbers) piece)
 
 -- after the last piece: 11, then 12 with the position, or the rows
 unfoldable pub scanEnd : Scan → Opening

@@ -2,13 +2,13 @@
 use crate::scan;
 use report::Adding;
 ghost use mathlib.Core.Path.{_≡_};
-ghost use mathlib.Core.Bool.{not};
+ghost use mathlib.Core.Bool.{cond, not};
 ghost use lib.Dec.{eqb};
 ghost use Rattle.report_model.specs.Report as model;
 ghost use Rattle.report_model.specs.Pieces as pieces;
 ghost use Rattle.report.specs.Report.{addingOf};
 ghost use Rattle.c_report.specs.Calls.{reportAt, Adds};
-ghost use Rattle.c_pieces.specs.Adding.{tallyAt, addingAt, Feeds};
+ghost use Rattle.c_pieces.specs.Adding.{tallyAt, tallyNumbers, addingAt, Feeds};
 
 // The four numbers of a scan, how many lines there are, KEPT rows, LOOSE rows, and 1 where a transmitter was one too many.
 pub const NUMBERS: usize = 8;
@@ -20,8 +20,10 @@ pub fn start(
     adding: &mut [u64; NUMBERS],
     tally: &mut [u64; c_report::LINES],
 )
-    ensures { λ _. ⌜ addingAt (now (numbers .entry)) (now (lines .entry)) (now (adding .exit)) (now (tally .exit))
-        ≡ pieces.startAdding (reportAt (now (numbers .entry)) (now (lines .entry))) ⌝ }
+    ensures { λ _. ⌜ (addingAt (now (numbers .entry)) (now (lines .entry)) (now (adding .exit)) (now (tally .exit))
+        ≡ pieces.startAdding (reportAt (now (numbers .entry)) (now (lines .entry))))
+        × (now (adding .exit) ≡ tallyNumbers (pieces.startTally (reportAt (now (numbers .entry)) (now (lines .entry)))))
+        × (now (tally .exit) ≡ now (lines .entry)) ⌝ }
 {
     let r = c_report::report_in(numbers, lines);
     store(Adding::start(r), adding, tally);
@@ -63,7 +65,7 @@ pub fn end(
     ensures { λ r. ⌜ Adds
         (pieces.endedOf (addingAt (now (numbers .entry)) (now (lines .entry)) (now (adding .entry))
         (now (tally .entry))))
-        (now (numbers .entry)) (now (lines .entry)) r (now (position .exit)) (now (numbers .exit))
+        (now (tally .entry)) (now (numbers .entry)) (now (lines .entry)) r (now (position .exit)) (now (numbers .exit))
         (now (lines .exit)) ⌝ }
 {
     let a = adding_in(numbers, lines, adding, tally);
@@ -84,8 +86,9 @@ fn adding_in(
     adding: &[u64; NUMBERS],
     tally: &[u64; c_report::LINES],
 ) -> Adding
-    ensures { λ r. ⌜ addingOf r
-        ≡ addingAt (now (numbers .entry)) (now (lines .entry)) (now (adding .entry)) (now (tally .entry)) ⌝ }
+    ensures { λ r. ⌜ (addingOf r
+        ≡ addingAt (now (numbers .entry)) (now (lines .entry)) (now (adding .entry)) (now (tally .entry)))
+        × (r .lines ≡ now (tally .entry)) ⌝ }
 {
     Adding {
         before: c_report::report_in(numbers, lines),
@@ -100,7 +103,8 @@ fn adding_in(
 
 // What is known beside the report.
 fn store(a: Adding, adding: &mut [u64; NUMBERS], tally: &mut [u64; c_report::LINES])
-    ensures { λ _. ⌜ tallyAt (now (adding .exit)) (now (tally .exit)) ≡ addingOf a .tally ⌝ }
+    ensures { λ _. ⌜ (tallyAt (now (adding .exit)) (now (tally .exit)) ≡ addingOf a .tally)
+        × (now (adding .exit) ≡ tallyNumbers (addingOf a .tally)) × (now (tally .exit) ≡ a .lines) ⌝ }
 {
     let s = a.scan;
     let stage = s.stage;
@@ -119,7 +123,7 @@ fn store(a: Adding, adding: &mut [u64; NUMBERS], tally: &mut [u64; c_report::LIN
 }
 
 fn bit(b: bool) -> u64
-    ensures { λ r. ⌜ not (eqb r 0) ≡ b ⌝ }
+    ensures { λ r. ⌜ (not (eqb r 0) ≡ b) × (r ≡ cond b 1 0) ⌝ }
 {
     if b {
         return 1;

@@ -1,13 +1,14 @@
 // A damaged archive packed anew, or rows of some transmitters removed, in pieces.
 ghost use mathlib.Core.Path.{_≡_};
-ghost use Rattle.c_pieces.specs.Packer.{packingAt, packCall, packEnd};
+ghost use lib.ListN.{getD};
+ghost use Rattle.c_pieces.specs.Packer.{packCall, packEnd};
 
 // Rows that wait, and blocks written.
 pub const NUMBERS: usize = 2;
 
 pub const WAITING: usize = repack::PENDING_LENGTH;
 
-// The sound blocks of a piece: 11, 16, 10, 6.
+// The sound blocks of a piece: 11, 16, 10, 6; then all are as they were. Else zeros stand behind the rows that wait.
 pub fn feed(
     numbers: &mut [u64; NUMBERS],
     waiting: &mut [u8; WAITING],
@@ -20,7 +21,9 @@ pub fn feed(
     ensures { λ r. ⌜ record {
       number = r;
       count = now (dropped .exit);
-      next = packingAt (now (numbers .exit)) (now (waiting .exit));
+      used = getD (now (numbers .exit)) 0 0;
+      next = getD (now (numbers .exit)) 1 0;
+      pending = now (waiting .exit);
       output = now (out .exit);
       positions = now (positions .exit);
     }

@@ -9,7 +9,7 @@ ghost use Rattle.c_pieces.specs.Scan.{stageAt, stageNumber, stagePositio
 // Blocks passed, their rows, the stage, and the position of the block that does not match.
 pub const NUMBERS: usize = 4;
 
-// The blocks of a piece: 11, 16.
+// The blocks of a piece: 11, 16; then every number is as it was.
 pub fn feed(numbers: &mut [u64; NUMBERS], piece: &[u8]) -> u8
     ensures { λ r. ⌜ record { number = r; numbers = now (numbers .exit) }
         ≡ scanCall (now (numbers .entry)) (now (piece .entry)) ⌝ }
@@ -17,6 +17,10 @@ pub fn feed(numbers: &mut [u64; NUMBERS], piece: &[u8]) -> u8
     let s = scan_of(numbers[0], numbers[1], numbers[2], numbers[3]);
     let fed = s.feed(piece);
     let answer = fed.answer;
+    let number = c_archive::taken_number(answer);
+    if number != 0 {
+        return number;
+    }
     let next = fed.next;
     let stage = next.stage;
     *numbers = [
@@ -25,7 +29,7 @@ pub fn feed(numbers: &mut [u64; NUMBERS], piece: &[u8]) -> u8
         stage_number(stage),
         stage_position(stage),
     ];
-    c_archive::taken_number(answer)
+    number
 }
 
 // What all pieces answer together: how many rows; 11, 12 with the position.

@@ -2,11 +2,12 @@
 use Prim.Native.Nat.{ℕ}
 use mathlib.Core.Path.{_≡_}
 use mathlib.Core.List.{List, [], _∷_}
-use lib.ListN.{getD}
+use lib.ListN.{length, getD, replicate}
 use Rattle.report_model.specs.Report as model
-use Rattle.report.specs.Lines.{linesAt}
+use Rattle.report.specs.Lines.{linesLength, linesAt, lineNumbers}
+use Rattle.report.specs.Report.{linesAdded}
 
--- archives added, lines, KEPT rows and LOOSE rows; five numbers for each line, of which those past the lines are left to the program
+-- archives added, lines, KEPT rows and LOOSE rows; five numbers for each line
 abbrev pub reportAt : List ℕ → List ℕ → model.Report
 reportAt numbers lines = record {
   archives = getD numbers 0 0;
@@ -15,17 +16,28 @@ reportAt numbers lines = record {
   loose = getD numbers 3 0;
 }
 
--- a call that adds to a report, in its two arrays before and after it
-pub record Adds (expected : model.Addition) (numbers lines : List ℕ) (number position : ℕ)
+-- the numbers of a report
+abbrev pub reportNumbers : model.Report → List ℕ
+reportNumbers s = s .archives ∷ length (s .lines) ∷ s .kept ∷ s .loose ∷ []
+
+-- the lines of a report of no archive: 1,280 zeros
+abbrev pub emptyLines : List ℕ
+emptyLines = replicate linesLength 0
+
+-- the lines after an archive, and behind them what stood there
+abbrev pub linesWith : model.Addition → List ℕ → List ℕ
+linesWith a old = linesAdded a old
+
+-- a call that adds to a report, in its two arrays before and after it, and what the lines' array is where nothing is refused
+pub record Adds (expected : model.Addition) (done numbers lines : List ℕ) (number position : ℕ)
     (numbers' lines' : List ℕ) : Type 0 where
   pub result : model.answer number position (reportAt numbers' lines') ≡ expected
   -- beside any other number than 0 every number of both arrays is as it was
   pub numbersStay : (number ≡ 0 → ⊥) → numbers' ≡ numbers
   pub linesStay : (number ≡ 0 → ⊥) → lines' ≡ lines
-
--- identity, KEPT rows, LOOSE rows, earliest and latest time
-abbrev pub lineNumbers : model.Line → List ℕ
-lineNumbers a = a .identity ∷ a .kept ∷ a .loose ∷ a .earliest ∷ a .latest ∷ []
+  -- beside 0 every number of both is told
+  pub numbersAre : number ≡ 0 → numbers' ≡ reportNumbers (expected .next)
+  pub linesAre : number ≡ 0 → lines' ≡ done
 
 -- the number, and every number of the lent line at exit
 pub record LineCall : Type 0 where

@@ -8,7 +8,7 @@ use report::Share;
 ghost use mathlib.Core.Path.{_≡_};
 ghost use Rattle.report_model.specs.Report as model;
 ghost use Rattle.report.specs.Report.{reportOf, outcomeNumber, outcomePosition, lookedNumber};
-ghost use Rattle.c_report.specs.Calls.{reportAt, Adds, lineCall};
+ghost use Rattle.c_report.specs.Calls.{reportAt, reportNumbers, emptyLines, linesWith, Adds, lineCall};
 
 // How many archives were added, how many lines there are, KEPT rows, LOOSE rows.
 pub const NUMBERS: usize = 4;
@@ -20,7 +20,8 @@ pub const LINES: usize = Report::MAX_LINES * LINE_NUMBERS;
 
 // A report of no archive.
 pub fn empty(numbers: &mut [u64; NUMBERS], lines: &mut [u64; LINES])
-    ensures { λ _. ⌜ reportAt (now (numbers .exit)) (now (lines .exit)) ≡ model.emptyReport ⌝ }
+    ensures { λ _. ⌜ (reportAt (now (numbers .exit)) (now (lines .exit)) ≡ model.emptyReport)
+        × (now (numbers .exit) ≡ reportNumbers model.emptyReport) × (now (lines .exit) ≡ emptyLines) ⌝ }
 {
     store(Report::empty(), numbers, lines);
 }
@@ -33,6 +34,8 @@ pub fn add(
     position: &mut usize,
 ) -> u8
     ensures { λ r. ⌜ Adds (model.addOf (reportAt (now (numbers .entry)) (now (lines .entry))) (now (buffer .entry)))
+        (linesWith (model.addOf (reportAt (now (numbers .entry)) (now (lines .entry))) (now (buffer .entry)))
+        (now (lines .entry)))
         (now (numbers .entry)) (now (lines .entry)) r (now (position .exit)) (now (numbers .exit))
         (now (lines .exit)) ⌝ }
 {
@@ -93,7 +96,8 @@ pub fn share(
 
 // The report that two arrays hold.
 pub fn report_in(numbers: &[u64; NUMBERS], lines: &[u64; LINES]) -> Report
-    ensures { λ r. ⌜ reportOf r ≡ reportAt (now (numbers .entry)) (now (lines .entry)) ⌝ }
+    ensures { λ r. ⌜ (reportOf r ≡ reportAt (now (numbers .entry)) (now (lines .entry)))
+        × (r .lines ≡ now (lines .entry)) ⌝ }
 {
     Report {
         archives: numbers[0] as usize,
@@ -105,7 +109,8 @@ pub fn report_in(numbers: &[u64; NUMBERS], lines: &[u64; LINES]) -> Report
 }
 
 pub fn store(r: Report, numbers: &mut [u64; NUMBERS], lines: &mut [u64; LINES])
-    ensures { λ _. ⌜ reportAt (now (numbers .exit)) (now (lines .exit)) ≡ reportOf r ⌝ }
+    ensures { λ _. ⌜ (reportAt (now (numbers .exit)) (now (lines .exit)) ≡ reportOf r)
+        × (now (numbers .exit) ≡ reportNumbers (reportOf r)) × (now (lines .exit) ≡ r .lines) ⌝ }
 {
     *numbers = [r.archives as u64, r.count as u64, r.kept, r.loose];
     let all = r.lines;

@@ -1,4 +1,5 @@
 -- The end of a packing: the last block in its place, and zeros behind it.
+--     before                          what stands before some index, as it was
 --     closed-none, closed-last        no cell waits; some do
 --     counted                         how many cells were packed
 --     closed-archive                  a packing that is closed is the archive of the rows that stay
@@ -19,7 +20,7 @@ use Rattle.refusal.specs.Number.{numberOf}
 use Rattle.refusal.specs.declared.Refusal.the-variants.{ShortOutput, Size}
 use Rattle.layout.specs.Cell.{cellLength}
 use Rattle.layout.specs.Block.{cellsPerBlock, blockLength}
-use Rattle.buffers.proofs.Segments.{Begun}
+use Rattle.buffers.proofs.Segments.{Begun, begin, named, skip}
 use Rattle.archive_model.specs.Row.{Row}
 use Rattle.archive_model.specs.Buffer.{archiveOf, bufferOf, isWhole}
 use Rattle.repack_model.specs.Repack.{isListed, others, soundRows, dropped, fronted, Salvaged, salvageOf}
@@ -30,6 +31,12 @@ use Rattle.repack_model.proofs.Salvage.{salvaged-length}
 use Rattle.repack_model.proofs.Removal.{fits-keep}
 use Rattle.repack_model.proofs.Pieces.{packed-archive}
 use Rattle.repack.specs.Private.{closed}
+
+-- what stands before some index
+pub before : (xs : List ℕ) (at : ℕ) → at ≤ length xs → Begun xs (take at xs) at xs
+before xs at h =
+    let z : at - 0 ≡ at = omega arith in
+    named (skip (begin xs) at (omega arith) h) (take at xs) (ap (λ (n : ℕ). take n xs) z)
 
 module _ (next used : ℕ) (pending : List ℕ) (l : length pending ≡ pendingLength) (few : used < cellsPerBlock) where
   waiting-long : length (take (cellLength * used) pending) ≡ cellLength * used

@@ -17,7 +17,7 @@ use Rattle.layout.specs.Cell.{cellLength}
 use Rattle.layout.specs.Block.{cellsPerBlock, blockLength}
 use Rattle.archive_model.specs.Buffer.{maxBlocks}
 use Rattle.repack_model.specs.Repack.{dropped, fronted, maxIdentities}
-use Rattle.repack_model.specs.Packer.{pendingLength, packing, cellsBlock, pushedBlocks, pushed, lastBlock, keptCells, isPacking, Packed, keptAs, packOf, Finished, finishOf}
+use Rattle.repack_model.specs.Packer.{pendingLength, packing, cellsBlock, pushedBlocks, pushed, lastBlock, keptCells, isPacking, Packed, keptAs, packedAs, packOf, Finished, finishOf}
 use Rattle.repack.proofs.Closing.{last-none, last-some, last-long}
 
 module _ (next used : ℕ) (pending : List ℕ) where
@@ -45,7 +45,7 @@ module _ (next used : ℕ) (pending : List ℕ) where
     answer = packOf next used pending piece identities output positions
 
     abbrev kept : ℕ → Packed
-    kept number = keptAs number (packing next used pending) output positions
+    kept number = keptAs number next used pending output positions
 
     pub pack-no : isPacking next used pending ≡ false → kept (numberOf NotAccepted) ≡ answer
     unfolding packOf
@@ -97,16 +97,10 @@ module _ (next used : ℕ) (pending : List ℕ) where
                   )
 
               pub pack-done : length (dropped piece) ≤ length positions
-                  → record {
-                    number = 0;
-                    count = length (dropped piece);
-                    next =
-                        pushed (packing next used pending) (keptCells identities piece);
-                    output =
-                        fronted (pushedBlocks (packing next used pending) (keptCells identities piece)) output;
-                    positions =
-                        fronted (dropped piece) positions;
-                  } ≡ answer
+                  → packedAs (length (dropped piece)) (pushed (packing next used pending) (keptCells identities piece))
+                  (fronted (pushedBlocks (packing next used pending) (keptCells identities piece)) output)
+                  (fronted (dropped piece) positions)
+                  ≡ answer
               unfolding packOf
               pack-done h =
                   rw (

@@ -6,7 +6,7 @@ use Rattle.refusal.specs.Number.{numberOf}
 use Rattle.refusal.specs.declared.Refusal.the-variants.{Mismatch}
 use Rattle.archive.specs.Archive.{takenNumber}
 use Rattle.repack_model.specs.Repack as model
-use Rattle.repack_model.specs.Packer.{Packed, Finished, packing}
+use Rattle.repack_model.specs.Packer.{Packed, Finished}
 use Rattle.repack.specs.declared.Salvaged.{Salvaged}
 use Rattle.repack.specs.declared.Removed.{Removed}
 use Rattle.repack.specs.declared.Removed.the-variants as removed
@@ -32,7 +32,9 @@ abbrev pub packResult : Repacked → List ℕ → List ℕ → List ℕ → Pack
 packResult r pending output positions = record {
   number = takenNumber (r .answer);
   count = r .dropped;
-  next = packing (r .next) (r .used) pending;
+  used = r .used;
+  next = r .next;
+  pending = pending;
   output = output;
   positions = positions;
 }

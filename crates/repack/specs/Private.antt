@@ -73,4 +73,4 @@ NotSalvaged why r =
 abbrev pub NotPacked : ℕ → ℕ → Refusal → Repacked → Type 0
 NotPacked used next why r =
     (pending output positions : List ℕ)
-    → packResult r pending output positions ≡ keptAs (numberOf why) (packing next used pending) output positions
+    → packResult r pending output positions ≡ keptAs (numberOf why) next used pending output positions

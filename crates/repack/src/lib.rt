@@ -419,7 +419,7 @@ fn is_packing(pending: &[u8], used: usize, next: usize) -> bool
 
 // The next piece of an archive that is packed in pieces: what stays of its rows goes behind the `used` cells that wait in `pending`, every 15 into a
 // block of `out`, the first of them block `next`; the positions of the dropped blocks, from the first block of the piece, go to the list. Refused: 11
-// for a packer that no pieces give, 16, 10 for more than 32 identities, 6; then all are as they were.
+// for a packer that no pieces give, 16, 10 for more than 32 identities, 6; then all are as they were. Else zeros stand behind the cells that wait.
 pub fn pack(
     pending: &mut [u8],
     used: usize,
@@ -453,6 +453,8 @@ pub fn pack(
         return not_packed(used, next, Refusal::ShortOutput);
     }
     let end = pack_blocks(pending, used, next, piece, identities, out, positions);
+    let behind = CELL_LENGTH * end.used;
+    layout::clear(&mut pending[behind..PENDING_LENGTH]);
     Repacked {
         answer: Taken::Done,
         used: end.used,

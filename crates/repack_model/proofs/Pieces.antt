@@ -1,25 +1,28 @@
 -- What stays of a buffer's rows, block by block and piece by piece.
 --     keptIn, kept-next, kept-none    the cells that stay of some blocks; of one block more, and of none
 --     pieces-packed                   pieces are the whole
-use Prim.Native.Nat.{ℕ, _%_, _<_}
+--     held                            a packing is read back from what a packer is lent
+use Prim.Native.Nat.{ℕ, _-_, _*_, _/_, _%_, _<_}
 use native.Mathlib.Omega.{arith}
 use mathlib.Core.Path.{_≡_, refl, sym, ap, ap₂, _∙_}
 use mathlib.Core.Bool.{Bool, true, not}
 use mathlib.Core.List.{List, [], _∷_, _++_, map, flatten, append-assoc, map-append}
 use lib.Dec.{eqb}
-use lib.ListN.{length}
+use lib.ListN.{length, take, replicate}
+use lib.Seq.{take-at}
 use borrow.Author.Tests.{eqb-true}
 use Rattle.lists.specs.Lists.{keep, all, upFrom}
 use Rattle.lists.proofs.Choice.{both}
 use Rattle.lists.proofs.Keep.{keep-append}
 use Rattle.lists.proofs.Parts.{flatten-append}
+use Rattle.layout.specs.Cell.{cellLength}
 use Rattle.layout.specs.Block.{blockLength}
 use Rattle.archive_model.specs.Row.{Row, rowCell, rowsOf, isSound}
 use Rattle.archive_model.specs.Buffer.{blocksIn, archiveOf}
 use Rattle.archive_model.proofs.Pieces.{pieces-blocks}
 use Rattle.repack_model.specs.Repack.{soundRows, isListed, others}
-use Rattle.repack_model.specs.Packer.{Packing, startPacking, fullLength, pushedBlocks, pushed, lastBlock, cellsOf, keptCells, packedIn}
-use Rattle.repack_model.specs.Claims.{PiecesPacked}
+use Rattle.repack_model.specs.Packer.{Packing, startPacking, fullLength, pushedBlocks, pushed, lastBlock, cellsOf, keptCells, pendingLength, packedIn}
+use Rattle.repack_model.specs.Claims.{PiecesPacked, Held}
 use Rattle.repack_model.proofs.Rows.{rowsKept, sound-rows-fit}
 use Rattle.repack_model.proofs.Packing.{push-none, push-waits, blocks-append, push-append, archive-cells}
 use Rattle.repack_model.proofs.Removal.{fits-keep}
@@ -84,3 +87,10 @@ packed-archive identities piece =
 
 pub pieces-packed : PiecesPacked
 pieces-packed identities pieces ok = pieces-from identities startPacking (omega arith) pieces ok ∙ packed-archive identities (flatten pieces)
+
+pub held : Held
+held count p output positions h =
+    let ws = p .waiting in
+    let zeros = replicate {A = ℕ} (pendingLength - length ws) 0 in
+    let e : cellLength * (length ws / cellLength) ≡ length ws = omega arith in
+    ap (λ (w : List ℕ). record { next = p .next; waiting = w }) (ap (λ (n : ℕ). take n (ws ++ zeros)) e ∙ take-at ws zeros (length ws) refl)

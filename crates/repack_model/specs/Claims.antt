@@ -6,12 +6,13 @@ use mathlib.Core.List.{List, [], _∷_, _++_, flatten, List·Memᴰ}
 use lib.Dec.{ltb, eqb}
 use lib.ListN.{length, take, drop}
 use Rattle.lists.specs.Lists.{all, count, pairwise}
+use Rattle.layout.specs.Cell.{cellLength}
 use Rattle.layout.specs.Block.{cellsPerBlock, blockLength}
 use Rattle.archive_model.specs.Row.{Row, isRow, isSound, isBlank}
 use Rattle.archive_model.specs.Buffer.{blocksFor, blocksIn, rowsIn, archiveOf, bufferOf}
 use Rattle.archive_model.specs.Append.{verdict, appendOf, blockAt}
 use Rattle.repack_model.specs.Repack.{soundRows, isDropped, dropped, salvageOf, maxIdentities, others, removeOf}
-use Rattle.repack_model.specs.Packer.{startPacking, packedIn}
+use Rattle.repack_model.specs.Packer.{Packing, startPacking, packing, packedAs, packedIn}
 
 -- ---- salvage
 
@@ -128,3 +129,11 @@ abbrev pub PiecesPacked : Type 0
 PiecesPacked =
     (identities : List ℕ) (pieces : List (List ℕ)) → all (λ x. eqb (length x % blockLength) 0) pieces ≡ true
     → packedIn startPacking identities pieces ≡ archiveOf (others identities (soundRows (flatten pieces)))
+
+-- Held: what a packer is lent after a piece holds its packing, which the next piece reads.
+abbrev pub Held : Type 0
+Held =
+    (count : ℕ) (p : Packing) (output positions : List ℕ) → length (p .waiting) % cellLength ≡ 0
+    → packing (packedAs count p output positions .next) (packedAs count p output positions .used)
+    (packedAs count p output positions .pending)
+    ≡ p

@@ -64,7 +64,7 @@ keptCells identities piece = cellsOf (others identities (soundRows piece))
 abbrev pub pendingLength : ℕ
 pendingLength = fullLength + fullLength
 
--- the packing that they hold: the first `used` cells wait; what stands behind them is left to the program
+-- the packing that they hold: the first `used` cells wait
 abbrev pub packing : ℕ → ℕ → List ℕ → Packing
 packing next used pending = record { next = next; waiting = take (cellLength * used) pending }
 
@@ -72,37 +72,56 @@ packing next used pending = record { next = next; waiting = take (cellLength * u
 unfoldable pub isPacking : ℕ → ℕ → List ℕ → Bool
 isPacking next used pending = eqb (length pending) pendingLength && (ltb used cellsPerBlock && leb next maxBlocks)
 
--- the number, how many blocks of the piece were dropped, and what is packed then; every byte and element of the output and of the list
+-- the number, and how many blocks of the piece were dropped; how many cells wait then, how many blocks were packed, and every byte that the packer
+-- is lent; every byte and element of the output and of the list
 pub record Packed : Type 0 where
   pub number : ℕ
   pub count : ℕ
-  pub next : Packing
+  pub used : ℕ
+  pub next : ℕ
+  pub pending : List ℕ
   pub output : List ℕ
   pub positions : List ℕ
 
-abbrev pub keptAs : ℕ → Packing → List ℕ → List ℕ → Packed
-keptAs number p output positions =
-    record { number = number; count = 0; next = p; output = output; positions = positions }
+-- a refusal, beside which all is as it was
+abbrev pub keptAs : ℕ → ℕ → ℕ → List ℕ → List ℕ → List ℕ → Packed
+keptAs number next used pending output positions = record {
+  number = number;
+  count = 0;
+  used = used;
+  next = next;
+  pending = pending;
+  output = output;
+  positions = positions;
+}
+
+-- a packing as it is lent: zeros stand behind the cells that wait
+abbrev pub packedAs : ℕ → Packing → List ℕ → List ℕ → Packed
+packedAs count p output positions = record {
+  number = 0;
+  count = count;
+  used = length (p .waiting) / cellLength;
+  next = p .next;
+  pending = padded pendingLength (p .waiting);
+  output = output;
+  positions = positions;
+}
 
 -- a piece: 11; 16 for one that isn't whole blocks or brings more than 2^32 of them in all; 10 for more than 32 identities; 6 for an output shorter
 -- than the piece or a list too short. Positions count from the first block of the piece.
 unfoldable pub packOf : ℕ → ℕ → List ℕ → List ℕ → List ℕ → List ℕ → List ℕ → Packed
 packOf next used pending piece identities output positions =
     cond (not (isPacking next used pending))
-    (keptAs (numberOf NotAccepted) (packing next used pending) output positions)
+    (keptAs (numberOf NotAccepted) next used pending output positions)
     (cond (not (eqb (length piece % blockLength) 0 && leb (next + length piece / blockLength) maxBlocks))
-    (keptAs (numberOf Size) (packing next used pending) output positions)
+    (keptAs (numberOf Size) next used pending output positions)
     (cond (ltb maxIdentities (length identities))
-    (keptAs (numberOf Argument) (packing next used pending) output positions)
+    (keptAs (numberOf Argument) next used pending output positions)
     (cond (ltb (length output) (length piece) || ltb (length positions) (length (dropped piece)))
-    (keptAs (numberOf ShortOutput) (packing next used pending) output positions)
-    (record {
-      number = 0;
-      count = length (dropped piece);
-      next = pushed (packing next used pending) (keptCells identities piece);
-      output = fronted (pushedBlocks (packing next used pending) (keptCells identities piece)) output;
-      positions = fronted (dropped piece) positions;
-    }))))
+    (keptAs (numberOf ShortOutput) next used pending output positions)
+    (packedAs (length (dropped piece)) (pushed (packing next used pending) (keptCells identities piece))
+    (fronted (pushedBlocks (packing next used pending) (keptCells identities piece)) output)
+    (fronted (dropped piece) positions)))))
 
 pub record Finished : Type 0 where
   pub number : ℕ

@@ -1,19 +1,46 @@
 -- The calls: each of their ends is one case of its definition.
 use Prim.Native.Nat.{ℕ, _+_, _*_, _/_, _%_, _≤_, _<_}
 use native.Mathlib.Omega.{arith}
-use mathlib.Core.Path.{_≡_}
-use mathlib.Core.Bool.{true, false}
+use mathlib.Core.Path.{_≡_, refl, sym, ap, _∙_}
+use mathlib.Core.Bool.{true, false, cond}
 use mathlib.Core.List.{List}
-use lib.Dec.{leb}
+use lib.Dec.{leb, eqb}
 use lib.ListN.{length, getD}
-use borrow.Author.Tests.{lt-ltb, le-ltb, le-leb, lt-leb, eq-eqb, ne-eqb}
+use borrow.Author.Tests.{lt-ltb, le-ltb, le-leb, lt-leb, eq-eqb, ne-eqb, eqb-true}
 use Rattle.refusal.specs.Number.{numberOf}
-use Rattle.refusal.specs.declared.Refusal.the-variants.{Argument, NotAccepted, Size, Transmitters}
+use Rattle.refusal.specs.declared.Refusal.{Refusal}
+use Rattle.refusal.specs.declared.Refusal.the-variants.{Argument, NotAccepted, Mismatch, Size, Transmitters}
+use Rattle.refusal.proofs.Numbers.{refused-number}
+use Rattle.lists.proofs.Tests.{by-test}
 use Rattle.layout.specs.Block.{blockLength}
-use Rattle.archive_model.specs.Buffer.{None, maxBlocks, maxRows, isWhole, blocksIn}
+use Rattle.archive_model.specs.Buffer.{Found, At, None, maxBlocks, maxRows, isWhole, blocksIn, stageFound}
 use Rattle.archive_model.specs.Append.{verdict, isScan}
 use Rattle.report_model.specs.Report.{Report, maxArchives, maxLines, isTally, isReport, answer, addOf, shareOf, lineOfReport, noLine}
 use Rattle.report_model.specs.Pieces.{Tally, addBlocks, closed, closing, Adding, adding, rowsSoFar, isAdding, isPiece, fed, feedOf, endedOf}
+
+-- beside a refusal the lines stay
+pub stay : {xs : List ℕ} (n : ℕ) (why : Refusal) (new old : List ℕ) → n ≡ numberOf why → xs ≡ old → xs ≡ cond (eqb n 0) new old
+stay n why new old e s = rw (ne-eqb n 0 (λ z. refused-number why (sym e ∙ z))) s
+
+-- what they are where nothing was refused
+pub done-as : (n : ℕ) (new also old : List ℕ) → (n ≡ 0 → new ≡ also) → cond (eqb n 0) new old ≡ cond (eqb n 0) also old
+done-as n new also old f =
+    by-test {X = cond (eqb n 0) new old ≡ cond (eqb n 0) also old} (eqb n 0) (λ t. rw t (f (eqb-true n 0 t))) (λ t. rw t)
+
+-- where an archive is added, no transmitter was one too many, and its lines are those of the tally
+pub closing-zero : (s : Report) (t : Tally) → closing s t .number ≡ 0 → (t .over ≡ false) × (closing s t .next .lines ≡ t .lines)
+unfolding closing
+closing-zero s t z = go (stageFound (t .scan .stage)) z
+  where
+    go : (f : Found) → closed s t f .number ≡ 0 → (t .over ≡ false) × (closed s t f .next .lines ≡ t .lines)
+    go (At k) z = absurd (refused-number Mismatch z)
+    go None z =
+        by-test {X = (t .over ≡ false) × (closed s t None .next .lines ≡ t .lines)} (leb maxArchives (s .archives))
+        (λ m. absurd (refused-number Argument (rw m at z)))
+        (λ m.
+        by-test {X = (t .over ≡ false) × (closed s t None .next .lines ≡ t .lines)} (t .over)
+        (λ o. absurd (refused-number Transmitters (rw (m, o) at z)))
+        (λ o. (o, rw (m, o))))
 
 module _ (s : Report) (t : Tally) where
   pub closed-full : maxArchives ≤ s .archives → answer (numberOf Argument) 0 s ≡ closed s t None

@@ -3,3 +3,4 @@ pub mod Places
 pub mod Testing
 pub mod Blocks
 pub mod Calls
+pub mod Arrays

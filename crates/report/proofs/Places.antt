@@ -19,7 +19,7 @@ use Rattle.lists.proofs.Tests.{and-true, by-test}
 use Rattle.report_model.specs.Report.{Line, maxLines, joined, insert}
 use Rattle.report_model.proofs.Order.{insert-before, insert-same, insert-after, insert-nil}
 use Rattle.report.specs.Lines.{lineLength, lineAt, linesFrom, linesAt}
-use Rattle.report.specs.Private.{Ordered, Place, Gap, Stored, Inserted}
+use Rattle.report.specs.Private.{Ordered, Place, SameBehind, Gap, Stored, Inserted}
 use Rattle.report.proofs.Windows.{lines-count, lines-split, lines-next, lines-none, lines-same}
 
 -- ---- the search
@@ -86,9 +86,10 @@ pub record Shifting (from end i : ℕ) (old xs : List ℕ) : Type 0 where
   pub high : i ≤ end
   pub same : (k : ℕ) → k < i + lineLength → getD xs k 0 ≡ getD old k 0
   pub moved : (k : ℕ) → i ≤ k → k < end → getD xs (k + lineLength) 0 ≡ getD old k 0
+  pub behind : SameBehind (end + lineLength) old xs
 
 pub shift-none : (from end : ℕ) (old : List ℕ) → from ≤ end → Shifting from end end old old
-shift-none from end old h = record { long = refl; low = h; high = omega arith; same = λ k l. refl; moved = λ k l m. absurd (omega arith) }
+shift-none from end old h = record { long = refl; low = h; high = omega arith; same = λ k l. refl; moved = λ k l m. absurd (omega arith); behind = λ k l. refl }
 
 pub shift-more : (from end i : ℕ) (old xs : List ℕ) → Shifting from end i old xs → from < i → end + lineLength ≤ length old
     → Shifting from end (i - 1) old (set xs (i - 1 + lineLength) (getD xs (i - 1) 0))
@@ -110,6 +111,7 @@ shift-more from end i old xs s h fits =
                 let f : k + lineLength ≡ at = omega arith in
                 ap (λ (j : ℕ). getD (set xs at x) j 0) f ∙ getD-set-same xs at x 0 (omega (arith, s .long)) ∙ s .same (i - 1) (omega arith) ∙ ap (λ (j : ℕ). getD old j 0) (sym e)
           ];
+      behind = λ k l. getD-set-other xs at k x 0 (λ q. omega arith) ∙ s .behind k l;
     }
 
 pub shifted : (from end i : ℕ) (old xs : List ℕ) → Shifting from end i old xs → i ≤ from → Gap from end old xs
@@ -117,6 +119,7 @@ shifted from end i old xs s h = record {
   long = s .long;
   front = λ k l. s .same k (omega (arith, s .low));
   back = λ k l m. s .moved k (omega (arith, s .low)) m;
+  behind = s .behind;
 }
 
 -- ---- a line inserted behind those before it
@@ -162,7 +165,7 @@ module _ (old : List ℕ) (n r : ℕ) (a : Line) (p : Place old n (a .identity) 
         (ap (linesFrom new r) e ∙ lines-next new r (n - suc r)
         ∙ ap₂ _∷_ (s .here) (lines-same new old (suc r) (suc r) (n - suc r) (λ i h. s .elsewhere (suc r + i) (λ q. omega arith))))
         ∙ sym at-line in
-        record { long = s .long; count = sym (lines-count new 0 n) ∙ ap length is; lines = λ h. is }
+        record { long = s .long; count = sym (lines-count new 0 n) ∙ ap length is; lines = λ h. is; behind = λ k h. s .behind k (omega arith) }
 
   module _ (absent : r < n → lineAt old r .identity ≡ a .identity → ⊥) where
     new-line : insert a (linesFrom old r (n - r)) ≡ a ∷ linesFrom old r (n - r)
@@ -189,7 +192,7 @@ module _ (old : List ℕ) (n r : ℕ) (a : Line) (p : Place old n (a .identity) 
         ∙ omega (arith, lines-count old 0 r, lines-count old r (n - r), p .within)
 
     pub no-room : n ≡ maxLines → Inserted n a old old (n + 1)
-    no-room e = record { long = refl; count = sym one-more; lines = λ h. absurd (omega arith) }
+    no-room e = record { long = refl; count = sym one-more; lines = λ h. absurd (omega arith); behind = λ k h. refl }
 
     -- the lines behind the gap
     moved-line : (mid new : List ℕ) → Gap (lineLength * r) (lineLength * n) old mid → Stored r a mid new → (i : ℕ) → i < n - r → lineAt new (suc r + i) ≡ lineAt old (r + i)
@@ -230,7 +233,7 @@ module _ (old : List ℕ) (n r : ℕ) (a : Line) (p : Place old n (a .identity) 
         ∙ ap₂ _++_ (lines-same new old 0 0 r (λ i h. ap (lineAt new) (zero-add i) ∙ front-line mid new g s i h ∙ ap (lineAt old) (sym (zero-add i))))
         (ap (linesFrom new r) e ∙ lines-next new r (n - r) ∙ ap₂ _∷_ (s .here) (lines-same new old (suc r) r (n - r) (moved-line mid new g s)))
         ∙ sym at-gap in
-        record { long = s .long ∙ g .long; count = sym one-more; lines = λ h. is }
+        record { long = s .long ∙ g .long; count = sym one-more; lines = λ h. is; behind = λ k h. s .behind k (omega arith) ∙ g .behind k (omega arith) }
 
 -- ---- what the test of a line tells
 

@@ -170,6 +170,9 @@ stored-line xs i a b c d e fits =
             earliest = clear 3 (omega arith) t;
             latest = clear 4 (omega arith) t;
           };
+      behind =
+          λ k h.
+          five-other xs at a b c d e fits k (λ q. omega arith) (λ q. omega arith) (λ q. omega arith) (λ q. omega arith) (λ q. omega arith);
     }
 
 pub stored-as : {i : ℕ} {old new : List ℕ} {a b : Line} → a ≡ b → Stored i a old new → Stored i b old new

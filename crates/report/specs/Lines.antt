@@ -1,7 +1,7 @@
 -- The lines of a report in one array of numbers (document 02, A12): what it shows.
 use Prim.Native.Nat.{ℕ, _+_, _*_}
-use mathlib.Core.List.{List, map}
-use lib.ListN.{getD}
+use mathlib.Core.List.{List, [], _∷_, _++_, map}
+use lib.ListN.{length, getD, drop}
 use Rattle.lists.specs.Lists.{upFrom}
 use Rattle.report_model.specs.Report.{Line, maxLines}
 
@@ -29,3 +29,17 @@ linesFrom xs a n = map (lineAt xs) (upFrom a n)
 -- the first n lines
 abbrev pub linesAt : List ℕ → ℕ → List Line
 linesAt xs n = linesFrom xs 0 n
+
+-- ---- and what it holds
+
+-- identity, KEPT rows, LOOSE rows, earliest and latest time
+abbrev pub lineNumbers : Line → List ℕ
+lineNumbers a = a .identity ∷ a .kept ∷ a .loose ∷ a .earliest ∷ a .latest ∷ []
+
+unfoldable pub linesNumbers : List Line → List ℕ
+linesNumbers [] = []
+linesNumbers (a ∷ lines) = lineNumbers a ++ linesNumbers lines
+
+-- an array where lines are put in front; what stands behind them is as it was
+unfoldable pub written : List Line → List ℕ → List ℕ
+written lines old = linesNumbers lines ++ drop (lineLength * length lines) old

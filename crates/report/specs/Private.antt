@@ -51,29 +51,38 @@ pub record Place (xs : List ℕ) (n identity r : ℕ) : Type 0 where
   pub below : (i : ℕ) → i < r → lineAt xs i .identity < identity
   pub above : (i : ℕ) → r ≤ i → i < n → identity ≤ lineAt xs i .identity
 
+-- what stands from index `from` on is as it was
+abbrev pub SameBehind : ℕ → List ℕ → List ℕ → Type 0
+SameBehind from old new = (k : ℕ) → from ≤ k → getD new k 0 ≡ getD old k 0
+
 -- what stood from `from` to `end` stands five further
 pub record Gap (from end : ℕ) (old new : List ℕ) : Type 0 where
   pub long : length new ≡ length old
   pub front : (k : ℕ) → k < from → getD new k 0 ≡ getD old k 0
   pub back : (k : ℕ) → from ≤ k → k < end → getD new (k + lineLength) 0 ≡ getD old k 0
+  pub behind : SameBehind (end + lineLength) old new
 
 -- line i is a, and every other one is as it was
 pub record Stored (i : ℕ) (a : Line) (old new : List ℕ) : Type 0 where
   pub long : length new ≡ length old
   pub here : lineAt new i ≡ a
   pub elsewhere : (j : ℕ) → (j ≡ i → ⊥) → lineAt new j ≡ lineAt old j
+  pub behind : SameBehind (lineLength * i + lineLength) old new
 
 -- n lines and one more make r, and where these are not too many, they stand there
 pub record Inserted (n : ℕ) (a : Line) (old new : List ℕ) (r : ℕ) : Type 0 where
   pub long : length new ≡ length old
   pub count : r ≡ length (insert a (linesAt old n))
   pub lines : r ≤ maxLines → linesAt new r ≡ insert a (linesAt old n)
+  pub behind : SameBehind (lineLength * r) old new
 
 -- n lines and these rows make r, or too many
 pub record AddedRows (n : ℕ) (rows : List Row) (old new : List ℕ) (r : ℕ) : Type 0 where
   pub long : length new ≡ length old
   pub lines : r ≤ maxLines → linesAt new r ≡ addRows rows (linesAt old n)
   pub many : maxLines < r → maxLines < length (addRows rows (linesAt old n))
+  pub grows : r ≤ maxLines → n ≤ r
+  pub behind : r ≤ maxLines → SameBehind (lineLength * r) old new
 
 -- ---- the test of the lines, one after the other
 
@@ -105,6 +114,14 @@ tallyOf t lines = record {
   over = t .over;
   scan = scanOf (t .scan);
 }
+
+-- a tally after blocks: what stands behind its lines is as it was, unless a transmitter was one too many; then its lines stood there before
+pub record Grows (t r : Tally) (old new : List ℕ) : Type 0 where
+  pub few : r .count ≤ maxLines
+  pub before : r .over ≡ false → t .over ≡ false
+  pub count : r .over ≡ false → t .count ≤ r .count
+  pub behind : r .over ≡ false → SameBehind (lineLength * r .count) old new
+  pub held : r .over ≡ true → linesAt new (r .count) ≡ linesAt old (r .count)
 
 -- a tally that some blocks give, so that no number goes past its end
 pub record Sane (t : pieces.Tally) : Type 0 where

@@ -1,5 +1,8 @@
 -- What the calls over a report show (document 02, A12).
 use Prim.Native.Nat.{ℕ}
+use mathlib.Core.Bool.{cond}
+use mathlib.Core.List.{List}
+use lib.Dec.{eqb}
 use Rattle.refusal.specs.Number.{numberOf}
 use Rattle.refusal.specs.declared.Refusal.the-variants.{Mismatch}
 use Rattle.archive.specs.declared.Outcome.{Outcome}
@@ -16,9 +19,9 @@ use Rattle.report.specs.declared.Share.the-variants as share
 use Rattle.report.specs.declared.Looked.{Looked}
 use Rattle.report.specs.declared.Looked.the-variants as looked
 use Rattle.report.specs.declared.LineAt.{LineAt}
-use Rattle.report.specs.Lines.{linesAt}
+use Rattle.report.specs.Lines.{linesAt, written}
 
--- ---- what a report says: its lines are the first `count`, and what stands past them is left to the program
+-- ---- what a report says: its lines are the first `count`
 
 abbrev pub reportOf : Report → model.Report
 reportOf s = record { archives = s .archives; lines = linesAt (s .lines) (s .count); kept = s .kept; loose = s .loose }
@@ -74,3 +77,15 @@ addingOf a = record {
 
 abbrev pub feedResult : Fed → pieces.Feeding
 feedResult r = pieces.fed (takenNumber (r .answer)) (addingOf (r .next))
+
+-- ---- every number of the lines' array: the lines, and what stood behind them; beside a refusal all as it was
+
+abbrev pub linesAdded : model.Addition → List ℕ → List ℕ
+linesAdded a old = cond (eqb (a .number) 0) (written (a .next .lines) old) old
+
+abbrev pub linesFed : pieces.Feeding → List ℕ → List ℕ
+linesFed a old = cond (eqb (a .number) 0) (written (a .next .tally .lines) old) old
+
+-- at the end those that were added to are the report's
+abbrev pub linesEnded : model.Addition → List ℕ → List ℕ → List ℕ
+linesEnded a new old = cond (eqb (a .number) 0) new old

@@ -12,14 +12,14 @@ use tally::Tally;
 ghost use mathlib.Core.Path.{_≡_};
 ghost use mathlib.Core.Bool.{cond};
 ghost use Prim.Native.Nat.{_+_, _*_, _^_, _≤_, _<_};
-ghost use lib.ListN.{length};
+ghost use lib.ListN.{replicate};
 ghost use Rattle.refusal.specs.Number.{numberOf};
 ghost use Rattle.layout.specs.Block.{blockLength};
 ghost use Rattle.report_model.specs.Report as model;
 ghost use Rattle.archive_model.specs.Buffer.{None, isWhole, maxBlocks};
-ghost use Rattle.report_model.specs.Pieces.{closed, closing, startAdding, isAdding, fed, feedOf, endedOf};
+ghost use Rattle.report_model.specs.Pieces.{adding, closed, closing, startAdding, isAdding, fed, feedOf, endedOf};
 ghost use Rattle.report.specs.Lines.{linesLength};
-ghost use Rattle.report.specs.Report.{reportOf, addedResult, shareResult, lineResult, addingOf, feedResult};
+ghost use Rattle.report.specs.Report.{reportOf, addedResult, shareResult, lineResult, addingOf, feedResult, linesAdded, linesFed, linesEnded};
 ghost use Rattle.report.specs.Private.{tallyOf, keptWith, noLineFor, Starts};
 
 // The numbers of a line.
@@ -88,6 +88,7 @@ impl Report {
     // Before the first archive.
     pub fn empty() -> Report
         ensures { λ r. ⌜ reportOf r ≡ model.emptyReport ⌝ }
+        ensures { λ r. ⌜ r .lines ≡ replicate linesLength 0 ⌝ }
     {
         Report {
             archives: 0,
@@ -102,6 +103,7 @@ impl Report {
     // transmitter; then the report is as it was.
     pub fn add(self, buffer: &[u8]) -> Added
         ensures { λ r. ⌜ addedResult r ≡ model.addOf (reportOf self) (now (buffer .entry)) ⌝ }
+        ensures { λ r. ⌜ r .next .lines ≡ linesAdded (model.addOf (reportOf self) (now (buffer .entry))) (self .lines) ⌝ }
     {
         if !is_report(self) {
             return kept(self, Refusal::NotAccepted);
@@ -158,6 +160,7 @@ impl Adding {
     // Before the first piece.
     pub fn start(report: Report) -> Adding
         ensures { λ r. ⌜ addingOf r ≡ startAdding (reportOf report) ⌝ }
+        ensures { λ r. ⌜ (r .before ≡ report) × (r .lines ≡ report .lines) ⌝ }
     {
         let scan = Scan::start();
         let lines = report.lines;
@@ -176,6 +179,8 @@ impl Adding {
     // blocks or brings more than 2^32 of them in all; then nothing is changed.
     pub fn feed(self, piece: &[u8]) -> Fed
         ensures { λ r. ⌜ feedResult r ≡ feedOf (addingOf self) (now (piece .entry)) ⌝ }
+        ensures { λ r. ⌜ (r .next .before ≡ self .before)
+            × (r .next .lines ≡ linesFed (feedOf (addingOf self) (now (piece .entry))) (self .lines)) ⌝ }
     {
         if !is_adding(self) {
             return unchanged(self, Refusal::NotAccepted);
@@ -186,25 +191,17 @@ impl Adding {
         }
         let mut lines = self.lines;
         let t = tally::add_blocks(&mut lines, so_far(self), piece);
-        let before = self.before;
-        let passed = t.scan;
-        Fed {
-            next: Adding {
-                before,
-                scan: passed,
-                count: t.count,
-                kept: t.kept,
-                loose: t.loose,
-                over: t.over,
-                lines,
-            },
-            answer: Taken::Done,
+        if t.over {
+            let was = self.lines;
+            return taken(self, t, was);
         }
+        taken(self, t, lines)
     }
 
     // What `add` answers for all pieces that were taken, as one archive. Refused: 11, 12 with the position, 10, 17; then the report is as it was.
     pub fn end(self) -> Added
         ensures { λ r. ⌜ addedResult r ≡ endedOf (addingOf self) ⌝ }
+        ensures { λ r. ⌜ r .next .lines ≡ linesEnded (endedOf (addingOf self)) (self .lines) (self .before .lines) ⌝ }
     {
         let before = self.before;
         if !is_adding(self) {
@@ -217,7 +214,7 @@ impl Adding {
 
 // No line.
 fn no_lines() -> [u64; Report::MAX_LINES * LINE_LENGTH]
-    ensures { λ r. ⌜ length r ≡ linesLength ⌝ }
+    ensures { λ r. ⌜ r ≡ replicate linesLength 0 ⌝ }
 {
     [0u64; Report::MAX_LINES * LINE_LENGTH]
 }
@@ -248,7 +245,7 @@ fn is_report(report: Report) -> bool
 
 // The report stays as it was.
 fn kept(s: Report, why: Refusal) -> Added
-    ensures { λ r. ⌜ addedResult r ≡ keptWith s why ⌝ }
+    ensures { λ r. ⌜ (addedResult r ≡ keptWith s why) × (r .next .lines ≡ s .lines) ⌝ }
 {
     Added {
         next: s,
@@ -285,7 +282,8 @@ fn start(count: usize, kept: u64, loose: u64) -> Tally
 
 // What a report is after all blocks.
 fn close(before: Report, t: Tally, lines: [u64; Report::MAX_LINES * LINE_LENGTH]) -> Added
-    ensures { λ r. ⌜ addedResult r ≡ closing (reportOf before) (tallyOf t lines) ⌝ }
+    ensures { λ r. ⌜ (addedResult r ≡ closing (reportOf before) (tallyOf t lines))
+        × (r .next .lines ≡ linesEnded (addedResult r) lines (before .lines)) ⌝ }
 {
     let scan = t.scan;
     let stage = scan.stage;
@@ -302,7 +300,8 @@ fn close(before: Report, t: Tally, lines: [u64; Report::MAX_LINES * LINE_LENGTH]
 
 // The same where every block matches.
 fn sum_up(before: Report, t: Tally, lines: [u64; Report::MAX_LINES * LINE_LENGTH]) -> Added
-    ensures { λ r. ⌜ addedResult r ≡ closed (reportOf before) (tallyOf t lines) None ⌝ }
+    ensures { λ r. ⌜ (addedResult r ≡ closed (reportOf before) (tallyOf t lines) None)
+        × (r .next .lines ≡ linesEnded (addedResult r) lines (before .lines)) ⌝ }
 {
     let archives = before.archives;
     if Report::MAX_ARCHIVES <= archives {
@@ -341,11 +340,32 @@ fn so_far(a: Adding) -> Tally
 
 // Nothing is changed.
 fn unchanged(a: Adding, why: Refusal) -> Fed
-    ensures { λ r. ⌜ feedResult r ≡ fed (numberOf why) (addingOf a) ⌝ }
+    ensures { λ r. ⌜ (feedResult r ≡ fed (numberOf why) (addingOf a)) × (r .next ≡ a) ⌝ }
 {
     Fed {
         next: a,
         answer: Taken::Refused(why),
+    }
+}
+
+// What is known after the blocks of a piece, with these lines.
+fn taken(a: Adding, t: Tally, lines: [u64; Report::MAX_LINES * LINE_LENGTH]) -> Fed
+    ensures { λ r. ⌜ (feedResult r ≡ fed 0 (adding (reportOf (a .before)) (tallyOf t lines)))
+        × (r .next .before ≡ a .before) × (r .next .lines ≡ lines) ⌝ }
+{
+    let before = a.before;
+    let scan = t.scan;
+    Fed {
+        next: Adding {
+            before,
+            scan,
+            count: t.count,
+            kept: t.kept,
+            loose: t.loose,
+            over: t.over,
+            lines,
+        },
+        answer: Taken::Done,
     }
 }
 

@@ -18,7 +18,7 @@ ghost use Rattle.archive_model.specs.Buffer.{blocksIn, maxBlocks};
 ghost use Rattle.report_model.specs.Report.{maxLines, isRising, looseIn, lineOf};
 ghost use Rattle.report_model.specs.Pieces.{addBlock, addBlocks};
 ghost use Rattle.report.specs.Lines.{linesLength, linesAt};
-ghost use Rattle.report.specs.Private.{rowsBetween, totalOf, Inserted, AddedRows, tallyOf, Sane};
+ghost use Rattle.report.specs.Private.{rowsBetween, totalOf, Inserted, AddedRows, tallyOf, Grows, Sane};
 
 // Whether a cell says LOOSE.
 fn is_loose(cell: &[u8]) -> bool
@@ -113,6 +113,7 @@ fn add_block(lines: &mut [u64], t: Tally, block: &[u8]) -> Tally
     requires { ⌜ (length (now block) ≡ blockLength) × (length (now lines) ≡ linesLength) × (t .scan .blocks < maxBlocks)
         × Sane (tallyOf t (now lines)) ⌝ }
     ensures { λ r. ⌜ tallyOf r (now (lines .exit)) ≡ addBlock (tallyOf t (now (lines .entry))) (now (block .entry)) ⌝ }
+    ensures { λ r. ⌜ Grows t r (now (lines .entry)) (now (lines .exit)) × (r .over ≡ true → r .count ≡ 0) ⌝ }
 {
     let scan = t.scan;
     let passed = scan.rows;
@@ -142,6 +143,7 @@ pub(crate) fn add_blocks(lines: &mut [u64], t: Tally, piece: &[u8]) -> Tally
         × Sane (tallyOf t (now lines)) ⌝ }
     ensures { λ r. ⌜ tallyOf r (now (lines .exit))
         ≡ addBlocks (tallyOf t (now (lines .entry))) (blocksIn (now (piece .entry))) ⌝ }
+    ensures { λ r. ⌜ Grows t r (now (lines .entry)) (now (lines .exit)) ⌝ }
 {
     let mut at = t;
     for i in 0..piece.len() / BLOCK_LENGTH {

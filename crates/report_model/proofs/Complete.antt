@@ -17,12 +17,13 @@ use Rattle.archive_model.specs.Claims.{isFit}
 use Rattle.archive_model.proofs.Claims.{read-back}
 use Rattle.archive_model.proofs.Buffers.{pieces}
 use Rattle.report_model.specs.Report.{Line, Report, emptyReport, maxArchives, maxLines, lineOf, addRows, keptIn, looseIn, isLine, sumBy, isTally, isReport, added}
-use Rattle.report_model.specs.Claims.{addAll, noneRefused, rowsOfAll, Complete}
+use Rattle.report_model.specs.Claims.{areBytes, addAll, noneRefused, rowsOfAll, Complete}
 use Rattle.report_model.proofs.Order.{add-append}
 use Rattle.report_model.proofs.Lines.{more-added, kept-added, loose-added, kinds}
 use Rattle.report_model.proofs.Additions.{Passed, facts, Taken, Known, added-report}
-use Rattle.report_model.proofs.Bytes.{all-part}
-use Rattle.report_model.proofs.Making.{madeRows, rows-lines, all-fit, all-lines}
+use Rattle.report_model.proofs.Bytes.{all-part, all-each}
+use Rattle.report_model.proofs.Written.{isPlain, buffer-bytes}
+use Rattle.report_model.proofs.Making.{madeRows, rows-lines, all-fit, all-lines, all-plain}
 use Rattle.report_model.proofs.Claims.{none-cons, all-cons, rows-cons, After, after-none, after-more}
 
 -- ---- archives of which each is taken
@@ -124,6 +125,11 @@ module _ (s : Report) (h : isReport s ≡ true) where
   abbrev archives : List (List ℕ)
   archives = map archive (upFrom 0 (s .archives))
 
+  are-bytes : all areBytes archives ≡ true
+  are-bytes =
+      all-each areBytes archive
+      (λ j. buffer-bytes (512 * 2 ^ 32) (piece j) (all-part isPlain (maxRows * j) maxRows rows (all-plain (s .lines) (p .each)))) 0 (s .archives)
+
   rows-back : rowsOfAll archives ≡ rows
   unfolding rowsOfAll
   rows-back =
@@ -148,4 +154,4 @@ module _ (s : Report) (h : isReport s ≡ true) where
       λ i. record { archives = n i; lines = l i; kept = k i; loose = o i }
 
 pub complete : Complete
-complete s h = (archives s h, taken s h .0, given s h)
+complete s h = (archives s h, are-bytes s h, taken s h .0, given s h)

@@ -20,13 +20,15 @@ use Rattle.erp1.proofs.Checks.{check-plain}
 use Rattle.buffers.specs.Buffer.{part}
 use Rattle.layout.specs.BigEndian.{be, unbe}
 use Rattle.layout.proofs.BigEndian.{be-length, unbe-be}
-use Rattle.archive_model.specs.Row.{Row}
+use Rattle.archive_model.specs.Row.{Row, isRow}
 use Rattle.archive_model.specs.Identity.{identityOf}
 use Rattle.archive_model.specs.Claims.{isFit}
+use Rattle.report_model.specs.Claims.{areBytes}
 use Rattle.report_model.specs.Report.{Line, lineOf, joined, insert, addRows, isLine, isRising}
 use Rattle.report_model.proofs.Order.{insert-cases, insert-before, insert-same, insert-after, insert-nil, add-comm-rows, add-append, add-none}
 use Rattle.report_model.proofs.Additions.{line-facts, isLineOf}
 use Rattle.report_model.proofs.Bytes.{all-append, all-repeated, all-flat}
+use Rattle.report_model.proofs.Written.{be-bytes, hash-byte, isPlain}
 
 -- ---- a subtelegram of any transmitter: RORG and DATA zero, STATUS zero
 
@@ -58,6 +60,12 @@ bytes-valid : (i : ℕ) → isValid (bytesFor i) ≡ true
 bytes-valid i =
     eq-eqb (checkOf (bytesFor i)) 0
     (sym (check-plain (bytesFor i) (omega (arith, bytes-length i)) (omega (arith, bytes-length i)) (bytes-hashed i) (λ e. omega (arith, bytes-plain i, e))))
+
+bytes-are : (i : ℕ) → areBytes (bytesFor i) ≡ true
+unfolding bytesFor
+bytes-are i =
+    let body : areBytes (bodyFor i) ≡ true = all-append (λ b. ltb b 256) (be 4 i) (0 ∷ []) (be-bytes 4 i) refl in
+    all-append (λ b. ltb b 256) (bodyFor i) (hashOf (bodyFor i) ∷ []) body (and-true (lt-ltb (hashOf (bodyFor i)) 256 (hash-byte (bodyFor i) body)) refl)
 
 abbrev made : ℕ → ℕ → Bool → Row
 made i time loose = record { bytes = bytesFor i; time = time; loose = loose }
@@ -225,12 +233,12 @@ rows-lines (a ∷ lines) h r =
 -- ---- they fit an archive, and each gives a line
 
 isMade : Row → Bool
-isMade r = isFit r && isLine (lineOf r)
+isMade r = isFit r && (isLine (lineOf r) && areBytes (r .bytes))
 
 made-is : (i time : ℕ) (loose : Bool) → i < 2 ^ 32 → time < 2 ^ 64 → isMade (made i time loose) ≡ true
 unfolding isMade
 made-is i time loose n h =
-    and-true (made-fit i time loose h) (isLineOf (made i time loose) (omega (arith, made-identity i time loose n)) h)
+    and-true (made-fit i time loose h) (and-true (isLineOf (made i time loose) (omega (arith, made-identity i time loose n)) h) (bytes-are i))
 
 own-made : (i e t k m : ℕ) → i < 2 ^ 32 → e ≤ t → t < 2 ^ 64 → all isMade (rowsFor i e t k m) ≡ true
 own-made i e t (suc k) m n o h =
@@ -254,8 +262,17 @@ all-weaker p q f (r ∷ rows) h =
 
 pub all-fit : (lines : List Line) → all isLine lines ≡ true → all isFit (madeRows lines) ≡ true
 unfolding isMade
-all-fit lines h = all-weaker isMade isFit (λ r k. both (isFit r) (isLine (lineOf r)) k .0) (madeRows lines) (all-made lines h)
+all-fit lines h = all-weaker isMade isFit (λ r k. both (isFit r) _ k .0) (madeRows lines) (all-made lines h)
 
 pub all-lines : (lines : List Line) → all isLine lines ≡ true → all (λ r. isLine (lineOf r)) (madeRows lines) ≡ true
 unfolding isMade
-all-lines lines h = all-weaker isMade (λ r. isLine (lineOf r)) (λ r k. both (isFit r) (isLine (lineOf r)) k .1) (madeRows lines) (all-made lines h)
+all-lines lines h = all-weaker isMade (λ r. isLine (lineOf r)) (λ r k. both (isLine (lineOf r)) (areBytes (r .bytes)) (both (isFit r) _ k .1) .0) (madeRows lines) (all-made lines h)
+
+pub all-plain : (lines : List Line) → all isLine lines ≡ true → all isPlain (madeRows lines) ≡ true
+unfolding isMade
+all-plain lines h =
+    all-weaker isMade isPlain
+    (λ r k.
+    let w = both (isFit r) _ k in
+    and-true (both (isRow r) _ (w .0) .0) (both (isLine (lineOf r)) (areBytes (r .bytes)) (w .1) .1))
+    (madeRows lines) (all-made lines h)

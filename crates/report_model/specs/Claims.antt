@@ -83,11 +83,12 @@ AnyOrder =
 abbrev pub Sound : Type 0
 Sound = (buffers : List (List ℕ)) → all areBytes buffers ≡ true → isReport (addAll emptyReport buffers) ≡ true
 
--- Complete: a report that is not refused with 11 is what some archives give, none of them refused.
+-- Complete: a report that is not refused with 11 is what some archives of bytes give, none of them refused.
 abbrev pub Complete : Type 0
 Complete =
     (s : Report) → isReport s ≡ true
-    → (buffers : List (List ℕ)) × (noneRefused emptyReport buffers ≡ true) × (addAll emptyReport buffers ≡ s)
+    → (buffers : List (List ℕ)) × (all areBytes buffers ≡ true) × (noneRefused emptyReport buffers ≡ true)
+    × (addAll emptyReport buffers ≡ s)
 
 -- the share t of n rows in a received figure, rounded down
 pub record RoundedDown (t n received : ℕ) : Type 0 where

@@ -181,7 +181,7 @@ pub fn append_at(room: &mut [u8], n: u64, row: &Row) -> Result<(), (Refusal, usi
     Ok(())
 }
 
-/// Row i as it stands: time, LOOSE and bytes, at most 21 of them.
+/// Row i as it stands: time, LOOSE and bytes; a length over 21 does not match.
 pub fn row_at(room: &[u8], i: u64) -> Result<Row, Refusal> {
     if !is_whole(room.len()) {
         return Err(SIZE);
@@ -195,7 +195,10 @@ pub fn row_at(room: &[u8], i: u64) -> Result<Row, Refusal> {
         return Err(OUT_OF_RANGE);
     }
     let cell = &block[FIRST + CELL * i..][..CELL];
-    let n = usize::from(cell[8]).min(LONGEST);
+    let n = usize::from(cell[8]);
+    if n > LONGEST {
+        return Err(MISMATCH);
+    }
     Ok(Row {
         bytes: cell[9..9 + n].to_vec(),
         time: u64::from_be_bytes(cell[..8].try_into().unwrap()),

@@ -1,12 +1,9 @@
 -- `archive::no_row` meets its contract.
 use mathlib.Core.Path.{refl}
-use Rattle.buffers.specs.Buffer.{resized}
-use Rattle.archive.specs.Archive.{readResult}
 use Rattle.archive.proofs.no_row.Statement.{statement}
 use Rattle.archive.proofs.no_row.Tie as tie
 
 returns : tie.Need-returns
-unfolding readResult resized
 returns c = refl
 
 pub no-row-spec : {M : Type 1} → statement M

@@ -9,7 +9,7 @@ use Rattle.c_report.proofs.line.Tie as tie
 returns : tie.Need-returns
 returns c =
     rw (c .looked-number .ensures)
-    (ap answeredLine (c .before .before .line .ensures ∙ ap (λ (r : model.Report). model.lineOfReport r (c .before .before .before .before .args .i)) (c .before .before .before .report-in .ensures)))
+    (ap answeredLine (c .before .before .line .ensures ∙ ap (λ (r : model.Report). model.lineOfReport r (c .before .before .before .before .args .i)) (c .before .before .before .report-in .ensures .0)))
 
 pub line-spec : {M : Type 1} → statement M
 line-spec =

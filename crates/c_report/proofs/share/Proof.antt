@@ -11,12 +11,12 @@ use Rattle.c_report.proofs.share.Tie as tie
 worked-out : tie.Need-returns
 worked-out c =
     ap shareResult (sym (c .before .share2 .given .1)) ∙ c .before .before .before .share .ensures
-    ∙ ap (λ (r : model.Report). model.shareOf r (c .before .before .before .before .before .args .received)) (c .before .before .before .before .report-in .ensures)
+    ∙ ap (λ (r : model.Report). model.shareOf r (c .before .before .before .before .before .args .received)) (c .before .before .before .before .report-in .ensures .0)
 
 refused : tie.Need-returns-2
 refused c =
     ap (λ (n : ℕ). sharing n 0) (c .number .ensures) ∙ ap shareResult (sym (c .before .before .share3 .given .1)) ∙ c .before .before .before .before .share .ensures
-    ∙ ap (λ (r : model.Report). model.shareOf r (c .before .before .before .before .before .before .args .received)) (c .before .before .before .before .before .report-in .ensures)
+    ∙ ap (λ (r : model.Report). model.shareOf r (c .before .before .before .before .before .before .args .received)) (c .before .before .before .before .before .report-in .ensures .0)
 
 pub share-spec : {M : Type 1} → statement M
 share-spec =

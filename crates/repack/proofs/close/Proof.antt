@@ -8,17 +8,11 @@ use denote.Ref.{now}
 use lib.ListN.{length, take, replicate}
 use Rattle.layout.specs.Cell.{cellLength}
 use Rattle.layout.specs.Block.{blockLength}
-use Rattle.buffers.proofs.Segments.{Writing, packed, Begun, begin, begun-length, within, named, skip, lend, lend-sized}
+use Rattle.buffers.proofs.Segments.{Writing, packed, begun-length, within, lend, lend-sized}
 use Rattle.repack_model.specs.Packer.{cellsBlock}
-use Rattle.repack.proofs.Closing.{closed-none, closed-last}
+use Rattle.repack.proofs.Closing.{before, closed-none, closed-last}
 use Rattle.repack.proofs.close.Statement.{statement}
 use Rattle.repack.proofs.close.Tie as tie
-
--- what stands before the last block
-before : (out : List ℕ) (at : ℕ) → at ≤ length out → Begun out (take at out) at out
-before out at h =
-    let z : at - 0 ≡ at = omega arith in
-    named (skip (begin out) at (omega arith) h) (take at out) (ap (λ (n : ℕ). take n out) z)
 
 abbrev cleared : (c : tie.After-clear) → Writing (c .before .before .before .before .before .args .end)
 cleared c =

@@ -1,17 +1,21 @@
--- `repack::pack` meets its contract: each refusal is one case, and else the walk gives the answer.
+-- `repack::pack` meets its contract: each refusal is one case, and else the walk gives the answer, and what stands behind the cells is cleared.
 use mathlib.Core.Path.{_≡_, refl, sym, ap, ap₂, _∙_}
 use mathlib.Core.Bool.{true, false}
 use mathlib.Core.List.{List}
-use Prim.Native.Nat.{ℕ, _+_, _/_, _≤_, _<_}
+use Prim.Native.Nat.{ℕ, _+_, _*_, _/_, _≤_, _<_}
 use native.Mathlib.Omega.{arith}
 use borrow.Author.Needs.{needs}
 use borrow.Author.Tests.{not-true, not-false, leb-true}
 use denote.Ref.{now}
-use lib.ListN.{length}
+use lib.ListN.{length, length-take}
+use Rattle.lists.specs.Lists.{padded}
+use Rattle.layout.specs.Cell.{cellLength}
 use Rattle.layout.specs.Block.{cellsPerBlock, blockLength}
+use Rattle.buffers.proofs.Segments.{Writing, packed, begun-length, wipe, done}
 use Rattle.archive_model.specs.Buffer.{maxBlocks}
 use Rattle.repack_model.specs.Repack.{dropped}
-use Rattle.repack_model.specs.Packer.{pendingLength, Packing, isPacking}
+use Rattle.repack_model.specs.Packer.{pendingLength, Packing, packing, pushed, keptCells, isPacking}
+use Rattle.repack.proofs.Closing.{before}
 use Rattle.repack.proofs.Packs.{packing-facts, pack-no, pack-odd, pack-far, pack-identities, pack-short, pack-list, pack-done}
 use Rattle.repack.proofs.pack.Statement.{statement}
 use Rattle.repack.proofs.pack.Tie as tie
@@ -80,14 +84,42 @@ pack-blocks-requires c κs =
     let f = facts (c .before .before .before .before .before .before .before .before .before) in
     (f .0, f .1, omega arith, omega arith, listable (c .before .before .before))
 
-done : tie.Need-returns-7
-done c =
-    let walk = c .before .before .before .before .before .before in
-    let e = walk .before .before .before .before in
-    let a = e .before .before .before .before .before .before .before .before .before .before .before .before .before .before .args in
-    let w = walk .pack-blocks .ensures .0 in
-    let l = walk .pack-blocks .ensures .1 in
-    (λ j. record { number = 0; count = l .0 j; next = w .packed j; output = w .put j; positions = l .1 j })
+abbrev start : tie.After-pack-blocks → tie.Start
+start w = w .before .before .before .before .before .before .before .before .before .before .before .before .before .before .before .before .before .before
+
+abbrev pending : tie.After-pack-blocks → List ℕ
+pending w = w .pack-blocks .last .0
+
+pending-long : (w : tie.After-pack-blocks) → length (pending w) ≡ pendingLength
+pending-long w = w .pack-blocks .kept .0 ∙ facts (w .before .before .before .before .before .before .before .before .before .before) .0
+
+few : (w : tie.After-pack-blocks) → cellLength * w .pack-blocks .result .used ≤ pendingLength
+few w = omega (arith, w .pack-blocks .ensures .0 .waits)
+
+abbrev walk : tie.After-struct-known → tie.After-pack-blocks
+walk c = c .before .before .before .before .before .before .before
+
+-- the cells that wait, and zeros behind them
+abbrev wiped : tie.After-clear → Writing pendingLength
+wiped c =
+    let w = walk (c .before .before) in
+    packed
+    (wipe (before (pending w) (cellLength * w .pack-blocks .result .used) (omega (arith, few w, pending-long w))) _ pendingLength (c .clear .ensures)
+    (c .clear .kept .0) (few w) (omega (arith, pending-long w)))
+
+packed-now : tie.Need-returns-7
+packed-now c =
+    let k = c .before .before in
+    let w = walk (k .before .before) in
+    let e = w .before .before .before .before in
+    let a = start w .args in
+    let v = w .pack-blocks .ensures .0 in
+    let l = w .pack-blocks .ensures .1 in
+    let n = w .pack-blocks .result .used in
+    let u : n ≡ length (pushed (packing (a .next) (a .used) (now (a .pending))) (keptCells (now (a .identities)) (now (a .piece))) .waiting) / cellLength =
+    omega (arith, ap (λ (p : Packing). length (p .waiting)) (v .packed), length-take (cellLength * n) (pending w), pending-long w, few w) in
+    let z = done (wiped k .begun) (pending-long w) ∙ ap (λ (p : Packing). padded pendingLength (p .waiting)) (v .packed) in
+    (λ j. record { number = 0; count = l .0 j; used = u j; next = v .packed j .next; pending = z j; output = v .put j; positions = l .1 j })
     ∙ pack-done (a .next) (a .used) (now (a .pending)) (now (a .piece)) (now (a .identities)) (now (a .out)) (now (a .positions))
     (told (e .before .before .before .before .before .before)) (e .before .before .before .before .before .if2 .left) (omega arith) (omega arith)
     (omega arith) (listable e)
@@ -121,4 +153,9 @@ pack-spec =
     (λ c. search needs)
     (λ c. search needs)
     (λ c. search needs)
-    done)
+    (λ c. omega (arith, pending-long (walk c)))
+    (λ c κs. search needs)
+    (λ c. begun-length (wiped (c .before .before) .begun) ∙ walk (c .before .before .before .before) .pack-blocks .kept .0)
+    (λ c. search needs)
+    (λ c. search needs)
+    packed-now)

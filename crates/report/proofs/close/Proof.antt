@@ -1,6 +1,6 @@
 -- `report::close` meets its contract.
 use borrow.Author.Needs.{needs}
-use mathlib.Core.Path.{_≡_, sym, ap, _∙_}
+use mathlib.Core.Path.{_≡_, refl, sym, ap, _∙_}
 use Rattle.archive_model.specs.Buffer.{stageFound}
 use Rattle.archive.specs.Archive.{stageOf}
 use Rattle.archive.specs.declared.Stage.{Stage}
@@ -17,13 +17,13 @@ unfolding closing
 at c s e = ap (λ (t : Stage). closed (reportOf (c .args .before)) (tallyOf (c .args .t) (c .args .lines)) (stageFound (stageOf t))) (sym e)
 
 returns : tie.Need-returns
-returns c = c .sum-up .ensures ∙ at (c .before .before .before .before) _ (c .before .enum-told .given .1)
+returns c = (c .sum-up .ensures .0 ∙ at (c .before .before .before .before) _ (c .before .enum-told .given .1), c .sum-up .ensures .1)
 
 returns-2 : tie.Need-returns-2
-returns-2 c = c .sum-up2 .ensures ∙ at (c .before .before .before .before) _ (c .before .enum-told2 .given .1)
+returns-2 c = (c .sum-up2 .ensures .0 ∙ at (c .before .before .before .before) _ (c .before .enum-told2 .given .1), c .sum-up2 .ensures .1)
 
 returns-3 : tie.Need-returns-3
-returns-3 c = c .sum-up3 .ensures ∙ at (c .before .before .before .before) _ (c .before .enum-told3 .given .1)
+returns-3 c = (c .sum-up3 .ensures .0 ∙ at (c .before .before .before .before) _ (c .before .enum-told3 .given .1), c .sum-up3 .ensures .1)
 
 pub close-spec : {M : Type 1} → statement M
 close-spec =
@@ -39,4 +39,4 @@ close-spec =
     returns
     returns-2
     returns-3
-    (λ c. at (c .before .before .before .before) _ (c .before .stage .given .1)))
+    (λ c. (at (c .before .before .before .before) _ (c .before .stage .given .1), refl)))

@@ -1,4 +1,5 @@
 -- `c_pieces::adding::adding_in` meets its contract.
+use mathlib.Core.Path.{refl}
 use borrow.Author.Needs.{needs}
 use Rattle.c_pieces.proofs.adding.adding_in.Statement.{statement}
 use Rattle.c_pieces.proofs.adding.adding_in.Tie as tie
@@ -6,7 +7,7 @@ use Rattle.c_pieces.proofs.adding.adding_in.Tie as tie
 returns : tie.Need-returns
 returns c =
     let s = c .before .before .before .before .before in
-    rw (s .scan-of .ensures, s .before .before .before .before .before .report-in .ensures)
+    (rw (s .scan-of .ensures, s .before .before .before .before .before .report-in .ensures .0), refl)
 
 pub adding-in-spec : {M : Type 1} → statement M
 adding-in-spec =

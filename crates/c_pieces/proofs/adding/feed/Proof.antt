@@ -1,12 +1,13 @@
 -- `c_pieces::adding::feed` meets its contract: beside a refusal nothing is stored, and what is answered is what was handed in.
 use mathlib.Core.Path.{_≡_, refl, sym, ap, ap₂, _∙_}
 use Prim.Native.Nat.{ℕ}
+use mathlib.Core.List.{List}
 use borrow.Author.Needs.{needs}
 use denote.Ref.{now}
 use Rattle.report_model.specs.Pieces.{Tally, Adding, adding, fed, Feeding, feedOf}
-use Rattle.report.specs.Report.{feedResult}
+use Rattle.report.specs.Report.{feedResult, linesFed}
 use Rattle.c_report.specs.Calls.{reportAt}
-use Rattle.c_pieces.specs.Adding.{addingAt}
+use Rattle.c_pieces.specs.Adding.{addingAt, tallyNumbers}
 use Rattle.c_pieces.proofs.Addings.{feed-report, feed-kept}
 use Rattle.c_pieces.proofs.adding.feed.Statement.{statement}
 use Rattle.c_pieces.proofs.adding.feed.Tie as tie
@@ -21,7 +22,13 @@ abbrev expected : tie.After-feed → Feeding
 expected c = feedOf (was c) (now (start c .args .piece))
 
 is : (c : tie.After-feed) → feedResult (c .feed .result) ≡ expected c
-is c = c .feed .ensures ∙ ap (λ (x : Adding). feedOf x (now (start c .args .piece))) (c .before .adding-in .ensures)
+is c = c .feed .ensures .0 ∙ ap (λ (x : Adding). feedOf x (now (start c .args .piece))) (c .before .adding-in .ensures .0)
+
+-- every number of the lines
+lines : (c : tie.After-feed) → c .feed .result .next .lines ≡ linesFed (expected c) (now (start c .args .tally))
+lines c =
+    let a = c .before .adding-in .ensures in
+    c .feed .ensures .1 .1 ∙ ap₂ (λ (x : Adding) (l : List ℕ). linesFed (feedOf x (now (start c .args .piece))) l) (a .0) (a .1)
 
 number : (c : tie.After-taken-number) → c .taken-number .result ≡ expected (c .before) .number
 number c = c .taken-number .ensures ∙ ap (λ (x : Feeding). x .number) (is (c .before))
@@ -34,6 +41,8 @@ refused c =
       result = ap₂ fed (number t) (sym (feed-kept (was f) (now (start f .args .piece)) (λ z. c .if1 .taken (number t ∙ z))));
       numbersStay = λ n. refl;
       linesStay = λ n. refl;
+      numbersAre = λ z. absurd (c .if1 .taken z);
+      linesAre = λ z. absurd (c .if1 .taken z);
     }
 
 taken : tie.Need-returns-2
@@ -45,10 +54,12 @@ taken c =
     record {
       result =
           ap₂ (λ (n : ℕ) (t : Tally). fed n (adding (reportAt (now (a .numbers)) (now (a .lines))) t)) (number t)
-          (c .store .ensures ∙ ap (λ (x : Feeding). x .next .tally) (is f))
+          (c .store .ensures .0 ∙ ap (λ (x : Feeding). x .next .tally) (is f))
           ∙ ap (λ r. fed (expected f .number) (adding r (expected f .next .tally))) (sym (feed-report (was f) (now (a .piece))));
       numbersStay = λ n. absurd (n (e .if1 .left));
       linesStay = λ n. absurd (n (e .if1 .left));
+      numbersAre = λ z. c .store .ensures .1 ∙ ap (λ (x : Feeding). tallyNumbers (x .next .tally)) (is f);
+      linesAre = λ z. c .store .ensures .2 ∙ lines f;
     }
 
 pub feed-spec : {M : Type 1} → statement M

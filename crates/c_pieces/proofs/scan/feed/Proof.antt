@@ -1,25 +1,45 @@
--- `c_pieces::scan::feed` meets its contract.
-use mathlib.Core.Path.{ap, _∙_}
+-- `c_pieces::scan::feed` meets its contract: beside a refusal nothing is stored.
+use mathlib.Core.Path.{_≡_, ap, sym, _∙_}
 use borrow.Author.Needs.{needs}
 use denote.Ref.{now}
 use Rattle.archive_model.specs.Buffer.{Scan}
 use Rattle.archive_model.specs.Append.{Feeding, feedOf}
-use Rattle.c_pieces.specs.Scan.{ScanCall, scanNumbers}
+use Rattle.archive.specs.Archive.{feedResult}
+use Rattle.c_pieces.specs.Scan.{ScanCall, scanAt, scanNumbers, scanShown}
+use Rattle.c_pieces.proofs.Scans.{shown-kept, shown-taken}
 use Rattle.c_pieces.proofs.scan.feed.Statement.{statement}
 use Rattle.c_pieces.proofs.scan.feed.Tie as tie
 
-abbrev shown : Feeding → ScanCall
-shown f = record { number = f .number; numbers = scanNumbers (f .next) }
+abbrev start : tie.After-feed → tie.Start
+start c = c .before .before .before .before .before .before .before
 
-returns : tie.Need-returns
-returns c =
-    let p = c .before .before in
+abbrev expected : tie.After-feed → Feeding
+expected c = feedOf (scanAt (now (start c .args .numbers))) (now (start c .args .piece))
+
+is : (c : tie.After-feed) → feedResult (c .feed .result) ≡ expected c
+is c = c .feed .ensures ∙ ap (λ (x : Scan). feedOf x (now (start c .args .piece))) (c .before .scan-of .ensures)
+
+number : (c : tie.After-taken-number) → c .taken-number .result ≡ expected (c .before) .number
+number c = c .taken-number .ensures ∙ ap (λ (x : Feeding). x .number) (is (c .before))
+
+refused : tie.Need-returns
+refused c =
+    let t = c .before in
+    let f = t .before in
+    shown-kept (now (start f .args .numbers)) (expected f) (t .taken-number .result) (number t) (c .if1 .taken)
+
+taken : tie.Need-returns-2
+taken c =
+    let p = c .before in
     let n = p .before in
-    let f = n .before .before in
-    let s = f .before in
-    let start = s .before .before .before .before .before .before in
-    rw (c .taken-number .ensures, p .stage-position .ensures, n .stage-number .ensures)
-    (ap shown (f .feed .ensures ∙ ap (λ (x : Scan). feedOf x (now (start .args .piece))) (s .scan-of .ensures)))
+    let e = n .before .before in
+    let t = e .before in
+    let f = t .before in
+    let fed = feedResult (f .feed .result) in
+    let was = now (start f .args .numbers) in
+    rw (p .stage-position .ensures, n .stage-number .ensures)
+    (shown-taken was fed (t .taken-number .result) (t .taken-number .ensures) (e .if1 .left)
+    ∙ ap (λ (x : Feeding). scanShown was x) (is f))
 
 pub feed-spec : {M : Type 1} → statement M
 feed-spec =
@@ -32,6 +52,7 @@ feed-spec =
     (λ c κs. search needs)
     (λ c κs. search needs)
     (λ c κs. search needs)
+    refused
     (λ c κs. search needs)
     (λ c κs. search needs)
-    returns)
+    taken)

@@ -1,6 +1,6 @@
 -- `report::Adding::start` meets its contract.
 use borrow.Author.Needs.{needs}
-use mathlib.Core.Path.{ap}
+use mathlib.Core.Path.{refl, ap}
 use mathlib.Core.Bool.{false}
 use Rattle.archive_model.specs.Buffer.{Scan}
 use Rattle.report_model.specs.Pieces.{adding}
@@ -12,7 +12,7 @@ use Rattle.report.proofs.Adding.start.Tie as tie
 returns : tie.Need-returns
 returns c =
     let s = c .before .before .args .report in
-    ap (λ (scan : Scan). adding (reportOf s) (record { lines = linesAt (s .lines) (s .count); kept = s .kept; loose = s .loose; over = false; scan = scan })) (c .before .start .ensures)
+    (ap (λ (scan : Scan). adding (reportOf s) (record { lines = linesAt (s .lines) (s .count); kept = s .kept; loose = s .loose; over = false; scan = scan })) (c .before .start .ensures), (refl, refl))
 
 pub start-spec : {M : Type 1} → statement M
 start-spec =

@@ -3,7 +3,7 @@ use native.Mathlib.Omega.{arith}
 use borrow.Author.Needs.{needs}
 use denote.Ref.{now}
 use mathlib.Core.Path.{_≡_, sym, ap, _∙_}
-use mathlib.Core.Bool.{true, cond}
+use mathlib.Core.Bool.{true, cond, false≢true}
 use mathlib.Core.List.{List, []}
 use Prim.Native.Nat.{ℕ, _+_, _-_, _≤_}
 use lib.ListN.{length}
@@ -23,6 +23,7 @@ use Rattle.report.specs.Private.{rowsBetween, AddedRows, tallyOf}
 use Rattle.report.proofs.Windows.{lines-count, lines-none}
 use Rattle.report_model.proofs.Adding.{rows-after, used-few}
 use Rattle.report.proofs.Blocks.{between-length, loose-few, fed, counted-rows, used-rows, scan-few, over-block, done-block, over-before, over-now}
+use Rattle.report.proofs.Arrays.{grows-over}
 use Rattle.report.proofs.tally.add_block.Statement.{statement}
 use Rattle.report.proofs.tally.add_block.Tie as tie
 
@@ -75,10 +76,12 @@ returns c =
     let t = c .before in
     let f = t .before .before .before in
     let a = start f .args in
-    let xs = now (a .lines) in
-    none-left xs (c .overflowed .result) (f .feed .result .next) (c .overflowed .ensures)
-    ∙ over-block (tallyOf (a .t) xs) (block f) (scanOf (f .feed .result .next)) (scanned f)
-    (over-before (tallyOf (a .t) xs) (ltb maxLines (length (addRows (countedRows (block f)) (linesAt xs (a .t .count))))) (t .if1 .taken))
+    let xs = now (a .lines) in (
+      none-left xs (c .overflowed .result) (f .feed .result .next) (c .overflowed .ensures)
+          ∙ over-block (tallyOf (a .t) xs) (block f) (scanOf (f .feed .result .next)) (scanned f)
+          (over-before (tallyOf (a .t) xs) (ltb maxLines (length (addRows (countedRows (block f)) (linesAt xs (a .t .count))))) (t .if1 .taken)),
+      grows-over (a .t) (c .overflowed .result) xs xs (ap (λ (v : Tally). v .over) (c .overflowed .ensures)) (ap (λ (v : Tally). v .count) (c .overflowed .ensures)),
+    )
 
 add-rows-requires : tie.Need-add-rows-requires
 add-rows-requires c κs =
@@ -100,11 +103,13 @@ returns-2 c =
     let r = t .before .before .before in
     let f = r .before .before .before .before .before in
     let a = start f .args in
-    let xs = now (a .lines) in
-    none-there (r .add-rows .ensures) (c .overflowed2 .result) (f .feed .result .next) (c .overflowed2 .ensures)
-    ∙ over-block (tallyOf (a .t) xs) (block f) (scanOf (f .feed .result .next)) (scanned f)
-    (over-now (tallyOf (a .t) xs) (length (addRows (countedRows (block f)) (linesAt xs (a .t .count))))
-    (omega (arith, r .add-rows .ensures .many (t .if2 .taken), ap (λ (l : List Row). length (addRows l (linesAt xs (a .t .count)))) (rows f))))
+    let xs = now (a .lines) in (
+      none-there (r .add-rows .ensures) (c .overflowed2 .result) (f .feed .result .next) (c .overflowed2 .ensures)
+          ∙ over-block (tallyOf (a .t) xs) (block f) (scanOf (f .feed .result .next)) (scanned f)
+          (over-now (tallyOf (a .t) xs) (length (addRows (countedRows (block f)) (linesAt xs (a .t .count))))
+          (omega (arith, r .add-rows .ensures .many (t .if2 .taken), ap (λ (l : List Row). length (addRows l (linesAt xs (a .t .count)))) (rows f)))),
+      grows-over (a .t) (c .overflowed2 .result) xs _ (ap (λ (v : Tally). v .over) (c .overflowed2 .ensures)) (ap (λ (v : Tally). v .count) (c .overflowed2 .ensures)),
+    )
 
 loose-rows-requires : tie.Need-loose-rows-requires
 loose-rows-requires c κs =
@@ -138,9 +143,20 @@ returns-3 c =
     let t = tallyOf (a .t) xs in
     let is = r .add-rows .ensures .lines (e .if2 .left) ∙ ap (λ (v : List Row). addRows v (linesAt xs (a .t .count))) (rows f) in
     let o = l .loose-rows .ensures ∙ ap looseIn (rows f) in
-    let n : length (countedRows (block f)) ≡ used f = ap length (sym (rows f)) ∙ between-length (block f) 0 (used f) in
-    done-block t (block f) (scanOf (f .feed .result .next)) (scanned f) _ _ _ (e1 .if1 .left) is (few-there (r .add-rows .ensures) (e .if2 .left))
-    (omega (arith, o, n, kinds (countedRows (block f)))) (omega (arith, o))
+    let n : length (countedRows (block f)) ≡ used f = ap length (sym (rows f)) ∙ between-length (block f) 0 (used f) in (
+      done-block t (block f) (scanOf (f .feed .result .next)) (scanned f) _ _ _ (e1 .if1 .left) is (few-there (r .add-rows .ensures) (e .if2 .left))
+          (omega (arith, o, n, kinds (countedRows (block f)))) (omega (arith, o)),
+      (
+        record {
+          few = e .if2 .left;
+          before = λ q. e1 .if1 .left;
+          count = λ q. r .add-rows .ensures .grows (e .if2 .left);
+          behind = λ q. r .add-rows .ensures .behind (e .if2 .left);
+          held = λ q. absurd (false≢true q);
+        },
+        λ q. absurd (false≢true q),
+      ),
+    )
 
 pub add-block-spec : {M : Type 1} → statement M
 add-block-spec =

@@ -14,8 +14,10 @@ use Rattle.archive.proofs.Scans.{blocksFrom, rest-first}
 use Rattle.report_model.specs.Pieces.{Tally, addBlock, addBlocks}
 use Rattle.report.specs.declared.tally.Tally as code
 use Rattle.report.specs.Lines.{linesLength}
-use Rattle.report.specs.Private.{tallyOf, Sane}
+use Rattle.report.specs.Private.{tallyOf, Grows, Sane}
 use Rattle.report.proofs.Blocks.{sane-next, sane-as, blocks-of, blocks-next, blocks-end}
+use Rattle.report.proofs.Windows.{lines-count}
+use Rattle.report.proofs.Arrays.{grows-none, grows-then}
 use Rattle.report.proofs.tally.add_blocks.Statement.{statement}
 use Rattle.report.proofs.tally.add_blocks.Tie as tie
 
@@ -25,6 +27,7 @@ record Adding (lines₀ piece : List ℕ) (at₀ : code.Tally) (i-end : ℕ) (li
   long : length lines ≡ linesLength
   passed : at .scan .blocks ≡ at₀ .scan .blocks + i
   sane : Sane (tallyOf at lines)
+  grows : Grows at₀ at lines₀ lines
   rest : addBlocks (tallyOf at lines) (blocksFrom piece i (i-end - i)) ≡ addBlocks (tallyOf at₀ lines₀) (blocksIn piece)
 
 abbrev Inv-loop : tie.InvT-loop
@@ -47,6 +50,7 @@ loop-holds c =
       long = s .pre .0;
       passed = omega arith;
       sane = s .pre .2;
+      grows = grows-none (a .t) (now (a .lines)) (omega (arith, s .pre .2 .few, lines-count (now (a .lines)) 0 (a .t .count)));
       rest = ap (addBlocks (tallyOf (a .t) (now (a .lines)))) (rest-first (now (a .piece)) _ (omega arith));
     }
 
@@ -73,13 +77,14 @@ loop-again c =
     let v = at .loop .inv in
     let t = tallyOf (at .loop .at) (at .loop .lines) in
     let i = at .loop .i in
-    let e = b .add-block .ensures ∙ ap (addBlock t) (part-ends (blockLength * i) blockLength piece) in
+    let e = b .add-block .ensures .0 ∙ ap (addBlock t) (part-ends (blockLength * i) blockLength piece) in
     record {
       bounded = omega (arith, d .loop-test .taken);
       ends = v .ends;
       long = b .add-block .kept .0 ∙ v .long;
       passed = omega (arith, blocks-of _ t (block d) e, v .passed);
       sane = sane-as e (sane-next (block d) t (v .sane) (omega (arith, v .passed, v .ends, d .loop-test .taken, s .pre .1)));
+      grows = grows-then (s .args .t) (at .loop .at) (b .add-block .result) (now (s .args .lines)) (at .loop .lines) _ (v .grows) (b .add-block .ensures .1 .0) (b .add-block .ensures .1 .1);
       rest = ap (λ (u : Tally). addBlocks u (blocksFrom piece (i + 1) (length piece / blockLength - (i + 1)))) e
           ∙ sym (blocks-next piece t (length piece / blockLength) i (omega (arith, d .loop-test .taken))) ∙ v .rest;
     }
@@ -88,7 +93,10 @@ returns : tie.Need-returns Inv-loop μ-loop
 returns c =
     let at = c .before in
     let s = at .before .before .before in
-    sym (blocks-end (now (s .args .piece)) (tallyOf (at .loop .at) (at .loop .lines)) (length (now (s .args .piece)) / blockLength) (at .loop .i) (omega (arith, c .loop-test .left))) ∙ at .loop .inv .rest
+    let piece = now (s .args .piece) in (
+      sym (blocks-end piece (tallyOf (at .loop .at) (at .loop .lines)) (length piece / blockLength) (at .loop .i) (omega (arith, c .loop-test .left))) ∙ at .loop .inv .rest,
+      at .loop .inv .grows,
+    )
 
 pub add-blocks-spec : {M : Type 1} → statement M
 add-blocks-spec =

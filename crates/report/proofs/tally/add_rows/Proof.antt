@@ -2,7 +2,7 @@
 -- measure: the rows left.
 use native.Mathlib.Omega.{arith}
 use denote.Ref.{now}
-use mathlib.Core.Path.{sym, ap, _∙_}
+use mathlib.Core.Path.{refl, sym, ap, _∙_}
 use mathlib.Core.List.{List}
 use Prim.Native.Nat.{ℕ, _+_, _-_, _*_, _≤_}
 use lib.ListN.{length}
@@ -11,8 +11,11 @@ use Rattle.layout.specs.Block.{headerLength}
 use Rattle.buffers.proofs.Segments.{part-length, part-ends}
 use Rattle.archive_model.specs.Row.{rowIn, isRow}
 use Rattle.report_model.specs.Report.{lineOf}
-use Rattle.report.specs.Lines.{linesAt}
-use Rattle.report.proofs.Windows.{inserted-as}
+use Rattle.report_model.proofs.Lines.{more-insert}
+use Rattle.buffers.specs.Buffer.{part}
+use Rattle.report.specs.Lines.{lineLength, linesAt}
+use Rattle.report.specs.Private.{SameBehind}
+use Rattle.report.proofs.Windows.{lines-count, inserted-as}
 use Rattle.report.proofs.Blocks.{valid-row, Running, running-first, running-next, running-many, running-end}
 use Rattle.report.proofs.tally.add_rows.Statement.{statement}
 use Rattle.report.proofs.tally.add_rows.Tie as tie
@@ -20,6 +23,8 @@ use Rattle.report.proofs.tally.add_rows.Tie as tie
 record Adding (lines₀ : List ℕ) (count : ℕ) (block : List ℕ) (used : ℕ) (lines : List ℕ) (n i : ℕ) : Type 0 where
   bounded : i ≤ used
   running : Running block used (linesAt lines₀ count) n i lines
+  grown : count ≤ n
+  behind : SameBehind (lineLength * n) lines₀ lines
 
 abbrev Inv-loop : tie.InvT-loop
 Inv-loop lines₀ count block used n₀ i₀ lines n i = Adding lines₀ count block used lines n i
@@ -33,6 +38,8 @@ loop-holds c =
     record {
       bounded = omega arith;
       running = running-first (now (s .args .block)) (s .args .used) (s .args .count) (now (s .args .lines)) (s .pre .4) (s .pre .3) (s .pre .5);
+      grown = omega arith;
+      behind = λ k h. refl;
     }
 
 add-cell-requires : tie.Need-add-cell-requires Inv-loop μ-loop
@@ -69,6 +76,8 @@ returns c =
       long = ins .long ∙ at .loop .inv .running .long ∙ sym (s .pre .4);
       lines = λ h. absurd (omega (arith, h, c .if1 .taken));
       many = λ h. running-many block (s .args .used) (at .loop .n) (at .loop .i) (r .add-cell .result) (linesAt (now (s .args .lines)) (s .args .count)) (at .loop .lines) _ (at .loop .inv .running) (d .loop-test .taken) ins h;
+      grows = λ h. absurd (omega (arith, h, c .if1 .taken));
+      behind = λ h. absurd (omega (arith, h, c .if1 .taken));
     }
 
 loop-again : tie.Need-loop-again Inv-loop μ-loop
@@ -79,9 +88,13 @@ loop-again c =
     let s = at .before .before .before in
     let block = now (s .args .block) in
     let ins = inserted-as (ap (λ (l : List ℕ). lineOf (rowIn l)) (part-ends (headerLength + cellLength * at .loop .i) cellLength block)) (r .add-cell .ensures) in
+    let more : at .loop .n ≤ r .add-cell .result =
+    omega (arith, ins .count, lines-count (at .loop .lines) 0 (at .loop .n), more-insert (lineOf (rowIn (part (headerLength + cellLength * at .loop .i) cellLength block))) (linesAt (at .loop .lines) (at .loop .n))) in
     record {
       bounded = omega (arith, d .loop-test .taken);
       running = running-next block (s .args .used) (at .loop .n) (at .loop .i) (r .add-cell .result) (linesAt (now (s .args .lines)) (s .args .count)) (at .loop .lines) _ (at .loop .inv .running) (d .loop-test .taken) ins (c .if1 .left);
+      grown = omega (arith, at .loop .inv .grown, more);
+      behind = λ k h. ins .behind k h ∙ at .loop .inv .behind k (omega (arith, h, more));
     }
 
 returns-2 : tie.Need-returns-2 Inv-loop μ-loop
@@ -93,6 +106,8 @@ returns-2 c =
       long = go .long ∙ sym (s .pre .4);
       lines = λ h. running-end (now (s .args .block)) (s .args .used) (at .loop .n) (at .loop .i) (linesAt (now (s .args .lines)) (s .args .count)) (at .loop .lines) go (c .loop-test .left);
       many = λ h. absurd (omega (arith, h, go .few));
+      grows = λ h. at .loop .inv .grown;
+      behind = λ h. at .loop .inv .behind;
     }
 
 pub add-rows-spec : {M : Type 1} → statement M
