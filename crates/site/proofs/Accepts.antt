@@ -18,7 +18,7 @@ use Rattle.refusal.specs.declared.Refusal.the-variants as refusal
 use Rattle.refusal.proofs.Numbers.{refused-number}
 use Rattle.slots.specs.declared.Rule.{Rule}
 use Rattle.slots.specs.declared.SlotPlan.{SlotPlan}
-use Rattle.slots.specs.Plan.{noSlot, startOf, endOf, rangeAt, empty, lawful}
+use Rattle.slots.specs.Plan.{noSlot, startOf, endOf, rangeAt, empty, isDuration, lawful}
 use Rattle.slots.proofs.Parts.{parts, no-third, third-after}
 use Rattle.timing.specs.Rules.{isKnown, isOffered, ruleOf, transmissionsOf, isLawfulBy}
 use Rattle.site.specs.declared.Assignment.{Assignment}
@@ -59,8 +59,10 @@ own-apart : (a : Assignment) → hasLawfulPlan a ≡ true → pairwise apart (se
 unfolding isLawfulBy
 own-apart a e =
     let n = transmissionsOf (a .slots) in
-    let u = both (isKnown (a .rule) (a .level)) (isOffered (a .rule) (a .level) n && lawful (ruleOf (a .rule) (a .level) n) (a .duration) (a .slots))
+    let t = both (isDuration (a .duration)) (isKnown (a .rule) (a .level) && (isOffered (a .rule) (a .level) n && lawful (ruleOf (a .rule) (a .level) n) (a .duration) (a .slots)))
     e in
+    let u = both (isKnown (a .rule) (a .level)) (isOffered (a .rule) (a .level) n && lawful (ruleOf (a .rule) (a .level) n) (a .duration) (a .slots))
+    (t .1) in
     let v = both (isOffered (a .rule) (a .level) n) (lawful (ruleOf (a .rule) (a .level) n) (a .duration) (a .slots)) (u .1) in
     plan-apart (ruleOf (a .rule) (a .level) n) (a .duration) (a .slots) (v .1) (eqb (a .slots .third) noSlot) refl
 

@@ -69,7 +69,7 @@ clear-row rule level e =
 
 -- ---- the third slot says how many transmissions there are
 
-module _ (rule level n d : ℕ) (p : SlotPlan) (k : isKnown rule level ≡ true) (o : isOffered rule level n ≡ true) (l : lawful (ruleOf rule level n) d p ≡ true) where
+module _ (rule level n d : ℕ) (p : SlotPlan) (t : isDuration d ≡ true) (k : isKnown rule level ≡ true) (o : isOffered rule level n ≡ true) (l : lawful (ruleOf rule level n) d p ≡ true) where
   two : eqb n 2 ≡ true → transmissionsOf p ≡ n
   two e =
       let no-range : empty (cond (eqb n 2) none (thirdOf rule level)) ≡ true = rw e in
@@ -97,8 +97,8 @@ module _ (rule level n d : ℕ) (p : SlotPlan) (k : isKnown rule level ≡ true)
   lawful-by : isLawfulBy rule level d p ≡ true
   unfolding isLawfulBy
   lawful-by =
-      subst (λ (m : ℕ). isKnown rule level && (isOffered rule level m && lawful (ruleOf rule level m) d p) ≡ true) (sym asked)
-      (and-true k (and-true o l))
+      subst (λ (m : ℕ). isDuration d && (isKnown rule level && (isOffered rule level m && lawful (ruleOf rule level m) d p)) ≡ true) (sym asked)
+      (and-true t (and-true k (and-true o l)))
 
 -- ---- the theorems
 
@@ -110,24 +110,25 @@ picked-allowed rule level n d draw p e =
 
 -- and it is lawful under the rule for so many transmissions
 picked : (rule level n d draw : ℕ) (p : SlotPlan) → planBy rule level n d draw ≡ planned p
-    → (isKnown rule level ≡ true) × (isOffered rule level n ≡ true) × (lawful (ruleOf rule level n) d p ≡ true)
+    → (isDuration d ≡ true) × (isKnown rule level ≡ true) × (isOffered rule level n ≡ true) × (lawful (ruleOf rule level n) d p ≡ true)
 picked rule level n d draw p e =
     let a = picked-allowed rule level n d draw p e in
     let w = both (isDuration d) (isKnown rule level && isOffered rule level n) a in
     let v = both (isKnown rule level) (isOffered rule level n) (w .1) in
-    (v .0, v .1, chosen-lawful (ruleOf rule level n) d (plan-by-chosen rule level n d draw .chosen a) p e)
+    (w .0, v .0, v .1, chosen-lawful (ruleOf rule level n) d (plan-by-chosen rule level n d draw .chosen a) p e)
 
 pub plan-by-lawful : PlanByLawful
-plan-by-lawful rule level n d draw p e = let w = picked rule level n d draw p e in lawful-by rule level n d p (w .0) (w .1) (w .2)
+plan-by-lawful rule level n d draw p e = let w = picked rule level n d draw p e in lawful-by rule level n d p (w .0) (w .1) (w .2) (w .3)
 
 pub plan-by-asked : PlanByAsked
-plan-by-asked rule level n d draw p e = let w = picked rule level n d draw p e in asked rule level n d p (w .0) (w .1) (w .2)
+plan-by-asked rule level n d draw p e = let w = picked rule level n d draw p e in asked rule level n d p (w .0) (w .1) (w .2) (w .3)
 
 pub lawful-picked : LawfulPicked
 unfolding isLawfulBy planBy
-lawful-picked rule level d p t e =
+lawful-picked rule level d p e =
     let n = transmissionsOf p in
-    let u = both (isKnown rule level) (isOffered rule level n && lawful (ruleOf rule level n) d p) e in
+    let t = both (isDuration d) (isKnown rule level && (isOffered rule level n && lawful (ruleOf rule level n) d p)) e in
+    let u = both (isKnown rule level) (isOffered rule level n && lawful (ruleOf rule level n) d p) (t .1) in
     let v = both (isOffered rule level n) (lawful (ruleOf rule level n) d p) (u .1) in
     let w = lawful-drawn (ruleOf rule level n) d p (v .1) in
-    (w .0, rw (and-true t (and-true (u .0) (v .0))) (w .1))
+    (w .0, rw (and-true (t .0) (and-true (u .0) (v .0))) (w .1))

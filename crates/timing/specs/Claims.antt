@@ -29,7 +29,8 @@ PlanByAsked = (rule level n d draw : ℕ) (p : SlotPlan) → planBy rule level n
 
 -- every lawful plan is what some draw picks
 abbrev pub LawfulPicked : Type 0
-LawfulPicked = (rule level d : ℕ) (p : SlotPlan) → isDuration d ≡ true → isLawfulBy rule level d p ≡ true
+LawfulPicked =
+    (rule level d : ℕ) (p : SlotPlan) → isLawfulBy rule level d p ≡ true
     → (draw : ℕ) × (planBy rule level (transmissionsOf p) d draw ≡ planned p)
 
 -- document 01's call is the standard rule with its own number of transmissions

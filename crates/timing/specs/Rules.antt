@@ -93,8 +93,8 @@ planBy rule level n d draw =
 abbrev pub transmissionsOf : SlotPlan → ℕ
 transmissionsOf p = cond (eqb (p .third) noSlot) 2 3
 
--- lawful under a rule that has so many transmissions at this level
+-- lawful under a rule that has so many transmissions at this level, for a duration 1 to 65,535
 unfoldable pub isLawfulBy : ℕ → ℕ → ℕ → SlotPlan → Bool
 isLawfulBy rule level d p =
     let n = transmissionsOf p in
-    isKnown rule level && (isOffered rule level n && lawful (ruleOf rule level n) d p)
+    isDuration d && (isKnown rule level && (isOffered rule level n && lawful (ruleOf rule level n) d p))

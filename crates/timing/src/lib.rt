@@ -87,10 +87,15 @@ pub fn plan_by(rule: u8, level: u8, transmissions: u8, duration: u32, draw: u64)
     slots::choose(rule_of(rule, level, transmissions), duration, draw)
 }
 
-// Whether a plan is lawful under a rule that has so many transmissions at this level: two where the third slot reads 255, else three.
+// Whether a plan is lawful under a rule that has so many transmissions at this level: two where the third slot reads 255, else three. Of a duration
+// that is not 1 to 65,535 none is.
 pub fn is_lawful_by(rule: u8, level: u8, duration: u32, plan: SlotPlan) -> bool
     ensures { λ r. ⌜ r ≡ isLawfulBy rule level duration plan ⌝ }
 {
+    let timed = (1 <= duration) & (duration <= slots::MAX_DURATION);
+    if !timed {
+        return false;
+    }
     let n = transmissions_of(plan);
     if !is_known(rule, level) {
         return false;
