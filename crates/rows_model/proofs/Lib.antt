@@ -1,0 +1,7 @@
+pub mod Thinned
+pub mod Rows
+pub mod States
+pub mod Again
+pub mod Recovered
+pub mod Closings
+pub mod Example

@@ -1,0 +1,1 @@
+// The rows of a history alone, and what closes in it: definitions and theorems, no code.
