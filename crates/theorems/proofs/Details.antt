@@ -1,0 +1,163 @@
+-- Each field is the theorem of its crate.
+use Rattle.refusal.proofs.Numbers as refusal
+use Rattle.crc8.proofs.Divided as crc8
+use Rattle.erp1.proofs.Statuses as erp1
+use Rattle.telegram.proofs.Laws as telegram
+use Rattle.erp2_model.proofs.Theorems as erp2_model
+use Rattle.slots.proofs.Chosen as slots
+use Rattle.timing.proofs.Lawful as timing_lawful
+use Rattle.timing.proofs.Laws as timing_laws
+use Rattle.site.proofs.Named as site
+use Rattle.model.proofs.Latest as model_latest
+use Rattle.model.proofs.Counting as model_counting
+use Rattle.model.proofs.Division as model_division
+use Rattle.model.proofs.Isolation as model_isolation
+use Rattle.model.proofs.States as model_states
+use Rattle.model.proofs.Struck as model_struck
+use Rattle.image.proofs.Histories as image_histories
+use Rattle.burst.proofs.Histories as burst
+use Rattle.image.proofs.Isolation as image_isolation
+use Rattle.collector.proofs.Stepping as collector_stepping
+use Rattle.collector.proofs.Sending as collector_sending
+use Rattle.replay_model.proofs.Back as replay_model_back
+use Rattle.replay_model.proofs.Wholes as replay_model_wholes
+use Rattle.replay_model.proofs.Sizes as replay_model_sizes
+use Rattle.replay_model.proofs.Parts as replay_model_parts
+use Rattle.line_input.proofs.Long as line_input
+use Rattle.line_output.proofs.ReadBack as line_output
+use Rattle.streams.proofs.Pieces as streams_pieces
+use Rattle.streams.proofs.Limit as streams_limit
+use Rattle.streams.proofs.Ended as streams_ended
+use Rattle.archive_model.proofs.Claims as archive_model_claims
+use Rattle.archive_model.proofs.Identity as archive_model_identity
+use Rattle.repack_model.proofs.Rows as repack_model_rows
+use Rattle.repack_model.proofs.Salvage as repack_model_salvage
+use Rattle.repack_model.proofs.Removal as repack_model_removal
+use Rattle.repack_model.proofs.Pieces as repack_model_pieces
+use Rattle.cutting.proofs.Claims as cutting
+use Rattle.filling.proofs.Claims as filling
+use Rattle.c_archive.proofs.Claims as c_archive
+use Rattle.c_pieces.proofs.Pieces as c_pieces
+use Rattle.report_model.proofs.Claims as report_model_claims
+use Rattle.report_model.proofs.Complete as report_model_complete
+use Rattle.report_model.proofs.Adding as report_model_adding
+use Rattle.theorems.specs.Details.{Telegrams, SlotPlans, Model, Code, Records, Lines, Archives, Reports, Details}
+
+telegrams : Telegrams
+telegrams = record {
+  zero-means-done = refusal.refused-number;
+  crc-is-remainder = crc8.long-division;
+  status-has-three-parts = erp1.join-split;
+  address-is-removed = telegram.decapsulate-encapsulated;
+  address-is-added = telegram.encapsulate-decapsulated;
+  repeat-follows-formula = telegram.repeat-sent;
+  erp2-rest-is-zero = erp2_model.normal-read;
+  erp2-tables-hold = erp2_model.figures;
+}
+
+slotPlans : SlotPlans
+slotPlans = record {
+  draws-are-lawful = slots.drawn-chosen;
+  lawful-plans-are-drawn = slots.lawful-drawn;
+  requests-are-answered = slots.plan-chosen;
+  requested-plans-are-lawful = timing_lawful.plan-by-lawful;
+  plans-have-requested-size = timing_lawful.plan-by-asked;
+  lawful-plans-are-requested = timing_lawful.lawful-picked;
+  standard-is-default = timing_laws.standard-same;
+  compressed-has-no-level-2 = timing_laws.compressed-level-2;
+  first-is-named = site.names-the-first;
+  drawn-plans-are-accepted = site.drawn-accepted;
+}
+
+model : Model
+model = record {
+  latest-is-credited = model_latest.latest-credited;
+  copies-count-once = model_counting.each-counted-once;
+  asked-copies-are-answers = model_counting.heard-is-answers;
+  below-limit-is-exact = model_counting.below-ceiling;
+  any-number-is-accepted = model_counting.any-number;
+  model-groups-change-nothing = model_division.any-division;
+  model-sensors-are-independent = model_isolation.answers-isolated;
+  model-copies-are-independent = model_isolation.entries-isolated;
+}
+
+code : Code
+code = record {
+  contracts-give-histories = model_states.states-agree;
+  contracts-give-divisions = model_states.states-divide;
+  contracts-give-state = model_states.states-left;
+  contracts-give-independence = model_struck.states-isolated;
+  calls-meet-contracts = image_histories.calls-show;
+  bursts-meet-contracts = burst.burst-shows;
+  code-state-follows-model = image_isolation.collector-left;
+  one-test-is-enough = collector_stepping.told-rightly;
+  sent-follows-model = collector_sending.relayed-sent;
+}
+
+records : Records
+records = record {
+  records-tell-all = replay_model_back.reads-back;
+  records-hold-model = replay_model_wholes.reference-whole;
+  record-length-is-known = replay_model_sizes.sized;
+  records-join = replay_model_parts.in-parts;
+}
+
+lines : Lines
+lines = record {
+  long-lines-are-bad = line_input.long-lines;
+  fronts-decide = line_input.fronts-tell;
+  numbers-come-back = line_output.numbers-back;
+  times-come-back = line_output.time-back;
+  bytes-come-back = line_output.bytes-read;
+  lines-come-back = line_output.lines-back;
+  cuts-change-nothing = streams_pieces.in-pieces;
+  collect-cuts-change-nothing = streams_limit.collected-in-pieces;
+  wrong-start-is-silent = streams_ended.stays-ended;
+}
+
+archives : Archives
+archives = record {
+  sizes-are-limited = archive_model_claims.sizes;
+  written-rows-come-back = archive_model_claims.read-back;
+  last-block-is-enough = archive_model_claims.at-cursor;
+  rows-are-returned = archive_model_claims.row-read;
+  parts-are-checked = archive_model_claims.in-pieces;
+  sensor-is-sender = archive_model_identity.transmitter;
+  blocks-are-accounted = repack_model_rows.accounted;
+  undamaged-is-unchanged = repack_model_salvage.intact;
+  second-salvage-is-same = repack_model_salvage.salvaged-again;
+  rest-is-untouched = repack_model_salvage.untouched;
+  second-removal-is-same = repack_model_removal.removed-again;
+  emptied-blocks-are-counted = repack_model_removal.freed;
+  freed-space-is-used = repack_model_removal.then-append;
+  removals-join = repack_model_removal.both-lists;
+  pieces-are-packed = repack_model_pieces.pieces-packed;
+  second-cut-is-same = cutting.cut-again;
+  cut-is-undone = cutting.undone;
+  cut-changes-one-block = cutting.at-one-block;
+  cleared-end-is-cut = cutting.zeros-behind;
+  together-is-one-by-one = filling.one-by-one;
+  together-is-appended = filling.in-archive;
+  rows-are-put-again = c_archive.given-again;
+  four-numbers-are-enough = c_pieces.scan-back;
+}
+
+reports : Reports
+reports = record {
+  reports-are-valid = report_model_claims.sound;
+  valid-reports-exist = report_model_complete.complete;
+  share-is-rounded-down = report_model_claims.share-rounded-down;
+  pieces-are-whole = report_model_adding.pieces-are-whole;
+}
+
+pub details : Details
+details = record {
+  telegrams = telegrams;
+  slotPlans = slotPlans;
+  model = model;
+  code = code;
+  records = records;
+  lines = lines;
+  archives = archives;
+  reports = reports;
+}

@@ -1,0 +1,75 @@
+-- Each field is the theorem of its crate: if one is missing, or says less than its statement, this file fails the check.
+use Rattle.telegram.proofs.Laws as telegram
+use Rattle.erp2_model.proofs.Theorems as erp2_model
+use Rattle.sameness.proofs.ByFields as sameness
+use Rattle.slots.proofs.Listed as slots
+use Rattle.timing.proofs.Laws as timing
+use Rattle.site.proofs.Accepts as site
+use Rattle.model.proofs.Theorem as model_theorem
+use Rattle.image.proofs.Histories as image_histories
+use Rattle.model.proofs.Latest as model_latest
+use Rattle.model.proofs.Counting as model_counting
+use Rattle.model.proofs.Image as model_image
+use Rattle.image.proofs.Isolation as image_isolation
+use Rattle.collecting.proofs.Printed as collecting
+use Rattle.archive_model.proofs.Claims as archive_model
+use Rattle.repack_model.proofs.Salvage as repack_model_salvage
+use Rattle.repack_model.proofs.Removal as repack_model_removal
+use Rattle.cutting.proofs.Claims as cutting
+use Rattle.c_pieces.proofs.Pieces as c_pieces
+use Rattle.report_model.proofs.Claims as report_model
+use Rattle.cases.proofs.Proved as cases
+use Rattle.theorems.specs.Theorems.{Telegrams, SlotPlans, Collector, Archives, Theorems}
+use Rattle.theorems.proofs.Details.{details}
+
+telegrams : Telegrams
+telegrams = record {
+  bytes-come-back = telegram.build-read;
+  fields-come-back = telegram.read-built;
+  erp2-bytes-come-back = erp2_model.build-read;
+  erp2-fields-come-back = erp2_model.read-built;
+  repeater-raises-level = telegram.repeated;
+  same-by-fields = sameness.same-by-fields;
+}
+
+slotPlans : SlotPlans
+slotPlans = record {
+  lawful-plans-are-listed = slots.plans-listed;
+  requests-get-lawful-plans = timing.plan-by-chosen;
+  sites-accepted-exactly = site.accepts-exactly;
+}
+
+collector : Collector
+collector = record {
+  histories-follow-model = model_theorem.whole-history;
+  code-follows-model = image_histories.collector-histories;
+  groups-change-nothing = image_histories.collector-divisions;
+  latest-decides = model_latest.latest-decides;
+  copies-are-counted = model_counting.numbers-are-answers;
+  restore-is-exact = model_image.exact;
+  sensors-are-independent = image_isolation.collector-isolated;
+  output-follows-model = collecting.collect-prints;
+}
+
+archives : Archives
+archives = record {
+  blocks-are-laid-out = archive_model.by-byte;
+  rows-come-back = archive_model.run;
+  archives-are-exact = archive_model.exact;
+  salvage-keeps-rows = repack_model_salvage.kept;
+  others-remain = repack_model_removal.remains;
+  first-rows-remain = cutting.remains;
+  pieces-are-verified = c_pieces.pieces-verified;
+  totals-are-sums = report_model.totals-are-sums;
+  order-changes-nothing = report_model.any-order;
+}
+
+pub theorems : Theorems
+theorems = record {
+  telegrams = telegrams;
+  slotPlans = slotPlans;
+  collector = collector;
+  archives = archives;
+  examples-hold = cases.every-case;
+  details = details;
+}

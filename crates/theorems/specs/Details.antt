@@ -1,0 +1,230 @@
+-- The further statements that are proved: steps between those of Theorems.antt, and what they leave open. The words are explained there.
+use Prim.Native.Nat.{ℕ}
+use mathlib.Core.List.{List}
+use Rattle.refusal.specs.Claims as refusal
+use Rattle.crc8.specs.Division as crc8
+use Rattle.erp1.specs.Claims as erp1
+use Rattle.telegram.specs.Claims as telegram
+use Rattle.erp2_model.specs.Claims as erp2_model
+use Rattle.slots.specs.Claims as slots
+use Rattle.timing.specs.Claims as timing
+use Rattle.site.specs.declared.Assignment.{Assignment}
+use Rattle.site.specs.Claims as site
+use Rattle.model.specs.View.{View}
+use Rattle.model.specs.Latest as model_latest
+use Rattle.model.specs.Copies as model_copies
+use Rattle.model.specs.Division as model_division
+use Rattle.model.specs.Isolation as model_isolation
+use Rattle.model.specs.States as model_states
+use Rattle.collector.specs.Admission as collector
+use Rattle.image.specs.Histories as image_histories
+use Rattle.image.specs.Isolation as image_isolation
+use Rattle.burst.specs.Histories as burst
+use Rattle.replay_model.specs.Claims as replay_model
+use Rattle.line_input.specs.Claims as line_input
+use Rattle.line_output.specs.Claims as line_output
+use Rattle.streams.specs.Lines.{Program}
+use Rattle.streams.specs.Collect.{Collector}
+use Rattle.streams.specs.Claims as streams
+use Rattle.archive_model.specs.Claims as archive_model
+use Rattle.archive_model.specs.Identity as archive_identity
+use Rattle.repack_model.specs.Claims as repack_model
+use Rattle.cutting.specs.Claims as cutting
+use Rattle.filling.specs.Claims as filling
+use Rattle.c_archive.specs.Claims as c_archive
+use Rattle.c_pieces.specs.Claims as c_pieces
+use Rattle.report_model.specs.Claims as report_model
+
+-- ---- telegrams
+
+pub record Telegrams : Type 0 where
+  -- No refusal has the number 0, which means that the call was done.
+  pub zero-means-done : refusal.NoneIsDone
+  -- The check value (CRC) of each byte is the remainder of a polynomial division.
+  pub crc-is-remainder : crc8.LongDivision
+  -- The status byte consists of its three parts: joined, they give the byte.
+  pub status-has-three-parts : erp1.JoinSplit
+  -- If a receiver's address is added to a telegram and removed again, the bytes are the same.
+  pub address-is-removed : telegram.DecapsulateEncapsulated
+  -- If a receiver's address is removed from a telegram and added again, the bytes are the same.
+  pub address-is-added : telegram.EncapsulateDecapsulated
+  -- The function `repeat` returns what the formula for repeaters gives, for every repeater setting and all bytes.
+  pub repeat-follows-formula : telegram.CallSends
+  -- What is read from ERP2 bytes has zeros wherever the bytes carry nothing.
+  pub erp2-rest-is-zero : erp2_model.NormalRead
+  -- The sizes of ERP2 fields are those in the tables of document 004.
+  pub erp2-tables-hold : erp2_model.Figures
+
+-- ---- slot plans
+
+pub record SlotPlans : Type 0 where
+  -- Each draw picks a lawful plan, or is answered 9, and then no plan is lawful.
+  pub draws-are-lawful : slots.DrawnChosen
+  -- Each lawful plan is picked by some draw.
+  pub lawful-plans-are-drawn : slots.LawfulDrawn
+  -- A request under the standard rule gets a lawful plan, 9 if no plan is lawful, or 10 if an argument is out of range.
+  pub requests-are-answered : slots.PlanChosen
+  -- Under each of the three timing rules, the plan that a request gets is lawful.
+  pub requested-plans-are-lawful : timing.PlanByLawful
+  -- It has as many transmissions as were requested.
+  pub plans-have-requested-size : timing.PlanByAsked
+  -- Each lawful plan is the answer to some request.
+  pub lawful-plans-are-requested : timing.LawfulPicked
+  -- A request that names no rule is a request under the standard rule, with its largest number of transmissions.
+  pub standard-is-default : timing.StandardSame
+  -- Under the compressed rule no plan is lawful at level 2, and the answer is 9.
+  pub compressed-has-no-level-2 : timing.CompressedLevel2
+  -- If the plans of several repeaters are not accepted, the answer names the first unlawful plan, or else the first two plans that overlap.
+  pub first-is-named : (count : ℕ) (repeaters : List Assignment) → site.NamesTheFirst count repeaters
+  -- One repeater with a plan that was drawn is accepted.
+  pub drawn-plans-are-accepted : site.DrawnAccepted
+
+-- ---- the collector: the model
+
+pub record Model : Type 0 where
+  -- A copy is counted for the latest open telegram that is the same, and for no other.
+  pub latest-is-credited : model_latest.LatestCredited
+  -- Each copy is counted for one telegram: the numbers of copies sum to the total of copies.
+  pub copies-count-once : model_copies.EachCountedOnce
+  -- Asked for the copies of an open telegram, the model answers how many copies of it were received, and at most 65,535.
+  pub asked-copies-are-answers : model_copies.HeardIsAnswers
+  -- Below that limit no number of copies is cut off.
+  pub below-limit-is-exact : model_copies.BelowCeiling
+  -- Whether a state is accepted does not depend on its numbers of copies.
+  pub any-number-is-accepted : model_copies.AnyNumber
+  -- In the model, the same receptions get the same answers, one by one or in groups of any size.
+  pub model-groups-change-nothing : model_division.AnyDivision
+  -- In the model, other sensors do not change a sensor's answers, as long as none is loose and time does not go back.
+  pub model-sensors-are-independent : model_isolation.AnswersIsolated
+  -- Nor do they change its open telegrams and their numbers of copies, directly after one of its receptions.
+  pub model-copies-are-independent : model_isolation.EntriesIsolated
+
+-- ---- the collector: any program whose calls meet the contracts, and the code
+
+pub record Code : Type 1 where
+  -- All that such a program answers equals the model's answers, and those of a run without restarts.
+  pub contracts-give-histories : {State : Type 0} (view : State → View) → model_states.StatesAgree view
+  -- It gives the same answers to the same receptions, one by one or in groups of any size.
+  pub contracts-give-divisions : {State : Type 0} (view : State → View) → model_states.StatesDivide view
+  -- Its state after the calls is the model's.
+  pub contracts-give-state : {State : Type 0} (view : State → View) → model_states.StatesLeft view
+  -- Its answers to one sensor do not depend on other sensors, as long as none is loose and time does not go back.
+  pub contracts-give-independence : {State : Type 0} (view : State → View) → model_isolation.StatesIsolated view
+  -- These four statements ask something of each call. The contracts of the code's calls ensure it,
+  pub calls-meet-contracts : image_histories.CallsShow
+  -- and so does the contract of a burst, a call with several receptions.
+  pub bursts-meet-contracts : burst.BurstShows
+  -- The state of the code after any calls is the model's.
+  pub code-state-follows-model : image_isolation.CollectorLeft
+  -- A run of receptions may test its first state only: the test gives the same result for every later state.
+  pub one-test-is-enough : collector.ToldRightly
+  -- After each reception, the telegram that the code sends on is the one that the model says.
+  pub sent-follows-model : collector.RelayedSent
+
+-- ---- the record that a test run of calls writes
+
+pub record Records : Type 0 where
+  -- Two runs with the same record showed the same.
+  pub records-tell-all : replay_model.ReadsBack
+  -- No number of the model is too large for its place in the record.
+  pub records-hold-model : replay_model.ReferenceWhole
+  -- The length of a record depends on the calls alone.
+  pub record-length-is-known : replay_model.Sized
+  -- If calls are made in two parts, the second record continues the first.
+  pub records-join : replay_model.InParts
+
+-- ---- the program `collect`
+
+pub record Lines : Type 1 where
+  -- A line of 150 characters or more is a bad line.
+  pub long-lines-are-bad : line_input.LongLines
+  -- The first 150 characters of a line decide what it says.
+  pub fronts-decide : line_input.FrontsTell
+  -- A number that is printed reads back as that number.
+  pub numbers-come-back : line_output.NumbersBack
+  -- A time that is read is printed as it was written.
+  pub times-come-back : line_output.TimesBack
+  -- Bytes that are printed read back as those bytes.
+  pub bytes-come-back : line_output.BytesBack
+  -- A line that is printed with a time and bytes reads back as these.
+  pub lines-come-back : line_output.LinesBack
+  -- A program over lines gives the same output however its input is cut, if the front of each line decides what the line says.
+  pub cuts-change-nothing : {S : Type 0} (p : Program S) (limit : ℕ) → streams.InPieces p limit
+  -- `collect` is such a program.
+  pub collect-cuts-change-nothing : {C : Type 0} (m : Collector C) → streams.CollectedInPieces m
+  -- After a wrong first line `collect` writes nothing more.
+  pub wrong-start-is-silent : {C : Type 0} (m : Collector C) → streams.StaysEnded m
+
+-- ---- archives
+
+pub record Archives : Type 0 where
+  -- An archive has 0 to 2^32 blocks of 512 bytes and no part of a block: six lengths at these limits are computed.
+  pub sizes-are-limited : archive_model.Sizes
+  -- Rows that are written are read back, and the archive is accepted.
+  pub written-rows-come-back : archive_model.ReadBack
+  -- An append that looks at the last block alone does the same as one that looks at the whole archive.
+  pub last-block-is-enough : archive_model.AtCursor
+  -- Row i of an archive is returned, or the answer is 10 if there are fewer rows.
+  pub rows-are-returned : archive_model.Rows
+  -- A check of an archive's blocks in two parts is one check, and finds the first wrong block or the number of rows.
+  pub parts-are-checked : archive_model.Pieces
+  -- The sensor of a row is the sender that its telegram names, also if it names a receiver.
+  pub sensor-is-sender : archive_identity.Transmitter
+  -- Salvage counts each block as kept, empty or dropped, and lists exactly the dropped ones.
+  pub blocks-are-accounted : (buffer : List ℕ) → repack_model.Accounted buffer
+  -- Salvage returns an undamaged archive unchanged.
+  pub undamaged-is-unchanged : repack_model.Intact
+  -- A second salvage changes nothing.
+  pub second-salvage-is-same : repack_model.SalvagedAgain
+  -- Salvage writes no byte behind its result, and none at all if it is refused.
+  pub rest-is-untouched : (buffer output positions : List ℕ) → repack_model.Untouched buffer output positions
+  -- A second removal of the same sensors changes nothing.
+  pub second-removal-is-same : repack_model.RemovedAgain
+  -- A removal reports how many blocks it emptied, and these are zero.
+  pub emptied-blocks-are-counted : repack_model.Freed
+  -- After a removal, an append uses the free space.
+  pub freed-space-is-used : repack_model.ThenAppend
+  -- Two removals, one after the other, are one removal of the sensors of both.
+  pub removals-join : repack_model.BothLists
+  -- Blocks that are packed piece by piece give the archive of the rows that remain.
+  pub pieces-are-packed : repack_model.PiecesPacked
+  -- A second cut at the same row changes nothing.
+  pub second-cut-is-same : cutting.CutAgain
+  -- If the rows that were cut off are appended again, the bytes are the old ones.
+  pub cut-is-undone : cutting.Undone
+  -- A cut changes one block, keeps those before it and clears those behind it.
+  pub cut-changes-one-block : cutting.AtOneBlock
+  -- If whole blocks are cleared from some block on, what is left is the archive cut there.
+  pub cleared-end-is-cut : cutting.ZerosBehind
+  -- Rows that are put into a block together give the block that they give one by one.
+  pub together-is-one-by-one : filling.OneByOne
+  -- Rows that are put into the last block together are added to the archive's rows.
+  pub together-is-appended : filling.InArchive
+  -- A row that another language reads from an archive can be put into an archive as it is.
+  pub rows-are-put-again : c_archive.GivenAgain
+  -- Four numbers hold all that is known between two pieces of a verification.
+  pub four-numbers-are-enough : c_pieces.ScanBack
+
+-- ---- reports
+
+pub record Reports : Type 0 where
+  -- Whatever archives are added, no later call refuses the report as invalid.
+  pub reports-are-valid : report_model.Sound
+  -- Each report that is not refused as invalid is the report of some archives.
+  pub valid-reports-exist : report_model.Complete
+  -- The share of a report's rows in a number of receptions is in thousandths, rounded down.
+  pub share-is-rounded-down : report_model.ShareRoundedDown
+  -- An archive that is added piece by piece gives what the whole archive gives.
+  pub pieces-are-whole : report_model.PiecesAreWhole
+
+-- ---- all of them
+
+pub record Details : Type 1 where
+  pub telegrams : Telegrams
+  pub slotPlans : SlotPlans
+  pub model : Model
+  pub code : Code
+  pub records : Records
+  pub lines : Lines
+  pub archives : Archives
+  pub reports : Reports

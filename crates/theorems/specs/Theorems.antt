@@ -1,0 +1,121 @@
+-- What is proved of Mooringeye, on one page.
+--
+-- Mooringeye collects the radio telegrams of sensors. Each statement below is proved for all inputs; a test would try some of them. In `a : b.C`, a
+-- is our name for the statement, and C is its exact form, in the file that the line `use .. as b` names. `(x : T) →` means: for every x of the type
+-- T; ℕ is the type of whole numbers from 0. If the proof of a statement is missing, this crate fails the check. Details.antt has the further
+-- statements. Also proved, and not listed: each function in crates/*/src returns for every input, and what it returns and writes is what its
+-- contract says. Not proved but tested: how the programs read and write files.
+--
+--   telegram     what a sensor sends by radio: 8 to 21 bytes. It is received several times, because sensors and repeaters send it again.
+--   level        how often repeaters have sent a telegram again. The status byte of the telegram contains it.
+--   reception    bytes that were received, and the time in milliseconds. If they are a telegram, it is kept as a new one, or it is a copy of an open
+--                one, or it is loose: it is neither, but 64 are open, which is the most. A damaged or late reception is refused.
+--   open         a telegram is open for 100 ms after it was kept.
+--   refused      a call that can't do what was asked returns a number above 0, which says why. 0 means done.
+--   collector    the state that decides on receptions. A checkpoint writes it as 2,560 bytes. After a restart, a restore reads them.
+--   archive      a file of blocks of 512 bytes. A block has up to 15 rows. A row is a kept or loose reception. An append adds a row.
+--   slot plan    the times at which a telegram is sent, up to three. It is lawful if it obeys the radio protocol's timing rules.
+--   papers       the customer's documents 01 (scope) and 02 (changes), and the radio documents 000 to 004.
+use Prim.Native.Nat.{ℕ}
+use mathlib.Core.List.{List}
+use Rattle.telegram.specs.Claims as telegram
+use Rattle.sameness.specs.Sameness as sameness
+use Rattle.erp2_model.specs.Claims as erp2_model
+use Rattle.slots.specs.Claims as slots
+use Rattle.timing.specs.Claims as timing
+use Rattle.site.specs.declared.Assignment.{Assignment}
+use Rattle.site.specs.Claims as site
+use Rattle.model.specs.Exact as model_exact
+use Rattle.model.specs.History as model_history
+use Rattle.model.specs.Latest as model_latest
+use Rattle.model.specs.Copies as model_copies
+use Rattle.image.specs.Histories as image_histories
+use Rattle.image.specs.Isolation as image_isolation
+use Rattle.collecting.specs.Claims as collecting
+use Rattle.archive_model.specs.Claims as archive_model
+use Rattle.repack_model.specs.Claims as repack_model
+use Rattle.cutting.specs.Claims as cutting
+use Rattle.c_pieces.specs.Claims as c_pieces
+use Rattle.report_model.specs.Claims as report_model
+use Rattle.cases.specs.Cases as cases
+use Rattle.theorems.specs.Details.{Details}
+
+-- ---- telegrams, in the radio protocols ERP1 and ERP2
+
+pub record Telegrams : Type 0 where
+  -- If the bytes of a telegram are read, and a telegram is built from its fields, the bytes are the same.
+  pub bytes-come-back : telegram.BuildRead
+  -- If a telegram is built from fields, and its bytes are read, the fields are the same.
+  pub fields-come-back : telegram.ReadBuilt
+  -- In ERP2 too, the bytes are the same.
+  pub erp2-bytes-come-back : erp2_model.BuildRead
+  -- In ERP2 too, the fields are the same, also those that say which optional fields are present.
+  pub erp2-fields-come-back : erp2_model.ReadBuilt
+  -- A repeater sends the telegram that it received, with the level one higher and a new check byte. Nothing else changes.
+  pub repeater-raises-level : telegram.SentRaised
+  -- Two telegrams count as the same exactly if sender, type, receiver, data and the upper bits of the status byte are equal.
+  pub same-by-fields : sameness.SameByFields
+
+-- ---- slot plans
+
+pub record SlotPlans : Type 0 where
+  -- The list of slot plans contains every lawful plan once, in order, and no other plan.
+  pub lawful-plans-are-listed : slots.PlansListed
+  -- A request for a plan gets a lawful plan. It is refused only if an argument is out of range or no plan is lawful.
+  pub requests-get-lawful-plans : timing.PlanByChosen
+  -- The plans of several repeaters are accepted exactly if each plan is lawful and no two transmissions overlap.
+  pub sites-accepted-exactly : (count : ℕ) (repeaters : List Assignment) → site.AcceptsExactly count repeaters
+
+-- ---- the collector
+
+pub record Collector : Type 0 where
+  -- All answers and outputs of any calls, with restarts anywhere, equal those of a model that stores every reception, and of a run without restarts.
+  pub histories-follow-model : model_history.WholeHistory
+  -- The same holds for the states of the code. The proof uses only the contracts of its functions.
+  pub code-follows-model : image_histories.CollectorHistories
+  -- The same receptions get the same answers, whether they are handed over one by one or in groups of any size.
+  pub groups-change-nothing : image_histories.CollectorDivisions
+  -- Of the open telegrams that are the same as a reception, only the latest decides whether the reception is a copy.
+  pub latest-decides : model_latest.LatestDecides
+  -- The number of copies of a telegram is the number of receptions that were answered as copies of it.
+  pub copies-are-counted : model_copies.NumbersAreAnswers
+  -- A restore accepts exactly the bytes that a checkpoint writes, now or in the format before, and gives the state that was written.
+  pub restore-is-exact : model_exact.Exact
+  -- In fewer than 2^64 receptions, none loose and none earlier than the one before, a sensor's answers do not depend on the other sensors.
+  pub sensors-are-independent : image_isolation.CollectorIsolated
+  -- The text that is defined as the output of `collect` has the model's answers and totals, however the input is cut into pieces.
+  pub output-follows-model : collecting.CollectPrints
+
+-- ---- archives, and reports of the totals in archives
+
+pub record Archives : Type 0 where
+  -- Each field of an archive block is at the bytes that the papers say.
+  pub blocks-are-laid-out : archive_model.Layout
+  -- After any appends, reading an archive gives exactly the rows whose append was not refused, in order.
+  pub rows-come-back : archive_model.Run
+  -- An archive that is accepted is byte for byte what is written for its rows.
+  pub archives-are-exact : archive_model.Exact
+  -- If some blocks are damaged, salvage keeps all rows of the other blocks, in order, and changes none.
+  pub salvage-keeps-rows : repack_model.Kept
+  -- If sensors are removed from an archive, exactly the rows of the other sensors remain, in order.
+  pub others-remain : repack_model.Remains
+  -- If an archive is cut back to m rows, exactly its first m rows remain.
+  pub first-rows-remain : cutting.Remains
+  -- An archive that is verified piece by piece gets the answer that the whole archive gets.
+  pub pieces-are-verified : c_pieces.PiecesVerified
+  -- The totals of a report are the sums over the rows of all archives that were added.
+  pub totals-are-sums : report_model.TotalsAreSums
+  -- If no archive is refused, the order in which they are added does not change the report.
+  pub order-changes-nothing : report_model.AnyOrder
+
+-- ---- all of it
+
+pub record Theorems : Type 1 where
+  pub telegrams : Telegrams
+  pub slotPlans : SlotPlans
+  pub collector : Collector
+  pub archives : Archives
+  -- Each worked example of the papers that is marked for proof has the result that the papers give.
+  pub examples-hold : cases.EveryCase
+  -- The further statements, in Details.antt.
+  pub details : Details

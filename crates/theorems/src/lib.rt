@@ -1,0 +1,1 @@
+// What is proved, on one page: no code.
