@@ -168,8 +168,8 @@ uint8_t mooringeye_collector_restore(uint64_t *times, uint8_t *lengths, uint8_t 
                                      size_t image_size);
 
 /* Takes up to 256 receptions, one by one: of each its moment and a record of 22 bytes, whose length is answered with 1 where it is over 21. The reply
- * to each stands at its place; places behind them are untouched. `records_size` is 22 for each moment and `replies_size` a multiple of 24, in bytes.
- * Refused: 11, 6 fewer places than moments, 10 more than 256 moments or a setting over 2; then the state and the places are as they were. */
+ * to each stands at its place; what is behind them is untouched. A part of a place is none.
+ * Refused: 11, 255 where `records_size` is not 22 bytes for each moment, 6 fewer places than moments, 10 more than 256 moments or a setting over 2; then the state and the places are as they were. */
 uint8_t mooringeye_collector_burst(uint64_t *times, uint8_t *lengths, uint8_t *bytes, uint16_t *copies, uint64_t *numbers, uint8_t setting,
                                    const uint64_t *moments, size_t moments_length, const mooringeye_frame *records, size_t records_size,
                                    mooringeye_reply *replies, size_t replies_size);
@@ -297,7 +297,8 @@ uint8_t mooringeye_archive_put_row(uint8_t *block, size_t size, size_t rows, con
 uint8_t mooringeye_archive_put_rows(uint8_t *block, size_t size, size_t rows, const uint64_t *times, size_t times_length,
                                     const mooringeye_row *records, size_t records_size, size_t *position);
 
-/* Row `index` as it stands. `row_size` is sizeof(mooringeye_row). Refused: 16, 10 no such row. */
+/* Row `index` as it stands. `row_size` is sizeof(mooringeye_row). Refused: 16, 10 no such row, 12 a row whose length is over 21, as in no archive; its
+ * block is index / 15. */
 uint8_t mooringeye_archive_row(const uint8_t *buffer, size_t size, size_t index, mooringeye_row *row, size_t row_size, uint64_t *time);
 
 /* Packs what is right of a damaged archive into `out`, zeros behind it up to the buffer's size, and the positions of the blocks that were dropped

@@ -3,13 +3,14 @@
 use c_pieces::packer;
 use c_pieces::scan;
 ghost use mathlib.Core.Path.{_≡_};
+ghost use lib.ListN.{getD};
 ghost use Rattle.archive_model.specs.Append as calls;
 ghost use Rattle.repack_model.specs.Repack as repack;
 ghost use Rattle.cutting.specs.Cut.{cutOf, cutBlockOf};
 ghost use Rattle.filling.specs.Fill.{putRowsGiven};
 ghost use Rattle.c_archive.specs.Calls.{rowCall};
 ghost use Rattle.c_pieces.specs.Scan.{scanAt, scanCall, scanEnd};
-ghost use Rattle.c_pieces.specs.Packer.{packingAt, packCall, packEnd};
+ghost use Rattle.c_pieces.specs.Packer.{packCall, packEnd};
 
 // How many rows an archive has.
 #[no_mangle]
@@ -196,7 +197,9 @@ pub extern "C" fn mooringeye_pack_feed(
     ensures { λ r. ⌜ record {
       number = r;
       count = now (dropped .exit);
-      next = packingAt (now (numbers .exit)) (now (waiting .exit));
+      used = getD (now (numbers .exit)) 0 0;
+      next = getD (now (numbers .exit)) 1 0;
+      pending = now (waiting .exit);
       output = now (out .exit);
       positions = now (positions .exit);
     }

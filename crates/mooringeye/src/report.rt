@@ -6,13 +6,14 @@ use c_report::NUMBERS;
 ghost use mathlib.Core.Path.{_≡_};
 ghost use Rattle.report_model.specs.Report as model;
 ghost use Rattle.report_model.specs.Pieces as pieces;
-ghost use Rattle.c_report.specs.Calls.{reportAt, Adds, lineCall};
-ghost use Rattle.c_pieces.specs.Adding.{addingAt, Feeds};
+ghost use Rattle.c_report.specs.Calls.{reportAt, reportNumbers, emptyLines, linesWith, Adds, lineCall};
+ghost use Rattle.c_pieces.specs.Adding.{addingAt, tallyNumbers, Feeds};
 
 // A report of no archive.
 #[no_mangle]
 pub extern "C" fn mooringeye_report_empty(numbers: &mut [u64; NUMBERS], lines: &mut [u64; LINES])
-    ensures { λ _. ⌜ reportAt (now (numbers .exit)) (now (lines .exit)) ≡ model.emptyReport ⌝ }
+    ensures { λ _. ⌜ (reportAt (now (numbers .exit)) (now (lines .exit)) ≡ model.emptyReport)
+        × (now (numbers .exit) ≡ reportNumbers model.emptyReport) × (now (lines .exit) ≡ emptyLines) ⌝ }
 {
     c_report::empty(numbers, lines);
 }
@@ -26,6 +27,8 @@ pub extern "C" fn mooringeye_report_add(
     position: &mut usize,
 ) -> u8
     ensures { λ r. ⌜ Adds (model.addOf (reportAt (now (numbers .entry)) (now (lines .entry))) (now (buffer .entry)))
+        (linesWith (model.addOf (reportAt (now (numbers .entry)) (now (lines .entry))) (now (buffer .entry)))
+        (now (lines .entry)))
         (now (numbers .entry)) (now (lines .entry)) r (now (position .exit)) (now (numbers .exit))
         (now (lines .exit)) ⌝ }
 {
@@ -70,8 +73,10 @@ pub extern "C" fn mooringeye_report_start(
     adding: &mut [u64; adding::NUMBERS],
     tally: &mut [u64; LINES],
 )
-    ensures { λ _. ⌜ addingAt (now (numbers .entry)) (now (lines .entry)) (now (adding .exit)) (now (tally .exit))
-        ≡ pieces.startAdding (reportAt (now (numbers .entry)) (now (lines .entry))) ⌝ }
+    ensures { λ _. ⌜ (addingAt (now (numbers .entry)) (now (lines .entry)) (now (adding .exit)) (now (tally .exit))
+        ≡ pieces.startAdding (reportAt (now (numbers .entry)) (now (lines .entry))))
+        × (now (adding .exit) ≡ tallyNumbers (pieces.startTally (reportAt (now (numbers .entry)) (now (lines .entry)))))
+        × (now (tally .exit) ≡ now (lines .entry)) ⌝ }
 {
     adding::start(numbers, lines, adding, tally);
 }
@@ -106,7 +111,7 @@ pub extern "C" fn mooringeye_report_end(
     ensures { λ r. ⌜ Adds
         (pieces.endedOf (addingAt (now (numbers .entry)) (now (lines .entry)) (now (adding .entry))
         (now (tally .entry))))
-        (now (numbers .entry)) (now (lines .entry)) r (now (position .exit)) (now (numbers .exit))
+        (now (tally .entry)) (now (numbers .entry)) (now (lines .entry)) r (now (position .exit)) (now (numbers .exit))
         (now (lines .exit)) ⌝ }
 {
     adding::end(numbers, lines, adding, tally, position)
