@@ -18,6 +18,6 @@ fn run_file(i: usize) {
         os::fail(&name[..n]);
         return;
     }
-    collecting::run_on(input);
+    driver::run_on(input);
     libc::close(input);
 }

@@ -1,6 +1,4 @@
-// A run of the program `collect` (document 01, "Cases"): the lines of its input through the collector. `program` reads and writes.
-pub(crate) mod program;
-
+// A run of the program `collect` (document 01, "Cases"): the lines of its input through the collector.
 use collector::Collector;
 use collector::Summary;
 use collector::acceptable;
@@ -8,8 +6,6 @@ use collector::merging;
 use line_input::Setting;
 use line_output::Row;
 use model::Answer;
-pub use program::run;
-pub use program::run_on;
 ghost use mathlib.Core.Path.{_≡_};
 ghost use mathlib.Core.List.{List, [], _∷_};
 ghost use Prim.Native.Nat.{ℕ, _+_, _*_, _<_, _≤_};

@@ -9,10 +9,10 @@ use Rattle.line_output.specs.Longest.{longestTotals}
 use Rattle.streams.specs.Chunks.{inLine, atLineStart, feed}
 use Rattle.streams.specs.Collect.{Phase, collect}
 use Rattle.streams.specs.Buffer.{isUnended}
-use Rattle.collecting.specs.declared.program.Next.{Next}
-use Rattle.collecting.specs.declared.program.Turn.{Turn}
-use Rattle.collecting.specs.declared.program.Drain.{Drain}
+use Rattle.driver.specs.declared.Next.{Next}
+use Rattle.driver.specs.declared.Turn.{Turn}
+use Rattle.driver.specs.declared.Drain.{Drain}
 use Rattle.collecting.specs.Session.{Receiver, modelCollector, phaseOf, longestLine}
 
 -- no end is longer: the row of a last line without a newline, and the totals
 abbrev pub longestFinish : ℕ

@@ -1,4 +1,4 @@
--- `collecting::program::take_lines` meets its contract. The invariant: the lines of the first `at` bytes were taken.
+-- `driver::take_lines` meets its contract. The invariant: the lines of the first `at` bytes were taken.
 -- The measure is what is left of the input.
 use mathlib.Core.Path.{_≡_, refl}
 use mathlib.Core.Bool.{true, false}
@@ -12,11 +12,11 @@ use Rattle.line_input.specs.Reading.{lineLimit}
 use Rattle.streams.specs.Chunks.{atLineStart, feed}
 use Rattle.streams.specs.Collect.{collect}
 use Rattle.buffers.proofs.Stores.{take-rest}
 use Rattle.collecting.specs.declared.Session.{Session}
 use Rattle.collecting.specs.Session.{modelCollector, phaseOf, Ran}
-use Rattle.collecting.proofs.Draining.{more-taken, none-more, none-left}
-use Rattle.collecting.proofs.program.take_lines.Statement.{statement}
-use Rattle.collecting.proofs.program.take_lines.Tie as tie
+use Rattle.driver.proofs.Draining.{more-taken, none-more, none-left}
+use Rattle.driver.proofs.take_lines.Statement.{statement}
+use Rattle.driver.proofs.take_lines.Tie as tie
 
 failed : {A : Type 0} → false ≡ true → A
 failed e = let z : _≡_ {A = ℕ} 0 1 = cc in absurd (omega arith)

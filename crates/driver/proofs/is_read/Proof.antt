@@ -1,10 +1,10 @@
--- `collecting::program::is_read` meets its contract.
+-- `driver::is_read` meets its contract.
 use mathlib.Core.Path.{_≡_}
 use Prim.Native.Nat.{ℕ}
 use native.Mathlib.Omega.{arith}
 use borrow.Author.Needs.{needs}
-use Rattle.collecting.proofs.program.is_read.Statement.{statement}
-use Rattle.collecting.proofs.program.is_read.Tie as tie
+use Rattle.driver.proofs.is_read.Statement.{statement}
+use Rattle.driver.proofs.is_read.Tie as tie
 
 returns : tie.Need-returns
 returns c e = rw (c .enum-told .given .1)

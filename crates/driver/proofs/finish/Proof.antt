@@ -1,12 +1,12 @@
--- `collecting::program::finish` meets its contract: nothing is kept, or what is kept is one more line.
+-- `driver::finish` meets its contract: nothing is kept, or what is kept is one more line.
 use native.Mathlib.Omega.{arith}
 use lib.ListN.{length-set}
 use borrow.Author.Needs.{needs}
 use denote.Ref.{now}
 use Rattle.collecting.specs.Session.{phaseOf}
-use Rattle.collecting.proofs.Finishing.{no-line-kept, line-kept}
-use Rattle.collecting.proofs.program.finish.Statement.{statement}
-use Rattle.collecting.proofs.program.finish.Tie as tie
+use Rattle.driver.proofs.Finishing.{no-line-kept, line-kept}
+use Rattle.driver.proofs.finish.Statement.{statement}
+use Rattle.driver.proofs.finish.Tie as tie
 
 returns : tie.Need-returns
 returns c =

@@ -1,7 +1,7 @@
--- `collecting::program::end` is safe: where nothing failed, what `finish` asks holds.
+-- `driver::end` is safe: where nothing failed, what `finish` asks holds.
 use borrow.Author.Needs.{needs}
-use Rattle.collecting.proofs.program.end.Statement.{statement}
-use Rattle.collecting.proofs.program.end.Tie as tie
+use Rattle.driver.proofs.end.Statement.{statement}
+use Rattle.driver.proofs.end.Tie as tie
 
 finish-requires : tie.Need-finish-requires
 finish-requires c κs =

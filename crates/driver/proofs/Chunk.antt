@@ -14,8 +14,8 @@ use Rattle.streams.specs.Chunks.{inLine, atLineStart, feed, feedText}
 use Rattle.streams.specs.Collect.{Phase, collect}
 use Rattle.streams.specs.Buffer.{isUnended, keptLine, Carried}
 use Rattle.streams.proofs.Segments.{Drained, left, open-front}
 use Rattle.collecting.specs.Session.{Receiver, modelCollector}
-use Rattle.collecting.specs.Program.{Kept}
+use Rattle.driver.specs.Program.{Kept}
 
 -- ---- what was kept stays while more is read behind it
 

@@ -27,11 +27,11 @@ use Rattle.streams.specs.Collect.{Phase, starting, running, over, collect, firs
 use Rattle.streams.specs.Buffer.{isUnended}
 use Rattle.streams.proofs.Limit.{bounded}
 use Rattle.streams.proofs.Segments.{Drained, none, more, feed-open, open-front}
 use Rattle.collecting.specs.declared.Progress.{Progress}
 use Rattle.collecting.specs.Printed.{printedRow, sentBytes, receptionAt}
 use Rattle.collecting.specs.Session.{Receiver, modelCollector, takenAt, phaseOf, longestLine, longestEnd, Ran}
-use Rattle.collecting.specs.Program.{longestFinish, Kept}
+use Rattle.driver.specs.Program.{longestFinish, Kept}
 use Rattle.collecting.proofs.Taking.{same-length, sent-bytes}
 
 -- ---- how long a text is
 

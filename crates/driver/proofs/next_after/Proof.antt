@@ -1,9 +1,9 @@
--- `collecting::program::next_after` meets its contract: only a failed write is not sound.
+-- `driver::next_after` meets its contract: only a failed write is not sound.
 use mathlib.Core.Path.{sym}
 use borrow.Author.Needs.{needs}
 use borrow.Author.Tests.{not-true, not-false}
-use Rattle.collecting.proofs.program.next_after.Statement.{statement}
-use Rattle.collecting.proofs.program.next_after.Tie as tie
+use Rattle.driver.proofs.next_after.Statement.{statement}
+use Rattle.driver.proofs.next_after.Tie as tie
 
 returns : tie.Need-returns
 returns c = sym (not-true _ (c .if1 .taken))

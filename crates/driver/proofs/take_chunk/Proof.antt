@@ -1,4 +1,4 @@
--- `collecting::program::take_chunk` meets its contract, from what `take_lines` and `carry` say.
+-- `driver::take_chunk` meets its contract, from what `take_lines` and `carry` say.
 use mathlib.Core.Path.{_≡_, sym, _∙_}
 use mathlib.Core.Bool.{true}
 use Prim.Native.Nat.{_-_, _≤_}
@@ -6,11 +6,11 @@ use native.Mathlib.Omega.{arith}
 use lib.ListN.{length, take, length-take}
 use borrow.Author.Needs.{needs}
 use denote.Ref.{now}
 use Rattle.collecting.specs.Session.{phaseOf}
-use Rattle.collecting.specs.Program.{isUnfailed, Drained}
-use Rattle.collecting.proofs.Chunk.{kept-few, kept-open, chunk-position}
-use Rattle.collecting.proofs.program.take_chunk.Statement.{statement}
-use Rattle.collecting.proofs.program.take_chunk.Tie as tie
+use Rattle.driver.specs.Program.{isUnfailed, Drained}
+use Rattle.driver.proofs.Chunk.{kept-few, kept-open, chunk-position}
+use Rattle.driver.proofs.take_chunk.Statement.{statement}
+use Rattle.driver.proofs.take_chunk.Tie as tie
 
 returns : tie.Need-returns
 returns c =

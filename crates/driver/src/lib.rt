@@ -1,7 +1,7 @@
 // The program: reads standard input in large chunks, takes their lines, and writes standard output in large pieces. What it decides is said
 // by the contracts of `take_chunk` and `finish`; the rest turns, reads and writes.
-use crate::Session;
-use crate::Stage;
+use collecting::Session;
+use collecting::Stage;
 use libc::STDERR_FILENO;
 use libc::STDIN_FILENO;
 use libc::STDOUT_FILENO;
@@ -12,8 +12,8 @@ ghost use lib.ListN.{length, take};
 ghost use Rattle.streams.specs.Chunks.{endText, inLine};
 ghost use Rattle.streams.specs.Collect.{collect};
 ghost use Rattle.buffers.specs.Printed.{Printed};
 ghost use Rattle.collecting.specs.Session.{modelCollector, phaseOf, longestLine};
-ghost use Rattle.collecting.specs.Program.{longestFinish, isUnfailed, Kept, Drained, Chunked};
+ghost use Rattle.driver.specs.Program.{longestFinish, isUnfailed, Kept, Drained, Chunked};
 
 // What comes after a chunk.
 pub(crate) enum Next {

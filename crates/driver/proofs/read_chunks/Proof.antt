@@ -1,4 +1,4 @@
--- `collecting::program::read_chunks` is safe and ends. The invariant: what is kept of a line stands at the front of the buffer.
+-- `driver::read_chunks` is safe and ends. The invariant: what is kept of a line stands at the front of the buffer.
 -- The measure is the count of turns left.
 use mathlib.Core.Path.{_≡_, refl}
 use mathlib.Core.List.{List}
@@ -8,9 +8,9 @@ use lib.ListN.{length}
 use borrow.Author.Tests.{not-false}
 use borrow.Author.Needs.{needs}
 use Rattle.streams.specs.Buffer.{isUnended}
-use Rattle.collecting.specs.Program.{Kept}
-use Rattle.collecting.proofs.program.read_chunks.Statement.{statement}
-use Rattle.collecting.proofs.program.read_chunks.Tie as tie
+use Rattle.driver.specs.Program.{Kept}
+use Rattle.driver.proofs.read_chunks.Statement.{statement}
+use Rattle.driver.proofs.read_chunks.Tie as tie
 
 record Reading (buffer₀ out₀ buffer out : List ℕ) (kept : ℕ) : Type 0 where
   bufferLong : length buffer ≡ length buffer₀

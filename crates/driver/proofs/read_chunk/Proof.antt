@@ -1,11 +1,11 @@
--- `collecting::program::read_chunk` meets its contract: reading behind what is kept leaves it as it is.
+-- `driver::read_chunk` meets its contract: reading behind what is kept leaves it as it is.
 use Prim.Native.Nat.{_-_}
 use lib.ListN.{length}
 use borrow.Author.Needs.{needs}
 use denote.Ref.{now}
-use Rattle.collecting.proofs.Chunk.{still-kept}
-use Rattle.collecting.proofs.program.read_chunk.Statement.{statement}
-use Rattle.collecting.proofs.program.read_chunk.Tie as tie
+use Rattle.driver.proofs.Chunk.{still-kept}
+use Rattle.driver.proofs.read_chunk.Statement.{statement}
+use Rattle.driver.proofs.read_chunk.Tie as tie
 
 returns : tie.Need-returns
 returns c e =

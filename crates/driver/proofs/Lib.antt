@@ -1,0 +1,3 @@
+pub mod Draining
+pub mod Chunk
+pub mod Finishing
