@@ -1,15 +1,23 @@
--- What a call that takes lines answers, and what it leaves in what it is lent.
-use Prim.Native.Nat.{ℕ, _*_}
+-- What the calls answer that take lines, read the first line or pass over lines, and what they leave in what they are lent.
+use Prim.Native.Nat.{ℕ, _+_, _*_, _≤_, _<_}
 use mathlib.Core.Path.{_≡_}
-use mathlib.Core.Bool.{Bool, cond, not}
-use mathlib.Core.List.{List}
+use mathlib.Core.Bool.{Bool, true, cond, not}
+use mathlib.Core.List.{List, [], _∷_}
 use lib.Dec.{eqb, ltb}
-use lib.ListN.{length, getD}
+use lib.ListN.{length, getD, take, drop}
+use Rattle.bytes.specs.Bytes.{indexOf}
 use Rattle.refusal.specs.Number.{numberOf}
 use Rattle.refusal.specs.declared.Refusal.the-variants.{NotAccepted, Argument}
 use Rattle.model.specs.Acceptable.{acceptable}
 use Rattle.c_layout.specs.Frame.{wrongSize}
 use Rattle.c_collector.specs.State.{Arrays, stateAt}
+use Rattle.line_input.specs.Ascii.{newline}
+use Rattle.line_input.specs.declared.Setting.{Setting}
+use Rattle.line_input.specs.Reading.{settingOf, lineLimit}
+use Rattle.streams.specs.Chunks.{atLineStart, feed, feedText}
+use Rattle.streams.specs.Collect.{over}
+use Rattle.streams.specs.Buffer.{isUnended}
+use Rattle.collecting.specs.Rows.{lineTicks}
 use Rattle.collecting.specs.Session.{runningAt}
 use Rattle.collecting.specs.Stored.{StoredTo}
 
@@ -17,11 +25,11 @@ use Rattle.collecting.specs.Stored.{StoredTo}
 abbrev pub isSized : ℕ → ℕ → Bool
 isSized moments rows = eqb rows (23 * moments)
 
--- 255, then 11, then 10; 0 if for nothing
+-- 11 before all else, then 255, then 10; 0 if for nothing
 abbrev pub linesNumber : Arrays → ℕ → List ℕ → List ℕ → ℕ
 linesNumber s setting moments rows =
-    cond (not (isSized (length moments) (length rows))) wrongSize
-    (cond (not (acceptable (stateAt s))) (numberOf NotAccepted)
+    cond (not (acceptable (stateAt s))) (numberOf NotAccepted)
+    (cond (not (isSized (length moments) (length rows))) wrongSize
     (cond (ltb 2 setting) (numberOf Argument)
     0))
 
@@ -34,3 +42,38 @@ pub record Lines (s : Arrays) (setting : ℕ) (input : List ℕ) (most : ℕ) (o
       (getD done' 0 0) (getD done' 1 0) (getD done' 2 0) (getD done' 3 0)
   -- beside any other number than 0 all is as it was
   pub stays : (number ≡ 0 → ⊥) → (s' ≡ s) × (out' ≡ out) × (moments' ≡ moments) × (rows' ≡ rows) × (done' ≡ done)
+
+-- ---- the first line
+
+-- the level, or 3 for a line that says none
+abbrev pub levelNumber : Setting → ℕ
+levelNumber (Setting.Level n) = n
+levelNumber Setting.Bad = 3
+
+-- that of the line up to the first newline, or 4 where there is none
+abbrev pub firstNumber : List ℕ → ℕ
+firstNumber input =
+    let n = indexOf newline input in
+    cond (ltb n (length input)) (levelNumber (settingOf (take n input))) 4
+
+-- its characters with the newline
+abbrev pub firstUsed : List ℕ → ℕ
+firstUsed input =
+    let n = indexOf newline input in
+    cond (ltb n (length input)) (n + 1) 0
+
+-- ---- lines that are passed over
+
+-- `used` characters are whole lines, as many as `lines` says, at most `most`; where there are fewer, no further line has ended. They are counted as in a
+-- run that is over, which no line changes.
+pub record SkippedTo (input : List ℕ) (most used lines : ℕ) : Type 0 where
+  pub within : used ≤ length input
+  pub whole : feed lineTicks lineLimit (atLineStart over) (take used input) ≡ atLineStart over
+  pub ticks : lines ≡ length (feedText lineTicks lineLimit (atLineStart over) (take used input))
+  pub few : lines ≤ most
+  pub rest : lines < most → isUnended (drop used input) ≡ true
+
+-- `done` has both, and nothing else
+pub record Skipped (input : List ℕ) (most : ℕ) (done' : List ℕ) : Type 0 where
+  pub long : length done' ≡ 2
+  pub skipped : SkippedTo input most (getD done' 0 0) (getD done' 1 0)

@@ -4,23 +4,34 @@ use c_collector::CAPACITY;
 use c_collector::NUMBERS;
 use c_layout::WRONG_SIZE;
 use collector::Summary;
+use line_input::Setting;
 use refusal::Refusal;
 use telegram::repeater::MAX_SETTING;
 ghost use mathlib.Core.Path.{_≡_};
-ghost use mathlib.Core.List.{List};
+ghost use mathlib.Core.List.{List, [], _∷_};
 ghost use Prim.Native.Nat.{ℕ};
 ghost use lib.ListN.{length};
 ghost use Rattle.model.specs.Exact.{Fits};
 ghost use Rattle.c_collector.specs.State.{arrays, summaryIn, stateAt};
-ghost use Rattle.c_lines.specs.Calls.{isSized, Lines};
+ghost use Rattle.c_lines.specs.Calls.{isSized, Lines, levelNumber, firstNumber, firstUsed, Skipped};
 
 // A row but its time: a byte that is not 0 for LOOSE, its length, and 21 bytes.
 const ROW_LENGTH: usize = 23;
 
+// What a first line is that says no level, and one that has not ended.
+const BAD_LINE: u8 = 3;
+
+const NO_LINE: u8 = 4;
+
 // How many characters were used, how many were written, how many rows, and how many lines.
 pub const DONE: usize = 4;
 
-// Takes whole lines from the start of the input, at most `most`, with one test of the state: 255, then 11, then 10; then all is as it was.
+// The characters of a first line, and those and the number of lines that were skipped.
+pub const FIRST: usize = 1;
+
+pub const SKIPPED: usize = 2;
+
+// Takes whole lines from the start of the input, at most `most`, with one test of the state: 11, then 255, then 10; then all is as it was.
 pub fn lines(
     times: &mut [u64; CAPACITY],
     lengths: &mut [u8; CAPACITY],
@@ -44,11 +55,11 @@ pub fn lines(
         (now (numbers .exit)))
         (now (out .exit)) (now (moments .exit)) (now (rows .exit)) (now (done .exit)) ⌝ }
 {
-    if !is_sized(moments.len(), rows.len()) {
-        return WRONG_SIZE;
-    }
     if !c_collector::is_acceptable(times, lengths, bytes, numbers) {
         return refusal::number(Refusal::NotAccepted);
+    }
+    if !is_sized(moments.len(), rows.len()) {
+        return WRONG_SIZE;
     }
     if MAX_SETTING < setting {
         return refusal::number(Refusal::Argument);
@@ -96,4 +107,45 @@ fn summary_of(copies: &[u16], numbers: &[u64; NUMBERS]) -> Summary
         → Fits (stateAt (arrays times lengths bytes (now (copies .entry)) (now (numbers .entry))))) ⌝ }
 {
     c_collector::summary_in(numbers)
+}
+
+// The level that the first line of a text says, 3 for any other line, 4 where no newline ends it; and its characters with the newline.
+pub fn first_line(input: &[u8], done: &mut [u64; FIRST]) -> u8
+    ensures { λ r. ⌜ (r ≡ firstNumber (now (input .entry))) × (now (done .exit) ≡ firstUsed (now (input .entry)) ∷ []) ⌝ }
+{
+    let end = input.len();
+    let n = bytes::scan::find(input, 0, end, 10);
+    if end <= n {
+        *done = [0];
+        return NO_LINE;
+    }
+    *done = [n as u64 + 1];
+    level_number(line_input::parse_setting(&input[0..n]))
+}
+
+fn level_number(setting: Setting) -> u8
+    ensures { λ r. ⌜ r ≡ levelNumber setting ⌝ }
+{
+    match setting {
+        Setting::Level(n) => n,
+        Setting::Bad => BAD_LINE,
+    }
+}
+
+// Passes over whole lines at the start of a text, at most `most`: how many characters they are, and how many lines.
+pub fn skip_lines(input: &[u8], most: usize, done: &mut [u64; SKIPPED])
+    ensures { λ _. ⌜ Skipped (now (input .entry)) most (now (done .exit)) ⌝ }
+{
+    let end = input.len();
+    let mut at = 0;
+    let mut left = most;
+    while 0 < left {
+        let n = bytes::scan::find(input, at, end, 10);
+        if end <= n {
+            break;
+        }
+        at = n + 1;
+        left -= 1;
+    }
+    *done = [at as u64, (most - left) as u64];
 }

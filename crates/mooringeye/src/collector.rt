@@ -3,13 +3,18 @@ use c_collector::BYTES;
 use c_collector::CAPACITY;
 use c_collector::NUMBERS;
 use c_collector::TOTALS;
+use c_lines::DONE;
+use c_lines::FIRST;
+use c_lines::SKIPPED;
 ghost use mathlib.Core.Path.{_≡_};
+ghost use mathlib.Core.List.{[], _∷_};
 ghost use Rattle.model.specs.Heard.{copiesOf};
 ghost use Rattle.model.specs.Image.{checkpointOf};
 ghost use Rattle.c_collector.specs.State.{arrays, stateAt};
 ghost use Rattle.c_collector.specs.Calls.{Takes, Fresh, totalsCall};
 ghost use Rattle.c_image.specs.Calls.{Restores};
 ghost use Rattle.c_burst.specs.Calls.{Bursts};
+ghost use Rattle.c_lines.specs.Calls.{Lines, firstNumber, firstUsed, Skipped};
 
 // A collector with no telegram open and nothing counted.
 #[no_mangle]
@@ -148,4 +153,60 @@ pub extern "C" fn mooringeye_collector_burst(
         records,
         replies,
     )
+}
+
+// Takes whole lines of text from the start of the input, with the text of their rows and the rows that an archive keeps.
+#[no_mangle]
+pub extern "C" fn mooringeye_collector_lines(
+    times: &mut [u64; CAPACITY],
+    lengths: &mut [u8; CAPACITY],
+    bytes: &mut [u8; BYTES],
+    copies: &mut [u16; CAPACITY],
+    numbers: &mut [u64; NUMBERS],
+    setting: u8,
+    input: &[u8],
+    most: usize,
+    out: &mut [u8],
+    moments: &mut [u64],
+    rows: &mut [u8],
+    done: &mut [u64; DONE],
+) -> u8
+    ensures { λ r. ⌜ Lines (arrays (now (times .entry)) (now (lengths .entry)) (now (bytes .entry))
+        (now (copies .entry)) (now (numbers .entry)))
+        setting (now (input .entry)) most (now (out .entry)) (now (moments .entry)) (now (rows .entry))
+        (now (done .entry)) r
+        (arrays (now (times .exit)) (now (lengths .exit)) (now (bytes .exit)) (now (copies .exit))
+        (now (numbers .exit)))
+        (now (out .exit)) (now (moments .exit)) (now (rows .exit)) (now (done .exit)) ⌝ }
+{
+    c_lines::lines(
+        times,
+        lengths,
+        bytes,
+        copies,
+        numbers,
+        setting,
+        input,
+        most,
+        out,
+        moments,
+        rows,
+        done,
+    )
+}
+
+// The level that the first line of a text says, and the characters of that line.
+#[no_mangle]
+pub extern "C" fn mooringeye_first_line(input: &[u8], done: &mut [u64; FIRST]) -> u8
+    ensures { λ r. ⌜ (r ≡ firstNumber (now (input .entry))) × (now (done .exit) ≡ firstUsed (now (input .entry)) ∷ []) ⌝ }
+{
+    c_lines::first_line(input, done)
+}
+
+// Passes over whole lines at the start of a text.
+#[no_mangle]
+pub extern "C" fn mooringeye_skip_lines(input: &[u8], most: usize, done: &mut [u64; SKIPPED])
+    ensures { λ _. ⌜ Skipped (now (input .entry)) most (now (done .exit)) ⌝ }
+{
+    c_lines::skip_lines(input, most, done);
 }

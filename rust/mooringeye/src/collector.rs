@@ -1,4 +1,5 @@
 //! The collector: receptions go in, and each is answered KEPT, COPY or LOOSE.
+use crate::lines::Lines;
 use crate::raw;
 use crate::refusal::{done, Refusal};
 use crate::telegram::{frame, Telegram};
@@ -192,6 +193,31 @@ impl Collector {
     /// ```
     pub fn burst_into(&mut self, setting: u8, moments: &[u64], records: &[u8], replies: &mut [u8]) -> Result<(), Refusal> {
         done(raw::collector_burst(&mut self.arrays_mut(), setting, moments, records, replies))
+    }
+
+    /// Takes whole lines from the start of a text, at most `most`: each is a time, a space and bytes in hexadecimal. What `collect` prints for them at the
+    /// setting goes into the front of `out`, and the rows of what is KEPT or LOOSE, as [`raw::archive_put_rows`] takes them, into the fronts of `moments` and
+    /// `rows`, which has 23 bytes for each moment. Answers how much of each there is.
+    ///
+    /// It stops after `most` lines, where no place for a row is left, where less than 92 bytes of `out` are left, or where no further line has ended.
+    ///
+    /// Refused, and nothing taken: [`Refusal::WrongSize`] for `rows` of another size, [`Refusal::Argument`] for a setting over 2.
+    ///
+    /// ```
+    /// use mooringeye::Collector;
+    ///
+    /// let text = b"1000 D5090102030400E8\n1012 D5090102030401E9\n1102 D5";
+    /// let (mut out, mut moments, mut rows) = ([0; 4_096], [0; 40], [0; 23 * 40]);
+    /// let done = Collector::new().lines(1, text, 1_000, &mut out, &mut moments, &mut rows).unwrap();
+    /// assert_eq!(&out[..done.written], b"1000 KEPT SEND D5090102030401E9\n1012 COPY\n");
+    /// assert_eq!((done.lines, done.rows, moments[0]), (2, 1, 1_000));
+    /// assert_eq!(&text[done.used..], b"1102 D5"); // this line has not ended
+    /// ```
+    pub fn lines(&mut self, setting: u8, input: &[u8], most: usize, out: &mut [u8], moments: &mut [u64], rows: &mut [u8]) -> Result<Lines, Refusal> {
+        let mut told = [0; raw::LINES_DONE];
+        let mut to = raw::RowsMut { text: out, moments, rows };
+        done(raw::collector_lines(&mut self.arrays_mut(), setting, input, most, &mut to, &mut told))?;
+        Ok(Lines::of(told))
     }
 
     /// How many telegrams are open.

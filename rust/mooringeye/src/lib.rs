@@ -11,6 +11,7 @@
 mod archive;
 mod collector;
 mod erp2;
+mod lines;
 mod pieces;
 mod plans;
 pub mod raw;
@@ -21,6 +22,7 @@ mod telegram;
 pub use archive::{Archive, Row, Rows, Salvaged};
 pub use collector::{Answer, Collector, Reception, Reply, Totals};
 pub use erp2::{Erp2, Extension};
+pub use lines::{skip_lines, FirstLine, Lines};
 pub use pieces::{Adding, Block, Packed, Packer, PieceRows, Scan};
 pub use plans::{Assignment, Rule, Site, SlotPlan};
 pub use refusal::{Refusal, Refused};

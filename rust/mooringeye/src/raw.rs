@@ -24,6 +24,12 @@ pub const TOTALS: usize = 6;
 pub const IMAGE: usize = 2_560;
 /// The bytes of the reply to a reception of a burst: kind, number and a frame.
 pub const REPLY: usize = 24;
+/// The bytes of the longest text of a line.
+pub const LONGEST_ROW: usize = 92;
+/// A line of so many bytes is BAD, whatever else it has.
+pub const LINE_LIMIT: usize = 150;
+/// What lines that were taken are told by: bytes used, bytes of text, rows and lines.
+pub const LINES_DONE: usize = 4;
 /// The numbers of a report beside its lines.
 pub const REPORT_NUMBERS: usize = 4;
 /// The numbers of a line of a report.
@@ -99,6 +105,26 @@ mod c {
             replies: Out,
             replies_size: usize,
         ) -> u8;
+        pub fn mooringeye_collector_lines(
+            times: Out64,
+            lens: Out,
+            bytes: Out,
+            copies: Out16,
+            numbers: Out64,
+            setting: u8,
+            input: In,
+            input_len: usize,
+            most: usize,
+            out: Out,
+            out_len: usize,
+            moments: Out64,
+            moments_len: usize,
+            rows: Out,
+            rows_size: usize,
+            done: Out64,
+        ) -> u8;
+        pub fn mooringeye_first_line(input: In, input_len: usize, used: Out64) -> u8;
+        pub fn mooringeye_skip_lines(input: In, input_len: usize, most: usize, done: Out64);
         pub fn mooringeye_archive_verify(buffer: In, size: usize, rows: Size, position: Size) -> u8;
         pub fn mooringeye_archive_append(buffer: Out, size: usize, bytes: In, len: usize, time: u64, loose: bool, position: Size) -> u8;
         pub fn mooringeye_archive_append_at(buffer: Out, size: usize, n: usize, bytes: In, len: usize, time: u64, loose: bool, position: Size) -> u8;
@@ -349,6 +375,42 @@ pub fn collector_burst(state: &mut ArraysMut<'_>, setting: u8, moments: &[u64], 
     let (to, to_size) = (replies.as_mut_ptr(), replies.len());
     // SAFETY: five arrays of the sizes that the header names and a slice, all `&mut`, and two slices that are read.
     unsafe { c::mooringeye_collector_burst(times, lens, bytes, copies, numbers, setting, at, n, from, from_size, to, to_size) }
+}
+
+// ---- lines of text
+
+/// Where the text and the rows of lines go: `rows` has [`ROW`] bytes for each of the moments.
+pub struct RowsMut<'a> {
+    /// What `collect` prints.
+    pub text: &'a mut [u8],
+    /// When each row was received.
+    pub moments: &'a mut [u64],
+    /// The rest of it.
+    pub rows: &'a mut [u8],
+}
+
+/// Whole lines from the start of a text, at most `most`.
+pub fn collector_lines(state: &mut ArraysMut<'_>, setting: u8, input: &[u8], most: usize, to: &mut RowsMut<'_>, done: &mut [u64; LINES_DONE]) -> u8 {
+    let (times, lens, bytes, copies, numbers) = state.pointers();
+    let (from, n) = (input.as_ptr(), input.len());
+    let (out, out_len) = (to.text.as_mut_ptr(), to.text.len());
+    let (at, at_len) = (to.moments.as_mut_ptr(), to.moments.len());
+    let (rows, size) = (to.rows.as_mut_ptr(), to.rows.len());
+    let told = done.as_mut_ptr();
+    // SAFETY: six arrays of the sizes that the header names and three slices, all `&mut`, and a slice that is read.
+    unsafe { c::mooringeye_collector_lines(times, lens, bytes, copies, numbers, setting, from, n, most, out, out_len, at, at_len, rows, size, told) }
+}
+
+/// The setting of the first line, 3 for another line, 4 for none that has ended; and its bytes.
+pub fn first_line(input: &[u8], used: &mut u64) -> u8 {
+    // SAFETY: a slice that is read, and a number that is `&mut`.
+    unsafe { c::mooringeye_first_line(input.as_ptr(), input.len(), used) }
+}
+
+/// Whole lines at the start of a text, at most `most`: their bytes, and how many they are.
+pub fn skip_lines(input: &[u8], most: usize, done: &mut [u64; 2]) {
+    // SAFETY: a slice that is read, and an array that is `&mut`.
+    unsafe { c::mooringeye_skip_lines(input.as_ptr(), input.len(), most, done.as_mut_ptr()) }
 }
 
 // ---- archives

@@ -143,6 +143,69 @@ fn the_longest_burst() {
 }
 
 #[test]
+fn lines() {
+    let mut state = fresh();
+    assert_eq!(raw::collector_take(&mut state, &VALID, 1_000), 0);
+    let before = image_of(&state);
+    let (mut out, mut moments, mut rows, mut done) = (vec![0xEE; 200], vec![77; 9], vec![0xEE; 23 * 9], [77; raw::LINES_DONE]);
+    let mut refused = |number: u8, setting: u8, n: usize, size: usize| {
+        let mut to = raw::RowsMut { text: &mut out, moments: &mut moments[..n], rows: &mut rows[..size] };
+        assert_eq!(raw::collector_lines(&mut state, setting, b"2000 D5090102030400E8\n", 5, &mut to, &mut done), number);
+        assert_eq!(image_of(&state), before);
+        assert!(untouched(&out) && untouched(&rows) && moments.iter().chain(&done).all(|m| *m == 77));
+    };
+    for n in 0..9 {
+        for size in (0..23 * 9).filter(|size| *size != 23 * n) {
+            refused(WRONG, 0, n, size);
+            refused(WRONG, 3, n, size);
+        }
+        refused(10, 3, n, 23 * n);
+        refused(10, 255, n, 23 * n);
+    }
+}
+
+/// Where a call on lines stops: `most`, the places for rows, the text. What is behind the text and the rows is untouched.
+#[test]
+fn lines_that_do_not_fit() {
+    let text = b"1000 D5090102030400E8\n1000 D5090102030400E8\n2000 D5090102030400E8\nx\n3000 D5";
+    for (most, places, room, expected) in [
+        (0, 9, 400, [0, 0, 0, 0]),
+        (9, 0, 400, [0, 0, 0, 0]),
+        (9, 9, 91, [0, 0, 0, 0]),
+        (9, 9, 92, [22, 32, 1, 1]),
+        (9, 9, 123, [22, 32, 1, 1]),
+        (9, 9, 124, [44, 42, 1, 2]),
+        (1, 9, 400, [22, 32, 1, 1]),
+        (2, 9, 400, [44, 42, 1, 2]),
+        (9, 1, 400, [22, 32, 1, 1]),
+        (9, 2, 400, [66, 74, 2, 3]),
+        (9, 9, 400, [68, 78, 2, 4]),
+    ] {
+        let (mut out, mut moments, mut rows, mut done) = (vec![0xEE; room], vec![77; places], vec![0xEE; 23 * places], [77; raw::LINES_DONE]);
+        let mut to = raw::RowsMut { text: &mut out, moments: &mut moments, rows: &mut rows };
+        assert_eq!(raw::collector_lines(&mut fresh(), 1, text, most, &mut to, &mut done), 0);
+        assert_eq!(done, expected, "{most} lines, {places} places, room for {room} bytes");
+        let [_, written, n, _] = expected.map(|n| n as usize);
+        assert!(untouched(&out[written..]) && untouched(&rows[23 * n..]) && moments[n..].iter().all(|m| *m == 77));
+    }
+}
+
+#[test]
+fn first_lines_and_skipped_lines() {
+    let mut used = 77;
+    for (text, number, size) in
+        [(&b"level 0\n"[..], 0, 8), (b"level 2\nx", 2, 8), (b"level 3\n", 3, 8), (b"\n", 3, 1), (b"level 1", 4, 0), (b"", 4, 0)]
+    {
+        assert_eq!((raw::first_line(text, &mut used), used), (number, size));
+    }
+    let mut done = [77; 2];
+    for (most, expected) in [(0, [0, 0]), (1, [1, 1]), (2, [3, 2]), (3, [4, 3]), (4, [4, 3]), (usize::MAX, [4, 3])] {
+        raw::skip_lines(b"\nx\n\nlast", most, &mut done);
+        assert_eq!(done, expected);
+    }
+}
+
+#[test]
 fn arrays_that_no_collector_has() {
     for content in [1, 8, 64, 0xEE, 0xFF] {
         let mut state = arrays::arrays(content);
@@ -156,7 +219,13 @@ fn arrays_that_no_collector_has() {
         assert_eq!(raw::collector_restore(&mut state, &image_of(&fresh())), 11);
         assert_eq!(raw::collector_burst(&mut state, 9, &[1_000], &[0xEE; 22], &mut image[..24]), 11);
         assert_eq!(raw::collector_burst(&mut state, 9, &[1_000], &[0xEE; 23], &mut image[..24]), 11);
-        assert!(untouched(&image));
+        let (mut moments, mut done) = ([77; 1], [77; raw::LINES_DONE]);
+        for size in [23, 24] {
+            let (text, rows) = image.split_at_mut(200);
+            let mut to = raw::RowsMut { text, moments: &mut moments, rows: &mut rows[..size] };
+            assert_eq!(raw::collector_lines(&mut state, 9, b"1 D5\n", 9, &mut to, &mut done), 11);
+        }
+        assert!(untouched(&image) && moments == [77] && done == [77; raw::LINES_DONE]);
         assert!(state.lengths.iter().chain(state.bytes.iter()).all(|b| *b == content));
         assert!(state.times.iter().chain(state.numbers.iter()).all(|n| *n == u64::from(content)));
         assert!(state.copies.iter().all(|n| *n == u16::from(content)));

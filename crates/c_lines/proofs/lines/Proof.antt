@@ -23,37 +23,37 @@ lent s =
     let a = s .args in
     arrays (now (a .times)) (now (a .lengths)) (now (a .bytes)) (now (a .copies)) (now (a .numbers))
 
+-- ---- what each test says
+
+abbrev start : tie.After-is-acceptable → tie.Start
+start c = c .before .before .before .before .before .before .before .before .before
+
 abbrev entry1 : tie.Else1 → tie.Start
-entry1 c = c .before .before .before .before .before .before
+entry1 c = start (c .before)
 
-sized : (c : tie.Else1) → isSized (length (now (entry1 c .args .moments))) (length (now (entry1 c .args .rows))) ≡ true
-sized c = sym (c .before .is-sized .ensures) ∙ not-false _ (c .if1 .left)
+acceptable-here : (c : tie.Else1) → acceptable (stateAt (lent (entry1 c))) ≡ true
+acceptable-here c = sym (c .before .is-acceptable .ensures _) ∙ not-false _ (c .if1 .left)
 
-abbrev after-sized : tie.After-is-acceptable → tie.Else1
-after-sized c = c .before .before .before .before .before
+abbrev entry2 : tie.Else2 → tie.Start
+entry2 c = entry1 (c .before .before)
 
-acceptable-here : (c : tie.Else2) → acceptable (stateAt (lent (entry1 (after-sized (c .before))))) ≡ true
-acceptable-here c = sym (c .before .is-acceptable .ensures _) ∙ not-false _ (c .if2 .left)
+sized : (c : tie.Else2) → isSized (length (now (entry2 c .args .moments))) (length (now (entry2 c .args .rows))) ≡ true
+sized c = sym (c .before .is-sized .ensures) ∙ not-false _ (c .if2 .left)
 
+-- no call is refused after the third
 abbrev after-tests : tie.After-summary-of → tie.Else3
 after-tests c = c .before .before .before .before
 
 abbrev entry3 : tie.After-summary-of → tie.Start
-entry3 c = entry1 (after-sized (after-tests c .before .before))
+entry3 c = entry2 (after-tests c .before)
 
 tested : (c : tie.After-summary-of) → Tested true (viewIn (columnsAt (lent (entry3 c))) (c .summary-of .result))
 tested c =
-    let e = after-tests c .before in
+    let e = after-tests c .before .before .before in
     subst (λ (s : Summary). Tested true (viewIn (columnsAt (lent (entry3 c))) s)) (sym (c .summary-of .ensures .0))
     (record { said = sym (acceptable-here e); fits = c .summary-of .ensures .1 _ _ _ })
 
-is-sized-requires : tie.Need-is-sized-requires
-is-sized-requires c κs = search needs
-
-returns : tie.Need-returns
-returns c =
-    let e = sym (c .before .is-sized .ensures) ∙ not-true _ (c .if1 .taken) in
-    record { answer = rw e; taken = λ z. absurd (omega arith); stays = λ n. (refl, refl, refl, refl, refl) }
+-- ---- what each return has to show
 
 is-acceptable-requires : tie.Need-is-acceptable-requires
 is-acceptable-requires c κs = search needs
@@ -61,11 +61,20 @@ is-acceptable-requires c κs = search needs
 number-requires : tie.Need-number-requires
 number-requires c κs = search needs
 
+returns : tie.Need-returns
+returns c =
+    let t = c .before .before in
+    let e : acceptable (stateAt (lent (start t))) ≡ false = sym (t .is-acceptable .ensures _) ∙ not-true _ (c .before .if1 .taken) in
+    record { answer = rw e (c .number .ensures); taken = λ z. absurd (omega (arith, c .number .ensures)); stays = λ n. (refl, refl, refl, refl, refl) }
+
+is-sized-requires : tie.Need-is-sized-requires
+is-sized-requires c κs = search needs
+
 returns-2 : tie.Need-returns-2
 returns-2 c =
-    let k = c .before .before in
-    let e : acceptable (stateAt (lent (entry1 (after-sized k)))) ≡ false = sym (k .is-acceptable .ensures _) ∙ not-true _ (c .before .if2 .taken) in
-    record { answer = rw (sized (after-sized k), e) (c .number .ensures); taken = λ z. absurd (omega (arith, c .number .ensures)); stays = λ n. (refl, refl, refl, refl, refl) }
+    let a = acceptable-here (c .before .before) in
+    let e = sym (c .before .is-sized .ensures) ∙ not-true _ (c .if2 .taken) in
+    record { answer = rw (a, e); taken = λ z. absurd (omega arith); stays = λ n. (refl, refl, refl, refl, refl) }
 
 number-requires-2 : tie.Need-number-requires-2
 number-requires-2 c κs = search needs
@@ -74,7 +83,7 @@ returns-3 : tie.Need-returns-3
 returns-3 c =
     let e = c .before .before in
     record {
-      answer = rw (sized (after-sized (e .before)), acceptable-here e, lt-ltb 2 _ (c .before .if3 .taken)) (c .number2 .ensures);
+      answer = rw (acceptable-here (e .before .before), sized e, lt-ltb 2 _ (c .before .if3 .taken)) (c .number2 .ensures);
       taken = λ z. absurd (omega (arith, c .number2 .ensures));
       stays = λ n. (refl, refl, refl, refl, refl);
     }
@@ -85,7 +94,7 @@ summary-of-requires c κs = search needs
 take-rows-requires : tie.Need-take-rows-requires
 take-rows-requires c κs =
     let k = c .before .before .before .before .before .before .before in
-    (tested k, eqb-true _ _ (sized (after-sized (after-tests k .before .before))))
+    (tested k, eqb-true _ _ (sized (after-tests k .before)))
 
 store-requires : tie.Need-store-requires
 store-requires c κs = search needs
@@ -104,7 +113,7 @@ returns-4 c =
     let k = c .before .before .before .before .before .before .before .before .before .before .before .before .before .before .before .before .before .before in
     let e = after-tests k .before in
     record {
-      answer = rw (sized (after-sized (e .before)), acceptable-here e, le-ltb 2 _ (after-tests k .if3 .left));
+      answer = rw (acceptable-here (e .before .before), sized e, le-ltb 2 _ (after-tests k .if3 .left));
       taken = λ z. rw (c .before .store .ensures) (rw (k .summary-of .ensures .0) at (c .before .before .before .before .before .before .before .before .before .before .take-rows .ensures));
       stays = λ n. absurd (n refl);
     }
@@ -113,10 +122,10 @@ pub lines-spec : {M : Type 1} → statement M
 lines-spec =
     tie.close
     (tie.spec
-    is-sized-requires
-    returns
     is-acceptable-requires
     number-requires
+    returns
+    is-sized-requires
     returns-2
     number-requires-2
     returns-3
