@@ -41,7 +41,26 @@ use Rattle.c_pieces.proofs.Pieces as c_pieces
 use Rattle.report_model.proofs.Claims as report_model_claims
 use Rattle.report_model.proofs.Complete as report_model_complete
 use Rattle.report_model.proofs.Adding as report_model_adding
-use Rattle.theorems.specs.Details.{Telegrams, SlotPlans, Model, Code, Records, Lines, Archives, Reports, Details}
+use Rattle.c_codec.proofs.Claims as c_codec
+use Rattle.c_erp2.proofs.Claims as c_erp2
+use Rattle.collecting.proofs.Storing as collecting
+use Rattle.rows_model.proofs.Rows as rows_alone
+use Rattle.rows_model.proofs.States as rows_states
+use Rattle.rows_model.proofs.Again as rows_again
+use Rattle.rows_model.proofs.Recovered as rows_recovered
+use Rattle.rows_model.proofs.Closings as rows_closings
+use Rattle.rows_model.proofs.Example as rows_example
+use Rattle.journal_model.proofs.Alone as journal_alone
+use Rattle.journal_model.proofs.Any as journal_any
+use Rattle.journal_model.proofs.Claims as journal_claims
+use Rattle.journal_model.proofs.Destroyed as journal_destroyed
+use Rattle.journal_model.proofs.Live as journal_live
+use Rattle.journal_model.proofs.Longest as journal_longest
+use Rattle.journal_model.proofs.Sound as journal_sound
+use Rattle.journal_model.proofs.TakenIn as journal_taken
+use Rattle.journal_model.proofs.Untouched as journal_untouched
+use Rattle.journal_model.proofs.Whole as journal_whole
+use Rattle.theorems.specs.Details.{Telegrams, SlotPlans, Model, Code, Records, Lines, Rows, Journal, Archives, Reports, Details}
 
 telegrams : Telegrams
 telegrams = record {
@@ -53,6 +72,8 @@ telegrams = record {
   repeat-follows-formula = telegram.repeat-sent;
   erp2-rest-is-zero = erp2_model.normal-read;
   erp2-tables-hold = erp2_model.figures;
+  fields-for-c-come-back = c_codec.said-again;
+  erp2-fields-for-c-come-back = c_erp2.said-again;
 }
 
 slotPlans : SlotPlans
@@ -113,6 +134,47 @@ lines = record {
   cuts-change-nothing = streams_pieces.in-pieces;
   collect-cuts-change-nothing = streams_limit.collected-in-pieces;
   wrong-start-is-silent = streams_ended.stays-ended;
+  rows-in-pieces = collecting.rows-in-pieces;
+}
+
+rows : Rows
+rows = record {
+  rows-decide = rows_alone.rows-alone;
+  rows-decide-from-middle = rows_alone.rows-alone-since;
+  contracts-give-rows = rows_states.states-rows-alone;
+  restored-give-rows = rows_states.restored-rows-alone;
+  rows-fit-archive = rows_again.rows-fit;
+  first-rows-are-of-first = rows_again.first-rows;
+  rows-are-answered-again = rows_again.given-again;
+  later-answers-are-same = rows_again.goes-on;
+  contracts-give-recovery = rows_recovered.recovered-goes-on;
+  telegrams-close-once = rows_closings.closed-once;
+  views-close-once = rows_closings.views-closed-once;
+  contracts-close-once = rows_closings.states-closed-once;
+  example-is-worked = rows_example.worked;
+}
+
+journal : Journal
+journal = record {
+  begins-with-nothing = journal_whole.from-nothing;
+  first-line-gives-no-row = journal_whole.first-lines;
+  start-recovers = journal_claims.recovers-all;
+  whole-log-is-undisturbed = journal_claims.whole-log;
+  runs-can-finish = journal_whole.finishes;
+  whole-front-is-found = journal_longest.found-longest;
+  sound-blocks-stay = journal_untouched.untouched;
+  leftovers-are-rows = journal_any.start-counts;
+  start-keeps-leftovers = journal_sound.start-keeps;
+  equal-rows-write-nothing = journal_destroyed.equal-rows-write-nothing;
+  batch-destroys-nothing = journal_destroyed.batch-destroys-nothing;
+  end-destroys-nothing = journal_destroyed.end-destroys-nothing;
+  crash-destroys-nothing = journal_whole.crash-destroys-nothing;
+  row-is-handed-over = journal_alone.handed-over;
+  live-rows-stay = journal_live.live-kept;
+  leftovers-are-counted = journal_taken.leftovers-taken-in;
+  live-destroys-nothing = journal_taken.live-destroys-nothing;
+  rows-are-given-again = journal_alone.rows-alone;
+  leftovers-are-taken-in = journal_taken.all-taken-in;
 }
 
 archives : Archives
@@ -121,6 +183,7 @@ archives = record {
   written-rows-come-back = archive_model_claims.read-back;
   last-block-is-enough = archive_model_claims.at-cursor;
   rows-are-returned = archive_model_claims.row-read;
+  rows-are-short = archive_model_claims.row-fits;
   parts-are-checked = archive_model_claims.in-pieces;
   sensor-is-sender = archive_model_identity.transmitter;
   blocks-are-accounted = repack_model_rows.accounted;
@@ -132,6 +195,7 @@ archives = record {
   freed-space-is-used = repack_model_removal.then-append;
   removals-join = repack_model_removal.both-lists;
   pieces-are-packed = repack_model_pieces.pieces-packed;
+  packer-is-held = repack_model_pieces.held;
   second-cut-is-same = cutting.cut-again;
   cut-is-undone = cutting.undone;
   cut-changes-one-block = cutting.at-one-block;
@@ -158,6 +222,8 @@ details = record {
   code = code;
   records = records;
   lines = lines;
+  rows = rows;
+  journal = journal;
   archives = archives;
   reports = reports;
 }

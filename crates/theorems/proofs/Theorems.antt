@@ -19,7 +19,11 @@ use Rattle.cutting.proofs.Claims as cutting
 use Rattle.c_pieces.proofs.Pieces as c_pieces
 use Rattle.report_model.proofs.Claims as report_model
 use Rattle.cases.proofs.Proved as cases
-use Rattle.theorems.specs.Theorems.{Telegrams, SlotPlans, Collector, Archives, Theorems}
+use Rattle.journal_model.proofs.Claims as journal_claims
+use Rattle.journal_model.proofs.Destroyed as journal_destroyed
+use Rattle.journal_model.proofs.Live as journal_live
+use Rattle.journal_model.proofs.Whole as journal_whole
+use Rattle.theorems.specs.Theorems.{Telegrams, SlotPlans, Collector, Archives, Journal, Theorems}
 use Rattle.theorems.proofs.Details.{details}
 
 telegrams : Telegrams
@@ -64,12 +68,22 @@ archives = record {
   order-changes-nothing = report_model.any-order;
 }
 
+journal : Journal
+journal = record {
+  crashes-lose-nothing = journal_claims.crash-safe;
+  live-crashes-lose-nothing = journal_live.live-safe;
+  starts-destroy-nothing = journal_destroyed.nothing-destroyed;
+  crashes-are-recovered = journal_claims.no-false-alarm;
+  printed-is-kept = journal_whole.printed-is-kept;
+}
+
 pub theorems : Theorems
 theorems = record {
   telegrams = telegrams;
   slotPlans = slotPlans;
   collector = collector;
   archives = archives;
+  journal = journal;
   examples-hold = cases.every-case;
   details = details;
 }

@@ -34,6 +34,16 @@ use Rattle.filling.specs.Claims as filling
 use Rattle.c_archive.specs.Claims as c_archive
 use Rattle.c_pieces.specs.Claims as c_pieces
 use Rattle.report_model.specs.Claims as report_model
+use Rattle.c_codec.specs.Claims as c_codec
+use Rattle.c_erp2.specs.Claims as c_erp2
+use Rattle.collecting.specs.Claims as collecting
+use Rattle.rows_model.specs.Rows as rows_alone
+use Rattle.rows_model.specs.States as rows_states
+use Rattle.rows_model.specs.Again as rows_again
+use Rattle.rows_model.specs.Recovered as rows_recovered
+use Rattle.rows_model.specs.Closings as rows_closings
+use Rattle.rows_model.specs.Example as rows_example
+use Rattle.journal_model.specs.Claims as journal_model
 
 -- ---- telegrams
 
@@ -54,6 +64,10 @@ pub record Telegrams : Type 0 where
   pub erp2-rest-is-zero : erp2_model.NormalRead
   -- The sizes of ERP2 fields are those in the tables of document 004.
   pub erp2-tables-hold : erp2_model.Figures
+  -- The fields that another language gets for a telegram say that telegram again.
+  pub fields-for-c-come-back : c_codec.SaidAgain
+  -- So do the fields that it gets for an ERP2 telegram.
+  pub erp2-fields-for-c-come-back : c_erp2.SaidAgain
 
 -- ---- slot plans
 
@@ -154,6 +168,80 @@ pub record Lines : Type 1 where
   pub collect-cuts-change-nothing : {C : Type 0} (m : Collector C) → streams.CollectedInPieces m
   -- After a wrong first line `collect` writes nothing more.
   pub wrong-start-is-silent : {C : Type 0} (m : Collector C) → streams.StaysEnded m
+  -- However the input is cut into pieces, the rows for the archive and the number of lines are those of the whole.
+  pub rows-in-pieces : collecting.RowsInPieces
+
+-- ---- the rows of a history, and the telegrams that close in it
+
+pub record Rows : Type 1 where
+  -- If only the kept and loose receptions of a history are handed over, they get the same answers and leave the same telegrams open.
+  pub rows-decide : rows_alone.RowsAlone
+  -- The same holds from the middle of a history on.
+  pub rows-decide-from-middle : rows_alone.RowsAloneSince
+  -- It holds for the states of any program whose calls meet the contracts,
+  pub contracts-give-rows : {State : Type 0} (view : State → View) → rows_states.StatesRowsAlone view
+  -- and from a state that was restored in the middle.
+  pub restored-give-rows : {State : Type 0} (view : State → View) → rows_states.RestoredRowsAlone view
+  -- Each row is a valid telegram with a time of 64 bits, so an archive accepts it.
+  pub rows-fit-archive : rows_again.RowsFit
+  -- The first rows of some receptions are the rows of the first of these receptions.
+  pub first-rows-are-of-first : rows_again.FirstRows
+  -- A collector that is restored, and is handed the rows that came after its checkpoint, answers each as before.
+  pub rows-are-answered-again : rows_again.GivenAgain
+  -- Then it answers all that comes later as the first collector would have, if nothing comes earlier than that one's latest time.
+  pub later-answers-are-same : rows_again.GoesOn
+  -- The same holds for any program whose calls meet the contracts.
+  pub contracts-give-recovery : {State : Type 0} (view : State → View) → rows_recovered.RecoveredGoesOn view
+  -- In the model, each telegram that was opened closes once, in order, with its number of copies, or is still open.
+  pub telegrams-close-once : rows_closings.ClosedOnce
+  -- The same holds for the states of the collector, with the number of copies counted from the answers,
+  pub views-close-once : rows_closings.ViewsClosedOnce
+  -- and for any program whose calls meet the contracts.
+  pub contracts-close-once : {State : Type 0} (view : State → View) → rows_closings.StatesClosedOnce view
+  -- A short history, worked out: its answers, its rows, what closed and what is open.
+  pub example-is-worked : rows_example.Worked
+
+-- ---- the journal of the plant's tool: its state file and its archive, through crashes
+
+pub record Journal : Type 0 where
+  -- A run can begin with an empty archive.
+  pub begins-with-nothing : journal_model.FromNothing
+  -- A first line that says a level gives no row.
+  pub first-line-gives-no-row : journal_model.FirstLines
+  -- After a crash, a start brings the archive to what the model says for the state that is on disk.
+  pub start-recovers : journal_model.Recovers
+  -- When all lines of the log are taken, state and archive are those of a run without crashes.
+  pub whole-log-is-undisturbed : journal_model.WholeLog
+  -- From every disk that a run can leave, the log can be taken to its end.
+  pub runs-can-finish : journal_model.Finishes
+  -- If the front of a file is an archive, all its rows are found.
+  pub whole-front-is-found : journal_model.FoundLongest
+  -- A start changes no block with rows, except a torn one, which it mends.
+  pub sound-blocks-stay : journal_model.Untouched
+  -- After a start that is not refused, the archive has the counted rows, and leftovers behind them.
+  pub leftovers-are-rows : journal_model.StartCounts
+  -- A start changes no byte of such an archive.
+  pub start-keeps-leftovers : journal_model.StartKeeps
+  -- If the leftovers begin with the rows that come, nothing is written and nothing is put aside.
+  pub equal-rows-write-nothing : journal_model.EqualRowsWriteNothing
+  -- A batch destroys no row: each stays in the archive or is put aside.
+  pub batch-destroys-nothing : journal_model.BatchDestroysNothing
+  -- Nor does the end of the log.
+  pub end-destroys-nothing : journal_model.EndDestroysNothing
+  -- Nor does a crash within a batch: the log gives the row again, or the row is put aside before.
+  pub crash-destroys-nothing : journal_model.CrashDestroysNothing
+  -- The line of a row gives the collector the reception that the row was.
+  pub row-is-handed-over : journal_model.HandedOver
+  -- With a live feed, the rows that are counted at any moment stay in their places.
+  pub live-rows-stay : journal_model.LiveKept
+  -- If the collector answers the leftovers as they stand, nothing is written and every row is counted.
+  pub leftovers-are-counted : journal_model.LeftoversTakenIn
+  -- Whatever it answers, each row stays in the archive or is put aside.
+  pub live-destroys-nothing : journal_model.LiveDestroysNothing
+  -- The rows that lines gave, handed over again after the same lines, are given again.
+  pub rows-are-given-again : journal_model.RowsAlone
+  -- So leftovers of lines that were on their way are all taken in.
+  pub leftovers-are-taken-in : journal_model.AllTakenIn
 
 -- ---- archives
 
@@ -166,6 +254,8 @@ pub record Archives : Type 0 where
   pub last-block-is-enough : archive_model.AtCursor
   -- Row i of an archive is returned, or the answer is 10 if there are fewer rows.
   pub rows-are-returned : archive_model.Rows
+  -- A row that is returned has at most 21 bytes, whatever the buffer holds.
+  pub rows-are-short : archive_model.RowShort
   -- A check of an archive's blocks in two parts is one check, and finds the first wrong block or the number of rows.
   pub parts-are-checked : archive_model.Pieces
   -- The sensor of a row is the sender that its telegram names, also if it names a receiver.
@@ -188,6 +278,8 @@ pub record Archives : Type 0 where
   pub removals-join : repack_model.BothLists
   -- Blocks that are packed piece by piece give the archive of the rows that remain.
   pub pieces-are-packed : repack_model.PiecesPacked
+  -- What is lent to a packer between two pieces is all that the next piece needs.
+  pub packer-is-held : repack_model.Held
   -- A second cut at the same row changes nothing.
   pub second-cut-is-same : cutting.CutAgain
   -- If the rows that were cut off are appended again, the bytes are the old ones.
@@ -226,5 +318,7 @@ pub record Details : Type 1 where
   pub code : Code
   pub records : Records
   pub lines : Lines
+  pub rows : Rows
+  pub journal : Journal
   pub archives : Archives
   pub reports : Reports

@@ -14,6 +14,8 @@
 --   refused      a call that can't do what was asked returns a number above 0, which says why. 0 means done.
 --   collector    the state that decides on receptions. A checkpoint writes it as 2,560 bytes. After a restart, a restore reads them.
 --   archive      a file of blocks of 512 bytes. A block has up to 15 rows. A row is a kept or loose reception. An append adds a row.
+--   journal      the plant's tool keeps a state file and an archive. A batch of lines is written to the archive first, then to the state. A crash
+--                between the two leaves rows that the state does not count: leftovers. Rows that are put aside go to an archive of their own.
 --   slot plan    the times at which a telegram is sent, up to three. It is lawful if it obeys the radio protocol's timing rules.
 --   papers       the customer's documents 01 (scope) and 02 (changes), and the radio documents 000 to 004.
 use Prim.Native.Nat.{ℕ}
@@ -38,6 +40,7 @@ use Rattle.cutting.specs.Claims as cutting
 use Rattle.c_pieces.specs.Claims as c_pieces
 use Rattle.report_model.specs.Claims as report_model
 use Rattle.cases.specs.Cases as cases
+use Rattle.journal_model.specs.Claims as journal_model
 use Rattle.theorems.specs.Details.{Details}
 
 -- ---- telegrams, in the radio protocols ERP1 and ERP2
@@ -108,6 +111,20 @@ pub record Archives : Type 0 where
   -- If no archive is refused, the order in which they are added does not change the report.
   pub order-changes-nothing : report_model.AnyOrder
 
+-- ---- the journal: the state file and the archive that the plant's tool keeps
+
+pub record Journal : Type 0 where
+  -- After any batches and any crashes, also during a recovery, the archive has the model's rows and the state is the model's.
+  pub crashes-lose-nothing : journal_model.CrashSafe
+  -- With a live feed, of which there is no log, the same holds for the lines that were taken and the rows that a crash left.
+  pub live-crashes-lose-nothing : journal_model.LiveSafe
+  -- At a start, no row that is found is destroyed, whoever wrote it.
+  pub starts-destroy-nothing : journal_model.NothingDestroyed
+  -- What a crash can leave is never refused.
+  pub crashes-are-recovered : journal_model.NoFalseAlarm
+  -- A row that was printed stays in the archive, in its place.
+  pub printed-is-kept : journal_model.PrintedIsKept
+
 -- ---- all of it
 
 pub record Theorems : Type 1 where
@@ -115,6 +132,7 @@ pub record Theorems : Type 1 where
   pub slotPlans : SlotPlans
   pub collector : Collector
   pub archives : Archives
+  pub journal : Journal
   -- Each worked example of the papers that is marked for proof has the result that the papers give.
   pub examples-hold : cases.EveryCase
   -- The further statements, in Details.antt.
