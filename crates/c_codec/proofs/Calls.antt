@@ -1,5 +1,5 @@
 -- The calls by what is tested: a slice of another size, and one of the right size; how long what is read and sent is.
-use mathlib.Core.Path.{_≡_, refl}
+use mathlib.Core.Path.{_≡_, refl, sym, ap₂, _∙_}
 use mathlib.Core.List.{List, [], _∷_, _++_}
 use Prim.Native.Nat.{ℕ, _-_, _≤_, zero-le}
 use native.Mathlib.Omega.{arith}
@@ -19,7 +19,9 @@ use Rattle.telegram.proofs.Laws.{repeat-sent}
 use Rattle.telegram.proofs.Repeating.{relay-fits}
 use Rattle.c_layout.specs.Frame.{wrongSize, frameLength, flagByte}
 use Rattle.c_codec.specs.Fields.{fieldsLength, fieldsBytes, telegramIn}
-use Rattle.c_codec.specs.Calls.{call, readCall, buildCall, repeatCall, sentBytes}
+use Rattle.c_layout.specs.Lent.{settled}
+use Rattle.c_layout.proofs.Lent.{done-is, done-not}
+use Rattle.c_codec.specs.Calls.{call, answered, readCall, buildCall, repeatCall, sentBytes}
 
 -- ---- sizes
 
@@ -28,7 +30,7 @@ module _ (s old : List ℕ) where
   unfolding readCall
   read-other h = rw (ne-eqb (length old) fieldsLength h)
 
-  pub read-done : length old ≡ fieldsLength → call (readOf s .number) (fieldsBytes (readOf s .telegram)) ≡ readCall s old
+  pub read-done : length old ≡ fieldsLength → answered (readOf s .number) (fieldsBytes (readOf s .telegram)) old ≡ readCall s old
   unfolding readCall
   read-done h = rw (eq-eqb (length old) fieldsLength h)
 
@@ -37,7 +39,7 @@ module _ (fields : List ℕ) (was : ℕ) (output : List ℕ) where
   unfolding buildCall
   build-other h = rw (ne-eqb (length fields) fieldsLength h)
 
-  pub build-done : length fields ≡ fieldsLength → buildOf (telegramIn fields) output ≡ buildCall fields was output
+  pub build-done : length fields ≡ fieldsLength → settled (buildOf (telegramIn fields) output) was ≡ buildCall fields was output
   unfolding buildCall
   build-done h = rw (eq-eqb (length fields) fieldsLength h)
 
@@ -46,9 +48,19 @@ module _ (setting : ℕ) (s old : List ℕ) where
   unfolding repeatCall
   repeat-other h = rw (ne-eqb (length old) frameLength h)
 
-  pub repeat-done : length old ≡ frameLength → call (repeatResult setting s .number) (sentBytes (repeatResult setting s .sent)) ≡ repeatCall setting s old
+  pub repeat-done : length old ≡ frameLength
+      → answered (repeatResult setting s .number) (sentBytes (repeatResult setting s .sent)) old ≡ repeatCall setting s old
   unfolding repeatCall
   repeat-done h = rw (eq-eqb (length old) frameLength h)
+
+-- ---- what is handed back, by the number that was answered
+
+module _ (number told : ℕ) (values given old : List ℕ) (is : number ≡ told) where
+  pub answered-not : (number ≡ 0 → ⊥) → call number old ≡ answered told given old
+  answered-not n = ap₂ call is (done-not told given old (λ z. n (is ∙ z)))
+
+  pub answered-is : number ≡ 0 → values ≡ given → call number values ≡ answered told given old
+  answered-is z e = ap₂ call is (e ∙ done-is told given old (sym is ∙ z))
 
 -- ---- lengths
 

@@ -9,6 +9,7 @@ use Rattle.telegram.specs.Output.{Result}
 use Rattle.telegram.specs.Fields.{readOf, buildOf}
 use Rattle.telegram.specs.Repeater.{repeatResult}
 use Rattle.c_layout.specs.Frame.{wrongSize, frameLength, frameBytes}
+use Rattle.c_layout.specs.Lent.{ifDone, settled}
 use Rattle.c_codec.specs.Fields.{fieldsLength, fieldsBytes, telegramIn}
 
 -- the number, and every byte of the values' slice at exit
@@ -23,15 +24,19 @@ call number values = record { number = number; values = values }
 abbrev pub sized : ℕ → List ℕ → Call → Call
 sized n old done = cond (not (eqb (length old) n)) (call wrongSize old) done
 
--- document 01's reading: the check's number, and the fields, zero beside a refusal
-unfoldable pub readCall : List ℕ → List ℕ → Call
-readCall s old = sized fieldsLength old (call (readOf s .number) (fieldsBytes (readOf s .telegram)))
+-- values that are handed back with 0
+abbrev pub answered : ℕ → List ℕ → List ℕ → Call
+answered number values old = call number (ifDone number values old)
 
--- document 01's building of what 26 bytes say; of another size nothing is touched, the length of the result too
+-- document 01's reading: the check's number, and the fields
+unfoldable pub readCall : List ℕ → List ℕ → Call
+readCall s old = sized fieldsLength old (answered (readOf s .number) (fieldsBytes (readOf s .telegram)) old)
+
+-- document 01's building of what 26 bytes say
 unfoldable pub buildCall : List ℕ → ℕ → List ℕ → Result
 buildCall fields was output =
     cond (not (eqb (length fields) fieldsLength)) (record { number = wrongSize; len = was; output = output })
-    (buildOf (telegramIn fields) output)
+    (settled (buildOf (telegramIn fields) output) was)
 
 -- document 02's A7: the number, and the telegram to send
 abbrev pub sentBytes : Frame → List ℕ
@@ -39,4 +44,4 @@ sentBytes f = frameBytes (f .len) (f .bytes)
 
 unfoldable pub repeatCall : ℕ → List ℕ → List ℕ → Call
 repeatCall setting s old =
-    sized frameLength old (call (repeatResult setting s .number) (sentBytes (repeatResult setting s .sent)))
+    sized frameLength old (answered (repeatResult setting s .number) (sentBytes (repeatResult setting s .sent)) old)

@@ -12,13 +12,14 @@ ghost use lib.ListN.{length};
 ghost use Rattle.layout.specs.BigEndian.{be};
 ghost use Rattle.telegram.specs.Fields.{maxData};
 ghost use Rattle.telegram.specs.Addressing.{encapsulateOf, decapsulateOf};
+ghost use Rattle.c_layout.specs.Lent.{settled};
 ghost use Rattle.c_codec.specs.Fields.{fieldsLength, fieldsBytes, telegramIn};
 ghost use Rattle.c_codec.specs.Calls.{readCall, buildCall, repeatCall};
 
 // The bytes of a telegram's fields.
 pub const FIELDS_LENGTH: usize = 26;
 
-// Reads a subtelegram into the 26 bytes of its fields, all zero beside a refusal: 255, then the check's own.
+// Reads a subtelegram into the 26 bytes of its fields, which stay as they were beside a refusal: 255, then the check's own.
 pub fn read(bytes: &[u8], fields: &mut [u8]) -> u8
     ensures { λ r. ⌜ record { number = r; values = now (fields .exit) }
         ≡ readCall (now (bytes .entry)) (now (fields .entry)) ⌝ }
@@ -28,9 +29,13 @@ pub fn read(bytes: &[u8], fields: &mut [u8]) -> u8
     }
     let reading = fields::read(bytes);
     let checked = reading.checked;
+    let number = c_layout::checked_number(checked);
+    if number != 0 {
+        return number;
+    }
     let t = reading.telegram;
     put_fields(fields, t);
-    c_layout::checked_number(checked)
+    number
 }
 
 // Builds the telegram that the 26 bytes say into `out`: 255, then 10, 5, 6.
@@ -47,7 +52,7 @@ pub fn build(fields: &[u8], out: &mut [u8], length: &mut usize) -> u8
 // Encapsulates for a DESTID, which is a number: the check's own, 3, 5, 6.
 pub fn encapsulate(bytes: &[u8], destid: u32, out: &mut [u8], length: &mut usize) -> u8
     ensures { λ r. ⌜ record { number = r; len = now (length .exit); output = now (out .exit) }
-        ≡ encapsulateOf (now (bytes .entry)) (be 4 destid) (now (out .entry)) ⌝ }
+        ≡ settled (encapsulateOf (now (bytes .entry)) (be 4 destid) (now (out .entry))) (now (length .entry)) ⌝ }
 {
     c_layout::settle(
         addressing::encapsulate(bytes, id_bytes(destid), out),
@@ -58,12 +63,13 @@ pub fn encapsulate(bytes: &[u8], destid: u32, out: &mut [u8], length: &mut usize
 // Removes an encapsulation: the check's own, 4, 6.
 pub fn decapsulate(bytes: &[u8], out: &mut [u8], length: &mut usize) -> u8
     ensures { λ r. ⌜ record { number = r; len = now (length .exit); output = now (out .exit) }
-        ≡ decapsulateOf (now (bytes .entry)) (now (out .entry)) ⌝ }
+        ≡ settled (decapsulateOf (now (bytes .entry)) (now (out .entry))) (now (length .entry)) ⌝ }
 {
     c_layout::settle(addressing::decapsulate(bytes, out), length)
 }
 
-// What a repeater sends for a valid telegram, as a frame of 22 bytes, all zero for nothing and beside a refusal: 255, then 10, the check's own.
+// What a repeater sends for a valid telegram, as a frame of 22 bytes, all zero for nothing, and as it was beside a refusal: 255, then 10, the
+// check's own.
 pub fn repeat(setting: u8, bytes: &[u8], sent: &mut [u8]) -> u8
     ensures { λ r. ⌜ record { number = r; values = now (sent .exit) }
         ≡ repeatCall setting (now (bytes .entry)) (now (sent .entry)) ⌝ }
@@ -73,10 +79,14 @@ pub fn repeat(setting: u8, bytes: &[u8], sent: &mut [u8]) -> u8
     }
     let repeated = repeater::repeat(setting, bytes);
     let answer = repeated.answer;
+    let number = c_layout::checked_number(answer);
+    if number != 0 {
+        return number;
+    }
     let frame = repeated.sent;
     let raised = frame.bytes;
     c_layout::put_frame(sent, frame.len as u8, &raised);
-    c_layout::checked_number(answer)
+    number
 }
 
 // ---- fields

@@ -1,5 +1,5 @@
 -- The calls by what is tested: fields of another size, and of the right size; how long what is read is.
-use mathlib.Core.Path.{_≡_}
+use mathlib.Core.Path.{_≡_, sym, _∙_}
 use mathlib.Core.List.{List, [], _∷_}
 use Prim.Native.Nat.{ℕ, _<_}
 use native.Mathlib.Omega.{arith}
@@ -11,20 +11,28 @@ use Rattle.erp2_model.specs.declared.Telegram.{Telegram}
 use Rattle.erp2_model.specs.Reading.{readOf, fieldsOf, checkOf, lengthByte}
 use Rattle.erp2_model.specs.Building.{buildOf}
 use Rattle.c_layout.specs.Frame.{wrongSize, flagByte}
-use Rattle.c_erp2.specs.Fields.{fieldsLength, headBytes, telegramIn}
-use Rattle.c_erp2.specs.Calls.{ReadCall, reading, readCall, buildCall}
+use Rattle.c_layout.specs.Lent.{settled}
+use Rattle.c_erp2.specs.Fields.{fieldsLength, headBytes, fieldsBytes, telegramIn}
+use Rattle.c_erp2.specs.Calls.{reading, readCall, buildCall}
 
 -- ---- sizes
 
 module _ (s old : List ℕ) (originator destination : ℕ) where
-  pub read-other : (length old ≡ fieldsLength → ⊥)
-      → (record { number = wrongSize; fields = old; originator = originator; destination = destination }) ≡ readCall s old originator destination
+  pub read-other : (length old ≡ fieldsLength → ⊥) → reading wrongSize old originator destination ≡ readCall s old originator destination
   unfolding readCall
   read-other h = rw (ne-eqb (length old) fieldsLength h)
 
-  pub read-done : length old ≡ fieldsLength → reading (readOf s .number) (readOf s .telegram) ≡ readCall s old originator destination
-  unfolding readCall
-  read-done h = rw (eq-eqb (length old) fieldsLength h)
+  -- of the right size, by the number that was answered
+  module _ (number : ℕ) (h : length old ≡ fieldsLength) (is : number ≡ readOf s .number) where
+    pub read-not : (number ≡ 0 → ⊥) → reading number old originator destination ≡ readCall s old originator destination
+    unfolding readCall
+    read-not n = rw (eq-eqb (length old) fieldsLength h, ne-eqb (readOf s .number) 0 (λ z. n (is ∙ z)), is)
+
+    pub read-done : number ≡ 0
+        → reading number (fieldsBytes (readOf s .telegram)) (readOf s .telegram .originator) (readOf s .telegram .destination .id)
+        ≡ readCall s old originator destination
+    unfolding readCall
+    read-done z = rw (eq-eqb (length old) fieldsLength h, sym is ∙ z, z)
 
 module _ (fields : List ℕ) (originator destination was : ℕ) (output : List ℕ) where
   pub build-other : (length fields ≡ fieldsLength → ⊥)
@@ -32,7 +40,8 @@ module _ (fields : List ℕ) (originator destination was : ℕ) (output : List �
   unfolding buildCall
   build-other h = rw (ne-eqb (length fields) fieldsLength h)
 
-  pub build-done : length fields ≡ fieldsLength → buildOf (telegramIn fields originator destination) output ≡ buildCall fields originator destination was output
+  pub build-done : length fields ≡ fieldsLength
+      → settled (buildOf (telegramIn fields originator destination) output) was ≡ buildCall fields originator destination was output
   unfolding buildCall
   build-done h = rw (eq-eqb (length fields) fieldsLength h)
 

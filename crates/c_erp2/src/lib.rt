@@ -20,7 +20,7 @@ const HEAD_LENGTH: usize = 11;
 
 const OPTIONAL: usize = HEAD_LENGTH + MAX_DATA;
 
-// Reads a length byte and Data_PL into the 276 bytes of its fields and its two IDs, all zero beside a refusal: 255, then 1, 13, 14, 15.
+// Reads a length byte and Data_PL into the 276 bytes of its fields and its two IDs, which stay as they were beside a refusal: 255, then 1, 13, 14, 15.
 pub fn read(bytes: &[u8], fields: &mut [u8], originator: &mut u64, destination: &mut u32) -> u8
     ensures { λ r. ⌜ record {
       number = r;
@@ -35,11 +35,15 @@ pub fn read(bytes: &[u8], fields: &mut [u8], originator: &mut u64, destination: 
     }
     let reading = erp2::read(bytes);
     let checked = reading.checked;
+    let number = c_layout::checked_number(checked);
+    if number != 0 {
+        return number;
+    }
     let t = reading.telegram;
     put_fields(fields, t);
     *originator = t.originator;
     *destination = t.destination.id;
-    c_layout::checked_number(checked)
+    number
 }
 
 // Builds the telegram of these fields and IDs into `out`: 255, then 10, 14, 15, 6.

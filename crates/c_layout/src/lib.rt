@@ -8,6 +8,7 @@ ghost use Rattle.erp1.specs.Subtelegram.{checkedNumber};
 ghost use Rattle.telegram.specs.Output.{resultOf};
 ghost use Rattle.buffers.specs.Buffer.{overwritten};
 ghost use Rattle.c_layout.specs.Frame.{frameLength, frameBytes, flagByte};
+ghost use Rattle.c_layout.specs.Lent.{settled};
 
 // A lent slice does not have the size that its call asks for: a number of the interface alone, which no paper uses.
 pub const WRONG_SIZE: u8 = 255;
@@ -47,19 +48,16 @@ pub fn checked_number(checked: Checked) -> u8
     }
 }
 
-// The number of what was written, and its length.
+// The number of what was written, and its length; beside a refusal the length stays.
 pub fn settle(built: Built, length: &mut usize) -> u8
-    ensures { λ r. ⌜ ((output : List ℕ)
-        → record { number = r; len = now (length .exit); output = output } ≡ resultOf built output) ⌝ }
+    ensures { λ r. ⌜ ((output : List ℕ) → record { number = r; len = now (length .exit); output = output }
+        ≡ settled (resultOf built output) (now (length .entry))) ⌝ }
 {
     match built {
         Built::Done(n) => {
             *length = n;
             0
         }
-        Built::Refused(why) => {
-            *length = 0;
-            refusal::number(why)
-        }
+        Built::Refused(why) => refusal::number(why),
     }
 }

@@ -5,14 +5,18 @@ use Prim.Native.Nat.{ℕ}
 use borrow.Author.Needs.{needs}
 use denote.Ref.{now}
 use Rattle.telegram.specs.Addressing.{encapsulateOf}
+use Rattle.telegram.specs.Output.{Result}
+use Rattle.c_layout.specs.Lent.{settled}
 use Rattle.c_codec.proofs.encapsulate.Statement.{statement}
 use Rattle.c_codec.proofs.encapsulate.Tie as tie
 
 returns : tie.Need-returns
 returns c =
-    let a = c .before .before .before .before .before .before .before .before .before .args in
-    c .settle .ensures _ ∙ c .before .before .before .before .encapsulate .ensures
-    ∙ ap (λ (to : List ℕ). encapsulateOf (now (a .bytes)) to (now (a .out))) (c .before .before .before .before .before .before .id-bytes .ensures)
+    let e = c .before .before .before .before in
+    let i = e .before .before in
+    let a = i .before .before .before .args in
+    let is = e .encapsulate .ensures ∙ ap (λ (to : List ℕ). encapsulateOf (now (a .bytes)) to (now (a .out))) (i .id-bytes .ensures) in
+    c .settle .ensures _ ∙ ap (λ (r : Result). settled r (now (a .length))) is
 
 pub encapsulate-spec : {M : Type 1} → statement M
 encapsulate-spec =

@@ -4,6 +4,8 @@ use borrow.Author.Needs.{needs}
 use denote.Ref.{now}
 use Rattle.erp2_model.specs.declared.Telegram.{Telegram}
 use Rattle.erp2_model.specs.Building.{buildOf}
+use Rattle.telegram.specs.Output.{Result}
+use Rattle.c_layout.specs.Lent.{settled}
 use Rattle.c_erp2.proofs.Calls.{build-other, build-done}
 use Rattle.c_erp2.proofs.build.Statement.{statement}
 use Rattle.c_erp2.proofs.build.Tie as tie
@@ -15,9 +17,13 @@ other-size c =
 
 built : tie.Need-returns-2
 built c =
-    let a = c .before .before .before .before .before .before .before .before .before .before .args in
-    c .settle .ensures _ ∙ c .before .before .before .before .build .ensures ∙ ap (λ (t : Telegram). buildOf t (now (a .out))) (c .before .before .before .before .before .before .telegram-in .ensures)
-    ∙ build-done (now (a .fields)) (a .originator) (a .destination) (now (a .length)) (now (a .out)) (c .before .before .before .before .before .before .before .if1 .left)
+    let b = c .before .before .before .before in
+    let t = b .before .before in
+    let e = t .before in
+    let a = e .before .before .before .args in
+    let is = b .build .ensures ∙ ap (λ (x : Telegram). buildOf x (now (a .out))) (t .telegram-in .ensures) in
+    c .settle .ensures _ ∙ ap (λ (r : Result). settled r (now (a .length))) is
+    ∙ build-done (now (a .fields)) (a .originator) (a .destination) (now (a .length)) (now (a .out)) (e .if1 .left)
 
 pub build-spec : {M : Type 1} → statement M
 build-spec =

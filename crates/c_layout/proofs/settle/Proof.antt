@@ -1,18 +1,31 @@
--- `c_layout::settle` meets its contract: each arm is what `resultOf` says of it.
+-- `c_layout::settle` meets its contract: each arm is what `resultOf` says of it, and beside a refusal the length stays.
 use mathlib.Core.Path.{_∙_, ap, sym}
 use mathlib.Core.List.{List}
 use Prim.Native.Nat.{ℕ}
 use borrow.Author.Needs.{needs}
+use denote.Ref.{now}
+use Rattle.refusal.specs.Number.{numberOf}
+use Rattle.refusal.proofs.Numbers.{refused-number}
 use Rattle.telegram.specs.declared.frame.Built.{Built}
-use Rattle.telegram.specs.Output.{resultOf, refused}
+use Rattle.telegram.specs.Output.{Result, resultOf}
+use Rattle.c_layout.specs.Lent.{settled}
+use Rattle.c_layout.proofs.Lent.{done-not}
 use Rattle.c_layout.proofs.settle.Statement.{statement}
 use Rattle.c_layout.proofs.settle.Tie as tie
 
+abbrev answered : ℕ → ℕ → List ℕ → Result
+answered number len output = record { number = number; len = len; output = output }
+
 returns : tie.Need-returns
-returns c output = ap (λ (b : Built). resultOf b output) (sym (c .before .built .given .1))
+returns c output = ap (λ (b : Built). settled (resultOf b output) (now (c .before .before .before .args .length))) (sym (c .before .built .given .1))
 
 returns-2 : tie.Need-returns-2
-returns-2 c output = ap (λ (n : ℕ). refused n output) (c .number .ensures) ∙ ap (λ (b : Built). resultOf b output) (sym (c .before .before .built2 .given .1))
+returns-2 c output =
+    let why = c .before .before .built2 .given .0 .0 in
+    let old = now (c .before .before .before .before .args .length) in
+    ap (λ (n : ℕ). answered n old output) (c .number .ensures)
+    ∙ ap (λ (n : ℕ). answered (numberOf why) n output) (done-not (numberOf why) 0 old (refused-number why))
+    ∙ ap (λ (b : Built). settled (resultOf b output) old) (sym (c .before .before .built2 .given .1))
 
 pub settle-spec : {M : Type 1} → statement M
 settle-spec =
