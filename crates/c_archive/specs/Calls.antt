@@ -1,13 +1,67 @@
--- What the calls answer, and what they leave in what they are lent; most are the calls of archive_model and repack_model as they are.
+-- What the calls answer, and what they leave in what they are lent: the answers of the models, and lent memory beside a refusal as it was.
 use Prim.Native.Nat.{ℕ}
-use mathlib.Core.Bool.{cond, not}
+use mathlib.Core.Bool.{Bool, cond, not, _||_}
 use mathlib.Core.List.{List, [], _∷_, _++_}
 use lib.Dec.{eqb}
 use lib.ListN.{length}
+use Rattle.refusal.specs.Number.{numberOf}
+use Rattle.refusal.specs.declared.Refusal.the-variants.{Length, Sum, Nested, Crc, Mismatch}
 use Rattle.archive_model.specs.Row.{Row}
-use Rattle.archive_model.specs.Append.{rowAtOf}
+use Rattle.archive_model.specs.Append.{Opening, Appended, rowAtOf}
+use Rattle.repack_model.specs.Repack.{Salvaged, Removed}
 use Rattle.filling.specs.Fill.{rowLength}
 use Rattle.c_layout.specs.Frame.{wrongSize, frameBytes, flagByte}
+use Rattle.c_layout.specs.Lent.{ifDone, ifMismatch}
+
+-- ---- answers, and the lent memory that they go into
+
+-- how many rows an archive has
+abbrev pub openCall : Opening → ℕ → ℕ → Opening
+openCall a rows position = record {
+  number = a .number;
+  position = ifMismatch (a .number) (a .position) position;
+  rows = ifDone (a .number) (a .rows) rows;
+}
+
+-- a row appended, or rows cut
+abbrev pub appendCall : Appended → ℕ → Appended
+appendCall a position = record {
+  number = a .number;
+  position = ifMismatch (a .number) (a .position) position;
+  buffer = a .buffer;
+}
+
+-- several rows put into a block: the place of a row goes with the check's number, too
+unfoldable pub hasPlace : ℕ → Bool
+hasPlace n =
+    eqb n (numberOf Mismatch)
+    || (eqb n (numberOf Length) || eqb n (numberOf Sum) || (eqb n (numberOf Crc) || eqb n (numberOf Nested)))
+
+abbrev pub putRowsCall : Appended → ℕ → Appended
+putRowsCall a position = record {
+  number = a .number;
+  position = cond (hasPlace (a .number)) (a .position) position;
+  buffer = a .buffer;
+}
+
+abbrev pub salvageCall : Salvaged → ℕ → ℕ → Salvaged
+salvageCall a dropped rows = record {
+  number = a .number;
+  count = ifDone (a .number) (a .count) dropped;
+  rows = ifDone (a .number) (a .rows) rows;
+  output = a .output;
+  positions = a .positions;
+}
+
+abbrev pub removeCall : Removed → ℕ → ℕ → Removed
+removeCall a freed position = record {
+  number = a .number;
+  position = ifMismatch (a .number) (a .position) position;
+  freed = ifDone (a .number) (a .freed) freed;
+  buffer = a .buffer;
+}
+
+-- ---- a row
 
 -- a row but its time: 1 for LOOSE, its length, and its bytes, zero filled to 21
 unfoldable pub rowBytes : Row → List ℕ
@@ -19,11 +73,13 @@ pub record RowCall : Type 0 where
   pub row : List ℕ
   pub time : ℕ
 
-abbrev pub rowFound : ℕ → Row → RowCall
-rowFound number r = record { number = number; row = rowBytes r; time = r .time }
+abbrev pub rowAnswer : ℕ → List ℕ → ℕ → RowCall
+rowAnswer number row time = record { number = number; row = row; time = time }
 
--- row i as it stands, zero beside a refusal; a row of another size is left as it was, and the time too
+-- row i as it stands; a row of another size is left as it was, and the time too
 unfoldable pub rowCall : List ℕ → ℕ → List ℕ → ℕ → RowCall
 rowCall buffer i old was =
-    cond (not (eqb (length old) rowLength)) (record { number = wrongSize; row = old; time = was })
-    (rowFound (rowAtOf buffer i .number) (rowAtOf buffer i .row))
+    cond (not (eqb (length old) rowLength)) (rowAnswer wrongSize old was)
+    (rowAnswer (rowAtOf buffer i .number)
+    (ifDone (rowAtOf buffer i .number) (rowBytes (rowAtOf buffer i .row)) old)
+    (ifDone (rowAtOf buffer i .number) (rowAtOf buffer i .row .time) was))

@@ -16,37 +16,29 @@ ghost use Rattle.repack_model.specs.Repack as repack;
 ghost use Rattle.repack.specs.Calls.{removeResult};
 ghost use Rattle.cutting.specs.Cut.{cutOf, cutBlockOf};
 ghost use Rattle.filling.specs.Fill.{putRowsGiven};
-ghost use Rattle.c_archive.specs.Calls.{rowCall};
+ghost use Rattle.c_archive.specs.Calls.{openCall, appendCall, hasPlace, putRowsCall, rowCall, salvageCall, removeCall};
 
 // How many rows an archive has: 16, 12 with the position.
 pub fn verify(buffer: &[u8], rows: &mut usize, position: &mut usize) -> u8
     ensures { λ r. ⌜ record { number = r; position = now (position .exit); rows = now (rows .exit) }
-        ≡ calls.openOf (now (buffer .entry)) ⌝ }
+        ≡ openCall (calls.openOf (now (buffer .entry))) (now (rows .entry)) (now (position .entry)) ⌝ }
 {
     let opened = archive::open(buffer);
     match opened {
         Opened::Rows(n) => {
             *rows = n;
-            *position = 0;
             0
         }
-        Opened::Damaged(k) => {
-            *rows = 0;
-            *position = k;
-            refusal::number(Refusal::Mismatch)
-        }
-        Opened::Refused(why) => {
-            *rows = 0;
-            *position = 0;
-            refusal::number(why)
-        }
+        Opened::Damaged(k) => c_layout::refuse(Refusal::Mismatch, k, position),
+        Opened::Refused(why) => c_layout::refuse(why, 0, position),
     }
 }
 
 // Appends a row: 16, 12 with the position, the check's for the row, 6.
 pub fn append(buffer: &mut [u8], bytes: &[u8], time: u64, loose: bool, position: &mut usize) -> u8
     ensures { λ r. ⌜ record { number = r; position = now (position .exit); buffer = now (buffer .exit) }
-        ≡ calls.appendOf (now (buffer .entry)) (rowOf (now (bytes .entry)) time loose) ⌝ }
+        ≡ appendCall (calls.appendOf (now (buffer .entry)) (rowOf (now (bytes .entry)) time loose))
+        (now (position .entry)) ⌝ }
 {
     settle(archive::append(buffer, bytes, time, loose), position)
 }
@@ -61,7 +53,8 @@ pub fn append_at(
     position: &mut usize,
 ) -> u8
     ensures { λ r. ⌜ record { number = r; position = now (position .exit); buffer = now (buffer .exit) }
-        ≡ calls.appendAtOf (now (buffer .entry)) n (rowOf (now (bytes .entry)) time loose) ⌝ }
+        ≡ appendCall (calls.appendAtOf (now (buffer .entry)) n (rowOf (now (bytes .entry)) time loose))
+        (now (position .entry)) ⌝ }
 {
     settle(archive::append_at(buffer, n, bytes, time, loose), position)
 }
@@ -76,7 +69,8 @@ pub fn put_row(
     position: &mut usize,
 ) -> u8
     ensures { λ r. ⌜ record { number = r; position = now (position .exit); buffer = now (block .exit) }
-        ≡ calls.putRowOf (now (block .entry)) n (rowOf (now (bytes .entry)) time loose) ⌝ }
+        ≡ appendCall (calls.putRowOf (now (block .entry)) n (rowOf (now (bytes .entry)) time loose))
+        (now (position .entry)) ⌝ }
 {
     settle(archive::put_row(block, n, bytes, time, loose), position)
 }
@@ -85,15 +79,20 @@ pub fn put_row(
 // the place of the row among these, 6.
 pub fn put_rows(block: &mut [u8], n: usize, times: &[u64], rows: &[u8], position: &mut usize) -> u8
     ensures { λ r. ⌜ record { number = r; position = now (position .exit); buffer = now (block .exit) }
-        ≡ putRowsGiven (now (block .entry)) n (now (times .entry)) (now (rows .entry)) ⌝ }
+        ≡ putRowsCall (putRowsGiven (now (block .entry)) n (now (times .entry)) (now (rows .entry)))
+        (now (position .entry)) ⌝ }
 {
     let filled = filling::put_rows(block, n, times, rows);
     let answer = filled.answer;
+    let number = taken_number(answer);
+    if !has_place(number) {
+        return number;
+    }
     *position = filled.position;
-    taken_number(answer)
+    number
 }
 
-// Row `i` as it stands, in 23 bytes and its time, all zero beside a refusal: 255, then 16, 10, 12.
+// Row `i` as it stands, in 23 bytes and its time, which stay as they were beside a refusal: 255, then 16, 10, 12.
 pub fn row_at(buffer: &[u8], i: usize, row: &mut [u8], time: &mut u64) -> u8
     ensures { λ r. ⌜ record { number = r; row = now (row .exit); time = now (time .exit) }
         ≡ rowCall (now (buffer .entry)) i (now (row .entry)) (now (time .entry)) ⌝ }
@@ -103,11 +102,15 @@ pub fn row_at(buffer: &[u8], i: usize, row: &mut [u8], time: &mut u64) -> u8
     }
     let found = archive::row_at(buffer, i);
     let answer = found.answer;
+    let number = found_number(answer);
+    if number != 0 {
+        return number;
+    }
     let bytes = found.bytes;
     row[0] = c_layout::flag_byte(found.loose);
     c_layout::put_frame(&mut row[1..ROW_LENGTH], found.len, &bytes);
     *time = found.time;
-    found_number(answer)
+    number
 }
 
 // A damaged archive packed anew: 16, 6.
@@ -125,13 +128,18 @@ pub fn salvage(
       output = now (out .exit);
       positions = now (positions .exit);
     }
-        ≡ repack.salvageOf (now (buffer .entry)) (now (out .entry)) (now (positions .entry)) ⌝ }
+        ≡ salvageCall (repack.salvageOf (now (buffer .entry)) (now (out .entry)) (now (positions .entry)))
+        (now (dropped .entry)) (now (rows .entry)) ⌝ }
 {
     let done = repack::salvage(buffer, out, positions);
     let answer = done.answer;
+    let number = taken_number(answer);
+    if number != 0 {
+        return number;
+    }
     *dropped = done.dropped;
     *rows = done.rows;
-    taken_number(answer)
+    number
 }
 
 // The rows of some transmitters removed in place: 16, 12 with the position, 10.
@@ -142,7 +150,8 @@ pub fn remove(buffer: &mut [u8], identities: &[u32], freed: &mut usize, position
       freed = now (freed .exit);
       buffer = now (buffer .exit);
     }
-        ≡ repack.removeOf (now (buffer .entry)) (now (identities .entry)) ⌝ }
+        ≡ removeCall (repack.removeOf (now (buffer .entry)) (now (identities .entry))) (now (freed .entry))
+        (now (position .entry)) ⌝ }
 {
     settle_removed(repack::remove(buffer, identities), freed, position)
 }
@@ -150,7 +159,7 @@ pub fn remove(buffer: &mut [u8], identities: &[u32], freed: &mut usize, position
 // Leaves the first `rows` rows: 16, 12 with the position, 10.
 pub fn cut(buffer: &mut [u8], rows: usize, position: &mut usize) -> u8
     ensures { λ r. ⌜ record { number = r; position = now (position .exit); buffer = now (buffer .exit) }
-        ≡ cutOf rows (now (buffer .entry)) ⌝ }
+        ≡ appendCall (cutOf rows (now (buffer .entry))) (now (position .entry)) ⌝ }
 {
     settle(cutting::cut(buffer, rows), position)
 }
@@ -166,46 +175,36 @@ pub fn cut_block(block: &mut [u8], rows: usize) -> u8
 fn settle_removed(removed: Removed, freed: &mut usize, position: &mut usize) -> u8
     ensures { λ r. ⌜ ((buffer : List ℕ)
         → record { number = r; position = now (position .exit); freed = now (freed .exit); buffer = buffer }
-        ≡ removeResult removed buffer) ⌝ }
+        ≡ removeCall (removeResult removed buffer) (now (freed .entry)) (now (position .entry))) ⌝ }
 {
     match removed {
         Removed::Done(n) => {
             *freed = n;
-            *position = 0;
             0
         }
-        Removed::Damaged(k) => {
-            *freed = 0;
-            *position = k;
-            refusal::number(Refusal::Mismatch)
-        }
-        Removed::Refused(why) => {
-            *freed = 0;
-            *position = 0;
-            refusal::number(why)
-        }
+        Removed::Damaged(k) => c_layout::refuse(Refusal::Mismatch, k, position),
+        Removed::Refused(why) => c_layout::refuse(why, 0, position),
     }
 }
 
 // The number of an outcome, and the position beside 12.
 fn settle(outcome: Outcome, position: &mut usize) -> u8
     ensures { λ r. ⌜ ((buffer : List ℕ)
-        → record { number = r; position = now (position .exit); buffer = buffer } ≡ appendResult outcome buffer) ⌝ }
+        → record { number = r; position = now (position .exit); buffer = buffer }
+        ≡ appendCall (appendResult outcome buffer) (now (position .entry))) ⌝ }
 {
     match outcome {
-        Outcome::Done => {
-            *position = 0;
-            0
-        }
-        Outcome::Damaged(k) => {
-            *position = k;
-            refusal::number(Refusal::Mismatch)
-        }
-        Outcome::Refused(why) => {
-            *position = 0;
-            refusal::number(why)
-        }
+        Outcome::Done => 0,
+        Outcome::Damaged(k) => c_layout::refuse(Refusal::Mismatch, k, position),
+        Outcome::Refused(why) => c_layout::refuse(why, 0, position),
     }
+}
+
+// Whether a position or the place of a row goes with a number: 12, or the check's.
+fn has_place(number: u8) -> bool
+    ensures { λ r. ⌜ r ≡ hasPlace number ⌝ }
+{
+    (number == 12) | ((number == 1) | (number == 2) | ((number == 13) | (number == 3)))
 }
 
 fn found_number(found: Found) -> u8

@@ -1,14 +1,16 @@
 // What the calls for other languages share: the number of a wrong size, and the bytes of a telegram with its length.
 use erp1::Checked;
+use refusal::Refusal;
 use telegram::frame::Built;
 ghost use mathlib.Core.Path.{_≡_};
 ghost use mathlib.Core.List.{List};
 ghost use Prim.Native.Nat.{ℕ};
+ghost use Rattle.refusal.specs.Number.{numberOf};
 ghost use Rattle.erp1.specs.Subtelegram.{checkedNumber};
 ghost use Rattle.telegram.specs.Output.{resultOf};
 ghost use Rattle.buffers.specs.Buffer.{overwritten};
 ghost use Rattle.c_layout.specs.Frame.{frameLength, frameBytes, flagByte};
-ghost use Rattle.c_layout.specs.Lent.{settled};
+ghost use Rattle.c_layout.specs.Lent.{ifMismatch, settled};
 
 // A lent slice does not have the size that its call asks for: a number of the interface alone, which no paper uses.
 pub const WRONG_SIZE: u8 = 255;
@@ -46,6 +48,19 @@ pub fn checked_number(checked: Checked) -> u8
         Checked::Valid => 0,
         Checked::Refused(why) => refusal::number(why),
     }
+}
+
+// The number of a refusal, and the position that goes with 12; beside any other number the position stays.
+pub fn refuse(why: Refusal, at: usize, position: &mut usize) -> u8
+    ensures { λ r. ⌜ (r ≡ numberOf why)
+        × (now (position .exit) ≡ ifMismatch (numberOf why) at (now (position .entry))) ⌝ }
+{
+    let number = refusal::number(why);
+    if number == refusal::number(Refusal::Mismatch) {
+        *position = at;
+        return number;
+    }
+    number
 }
 
 // The number of what was written, and its length; beside a refusal the length stays.

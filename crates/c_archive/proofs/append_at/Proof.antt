@@ -1,11 +1,19 @@
 -- `c_archive::append_at` meets its contract.
-use mathlib.Core.Path.{_∙_}
+use mathlib.Core.Path.{_∙_, ap}
 use borrow.Author.Needs.{needs}
+use denote.Ref.{now}
+use Rattle.archive_model.specs.Append.{Appended}
+use Rattle.c_archive.specs.Calls.{appendCall}
 use Rattle.c_archive.proofs.append_at.Statement.{statement}
 use Rattle.c_archive.proofs.append_at.Tie as tie
 
+abbrev start : tie.After-append-at → tie.Start
+start c = let a = c .before .before in a .before .before
+
 returns : tie.Need-returns
-returns c = c .settle .ensures _ ∙ c .before .before .before .before .append-at .ensures
+returns c =
+    let d = c .before .before .before .before in
+    c .settle .ensures _ ∙ ap (λ (a : Appended). appendCall a (now (start d .args .position))) (d .append-at .ensures)
 
 pub append-at-spec : {M : Type 1} → statement M
 append-at-spec =

@@ -1,11 +1,19 @@
 -- `c_archive::cut` meets its contract.
-use mathlib.Core.Path.{_∙_}
+use mathlib.Core.Path.{_∙_, ap}
 use borrow.Author.Needs.{needs}
+use denote.Ref.{now}
+use Rattle.archive_model.specs.Append.{Appended}
+use Rattle.c_archive.specs.Calls.{appendCall}
 use Rattle.c_archive.proofs.cut.Statement.{statement}
 use Rattle.c_archive.proofs.cut.Tie as tie
 
+abbrev start : tie.After-cut → tie.Start
+start c = c .before .before .before
+
 returns : tie.Need-returns
-returns c = c .settle .ensures _ ∙ c .before .before .before .before .cut .ensures
+returns c =
+    let d = c .before .before .before .before in
+    c .settle .ensures _ ∙ ap (λ (a : Appended). appendCall a (now (start d .args .position))) (d .cut .ensures)
 
 pub cut-spec : {M : Type 1} → statement M
 cut-spec =

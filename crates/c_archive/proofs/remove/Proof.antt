@@ -1,11 +1,20 @@
 -- `c_archive::remove` meets its contract.
-use mathlib.Core.Path.{_∙_}
+use mathlib.Core.Path.{_∙_, ap}
 use borrow.Author.Needs.{needs}
+use denote.Ref.{now}
+use Rattle.repack_model.specs.Repack.{Removed}
+use Rattle.c_archive.specs.Calls.{removeCall}
 use Rattle.c_archive.proofs.remove.Statement.{statement}
 use Rattle.c_archive.proofs.remove.Tie as tie
 
+abbrev start : tie.After-remove → tie.Start
+start c = let a = c .before .before in a .before .before
+
 returns : tie.Need-returns
-returns c = c .settle-removed .ensures _ ∙ c .before .before .before .before .before .remove .ensures
+returns c =
+    let r = let s = c .before .before in s .before .before .before in
+    let a = start r .args in
+    c .settle-removed .ensures _ ∙ ap (λ (x : Removed). removeCall x (now (a .freed)) (now (a .position))) (r .remove .ensures)
 
 pub remove-spec : {M : Type 1} → statement M
 remove-spec =

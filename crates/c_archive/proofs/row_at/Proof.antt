@@ -1,14 +1,16 @@
--- `c_archive::row_at` meets its contract: a step for the byte that is stored and for the part that is lent.
-use mathlib.Core.Path.{_≡_, _∙_}
+-- `c_archive::row_at` meets its contract: beside a refusal nothing is written, and else a step for the byte that is stored and for the part that is lent.
+use mathlib.Core.Path.{_≡_, sym, ap, _∙_}
 use native.Mathlib.Omega.{arith}
 use borrow.Author.Needs.{needs}
 use denote.Ref.{now}
 use lib.ListN.{length}
 use Rattle.buffers.proofs.Segments.{Writing, packed, begin, begun-length, within, lent, store, lend, done}
 use Rattle.buffers.proofs.Buffer.{overwritten-fits}
-use Rattle.archive.specs.Archive.{foundNumber}
+use Rattle.archive_model.specs.Append.{ReadRow, rowAtOf}
+use Rattle.archive.specs.Archive.{foundNumber, Shown}
+use Rattle.filling.specs.Fill.{rowLength}
 use Rattle.c_layout.specs.Frame.{frameLength, frameBytes}
-use Rattle.c_archive.proofs.Calls.{row-other, row-done, row-are}
+use Rattle.c_archive.proofs.Calls.{row-other, row-not, row-done, row-are}
 use Rattle.c_archive.proofs.row_at.Statement.{statement}
 use Rattle.c_archive.proofs.row_at.Tie as tie
 
@@ -17,36 +19,57 @@ other-size c =
     let a = c .before .before .before .args in
     row-other (now (a .buffer)) (a .i) (now (a .row)) (now (a .time)) (c .if1 .taken)
 
+abbrev start : tie.After-row-at → tie.Start
+start c = let e = c .before in e .before .before .before
+
+abbrev expected : tie.After-row-at → ReadRow
+expected c = rowAtOf (now (start c .args .buffer)) (start c .args .i)
+
+number : (c : tie.After-found-number) → c .found-number .result ≡ expected (c .before) .number
+number c = c .found-number .ensures ∙ ap (λ (s : Shown). s .number) (c .before .row-at .ensures)
+
+refused : tie.Need-returns-2
+refused c =
+    let n = c .before in
+    let a = start (n .before) .args in
+    row-not (now (a .buffer)) (a .i) (now (a .row)) (now (a .time)) (n .before .before .if1 .left) (n .found-number .result) (number n) (c .if2 .taken)
+
 -- what is written, after each step
+abbrev found : tie.After-flag-byte → tie.After-found-number
+found c = c .before .before .before
+
+long : (c : tie.After-flag-byte) → length (now (start (found c .before) .args .row)) ≡ rowLength
+long c = let r = found c .before in r .before .if1 .left
+
 abbrev step1 : tie.After-flag-byte → Writing 1
-step1 c = packed (store (begin (now (c .before .before .before .before .before .before .args .row))) (c .flag-byte .result) (omega (arith, c .before .before .before .if1 .left)))
+step1 c = packed (store (begin (now (start (found c .before) .args .row))) (c .flag-byte .result) (omega (arith, long c)))
 
 abbrev step2 : tie.After-put-frame → Writing 23
 step2 c =
     let at = c .before .before .before in
-    let r = at .before .before .row-at .result in
-    let long = at .before .before .before .if1 .left in
+    let r = found at .before .row-at .result in
     packed
     (lend (step1 at .begun) _ (frameBytes (r .len) (r .bytes)) 23
-    (c .put-frame .ensures ∙ overwritten-fits frameLength _ _ (lent (step1 at .begun) 22 23 (omega arith) (omega (arith, long))))
+    (c .put-frame .ensures ∙ overwritten-fits frameLength _ _ (lent (step1 at .begun) 22 23 (omega arith) (omega (arith, long at))))
     (c .put-frame .kept .0)
     (omega arith)
-    (omega (arith, long)))
+    (omega (arith, long at)))
 
 bytes-long : (c : tie.After-row-at) → length (c .row-at .result .bytes) ≡ 21
 bytes-long c = search needs
 
-written : tie.Need-returns-2
+written : tie.Need-returns-3
 written c =
-    let pf = c .before .before .before in
+    let pf = c .before .before in
     let fl = pf .before .before .before in
-    let at = fl .before .before in
-    let a = at .before .before .before .before .args in
+    let n = found fl in
+    let at = n .before in
+    let a = start at .args in
     let r = at .row-at .result in
-    let long = at .before .if1 .left in
-    rw (c .found-number .ensures, done (step2 pf .begun) long)
+    let none : expected at .number ≡ 0 = sym (number n) ∙ fl .before .before .if2 .left in
+    rw (n .found-number .ensures, done (step2 pf .begun) (long fl))
     (row-are _ (foundNumber (r .answer)) (r .len) (r .time) (r .bytes) (r .loose) _ (fl .flag-byte .ensures) (bytes-long at) (at .row-at .ensures)
-    ∙ row-done (now (a .buffer)) (a .i) (now (a .row)) (now (a .time)) long)
+    ∙ row-done (now (a .buffer)) (a .i) (now (a .row)) (now (a .time)) (long fl) none)
 
 pub row-at-spec : {M : Type 1} → statement M
 row-at-spec =
@@ -55,12 +78,13 @@ row-at-spec =
     other-size
     (λ c κs. search needs)
     (λ c κs. search needs)
+    refused
+    (λ c κs. search needs)
+    (λ c. omega (arith, long c))
     (λ c. search needs)
     (λ c. search needs)
-    (λ c. search needs)
-    (λ c. within (step1 c .begun) 23 (omega (arith, c .before .before .before .if1 .left)))
+    (λ c. within (step1 c .begun) 23 (omega (arith, long c)))
     (λ c. search needs)
     (λ c κs. search needs)
-    (λ c κs. search needs)
-    (λ c. begun-length (step2 (c .before .before .before) .begun))
+    (λ c. begun-length (step2 (c .before .before) .begun))
     written)

@@ -1,11 +1,29 @@
--- `c_archive::salvage` meets its contract.
-use mathlib.Core.Path.{_∙_}
+-- `c_archive::salvage` meets its contract: beside a refusal no number is written.
 use borrow.Author.Needs.{needs}
+use denote.Ref.{now}
+use Rattle.c_archive.proofs.Calls.{salvage-not, salvage-done}
 use Rattle.c_archive.proofs.salvage.Statement.{statement}
 use Rattle.c_archive.proofs.salvage.Tie as tie
 
-returns : tie.Need-returns
-returns c = rw (c .taken-number .ensures) (c .before .before .before .before .before .salvage .ensures)
+abbrev salvaged : tie.After-taken-number → tie.After-salvage
+salvaged c = let s = c .before .before in s .before .before .before
+
+abbrev start : tie.After-salvage → tie.Start
+start c = let a = c .before .before in a .before .before .before .before
+
+refused : tie.Need-returns
+refused c =
+    let t = c .before in
+    let s = salvaged t in
+    salvage-not (t .taken-number .result) (now (start s .args .dropped)) (now (start s .args .rows)) (t .taken-number .ensures) (s .salvage .ensures)
+    (c .if1 .taken)
+
+done : tie.Need-returns-2
+done c =
+    let t = c .before in
+    let s = salvaged t in
+    salvage-done (t .taken-number .result) (now (start s .args .dropped)) (now (start s .args .rows)) (t .taken-number .ensures) (s .salvage .ensures)
+    (c .if1 .left)
 
 pub salvage-spec : {M : Type 1} → statement M
 salvage-spec =
@@ -15,4 +33,7 @@ salvage-spec =
     (λ c κs. search needs)
     (λ c. search needs)
     (λ c. search needs)
-    returns)
+    refused
+    (λ c. search needs)
+    (λ c. search needs)
+    done)

@@ -1,24 +1,36 @@
--- `c_archive::settle` meets its contract: each arm is what `appendResult` says of it.
-use mathlib.Core.Path.{_∙_, ap, sym}
+-- `c_archive::settle` meets its contract: each arm is what `appendResult` says of it, and the position is written beside 12 alone.
+use mathlib.Core.Path.{_≡_, _∙_, ap, sym}
+use mathlib.Core.List.{List}
 use Prim.Native.Nat.{ℕ}
 use borrow.Author.Needs.{needs}
-use Rattle.archive_model.specs.Append.{refusedAppend}
+use denote.Ref.{now}
+use Rattle.refusal.specs.declared.Refusal.the-variants.{Mismatch}
 use Rattle.archive.specs.declared.Outcome.{Outcome}
 use Rattle.archive.specs.Archive.{appendResult}
+use Rattle.c_archive.specs.Calls.{appendCall}
+use Rattle.c_archive.proofs.Calls.{append-not}
 use Rattle.c_archive.proofs.settle.Statement.{statement}
 use Rattle.c_archive.proofs.settle.Tie as tie
 
-returns : tie.Need-returns
-returns c buffer = ap (λ (o : Outcome). appendResult o buffer) (sym (c .enum-told .given .1))
+-- what an outcome shows
+told : (c : tie.Start) (o : Outcome) (buffer : List ℕ) → c .args .outcome ≡ o
+    → appendCall (appendResult o buffer) (now (c .args .position)) ≡ appendCall (appendResult (c .args .outcome) buffer) (now (c .args .position))
+told c o buffer e = ap (λ (x : Outcome). appendCall (appendResult x buffer) (now (c .args .position))) (sym e)
 
-returns-2 : tie.Need-returns-2
-returns-2 c buffer =
-    ap (λ (n : ℕ). refusedAppend n (c .before .before .outcome .given .0 .0) buffer) (c .number .ensures)
-    ∙ ap (λ (o : Outcome). appendResult o buffer) (sym (c .before .before .outcome .given .1))
+done : tie.Need-returns
+done c buffer = told (c .before .before) _ buffer (c .enum-told .given .1)
 
-returns-3 : tie.Need-returns-3
-returns-3 c buffer =
-    ap (λ (n : ℕ). refusedAppend n 0 buffer) (c .number2 .ensures) ∙ ap (λ (o : Outcome). appendResult o buffer) (sym (c .before .before .outcome2 .given .1))
+damaged : tie.Need-returns-2
+damaged c buffer =
+    let o = c .before .before .before in
+    let at = o .before .before in
+    append-not Mismatch (o .outcome .given .0 .0) (now (at .args .position)) (c .refuse .ensures .0) (c .refuse .ensures .1) buffer ∙ told at _ buffer (o .outcome .given .1)
+
+refused : tie.Need-returns-3
+refused c buffer =
+    let o = c .before .before .before in
+    let at = o .before .before in
+    append-not (o .outcome2 .given .0 .0) 0 (now (at .args .position)) (c .refuse2 .ensures .0) (c .refuse2 .ensures .1) buffer ∙ told at _ buffer (o .outcome2 .given .1)
 
 pub settle-spec : {M : Type 1} → statement M
 settle-spec =
@@ -29,6 +41,6 @@ settle-spec =
     (λ c κs. search needs)
     (λ c. search needs)
     (λ c κs. search needs)
-    returns
-    returns-2
-    returns-3)
+    done
+    damaged
+    refused)
