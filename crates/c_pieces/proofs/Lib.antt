@@ -1,3 +1,4 @@
 pub mod Scans
 pub mod Addings
 pub mod Pieces
+pub mod Packers

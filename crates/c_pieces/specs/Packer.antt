@@ -3,11 +3,29 @@ use Prim.Native.Nat.{ℕ}
 use mathlib.Core.List.{List}
 use lib.ListN.{getD}
 use Rattle.repack_model.specs.Packer.{Packed, packOf, Finished, finishOf}
+use Rattle.c_layout.specs.Lent.{ifDone}
 
--- the numbers are the rows that wait, and the blocks written
-abbrev pub packCall : List ℕ → List ℕ → List ℕ → List ℕ → List ℕ → List ℕ → Packed
-packCall numbers waiting piece identities output positions =
-    packOf (getD numbers 1 0) (getD numbers 0 0) waiting piece identities output positions
+-- how many blocks of a piece were dropped is handed back beside 0
+abbrev pub packShown : Packed → ℕ → Packed
+packShown a dropped = record {
+  number = a .number;
+  count = ifDone (a .number) (a .count) dropped;
+  used = a .used;
+  next = a .next;
+  pending = a .pending;
+  output = a .output;
+  positions = a .positions;
+}
 
-abbrev pub packEnd : List ℕ → List ℕ → List ℕ → Finished
-packEnd numbers waiting output = finishOf (getD numbers 1 0) (getD numbers 0 0) waiting output
+-- a piece; the numbers are the rows that wait, and the blocks written
+abbrev pub packCall : List ℕ → List ℕ → List ℕ → List ℕ → List ℕ → List ℕ → ℕ → Packed
+packCall numbers waiting piece identities output positions dropped =
+    packShown (packOf (getD numbers 1 0) (getD numbers 0 0) waiting piece identities output positions) dropped
+
+-- the length of the last block, beside 0
+abbrev pub endShown : Finished → ℕ → Finished
+endShown a old = record { number = a .number; length = ifDone (a .number) (a .length) old; output = a .output }
+
+-- the end
+abbrev pub packEnd : List ℕ → List ℕ → List ℕ → ℕ → Finished
+packEnd numbers waiting output old = endShown (finishOf (getD numbers 1 0) (getD numbers 0 0) waiting output) old

@@ -65,8 +65,8 @@ pub fn end(
     ensures { λ r. ⌜ Adds
         (pieces.endedOf (addingAt (now (numbers .entry)) (now (lines .entry)) (now (adding .entry))
         (now (tally .entry))))
-        (now (tally .entry)) (now (numbers .entry)) (now (lines .entry)) r (now (position .exit)) (now (numbers .exit))
-        (now (lines .exit)) ⌝ }
+        (now (tally .entry)) (now (numbers .entry)) (now (lines .entry)) (now (position .entry)) r
+        (now (position .exit)) (now (numbers .exit)) (now (lines .exit)) ⌝ }
 {
     let a = adding_in(numbers, lines, adding, tally);
     let added = a.end();

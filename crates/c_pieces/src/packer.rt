@@ -28,7 +28,7 @@ pub fn feed(
       positions = now (positions .exit);
     }
         ≡ packCall (now (numbers .entry)) (now (waiting .entry)) (now (piece .entry)) (now (identities .entry))
-        (now (out .entry)) (now (positions .entry)) ⌝ }
+        (now (out .entry)) (now (positions .entry)) (now (dropped .entry)) ⌝ }
 {
     let done = repack::pack(
         waiting,
@@ -41,8 +41,12 @@ pub fn feed(
     );
     let answer = done.answer;
     *numbers = [done.used as u64, done.next as u64];
+    let number = c_archive::taken_number(answer);
+    if number != 0 {
+        return number;
+    }
     *dropped = done.dropped;
-    c_archive::taken_number(answer)
+    number
 }
 
 // The last block, where rows wait, and its length: 11, 6.
@@ -53,10 +57,14 @@ pub fn end(
     length: &mut usize,
 ) -> u8
     ensures { λ r. ⌜ record { number = r; length = now (length .exit); output = now (out .exit) }
-        ≡ packEnd (now (numbers .entry)) (now (waiting .entry)) (now (out .entry)) ⌝ }
+        ≡ packEnd (now (numbers .entry)) (now (waiting .entry)) (now (out .entry)) (now (length .entry)) ⌝ }
 {
     let done = repack::finish(waiting, numbers[0] as usize, numbers[1] as usize, out);
     let answer = done.answer;
+    let number = c_archive::taken_number(answer);
+    if number != 0 {
+        return number;
+    }
     *length = done.len;
-    c_archive::taken_number(answer)
+    number
 }

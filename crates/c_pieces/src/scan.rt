@@ -4,6 +4,7 @@ use archive::Stage;
 use refusal::Refusal;
 ghost use mathlib.Core.Path.{_≡_};
 ghost use Rattle.archive.specs.Archive.{stageOf, scanOf};
+ghost use Rattle.c_archive.specs.Calls.{openCall};
 ghost use Rattle.c_pieces.specs.Scan.{stageAt, stageNumber, stagePosition, scanAt, scanCall, scanEnd};
 
 // Blocks passed, their rows, the stage, and the position of the block that does not match.
@@ -35,10 +36,8 @@ pub fn feed(numbers: &mut [u64; NUMBERS], piece: &[u8]) -> u8
 // What all pieces answer together: how many rows; 11, 12 with the position.
 pub fn end(numbers: &[u64; NUMBERS], rows: &mut usize, position: &mut usize) -> u8
     ensures { λ r. ⌜ record { number = r; position = now (position .exit); rows = now (rows .exit) }
-        ≡ scanEnd (scanAt (now (numbers .entry))) ⌝ }
+        ≡ openCall (scanEnd (scanAt (now (numbers .entry)))) (now (rows .entry)) (now (position .entry)) ⌝ }
 {
-    *rows = 0;
-    *position = 0;
     let s = scan_of(numbers[0], numbers[1], numbers[2], numbers[3]);
     if !archive::is_scan(s) {
         return refusal::number(Refusal::NotAccepted);

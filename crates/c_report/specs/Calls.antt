@@ -6,6 +6,7 @@ use lib.ListN.{length, getD, replicate}
 use Rattle.report_model.specs.Report as model
 use Rattle.report.specs.Lines.{linesLength, linesAt, lineNumbers}
 use Rattle.report.specs.Report.{linesAdded}
+use Rattle.c_layout.specs.Lent.{ifDone, ifMismatch}
 
 -- archives added, lines, KEPT rows and LOOSE rows; five numbers for each line
 abbrev pub reportAt : List ℕ → List ℕ → model.Report
@@ -29,9 +30,12 @@ abbrev pub linesWith : model.Addition → List ℕ → List ℕ
 linesWith a old = linesAdded a old
 
 -- a call that adds to a report, in its two arrays before and after it, and what the lines' array is where nothing is refused
-pub record Adds (expected : model.Addition) (done numbers lines : List ℕ) (number position : ℕ)
+pub record Adds (expected : model.Addition) (done numbers lines : List ℕ) (position number position' : ℕ)
     (numbers' lines' : List ℕ) : Type 0 where
-  pub result : model.answer number position (reportAt numbers' lines') ≡ expected
+  pub told : number ≡ expected .number
+  -- the position goes with 12 alone
+  pub place : position' ≡ ifMismatch (expected .number) (expected .position) position
+  pub next : reportAt numbers' lines' ≡ expected .next
   -- beside any other number than 0 every number of both arrays is as it was
   pub numbersStay : (number ≡ 0 → ⊥) → numbers' ≡ numbers
   pub linesStay : (number ≡ 0 → ⊥) → lines' ≡ lines
@@ -44,8 +48,12 @@ pub record LineCall : Type 0 where
   pub number : ℕ
   pub values : List ℕ
 
-abbrev pub answeredLine : model.LineAnswer → LineCall
-answeredLine a = record { number = a .number; values = lineNumbers (a .line) }
+abbrev pub answeredLine : model.LineAnswer → List ℕ → LineCall
+answeredLine a old = record { number = a .number; values = ifDone (a .number) (lineNumbers (a .line)) old }
 
-abbrev pub lineCall : model.Report → ℕ → LineCall
-lineCall r i = answeredLine (model.lineOfReport r i)
+abbrev pub lineCall : model.Report → ℕ → List ℕ → LineCall
+lineCall r i old = answeredLine (model.lineOfReport r i) old
+
+-- the number, and the share at exit
+abbrev pub shareCall : model.Share → ℕ → model.Share
+shareCall a old = record { number = a .number; thousandths = ifDone (a .number) (a .thousandths) old }

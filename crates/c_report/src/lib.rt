@@ -8,7 +8,8 @@ use report::Share;
 ghost use mathlib.Core.Path.{_≡_};
 ghost use Rattle.report_model.specs.Report as model;
 ghost use Rattle.report.specs.Report.{reportOf, outcomeNumber, outcomePosition, lookedNumber};
-ghost use Rattle.c_report.specs.Calls.{reportAt, reportNumbers, emptyLines, linesWith, Adds, lineCall};
+ghost use Rattle.c_layout.specs.Lent.{ifMismatch};
+ghost use Rattle.c_report.specs.Calls.{reportAt, reportNumbers, emptyLines, linesWith, Adds, lineCall, shareCall};
 
 // How many archives were added, how many lines there are, KEPT rows, LOOSE rows.
 pub const NUMBERS: usize = 4;
@@ -36,8 +37,8 @@ pub fn add(
     ensures { λ r. ⌜ Adds (model.addOf (reportAt (now (numbers .entry)) (now (lines .entry))) (now (buffer .entry)))
         (linesWith (model.addOf (reportAt (now (numbers .entry)) (now (lines .entry))) (now (buffer .entry)))
         (now (lines .entry)))
-        (now (numbers .entry)) (now (lines .entry)) r (now (position .exit)) (now (numbers .exit))
-        (now (lines .exit)) ⌝ }
+        (now (numbers .entry)) (now (lines .entry)) (now (position .entry)) r (now (position .exit))
+        (now (numbers .exit)) (now (lines .exit)) ⌝ }
 {
     let added = report_in(numbers, lines).add(buffer);
     let answer = added.answer;
@@ -49,7 +50,7 @@ pub fn add(
     number
 }
 
-// Line `i`, five numbers, zero beside a refusal: 11, 10.
+// Line `i`, five numbers, which stay as they were beside a refusal: 11, 10.
 pub fn line(
     numbers: &[u64; NUMBERS],
     lines: &[u64; LINES],
@@ -57,9 +58,14 @@ pub fn line(
     line: &mut [u64; LINE_NUMBERS],
 ) -> u8
     ensures { λ r. ⌜ record { number = r; values = now (line .exit) }
-        ≡ lineCall (reportAt (now (numbers .entry)) (now (lines .entry))) i ⌝ }
+        ≡ lineCall (reportAt (now (numbers .entry)) (now (lines .entry))) i (now (line .entry)) ⌝ }
 {
     let found = report_in(numbers, lines).line(i);
+    let answer = found.answer;
+    let number = looked_number(answer);
+    if number != 0 {
+        return number;
+    }
     *line = [
         found.identity,
         found.kept,
@@ -67,8 +73,7 @@ pub fn line(
         found.earliest,
         found.latest,
     ];
-    let answer = found.answer;
-    looked_number(answer)
+    number
 }
 
 // The share of its rows in receptions, in whole thousandths: 11, 10.
@@ -79,7 +84,8 @@ pub fn share(
     thousandths: &mut u64,
 ) -> u8
     ensures { λ r. ⌜ record { number = r; thousandths = now (thousandths .exit) }
-        ≡ model.shareOf (reportAt (now (numbers .entry)) (now (lines .entry))) received ⌝ }
+        ≡ shareCall (model.shareOf (reportAt (now (numbers .entry)) (now (lines .entry))) received)
+        (now (thousandths .entry)) ⌝ }
 {
     let share = report_in(numbers, lines).share(received);
     match share {
@@ -87,10 +93,7 @@ pub fn share(
             *thousandths = t;
             0
         }
-        Share::Refused(why) => {
-            *thousandths = 0;
-            refusal::number(why)
-        }
+        Share::Refused(why) => refusal::number(why),
     }
 }
 
@@ -119,21 +122,14 @@ pub fn store(r: Report, numbers: &mut [u64; NUMBERS], lines: &mut [u64; LINES])
 
 // The number of an outcome, and the position beside 12.
 pub fn settle(outcome: Outcome, position: &mut usize) -> u8
-    ensures { λ r. ⌜ (r ≡ outcomeNumber outcome) × (now (position .exit) ≡ outcomePosition outcome) ⌝ }
+    ensures { λ r. ⌜ (r ≡ outcomeNumber outcome)
+        × (now (position .exit)
+        ≡ ifMismatch (outcomeNumber outcome) (outcomePosition outcome) (now (position .entry))) ⌝ }
 {
     match outcome {
-        Outcome::Done => {
-            *position = 0;
-            0
-        }
-        Outcome::Damaged(k) => {
-            *position = k;
-            refusal::number(Refusal::Mismatch)
-        }
-        Outcome::Refused(why) => {
-            *position = 0;
-            refusal::number(why)
-        }
+        Outcome::Done => 0,
+        Outcome::Damaged(k) => c_layout::refuse(Refusal::Mismatch, k, position),
+        Outcome::Refused(why) => c_layout::refuse(why, 0, position),
     }
 }
 

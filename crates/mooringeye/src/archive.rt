@@ -8,7 +8,7 @@ ghost use Rattle.archive_model.specs.Append as calls;
 ghost use Rattle.repack_model.specs.Repack as repack;
 ghost use Rattle.cutting.specs.Cut.{cutOf, cutBlockOf};
 ghost use Rattle.filling.specs.Fill.{putRowsGiven};
-ghost use Rattle.c_archive.specs.Calls.{rowCall};
+ghost use Rattle.c_archive.specs.Calls.{openCall, appendCall, putRowsCall, rowCall, salvageCall, removeCall};
 ghost use Rattle.c_pieces.specs.Scan.{scanAt, scanCall, scanEnd};
 ghost use Rattle.c_pieces.specs.Packer.{packCall, packEnd};
 
@@ -20,7 +20,7 @@ pub extern "C" fn mooringeye_archive_verify(
     position: &mut usize,
 ) -> u8
     ensures { λ r. ⌜ record { number = r; position = now (position .exit); rows = now (rows .exit) }
-        ≡ calls.openOf (now (buffer .entry)) ⌝ }
+        ≡ openCall (calls.openOf (now (buffer .entry))) (now (rows .entry)) (now (position .entry)) ⌝ }
 {
     c_archive::verify(buffer, rows, position)
 }
@@ -35,7 +35,8 @@ pub extern "C" fn mooringeye_archive_append(
     position: &mut usize,
 ) -> u8
     ensures { λ r. ⌜ record { number = r; position = now (position .exit); buffer = now (buffer .exit) }
-        ≡ calls.appendOf (now (buffer .entry)) (record { bytes = now (bytes .entry); time = time; loose = loose }) ⌝ }
+        ≡ appendCall (calls.appendOf (now (buffer .entry))
+        (record { bytes = now (bytes .entry); time = time; loose = loose })) (now (position .entry)) ⌝ }
 {
     c_archive::append(buffer, bytes, time, loose, position)
 }
@@ -51,8 +52,8 @@ pub extern "C" fn mooringeye_archive_append_at(
     position: &mut usize,
 ) -> u8
     ensures { λ r. ⌜ record { number = r; position = now (position .exit); buffer = now (buffer .exit) }
-        ≡ calls.appendAtOf (now (buffer .entry)) n
-        (record { bytes = now (bytes .entry); time = time; loose = loose }) ⌝ }
+        ≡ appendCall (calls.appendAtOf (now (buffer .entry)) n
+        (record { bytes = now (bytes .entry); time = time; loose = loose })) (now (position .entry)) ⌝ }
 {
     c_archive::append_at(buffer, n, bytes, time, loose, position)
 }
@@ -68,7 +69,8 @@ pub extern "C" fn mooringeye_archive_put_row(
     position: &mut usize,
 ) -> u8
     ensures { λ r. ⌜ record { number = r; position = now (position .exit); buffer = now (block .exit) }
-        ≡ calls.putRowOf (now (block .entry)) n (record { bytes = now (bytes .entry); time = time; loose = loose }) ⌝ }
+        ≡ appendCall (calls.putRowOf (now (block .entry)) n
+        (record { bytes = now (bytes .entry); time = time; loose = loose })) (now (position .entry)) ⌝ }
 {
     c_archive::put_row(block, n, bytes, time, loose, position)
 }
@@ -83,7 +85,8 @@ pub extern "C" fn mooringeye_archive_put_rows(
     position: &mut usize,
 ) -> u8
     ensures { λ r. ⌜ record { number = r; position = now (position .exit); buffer = now (block .exit) }
-        ≡ putRowsGiven (now (block .entry)) n (now (times .entry)) (now (rows .entry)) ⌝ }
+        ≡ putRowsCall (putRowsGiven (now (block .entry)) n (now (times .entry)) (now (rows .entry)))
+        (now (position .entry)) ⌝ }
 {
     c_archive::put_rows(block, n, times, rows, position)
 }
@@ -118,7 +121,8 @@ pub extern "C" fn mooringeye_archive_salvage(
       output = now (out .exit);
       positions = now (positions .exit);
     }
-        ≡ repack.salvageOf (now (buffer .entry)) (now (out .entry)) (now (positions .entry)) ⌝ }
+        ≡ salvageCall (repack.salvageOf (now (buffer .entry)) (now (out .entry)) (now (positions .entry)))
+        (now (dropped .entry)) (now (rows .entry)) ⌝ }
 {
     c_archive::salvage(buffer, out, positions, dropped, rows)
 }
@@ -137,7 +141,8 @@ pub extern "C" fn mooringeye_archive_remove(
       freed = now (freed .exit);
       buffer = now (buffer .exit);
     }
-        ≡ repack.removeOf (now (buffer .entry)) (now (identities .entry)) ⌝ }
+        ≡ removeCall (repack.removeOf (now (buffer .entry)) (now (identities .entry))) (now (freed .entry))
+        (now (position .entry)) ⌝ }
 {
     c_archive::remove(buffer, identities, freed, position)
 }
@@ -146,7 +151,7 @@ pub extern "C" fn mooringeye_archive_remove(
 #[no_mangle]
 pub extern "C" fn mooringeye_archive_cut(buffer: &mut [u8], rows: usize, position: &mut usize) -> u8
     ensures { λ r. ⌜ record { number = r; position = now (position .exit); buffer = now (buffer .exit) }
-        ≡ cutOf rows (now (buffer .entry)) ⌝ }
+        ≡ appendCall (cutOf rows (now (buffer .entry))) (now (position .entry)) ⌝ }
 {
     c_archive::cut(buffer, rows, position)
 }
@@ -178,7 +183,7 @@ pub extern "C" fn mooringeye_scan_end(
     position: &mut usize,
 ) -> u8
     ensures { λ r. ⌜ record { number = r; position = now (position .exit); rows = now (rows .exit) }
-        ≡ scanEnd (scanAt (now (numbers .entry))) ⌝ }
+        ≡ openCall (scanEnd (scanAt (now (numbers .entry)))) (now (rows .entry)) (now (position .entry)) ⌝ }
 {
     scan::end(numbers, rows, position)
 }
@@ -204,8 +209,7 @@ pub extern "C" fn mooringeye_pack_feed(
       positions = now (positions .exit);
     }
         ≡ packCall (now (numbers .entry)) (now (waiting .entry)) (now (piece .entry)) (now (identities .entry))
-        (now (out .entry))
-        (now (positions .entry)) ⌝ }
+        (now (out .entry)) (now (positions .entry)) (now (dropped .entry)) ⌝ }
 {
     packer::feed(numbers, waiting, piece, identities, out, positions, dropped)
 }
@@ -219,7 +223,7 @@ pub extern "C" fn mooringeye_pack_end(
     length: &mut usize,
 ) -> u8
     ensures { λ r. ⌜ record { number = r; length = now (length .exit); output = now (out .exit) }
-        ≡ packEnd (now (numbers .entry)) (now (waiting .entry)) (now (out .entry)) ⌝ }
+        ≡ packEnd (now (numbers .entry)) (now (waiting .entry)) (now (out .entry)) (now (length .entry)) ⌝ }
 {
     packer::end(numbers, waiting, out, length)
 }

@@ -4,6 +4,7 @@ ghost use Rattle.layout.specs.BigEndian.{be};
 ghost use Rattle.erp1.specs.Subtelegram.{checkOf};
 ghost use Rattle.erp1.specs.Same.{isSame};
 ghost use Rattle.telegram.specs.Addressing.{encapsulateOf, decapsulateOf};
+ghost use Rattle.c_layout.specs.Lent.{settled};
 ghost use Rattle.c_codec.specs.Calls.{readCall, buildCall, repeatCall};
 
 // The check.
@@ -49,7 +50,7 @@ pub extern "C" fn mooringeye_encapsulate(
     length: &mut usize,
 ) -> u8
     ensures { λ r. ⌜ record { number = r; len = now (length .exit); output = now (out .exit) }
-        ≡ encapsulateOf (now (bytes .entry)) (be 4 destid) (now (out .entry)) ⌝ }
+        ≡ settled (encapsulateOf (now (bytes .entry)) (be 4 destid) (now (out .entry))) (now (length .entry)) ⌝ }
 {
     c_codec::encapsulate(bytes, destid, out, length)
 }
@@ -58,7 +59,7 @@ pub extern "C" fn mooringeye_encapsulate(
 #[no_mangle]
 pub extern "C" fn mooringeye_decapsulate(bytes: &[u8], out: &mut [u8], length: &mut usize) -> u8
     ensures { λ r. ⌜ record { number = r; len = now (length .exit); output = now (out .exit) }
-        ≡ decapsulateOf (now (bytes .entry)) (now (out .entry)) ⌝ }
+        ≡ settled (decapsulateOf (now (bytes .entry)) (now (out .entry))) (now (length .entry)) ⌝ }
 {
     c_codec::decapsulate(bytes, out, length)
 }

@@ -6,7 +6,7 @@ use c_report::NUMBERS;
 ghost use mathlib.Core.Path.{_≡_};
 ghost use Rattle.report_model.specs.Report as model;
 ghost use Rattle.report_model.specs.Pieces as pieces;
-ghost use Rattle.c_report.specs.Calls.{reportAt, reportNumbers, emptyLines, linesWith, Adds, lineCall};
+ghost use Rattle.c_report.specs.Calls.{reportAt, reportNumbers, emptyLines, linesWith, Adds, lineCall, shareCall};
 ghost use Rattle.c_pieces.specs.Adding.{addingAt, tallyNumbers, Feeds};
 
 // A report of no archive.
@@ -29,8 +29,8 @@ pub extern "C" fn mooringeye_report_add(
     ensures { λ r. ⌜ Adds (model.addOf (reportAt (now (numbers .entry)) (now (lines .entry))) (now (buffer .entry)))
         (linesWith (model.addOf (reportAt (now (numbers .entry)) (now (lines .entry))) (now (buffer .entry)))
         (now (lines .entry)))
-        (now (numbers .entry)) (now (lines .entry)) r (now (position .exit)) (now (numbers .exit))
-        (now (lines .exit)) ⌝ }
+        (now (numbers .entry)) (now (lines .entry)) (now (position .entry)) r (now (position .exit))
+        (now (numbers .exit)) (now (lines .exit)) ⌝ }
 {
     c_report::add(numbers, lines, buffer, position)
 }
@@ -44,7 +44,7 @@ pub extern "C" fn mooringeye_report_line(
     line: &mut [u64; LINE_NUMBERS],
 ) -> u8
     ensures { λ r. ⌜ record { number = r; values = now (line .exit) }
-        ≡ lineCall (reportAt (now (numbers .entry)) (now (lines .entry))) i ⌝ }
+        ≡ lineCall (reportAt (now (numbers .entry)) (now (lines .entry))) i (now (line .entry)) ⌝ }
 {
     c_report::line(numbers, lines, i, line)
 }
@@ -58,7 +58,8 @@ pub extern "C" fn mooringeye_report_share(
     thousandths: &mut u64,
 ) -> u8
     ensures { λ r. ⌜ record { number = r; thousandths = now (thousandths .exit) }
-        ≡ model.shareOf (reportAt (now (numbers .entry)) (now (lines .entry))) received ⌝ }
+        ≡ shareCall (model.shareOf (reportAt (now (numbers .entry)) (now (lines .entry))) received)
+        (now (thousandths .entry)) ⌝ }
 {
     c_report::share(numbers, lines, received, thousandths)
 }
@@ -111,8 +112,8 @@ pub extern "C" fn mooringeye_report_end(
     ensures { λ r. ⌜ Adds
         (pieces.endedOf (addingAt (now (numbers .entry)) (now (lines .entry)) (now (adding .entry))
         (now (tally .entry))))
-        (now (tally .entry)) (now (numbers .entry)) (now (lines .entry)) r (now (position .exit)) (now (numbers .exit))
-        (now (lines .exit)) ⌝ }
+        (now (tally .entry)) (now (numbers .entry)) (now (lines .entry)) (now (position .entry)) r
+        (now (position .exit)) (now (numbers .exit)) (now (lines .exit)) ⌝ }
 {
     adding::end(numbers, lines, adding, tally, position)
 }

@@ -7,8 +7,8 @@ use denote.Ref.{now}
 use Rattle.report_model.specs.Report as model
 use Rattle.report_model.proofs.Additions.{refused-kept}
 use Rattle.report.specs.Report.{addedResult, linesAdded}
+use Rattle.c_layout.specs.Lent.{ifMismatch}
 use Rattle.c_report.specs.Calls.{reportAt, reportNumbers}
-use Rattle.c_report.proofs.Calls.{answer-is}
 use Rattle.c_report.proofs.add.Statement.{statement}
 use Rattle.c_report.proofs.add.Tie as tie
 
@@ -20,6 +20,10 @@ report c = reportAt (now (start c .args .numbers)) (now (start c .args .lines))
 
 abbrev expected : tie.After-add → model.Addition
 expected c = model.addOf (report c) (now (start c .args .buffer))
+
+-- the position that an answer leaves
+abbrev place : ℕ → model.Addition → ℕ
+place old x = ifMismatch (x .number) (x .position) old
 
 is : (c : tie.After-add) → addedResult (c .add .result) ≡ expected c
 is c = c .add .ensures .0 ∙ ap (λ (r : model.Report). model.addOf r (now (start c .args .buffer))) (c .before .report-in .ensures .0)
@@ -38,9 +42,9 @@ refused c =
     let s = c .before in
     let a = s .before .before in
     record {
-      result =
-          answer-is (number s) (s .settle .ensures .1 ∙ ap (λ (x : model.Addition). x .position) (is a))
-          (sym (refused-kept (report a) (now (start a .args .buffer)) (λ z. c .if1 .taken (number s ∙ z))));
+      told = number s;
+      place = s .settle .ensures .1 ∙ ap (place (now (start a .args .position))) (is a);
+      next = sym (refused-kept (report a) (now (start a .args .buffer)) (λ z. c .if1 .taken (number s ∙ z)));
       numbersStay = λ n. refl;
       linesStay = λ n. refl;
       numbersAre = λ z. absurd (c .if1 .taken z);
@@ -53,7 +57,9 @@ added c =
     let s = e .before in
     let a = s .before .before in
     record {
-      result = answer-is (s .settle .ensures .0) (s .settle .ensures .1) (c .store .ensures .0) ∙ is a;
+      told = number s;
+      place = s .settle .ensures .1 ∙ ap (place (now (start a .args .position))) (is a);
+      next = c .store .ensures .0 ∙ ap (λ (x : model.Addition). x .next) (is a);
       numbersStay = λ n. absurd (n (e .if1 .left));
       linesStay = λ n. absurd (n (e .if1 .left));
       numbersAre = λ z. c .store .ensures .1 ∙ ap (λ (x : model.Addition). reportNumbers (x .next)) (is a);

@@ -1,19 +1,32 @@
--- `c_report::settle` meets its contract: each arm is what `outcomeNumber` and `outcomePosition` say of it.
-use mathlib.Core.Path.{_∙_, ap, sym}
+-- `c_report::settle` meets its contract: each arm is what `outcomeNumber` and `outcomePosition` say of it, and the position is written beside 12 alone.
+use mathlib.Core.Path.{_≡_, _∙_, ap, sym}
+use Prim.Native.Nat.{ℕ}
 use borrow.Author.Needs.{needs}
+use denote.Ref.{now}
+use Rattle.archive.specs.declared.Outcome.{Outcome}
 use Rattle.report.specs.Report.{outcomeNumber, outcomePosition}
+use Rattle.c_layout.specs.Lent.{ifMismatch}
 use Rattle.c_report.proofs.settle.Statement.{statement}
 use Rattle.c_report.proofs.settle.Tie as tie
 
+-- the position that an outcome leaves
+abbrev place : tie.Start → Outcome → ℕ
+place c o = ifMismatch (outcomeNumber o) (outcomePosition o) (now (c .args .position))
+
 damaged : tie.Need-returns-2
 damaged c =
-    let told = sym (c .before .before .outcome .given .1) in
-    (c .number .ensures ∙ ap outcomeNumber told, ap outcomePosition told)
+    let o = c .before .before .before in
+    let told = sym (o .outcome .given .1) in
+    (c .refuse .ensures .0 ∙ ap outcomeNumber told, c .refuse .ensures .1 ∙ ap (place (o .before .before)) told)
 
 refused : tie.Need-returns-3
 refused c =
-    let told = sym (c .before .before .outcome2 .given .1) in
-    (c .number2 .ensures ∙ ap outcomeNumber told, ap outcomePosition told)
+    let o = c .before .before .before in
+    let told = sym (o .outcome2 .given .1) in
+    (c .refuse2 .ensures .0 ∙ ap outcomeNumber told, c .refuse2 .ensures .1 ∙ ap (place (o .before .before)) told)
+
+done : tie.Need-returns
+done c = let told = sym (c .enum-told .given .1) in (ap outcomeNumber told, ap (place (c .before .before)) told)
 
 pub settle-spec : {M : Type 1} → statement M
 settle-spec =
@@ -24,6 +37,6 @@ settle-spec =
     (λ c κs. search needs)
     (λ c. search needs)
     (λ c κs. search needs)
-    (λ c. search needs)
+    done
     damaged
     refused)

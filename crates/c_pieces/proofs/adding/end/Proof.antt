@@ -1,13 +1,14 @@
 -- `c_pieces::adding::end` meets its contract: beside a refusal nothing is stored, and what is answered is the report that was handed in.
 use mathlib.Core.Path.{_≡_, refl, sym, ap, _∙_}
+use Prim.Native.Nat.{ℕ}
 use borrow.Author.Needs.{needs}
 use borrow.Author.Tests.{eq-eqb}
 use denote.Ref.{now}
 use Rattle.report_model.specs.Report.{Addition}
 use Rattle.report_model.specs.Pieces.{Adding, endedOf}
 use Rattle.report.specs.Report.{addedResult, addingOf}
+use Rattle.c_layout.specs.Lent.{ifMismatch}
 use Rattle.c_report.specs.Calls.{reportNumbers}
-use Rattle.c_report.proofs.Calls.{answer-is}
 use Rattle.c_pieces.specs.Adding.{addingAt}
 use Rattle.c_pieces.proofs.Addings.{end-kept}
 use Rattle.c_pieces.proofs.adding.end.Statement.{statement}
@@ -18,6 +19,10 @@ start c = c .before .before .before .before
 
 abbrev was : tie.After-end → Adding
 was c = addingAt (now (start c .args .numbers)) (now (start c .args .lines)) (now (start c .args .adding)) (now (start c .args .tally))
+
+-- the position that an answer leaves
+abbrev place : ℕ → Addition → ℕ
+place old x = ifMismatch (x .number) (x .position) old
 
 is : (c : tie.After-end) → addedResult (c .end .result) ≡ endedOf (was c)
 is c = c .end .ensures .0 ∙ ap (λ (a : Adding). endedOf a) (c .before .adding-in .ensures .0)
@@ -37,9 +42,9 @@ refused c =
     let s = c .before in
     let e = s .before .before in
     record {
-      result =
-          answer-is (number s) (s .settle .ensures .1 ∙ ap (λ (x : Addition). x .position) (is e))
-          (sym (end-kept (was e) (λ z. c .if1 .taken (number s ∙ z))));
+      told = number s;
+      place = s .settle .ensures .1 ∙ ap (place (now (start e .args .position))) (is e);
+      next = sym (end-kept (was e) (λ z. c .if1 .taken (number s ∙ z)));
       numbersStay = λ n. refl;
       linesStay = λ n. refl;
       numbersAre = λ z. absurd (c .if1 .taken z);
@@ -52,7 +57,9 @@ added c =
     let s = l .before in
     let e = s .before .before in
     record {
-      result = answer-is (s .settle .ensures .0) (s .settle .ensures .1) (c .store .ensures .0) ∙ is e;
+      told = number s;
+      place = s .settle .ensures .1 ∙ ap (place (now (start e .args .position))) (is e);
+      next = c .store .ensures .0 ∙ ap (λ (x : Addition). x .next) (is e);
       numbersStay = λ n. absurd (n (l .if1 .left));
       linesStay = λ n. absurd (n (l .if1 .left));
       numbersAre = λ z. c .store .ensures .1 ∙ ap (λ (x : Addition). reportNumbers (x .next)) (is e);

@@ -1,10 +1,27 @@
--- `c_pieces::packer::feed` meets its contract.
+-- `c_pieces::packer::feed` meets its contract: beside a refusal no count is handed back.
 use borrow.Author.Needs.{needs}
+use denote.Ref.{now}
+use Rattle.c_pieces.proofs.Packers.{pack-not, pack-done}
 use Rattle.c_pieces.proofs.packer.feed.Statement.{statement}
 use Rattle.c_pieces.proofs.packer.feed.Tie as tie
 
-returns : tie.Need-returns
-returns c = rw (c .taken-number .ensures) (c .before .before .before .before .before .before .pack .ensures)
+abbrev fed : tie.After-taken-number → tie.After-pack
+fed c = let s = c .before .before in s .before .before .before .before
+
+abbrev start : tie.After-pack → tie.Start
+start c = let a = c .before .before .before in let b = a .before .before .before in b .before .before .before .before
+
+refused : tie.Need-returns
+refused c =
+    let t = c .before in
+    let p = fed t in
+    pack-not (t .taken-number .result) (now (start p .args .dropped)) (t .taken-number .ensures) (p .pack .ensures) (c .if1 .taken)
+
+packed : tie.Need-returns-2
+packed c =
+    let t = c .before in
+    let p = fed t in
+    pack-done (t .taken-number .result) (now (start p .args .dropped)) (t .taken-number .ensures) (p .pack .ensures) (c .if1 .left)
 
 pub feed-spec : {M : Type 1} → statement M
 feed-spec =
@@ -16,4 +33,7 @@ feed-spec =
     (λ c κs. search needs)
     (λ c. search needs)
     (λ c. search needs)
-    returns)
+    refused
+    (λ c. search needs)
+    (λ c. search needs)
+    packed)

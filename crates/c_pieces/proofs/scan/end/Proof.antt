@@ -9,6 +9,7 @@ use denote.Ref.{now}
 use lib.ListN.{getD}
 use Rattle.archive_model.specs.Buffer.{Scan}
 use Rattle.archive_model.specs.Append.{Opening, isScan}
+use Rattle.c_archive.specs.Calls.{openCall}
 use Rattle.c_pieces.specs.Scan.{scanAt}
 use Rattle.c_pieces.proofs.Scans.{end-not, end-wrong, end-done}
 use Rattle.c_pieces.proofs.scan.end.Statement.{statement}
@@ -17,8 +18,15 @@ use Rattle.c_pieces.proofs.scan.end.Tie as tie
 abbrev opening : ℕ → ℕ → ℕ → Opening
 opening number position rows = record { number = number; position = position; rows = rows }
 
+abbrev start : tie.After-is-scan → tie.Start
+start c = let s = c .before in let a = s .before .before in a .before .before .before
+
 abbrev numbers : tie.After-is-scan → List ℕ
-numbers c = now (c .before .before .before .before .before .before .args .numbers)
+numbers c = now (start c .args .numbers)
+
+-- what an answer leaves
+abbrev shown : tie.After-is-scan → Opening → Opening
+shown c a = openCall a (now (start c .args .rows)) (now (start c .args .position))
 
 -- what was told of the scan that the numbers say
 told : (c : tie.After-is-scan) (b : Bool) → c .is-scan .result ≡ b → isScan (scanAt (numbers c)) ≡ b
@@ -27,7 +35,9 @@ told c b e = sym (c .is-scan .ensures ∙ ap (λ (s : Scan). isScan s) (c .befor
 not-scan : tie.Need-returns
 not-scan c =
     let i = c .before .before in
-    ap (λ (n : ℕ). opening n 0 0) (c .number .ensures) ∙ end-not (numbers i) (told i false (not-true _ (c .before .if1 .taken)))
+    let a = start i .args in
+    ap (λ (n : ℕ). opening n (now (a .position)) (now (a .rows))) (c .number .ensures)
+    ∙ ap (shown i) (end-not (numbers i) (told i false (not-true _ (c .before .if1 .taken))))
 
 is : (c : tie.Else1) → isScan (scanAt (numbers (c .before))) ≡ true
 is c = told (c .before) true (not-false _ (c .if1 .left))
@@ -36,14 +46,15 @@ wrong : tie.Need-returns-2
 wrong c =
     let t = c .before .before in
     let e = t .before .before in
-    let at = numbers (e .before) in
-    ap (λ (n : ℕ). opening n (getD at 3 0) 0) (c .number2 .ensures) ∙ end-wrong at (is e) (t .if2 .taken)
+    let i = e .before in
+    ap (λ (n : ℕ). opening n (getD (numbers i) 3 0) (now (start i .args .rows))) (c .number2 .ensures)
+    ∙ ap (shown i) (end-wrong (numbers i) (is e) (t .if2 .taken))
 
 rows : tie.Need-returns-3
 rows c =
     let e2 = c .before in
     let e = e2 .before .before in
-    end-done (numbers (e .before)) (is e) (e2 .if2 .left)
+    ap (shown (e .before)) (end-done (numbers (e .before)) (is e) (e2 .if2 .left))
 
 pub end-spec : {M : Type 1} → statement M
 end-spec =
