@@ -7,7 +7,8 @@ use crate::args::{parsed, Args};
 use crate::burst::FRAME;
 use crate::failure::{tell, Failure};
 use crate::files::{self, Pieces, Replacement, PIECE};
-use crate::rows::{self, Format};
+use crate::list;
+use crate::rows::Format;
 use crate::streams::{each_line, Output};
 use crate::text;
 use mooringeye::{Adding, Archive, Packer, Refusal, Report, Row, Scan, Telegram};
@@ -17,14 +18,17 @@ use std::path::Path;
 
 pub const USAGE: &str = "\
 usage: mooringeye archive verify FILE..
-       mooringeye archive list FILE.. [--rows text|csv|json] [--from TIME] [--to TIME] [--txid ID]..
+       mooringeye archive list FILE.. [--rows text|csv|json|tsv|binary|months] [--from TIME] [--to TIME] [--txid ID]..
+                               [--after ROW] [--count N] [--first ROW]
        mooringeye archive append FILE < ROWS
        mooringeye archive salvage DAMAGED NEW
        mooringeye archive remove FILE --txid ID..
        mooringeye archive sheet FILE.. [--rows text|csv] [--received N]
 
   verify   says how many rows each file has, or which block does not match
-  list     prints the rows; --from and --to are the first and the last time, an ID has eight hexadecimal digits
+  list     prints the rows; --from and --to are the first and the last time, an ID has eight hexadecimal digits. Rows have numbers that go on from file
+           to file; the first is 1, or what --first says. --after prints the rows behind one and reads no earlier ones, --count at most so many.
+           tsv and binary, PostgreSQL's COPY BINARY, print the numbers too; months says how many rows each month has
   append   puts rows, as `list` prints them as text, behind those of the file: all of them or none
   salvage  packs the rows of every block that is right into a new file, and says which blocks were dropped
   remove   removes the rows of up to 32 transmitters
@@ -38,7 +42,7 @@ pub fn run(words: impl IntoIterator<Item = OsString>) -> Result<(), Failure> {
     let command = words.next().unwrap_or_default();
     match command.to_str() {
         Some("verify") => verify(&Args::parse(words, &[], &[])?),
-        Some("list") => list(&Args::parse(words, &["rows", "from", "to", "txid"], &[])?),
+        Some("list") => list::run(&Args::parse(words, list::OPTIONS, &[])?),
         Some("append") => append(&Args::parse(words, &[], &[])?),
         Some("salvage") => salvage(&Args::parse(words, &[], &[])?),
         Some("remove") => remove(&Args::parse(words, &["txid"], &[])?),
@@ -47,7 +51,7 @@ pub fn run(words: impl IntoIterator<Item = OsString>) -> Result<(), Failure> {
     }
 }
 
-fn at_least_one(args: &Args) -> Result<&[OsString], Failure> {
+pub fn at_least_one(args: &Args) -> Result<&[OsString], Failure> {
     match args.rest() {
         [] => Err(Failure::Usage("this command takes the names of archives".into())),
         files => Ok(files),
@@ -55,14 +59,14 @@ fn at_least_one(args: &Args) -> Result<&[OsString], Failure> {
 }
 
 /// An archive to be read, and its length in blocks.
-struct Source<'a> {
-    file: File,
-    path: &'a Path,
-    blocks: u64,
+pub struct Source<'a> {
+    pub file: File,
+    pub path: &'a Path,
+    pub blocks: u64,
 }
 
 impl<'a> Source<'a> {
-    fn open(path: &'a OsStr) -> Result<Source<'a>, Failure> {
+    pub fn open(path: &'a OsStr) -> Result<Source<'a>, Failure> {
         let path = Path::new(path);
         let file = File::open(path).map_err(|e| Failure::of(format!("open {}", path.display()), &e))?;
         let blocks = files::blocks_of(&file, path)?;
@@ -80,12 +84,12 @@ impl<'a> Source<'a> {
         Pieces::of(&self.file, self.path, 0, self.blocks)
     }
 
-    fn refused(&self, why: Refusal) -> Failure {
+    pub fn refused(&self, why: Refusal) -> Failure {
         Failure::refused(self.path.display(), why)
     }
 
     /// What is said of a scan's end.
-    fn rows(&self, scan: &Scan) -> Result<usize, Failure> {
+    pub fn rows(&self, scan: &Scan) -> Result<usize, Failure> {
         let failure = |refused| files::while_written(Failure::refused_at(self.path.display(), refused), &self.file, self.path);
         scan.end().map_err(failure)
     }
@@ -122,57 +126,8 @@ fn verify(args: &Args) -> Result<(), Failure> {
     worst.map_or(Ok(()), Err)
 }
 
-/// Which rows are wanted.
-struct Filter {
-    from: u64,
-    to: u64,
-    /// None listed: those of every transmitter.
-    transmitters: Vec<[u8; 4]>,
-}
-
-impl Filter {
-    fn of(args: &Args) -> Result<Filter, Failure> {
-        let time = |name| args.value(name, "a time in ms", text::number);
-        let transmitters = identities(args.all("txid"))?.into_iter().map(u32::to_be_bytes).collect();
-        Ok(Filter { from: time("from")?.unwrap_or(0), to: time("to")?.unwrap_or(u64::MAX), transmitters })
-    }
-
-    fn wants(&self, row: &Row) -> bool {
-        let is_listed = || self.transmitters.iter().any(|id| id == rows::transmitter(row.telegram.as_bytes()));
-        (self.from..=self.to).contains(&row.time) && (self.transmitters.is_empty() || is_listed())
-    }
-}
-
-fn identities<'a>(words: impl Iterator<Item = &'a OsStr>) -> Result<Vec<u32>, Failure> {
+pub fn identities<'a>(words: impl Iterator<Item = &'a OsStr>) -> Result<Vec<u32>, Failure> {
     words.map(|word| parsed(word, "an ID", "eight hexadecimal digits", text::identity)).collect()
-}
-
-fn list(args: &Args) -> Result<(), Failure> {
-    let (format, filter) = (Format::of(args)?, Filter::of(args)?);
-    let names = at_least_one(args)?;
-    let mut output = Output::standard()?;
-    let mut printed = Vec::with_capacity(4 * PIECE);
-    rows::put_stored_heading(&mut printed, format);
-    output.write(&printed)?;
-    for name in names {
-        list_one(&Source::open(name)?, format, &filter, &mut output, &mut printed)?;
-    }
-    Ok(())
-}
-
-/// The rows before the first block that does not match, and then the failure.
-fn list_one(source: &Source, format: Format, filter: &Filter, output: &mut Output, printed: &mut Vec<u8>) -> Result<(), Failure> {
-    let mut scan = Scan::new();
-    let mut pieces = source.pieces();
-    while let Some(piece) = pieces.next()? {
-        printed.clear();
-        for row in scan.feed_rows(piece).map_err(|why| source.refused(why))?.filter(|row| filter.wants(row)) {
-            rows::put_stored(printed, format, &row);
-        }
-        output.write(printed)?;
-        source.rows(&scan)?;
-    }
-    Ok(())
 }
 
 /// A row as `list` prints it as text.

@@ -28,6 +28,18 @@ impl Scan {
         Scan::default()
     }
 
+    /// Behind so many full blocks, which are not looked at: for one who read them before.
+    ///
+    /// ```
+    /// let mut scan = mooringeye::Scan::behind(7);
+    /// scan.feed(&[0; 512]).unwrap();
+    /// assert_eq!((scan.blocks(), scan.end()), (8, Ok(105)));
+    /// ```
+    pub fn behind(blocks: u64) -> Scan {
+        let rows = blocks.saturating_mul(Archive::ROWS_PER_BLOCK as u64);
+        Scan { numbers: [blocks, rows, 0, 0] }
+    }
+
     /// Takes the blocks of the next piece. Refused: [`Refusal::Size`], and the scan is as it was. A block that does not match is told by [`Scan::end`].
     pub fn feed(&mut self, piece: &[u8]) -> Result<(), Refusal> {
         done(raw::scan_feed(&mut self.numbers, piece))

@@ -1,0 +1,254 @@
+//! `mooringeye archive list`: the rows of archives with their numbers, for people and for a database.
+//!
+//! Rows are counted over the files, in the order of the files' numbers. Of a file whose first rows are not wanted only the blocks from there on are
+//! read: where the rows end is found by halving, and what is read from there to the end of the file has to say the same.
+use crate::appender::{BLOCK, ROWS};
+use crate::archive::{at_least_one, identities, Source};
+use crate::args::Args;
+use crate::copy;
+use crate::failure::Failure;
+use crate::files::{Pieces, PIECE};
+use crate::rows::{self, Format};
+use crate::streams::Output;
+use crate::text::{self, put_hex, put_number};
+use mooringeye::{Archive, Block, Row, Scan};
+use std::collections::BTreeMap;
+use std::ffi::{OsStr, OsString};
+use std::os::unix::ffi::OsStrExt;
+use std::os::unix::fs::FileExt;
+use std::path::Path;
+
+/// The options of `list` that take a value.
+pub const OPTIONS: &[&str] = &["rows", "from", "to", "txid", "after", "count", "first"];
+/// The greatest number that a first row may have, so that counting on never leaves 63 bits, which databases have.
+const MAX_FIRST: u64 = 1 << 62;
+
+pub fn run(args: &Args) -> Result<(), Failure> {
+    let wanted = Wanted::of(args)?;
+    let mut printer = Printer::of(args)?;
+    let mut left = args.value("count", "a number of rows", text::number)?.unwrap_or(u64::MAX);
+    let mut first = args.value("first", "the number of a row, from 1 on", first_row)?.unwrap_or(1);
+    let names = in_order(at_least_one(args)?);
+    printer.begin()?;
+    for name in names {
+        first += list_one(&Source::open(name)?, first, &wanted, &mut left, &mut printer)?;
+    }
+    printer.end()
+}
+
+fn first_row(text: &str) -> Option<u64> {
+    text::number(text).filter(|n| (1..=MAX_FIRST).contains(n))
+}
+
+/// The rows of a file whose first one has this number, and then how many it has. The rows before the first block that does not match are printed, and
+/// then the failure is told.
+fn list_one(source: &Source, first: u64, wanted: &Wanted, left: &mut u64, printer: &mut Printer) -> Result<u64, Failure> {
+    if *left == 0 {
+        return Ok(0);
+    }
+    let unwanted = (wanted.after + 1).saturating_sub(first);
+    let from = if unwanted == 0 { 0 } else { (unwanted / ROWS).min(used_blocks(source)?.saturating_sub(1)) };
+    let mut scan = Scan::behind(from);
+    let mut number = first + ROWS * from;
+    let mut pieces = Pieces::of(&source.file, source.path, from, source.blocks);
+    while let Some(piece) = pieces.next()? {
+        for row in scan.feed_rows(piece).map_err(|why| source.refused(why))? {
+            if *left > 0 && wanted.has(number, &row) {
+                printer.put(number, &row);
+                *left -= 1;
+            }
+            number += 1;
+        }
+        printer.write()?;
+        source.rows(&scan)?;
+        if *left == 0 {
+            break;
+        }
+    }
+    Ok(number - first)
+}
+
+/// How many blocks of an archive have rows: all before the first that is all zero.
+fn used_blocks(source: &Source) -> Result<u64, Failure> {
+    let (mut used, mut blank) = (0, source.blocks);
+    while used < blank {
+        let middle = used + (blank - used) / 2;
+        let mut bytes = [0; Archive::BLOCK];
+        let place = |e| Failure::of(format!("read {} at block {middle}", source.path.display()), &e);
+        source.file.read_exact_at(&mut bytes, middle * BLOCK).map_err(place)?;
+        if Block::new(bytes).is_blank() {
+            blank = middle;
+        } else {
+            used = middle + 1;
+        }
+    }
+    Ok(used)
+}
+
+/// Files in the order of their numbers, where their names differ in a number alone: a shell sorts plant-10 before plant-9. Others stay as they are given.
+fn in_order(names: &[OsString]) -> Vec<&OsStr> {
+    let mut sorted: Vec<&OsStr> = names.iter().map(OsString::as_os_str).collect();
+    let numbered: Option<Vec<Numbered>> = sorted.iter().map(|name| Numbered::of(name)).collect();
+    if numbered.is_some_and(|all| all.windows(2).all(|two| two[0].is_beside(&two[1]))) {
+        sorted.sort_by_key(|name| Numbered::of(name).map(|n| n.number));
+    }
+    sorted
+}
+
+/// A name with a number: the last digits of its last part.
+struct Numbered<'a> {
+    before: &'a [u8],
+    number: u64,
+    behind: &'a [u8],
+}
+
+impl Numbered<'_> {
+    fn of(name: &OsStr) -> Option<Numbered<'_>> {
+        let bytes = name.as_bytes();
+        let part = bytes.len() - Path::new(name).file_name()?.len();
+        let end = bytes.iter().rposition(u8::is_ascii_digit)? + 1;
+        let start = bytes[..end].iter().rposition(|c| !c.is_ascii_digit()).map_or(0, |at| at + 1).max(part);
+        let number = std::str::from_utf8(bytes.get(start..end)?).ok()?.parse().ok()?;
+        Some(Numbered { before: &bytes[..start], number, behind: &bytes[end..] })
+    }
+
+    fn is_beside(&self, other: &Numbered) -> bool {
+        (self.before, self.behind) == (other.before, other.behind)
+    }
+}
+
+/// Which rows are wanted.
+struct Wanted {
+    /// The last row that is not, by its number; 0 where the first one is wanted.
+    after: u64,
+    from: u64,
+    to: u64,
+    /// None listed: those of every transmitter.
+    transmitters: Vec<[u8; 4]>,
+}
+
+impl Wanted {
+    fn of(args: &Args) -> Result<Wanted, Failure> {
+        let time = |name| args.value(name, "a time in ms", text::number);
+        let after = args.value("after", "the number of a row", |t| text::number(t).filter(|n| *n < u64::MAX))?;
+        let transmitters = identities(args.all("txid"))?.into_iter().map(u32::to_be_bytes).collect();
+        Ok(Wanted { after: after.unwrap_or(0), from: time("from")?.unwrap_or(0), to: time("to")?.unwrap_or(u64::MAX), transmitters })
+    }
+
+    fn has(&self, number: u64, row: &Row) -> bool {
+        let is_listed = || self.transmitters.iter().any(|id| id == rows::transmitter(row.telegram.as_bytes()));
+        number > self.after && (self.from..=self.to).contains(&row.time) && (self.transmitters.is_empty() || is_listed())
+    }
+}
+
+/// How rows are printed.
+#[derive(Clone, Copy, PartialEq, Eq)]
+enum Form {
+    /// As text, CSV or JSON, without their numbers.
+    Plain(Format),
+    /// Number, time, answer, transmitter and telegram between tabs, without a heading.
+    Tsv,
+    /// COPY BINARY.
+    Binary,
+    /// How many rows each month has.
+    Months,
+}
+
+impl Form {
+    fn of(args: &Args) -> Result<Form, Failure> {
+        let named = |name: &str| match name {
+            "text" => Some(Form::Plain(Format::Text)),
+            "csv" => Some(Form::Plain(Format::Csv)),
+            "json" => Some(Form::Plain(Format::Json)),
+            "tsv" => Some(Form::Tsv),
+            "binary" => Some(Form::Binary),
+            "months" => Some(Form::Months),
+            _ => None,
+        };
+        Ok(args.value("rows", "text, csv, json, tsv, binary or months", named)?.unwrap_or(Form::Plain(Format::Text)))
+    }
+}
+
+/// Rows on their way to standard output.
+struct Printer {
+    form: Form,
+    output: Output,
+    printed: Vec<u8>,
+    months: BTreeMap<copy::Month, u64>,
+}
+
+impl Printer {
+    fn of(args: &Args) -> Result<Printer, Failure> {
+        Ok(Printer { form: Form::of(args)?, output: Output::standard()?, printed: Vec::with_capacity(4 * PIECE), months: BTreeMap::new() })
+    }
+
+    /// What stands before the first row.
+    fn begin(&mut self) -> Result<(), Failure> {
+        match self.form {
+            Form::Plain(format) => rows::put_stored_heading(&mut self.printed, format),
+            Form::Binary => self.printed.extend_from_slice(copy::HEADER),
+            Form::Tsv | Form::Months => {}
+        }
+        self.write()
+    }
+
+    fn put(&mut self, number: u64, row: &Row) {
+        match self.form {
+            Form::Plain(format) => rows::put_stored(&mut self.printed, format, row),
+            Form::Tsv => put_tsv(&mut self.printed, number, row),
+            Form::Binary => copy::put_row(&mut self.printed, number, row),
+            Form::Months => *self.months.entry(copy::Month::of(row.time)).or_default() += 1,
+        }
+    }
+
+    /// Hands on what was put.
+    fn write(&mut self) -> Result<(), Failure> {
+        self.output.write(&self.printed)?;
+        self.printed.clear();
+        Ok(())
+    }
+
+    /// What stands behind the last row. It is missing where a file could not be read to its end, so that nobody takes a part for the whole.
+    fn end(&mut self) -> Result<(), Failure> {
+        if self.form == Form::Binary {
+            self.printed.extend_from_slice(copy::TRAILER);
+        }
+        for (month, rows) in &self.months {
+            self.printed.extend_from_slice(format!("{month}\t{rows}\n").as_bytes());
+        }
+        self.write()
+    }
+}
+
+fn put_tsv(out: &mut Vec<u8>, number: u64, row: &Row) {
+    let bytes = row.telegram.as_bytes();
+    put_number(out, number);
+    out.push(b'\t');
+    put_number(out, row.time);
+    out.extend_from_slice(if row.loose { b"\tLOOSE\t" } else { b"\tKEPT\t" });
+    put_hex(out, rows::transmitter(bytes));
+    out.push(b'\t');
+    put_hex(out, bytes);
+    out.push(b'\n');
+}
+
+#[cfg(test)]
+mod tests {
+    use super::*;
+
+    fn sorted(names: &[&str]) -> Vec<String> {
+        let names: Vec<OsString> = names.iter().map(OsString::from).collect();
+        in_order(&names).iter().map(|n| n.to_str().unwrap().to_string()).collect()
+    }
+
+    #[test]
+    fn numbered_files_are_in_order() {
+        assert_eq!(sorted(&["d2/p-10.arc", "d2/p-9.arc", "d2/p-008.arc"]), ["d2/p-008.arc", "d2/p-9.arc", "d2/p-10.arc"]);
+        assert_eq!(sorted(&["7", "11", "9"]), ["7", "9", "11"]);
+        // Names that differ otherwise, or have no number in their last part, stay as they are given.
+        for names in [&["p-10.arc", "q-9.arc"][..], &["p-10.arc", "p-9.old"], &["b", "a"], &["d2/b", "d1/b"], &["p-2.arc", "p.arc"]] {
+            assert_eq!(sorted(names), names);
+        }
+        assert_eq!(sorted(&["99999999999999999999", "1"]), ["99999999999999999999", "1"], "more than a number holds");
+    }
+}
