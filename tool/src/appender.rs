@@ -1,39 +1,38 @@
-//! Rows put behind those of one archive file. They wait until their block is full or has to be written and go into it together, so that its CRC is
-//! worked out once; and blocks wait until they are written together, in one aligned write.
+//! Rows put behind those of one archive file. The rows of a block go into it together, so that its CRC is worked out once; and blocks wait until they
+//! are written together, in one aligned write.
 use crate::burst::FRAME;
+use crate::disk::{Disk, Handle};
 use crate::failure::Failure;
 use crate::files::{self, Pieces};
+use crate::journal::{RECORD, ROWS};
 use mooringeye::{Archive, Block, Scan};
-use std::fs::File;
 use std::io;
-use std::os::unix::fs::FileExt;
 use std::path::{Path, PathBuf};
 
 pub const BLOCK: u64 = Archive::BLOCK as u64;
-pub const ROWS: u64 = Archive::ROWS_PER_BLOCK as u64;
 /// The most blocks of an archive.
 pub const MAX_BLOCKS: u64 = 1 << 32;
 /// A file grows to a multiple of so many blocks, by zeros, so that it is an archive at every moment.
-const GROWTH: u64 = 2_048;
+pub const GROWTH: u64 = 2_048;
 /// The most bytes of full blocks that wait.
 const MOST_WAITING: usize = 1 << 20;
-/// The bytes of a row but its time.
-const RECORD: usize = 1 + FRAME;
+
+/// The most blocks of a file, and of how many at once it grows.
+#[derive(Clone, Copy)]
+pub struct Size {
+    pub limit: u64,
+    pub growth: u64,
+}
 
 pub struct Appender {
     path: PathBuf,
-    file: File,
-    /// The file's length in blocks, and the most that it may have.
+    file: Box<dyn Handle>,
+    /// The file's length in blocks.
     blocks: u64,
-    limit: u64,
-    /// Its rows, those among them that wait.
+    size: Size,
     rows: u64,
-    /// The block with the last row that does not wait; all zero where there is none.
+    /// The block with the last row; all zero where there is none.
     last: Block,
-    /// The rows that wait: how many, their times, and of each a record of 1 for LOOSE and else 0, and its frame.
-    waiting: usize,
-    times: [u64; Archive::ROWS_PER_BLOCK],
-    records: [u8; Archive::ROWS_PER_BLOCK * RECORD],
     /// Whether rows came into the last block since it was written.
     is_changed: bool,
     /// The full blocks before it that are not written yet.
@@ -43,28 +42,24 @@ pub struct Appender {
 }
 
 impl Appender {
-    /// Before anything is known of the file's rows.
-    pub fn over(file: File, path: &Path, limit: u64) -> Result<Appender, Failure> {
-        let blocks = files::blocks_of(&file, path)?;
-        Ok(Appender {
-            path: path.into(),
-            file,
-            blocks,
-            limit,
-            rows: 0,
-            last: Block::default(),
-            waiting: 0,
-            times: [0; Archive::ROWS_PER_BLOCK],
-            records: [0; Archive::ROWS_PER_BLOCK * RECORD],
-            is_changed: false,
-            full: Vec::new(),
-            is_unsynced: false,
-        })
+    /// Before anything is known of the file's rows. Bytes behind its last whole block do not count.
+    pub fn over(file: Box<dyn Handle>, path: &Path, size: Size) -> Result<Appender, Failure> {
+        let facts = file.facts().map_err(|e| Failure::of(format!("read {}", path.display()), &e))?;
+        if !facts.is_file {
+            return Err(Failure::Failed(format!("cannot open {}: it is not a file", path.display())));
+        }
+        let (blocks, last) = (facts.length / BLOCK, Block::default());
+        Ok(Appender { path: path.into(), file, blocks, size, rows: 0, last, is_changed: false, full: Vec::new(), is_unsynced: false })
     }
 
-    /// Behind all rows of the file.
-    pub fn behind_all(file: File, path: &Path, limit: u64) -> Result<Appender, Failure> {
-        let mut appender = Appender::over(file, path, limit)?;
+    /// Behind all rows of a file of whole blocks.
+    pub fn behind_all(file: impl Into<Box<dyn Handle>>, path: &Path, limit: u64) -> Result<Appender, Failure> {
+        Appender::behind_all_of(file.into(), path, Size { limit, growth: GROWTH })
+    }
+
+    pub fn behind_all_of(file: Box<dyn Handle>, path: &Path, size: Size) -> Result<Appender, Failure> {
+        files::blocks_of(&*file, path)?;
+        let mut appender = Appender::over(file, path, size)?;
         let rows = appender.scan(appender.blocks)?;
         let last = if rows > 0 { appender.read_block((rows - 1) / ROWS)? } else { Block::default() };
         appender.stand_behind(rows, last);
@@ -88,14 +83,14 @@ impl Appender {
         self.blocks
     }
 
-    /// The block with the last row, once all are written; all zero where there is none.
+    /// The block with the last row; all zero where there is none.
     pub fn last(&self) -> &Block {
-        debug_assert!(self.waiting == 0);
         &self.last
     }
 
-    pub fn is_full(&self) -> bool {
-        self.rows >= ROWS * self.limit
+    /// How many rows more it can have.
+    pub fn room(&self) -> u64 {
+        (ROWS * self.size.limit).saturating_sub(self.rows)
     }
 
     fn cannot(&self, verb: &str, error: &io::Error) -> Failure {
@@ -104,13 +99,30 @@ impl Appender {
 
     /// The blocks from one on, in pieces.
     pub fn pieces(&self, from: u64) -> Pieces<'_> {
-        Pieces::of(&self.file, &self.path, from, self.blocks.max(from))
+        Pieces::of(&*self.file, &self.path, from, self.blocks.max(from))
+    }
+
+    pub fn pieces_to(&self, from: u64, to: u64) -> Pieces<'_> {
+        Pieces::of(&*self.file, &self.path, from, to)
+    }
+
+    /// The bytes behind the last whole block.
+    pub fn odd_end(&self) -> Result<Vec<u8>, Failure> {
+        let length = self.file.facts().map_err(|e| self.cannot("read", &e))?.length;
+        let mut bytes = vec![0; length.saturating_sub(self.blocks * BLOCK) as usize];
+        self.file.read_all_at(&mut bytes, self.blocks * BLOCK).map_err(|e| self.cannot("read", &e))?;
+        Ok(bytes)
+    }
+
+    pub fn cut_odd_end(&mut self) -> Result<(), Failure> {
+        self.is_unsynced = true;
+        self.file.set_length(self.blocks * BLOCK).map_err(|e| self.cannot("write", &e))
     }
 
     /// How many rows its first blocks have, as an archive.
     pub fn scan(&self, blocks: u64) -> Result<u64, Failure> {
         let mut scan = Scan::new();
-        let mut pieces = Pieces::of(&self.file, &self.path, 0, blocks);
+        let mut pieces = Pieces::of(&*self.file, &self.path, 0, blocks);
         while let Some(piece) = pieces.next()? {
             scan.feed(piece).map_err(|why| Failure::refused(self.path.display(), why))?;
         }
@@ -120,44 +132,67 @@ impl Appender {
 
     pub fn read_block(&self, position: u64) -> Result<Block, Failure> {
         let mut bytes = [0; Archive::BLOCK];
-        self.file.read_exact_at(&mut bytes, position * BLOCK).map_err(|e| self.cannot("read", &e))?;
+        self.file.read_all_at(&mut bytes, position * BLOCK).map_err(|e| self.cannot("read", &e))?;
         Ok(Block::new(bytes))
     }
 
     /// One aligned write: a killed process leaves the old block or the new one.
     pub fn write_block(&mut self, block: &Block, position: u64) -> Result<(), Failure> {
-        self.file.write_all_at(block.as_bytes(), position * BLOCK).map_err(|e| self.cannot("write", &e))?;
         self.is_unsynced = true;
+        self.file.write_at(block.as_bytes(), position * BLOCK).map_err(|e| self.cannot("write", &e))
+    }
+
+    /// Zeros over blocks that nobody counts.
+    pub fn clear(&mut self, from: u64, to: u64) -> Result<(), Failure> {
+        self.is_unsynced |= from < to;
+        let zeros = vec![0; ((to - from) * BLOCK).min(MOST_WAITING as u64) as usize];
+        let mut at = from * BLOCK;
+        while at < to * BLOCK {
+            let part = &zeros[..zeros.len().min((to * BLOCK - at) as usize)];
+            self.file.write_at(part, at).map_err(|e| self.cannot("write", &e))?;
+            at += part.len() as u64;
+        }
         Ok(())
     }
 
-    /// Zeros, from the last block to the first: where this is cut short what stands there can be cleared again.
-    pub fn clear(&mut self, from: u64, to: u64) -> Result<(), Failure> {
-        (from..to).rev().try_for_each(|position| self.write_block(&Block::default(), position))
+    /// Appends a row, of which a frame says the telegram.
+    pub fn append(&mut self, frame: &[u8; FRAME], time: u64, loose: bool) -> Result<(), Failure> {
+        let mut record = [0; RECORD];
+        record[0] = loose.into();
+        record[1..].copy_from_slice(frame);
+        self.append_rows(&[time], &record)
     }
 
-    /// Appends a row, of which a frame says the telegram. It waits.
-    #[inline]
-    pub fn append(&mut self, frame: &[u8; FRAME], time: u64, loose: bool) -> Result<(), Failure> {
-        if self.rows.is_multiple_of(ROWS) {
-            self.begin_block()?;
+    /// Appends rows, for which there is room.
+    pub fn append_rows(&mut self, times: &[u64], records: &[u8]) -> Result<(), Failure> {
+        self.put_rows(times, records, true)
+    }
+
+    /// Counts rows that stand in the file already.
+    pub fn pass_rows(&mut self, times: &[u64], records: &[u8]) -> Result<(), Failure> {
+        debug_assert!(!self.is_changed && self.full.is_empty());
+        self.put_rows(times, records, false)
+    }
+
+    /// Puts the rows that fit into a block at once, one block after the other.
+    fn put_rows(&mut self, times: &[u64], records: &[u8], is_new: bool) -> Result<(), Failure> {
+        let mut at = 0;
+        while at < times.len() {
+            if self.rows.is_multiple_of(ROWS) {
+                self.begin_block()?;
+            }
+            let end = times.len().min(at + (ROWS - self.rows % ROWS) as usize);
+            let put = self.last.put_rows(self.rows as usize, &times[at..end], &records[RECORD * at..RECORD * end]);
+            put.map_err(|refused| Failure::refused_at(self.path.display(), refused))?;
+            self.rows += (end - at) as u64;
+            (at, self.is_changed) = (end, is_new);
         }
-        let [is_loose, bytes @ ..] = self.records[RECORD * self.waiting..].first_chunk_mut::<RECORD>().expect("as many as a block has");
-        (*is_loose, *bytes) = (loose.into(), *frame);
-        self.times[self.waiting] = time;
-        self.waiting += 1;
-        self.rows += 1;
         Ok(())
     }
 
     /// Behind a full block, and before the first one.
-    #[inline(never)]
     fn begin_block(&mut self) -> Result<(), Failure> {
-        self.put_rows()?;
-        if self.is_changed {
-            self.full.extend_from_slice(self.last.as_bytes());
-            self.is_changed = false;
-        }
+        self.keep_last();
         if self.full.len() >= MOST_WAITING {
             self.write_before(self.rows / ROWS)?;
         }
@@ -165,26 +200,16 @@ impl Appender {
         Ok(())
     }
 
-    /// The rows that wait into the last block.
-    fn put_rows(&mut self) -> Result<(), Failure> {
-        if self.waiting == 0 {
-            return Ok(());
-        }
-        let (times, records) = (&self.times[..self.waiting], &self.records[..RECORD * self.waiting]);
-        let put = self.last.put_rows(self.rows as usize - self.waiting, times, records);
-        put.map_err(|refused| Failure::refused_at(self.path.display(), refused))?;
-        self.waiting = 0;
-        self.is_changed = true;
-        Ok(())
-    }
-
-    /// Writes all rows that the file does not have yet.
-    pub fn write(&mut self) -> Result<(), Failure> {
-        self.put_rows()?;
+    fn keep_last(&mut self) {
         if self.is_changed {
             self.full.extend_from_slice(self.last.as_bytes());
             self.is_changed = false;
         }
+    }
+
+    /// Writes all rows that the file does not have yet.
+    pub fn write(&mut self) -> Result<(), Failure> {
+        self.keep_last();
         self.write_before(self.rows.div_ceil(ROWS))
     }
 
@@ -194,15 +219,15 @@ impl Appender {
         if self.full.is_empty() {
             return Ok(());
         }
+        self.is_unsynced = true;
         if end > self.blocks {
-            let blocks = end.next_multiple_of(GROWTH).min(self.limit).max(end);
-            self.file.set_len(blocks * BLOCK).map_err(|e| self.cannot("write", &e))?;
+            let blocks = end.next_multiple_of(self.size.growth).min(self.size.limit).max(end);
+            self.file.set_length(blocks * BLOCK).map_err(|e| self.cannot("write", &e))?;
             self.blocks = blocks;
         }
         let start = end * BLOCK - self.full.len() as u64;
-        self.file.write_all_at(&self.full, start).map_err(|e| self.cannot("write", &e))?;
+        self.file.write_at(&self.full, start).map_err(|e| self.cannot("write", &e))?;
         self.full.clear();
-        self.is_unsynced = true;
         Ok(())
     }
 
@@ -210,10 +235,23 @@ impl Appender {
     pub fn sync(&mut self) -> Result<(), Failure> {
         self.write()?;
         if self.is_unsynced {
-            self.file.sync_data().map_err(|e| self.cannot("sync", &e))?;
+            self.file.sync().map_err(|e| self.cannot("sync", &e))?;
             self.is_unsynced = false;
         }
         Ok(())
+    }
+
+    /// Its path still names this file, and the file is as long as it was made.
+    pub fn notice(&self, disk: &dyn Disk) -> Result<(), Failure> {
+        let shown = self.path.display();
+        let mine = self.file.facts().map_err(|e| self.cannot("read", &e))?;
+        let lost = |what: String| Failure::Damaged(format!("{shown} {what} while it was being written. Put it back, or use --adopt-archive."));
+        match disk.facts(&self.path).map_err(|e| self.cannot("read", &e))? {
+            None => Err(lost("was removed or renamed".into())),
+            Some(named) if !named.is_same(&mine) => Err(lost("was replaced by another file".into())),
+            Some(_) if mine.length != self.blocks * BLOCK => Err(lost(format!("was changed from {} to {} bytes", self.blocks * BLOCK, mine.length))),
+            Some(_) => Ok(()),
+        }
     }
 }
 
@@ -243,14 +281,19 @@ mod tests {
     fn rows_that_waited_stand_as_those_put_one_by_one() {
         let path = std::env::temp_dir().join(format!("mooringeye-appender-{}", std::process::id()));
         let open = || OpenOptions::new().create(true).truncate(false).read(true).write(true).open(&path).unwrap();
-        let mut frame = [0xEE; FRAME];
-        frame[0] = 8;
-        frame[1..9].copy_from_slice(&PRESS);
+        let mut record = [0; RECORD];
+        record[1] = 8;
+        record[2..10].copy_from_slice(&PRESS);
         let mut appender = Appender::behind_all(open(), &path, MAX_BLOCKS).unwrap();
         // More than 2,048 full blocks wait behind row 2,000: the first of them are written before the end.
+        let (mut times, mut records) = (Vec::new(), Vec::new());
         for n in 0..40_000 {
-            appender.append(&frame, 7 * n, n % 3 == 0).unwrap();
+            record[0] = u8::from(n % 3 == 0);
+            times.push(7 * n);
+            records.extend_from_slice(&record);
             if [0, 1, 14, 15, 20, 29, 44, 100, 1_999].contains(&n) {
+                appender.append_rows(&times, &records).unwrap();
+                (times, records) = (Vec::new(), Vec::new());
                 appender.write().unwrap();
                 let expected = one_by_one(n + 1);
                 assert!(fs::read(&path).unwrap().starts_with(&expected), "row {n}");
@@ -259,6 +302,7 @@ mod tests {
                 assert_eq!(appender.rows(), n + 1);
             }
         }
+        appender.append_rows(&times, &records).unwrap();
         appender.sync().unwrap();
         let (written, expected) = (fs::read(&path).unwrap(), one_by_one(40_000));
         fs::remove_file(&path).unwrap();

@@ -1,97 +1,131 @@
 //! `mooringeye collect`: lines go through the proved collector, and its state and rows survive whatever happens to the process.
 //!
-//! A batch is what one read brought, at most so many lines. Its rows go to the archive first, then the state is replaced, then the rows are printed:
-//! so a row that was printed survives, and the archive is ahead of the state by at most one batch.
+//! This module reads the lines, from standard input or from a log, and cuts them into batches; `keeper` brings each to disk.
 use crate::appender::MAX_BLOCKS;
 use crate::args::Args;
-use crate::burst::Burst;
+use crate::disk::{Real, Shared};
 use crate::failure::{tell, Failure};
+use crate::journal::{keep_last, LogPlace, State};
+use crate::keeper::{Files, Keeper, MAX_BATCH, ORDER};
 use crate::lines::{self, MAX_LINE};
-use crate::rows::{self, Format, Printed};
+use crate::logs::{differ, Log};
+use crate::rows::{self, Format};
 use crate::signals::{self, Signals};
-use crate::state::{State, StateFile};
-use crate::store::{Place, Store};
+use crate::store::Place;
 use crate::streams::{Got, Input, Output};
 use crate::{sys, text};
 use std::ffi::OsString;
 use std::path::{Path, PathBuf};
+use std::rc::Rc;
 
 pub const USAGE: &str = "\
-usage: mooringeye collect [--level N] [--state FILE [--replay] [--fresh] [--begin]] [--archive FILE] [--rows text|csv|json] [--sync row|batch]
+usage: mooringeye collect [--level N] [--state FILE] [--archive FILE] [--log FILE [--follow] | --replay] [--out FILE] ..
 
-Reads lines of a time in ms and a reception in hexadecimal digits from standard input, and prints a row for each.
+Reads lines of a time in ms and a reception in hexadecimal digits, from standard input or from a log, and prints a row for each.
 
-  --level N        the repeater setting, 0, 1 or 2; it may be left out where the first line is `level N`
-  --state FILE     goes on from this state, and keeps it up to date; a fresh collector where there is none
-  --replay         the input is the whole log from its first line: lines that the state has taken are skipped
-  --fresh          begins with a fresh collector, and keeps the old state aside
-  --archive FILE   KEPT and LOOSE rows go there; FILE may have ### in its name, where the number of the file stands
-  --blocks N       with such a name: a new file begins where one has N blocks of 15 rows
-  --begin          goes on with the archive as it is, or without one, whatever the state says of its rows
-  --rows FORMAT    text (as `collect` prints), csv (with a heading) or json (a line each)
-  --sync WHEN      batch: state and archive are on disk before what was read at once is printed; row: before each row
+  --level N         the repeater setting, 0, 1 or 2; it may be left out where the first line is `level N`
+  --state FILE      goes on from this state, and keeps it up to date; a fresh collector where there is none
+  --archive FILE    KEPT and LOOSE rows go there; FILE may have ### in its name, where the number of the file stands
+  --blocks N        with such a name: a new file begins where one has N blocks of 15 rows
+  --log FILE        reads this log from where the state stands, and rotated ones (FILE.1, FILE-20260117) before it
+  --follow          with --log: waits for more lines at its end, also after it was rotated by rename
+  --replay          standard input is the whole log from its first line: lines that the state has taken are skipped
+  --out FILE        rows go to this file, each once, and not to standard output
+  --rows FORMAT     text (as `collect` prints), csv (with a heading) or json (a line each)
+  --sync WHEN       batch: state and archive are on disk before what was read at once is printed; row: before each row
+  --new-state       begins with a fresh collector, and keeps the old state aside (the same as --fresh)
+  --adopt-archive   goes on with the archive as it is, or without one, whatever the state says of its rows (the same as --begin)
+  --adopt-log       takes the log from its first byte, whatever the state says of it
 
 SIGTERM, SIGINT and SIGHUP end it in order; SIGUSR1 prints the totals on standard error.
-Ends with status 0 where the input ended or a signal came, 1 where an input or output failed, 2 for wrong usage, 3 for a damaged state or archive.";
+Ends with status 0 where the input ended or a signal came, 1 where an input or output failed, 2 for wrong usage, 3 for a state, archive or log that is
+damaged or not the one that was taken.";
 
 /// How much is read at once, and where each row is synced: a signal waits until it is taken.
 const CHUNK: usize = 1 << 20;
 const SYNCED_CHUNK: usize = 1 << 12;
-/// The most lines of a batch, so the most rows by which an archive can be ahead of its state.
-const MAX_BATCH: usize = 16_384;
+const NO_LEVEL: &str = "without --level the first line is `level 0`, `level 1` or `level 2`";
 
 pub fn run(words: impl IntoIterator<Item = OsString>) -> Result<(), Failure> {
     let options = Options::parse(words)?;
     let signals = Signals::catch().map_err(|e| Failure::of("catch signals", &e))?;
-    let mut input = Input::standard()?;
-    let mut run = Run::start(&options, Output::standard()?)?;
-    run.take_all(&mut input, &signals)?;
+    let mut run = Run::start(&options)?;
+    run.take_all(&signals)?;
     run.end(&signals)
 }
 
 struct Options {
     level: Option<u8>,
-    state: Option<PathBuf>,
-    archive: Option<Place>,
-    format: Format,
+    files: Files,
     /// Lines of a batch.
     batch: usize,
     replay: bool,
-    fresh: bool,
-    begin: bool,
+    log: Option<PathBuf>,
+    follow: bool,
+    adopt_log: bool,
 }
+
+const VALUED: [&str; 8] = ["level", "state", "archive", "blocks", "rows", "sync", "log", "out"];
+const PLAIN: [&str; 7] = ["replay", "follow", "new-state", "fresh", "adopt-archive", "begin", "adopt-log"];
 
 impl Options {
     fn parse(words: impl IntoIterator<Item = OsString>) -> Result<Options, Failure> {
-        let args = Args::parse(words, &["level", "state", "archive", "blocks", "rows", "sync"], &["replay", "fresh", "begin"])?;
+        let args = Args::parse(words, &VALUED, &PLAIN)?;
         args.no_rest()?;
         let blocks = args.value("blocks", "a number of blocks, 1 to 2^32", |t| text::number(t).filter(|n| (1..=MAX_BLOCKS).contains(n)))?;
-        let archive = args.path("archive")?;
-        let state = args.path("state")?;
-        if archive.is_some() && archive == state {
-            return Err(Failure::Usage("the state and the archive are one file".into()));
-        }
-        if archive.is_none() && blocks.is_some() {
-            return Err(Failure::Usage("--blocks goes with --archive".into()));
-        }
-        if let (None, Some(name)) = (&state, ["replay", "fresh", "begin"].iter().find(|n| args.has(n))) {
-            return Err(Failure::Usage(format!("--{name} goes with --state")));
-        }
+        let [archive, state, log, out] = [args.path("archive")?, args.path("state")?, args.path("log")?, args.path("out")?];
+        check_together(&args, [&archive, &state, &log, &out])?;
         let batch = args.value("sync", "row or batch", |t| match t {
             "row" => Some(1),
             "batch" => Some(MAX_BATCH),
             _ => None,
         })?;
-        Ok(Options {
-            level: args.value("level", "0, 1 or 2", |t| text::number(t).filter(|n| *n <= 2))?.map(|n| n as u8),
+        let files = Files {
             state,
             archive: archive.map(|path| Place::of(&path, blocks)).transpose()?,
+            out,
+            new_state: args.has("new-state") || args.has("fresh"),
+            adopt: args.has("adopt-archive") || args.has("begin"),
             format: Format::of(&args)?,
+            order: ORDER,
+        };
+        Ok(Options {
+            level: args.value("level", "0, 1 or 2", |t| text::number(t).filter(|n| *n <= 2))?.map(|n| n as u8),
+            files,
             batch: batch.unwrap_or(MAX_BATCH),
             replay: args.has("replay"),
-            fresh: args.has("fresh"),
-            begin: args.has("begin"),
+            log,
+            follow: args.has("follow"),
+            adopt_log: args.has("adopt-log"),
         })
+    }
+}
+
+/// Which options go together.
+fn check_together(args: &Args, paths: [&Option<PathBuf>; 4]) -> Result<(), Failure> {
+    let [archive, state, log, _] = paths;
+    for (at, path) in paths.iter().enumerate() {
+        if path.is_some() && paths[..at].contains(path) {
+            return Err(Failure::Usage("state, archive, log and --out are different files".into()));
+        }
+    }
+    let needs = [
+        ("blocks", archive, "--archive"),
+        ("replay", state, "--state"),
+        ("new-state", state, "--state"),
+        ("fresh", state, "--state"),
+        ("adopt-archive", state, "--state"),
+        ("begin", state, "--state"),
+        ("out", state, "--state"),
+        ("follow", log, "--log"),
+        ("adopt-log", log, "--log"),
+    ];
+    if let Some((name, _, other)) = needs.iter().find(|(name, path, _)| args.has(name) && path.is_none()) {
+        return Err(Failure::Usage(format!("--{name} goes with {other}")));
+    }
+    match args.has("replay") && log.is_some() {
+        true => Err(Failure::Usage("--replay is for standard input; --log knows which lines were taken".into())),
+        false => Ok(()),
     }
 }
 
@@ -102,90 +136,174 @@ enum Ended {
     Signal,
 }
 
+/// Where the lines come from.
+enum Source {
+    Standard(Input),
+    Log(Log),
+}
+
+impl Source {
+    fn read(&mut self, buffer: &mut [u8], signals: &Signals) -> Result<Got, Failure> {
+        match self {
+            Source::Standard(input) => input.read(buffer, signals),
+            Source::Log(log) => log.read(buffer, signals),
+        }
+    }
+
+    fn name(&self) -> String {
+        match self {
+            Source::Standard(_) => "the input".into(),
+            Source::Log(log) => log.path().display().to_string(),
+        }
+    }
+}
+
 /// A running collector.
 struct Run {
-    state: State,
-    file: Option<StateFile>,
-    store: Option<Store>,
+    keeper: Keeper,
+    source: Source,
     output: Output,
     format: Format,
     batch: usize,
     level: Option<u8>,
-    /// Lines of this input that were read, and those of them that are still to be skipped.
+    /// Whether the input is a feed that nobody can read again.
+    is_live: bool,
+    /// Whether the next line is the first one of the input, or of a log.
+    is_first: bool,
+    /// Lines that were read.
     read: u64,
-    skip: u64,
+    skipping: Skipping,
+    is_settled: bool,
     /// Whether a line that ends in CR LF was told.
     told_cr: bool,
     ended: Ended,
-    /// The rows of the present batch.
-    printed: Printed,
-    burst: Burst,
+}
+
+/// The lines that the state has taken, while they are skipped.
+#[derive(Default)]
+struct Skipping {
+    left: u64,
+    is_on: bool,
+    bytes: u64,
+    tail: Vec<u8>,
+}
+
+impl Skipping {
+    /// Skips lines of a text; how long they are.
+    fn skip(&mut self, text: &[u8], mut read: impl FnMut()) -> usize {
+        let mut used = 0;
+        while self.left > 0 && used < text.len() {
+            used += lines::length(&text[used..]);
+            self.left -= 1;
+            read();
+        }
+        self.bytes += used as u64;
+        keep_last(&mut self.tail, &text[..used]);
+        used
+    }
 }
 
 impl Run {
-    /// Restores the state, opens the archive and brings the two together, before the first line is read.
-    fn start(options: &Options, output: Output) -> Result<Run, Failure> {
-        let file = options.state.as_deref().map(StateFile::lock).transpose()?;
-        let (mut state, is_new) = match &file {
-            Some(file) => restore(file, options.fresh)?,
-            None => (State::fresh(), false),
+    /// Locks and reads the files. Where lines have to be skipped nothing is changed before they are compared.
+    fn start(options: &Options) -> Result<Run, Failure> {
+        let disk: Shared = Rc::new(Real);
+        let input = if options.log.is_none() { Some(Input::standard()?) } else { None };
+        let output = Output::standard()?;
+        let mut keeper = Keeper::open(&disk, &options.files)?;
+        let (source, skip, level) = match (input, &options.log) {
+            (Some(input), _) => (Source::Standard(input), if options.replay { keeper.state.lines } else { 0 }, options.level),
+            (None, log) => open_log(log.as_deref().expect("one of both"), options, &mut keeper)?,
         };
-        let store = open_archive(options, &mut state)?;
+        let is_first = keeper.state.log.as_ref().is_none_or(|log| log.offset == 0) || matches!(source, Source::Standard(_));
+        let is_live = matches!(source, Source::Standard(_)) && !options.replay;
+        if is_live {
+            stand_in_feed(&mut keeper.state);
+        }
         let mut run = Run {
-            skip: if options.replay { state.lines } else { 0 },
-            state,
-            file,
-            store,
+            keeper,
+            source,
             output,
-            format: options.format,
+            format: options.files.format,
             batch: options.batch,
-            level: options.level,
+            level,
+            is_live,
+            is_first,
             read: 0,
+            skipping: Skipping { left: skip, is_on: skip > 0, ..Skipping::default() },
+            is_settled: false,
             told_cr: false,
             ended: Ended::Input,
-            printed: Printed::default(),
-            burst: Burst::default(),
         };
-        run.save()?;
-        run.say_where_it_stands(options.state.as_deref(), is_new);
-        rows::put_heading(&mut run.printed, run.format);
-        run.output.write(run.printed.as_bytes())?;
-        run.printed.clear();
+        run.say_where_it_stands(options.files.state.as_deref());
+        if skip == 0 {
+            run.settle()?;
+        }
         Ok(run)
     }
 
-    fn say_where_it_stands(&self, state: Option<&Path>, is_new: bool) {
+    fn say_where_it_stands(&self, state: Option<&Path>) {
         if let Some(path) = state {
-            let what = if is_new { "begins with a fresh collector" } else { "goes on" };
-            let skipped = if self.skip > 0 { ", which are skipped" } else { "" };
-            tell(format!("{} {what}: {} lines taken{skipped}", path.display(), self.state.lines));
-        }
-        if let Some(store) = &self.store {
-            tell(format!("{} has {} rows", store.path().display(), store.rows()));
+            let what = if self.keeper.is_new { "begins with a fresh collector" } else { "goes on" };
+            let skipped = if self.skipping.left > 0 { ", which are skipped" } else { "" };
+            tell(format!("{} {what}: {} lines taken{skipped}", path.display(), self.keeper.state.lines));
         }
     }
 
-    /// Brings the state file up to date.
-    fn save(&mut self) -> Result<(), Failure> {
-        let Some(file) = &self.file else { return Ok(()) };
-        self.state.archive = self.store.as_ref().map(Store::attached);
-        file.write(&self.state)
+    /// Compares what was skipped with what was taken, and puts the files in order: from now on lines can be taken.
+    fn settle(&mut self) -> Result<(), Failure> {
+        if self.skipping.is_on {
+            self.compare_skipped()?;
+        }
+        self.keeper.settle()?;
+        self.is_settled = true;
+        if !self.keeper.has_out() {
+            self.output.write(rows::heading(self.format))?;
+        }
+        Ok(())
     }
 
-    fn totals(&self) -> String {
-        rows::totals(&self.state.collector.totals())
+    fn compare_skipped(&mut self) -> Result<(), Failure> {
+        let Skipping { bytes, tail, .. } = &self.skipping;
+        match &self.keeper.state.log {
+            None => tell("the skipped lines were not compared: the state does not have the log's last bytes"),
+            Some(log) => {
+                let kept = log.tail.len().min(tail.len());
+                let (read, taken) = (&tail[tail.len() - kept..], &log.tail[log.tail.len() - kept..]);
+                let first = bytes - kept as u64;
+                if let Some(at) = differ(read, taken).or((kept < log.tail.len()).then_some(0)) {
+                    let text = format!("{} is not the log that was taken: it differs at byte {}", self.source.name(), first + at);
+                    return Err(Failure::Damaged(format!("{text}. Nothing was changed.")));
+                }
+            }
+        }
+        let (device, inode) = match &self.source {
+            Source::Log(log) => log.identity(),
+            Source::Standard(_) => (0, 0),
+        };
+        let place = LogPlace { offset: *bytes, device, inode, tail: tail.clone() };
+        self.keeper.stand_at(place);
+        Ok(())
     }
 
     /// Takes the lines of the input until it ends or a signal asks to stop.
-    fn take_all(&mut self, input: &mut Input, signals: &Signals) -> Result<(), Failure> {
+    fn take_all(&mut self, signals: &Signals) -> Result<(), Failure> {
         let chunk = if self.batch == 1 { SYNCED_CHUNK } else { CHUNK };
         let mut buffer = vec![0; MAX_LINE + 1 + chunk];
+        if self.is_settled {
+            self.take_in(signals)?;
+        }
         // The part of a line that has not ended yet stands at the front.
         let mut carried = 0;
         loop {
-            let filled = match input.read(&mut buffer[carried..carried + chunk], signals)? {
+            let filled = match self.source.read(&mut buffer[carried..carried + chunk], signals)? {
                 Got::Bytes(n) => carried + n,
                 Got::End => break,
+                Got::Next => {
+                    self.tell_unfinished(&buffer[..carried], "ended");
+                    carried = 0;
+                    self.begin_log();
+                    continue;
+                }
                 Got::Signal => {
                     if self.sees_to_signal() {
                         break;
@@ -199,24 +317,48 @@ impl Run {
             carried = (filled - end).min(MAX_LINE + 1);
             buffer.copy_within(end..end + carried, 0);
         }
-        if carried > 0 {
-            let rest = String::from_utf8_lossy(&buffer[..carried.min(MAX_LINE)]);
-            let how = if self.ended == Ended::Input { "the input ended" } else { "stopped" };
-            tell(format!("{how} in the middle of line {}, which is not counted: {}", self.read + 1, rest.escape_default()));
+        self.tell_unfinished(&buffer[..carried], if self.ended == Ended::Input { "ended" } else { "was left" });
+        match self.ended {
+            Ended::Input => self.input_ended(),
+            Ended::Signal => Ok(()),
         }
-        if self.ended == Ended::Input && self.skip > 0 {
-            return Err(Failure::Failed(format!("the log ended {} lines before the {} that were taken", self.skip, self.state.lines)));
+    }
+
+    fn tell_unfinished(&self, rest: &[u8], how: &str) {
+        if !rest.is_empty() {
+            let shown = String::from_utf8_lossy(&rest[..rest.len().min(MAX_LINE)]);
+            let text = format!("{} {how} in the middle of line {}, which is not counted", self.source.name(), self.read + 1);
+            tell(format!("{text}: {}", shown.escape_default()));
         }
-        if self.ended == Ended::Input && self.level.is_none() {
-            return Err(Failure::Usage("without --level the first line is `level 0`, `level 1` or `level 2`".into()));
+    }
+
+    fn input_ended(&mut self) -> Result<(), Failure> {
+        if self.skipping.left > 0 {
+            let text = format!("{} ended {} lines before the {} that were taken", self.source.name(), self.skipping.left, self.keeper.state.lines);
+            return Err(Failure::Failed(text));
+        }
+        if self.level.is_none() {
+            return Err(Failure::Usage(NO_LEVEL.into()));
+        }
+        if self.is_settled && !self.is_live {
+            self.keeper.log_ended()?;
         }
         Ok(())
+    }
+
+    /// The next log was opened.
+    fn begin_log(&mut self) {
+        if let Source::Log(log) = &self.source {
+            tell(format!("goes on with {}", log.path().display()));
+            self.keeper.stand_at(log.place());
+        }
+        self.is_first = true;
     }
 
     /// Prints the totals where they were asked for, and says whether to stop.
     fn sees_to_signal(&mut self) -> bool {
         if sys::take_totals_request() {
-            tell(self.totals());
+            tell(self.keeper.totals());
         }
         let Some(name) = signals::stop() else { return false };
         tell(format!("{name}: ends in order"));
@@ -226,28 +368,47 @@ impl Run {
 
     /// Takes whole lines in batches. A signal that comes meanwhile waits: what was read is taken, since nobody could read it again.
     fn take_lines(&mut self, mut text: &[u8], signals: &Signals) -> Result<(), Failure> {
-        if self.read == 0 && !text.is_empty() {
-            let used = self.take_first(text)?;
-            if used > 0 && self.skip > 0 {
-                self.skip -= 1;
-            } else if used > 0 {
-                self.state.lines += 1;
-            }
-            text = &text[used..];
+        if self.is_first && !text.is_empty() {
+            text = &text[self.take_first(text)?..];
+            self.take_in(signals)?;
         }
-        while self.skip > 0 && !text.is_empty() {
-            text = &text[lines::length(text)..];
-            self.read += 1;
-            self.skip -= 1;
+        if self.skipping.left > 0 {
+            let read = &mut self.read;
+            text = &text[self.skipping.skip(text, || *read += 1)..];
+        }
+        if !self.is_settled && self.skipping.left == 0 {
+            self.settle()?;
         }
         while !text.is_empty() {
-            text = &text[self.take_batch(text)?..];
+            let level = self.level.expect("known since the first line");
+            let took = self.keeper.take(level, text, self.batch)?;
+            if let Some(at) = took.cr_lf {
+                self.tell_cr(at);
+            }
+            self.read += took.lines;
+            text = &text[took.used..];
             self.commit(signals)?;
         }
         Ok(())
     }
 
-    /// The first line of the input, where it says a level: how long it is. It has to agree with `--level`, and is needed where that is left out.
+    fn commit(&mut self, signals: &Signals) -> Result<(), Failure> {
+        let output = &mut self.output;
+        self.keeper.commit(&mut |rows| output.write_until_stopped(rows, signals))
+    }
+
+    /// A feed that nobody can read again: rows that a stop left are handed to the collector, as soon as the level is known.
+    fn take_in(&mut self, signals: &Signals) -> Result<(), Failure> {
+        match self.level {
+            Some(level) if self.is_live && self.keeper.leftovers() > 0 => {
+                let output = &mut self.output;
+                self.keeper.take_in(level, &mut |rows| output.write_until_stopped(rows, signals))
+            }
+            _ => Ok(()),
+        }
+    }
+
+    /// The first line, where it says a level: how long it is. It has to agree with `--level`, and is needed where that is left out.
     fn take_first(&mut self, text: &[u8]) -> Result<usize, Failure> {
         let used = lines::length(text);
         match (lines::setting(&text[..used - 1]), self.level) {
@@ -255,45 +416,24 @@ impl Run {
                 return Err(Failure::Usage(format!("the first line says level {said}, and --level {level}")));
             }
             (Some(said), _) => self.level = Some(said),
-            (None, Some(_)) => return Ok(0),
+            (None, Some(_)) => {
+                self.is_first = false;
+                return Ok(0);
+            }
             (None, None) => {
                 if text[..used].ends_with(b"\r\n") {
                     self.tell_cr(0);
                 }
-                return Err(Failure::Usage("without --level the first line is `level 0`, `level 1` or `level 2`".into()));
+                return Err(Failure::Usage(NO_LEVEL.into()));
             }
         }
-        self.read += 1;
-        Ok(used)
-    }
-
-    /// Takes the lines of a batch into the collector, its rows into the archive's last block and the output; how long they are.
-    fn take_batch(&mut self, text: &[u8]) -> Result<usize, Failure> {
-        let (mut used, mut left) = (0, self.batch);
-        while used < text.len() && left > 0 {
-            used = self.burst.read(text, used, left);
-            left -= self.burst.lines().len();
-            self.take_burst(text)?;
+        self.is_first = false;
+        if self.skipping.left == 0 {
+            self.read += 1;
+            self.keeper.pass(&text[..used], 1);
+            return Ok(used);
         }
-        Ok(used)
-    }
-
-    fn take_burst(&mut self, text: &[u8]) -> Result<(), Failure> {
-        let level = self.level.expect("known since the first line");
-        self.burst.take(&mut self.state.collector, level)?;
-        rows::put_burst(&mut self.printed, self.format, text, &self.burst);
-        if let Some(store) = &mut self.store {
-            for row in self.burst.rows() {
-                store.append(row.frame, row.time, row.is_loose())?;
-            }
-        }
-        if let Some(at) = self.burst.cr_lf() {
-            self.tell_cr(at as u64);
-        }
-        let count = self.burst.lines().len() as u64;
-        self.read += count;
-        self.state.lines += count;
-        Ok(())
+        Ok(0) // it is skipped with the others
     }
 
     /// Says once that a line ends in CR LF, so many behind those that were read.
@@ -304,22 +444,13 @@ impl Run {
         }
     }
 
-    /// Archive first, then state, then the printed rows.
-    fn commit(&mut self, signals: &Signals) -> Result<(), Failure> {
-        if let Some(store) = &mut self.store {
-            store.sync()?;
-        }
-        self.save()?;
-        self.output.write_until_stopped(self.printed.as_bytes(), signals)?;
-        self.printed.clear();
-        Ok(())
-    }
-
     /// The state as it stands at the end, and the totals.
     fn end(&mut self, signals: &Signals) -> Result<(), Failure> {
-        self.save()?;
-        let totals = self.totals();
-        if self.format == Format::Text && self.ended == Ended::Input {
+        if self.is_settled {
+            self.keeper.end()?;
+        }
+        let totals = self.keeper.totals();
+        if self.format == Format::Text && self.ended == Ended::Input && !self.keeper.has_out() {
             self.output.write_until_stopped(format!("{totals}\n").as_bytes(), signals)?;
         }
         tell(totals);
@@ -327,32 +458,32 @@ impl Run {
     }
 }
 
-/// The state of a file, and whether it is a new one.
-fn restore(file: &StateFile, fresh: bool) -> Result<(State, bool), Failure> {
-    if fresh {
-        if let Some(aside) = file.put_aside()? {
-            tell(format!("the old state is kept as {}", aside.display()));
-        }
-        return Ok((State::fresh(), true));
+/// A feed has no place in a file; where bytes of one were counted, those of a feed can't be counted behind them.
+fn stand_in_feed(state: &mut State) {
+    if state.log.as_ref().is_some_and(|log| log.inode != 0) {
+        state.log = None;
     }
-    Ok(match file.read()? {
-        Some(state) => (state, false),
-        None => (State::fresh(), true),
-    })
 }
 
-/// The archive, with the rows that the state counts and no more.
-fn open_archive(options: &Options, state: &mut State) -> Result<Option<Store>, Failure> {
-    let kept = state.archive.take().filter(|_| !options.begin);
-    let other = |name: &[u8]| {
-        let text = format!("the state keeps the rows of {}: name it by --archive, or say --begin", String::from_utf8_lossy(name));
-        Err(Failure::Usage(text))
+/// Opens the log where the state stands; how many lines have to be skipped by their number, and the level that its first line says.
+fn open_log(path: &Path, options: &Options, keeper: &mut Keeper) -> Result<(Source, u64, Option<u8>), Failure> {
+    let stood = keeper.state.log.as_ref().is_some_and(|place| place.inode != 0);
+    let begins = options.adopt_log || keeper.state.lines == 0 && !stood;
+    let log = Log::open(path, options.follow, keeper.state.log.as_ref().filter(|_| !begins))?;
+    // A state of version 1 has no place: its lines are skipped.
+    let skip = if begins || keeper.state.log.is_some() { 0 } else { keeper.state.lines };
+    let offset = match (&mut keeper.state.log, begins) {
+        (Some(place), false) => {
+            (place.device, place.inode) = log.identity();
+            place.offset
+        }
+        (None, false) => 0,
+        (_, true) => {
+            keeper.stand_at(log.place());
+            0
+        }
     };
-    match (&options.archive, kept) {
-        (None, None) => Ok(None),
-        (None, Some(kept)) => other(&kept.name),
-        (Some(place), Some(kept)) if place.name() != kept.name => other(&kept.name),
-        (Some(place), Some(kept)) => Store::resume(place.clone(), &kept, state.counted(), MAX_BATCH as u64).map(Some),
-        (Some(place), None) => Store::begin(place.clone(), state.counted()).map(Some),
-    }
+    let front = log.front()?;
+    let said = front.split(|c| *c == b'\n').next().and_then(lines::setting).filter(|_| offset > 0);
+    Ok((Source::Log(log), skip, options.level.or(said)))
 }

@@ -1,10 +1,10 @@
 //! Files: locks, replacement by rename, and reading in pieces.
+use crate::disk::{Disk, Handle, Open, Real, Shared};
 use crate::failure::{tell, Failure};
 use mooringeye::{Archive, Refusal};
 use std::ffi::OsString;
 use std::fs::{self, File, OpenOptions, TryLockError};
 use std::io::{self, IsTerminal, Write};
-use std::os::unix::fs::{FileExt, MetadataExt};
 use std::path::{Path, PathBuf};
 use std::time::{Duration, Instant};
 
@@ -19,7 +19,7 @@ pub fn with_suffix(path: &Path, suffix: &str) -> PathBuf {
     PathBuf::from(name)
 }
 
-fn folder(path: &Path) -> &Path {
+pub fn folder(path: &Path) -> &Path {
     match path.parent() {
         Some(parent) if !parent.as_os_str().is_empty() => parent,
         _ => Path::new("."),
@@ -34,44 +34,90 @@ pub fn resolved(path: &Path) -> PathBuf {
     }
 }
 
-/// Makes what was created, renamed or removed in the folder of a file outlast a power cut. Some file systems cannot (EINVAL).
-pub fn sync_folder(path: &Path) -> Result<(), Failure> {
+/// Makes what was created, renamed or removed in the folder of a file outlast a power cut.
+pub fn sync_folder(disk: &dyn Disk, path: &Path) -> Result<(), Failure> {
     let folder = folder(path);
-    match File::open(folder).and_then(|f| f.sync_all()) {
-        Err(error) if error.kind() == io::ErrorKind::InvalidInput => Ok(()),
-        synced => synced.map_err(|e| Failure::of(format!("sync {}", folder.display()), &e)),
-    }
+    disk.sync_folder(folder).map_err(|e| Failure::of(format!("sync {}", folder.display()), &e))
 }
 
 /// Takes the lock of a file that others write too, or says who has it.
-pub fn lock(file: &File, path: &Path) -> Result<(), Failure> {
-    match file.try_lock() {
-        Ok(()) => Ok(()),
-        Err(TryLockError::WouldBlock) => Err(Failure::Failed(format!("another process is writing {}: it is locked", path.display()))),
-        Err(TryLockError::Error(error)) => Err(Failure::of(format!("lock {}", path.display()), &error)),
+fn lock(file: &dyn Handle, path: &Path) -> Result<(), Failure> {
+    match file.lock().map_err(|e| Failure::of(format!("lock {}", path.display()), &e))? {
+        true => Ok(()),
+        false => Err(Failure::Failed(format!("another process is writing {}: it is locked", path.display()))),
     }
 }
 
-/// The lock of a file that is replaced by rename: a file beside it, which stays.
-pub fn lock_beside(path: &Path) -> Result<File, Failure> {
+/// The lock of a file that is replaced by rename: a file beside it, which stays. To be locked it has to be readable, and no more.
+pub fn lock_beside(disk: &Shared, path: &Path) -> Result<Box<dyn Handle>, Failure> {
     let beside = with_suffix(path, ".lock");
-    let file = OpenOptions::new().create(true).truncate(false).write(true).open(&beside);
-    let file = file.map_err(|e| Failure::of(format!("open {}", beside.display()), &e))?;
-    lock(&file, path)?;
+    let opened = match disk.open(&beside, Open::Read) {
+        Err(error) if error.kind() == io::ErrorKind::NotFound => disk.open(&beside, Open::OrNew),
+        opened => opened,
+    };
+    let file = opened.map_err(|error| match error.kind() {
+        io::ErrorKind::PermissionDenied => {
+            let what = "This user may not open it. Change its owner, or remove it while no collector runs.";
+            Failure::Failed(format!("cannot open the lock file {}: {error}. {what}", beside.display()))
+        }
+        _ => Failure::of(format!("open the lock file {}", beside.display()), &error),
+    })?;
+    lock(&*file, path)?;
     Ok(file)
+}
+
+/// Locks an open file, and looks whether its path still names it.
+fn own(disk: &dyn Disk, file: &dyn Handle, path: &Path) -> Result<(), Failure> {
+    lock(file, path)?;
+    let cannot = |e: io::Error| Failure::of(format!("open {}", path.display()), &e);
+    // Between the two another process may have put a new file in its place.
+    let (mine, named) = (file.facts().map_err(cannot)?, disk.facts(path).map_err(cannot)?);
+    match named.is_some_and(|named| named.is_same(&mine)) {
+        true => Ok(()),
+        false => Err(Failure::Failed(format!("{} was replaced by another process meanwhile", path.display()))),
+    }
 }
 
 /// Opens an archive to be written, makes it where it is missing and may be, and locks it.
 pub fn open_locked(path: &Path, create: bool) -> Result<File, Failure> {
     let cannot = |e: io::Error| Failure::of(format!("open {}", path.display()), &e);
     let file = OpenOptions::new().create(create).truncate(false).read(true).write(true).open(path).map_err(cannot)?;
-    lock(&file, path)?;
-    // Between the two another process may have put a new file in its place.
-    let (mine, named) = (file.metadata().map_err(cannot)?, fs::metadata(path).map_err(cannot)?);
-    if (mine.dev(), mine.ino()) != (named.dev(), named.ino()) {
-        return Err(Failure::Failed(format!("{} was replaced by another process meanwhile", path.display())));
-    }
+    own(&Real, &file, path)?;
     Ok(file)
+}
+
+/// The same on any disk; a file that was made outlasts a power cut.
+pub fn open_kept(disk: &dyn Disk, path: &Path) -> Result<Box<dyn Handle>, Failure> {
+    let file = disk.open(path, Open::OrNew).map_err(|e| Failure::of(format!("open {}", path.display()), &e))?;
+    own(disk, &*file, path)?;
+    sync_folder(disk, path)?;
+    Ok(file)
+}
+
+/// Puts a file that is whole and synced in the place of another.
+pub fn put_in_place(disk: &Shared, from: &Path, to: &Path) -> Result<(), Failure> {
+    disk.rename(from, to).map_err(|e| Failure::of(format!("replace {}", to.display()), &e))?;
+    sync_folder(&**disk, to)
+}
+
+/// The first name behind a path, with a word and a number, that nothing has.
+pub fn free_name(disk: &dyn Disk, path: &Path, word: &str) -> Result<PathBuf, Failure> {
+    for n in 1.. {
+        let name = with_suffix(path, &format!(".{word}-{n}"));
+        let cannot = |e: io::Error| Failure::of(format!("read {}", name.display()), &e);
+        if disk.facts(&name).map_err(cannot)?.is_none() {
+            return Ok(name);
+        }
+    }
+    unreachable!("there are fewer files than numbers")
+}
+
+/// Moves what stands at a path aside, under the first free name, and says where it is.
+pub fn put_aside(disk: &Shared, path: &Path) -> Result<PathBuf, Failure> {
+    let aside = free_name(&**disk, path, "aside")?;
+    disk.rename(path, &aside).map_err(|e| Failure::of(format!("put {} aside", path.display()), &e))?;
+    sync_folder(&**disk, path)?;
+    Ok(aside)
 }
 
 /// A new content of a file: written beside it under another name, with its permissions, and put in its place in one step.
@@ -107,7 +153,7 @@ impl Replacement {
         self.file.sync_all().map_err(|e| self.cannot("sync", &e))?;
         fs::rename(&self.beside, &self.target).map_err(|e| Failure::of(format!("replace {}", self.target.display()), &e))?;
         self.done = true;
-        sync_folder(&self.target)
+        sync_folder(&Real, &self.target)
     }
 
     /// The same where nothing may be there yet.
@@ -123,7 +169,7 @@ impl Replacement {
             Err(error) => return Err(cannot(error)),
         }
         self.done = true;
-        sync_folder(&self.target)
+        sync_folder(&Real, &self.target)
     }
 }
 
@@ -135,25 +181,13 @@ impl Drop for Replacement {
     }
 }
 
-/// Moves what stands at a path aside, under the first free name, and says where it is.
-pub fn put_aside(path: &Path) -> Result<Option<PathBuf>, Failure> {
-    if fs::symlink_metadata(path).is_err_and(|e| e.kind() == io::ErrorKind::NotFound) {
-        return Ok(None);
-    }
-    let aside = (1..).map(|n| with_suffix(path, &format!(".aside-{n}"))).find(|p| fs::symlink_metadata(p).is_err());
-    let aside = aside.expect("there are fewer files than numbers");
-    fs::rename(path, &aside).map_err(|e| Failure::of(format!("put {} aside", path.display()), &e))?;
-    sync_folder(path)?;
-    Ok(Some(aside))
-}
-
 /// The length of an archive in blocks; 16 for one that is not whole blocks.
-pub fn blocks_of(file: &File, path: &Path) -> Result<u64, Failure> {
-    let metadata = file.metadata().map_err(|e| Failure::of(format!("read {}", path.display()), &e))?;
-    if !metadata.is_file() {
+pub fn blocks_of(file: &dyn Handle, path: &Path) -> Result<u64, Failure> {
+    let facts = file.facts().map_err(|e| Failure::of(format!("read {}", path.display()), &e))?;
+    if !facts.is_file {
         return Err(Failure::Failed(format!("cannot read {}: it is not a file", path.display())));
     }
-    match metadata.len() {
+    match facts.length {
         n if n % BLOCK == 0 => Ok(n / BLOCK),
         n => Err(Failure::refused(format!("{} has {n} bytes", path.display()), Refusal::Size)),
     }
@@ -161,7 +195,7 @@ pub fn blocks_of(file: &File, path: &Path) -> Result<u64, Failure> {
 
 /// The blocks of an archive, in pieces.
 pub struct Pieces<'a> {
-    file: &'a File,
+    file: &'a dyn Handle,
     path: &'a Path,
     buffer: Vec<u8>,
     /// The next byte, and the end.
@@ -172,7 +206,7 @@ pub struct Pieces<'a> {
 
 impl<'a> Pieces<'a> {
     /// The blocks `from` to `to`.
-    pub fn of(file: &'a File, path: &'a Path, from: u64, to: u64) -> Pieces<'a> {
+    pub fn of(file: &'a dyn Handle, path: &'a Path, from: u64, to: u64) -> Pieces<'a> {
         let size = PIECE.min(((to - from) * BLOCK) as usize);
         Pieces { file, path, buffer: vec![0; size], at: from * BLOCK, end: to * BLOCK, progress: Progress::of(path, (to - from) * BLOCK) }
     }
@@ -184,7 +218,7 @@ impl<'a> Pieces<'a> {
         let size = self.buffer.len().min((self.end - self.at) as usize);
         let piece = &mut self.buffer[..size];
         let place = |e: io::Error| Failure::of(format!("read {} at byte {}", self.path.display(), self.at), &e);
-        self.file.read_exact_at(piece, self.at).map_err(place)?;
+        self.file.read_all_at(piece, self.at).map_err(place)?;
         self.at += size as u64;
         self.progress.show(size as u64);
         Ok(Some(piece))

@@ -60,9 +60,10 @@ impl Printed {
 }
 
 /// The heading of a collector's rows.
-pub fn put_heading(out: &mut Printed, format: Format) {
-    if format == Format::Csv {
-        out.put(b"time,answer,refusal,telegram,send\n");
+pub fn heading(format: Format) -> &'static [u8] {
+    match format {
+        Format::Csv => b"time,answer,refusal,telegram,send\n",
+        Format::Text | Format::Json => b"",
     }
 }
 

@@ -41,6 +41,15 @@ impl Signals {
         }
     }
 
+    /// Waits at most so many milliseconds, until something can be read, where there is something to read from.
+    pub fn rest(&self, from: Option<&impl AsFd>, timeout: i32) -> io::Result<()> {
+        match (sys::is_signalled(), from) {
+            (true, _) => Ok(()),
+            (false, Some(from)) => self.wait(from, sys::POLLIN, timeout).map(|_| ()),
+            (false, None) => self.wait(&self.wake, 0, timeout).map(|_| ()),
+        }
+    }
+
     pub fn wait_to_write(&self, to: &impl AsFd, timeout: i32) -> io::Result<Waited> {
         self.wait(to, sys::POLLOUT, timeout)
     }

@@ -1,13 +1,16 @@
-//! The archive of a collector: one file, or files numbered by a pattern of which a new one begins where one is full. Before the first row what a crash
-//! left behind the rows that the state counts is taken back.
-use crate::appender::{Appender, MAX_BLOCKS, ROWS};
-use crate::burst::FRAME;
-use crate::failure::{tell, Failure};
-use crate::files;
-use crate::state::{name_of, Attached};
-use mooringeye::Archive;
+//! The archive of a collector: one file, or files numbered by a pattern of which a new one begins where one is full.
+//!
+//! Rows behind those that the state counts are leftovers of a stop between two writes, or somebody else's. None is destroyed: rows that come are
+//! compared with them; where they are equal they are counted, else the leftovers go into an archive of their own (crates/journal_model, `started`,
+//! `committed`, `ended`).
+use crate::appender::{Appender, Size, BLOCK, GROWTH, MAX_BLOCKS};
+use crate::disk::{Disk, Handle, Open, Shared};
+use crate::failure::Failure;
+use crate::files::{self, with_suffix};
+use crate::journal::{agreeing, in_last, judge, rows_of, Attached, Behind, Found, Run, Stored, RECORD, ROWS};
+use crate::state::name_of;
+use mooringeye::{Archive, Block};
 use std::ffi::{OsStr, OsString};
-use std::fs;
 use std::io;
 use std::os::unix::ffi::{OsStrExt, OsStringExt};
 use std::path::{Path, PathBuf};
@@ -18,6 +21,8 @@ pub struct Place {
     path: PathBuf,
     /// Blocks of a file, where a pattern names it.
     blocks: Option<u64>,
+    /// By how many blocks a file grows.
+    growth: u64,
 }
 
 impl Place {
@@ -28,7 +33,7 @@ impl Place {
             (Some(_), None) => usage("a pattern needs --blocks, at how many of them a new file begins"),
             (None, Some(_)) => usage("--blocks goes with a pattern, a name with ## in it where the number of the file stands"),
             (Some((before, _, after)), _) if [before, after].concat().contains(&b'#') => usage("a pattern has one run of # in its name"),
-            (_, blocks) => Ok(Place { path: path.into(), blocks }),
+            (_, blocks) => Ok(Place { path: path.into(), blocks, growth: GROWTH }),
         }
     }
 
@@ -37,9 +42,13 @@ impl Place {
         name_of(&self.path).expect("tested by of")
     }
 
-    /// The most blocks of a file.
-    fn limit(&self) -> u64 {
-        self.blocks.unwrap_or(MAX_BLOCKS)
+    fn size(&self) -> Size {
+        Size { limit: self.blocks.unwrap_or(MAX_BLOCKS), growth: self.growth }
+    }
+
+    /// The rows of a full file.
+    fn full(&self) -> u64 {
+        ROWS * self.size().limit
     }
 
     /// The file with a number.
@@ -53,8 +62,15 @@ impl Place {
         self.path.with_file_name(OsString::from_vec([before, digits.as_bytes(), after].concat()))
     }
 
+    /// The file with a number, where it is there.
+    fn existing(&self, disk: &dyn Disk, number: u64) -> Result<Option<PathBuf>, Failure> {
+        let path = self.file(number);
+        let facts = disk.facts(&path).map_err(|e| Failure::of(format!("read {}", path.display()), &e))?;
+        Ok(facts.map(|_| path))
+    }
+
     /// The number of the last file there is, 0 where there is none.
-    fn last(&self) -> Result<u64, Failure> {
+    fn last(&self, disk: &dyn Disk) -> Result<u64, Failure> {
         if self.blocks.is_none() {
             return Ok(0);
         }
@@ -66,16 +82,9 @@ impl Place {
             let text = std::str::from_utf8(digits).ok().filter(|t| is_ours && t.bytes().all(|c| c.is_ascii_digit()));
             text?.parse::<u64>().ok()
         };
-        let folder = match self.path.parent() {
-            Some(parent) if !parent.as_os_str().is_empty() => parent,
-            _ => Path::new("."),
-        };
-        let cannot = |e: io::Error| Failure::of(format!("read {}", folder.display()), &e);
-        let mut last = 0;
-        for entry in fs::read_dir(folder).map_err(cannot)? {
-            last = number_of(&entry.map_err(cannot)?.file_name()).unwrap_or(0).max(last);
-        }
-        Ok(last)
+        let folder = files::folder(&self.path);
+        let names = disk.names(folder).map_err(|e: io::Error| Failure::of(format!("read {}", folder.display()), &e))?;
+        Ok(names.iter().filter_map(|name| number_of(name)).max().unwrap_or(0))
     }
 }
 
@@ -88,6 +97,7 @@ fn pattern(name: &[u8]) -> Option<(&[u8], usize, &[u8])> {
 
 /// The open archive.
 pub struct Store {
+    disk: Shared,
     place: Place,
     number: u64,
     file: Appender,
@@ -96,30 +106,123 @@ pub struct Store {
     /// How many it had counted when this file began, and the rows that the file had then.
     counted: u64,
     had: u64,
+    /// Leftovers: rows that stand behind ours, in this file and those that follow, and that nobody counts.
+    left: u64,
+    /// What the start has to put in order before the first row comes.
+    untidy: Vec<Untidy>,
+    is_torn: bool,
+}
+
+/// A file with bytes behind its rows that are no archive: a write that did not end.
+struct Untidy {
+    number: u64,
+    /// The first block of them.
+    from: u64,
+    behind: Behind,
+    /// Whether the file ends inside a block.
+    is_odd: bool,
 }
 
 impl Store {
     /// Opens the archive of a collector that has counted so many rows. Nothing is known of the archive but what it says itself.
-    pub fn begin(place: Place, seen: u64) -> Result<Store, Failure> {
-        let number = place.last()?;
-        let (path, limit) = (place.file(number), place.limit());
-        let file = Appender::behind_all(open(&path)?, &path, limit)?;
-        Ok(Store { place, number, had: file.rows(), file, seen, counted: seen })
+    pub fn begin(disk: &Shared, place: Place, seen: u64) -> Result<Store, Failure> {
+        let number = place.last(&**disk)?;
+        let path = place.file(number);
+        let file = Appender::behind_all_of(files::open_kept(&**disk, &path)?, &path, place.size())?;
+        let had = file.rows();
+        Ok(Store { disk: disk.clone(), place, number, file, seen, counted: seen, had, left: 0, untidy: Vec::new(), is_torn: false })
     }
 
-    /// Opens the archive that a state keeps, and takes back what a crash left behind the rows that the state counts. A crash leaves at most `ahead`
-    /// rows: more are no leftover, and nothing is done.
-    pub fn resume(place: Place, kept: &Attached, seen: u64, ahead: u64) -> Result<Store, Failure> {
-        let (path, rows) = (place.file(kept.number), kept.had + (seen - kept.counted));
-        if rows > 0 && !path.exists() {
-            return Err(not_its_own(format!("{} is not there, and the state counts {rows} rows in it", path.display())));
+    /// Opens the archive that a state keeps, and looks at what a stop may have left. Nothing is changed yet.
+    pub fn resume(disk: &Shared, place: Place, kept: &Attached, seen: u64) -> Result<Store, Failure> {
+        let mut rows = kept.had + (seen - kept.counted);
+        let (mut number, mut counted, mut had, mut last) = (kept.number, kept.counted, kept.had, kept.last.clone());
+        if rows > 0 && place.existing(&**disk, number)?.is_none() {
+            let shown = place.file(number).display().to_string();
+            if place.blocks.is_none() || rows < place.full() {
+                return Err(not_its_own(format!("{shown} is missing, and the state counts {rows} rows in it")));
+            }
+            // A full file may be moved away at any time.
+            disk.tell(&format!("{shown} is full and was moved away: the next file begins"));
+            (number, rows, counted, had, last) = (number + 1, 0, seen, 0, Block::default());
         }
-        let mut file = Appender::over(open(&path)?, &path, place.limit())?;
-        file.stand_behind(rows, kept.last.clone());
-        let left = take_back(&mut file, ahead)?;
-        let store = Store { place, number: kept.number, file, seen, counted: kept.counted, had: kept.had };
-        store.take_back_files(left)?;
+        let path = place.file(number);
+        let mut file = Appender::over(files::open_kept(&**disk, &path)?, &path, place.size())?;
+        file.stand_behind(rows, last);
+        let mut store = Store { disk: disk.clone(), place, number, file, seen, counted, had, left: 0, untidy: Vec::new(), is_torn: false };
+        store.look()?;
         Ok(store)
+    }
+
+    /// Compares the block with the last counted row with the state's copy, and finds the leftovers and what stands behind them.
+    fn look(&mut self) -> Result<(), Failure> {
+        let used = self.file.rows().div_ceil(ROWS);
+        let found = find_last(&self.file, used)?;
+        self.is_torn = found == Found::Torn;
+        let mut run = Run::from(used.saturating_sub(1));
+        if used > 0 {
+            let block = if self.is_torn { self.file.last().clone() } else { self.file.read_block(used - 1)? };
+            run.feed(block.as_bytes());
+        }
+        self.look_behind(self.number, None, used, &mut run)?;
+        self.left = run.rows - in_last(self.file.rows()) as u64;
+        if self.place.blocks.is_none() {
+            return Ok(());
+        }
+        let mut is_full = ROWS * used.saturating_sub(1) + run.rows == self.place.full();
+        for number in self.number + 1.. {
+            let Some(path) = self.place.existing(&*self.disk, number)? else { break };
+            let later = Appender::over(files::open_kept(&*self.disk, &path)?, &path, self.place.size())?;
+            let mut run = Run::from(0);
+            run.has_ended = !is_full;
+            self.look_behind(number, Some(&later), 0, &mut run)?;
+            self.left += run.rows;
+            is_full = run.rows == self.place.full();
+        }
+        Ok(())
+    }
+
+    /// Goes on with a run from a block on, in a later file or in this one, and notes what stands behind it.
+    fn look_behind(&mut self, number: u64, later: Option<&Appender>, from: u64, run: &mut Run) -> Result<(), Failure> {
+        let (file, before) = (later.unwrap_or(&self.file), run.blocks);
+        let mut behind = Behind::default();
+        let mut pieces = file.pieces(from);
+        while let Some(piece) = pieces.next()? {
+            let first = run.blocks;
+            run.feed(piece);
+            behind.feed(&piece[(run.blocks - first) as usize * Archive::BLOCK..]);
+        }
+        let odd = file.odd_end()?;
+        behind.feed(&odd);
+        if behind.blocks > 0 || !odd.is_empty() {
+            self.untidy.push(Untidy { number, from: from + run.blocks - before, behind, is_odd: !odd.is_empty() });
+        }
+        Ok(())
+    }
+
+    /// Puts in order what `look` found: mends the torn block from the state's copy, and clears what is no archive.
+    pub fn settle(&mut self) -> Result<(), Failure> {
+        if std::mem::take(&mut self.is_torn) {
+            let position = self.file.rows().div_ceil(ROWS) - 1;
+            self.file.write_block(&self.file.last().clone(), position)?;
+            self.disk.tell(&format!("{}: block {position} was torn. It was mended from the state's copy.", self.file.path().display()));
+        }
+        for untidy in std::mem::take(&mut self.untidy) {
+            if untidy.number == self.number {
+                tidy(&self.disk, &mut self.file, &untidy)?;
+            } else {
+                let path = self.place.file(untidy.number);
+                let mut later = Appender::over(files::open_kept(&*self.disk, &path)?, &path, self.place.size())?;
+                tidy(&self.disk, &mut later, &untidy)?;
+                later.sync()?;
+            }
+        }
+        self.file.sync()?;
+        if self.left > 0 {
+            let shown = self.file.path().display();
+            self.disk.tell(&format!("{shown} has {} rows behind row {} that the state does not count", self.left, self.file.rows()));
+        }
+        Ok(())
     }
 
     /// What a state keeps of it.
@@ -135,109 +238,202 @@ impl Store {
         self.file.rows()
     }
 
-    #[inline]
-    pub fn append(&mut self, frame: &[u8; FRAME], time: u64, loose: bool) -> Result<(), Failure> {
-        if self.file.is_full() {
-            self.next_file()?;
+    /// How many leftovers there are.
+    pub fn left(&self) -> u64 {
+        self.left
+    }
+
+    /// Leftovers, from the first on, at most so many.
+    pub fn leftovers(&self, most: usize) -> Result<Vec<Stored>, Failure> {
+        self.leftovers_from(0, most as u64)
+    }
+
+    fn leftovers_from(&self, skip: u64, most: u64) -> Result<Vec<Stored>, Failure> {
+        let (full, end) = (self.place.full(), self.left.min(skip + most));
+        let mut rows = Vec::new();
+        let mut later: Option<(u64, Box<dyn Handle>)> = None;
+        while skip + (rows.len() as u64) < end {
+            let at = self.file.rows() + skip + rows.len() as u64;
+            let (number, within) = (self.number + at / full, at % full);
+            let block = if number == self.number {
+                self.file.read_block(within / ROWS)?
+            } else {
+                let path = self.place.file(number);
+                let cannot = |e| Failure::of(format!("read {}", path.display()), &e);
+                if later.as_ref().is_none_or(|(open, _)| *open != number) {
+                    later = Some((number, self.disk.open(&path, Open::Read).map_err(cannot)?));
+                }
+                let mut bytes = [0; Archive::BLOCK];
+                later.as_ref().expect("opened above").1.read_all_at(&mut bytes, within / ROWS * BLOCK).map_err(cannot)?;
+                Block::new(bytes)
+            };
+            let stored = rows_of(&block).split_off((within % ROWS) as usize);
+            if stored.is_empty() {
+                return Err(not_its_own(format!("{} was changed by another process", self.place.file(number).display())));
+            }
+            rows.extend(stored);
         }
-        self.file.append(frame, time, loose)?;
-        self.seen += 1;
+        rows.truncate((end - skip) as usize);
+        Ok(rows)
+    }
+
+    /// Puts the rows of a batch behind the others, and returns when they would outlast a power cut. Those that stand there already are counted.
+    pub fn put(&mut self, times: &[u64], records: &[u8]) -> Result<(), Failure> {
+        self.file.notice(&*self.disk)?;
+        let mut agreed = 0;
+        if self.left > 0 && !times.is_empty() {
+            agreed = agreeing(times, records, &self.leftovers(times.len())?);
+            self.each_file(&times[..agreed], &records[..RECORD * agreed], true)?;
+            if agreed < times.len() && self.left > 0 {
+                self.put_left_aside("are not what came in their place")?;
+            }
+        }
+        self.each_file(&times[agreed..], &records[RECORD * agreed..], false)?;
+        self.file.sync()?;
+        self.file.notice(&*self.disk)
+    }
+
+    /// Rows that stand there, or new ones, into one file after the other.
+    fn each_file(&mut self, times: &[u64], records: &[u8], is_there: bool) -> Result<(), Failure> {
+        let mut at = 0;
+        while at < times.len() {
+            if self.file.room() == 0 {
+                self.next_file(is_there)?;
+            }
+            let end = times.len().min(at + self.file.room().min(1 << 40) as usize);
+            let (times, records) = (&times[at..end], &records[RECORD * at..RECORD * end]);
+            let count = (end - at) as u64;
+            if is_there {
+                self.file.pass_rows(times, records)?;
+                self.left -= count;
+            } else {
+                self.file.append_rows(times, records)?;
+            }
+            self.seen += count;
+            at = end;
+        }
         Ok(())
     }
 
-    pub fn sync(&mut self) -> Result<(), Failure> {
-        self.file.sync()
-    }
-
-    /// Begins the next file of the pattern. The lock of the full one is held until the new one has its own.
-    fn next_file(&mut self) -> Result<(), Failure> {
+    /// Goes on with the next file of the pattern, which has leftovers or is to be begun. The lock of the full one is held until the new one has its own.
+    fn next_file(&mut self, has_leftovers: bool) -> Result<(), Failure> {
         if self.place.blocks.is_none() {
             return Err(Failure::Failed(format!("{} has all blocks that an archive can have", self.path().display())));
         }
-        self.sync()?;
-        let next = Store::numbered(&self.place, self.number + 1)?;
-        if next.rows() != 0 {
-            return Err(Failure::Damaged(format!("{} has rows that nobody counts: move it away", next.path().display())));
+        self.file.sync()?;
+        let path = self.place.file(self.number + 1);
+        let mut next = Appender::over(files::open_kept(&*self.disk, &path)?, &path, self.place.size())?;
+        if !has_leftovers && !is_empty(&next)? {
+            let aside = files::put_aside(&self.disk, &path)?;
+            self.disk.tell(&format!("{} has rows that no state counts. It was renamed to {}.", path.display(), aside.display()));
+            next = Appender::over(files::open_kept(&*self.disk, &path)?, &path, self.place.size())?;
         }
         (self.file, self.number) = (next, self.number + 1);
         (self.counted, self.had) = (self.seen, 0);
         Ok(())
     }
 
-    fn numbered(place: &Place, number: u64) -> Result<Appender, Failure> {
-        let path = place.file(number);
-        Appender::behind_all(open(&path)?, &path, place.limit())
+    /// The log has ended: leftovers that it did not give again go aside.
+    pub fn end(&mut self) -> Result<(), Failure> {
+        match self.left {
+            0 => Ok(()),
+            _ => self.put_left_aside("are not in the log"),
+        }
     }
 
-    /// Empties the later files of the pattern, which no state counts. Only archives of no more blocks than a crash can have left are emptied.
-    fn take_back_files(&self, mut left: u64) -> Result<(), Failure> {
-        if self.place.blocks.is_none() {
-            return Ok(());
+    /// Puts the leftovers into an archive of their own, which is on disk before they are cleared.
+    fn put_left_aside(&mut self, why: &str) -> Result<(), Failure> {
+        let (shown, left) = (self.file.path().display().to_string(), self.left);
+        let aside = files::free_name(&*self.disk, self.file.path(), "aside")?;
+        let beside = with_suffix(self.file.path(), ".new");
+        let cannot = |e| Failure::of(format!("write {}", beside.display()), &e);
+        let new = self.disk.open(&beside, Open::Empty).map_err(cannot)?;
+        new.share_as(self.file.path()).map_err(cannot)?;
+        let mut archive = Appender::over(new, &beside, Size { limit: MAX_BLOCKS, growth: 1 })?;
+        let mut skip = 0;
+        while skip < left {
+            let rows = self.leftovers_from(skip, 1 << 14)?;
+            let times: Vec<u64> = rows.iter().map(|r| r.time).collect();
+            let records: Vec<u8> = rows.iter().flat_map(|r| r.record).collect();
+            archive.append_rows(&times, &records)?;
+            skip += rows.len() as u64;
         }
-        for number in self.number + 1.. {
-            if !self.place.file(number).exists() {
-                break;
-            }
-            let mut later = Store::numbered(&self.place, number)?;
-            let (rows, shown) = (later.rows(), later.path().display().to_string());
-            let Some(rest) = left.checked_sub(rows.div_ceil(ROWS)) else {
-                return Err(Failure::Damaged(format!("{shown} has more rows than a crash can leave, and no state counts them: move it away")));
-            };
-            left = rest;
-            if rows > 0 {
-                later.clear(0, rows.div_ceil(ROWS))?;
-                later.sync()?;
-                tell(format!("{shown}: {rows} rows that the state does not count are taken back"));
-            }
-        }
+        archive.sync()?;
+        files::put_in_place(&self.disk, &beside, &aside)?;
+        self.clear_left()?;
+        self.disk.tell(&format!("{shown}: {left} rows that the state does not count {why}. They were moved to {}.", aside.display()));
         Ok(())
     }
+
+    /// Zeros in the place of the leftovers.
+    fn clear_left(&mut self) -> Result<(), Failure> {
+        let (rows, end) = (self.file.rows(), self.file.rows() + std::mem::take(&mut self.left));
+        let full = self.place.full();
+        for number in (self.number + 1..).take_while(|n| (n - self.number) * full < end) {
+            let path = self.place.file(number);
+            let mut later = Appender::over(files::open_kept(&*self.disk, &path)?, &path, self.place.size())?;
+            later.clear(0, (end - (number - self.number) * full).min(full).div_ceil(ROWS))?;
+            later.sync()?;
+        }
+        let used = rows.div_ceil(ROWS);
+        self.file.clear(used, end.min(full).div_ceil(ROWS).max(used))?;
+        if used > 0 {
+            self.file.write_block(&self.file.last().clone(), used - 1)?;
+        }
+        self.file.sync()
+    }
 }
 
-/// Opens and locks a file of the archive, and makes it where it is missing.
-fn open(path: &Path) -> Result<fs::File, Failure> {
-    let file = files::open_locked(path, true)?;
-    files::sync_folder(path)?;
-    Ok(file)
+/// Whether a file has no byte but zeros.
+fn is_empty(file: &Appender) -> Result<bool, Failure> {
+    let mut behind = Behind::default();
+    let mut pieces = file.pieces(0);
+    while let Some(piece) = pieces.next()? {
+        behind.feed(piece);
+    }
+    Ok(behind.blocks == 0)
 }
 
-/// How the file's block with the last counted row compares with the state's copy.
-#[derive(PartialEq, Eq)]
-enum Found {
-    Same,
-    /// The counted rows, and some more.
-    Longer,
-    /// Bytes that are no block: a write that was not finished.
-    Torn,
+/// Clears what is no archive; where a sound block stands among it, all of it is copied to a file of its own before.
+fn tidy(disk: &Shared, file: &mut Appender, untidy: &Untidy) -> Result<(), Failure> {
+    let Untidy { from, behind, .. } = untidy;
+    let to = (from + behind.blocks).min(file.blocks());
+    let shown = file.path().display().to_string();
+    if behind.sound > 0 {
+        let torn = copy_torn(disk, file, *from, to)?;
+        disk.tell(&format!("{shown}: {} blocks behind an unfinished write were copied to {}", to - from, torn.display()));
+    }
+    file.clear(*from, to)?;
+    if untidy.is_odd {
+        file.cut_odd_end()?;
+    }
+    if behind.blocks > 0 {
+        disk.tell(&format!("{shown}: {} blocks of an unfinished write were cleared", behind.blocks));
+    }
+    Ok(())
+}
+
+fn copy_torn(disk: &Shared, file: &Appender, from: u64, to: u64) -> Result<PathBuf, Failure> {
+    let torn = files::free_name(&**disk, file.path(), "torn")?;
+    let beside = with_suffix(file.path(), ".new");
+    let cannot = |e| Failure::of(format!("write {}", beside.display()), &e);
+    let copy = disk.open(&beside, Open::Empty).map_err(cannot)?;
+    copy.share_as(file.path()).map_err(cannot)?;
+    let (mut at, mut pieces) = (0, file.pieces_to(from, to));
+    while let Some(piece) = pieces.next()? {
+        copy.write_at(piece, at).map_err(cannot)?;
+        at += piece.len() as u64;
+    }
+    copy.sync().map_err(cannot)?;
+    files::put_in_place(disk, &beside, &torn)?;
+    Ok(torn)
 }
 
 fn not_its_own(text: String) -> Failure {
-    Failure::Damaged(format!("{text} (--begin goes on with the archive as it is)"))
+    Failure::Damaged(format!("{text}. Nothing was changed. Use --adopt-archive to go on with the archive as it is."))
 }
 
-/// Leaves the rows that are counted, and zeros behind them. Says how many blocks a crash may have left in later files.
-fn take_back(file: &mut Appender, ahead: u64) -> Result<u64, Failure> {
-    let used = file.rows().div_ceil(ROWS);
-    let found = find_last(file, used)?;
-    let most = ahead.div_ceil(ROWS) + 1;
-    let left = blocks_left(file, used)?;
-    let (shown, rows) = (file.path().display().to_string(), file.rows());
-    if left > most {
-        return Err(not_its_own(format!("{shown} has more rows behind row {rows} than a crash can leave")));
-    }
-    if left > 0 || found != Found::Same {
-        file.clear(used, used + left)?;
-        if found != Found::Same {
-            file.write_block(&file.last().clone(), used - 1)?;
-        }
-        file.sync()?;
-        let torn = if found == Found::Torn { "a torn block is mended, and " } else { "" };
-        tell(format!("{shown}: {torn}what the state does not count, behind row {rows}, is taken back"));
-    }
-    Ok(most - left)
-}
-
-/// Looks at the blocks that the state counts. The last of them, cut to the counted rows, has to be the state's copy.
+/// Looks at the blocks that the state counts. The last of them, cut to the counted rows, has to be the state's copy, or torn.
 fn find_last(file: &Appender, used: u64) -> Result<Found, Failure> {
     if used == 0 {
         return Ok(Found::Same);
@@ -247,30 +443,12 @@ fn find_last(file: &Appender, used: u64) -> Result<Found, Failure> {
     if file.blocks() < used || full < ROWS * (used - 1) {
         return Err(not_its_own(format!("{shown} has {full} rows, and the state counts {rows}: rows were lost or removed")));
     }
-    let block = file.read_block(used - 1)?;
-    let mut front = block.clone();
-    let is_copy = front.cut((rows - full) as usize).is_ok() && front == *file.last();
-    match () {
-        () if is_copy && front == block => Ok(Found::Same),
-        () if is_copy => Ok(Found::Longer),
-        () if !block.is_sound() && !block.is_blank() => Ok(Found::Torn),
-        () => Err(not_its_own(format!("{shown} does not have row {rows} as the state counted it: rows were lost, or it is another one"))),
-    }
-}
-
-/// How many blocks behind the counted ones are in use: up to the last that is not all zero.
-fn blocks_left(file: &Appender, used: u64) -> Result<u64, Failure> {
-    let (mut at, mut left) = (0, 0);
-    let mut pieces = file.pieces(used);
-    while let Some(piece) = pieces.next()? {
-        for block in piece.chunks_exact(Archive::BLOCK) {
-            at += 1;
-            if block.iter().fold(0, |any, b| any | b) != 0 {
-                left = at;
-            }
+    match judge(file.last(), in_last(rows), &file.read_block(used - 1)?) {
+        Found::Another => {
+            Err(not_its_own(format!("{shown} does not have row {rows} as the state counted it: rows were lost, or it is another archive")))
         }
+        found => Ok(found),
     }
-    Ok(left)
 }
 
 #[cfg(test)]

@@ -24,6 +24,8 @@ pub enum Got {
     End,
     /// A signal came: it asks to stop, or for the totals.
     Signal,
+    /// The next log begins: what was read before belongs to the one before it.
+    Next,
 }
 
 impl Input {

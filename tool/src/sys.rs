@@ -4,13 +4,16 @@
 //! - `write`: the one thing that a handler may do to wake the program;
 //! - `poll`: std cannot wait for a descriptor and a signal at once;
 //! - `__errno_location`: a handler must leave the number of the last error as it found it;
+//! - `inotify_init1`, `inotify_add_watch`: std cannot wait until a file grows;
 //! - `fcntl`: std opens /dev/null where a standard descriptor is closed, so that has to be asked before std begins.
 //!
 //! Locks, the sync of a folder and aligned writes at an offset are in std.
 #![allow(unsafe_code)]
 use crate::digits;
+use std::ffi::CStr;
+use std::fs::File;
 use std::io;
-use std::os::fd::{AsRawFd, BorrowedFd, RawFd};
+use std::os::fd::{AsRawFd, BorrowedFd, FromRawFd, OwnedFd, RawFd};
 use std::sync::atomic::{AtomicBool, AtomicI32, Ordering};
 
 mod c {
@@ -27,6 +30,8 @@ mod c {
         pub fn poll(fds: *mut PollFd, count: std::ffi::c_ulong, timeout: i32) -> i32;
         pub fn __errno_location() -> *mut i32;
         pub fn fcntl(fd: i32, command: i32, ...) -> i32;
+        pub fn inotify_init1(flags: i32) -> i32;
+        pub fn inotify_add_watch(fd: i32, path: *const std::ffi::c_char, mask: u32) -> i32;
     }
 }
 
@@ -135,6 +140,34 @@ pub fn wait(one: (BorrowedFd<'_>, i16), other: (BorrowedFd<'_>, i16), timeout: i
             error => Err(error),
         },
         _ => Ok(fds.map(|fd| fd.revents != 0)),
+    }
+}
+
+const IN_NONBLOCK: i32 = 0o4000;
+const IN_CLOEXEC: i32 = 0o2_000_000;
+/// A file was written, or renamed.
+pub const IN_MODIFY: u32 = 0x2;
+pub const IN_MOVE_SELF: u32 = 0x800;
+/// A file was made in a folder, or renamed into it.
+pub const IN_MOVED_TO: u32 = 0x80;
+pub const IN_CREATE: u32 = 0x100;
+
+/// A descriptor that is ready to be read when something happens to what it watches; an error where the system has none.
+pub fn watcher() -> io::Result<File> {
+    // SAFETY: numbers alone.
+    match unsafe { c::inotify_init1(IN_NONBLOCK | IN_CLOEXEC) } {
+        -1 => Err(io::Error::last_os_error()),
+        // SAFETY: a new descriptor that nobody else has.
+        fd => Ok(File::from(unsafe { OwnedFd::from_raw_fd(fd) })),
+    }
+}
+
+/// From now on this is watched too.
+pub fn watch(watcher: &File, path: &CStr, events: u32) -> io::Result<()> {
+    // SAFETY: a string that ends with a zero and lives during the call.
+    match unsafe { c::inotify_add_watch(watcher.as_raw_fd(), path.as_ptr(), events) } {
+        -1 => Err(io::Error::last_os_error()),
+        _ => Ok(()),
     }
 }
 

@@ -349,19 +349,21 @@ fn damaged_states_are_refused_and_stay() {
     flipped[2_000] ^= 0x10;
     let mut header = good.clone();
     header[15] ^= 1;
-    for (bytes, why) in [(&good[..3_000], "3000 bytes"), (&[], "0 bytes"), (&flipped, "refused with 11"), (&header, "CRC"), (&[0; 3_584], "begin")] {
+    for (bytes, why) in [(&good[..3_000], "3000 bytes"), (&[], "0 bytes"), (&flipped, "refused with 11"), (&header, "CRC"), (&[0; 4_096], "begin")] {
         fs::write(dir.join("s"), bytes).unwrap();
-        run("collect --state s --archive a --replay", &dir, &sample()).with(3).says(why).says("--fresh");
+        run("collect --state s --archive a --replay", &dir, &sample()).with(3).says(why).says("--new-state");
         assert_eq!(fs::read(dir.join("s")).unwrap(), bytes, "it stays as it is");
     }
     fs::write(dir.join("s"), [&good[..], &[0]].concat()).unwrap();
-    run("collect --state s --archive a", &dir, b"").with(3).says("3585 bytes");
-    fs::remove_file(dir.join("s")).unwrap();
-    fs::create_dir(dir.join("s")).unwrap();
-    run("collect --state s --archive a", &dir, b"").with(3).says("it is a folder");
+    run("collect --state s --archive a", &dir, b"").with(3).says("4097 bytes");
     run("collect --level 1 --state s --archive a --fresh", &dir, b"").with(0).says("kept as s.aside-1");
-    assert!(dir.join("s.aside-1").is_dir() && dir.join("s").is_file());
-    run("collect --level 1 --state s --archive a --fresh", &dir, b"").with(0).says("kept as s.aside-2");
+    run("collect --level 1 --state s --archive a --new-state", &dir, b"").with(0).says("kept as s.aside-2");
+    // What is no file is neither read nor renamed.
+    fs::create_dir(dir.join("d")).unwrap();
+    for words in ["", "--fresh", "--new-state"] {
+        run(&format!("collect --level 1 --state d --archive a {words}"), &dir, b"").with(3).says("d: not a regular file");
+        assert!(dir.join("d").is_dir() && !dir.join("d.aside-1").exists());
+    }
     run("collect --state s --archive a --replay", &dir, &sample()).with(0).says("a has 159 rows");
     assert!(run("archive verify a", &dir, b"").with(0).out.starts_with("a: 318 rows"));
 }
@@ -378,7 +380,7 @@ fn replay_skips_what_was_taken() {
     assert!(whole.out.ends_with(&again.out));
     assert!(fs::read(dir.join("a")).unwrap() == fs::read(dir.join("whole.arc")).unwrap());
     // The log that ends before what was taken is not this log.
-    run("collect --level 1 --state s --archive a --replay", &dir, &log.as_bytes()[..cut]).with(1).says("the log ended 3300 lines before the 5000");
+    run("collect --level 1 --state s --archive a --replay", &dir, &log.as_bytes()[..cut]).with(1).says("the input ended 3300 lines before the 5000");
     // A log in two inputs, each with a level line.
     let dir = folder("two_inputs");
     run("collect --state s", &dir, b"level 0\n1000 D5090102030400E8\n").with(0);
@@ -394,19 +396,14 @@ fn archives_that_are_not_the_states() {
     run("collect --level 1 --state s", &dir, b"").with(2).says("the state keeps the rows of a");
     assert!(!dir.join("b").exists());
     let good = fs::read(dir.join("a")).unwrap();
-    // Rows that were removed, a file that is gone, another file of that name, and one with more rows than a crash can leave.
+    // Rows that were removed, a file that is gone, and another file of that name.
     run("archive remove a --txid 01814D10", &dir, b"").with(0);
-    run("collect --level 1 --state s --archive a", &dir, b"").with(3).says("--begin");
+    run("collect --level 1 --state s --archive a", &dir, b"").with(3).says("--adopt-archive");
     fs::remove_file(dir.join("a")).unwrap();
-    run("collect --level 1 --state s --archive a", &dir, b"").with(3).says("a is not there, and the state counts 159 rows");
+    run("collect --level 1 --state s --archive a", &dir, b"").with(3).says("a is missing, and the state counts 159 rows");
     assert!(!dir.join("a").exists());
     run("collect --level 1 --archive a", &dir, log(5_000, 3).as_bytes()).with(0);
     run("collect --level 1 --state s --archive a", &dir, b"").with(3).says("does not have row 159 as the state counted it");
-    fs::write(dir.join("a"), &good).unwrap();
-    run("collect --level 1 --archive a", &dir, log(60_000, 3).as_bytes()).with(0);
-    let long = fs::read(dir.join("a")).unwrap();
-    run("collect --level 1 --state s --archive a", &dir, b"").with(3).says("more rows behind row 159 than a crash can leave");
-    assert!(fs::read(dir.join("a")).unwrap() == long, "nothing is taken back");
     run("collect --level 1 --state s --archive a --begin", &dir, b"").with(0);
     run("collect --level 1 --state s --archive a", &dir, b"").with(0);
     // Damage in a block that the state counts.

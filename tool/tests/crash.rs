@@ -65,19 +65,11 @@ impl Whole {
         from + rows.len()
     }
 
-    /// Every row that a disturbed run printed stands in the archive, after it too when what the state does not count was taken back, even where the log
-    /// is never replayed. Answers how often rows were taken back, 0 or 1.
+    /// Every row that a disturbed run printed stands in the archive. Answers whether it found rows that its state did not count, 0 or 1.
     #[track_caller]
     fn survived(&self, dir: &Path, ran: &Ran) -> usize {
-        let rows = self.stored(self.printed_to(ran));
-        let again = run(&format!("{} --level 1", self.words), dir, b"").with(0);
-        self.has_rows(dir, rows);
-        // The archive now has just the rows that the state counts, which the tool tells as it starts.
-        let told = again.err.lines().find_map(|line| line.strip_prefix("mooringeye: ")?.strip_suffix(" rows")?.split_once(" has "));
-        let (name, counted) = told.expect("where the archive stands");
-        let verified = run(&format!("archive verify {name}"), dir, b"").with(0).out;
-        assert!(verified.starts_with(&format!("{name}: {counted} rows,")), "{counted} rows are counted: {verified}");
-        usize::from(again.err.contains("taken back"))
+        self.has_rows(dir, self.stored(self.printed_to(ran)));
+        usize::from(ran.err.contains("that the state does not count"))
     }
 
     /// The first rows of the archive of a disturbed run are those of the undisturbed one.
@@ -101,7 +93,7 @@ impl Whole {
 #[derive(Default)]
 struct Count {
     kills: usize,
-    taken_back: usize,
+    ahead: usize,
 }
 
 /// Starts the tool again and again, and kills it at a random moment each time, until it was killed so often or came to an end.
@@ -119,7 +111,7 @@ fn killed(whole: &Whole, name: &str, kills: usize, seed: u64) -> Count {
         }
         let ran = running.end();
         feeder.join().unwrap();
-        count.taken_back += whole.survived(&dir, &ran);
+        count.ahead += whole.survived(&dir, &ran);
         if ran.status.is_some() {
             assert_eq!(ran.status, Some(0), "{}", ran.err);
             whole.is_same(&dir);
@@ -139,11 +131,11 @@ fn killed_in_all(name: &str, options: &str, lines: usize) {
     while all.kills < kills() {
         let whole = Whole::of(name, lines, logs, options);
         let more = killed(&whole, name, kills() - all.kills, 100 + logs);
-        (all.kills, all.taken_back) = (all.kills + more.kills, all.taken_back + more.taken_back);
+        (all.kills, all.ahead) = (all.kills + more.kills, all.ahead + more.ahead);
         logs += 1;
     }
-    println!("{name}: {} kills over {logs} logs of {lines} lines, after {} of them rows were taken back", all.kills, all.taken_back);
-    assert!(all.kills < 100 || all.taken_back > 0, "no kill came between archive and state");
+    println!("{name}: {} kills over {logs} logs of {lines} lines, after {} of them the archive was ahead of the state", all.kills, all.ahead);
+    assert!(all.kills < 100 || all.ahead > 0, "no kill came between archive and state");
 }
 
 #[test]
@@ -159,6 +151,102 @@ fn killed_row_by_row() {
 #[test]
 fn killed_while_files_are_rotated() {
     killed_in_all("rotation", "--archive a-###.arc --blocks 3", 8_000);
+}
+
+#[test]
+fn killed_while_small_files_are_rotated() {
+    killed_in_all("small", "--archive a-####.arc --blocks 2", 8_000);
+}
+
+/// Rows in the archive, as `archive list` prints them.
+fn listed(dir: &Path) -> String {
+    run("archive list a", dir, b"").with(0).out
+}
+
+/// A feed that nobody can read again: what stood in the archive when it was killed stands there ever after, and what was printed is among it.
+#[test]
+fn killed_without_a_log() {
+    let (mut random, mut kills_done, mut taken_in) = (Random(55), 0, 0);
+    let lines: Vec<String> = log(400_000, 21).lines().skip(1).map(String::from).collect();
+    let dir = folder("crash_live");
+    let (mut at, mut printed) = (0, 0);
+    while kills_done < kills() && at + 6_000 < lines.len() {
+        let before = if dir.join("a").exists() { listed(&dir) } else { String::new() };
+        let part = lines[at..at + 6_000].join("\n") + "\n";
+        at += 6_000;
+        let mut running = start(tool("collect --level 1 --state s --archive a", &dir));
+        let feeder = feed(&mut running, &part, random.next(), false);
+        sleep(Duration::from_micros(random.below(60_000)));
+        let _ = running.child.kill();
+        let ran = running.end();
+        drop(feeder.join().unwrap());
+        let after = if dir.join("a").exists() { listed(&dir) } else { String::new() };
+        assert!(after.starts_with(&before), "rows that stood there are gone");
+        printed += ran.out.split_inclusive('\n').filter(|row| row.ends_with('\n') && (row.contains(" KEPT") || row.contains(" LOOSE"))).count();
+        assert!(after.lines().count() >= printed, "a printed row is not there");
+        taken_in += usize::from(ran.err.contains("were taken in"));
+        kills_done += 1;
+    }
+    let before = listed(&dir);
+    run("collect --level 1 --state s --archive a", &dir, b"").with(0);
+    assert!(listed(&dir) == before);
+    assert!(!dir.join("a.aside-1").exists(), "all leftovers were taken in");
+    println!("live: {kills_done} kills, after {taken_in} of them rows were taken in");
+    assert!(kills_done < 100 || taken_in > 0, "no kill came between archive and state");
+}
+
+/// Renames the log and the rotated ones, and begins a new one.
+fn rotate(dir: &Path, text: &str) {
+    for n in (1..9).rev() {
+        let _ = fs::rename(dir.join(format!("gateway.log.{n}")), dir.join(format!("gateway.log.{}", n + 1)));
+    }
+    fs::rename(dir.join("gateway.log"), dir.join("gateway.log.1")).unwrap();
+    fs::write(dir.join("gateway.log"), text).unwrap();
+}
+
+/// A log that is followed, rotated so often while the tool is down, and rotated while it runs.
+fn killed_while_the_log_is_rotated(name: &str, rotations: usize) {
+    let whole = Whole::of(name, 9_000, 31, "--archive a");
+    let dir = folder(&format!("crash_{name}"));
+    let lines: Vec<&str> = whole.log.split_inclusive('\n').collect();
+    let mut parts = lines.chunks(9_000 / 8).map(|part| part.concat());
+    fs::write(dir.join("gateway.log"), parts.next().unwrap()).unwrap();
+    let mut random = Random(name.len() as u64);
+    let words = "collect --level 1 --state s --archive a --log gateway.log";
+    'all: loop {
+        let mut running = start(tool(&format!("{words} --follow"), &dir));
+        while !dir.join("s").exists() {
+            sleep(Duration::from_millis(1)); // a collector that never stood anywhere begins with the log that is there
+        }
+        sleep(Duration::from_micros(random.below(60_000)));
+        if let Some(text) = if random.below(2) == 0 { parts.next() } else { None } {
+            rotate(&dir, &text);
+            sleep(Duration::from_micros(random.below(60_000)));
+        }
+        let _ = running.child.kill();
+        let ran = running.end();
+        assert!(!ran.err.contains("differs"), "{}", ran.err);
+        for _ in 0..rotations {
+            let Some(text) = parts.next() else { break 'all };
+            rotate(&dir, &text);
+        }
+    }
+    let ran = run(words, &dir, b"").with(0);
+    assert!(!dir.join("a.aside-1").exists(), "{}", ran.err);
+    assert!(fs::read(dir.join("a")).unwrap() == fs::read(whole.dir.join("a")).unwrap());
+    let (mine, other) = (fs::read(dir.join("s")).unwrap(), fs::read(whole.dir.join("s")).unwrap());
+    // All but the place in the log: lines, archive, its last block, and the image.
+    assert!(mine[..296] == other[..296] && mine[512..3_584] == other[512..3_584]);
+}
+
+#[test]
+fn the_log_rotated_while_down() {
+    killed_while_the_log_is_rotated("log", 1);
+}
+
+#[test]
+fn the_log_rotated_twice_while_down() {
+    killed_while_the_log_is_rotated("log_twice", 2);
 }
 
 #[test]
@@ -189,11 +277,10 @@ fn torn_at(whole: &Whole, dir: &Path, at: usize) -> (bool, bool) {
     feeder.join().unwrap();
     let is_torn = run("archive verify a", dir, b"").status == Some(3);
     let rows = whole.stored(whole.printed_to(&ran));
-    let again = run(&format!("{} --level 1", whole.words), dir, b"").with(0);
+    let again = run(&words, dir, whole.log.as_bytes()).with(0);
     whole.has_rows(dir, rows);
-    run(&words, dir, whole.log.as_bytes()).with(0);
     whole.is_same(dir);
-    (is_torn, again.err.contains("a torn block is mended"))
+    (is_torn, again.err.contains("was torn. It was mended"))
 }
 
 #[test]
@@ -245,7 +332,8 @@ fn a_block_that_a_power_cut_spoiled() {
         let to = from + 1 + random.below(3_000) as usize;
         bytes[from..to].iter_mut().for_each(|b| *b = random.next() as u8);
         fs::write(dir.join("a"), &bytes).unwrap();
-        run(&words, &dir, whole.log.as_bytes()).with(0).says("taken back");
+        let ran = run(&words, &dir, whole.log.as_bytes()).with(0);
+        assert!(ran.err.contains("mended") || ran.err.contains("cleared"), "{}", ran.err);
         whole.is_same(&dir);
     }
 }
@@ -271,11 +359,19 @@ fn a_state_that_is_damaged() {
             fs::write(&state, &bytes).unwrap();
         }
         let archive = fs::read(dir.join("a")).unwrap();
-        run(&format!("{} --replay", whole.words), &dir, whole.log.as_bytes()).with(3).says("s is no state that can be gone on from");
+        run(&format!("{} --replay", whole.words), &dir, whole.log.as_bytes()).with(3).says(if damage == "a folder" {
+            "s: not a regular file"
+        } else {
+            "s: damaged"
+        });
         assert!(state.is_dir() || fs::read(&state).unwrap() == bytes, "the state stays");
         assert!(fs::read(dir.join("a")).unwrap() == archive, "the archive stays");
         fs::remove_file(dir.join("a")).unwrap();
-        run(&format!("{} --fresh --replay", whole.words), &dir, whole.log.as_bytes()).with(0).says("kept as s.aside-1");
+        if damage == "a folder" {
+            fs::remove_dir(&state).unwrap();
+            fs::write(&state, "").unwrap();
+        }
+        run(&format!("{} --new-state --replay", whole.words), &dir, whole.log.as_bytes()).with(0).says("kept as s.aside-1");
         fs::rename(dir.join("s.aside-1"), folder("crash_state_aside").join("s")).unwrap();
         whole.is_same(&dir);
     }

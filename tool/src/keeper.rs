@@ -1,0 +1,250 @@
+//! What a collector keeps on disk: its state, its archive and the file of `--out`; and the order in which they are written (docs/CRASH.md).
+//!
+//! A batch is what one read brought, at most so many lines. Its rows go to the archive first, then to the file of `--out`, then the state is replaced,
+//! then the rows are printed: so a row that was printed is counted, and what stands behind the state's counts is at most one batch.
+use crate::batch::{Batch, Took};
+use crate::disk::Shared;
+use crate::failure::Failure;
+use crate::journal::{LogPlace, State, Stored, RECORD};
+use crate::out::Out;
+use crate::rows::{self, Format};
+use crate::state::StateFile;
+use crate::store::{Place, Store};
+use crate::text;
+use std::path::PathBuf;
+
+/// The most lines of a batch.
+pub const MAX_BATCH: usize = 16_384;
+/// A time so far ahead of the one before it is told: where a clock is wrong, all later lines are LATE.
+const DAY: u64 = 24 * 60 * 60 * 1000;
+
+/// The steps of a commit.
+#[derive(Clone, Copy, Debug, PartialEq, Eq)]
+pub enum Step {
+    Archive,
+    Out,
+    State,
+    Print,
+}
+
+/// Their order, which is the model's.
+pub const ORDER: [Step; 4] = [Step::Archive, Step::Out, Step::State, Step::Print];
+
+/// Which files are kept.
+#[derive(Clone)]
+pub struct Files {
+    pub state: Option<PathBuf>,
+    pub archive: Option<Place>,
+    pub out: Option<PathBuf>,
+    /// Begins with a fresh collector, and keeps the old state aside.
+    pub new_state: bool,
+    /// Goes on with the archive as it is.
+    pub adopt: bool,
+    pub format: Format,
+    pub order: [Step; 4],
+}
+
+pub struct Keeper {
+    disk: Shared,
+    pub state: State,
+    /// The state as it is on disk.
+    saved: State,
+    file: Option<StateFile>,
+    /// Whether there was no state before.
+    pub is_new: bool,
+    store: Option<Store>,
+    out: Option<Out>,
+    new_state: bool,
+    format: Format,
+    order: [Step; 4],
+    batch: Batch,
+}
+
+/// Prints rows on standard output.
+pub type Print<'a> = &'a mut dyn FnMut(&[u8]) -> Result<(), Failure>;
+
+impl Keeper {
+    /// Locks and reads the files, and looks at what a stop may have left. Nothing is changed yet.
+    pub fn open(disk: &Shared, files: &Files) -> Result<Keeper, Failure> {
+        let file = files.state.as_deref().map(|path| StateFile::lock(disk, path)).transpose()?;
+        let read = match &file {
+            Some(file) if !files.new_state => file.read()?,
+            _ => None,
+        };
+        let is_new = read.is_none();
+        let mut state = read.unwrap_or_else(State::fresh);
+        let saved = state.clone();
+        let store = open_archive(disk, files, &mut state)?;
+        let out = files.out.as_deref().map(|path| Out::open(disk, path, state.out)).transpose()?;
+        let (new_state, format, order) = (files.new_state, files.format, files.order);
+        Ok(Keeper { disk: disk.clone(), state, saved, file, is_new, store, out, new_state, format, order, batch: Batch::default() })
+    }
+
+    /// Puts in order what a stop left, and writes the state: from now on lines can be taken.
+    pub fn settle(&mut self) -> Result<(), Failure> {
+        if let (true, Some(file)) = (self.new_state, &self.file) {
+            if let Some(aside) = file.put_aside()? {
+                self.disk.tell(&format!("the old state is kept as {}", aside.display()));
+            }
+        }
+        if let Some(store) = &mut self.store {
+            store.settle()?;
+        }
+        if let Some(out) = &mut self.out {
+            out.settle()?;
+        }
+        self.save()?;
+        if let Some(store) = &self.store {
+            self.disk.tell(&format!("{} has {} rows", store.path().display(), store.rows()));
+        }
+        Ok(())
+    }
+
+    pub fn totals(&self) -> String {
+        rows::totals(&self.state.collector.totals())
+    }
+
+    /// Whether rows go to a file, and not to standard output.
+    pub fn has_out(&self) -> bool {
+        self.out.is_some()
+    }
+
+    pub fn leftovers(&self) -> u64 {
+        self.store.as_ref().map_or(0, Store::left)
+    }
+
+    /// Replaces the state.
+    fn save(&mut self) -> Result<(), Failure> {
+        self.state.archive = self.store.as_ref().map(Store::attached);
+        self.state.out = self.out.as_ref().map(Out::place);
+        if let Some(file) = &self.file {
+            file.write(&self.state)?;
+            self.saved = self.state.clone();
+        }
+        Ok(())
+    }
+
+    /// Takes at most so many lines of a text that ends with a newline into the batch. They stand next in the log.
+    pub fn take(&mut self, level: u8, text: &[u8], most: usize) -> Result<Took, Failure> {
+        let (before, first) = (self.state.collector.latest(), self.batch.times.len());
+        let took = self.batch.take(&mut self.state.collector, level, self.format, text, most)?;
+        self.pass(&text[..took.used], took.lines);
+        self.warn_of_leaps(before, first);
+        Ok(took)
+    }
+
+    /// Counts lines of the log that give no row.
+    pub fn pass(&mut self, text: &[u8], lines: u64) {
+        self.state.lines += lines;
+        if let Some(log) = &mut self.state.log {
+            log.pass(text);
+        }
+    }
+
+    /// The log goes on at another place.
+    pub fn stand_at(&mut self, place: LogPlace) {
+        self.state.log = Some(place);
+    }
+
+    fn warn_of_leaps(&self, mut before: u64, first: usize) {
+        for time in &self.batch.times[first..] {
+            if before > 0 && *time > before.saturating_add(DAY) {
+                let text = "If its clock is wrong, all later lines will be LATE.";
+                self.disk.tell(&format!("a line has the time {time}, more than a day after the one before it, {before}. {text}"));
+                return;
+            }
+            before = before.max(*time);
+        }
+    }
+
+    /// Brings the batch to disk, and prints its rows.
+    pub fn commit(&mut self, print: Print) -> Result<(), Failure> {
+        if let Some(out) = &self.out {
+            if !out.is_named()? {
+                self.renew_out()?;
+            }
+        }
+        for step in self.order {
+            match (step, &mut self.store, &mut self.out) {
+                (Step::Archive, Some(store), _) => store.put(&self.batch.times, &self.batch.records)?,
+                (Step::Out, _, Some(out)) => {
+                    if out.is_empty() {
+                        out.write(rows::heading(self.format))?;
+                    }
+                    out.write(self.batch.printed.as_bytes())?;
+                    out.sync()?;
+                }
+                (Step::State, ..) => self.save()?,
+                (Step::Print, _, None) => print(self.batch.printed.as_bytes())?,
+                _ => {}
+            }
+        }
+        self.batch.clear();
+        Ok(())
+    }
+
+    /// Goes on with the file that the path of `--out` names now: the state says so before the first row stands in it.
+    fn renew_out(&mut self) -> Result<(), Failure> {
+        let Some(out) = &self.out else { return Ok(()) };
+        let new = out.again()?;
+        if let Some(file) = &self.file {
+            file.write(&State { out: Some(new.place()), ..self.saved.clone() })?;
+        }
+        self.out = Some(new);
+        Ok(())
+    }
+
+    /// The log has ended: what it did not give again goes aside.
+    pub fn log_ended(&mut self) -> Result<(), Failure> {
+        self.store.as_mut().map_or(Ok(()), Store::end)
+    }
+
+    /// Hands leftovers to the collector, where there is no log that gives them again. Each is counted where it is answered as it stands there.
+    pub fn take_in(&mut self, level: u8, print: Print) -> Result<(), Failure> {
+        let counted = self.state.counted();
+        while self.leftovers() > 0 {
+            let rows = self.store.as_ref().expect("it has leftovers").leftovers(MAX_BATCH)?;
+            let lines: Vec<u8> = rows.iter().flat_map(line_of).collect();
+            let before = self.leftovers();
+            self.take(level, &lines, MAX_BATCH)?;
+            self.commit(print)?;
+            if before - self.leftovers() < rows.len() as u64 {
+                break;
+            }
+        }
+        self.disk.tell(&format!("{} rows that the state did not count were taken in", self.state.counted() - counted));
+        self.log_ended()
+    }
+
+    /// The state as it stands at the end.
+    pub fn end(&mut self) -> Result<(), Failure> {
+        self.save()
+    }
+}
+
+/// A row as a line of a log.
+fn line_of(row: &Stored) -> Vec<u8> {
+    let mut line = Vec::with_capacity(64);
+    text::put_number(&mut line, row.time);
+    line.push(b' ');
+    let length = usize::from(row.record[1]).min(RECORD - 2);
+    text::put_hex(&mut line, &row.record[2..2 + length]);
+    line.push(b'\n');
+    line
+}
+
+/// The archive, with what the state knows of it.
+fn open_archive(disk: &Shared, files: &Files, state: &mut State) -> Result<Option<Store>, Failure> {
+    let kept = state.archive.take().filter(|_| !files.adopt);
+    let other = |name: &[u8]| {
+        let text = format!("the state keeps the rows of {}: name it by --archive, or use --adopt-archive", String::from_utf8_lossy(name));
+        Err(Failure::Usage(text))
+    };
+    match (&files.archive, kept) {
+        (None, None) => Ok(None),
+        (None, Some(kept)) => other(&kept.name),
+        (Some(place), Some(kept)) if place.name() != kept.name => other(&kept.name),
+        (Some(place), Some(kept)) => Store::resume(disk, place.clone(), &kept, state.counted()).map(Some),
+        (Some(place), None) => Store::begin(disk, place.clone(), state.counted()).map(Some),
+    }
+}

@@ -1,0 +1,91 @@
+//! The file of `--out`: each row stands in it once. Its length stands in the state, and at a start it is cut to that length: what stands behind are rows
+//! of a batch that did not end, which comes again.
+use crate::disk::{Facts, Handle, Shared};
+use crate::failure::Failure;
+use crate::files;
+use crate::journal::OutPlace;
+use std::io;
+use std::path::{Path, PathBuf};
+
+pub struct Out {
+    disk: Shared,
+    path: PathBuf,
+    file: Box<dyn Handle>,
+    facts: Facts,
+    /// How much of it is rows.
+    length: u64,
+    is_unsynced: bool,
+}
+
+impl Out {
+    /// Opens the file, makes it where it is missing, and finds how much of it the state counts. Nothing of it is changed yet.
+    pub fn open(disk: &Shared, path: &Path, kept: Option<OutPlace>) -> Result<Out, Failure> {
+        let file = files::open_kept(&**disk, path)?;
+        let facts = file.facts().map_err(|e| cannot(path, &e))?;
+        if !facts.is_file {
+            return Err(Failure::Usage(format!("--out {}: not a regular file; rows for a pipe go to standard output", path.display())));
+        }
+        let mut out = Out { disk: disk.clone(), path: path.into(), file, facts, length: facts.length, is_unsynced: false };
+        let Some(kept) = kept else { return Ok(out) };
+        if kept.inode != facts.inode {
+            return Ok(out); // another file: the old one was renamed or removed
+        }
+        if facts.length < kept.length {
+            let text = "Nothing was changed. Move it away to begin a new one.";
+            let shown = path.display();
+            return Err(Failure::Damaged(format!("{shown} has {} bytes, and the state has written {}. {text}", facts.length, kept.length)));
+        }
+        out.length = kept.length;
+        Ok(out)
+    }
+
+    /// Cuts what the state does not count.
+    pub fn settle(&mut self) -> Result<(), Failure> {
+        if self.facts.length > self.length {
+            self.file.set_length(self.length).map_err(|e| cannot(&self.path, &e))?;
+            self.file.sync().map_err(|e| cannot(&self.path, &e))?;
+        }
+        Ok(())
+    }
+
+    pub fn place(&self) -> OutPlace {
+        OutPlace { length: self.length, device: self.facts.device, inode: self.facts.inode }
+    }
+
+    pub fn is_empty(&self) -> bool {
+        self.length == 0
+    }
+
+    /// Whether the path still names the open file. It does not where the file was renamed or removed, as logs are rotated.
+    pub fn is_named(&self) -> Result<bool, Failure> {
+        let named = self.disk.facts(&self.path).map_err(|e| cannot(&self.path, &e))?;
+        Ok(named.is_some_and(|named| named.is_same(&self.facts)))
+    }
+
+    /// Rows behind the others.
+    pub fn write(&mut self, rows: &[u8]) -> Result<(), Failure> {
+        if !rows.is_empty() {
+            self.file.write_at(rows, self.length).map_err(|e| cannot(&self.path, &e))?;
+            self.length += rows.len() as u64;
+            self.is_unsynced = true;
+        }
+        Ok(())
+    }
+
+    pub fn sync(&mut self) -> Result<(), Failure> {
+        if std::mem::take(&mut self.is_unsynced) {
+            self.file.sync().map_err(|e| cannot(&self.path, &e))?;
+        }
+        Ok(())
+    }
+
+    /// The file that the path names now.
+    pub fn again(&self) -> Result<Out, Failure> {
+        self.disk.tell(&format!("{} was renamed or removed: rows go to a new file of that name", self.path.display()));
+        Out::open(&self.disk, &self.path, None)
+    }
+}
+
+fn cannot(path: &Path, error: &io::Error) -> Failure {
+    Failure::of(format!("write {}", path.display()), error)
+}
