@@ -2,12 +2,13 @@
 //!
 //! Rows are counted over the files, in the order of the files' numbers. Of a file whose first rows are not wanted only the blocks from there on are
 //! read: where the rows end is found by halving, and what is read from there to the end of the file has to say the same.
-use crate::appender::{BLOCK, ROWS};
+use crate::appender::BLOCK;
 use crate::archive::{at_least_one, identities, Source};
 use crate::args::Args;
 use crate::copy;
 use crate::failure::Failure;
 use crate::files::{Pieces, PIECE};
+use crate::journal::ROWS;
 use crate::rows::{self, Format};
 use crate::streams::Output;
 use crate::text::{self, put_hex, put_number};
