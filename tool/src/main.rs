@@ -21,6 +21,8 @@ mod list;
 mod logs;
 mod out;
 mod plans;
+#[cfg(test)]
+mod powercut;
 mod rows;
 mod signals;
 mod state;

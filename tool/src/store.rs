@@ -37,6 +37,11 @@ impl Place {
         }
     }
 
+    #[cfg(test)]
+    pub fn growing_by(self, growth: u64) -> Place {
+        Place { growth, ..self }
+    }
+
     /// The name that a state keeps.
     pub fn name(&self) -> Vec<u8> {
         name_of(&self.path).expect("tested by of")
