@@ -1,0 +1,4 @@
+pub mod Judged
+pub mod Runs
+pub mod Agreed
+pub mod Claims
