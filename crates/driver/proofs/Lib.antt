@@ -1,3 +1,0 @@
-pub mod Draining
-pub mod Chunk
-pub mod Finishing

@@ -1,0 +1,11 @@
+-- `printing::step` meets its contract: it takes all of the buffer at most.
+use native.Mathlib.Omega.{arith}
+use borrow.Author.Needs.{needs}
+use Rattle.printing.proofs.step.Statement.{statement}
+use Rattle.printing.proofs.step.Tie as tie
+
+returns : tie.Need-returns
+returns c = rw (c .before .before .least .ensures) at (c .take-chunk .ensures)
+
+pub step-spec : {M : Type 1} → statement M
+step-spec = tie.close (tie.spec (λ c κs. search needs) (λ c κs. search needs) returns)
