@@ -1,3 +1,5 @@
 pub mod Taking
 pub mod Printed
 pub mod Storing
+pub mod Turns
+pub mod Formatting

@@ -1,5 +1,6 @@
 pub mod Printed
 pub mod Session
-pub mod Claims
 pub mod Rows
 pub mod Stored
+pub mod Formats
+pub mod Claims

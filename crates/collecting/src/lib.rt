@@ -1,4 +1,6 @@
 // A run of the program `collect` (document 01, "Cases"): the lines of its input through the collector.
+pub mod formats;
+
 use collector::Collector;
 use collector::Summary;
 use collector::acceptable;

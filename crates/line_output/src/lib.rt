@@ -1,5 +1,7 @@
 // The lines that the program `collect` writes (document 01, "Cases"). Each function writes to a lent buffer from `at` on and answers the
 // position behind its text; where the longest such text would not fit it writes nothing and answers `at`.
+pub mod formats;
+
 ghost use mathlib.Core.Path.{_≡_};
 ghost use Prim.Native.Nat.{_+_, _*_, _≤_, _<_};
 ghost use lib.Dec.{leb};

@@ -1,0 +1,133 @@
+-- Lines taken one after the other with the rows that an archive keeps of them, by any program over the same lines: none, a BAD one, a
+-- reception.
+use mathlib.Core.Path.{_≡_, refl, _∙_}
+use mathlib.Core.Bool.{Bool}
+use mathlib.Core.List.{List}
+use Prim.Native.Nat.{ℕ, _+_, _-_, _*_, _<_, _≤_}
+use native.Mathlib.Omega.{arith}
+use native.Mathlib.Nat.{sub-self}
+use lib.ListN.{length, take, drop, replicate, length-drop, length-replicate}
+use Rattle.bytes.specs.Bytes.{indexOf}
+use Rattle.model.specs.View.{View}
+use Rattle.model.specs.Step.{Outcome}
+use Rattle.collector.specs.Admission.{Tested}
+use Rattle.buffers.specs.Printed.{Printed}
+use Rattle.line_input.specs.Ascii.{newline}
+use Rattle.line_input.specs.Reading.{lineLimit, lineReading, reception, bad}
+use Rattle.streams.specs.Lines.{Program}
+use Rattle.streams.specs.Chunks.{Bounded}
+use Rattle.streams.specs.Collect.{Phase, nextPhase}
+use Rattle.streams.specs.Buffer.{Fed}
+use Rattle.streams.proofs.Takes.{fed-none}
+use Rattle.collecting.specs.Session.{Receiver, modelCollector, takenAt, runningAt}
+use Rattle.collecting.specs.Rows.{rowTimes, rowRecords, lineTicks, storedTime, storedRecord}
+use Rattle.collecting.proofs.Taking.{lineAt, same-length}
+use Rattle.collecting.proofs.Storing.{printed-none, ticks-bounded, tick, times-bounded, records-bounded, rows-line, bad-next, bad-times, bad-records, said-next, said-times, said-records}
+
+-- the lines up to `at` were taken: what they give stands before `to` and n, and the test of the state says what it said
+pub record Taken (p : Program (Phase Receiver)) (fit : Bool) (setting : ℕ) (input : List ℕ) (most : ℕ)
+    (v₀ : View) (out₀ moments₀ rows₀ : List ℕ) (v : View) (out moments rows : List ℕ) (at to n left : ℕ) : Type 0 where
+  pub inside : at ≤ length input
+  pub room : to ≤ length out
+  pub long : length out ≡ length out₀
+  pub tested : Tested fit v
+  pub fed : Fed p (runningAt setting v₀) (take at input) out₀ (runningAt setting v) out to
+  pub few : left ≤ most
+  pub places : n ≤ length moments
+  pub same-moments : length moments ≡ length moments₀
+  pub same-rows : length rows ≡ length rows₀
+  pub sized : length rows₀ ≡ 23 * length moments₀
+  pub times : Fed rowTimes (runningAt setting v₀) (take at input) moments₀ (runningAt setting v) moments n
+  pub records : Fed rowRecords (runningAt setting v₀) (take at input) rows₀ (runningAt setting v) rows (23 * n)
+  pub ticks : Fed lineTicks (runningAt setting v₀) (take at input) (replicate most 0) (runningAt setting v) (replicate most 0)
+      (most - left)
+
+module _ (p : Program (Phase Receiver)) (b : Bounded p lineLimit) where
+  pub none-taken : {fit : Bool} {setting : ℕ} (input : List ℕ) (most : ℕ) {v : View} (out : List ℕ) {moments rows : List ℕ}
+      → Tested fit v → length rows ≡ 23 * length moments
+      → Taken p fit setting input most v out moments rows v out moments rows 0 0 0 most
+  none-taken input most out t e =
+      record {
+        inside = omega arith;
+        room = omega arith;
+        long = refl;
+        tested = t;
+        fed = fed-none p b _ _;
+        few = omega arith;
+        places = omega arith;
+        same-moments = refl;
+        same-rows = refl;
+        sized = e;
+        times = fed-none rowTimes times-bounded _ _;
+        records = fed-none rowRecords records-bounded _ _;
+        ticks = rw (sub-self most) (fed-none lineTicks ticks-bounded _ _);
+      }
+
+  -- one line more, which has `used` characters with its newline
+  module _ (nexts : (s : Phase Receiver) (l : List ℕ) → p .next s l ≡ nextPhase modelCollector s l)
+      {fit : Bool} {setting : ℕ} (input : List ℕ) {most : ℕ} {v₀ v : View} {out₀ moments₀ rows₀ out moments rows : List ℕ}
+      {at to n left : ℕ} (i : Taken p fit setting input most v₀ out₀ moments₀ rows₀ v out moments rows at to n left) (used : ℕ)
+      (e : (indexOf newline (drop at input) < length (drop at input)) × (used ≡ indexOf newline (drop at input) + 1))
+      (some : left ≡ 0 → ⊥) where
+    within : at + used ≤ length input
+    within = omega (arith, e .0, e .1, length-drop at input, i .inside)
+
+    ticked : most - (left - 1) ≤ length (replicate {A = ℕ} most 0)
+    ticked = simp length-replicate (omega (arith, i .few))
+
+    pub bad-taken : {text out' : List ℕ} {longest r : ℕ} → lineReading (lineAt input at) ≡ bad
+        → p .text (runningAt setting v) (lineAt input at) ≡ text → Printed out to text longest out' r → r ≤ length out
+        → Taken p fit setting input most v₀ out₀ moments₀ rows₀ v out' moments rows (at + used) r n (left - 1)
+    bad-taken u x w fits =
+        let same = same-length w in
+        let next = bad-next (record { setting = setting; view = v }) (lineAt input at) u in
+        record {
+          inside = within;
+          room = omega arith;
+          long = same ∙ i .long;
+          tested = i .tested;
+          fed = rows-line p b input at used (i .fed) e (i .inside) (omega (arith, i .long)) x (nexts _ _ ∙ next) w;
+          few = omega (arith, i .few);
+          places = i .places;
+          same-moments = i .same-moments;
+          same-rows = i .same-rows;
+          sized = i .sized;
+          times =
+              rows-line rowTimes times-bounded input at used (i .times) e (i .inside) (omega (arith, i .places, i .same-moments))
+              (bad-times _ _ u) next (printed-none moments n 0);
+          records =
+              rows-line rowRecords records-bounded input at used (i .records) e (i .inside)
+              (omega (arith, i .places, i .same-moments, i .sized)) (bad-records _ _ u) next (printed-none rows (23 * n) 0);
+          ticks =
+              rows-line lineTicks ticks-bounded input at used (i .ticks) e (i .inside) ticked refl next (tick most left (i .few) some);
+        }
+
+    pub said-taken : {t : ℕ} {bs text out' moments' rows' : List ℕ} {longest r n' : ℕ} (o : Outcome)
+        → lineReading (lineAt input at) ≡ reception t bs → o ≡ takenAt v t bs → Tested fit (o .next)
+        → p .text (runningAt setting v) (lineAt input at) ≡ text → Printed out to text longest out' r → r ≤ length out
+        → n < length moments → Printed moments n (storedTime (o .answer) t bs) 1 moments' n'
+        → Printed rows (23 * n) (storedRecord (o .answer) bs) 23 rows' (23 * n')
+        → Taken p fit setting input most v₀ out₀ moments₀ rows₀ (o .next) out' moments' rows' (at + used) r n' (left - 1)
+    said-taken o u k t x w fits free d f =
+        let same = same-length w in
+        let next = said-next (record { setting = setting; view = v }) (lineAt input at) o u k in
+        record {
+          inside = within;
+          room = omega arith;
+          long = same ∙ i .long;
+          tested = t;
+          fed = rows-line p b input at used (i .fed) e (i .inside) (omega (arith, i .long)) x (nexts _ _ ∙ next) w;
+          few = omega (arith, i .few);
+          places = omega (arith, d .short, same-length d, free);
+          same-moments = same-length d ∙ i .same-moments;
+          same-rows = same-length f ∙ i .same-rows;
+          sized = i .sized;
+          times =
+              rows-line rowTimes times-bounded input at used (i .times) e (i .inside) (omega (arith, d .short, free, i .same-moments))
+              (said-times _ _ o u k) next d;
+          records =
+              rows-line rowRecords records-bounded input at used (i .records) e (i .inside)
+              (omega (arith, d .short, free, i .same-moments, i .sized)) (said-records _ _ o u k) next f;
+          ticks =
+              rows-line lineTicks ticks-bounded input at used (i .ticks) e (i .inside) ticked refl next (tick most left (i .few) some);
+        }

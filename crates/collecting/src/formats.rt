@@ -1,0 +1,176 @@
+// A run whose rows are printed in a format, with the rows that an archive keeps.
+use crate::Stored;
+use collector::Collector;
+use collector::Summary;
+use collector::merging;
+use erp1::Checked;
+use line_output::formats;
+use line_output::formats::Format;
+use line_output::formats::Source;
+use model::Answer;
+use telegram::fields;
+ghost use mathlib.Core.Path.{_≡_};
+ghost use Prim.Native.Nat.{_+_, _*_, _≤_};
+ghost use lib.Dec.{eqb};
+ghost use lib.ListN.{length};
+ghost use Rattle.erp1.specs.Subtelegram.{checkedNumber};
+ghost use Rattle.model.specs.Answer.{shownOf};
+ghost use Rattle.collector.specs.Collector.{columns, viewIn};
+ghost use Rattle.collector.specs.Admission.{relayedFor, Tested};
+ghost use Rattle.line_output.specs.Formats.{rowIn};
+ghost use Rattle.line_output.specs.Longest.{longestNumber};
+ghost use Rattle.buffers.specs.Printed.{Printed};
+ghost use Rattle.collecting.specs.Printed.{printedRow};
+ghost use Rattle.collecting.specs.Session.{runningAt};
+ghost use Rattle.collecting.specs.Formats.{sourceOf, collectIn, longestLineIn};
+ghost use Rattle.collecting.specs.Stored.{StoredIn};
+
+// The longest text of one line in any format: a row of 64 bytes that sends 21.
+pub const LONGEST: usize = line_output::LONGEST_NUMBER
+    + formats::LONGEST_ROW
+    + 2 * (line_input::MAX_BYTES + Collector::MAX_LEN);
+
+// Takes lines as `take_rows` does, and writes their rows in a format: in a loop of its own, since a format that is
+// looked up for each row would cost the text 32 instructions a line.
+pub fn take_rows_as<'a>(
+    fit: bool,
+    setting: u8,
+    format: Format,
+    times: &'a mut [u64; Collector::CAPACITY],
+    lens: &'a mut [u8; Collector::CAPACITY],
+    entries: &'a mut [u8; Collector::CAPACITY * Collector::MAX_LEN],
+    copies: &'a mut [u16; Collector::CAPACITY],
+    summary: Summary,
+    input: &'a [u8],
+    most: usize,
+    out: &'a mut [u8],
+    moments: &'a mut [u64],
+    rows: &'a mut [u8],
+) -> Stored
+    requires { ⌜ Tested fit (viewIn (columns (now times) (now lens) (now entries) (now copies)) summary)
+        × (length (now rows) ≡ 23 * length (now moments)) ⌝ }
+    ensures { λ r. ⌜ StoredIn (collectIn format) longestLineIn
+        (runningAt setting (viewIn
+        (columns (now (times .entry)) (now (lens .entry)) (now (entries .entry)) (now (copies .entry))) summary))
+        (now (input .entry)) most (now (out .entry)) (now (moments .entry)) (now (rows .entry))
+        (now (out .exit)) (now (moments .exit)) (now (rows .exit))
+        (runningAt setting (viewIn
+        (columns (now (times .exit)) (now (lens .exit)) (now (entries .exit)) (now (copies .exit))) (r .summary)))
+        (r .used) (r .written) (r .rows) (r .lines) ⌝ }
+{
+    let mut summary = summary;
+    let mut bytes = [0u8; line_input::MAX_BYTES];
+    let mut at = 0;
+    let mut to = 0;
+    let mut n = 0;
+    let mut left = most;
+    while LONGEST <= out.len() - to {
+        if left == 0 {
+            break;
+        }
+        if moments.len() <= n {
+            break;
+        }
+        let l = line_input::parse(&input[at..], &mut bytes);
+        if l.used == 0 {
+            break;
+        }
+        let from = at;
+        at += l.used;
+        left -= 1;
+        let ok = l.ok;
+        if !ok {
+            to = formats::put_bad(out, to, format);
+            continue;
+        }
+        // Behind the time stand a space, two digits for each byte, and the newline.
+        let len = l.len;
+        let end = at - (2 * len + 2);
+        let done = merging::admit(
+            fit,
+            times,
+            lens,
+            entries,
+            copies,
+            summary,
+            &bytes[0..len],
+            l.time,
+        );
+        summary = done.summary;
+        let answer = done.answer;
+        n = crate::store_row(moments, rows, n, answer, l.time, len, &bytes);
+        to = put_answer(
+            out,
+            to,
+            format,
+            &input[from..end],
+            setting,
+            answer,
+            &bytes[0..len],
+        );
+    }
+    Stored {
+        summary: summary,
+        used: at,
+        written: to,
+        rows: n,
+        lines: most - left,
+    }
+}
+
+// The row of a reception behind the text of its time, with what is sent for it at the setting and where it came from.
+fn put_answer(
+    out: &mut [u8],
+    at: usize,
+    format: Format,
+    time: &[u8],
+    setting: u8,
+    answer: Answer,
+    bytes: &[u8],
+) -> usize
+    requires { ⌜ (length (now time) ≤ longestNumber) × (length (now bytes) ≤ 64)
+        × (at + longestLineIn ≤ length (now out)) ⌝ }
+    ensures { λ r. ⌜ Printed (now (out .entry)) at
+        (rowIn format (now (time .entry)) (printedRow (shownOf answer)) (now (bytes .entry))
+        (relayedFor setting (shownOf answer) (now (bytes .entry))) (sourceOf (now (bytes .entry))))
+        longestLineIn (now (out .exit)) r ⌝ }
+{
+    let mut sent = [0u8; Collector::MAX_LEN];
+    let n = merging::relay_kept(setting, answer, bytes, &mut sent);
+    let source = source_of(bytes);
+    formats::put_row(
+        out,
+        at,
+        format,
+        time,
+        crate::row_of(answer),
+        bytes,
+        &sent[0..n],
+        source,
+    )
+}
+
+fn source_of(bytes: &[u8]) -> Source
+    ensures { λ r. ⌜ r ≡ sourceOf (now (bytes .entry)) ⌝ }
+{
+    let reading = fields::read(bytes);
+    let checked = reading.checked;
+    let t = reading.telegram;
+    let txid = t.txid;
+    let status = erp1::status::split(t.status);
+    Source {
+        known: is_valid(checked),
+        txid: txid,
+        rorg: t.rorg,
+        level: status.level,
+    }
+}
+
+fn is_valid(checked: Checked) -> bool
+    ensures { λ r. ⌜ r ≡ eqb (checkedNumber checked) 0 ⌝ }
+{
+    match checked {
+        Checked::Valid => true,
+        Checked::Refused(_) => false,
+    }
+}
