@@ -76,7 +76,7 @@ fn run(words: Vec<OsString>) -> Result<(), Failure> {
         Some("site") => plans::site(rest),
         Some("read") => telegrams::read(rest),
         Some("build") => telegrams::build(rest),
-        Some("version") => say(&format!("mooringeye {}, interface {}", env!("CARGO_PKG_VERSION"), mooringeye::version())),
+        Some("version") => say(&format!("mooringeye {}, library {}", env!("CARGO_PKG_VERSION"), mooringeye::version())),
         Some("--help") => say(USAGE),
         _ => Err(Failure::Usage(format!("{} is no command\n{USAGE}", command.display()))),
     }

@@ -73,5 +73,5 @@ fn erp2_telegrams() {
 
 #[test]
 fn version() {
-    assert_eq!(out("version"), "mooringeye 0.1.0, interface 1\n");
+    assert_eq!(out("version"), "mooringeye 1.0.0, library 1.0.0\n");
 }

@@ -15,6 +15,6 @@ packed a = a .number * 16_777_216 + a .slots .first * 65_536 + a .slots .second 
 abbrev pub packedSite : site.Answer → ℕ
 packedSite a = a .number * 65_536 + a .repeater * 256 + a .other
 
--- the first version of the interface
+-- version 1.0.0: major x 65,536 + minor x 256 + patch
 abbrev pub interfaceVersion : ℕ
-interfaceVersion = 1
+interfaceVersion = 65_536

@@ -18,12 +18,12 @@ ghost use Rattle.timing.specs.Rules.{planBy};
 ghost use Rattle.site.specs.Bytes.{siteIn};
 ghost use Rattle.mooringeye.specs.Packed.{answer, packed, packedSite, interfaceVersion};
 
-// The version of the interface: it rises with every change of a function or a layout that was there before.
+// The version of the library, which is that of the header: major x 65,536 + minor x 256 + patch.
 #[no_mangle]
 pub extern "C" fn mooringeye_version() -> u32
     ensures { λ r. ⌜ r ≡ interfaceVersion ⌝ }
 {
-    1
+    65_536
 }
 
 // The CRC-8 of ERP1 over bytes.
