@@ -1,57 +1,115 @@
-/* Mooringeye: a proved EnOcean collector, for C11 and C++.
+/* Mooringeye 1.0.0: a proved EnOcean collector, for C11 and C++17.
  *
  * What the caller guarantees, of every call:
- *   - a pointer is not NULL and is valid for its length (of elements, not of bytes) or for its fixed size, also where a length is 0;
- *   - what is lent to be changed overlaps nothing else that is lent to the same call;
- *   - one thread at a time uses one collector, one report or one buffer;
- *   - a `bool` is 0 or 1.
- * Nothing else is asked: every call answers for every content.
+ *   - a pointer is valid for its length (of elements, not of bytes) or its fixed size; beside length 0 it may be NULL;
+ *   - a pointer is aligned as its type asks. Bytes, and structs of bytes alone, need no alignment;
+ *   - memory that a call changes overlaps nothing else that is lent to the same call;
+ *   - one thread at a time uses one collector, report, scan, packer or buffer. No call allocates or has other state;
+ *   - a `bool` is 0 or 1;
+ *   - the stack has room: 96 KiB for a call on reports, 16 KiB for every other call.
+ * No other precondition: every call returns for any memory contents.
  *
- * A call that answers `uint8_t` answers a number: 0 for done, a refusal of mooringeye_refusal, or MOORINGEYE_WRONG_SIZE for a slice that does not
- * have the size that the call asks for, which is tested before all else and leaves everything that was lent as it was. Refusals are tested in the
- * order in which a function lists them. Beside a refusal each value handed back is zero, a position excepted, and an output is left as it was; what
- * stands in an output behind the result is untouched. Positions and indices count from 0. Times are in milliseconds.
+ * Answers. A call that returns `uint8_t` returns a number: 0 for done, a refusal of mooringeye_refusal, or
+ * MOORINGEYE_WRONG_SIZE for a slice that does not have the size that the call asks for. mooringeye_take, the slot plans
+ * and the site answer more than a number: constants, accessors and structs stand beside them, so that no program takes
+ * their bytes apart. Refusals are tested in the order in which a function lists them.
  *
- * Each function is proved to do what docs/API.md says of it, for every input. */
+ * Beside a refusal all memory that was lent is as it was, result pointers included; excepted are the position or place
+ * that goes with a refusal where a function says so, and the counters of a collector that takes a DAMAGED or LATE
+ * reception. Beside success, what stands in an output behind the result is as it was. Positions, places and indices
+ * count from 0. Times are in milliseconds.
+ *
+ * Versions. The library has the version MAJOR.MINOR.PATCH of this header, and so have the tool, the Rust crate and the
+ * Python module. MAJOR, which is also that of the shared object's name, rises when a function, a struct or a constant
+ * changes or goes; MINOR when some are added; PATCH with everything else. A program that was linked with a library of
+ * one MINOR runs with every later one of the same MAJOR. include/mooringeye.abi lists all of them, with the version in
+ * which each came; the tests compare it with this header and with the library.
+ *
+ * Each function is proved to do what docs/API.md says of it, for every input. The functions with a body here, which
+ * call those, are C: they are tested. */
 #ifndef MOORINGEYE_H
 #define MOORINGEYE_H
 
 #include <stdbool.h>
 #include <stddef.h>
 #include <stdint.h>
+#include <string.h>
 
 #ifdef __cplusplus
 extern "C" {
 #endif
 
-/* The version of the interface that this header declares; mooringeye_version() is that of the library. */
-#define MOORINGEYE_VERSION 1
+#define MOORINGEYE_VERSION_MAJOR 1
+#define MOORINGEYE_VERSION_MINOR 0
+#define MOORINGEYE_VERSION_PATCH 0
+#define MOORINGEYE_VERSION_TEXT "1.0.0"
+#define MOORINGEYE_VERSION_OF(major, minor, patch) ((major)*65536u + (minor)*256u + (patch))
+#define MOORINGEYE_VERSION \
+    MOORINGEYE_VERSION_OF(MOORINGEYE_VERSION_MAJOR, MOORINGEYE_VERSION_MINOR, MOORINGEYE_VERSION_PATCH)
 
+/* The version of the library, as MOORINGEYE_VERSION is that of this header. */
+uint32_t mooringeye_version(void);
+
+/* Whether the library that runs has all that this header declares. */
+static inline bool mooringeye_is_compatible(void) {
+    uint32_t version = mooringeye_version();
+    return version / 65536u == MOORINGEYE_VERSION_MAJOR && version / 256u >= MOORINGEYE_VERSION / 256u;
+}
+
+/* ---- numbers */
+
+/* Every number: its name, the number, and what it says. */
+#define MOORINGEYE_NUMBERS(X)                                                      \
+    X(DONE, 0, "done")                                                             \
+    X(LENGTH, 1, "the length is wrong")                                            \
+    X(SUM, 2, "HASH is wrong, the sum")                                            \
+    X(NESTED, 3, "addressed inside addressed, or encapsulating an addressed one")  \
+    X(NOT_ADDRESSED, 4, "removal asked of a plain telegram")                       \
+    X(TOO_LONG, 5, "an addressed telegram of over 21 bytes")                       \
+    X(SHORT_OUTPUT, 6, "the output is too short for the result")                   \
+    X(LATE, 7, "the clock went back")                                              \
+    X(FULL, 8, "2^64 - 1 receptions are counted")                                  \
+    X(NO_PLAN, 9, "no lawful plan")                                                \
+    X(ARGUMENT, 10, "an argument is out of its range")                             \
+    X(NOT_ACCEPTED, 11, "the state or the image is not accepted")                  \
+    X(MISMATCH, 12, "a block of an archive does not match")                        \
+    X(CRC, 13, "HASH is wrong, the CRC")                                           \
+    X(RESERVED_ADDRESS, 14, "the address control of an ERP2 telegram is reserved") \
+    X(MISFIT, 15, "the fields of an ERP2 telegram do not fit its length")          \
+    X(SIZE, 16, "not whole blocks, or over 2^32 of them")                          \
+    X(TRANSMITTERS, 17, "a 257th transmitter of a report")                         \
+    X(UNLAWFUL, 18, "the slot plan of a repeater of a site is not lawful")         \
+    X(OVERLAP, 19, "transmissions of two repeaters of a site overlap")             \
+    X(WRONG_SIZE, 255, "a slice does not have the size that the call asks for")
+
+/* MOORINGEYE_DONE and the refusals. 1 to 19 are the papers' numbers, 255 is this interface's own. */
 enum mooringeye_refusal {
-    MOORINGEYE_DONE = 0,
-    MOORINGEYE_LENGTH = 1,            /* the length is wrong */
-    MOORINGEYE_SUM = 2,               /* HASH is wrong, the sum */
-    MOORINGEYE_NESTED = 3,            /* addressed inside addressed, or encapsulating an addressed one */
-    MOORINGEYE_NOT_ADDRESSED = 4,     /* removal asked of a plain telegram */
-    MOORINGEYE_TOO_LONG = 5,          /* an addressed telegram of over 21 bytes */
-    MOORINGEYE_SHORT_OUTPUT = 6,      /* the output is too short for the result */
-    MOORINGEYE_LATE = 7,              /* the clock went back */
-    MOORINGEYE_FULL = 8,              /* 2^64 - 1 receptions are counted */
-    MOORINGEYE_NO_PLAN = 9,           /* no lawful plan */
-    MOORINGEYE_ARGUMENT = 10,         /* an argument is out of its range */
-    MOORINGEYE_NOT_ACCEPTED = 11,     /* the state or the image is not accepted */
-    MOORINGEYE_MISMATCH = 12,         /* a block of an archive does not match */
-    MOORINGEYE_CRC = 13,              /* HASH is wrong, the CRC */
-    MOORINGEYE_RESERVED_ADDRESS = 14, /* the address control of an ERP2 telegram is reserved */
-    MOORINGEYE_MISFIT = 15,           /* the fields of an ERP2 telegram do not fit its length */
-    MOORINGEYE_SIZE = 16,             /* a buffer that isn't whole blocks, or is over 2^32 of them */
-    MOORINGEYE_TRANSMITTERS = 17,     /* a 257th transmitter of a report */
-    MOORINGEYE_UNLAWFUL = 18,         /* the slot plan of a repeater of a site is not lawful */
-    MOORINGEYE_OVERLAP = 19,          /* transmissions of two repeaters of a site overlap */
-    MOORINGEYE_WRONG_SIZE = 255       /* of this interface: a slice does not have the size that the call asks for */
+#define MOORINGEYE_X(name, number, text) MOORINGEYE_##name = number,
+    MOORINGEYE_NUMBERS(MOORINGEYE_X)
+#undef MOORINGEYE_X
 };
 
-uint32_t mooringeye_version(void);
+/* "LENGTH" for 1, and so on; "UNKNOWN" for a number that no call answers. */
+static inline const char *mooringeye_refusal_name(uint8_t number) {
+    switch (number) {
+#define MOORINGEYE_X(name, number, text) \
+    case number: return #name;
+        MOORINGEYE_NUMBERS(MOORINGEYE_X)
+#undef MOORINGEYE_X
+    default: return "UNKNOWN";
+    }
+}
+
+/* What a number says, in English. */
+static inline const char *mooringeye_refusal_text(uint8_t number) {
+    switch (number) {
+#define MOORINGEYE_X(name, number, text) \
+    case number: return text;
+        MOORINGEYE_NUMBERS(MOORINGEYE_X)
+#undef MOORINGEYE_X
+    default: return "a number that no call answers";
+    }
+}
 
 /* ---- subtelegrams */
 
@@ -60,8 +118,8 @@ enum {
     MOORINGEYE_MAX_DATA = 14
 };
 
-/* The fields of a subtelegram. RORG is the inner one where it is addressed; IDs stand in the order of transmission. Any other number than 0 in
- * `addressed` says yes; reading gives 1. A plain telegram's DESTID reads zero. */
+/* The fields of a subtelegram. RORG is the inner one where it is addressed; IDs stand in the order of transmission. Any
+ * other number than 0 in `addressed` says yes; reading gives 1. A plain telegram's DESTID reads zero. */
 typedef struct mooringeye_fields {
     uint8_t rorg;
     uint8_t length; /* of DATA */
@@ -87,27 +145,33 @@ uint8_t mooringeye_check(const uint8_t *bytes, size_t length);
 /* Whether two subtelegrams are the same telegram: equal but for HASH and the level. */
 bool mooringeye_same(const uint8_t *a, size_t a_length, const uint8_t *b, size_t b_length);
 
-/* Reads a subtelegram. `fields_size` is sizeof(mooringeye_fields). Refused: the check's own. */
+/* Reads a subtelegram. `fields_size` is sizeof(mooringeye_fields). Refused: 255, the check's own. */
 uint8_t mooringeye_read(const uint8_t *bytes, size_t length, mooringeye_fields *fields, size_t fields_size);
 
-/* Builds a subtelegram into the front of `out`, and its length into `out_length`, which a wrong size leaves as it was.
- * Refused: 10 DATA not 1 to 14 bytes or RORG 0xA6, 5, 6. */
-uint8_t mooringeye_build(const mooringeye_fields *fields, size_t fields_size, uint8_t *out, size_t out_size, size_t *out_length);
+/* Builds a subtelegram into the front of `out`, and its length into `out_length`.
+ * Refused: 255, 10 DATA not 1 to 14 bytes or RORG 0xA6, 5, 6. */
+uint8_t mooringeye_build(const mooringeye_fields *fields, size_t fields_size, uint8_t *out, size_t out_size,
+                         size_t *out_length);
 
-/* Encapsulates a plain subtelegram for a DESTID, its first byte the highest: STATUS is kept and HASH renewed. Refused: the check's own, 3, 5, 6. */
-uint8_t mooringeye_encapsulate(const uint8_t *bytes, size_t length, uint32_t destid, uint8_t *out, size_t out_size, size_t *out_length);
+/* Encapsulates a plain subtelegram for a DESTID, its first byte the highest: STATUS is kept and HASH renewed.
+ * Refused: the check's own, 3, 5, 6. */
+uint8_t mooringeye_encapsulate(const uint8_t *bytes, size_t length, uint32_t destid, uint8_t *out, size_t out_size,
+                               size_t *out_length);
 
 /* Removes the encapsulation of an addressed one. Refused: the check's own, 4, 6. */
 uint8_t mooringeye_decapsulate(const uint8_t *bytes, size_t length, uint8_t *out, size_t out_size, size_t *out_length);
 
-/* What a repeater set to 0 (off), 1 or 2 sends for a telegram; length 0 for nothing. It knows no history: ask it for receptions that were KEPT.
- * `sent_size` is sizeof(mooringeye_frame). Refused: 10 a setting over 2, the check's own. */
-uint8_t mooringeye_repeat(uint8_t setting, const uint8_t *bytes, size_t length, mooringeye_frame *sent, size_t sent_size);
+/* What a repeater set to 0 (off), 1 or 2 sends for a telegram; length 0 for nothing. It knows no history: ask it for
+ * receptions that were KEPT. `sent_size` is sizeof(mooringeye_frame). Refused: 255, 10 a setting over 2, the check's
+ * own. */
+uint8_t mooringeye_repeat(uint8_t setting, const uint8_t *bytes, size_t length, mooringeye_frame *sent,
+                          size_t sent_size);
 
 /* ---- the collector */
 
 enum {
-    MOORINGEYE_CAPACITY = 64, /* telegrams that can be open */
+    MOORINGEYE_CAPACITY = 64,          /* telegrams that can be open */
+    MOORINGEYE_COLLECTOR_BYTES = 1344, /* 21 for each of them */
     MOORINGEYE_COLLECTOR_NUMBERS = 8,
     MOORINGEYE_TOTALS = 6,
     MOORINGEYE_IMAGE = 2560,    /* bytes of a checkpoint */
@@ -115,64 +179,106 @@ enum {
     MOORINGEYE_REPLY = 24       /* sizeof(mooringeye_reply) */
 };
 
-/* The three forms of 0 that a reception can be answered with. */
-enum mooringeye_kind {
+/* What mooringeye_take answers where it does not refuse: the whole answer, so that `answer == MOORINGEYE_COPY` is
+ * right. */
+enum mooringeye_answer {
     MOORINGEYE_KEPT = 0,
-    MOORINGEYE_COPY = 1,
-    MOORINGEYE_LOOSE = 2
+    MOORINGEYE_COPY = 256,
+    MOORINGEYE_LOOSE = 512
 };
 
-/* A collector, changed where it lies. Of each open telegram, in opening order: when it was opened, how often it was heard again, its length, and its
- * bytes, 21 each; what stands behind the open ones says nothing. The numbers: telegrams open, latest time, received, kept, copies, loose, damaged,
- * late. A state that no receptions and no accepted image give is answered with 11 by every call, and stays. */
+/* The kind in one byte, as a reply of a burst has it. */
+enum mooringeye_kind {
+    MOORINGEYE_KIND_KEPT = 0,
+    MOORINGEYE_KIND_COPY = 1,
+    MOORINGEYE_KIND_LOOSE = 2
+};
+
+/* The number of an answer of mooringeye_take: MOORINGEYE_DONE or a refusal. */
+static inline uint8_t mooringeye_answer_number(uint16_t answer) {
+    return (uint8_t)(answer % 256u);
+}
+
+/* Its kind, of mooringeye_kind; KEPT beside a refusal. */
+static inline uint8_t mooringeye_answer_kind(uint16_t answer) {
+    return (uint8_t)(answer / 256u);
+}
+
+/* A collector, changed where it lies. Of each open telegram, in opening order: when it was opened, how often it was
+ * heard again, its length, and its bytes, 21 each; what stands behind the open ones says nothing. The numbers:
+ * telegrams open, latest time, received, kept, copies, loose, damaged, late. A state that no receptions and no accepted
+ * image give is answered with 11 by every call, and stays. It may be copied as any struct is. */
 typedef struct mooringeye_collector {
     uint64_t times[MOORINGEYE_CAPACITY];
     uint64_t numbers[MOORINGEYE_COLLECTOR_NUMBERS];
     uint16_t copies[MOORINGEYE_CAPACITY];
     uint8_t lengths[MOORINGEYE_CAPACITY];
-    uint8_t bytes[MOORINGEYE_CAPACITY * MOORINGEYE_MAX_TELEGRAM];
+    uint8_t bytes[MOORINGEYE_COLLECTOR_BYTES];
 } mooringeye_collector;
 
-/* The reply to a reception of a burst: the kind (0 beside a refusal), the number, and what a repeater at the burst's setting sends, of length 0 for
- * nothing. */
+/* The reply to a reception of a burst: the kind (0 beside a refusal), the number, and what a repeater at the burst's
+ * setting sends, of length 0 for nothing. */
 typedef struct mooringeye_reply {
     uint8_t kind;
     uint8_t number;
     mooringeye_frame sent;
 } mooringeye_reply;
 
-/* These calls take the five arrays of a collector one by one; the functions after them take the struct, and answer the same. */
+/* A reply as mooringeye_take would have answered it. */
+static inline uint16_t mooringeye_reply_answer(const mooringeye_reply *reply) {
+    return (uint16_t)(reply->kind * 256 + reply->number);
+}
+
+/* These calls take the five arrays of a collector one by one; the functions after them take the struct, and answer the
+ * same. */
 
 /* No telegram open, nothing counted: every number of the five arrays is zero. */
-void mooringeye_collector_fresh(uint64_t *times, uint8_t *lengths, uint8_t *bytes, uint16_t *copies, uint64_t *numbers);
+void mooringeye_collector_fresh(uint64_t times[MOORINGEYE_CAPACITY], uint8_t lengths[MOORINGEYE_CAPACITY],
+                                uint8_t bytes[MOORINGEYE_COLLECTOR_BYTES], uint16_t copies[MOORINGEYE_CAPACITY],
+                                uint64_t numbers[MOORINGEYE_COLLECTOR_NUMBERS]);
 
-/* Takes one reception: its bytes and the moment they were complete. Answers kind x 256 + number: KEPT 0, COPY 256, LOOSE 512, or a refusal.
- * Refused: 11, 8, and the state is as it was; the check's own 1, 2 or 13, 3, counted DAMAGED; 7 a time before the latest, counted LATE. */
-uint16_t mooringeye_collector_take(uint64_t *times, uint8_t *lengths, uint8_t *bytes, uint16_t *copies, uint64_t *numbers, const uint8_t *received,
+/* Takes one reception: its bytes and the moment they were complete. Answers MOORINGEYE_KEPT, COPY, LOOSE, or a refusal.
+ * Refused: 11, 8; the check's own 1, 2 or 13, 3, counted DAMAGED; 7 a time before the latest, counted LATE. */
+uint16_t mooringeye_collector_take(uint64_t times[MOORINGEYE_CAPACITY], uint8_t lengths[MOORINGEYE_CAPACITY],
+                                   uint8_t bytes[MOORINGEYE_COLLECTOR_BYTES], uint16_t copies[MOORINGEYE_CAPACITY],
+                                   uint64_t numbers[MOORINGEYE_COLLECTOR_NUMBERS], const uint8_t *received,
                                    size_t received_length, uint64_t time);
 
-/* Received, kept, copies, loose, damaged, late. Refused: 11, and `totals` is as it was. */
-uint8_t mooringeye_collector_totals(const uint64_t *times, const uint8_t *lengths, const uint8_t *bytes, const uint16_t *copies,
-                                    const uint64_t *numbers, uint64_t *totals);
+/* Received, kept, copies, loose, damaged, late. Refused: 11. */
+uint8_t
+mooringeye_collector_totals(const uint64_t times[MOORINGEYE_CAPACITY], const uint8_t lengths[MOORINGEYE_CAPACITY],
+                            const uint8_t bytes[MOORINGEYE_COLLECTOR_BYTES], const uint16_t copies[MOORINGEYE_CAPACITY],
+                            const uint64_t numbers[MOORINGEYE_COLLECTOR_NUMBERS], uint64_t totals[MOORINGEYE_TOTALS]);
 
 /* How often the open telegram `index`, in opening order, was heard again. Refused: 11, 10 no such telegram. */
-uint8_t mooringeye_collector_copies(const uint64_t *times, const uint8_t *lengths, const uint8_t *bytes, const uint16_t *copies,
-                                    const uint64_t *numbers, size_t index, uint64_t *heard);
+uint8_t
+mooringeye_collector_copies(const uint64_t times[MOORINGEYE_CAPACITY], const uint8_t lengths[MOORINGEYE_CAPACITY],
+                            const uint8_t bytes[MOORINGEYE_COLLECTOR_BYTES], const uint16_t copies[MOORINGEYE_CAPACITY],
+                            const uint64_t numbers[MOORINGEYE_COLLECTOR_NUMBERS], size_t index, uint64_t *heard);
 
 /* The image of the state, into the first 2,560 bytes of `out`. Refused: 11, 6. */
-uint8_t mooringeye_collector_checkpoint(const uint64_t *times, const uint8_t *lengths, const uint8_t *bytes, const uint16_t *copies,
-                                        const uint64_t *numbers, uint8_t *out, size_t out_size);
+uint8_t mooringeye_collector_checkpoint(const uint64_t times[MOORINGEYE_CAPACITY],
+                                        const uint8_t lengths[MOORINGEYE_CAPACITY],
+                                        const uint8_t bytes[MOORINGEYE_COLLECTOR_BYTES],
+                                        const uint16_t copies[MOORINGEYE_CAPACITY],
+                                        const uint64_t numbers[MOORINGEYE_COLLECTOR_NUMBERS], uint8_t *out,
+                                        size_t out_size);
 
-/* The state that an image of 2,560 bytes holds. Refused: 11 the state or the image is not accepted; then the state is as it was. */
-uint8_t mooringeye_collector_restore(uint64_t *times, uint8_t *lengths, uint8_t *bytes, uint16_t *copies, uint64_t *numbers, const uint8_t *image,
+/* The state that an image of 2,560 bytes holds. Refused: 11 the state or the image is not accepted. */
+uint8_t mooringeye_collector_restore(uint64_t times[MOORINGEYE_CAPACITY], uint8_t lengths[MOORINGEYE_CAPACITY],
+                                     uint8_t bytes[MOORINGEYE_COLLECTOR_BYTES], uint16_t copies[MOORINGEYE_CAPACITY],
+                                     uint64_t numbers[MOORINGEYE_COLLECTOR_NUMBERS], const uint8_t *image,
                                      size_t image_size);
 
-/* Takes up to 256 receptions, one by one: of each its moment and a record of 22 bytes, whose length is answered with 1 where it is over 21. The reply
- * to each stands at its place; what is behind them is untouched. A part of a place is none.
- * Refused: 11, 255 where `records_size` is not 22 bytes for each moment, 6 fewer places than moments, 10 more than 256 moments or a setting over 2; then the state and the places are as they were. */
-uint8_t mooringeye_collector_burst(uint64_t *times, uint8_t *lengths, uint8_t *bytes, uint16_t *copies, uint64_t *numbers, uint8_t setting,
-                                   const uint64_t *moments, size_t moments_length, const mooringeye_frame *records, size_t records_size,
-                                   mooringeye_reply *replies, size_t replies_size);
+/* Takes up to 256 receptions, one by one: of each its moment and a record of 22 bytes, whose length is answered with 1
+ * where it is over 21. The reply to each stands at its place; what is behind them is untouched. A part of a place is
+ * none. Refused: 11, 255 where `records_size` is not 22 bytes for each moment, 6 fewer places than moments, 10 more
+ * than 256 moments or a setting over 2. */
+uint8_t mooringeye_collector_burst(uint64_t times[MOORINGEYE_CAPACITY], uint8_t lengths[MOORINGEYE_CAPACITY],
+                                   uint8_t bytes[MOORINGEYE_COLLECTOR_BYTES], uint16_t copies[MOORINGEYE_CAPACITY],
+                                   uint64_t numbers[MOORINGEYE_COLLECTOR_NUMBERS], uint8_t setting,
+                                   const uint64_t *moments, size_t moments_length, const mooringeye_frame *records,
+                                   size_t records_size, mooringeye_reply *replies, size_t replies_size);
 
 /* ---- lines of text */
 
@@ -209,11 +315,20 @@ static inline void mooringeye_fresh(mooringeye_collector *c) {
     mooringeye_collector_fresh(c->times, c->lengths, c->bytes, c->copies, c->numbers);
 }
 
-static inline uint16_t mooringeye_take(mooringeye_collector *c, const uint8_t *received, size_t received_length, uint64_t time) {
-    return mooringeye_collector_take(c->times, c->lengths, c->bytes, c->copies, c->numbers, received, received_length, time);
+/* The bytes may lie anywhere, in the collector too: they are copied first, and of more than 21 bytes only their number
+ * counts. */
+static inline uint16_t mooringeye_take(mooringeye_collector *c, const uint8_t *received, size_t received_length,
+                                       uint64_t time) {
+    uint8_t own[MOORINGEYE_MAX_TELEGRAM + 1] = {0};
+    size_t length = sizeof own;
+    if (received_length < sizeof own) {
+        length = received_length;
+        if (length > 0) memcpy(own, received, length);
+    }
+    return mooringeye_collector_take(c->times, c->lengths, c->bytes, c->copies, c->numbers, own, length, time);
 }
 
-static inline uint8_t mooringeye_totals(const mooringeye_collector *c, uint64_t *totals) {
+static inline uint8_t mooringeye_totals(const mooringeye_collector *c, uint64_t totals[MOORINGEYE_TOTALS]) {
     return mooringeye_collector_totals(c->times, c->lengths, c->bytes, c->copies, c->numbers, totals);
 }
 
@@ -230,10 +345,11 @@ static inline uint8_t mooringeye_restore(mooringeye_collector *c, const uint8_t 
 }
 
 /* `n` moments with their records, and so many places for replies. */
-static inline uint8_t mooringeye_burst(mooringeye_collector *c, uint8_t setting, const uint64_t *moments, const mooringeye_frame *records, size_t n,
-                                       mooringeye_reply *replies, size_t places) {
-    return mooringeye_collector_burst(c->times, c->lengths, c->bytes, c->copies, c->numbers, setting, moments, n, records, n * sizeof *records,
-                                      replies, places * sizeof *replies);
+static inline uint8_t mooringeye_burst(mooringeye_collector *c, uint8_t setting, const uint64_t *moments,
+                                       const mooringeye_frame *records, size_t n, mooringeye_reply *replies,
+                                       size_t places) {
+    return mooringeye_collector_burst(c->times, c->lengths, c->bytes, c->copies, c->numbers, setting, moments, n,
+                                      records, n * sizeof *records, replies, places * sizeof *replies);
 }
 
 /* `places` is how many moments and rows there are. */
@@ -245,8 +361,8 @@ static inline uint8_t mooringeye_lines(mooringeye_collector *c, uint8_t setting,
 
 /* ---- ERP2 telegrams */
 
-/* The fields of an ERP2 telegram but its IDs. A flag that is not set makes the values beside it mean nothing, and a short form its header: reading
- * gives zeros there. */
+/* The fields of an ERP2 telegram but its IDs. A flag that is not set makes the values beside it mean nothing, and a
+ * short form its header: reading gives zeros there. */
 typedef struct mooringeye_erp2 {
     uint8_t form;     /* the Length of a short form, 1 to 6; 0 for a long form */
     uint8_t control;  /* address control */
@@ -263,25 +379,44 @@ typedef struct mooringeye_erp2 {
     uint8_t optional[15];
 } mooringeye_erp2;
 
-/* Reads a length byte and Data_PL. `fields_size` is sizeof(mooringeye_erp2). Refused: 1, and of a long form 13, 14, 15. */
-uint8_t mooringeye_erp2_read(const uint8_t *bytes, size_t length, mooringeye_erp2 *fields, size_t fields_size, uint64_t *originator,
-                             uint32_t *destination);
+/* Reads a length byte and Data_PL. `fields_size` is sizeof(mooringeye_erp2). Refused: 255, 1, of a long form 13,
+ * 14, 15. */
+uint8_t mooringeye_erp2_read(const uint8_t *bytes, size_t length, mooringeye_erp2 *fields, size_t fields_size,
+                             uint64_t *originator, uint32_t *destination);
 
-/* Builds an ERP2 telegram, the length byte first, into the front of `out`. Refused: 10 a value that its bits can't hold or a flag against the header,
- * 14, 15 fields that do not fit the length, 6. */
-uint8_t mooringeye_erp2_build(const mooringeye_erp2 *fields, size_t fields_size, uint64_t originator, uint32_t destination, uint8_t *out,
-                              size_t out_size, size_t *out_length);
+/* Builds an ERP2 telegram, the length byte first, into the front of `out`. Refused: 255, 10 a value that its bits can't
+ * hold or a flag against the header, 14, 15 fields that do not fit the length, 6. */
+uint8_t mooringeye_erp2_build(const mooringeye_erp2 *fields, size_t fields_size, uint64_t originator,
+                              uint32_t destination, uint8_t *out, size_t out_size, size_t *out_length);
 
 /* ---- slot plans: rule 0 is the standard one, 1 the compressed one, 2 the one with a pause; slot 255 is none */
 
-/* A plan under the standard rule, as one number: the answer's number, and the first, second and third slot, a byte each from the highest.
- * `duration` is in microseconds, 1 to 65,535. Refused: 10, 9. */
+/* A plan under the standard rule, as one number: the answer's number, and the first, second and third slot, a byte each
+ * from the highest. `duration` is in microseconds, 1 to 65,535. Refused: 10, 9. */
 uint32_t mooringeye_plan(uint8_t level, uint32_t duration, uint64_t draw);
 
 /* The same under a named rule, for two or three transmissions. */
 uint32_t mooringeye_plan_by(uint8_t rule, uint8_t level, uint8_t transmissions, uint32_t duration, uint64_t draw);
 
-/* Whether a plan is lawful under a rule that has so many transmissions at this level: two where the third slot is 255, else three. */
+/* A plan by its parts. Beside a refusal the slots are 0. */
+typedef struct mooringeye_slots {
+    uint8_t number; /* MOORINGEYE_DONE or a refusal */
+    uint8_t first;
+    uint8_t second;
+    uint8_t third;
+} mooringeye_slots;
+
+/* What mooringeye_plan_by answers, by its parts. */
+static inline mooringeye_slots mooringeye_draw_slots(uint8_t rule, uint8_t level, uint8_t transmissions,
+                                                     uint32_t duration, uint64_t draw) {
+    uint32_t answer = mooringeye_plan_by(rule, level, transmissions, duration, draw);
+    mooringeye_slots slots = {(uint8_t)(answer >> 24), (uint8_t)(answer >> 16), (uint8_t)(answer >> 8),
+                              (uint8_t)answer};
+    return slots;
+}
+
+/* Whether a plan is lawful under a rule that has so many transmissions at this level: two where the third slot is 255,
+ * else three. */
 bool mooringeye_is_lawful(uint8_t rule, uint8_t level, uint32_t duration, uint8_t first, uint8_t second, uint8_t third);
 
 /* What one repeater of a site sends. */
@@ -292,9 +427,24 @@ typedef struct mooringeye_repeater {
     uint8_t slots[3];
 } mooringeye_repeater;
 
-/* The check of up to 32 repeaters, as one number: answer x 65,536 + repeater x 256 + other. `size` is that of all repeaters, in bytes.
- * Refused: 10 naming none (a size of no whole repeaters included), 18 with the first unlawful one, 19 with the first pair that overlaps. */
-uint32_t mooringeye_site(const mooringeye_repeater *repeaters, size_t size);
+/* The check of up to 32 repeaters, as one number: answer x 65,536 + repeater x 256 + other. `repeaters_size` is that of
+ * all repeaters, in bytes. Refused: 10 naming none (a size of no whole repeaters included), 18 with the first unlawful
+ * one, 19 with the first pair that overlaps. */
+uint32_t mooringeye_site(const mooringeye_repeater *repeaters, size_t repeaters_size);
+
+/* The check of a site by its parts: which repeaters go with the number, 0 for none. */
+typedef struct mooringeye_site_check {
+    uint8_t number; /* MOORINGEYE_DONE or a refusal */
+    uint8_t repeater;
+    uint8_t other;
+} mooringeye_site_check;
+
+/* What mooringeye_site answers for so many repeaters, by its parts. */
+static inline mooringeye_site_check mooringeye_check_site(const mooringeye_repeater *repeaters, size_t count) {
+    uint32_t answer = mooringeye_site(repeaters, count * sizeof *repeaters);
+    mooringeye_site_check check = {(uint8_t)(answer >> 16), (uint8_t)(answer >> 8), (uint8_t)answer};
+    return check;
+}
 
 /* ---- archive block files, in lent buffers */
 
@@ -310,69 +460,126 @@ enum {
 /* How many rows an archive has. Refused: 16, 12 with the position of the first block that does not match. */
 uint8_t mooringeye_archive_verify(const uint8_t *buffer, size_t size, size_t *rows, size_t *position);
 
-/* Appends a row, KEPT or LOOSE; every block is looked at. Refused: 16, 12 with the position, the check's for the row, 6 no room for another block. */
-uint8_t mooringeye_archive_append(uint8_t *buffer, size_t size, const uint8_t *bytes, size_t length, uint64_t time, bool loose, size_t *position);
+/* Appends a row, KEPT or LOOSE; every block is looked at. Refused: 16, 12 with the position, the check's for the row, 6
+ * no room for another block. */
+uint8_t mooringeye_archive_append(uint8_t *buffer, size_t size, const uint8_t *bytes, size_t length, uint64_t time,
+                                  bool loose, size_t *position);
 
-/* The same for an archive of `rows` rows, as mooringeye_archive_verify said and the caller counts on: one block is looked at. Refused: 16, 12 with
- * the position of the block that does not say that this row is next, the check's, 6. */
-uint8_t mooringeye_archive_append_at(uint8_t *buffer, size_t size, size_t rows, const uint8_t *bytes, size_t length, uint64_t time, bool loose,
-                                     size_t *position);
+/* The same for an archive of `rows` rows, as mooringeye_archive_verify said and the caller counts on: one block is
+ * looked at. Refused: 16, 12 with the position of the block that does not say that this row is next, the check's, 6. */
+uint8_t mooringeye_archive_append_at(uint8_t *buffer, size_t size, size_t rows, const uint8_t *bytes, size_t length,
+                                     uint64_t time, bool loose, size_t *position);
 
-/* The same where the caller holds the 512 bytes of that block alone. Refused: 16 another size or a row that no archive has, 12, the check's. */
-uint8_t mooringeye_archive_put_row(uint8_t *block, size_t size, size_t rows, const uint8_t *bytes, size_t length, uint64_t time, bool loose,
-                                   size_t *position);
+/* The same where the caller holds the 512 bytes of that block alone. Refused: 16 another size or a row that no archive
+ * has, 12 with the position, the check's. */
+uint8_t mooringeye_archive_put_row(uint8_t *block, size_t size, size_t rows, const uint8_t *bytes, size_t length,
+                                   uint64_t time, bool loose, size_t *position);
 
-/* Puts rows `rows`, rows + 1 and so on into the 512 bytes of their block, all or none, with one CRC: the block is then what
- * mooringeye_archive_put_row makes of it for one row after the other. Each row has its time and a record, which is LOOSE where `loose` is not 0, and
- * whose length is answered with 1 where it is over 21. `records_size` is 23 for each time, in bytes. Refused: 16 another size or a row that no archive
- * has, 12 with the position, the check's with the place of the first such row among these, 6 where the block has no room for all of them. */
-uint8_t mooringeye_archive_put_rows(uint8_t *block, size_t size, size_t rows, const uint64_t *times, size_t times_length,
-                                    const mooringeye_row *records, size_t records_size, size_t *position);
+/* Puts rows `rows`, rows + 1 and so on into the 512 bytes of their block, all or none, with one CRC: the block is then
+ * what mooringeye_archive_put_row makes of it for one row after the other. Each row has its time and a record, which is
+ * LOOSE where `loose` is not 0, and whose length is answered with 1 where it is over 21. `records_size` is 23 for each
+ * time, in bytes. Refused: 16 another size or a row that no archive has, 12 with the position, the check's with the
+ * place of the first such row among these, 6 where the block has no room for all of them. */
+uint8_t mooringeye_archive_put_rows(uint8_t *block, size_t size, size_t rows, const uint64_t *times,
+                                    size_t times_length, const mooringeye_row *records, size_t records_size,
+                                    size_t *position);
 
-/* Row `index` as it stands. `row_size` is sizeof(mooringeye_row). Refused: 16, 10 no such row, 12 a row whose length is over 21, as in no archive; its
- * block is index / 15. */
-uint8_t mooringeye_archive_row(const uint8_t *buffer, size_t size, size_t index, mooringeye_row *row, size_t row_size, uint64_t *time);
+/* Row `index` as it stands. `row_size` is sizeof(mooringeye_row). Refused: 255, 16, 10 no such row, 12 a row whose
+ * length is over 21, as in no archive; its block is index / 15. */
+uint8_t mooringeye_archive_row(const uint8_t *buffer, size_t size, size_t index, mooringeye_row *row, size_t row_size,
+                               uint64_t *time);
 
-/* Packs what is right of a damaged archive into `out`, zeros behind it up to the buffer's size, and the positions of the blocks that were dropped
- * into the front of `positions`. Refused: 16, 6 an output shorter than the buffer or a list shorter than the positions. */
-uint8_t mooringeye_archive_salvage(const uint8_t *buffer, size_t size, uint8_t *out, size_t out_size, uint64_t *positions, size_t positions_length,
-                                   size_t *dropped, size_t *rows);
+/* Packs what is right of a damaged archive into `out`, zeros behind it up to the buffer's size, and the positions of
+ * the blocks that were dropped into the front of `positions`. Refused: 16, 6 an output shorter than the buffer or a
+ * list shorter than the positions. */
+uint8_t mooringeye_archive_salvage(const uint8_t *buffer, size_t size, uint8_t *out, size_t out_size,
+                                   uint64_t *positions, size_t positions_length, size_t *dropped, size_t *rows);
 
-/* Removes the rows of up to 32 transmitters in the archive's own buffer: the others are packed and renumbered, and blocks no longer needed are zero
- * filled; `freed` says how many. A transmitter is its TXID, the first byte the highest. Refused: 16, 12 with the position, 10 more than 32. */
-uint8_t mooringeye_archive_remove(uint8_t *buffer, size_t size, const uint32_t *identities, size_t identities_length, size_t *freed,
-                                  size_t *position);
+/* Removes the rows of up to 32 transmitters in the archive's own buffer: the others are packed and renumbered, and
+ * blocks no longer needed are zero filled; `freed` says how many. A transmitter is its TXID, the first byte the
+ * highest. Refused: 16, 12 with the position, 10 more than 32. */
+uint8_t mooringeye_archive_remove(uint8_t *buffer, size_t size, const uint32_t *identities, size_t identities_length,
+                                  size_t *freed, size_t *position);
 
-/* Takes rows back: the first `rows` rows stay, in the archive's own buffer. The block where they end is written anew, and zeros behind it; no block
- * before it is touched. Refused: 16, 12 with the position, 10 where the archive has fewer rows. */
+/* Takes rows back: the first `rows` rows stay, in the archive's own buffer. The block where they end is written anew,
+ * and zeros behind it; no block before it is touched. Refused: 16, 12 with the position, 10 where the archive has fewer
+ * rows. */
 uint8_t mooringeye_archive_cut(uint8_t *buffer, size_t size, size_t rows, size_t *position);
 
-/* The same of one block, which becomes that of its first `rows` rows, all zero for none. The rows of an archive in a file end after row m where zeros
- * were written behind block m / 15, from the end on, and that block was then cut at m % 15. Refused: 16 another size, 12 a block that isn't sound or
- * has fewer rows. */
+/* The same of one block, which becomes that of its first `rows` rows, all zero for none. The rows of an archive in a
+ * file end after row m where zeros were written behind block m / 15, from the end on, and that block was then cut at m
+ * % 15. Refused: 16 another size, 12 a block that isn't sound or has fewer rows. */
 uint8_t mooringeye_archive_cut_block(uint8_t *block, size_t size, size_t rows);
 
-/* ---- archives in pieces: whole blocks in the order of the file, as many in a piece as the caller likes. However an archive is divided, the pieces
- * answer together what it answers as a whole. What is known between two pieces stands in lent arrays. */
+/* ---- archives in pieces: whole blocks in the order of the file, as many in a piece as the caller likes. However an
+ * archive is divided, the pieces answer together what it answers as a whole. What is known between two pieces stands in
+ * lent arrays; the functions on structs after them answer the same. */
 
-/* The next piece of an archive that is verified. `numbers` are the blocks passed, their rows, the stage (0 every block is full, 1 the last one is
- * short, 2 an all-zero one was passed, any other: a block does not match), and the position of that block; four zeros before the first piece.
- * Refused: 11 more than 2^32 blocks or than 15 rows a block, 16 a piece that isn't whole blocks, or more than 2^32 of them in all. */
-uint8_t mooringeye_scan_feed(uint64_t *numbers, const uint8_t *piece, size_t size);
+/* The next piece of an archive that is verified. `numbers` are the blocks passed, their rows, the stage (0 every block
+ * is full, 1 the last one is short, 2 an all-zero one was passed, any other: a block does not match), and the position
+ * of that block; four zeros before the first piece. Refused: 11 numbers that no pieces give, 16 a piece that isn't
+ * whole blocks, or more than 2^32 of them in all. */
+uint8_t mooringeye_scan_feed(uint64_t numbers[MOORINGEYE_SCAN_NUMBERS], const uint8_t *piece, size_t size);
 
 /* What mooringeye_archive_verify answers for all pieces together. Refused: 11, 12 with the position. */
-uint8_t mooringeye_scan_end(const uint64_t *numbers, size_t *rows, size_t *position);
+uint8_t mooringeye_scan_end(const uint64_t numbers[MOORINGEYE_SCAN_NUMBERS], size_t *rows, size_t *position);
 
-/* The next piece of an archive that is packed anew: rows of sound blocks stay, but those of up to 32 transmitters. Rows that wait for a full block
- * lie in `waiting`, 960 bytes; `numbers` are how many wait, and how many blocks were written; two zeros before the first piece. Blocks go into the
- * front of `out`, 512 bytes for each by which the second number rises, and the positions of dropped blocks, from the first block of the piece, into
- * the front of `positions`. Refused: 11 for 15 or more rows that wait or more than 2^32 blocks, 16 as above, 10 more than 32 transmitters, 6 an
- * output shorter than the piece or a list shorter than the positions. */
-uint8_t mooringeye_pack_feed(uint64_t *numbers, uint8_t *waiting, const uint8_t *piece, size_t size, const uint32_t *identities,
-                             size_t identities_length, uint8_t *out, size_t out_size, uint64_t *positions, size_t positions_length, size_t *dropped);
+/* The next piece of an archive that is packed anew: rows of sound blocks stay, but those of up to 32 transmitters. Rows
+ * that wait for a full block lie in `waiting`, 960 bytes; `numbers` are how many wait, and how many blocks were
+ * written; two zeros before the first piece. Blocks go into the front of `out`, 512 bytes for each by which the second
+ * number rises, and the positions of dropped blocks, from the first block of the piece, into the front of `positions`.
+ * Refused: 11 numbers that no pieces give, 16 as above, 10 more than 32 transmitters, 6 an output shorter than the
+ * piece or a list shorter than the positions. */
+uint8_t mooringeye_pack_feed(uint64_t numbers[MOORINGEYE_PACKER_NUMBERS], uint8_t waiting[MOORINGEYE_PACKER_BYTES],
+                             const uint8_t *piece, size_t size, const uint32_t *identities, size_t identities_length,
+                             uint8_t *out, size_t out_size, uint64_t *positions, size_t positions_length,
+                             size_t *dropped);
 
-/* After the last piece: the last block, where rows wait, in the front of `out`; `out_length` is 512 or 0. Refused: 11, 6. */
-uint8_t mooringeye_pack_end(const uint64_t *numbers, const uint8_t *waiting, uint8_t *out, size_t out_size, size_t *out_length);
+/* After the last piece: the last block, where rows wait, in the front of `out`; `out_length` is 512 or 0. Refused:
+ * 11, 6. */
+uint8_t mooringeye_pack_end(const uint64_t numbers[MOORINGEYE_PACKER_NUMBERS],
+                            const uint8_t waiting[MOORINGEYE_PACKER_BYTES], uint8_t *out, size_t out_size,
+                            size_t *out_length);
+
+/* A scan: all zero before the first piece. */
+typedef struct mooringeye_scan {
+    uint64_t numbers[MOORINGEYE_SCAN_NUMBERS];
+} mooringeye_scan;
+
+/* A packer: all zero before the first piece. */
+typedef struct mooringeye_packer {
+    uint64_t numbers[MOORINGEYE_PACKER_NUMBERS];
+    uint8_t waiting[MOORINGEYE_PACKER_BYTES];
+} mooringeye_packer;
+
+static inline void mooringeye_start_scan(mooringeye_scan *scan) {
+    memset(scan, 0, sizeof *scan);
+}
+
+static inline uint8_t mooringeye_feed_scan(mooringeye_scan *scan, const uint8_t *piece, size_t size) {
+    return mooringeye_scan_feed(scan->numbers, piece, size);
+}
+
+static inline uint8_t mooringeye_end_scan(const mooringeye_scan *scan, size_t *rows, size_t *position) {
+    return mooringeye_scan_end(scan->numbers, rows, position);
+}
+
+static inline void mooringeye_start_packer(mooringeye_packer *packer) {
+    memset(packer, 0, sizeof *packer);
+}
+
+static inline uint8_t mooringeye_feed_packer(mooringeye_packer *packer, const uint8_t *piece, size_t size,
+                                             const uint32_t *identities, size_t identities_length, uint8_t *out,
+                                             size_t out_size, uint64_t *positions, size_t positions_length,
+                                             size_t *dropped) {
+    return mooringeye_pack_feed(packer->numbers, packer->waiting, piece, size, identities, identities_length, out,
+                                out_size, positions, positions_length, dropped);
+}
+
+static inline uint8_t mooringeye_end_packer(const mooringeye_packer *packer, uint8_t *out, size_t out_size,
+                                            size_t *out_length) {
+    return mooringeye_pack_end(packer->numbers, packer->waiting, out, out_size, out_length);
+}
 
 /* ---- reports over archives */
 
@@ -381,38 +588,105 @@ enum {
     MOORINGEYE_MAX_LINES = 256,
     MOORINGEYE_REPORT_NUMBERS = 4,
     MOORINGEYE_LINE_NUMBERS = 5,
+    MOORINGEYE_REPORT_LINES = 1280, /* five numbers for each line */
     MOORINGEYE_ADDING_NUMBERS = 8
 };
 
-/* A report: archives added, lines, KEPT rows, LOOSE rows; and the lines, five numbers each: identity, KEPT rows, LOOSE rows, earliest and latest
- * time. */
+/* A report: archives added, lines, KEPT rows, LOOSE rows; and the lines, five numbers each: identity, KEPT rows, LOOSE
+ * rows, earliest and latest time. */
 typedef struct mooringeye_report {
     uint64_t numbers[MOORINGEYE_REPORT_NUMBERS];
-    uint64_t lines[MOORINGEYE_MAX_LINES * MOORINGEYE_LINE_NUMBERS];
+    uint64_t lines[MOORINGEYE_REPORT_LINES];
 } mooringeye_report;
 
 /* A report of no archive. */
-void mooringeye_report_empty(uint64_t *numbers, uint64_t *lines);
+void mooringeye_report_empty(uint64_t numbers[MOORINGEYE_REPORT_NUMBERS], uint64_t lines[MOORINGEYE_REPORT_LINES]);
 
-/* Adds the rows of an archive. Refused: 11 a report that no archives give, 16, 12 with the position, 10 a 65th archive, 17; then nothing is added. */
-uint8_t mooringeye_report_add(uint64_t *numbers, uint64_t *lines, const uint8_t *buffer, size_t size, size_t *position);
+/* Adds the rows of an archive. Refused: 11 a report that no archives give, 16, 12 with the position, 10 a 65th archive,
+ * 17. */
+uint8_t mooringeye_report_add(uint64_t numbers[MOORINGEYE_REPORT_NUMBERS], uint64_t lines[MOORINGEYE_REPORT_LINES],
+                              const uint8_t *buffer, size_t size, size_t *position);
 
 /* Line `index`, five numbers. Refused: 11, 10 no such line. */
-uint8_t mooringeye_report_line(const uint64_t *numbers, const uint64_t *lines, size_t index, uint64_t *line);
+uint8_t mooringeye_report_line(const uint64_t numbers[MOORINGEYE_REPORT_NUMBERS],
+                               const uint64_t lines[MOORINGEYE_REPORT_LINES], size_t index,
+                               uint64_t line[MOORINGEYE_LINE_NUMBERS]);
 
-/* The share of its rows in receptions, in whole thousandths rounded down. Refused: 11, 10 a figure of 0 or less than the rows. */
-uint8_t mooringeye_report_share(const uint64_t *numbers, const uint64_t *lines, uint64_t received, uint64_t *thousandths);
+/* The share of its rows in receptions, in whole thousandths rounded down. Refused: 11, 10 a figure of 0 or less than
+ * the rows. */
+uint8_t mooringeye_report_share(const uint64_t numbers[MOORINGEYE_REPORT_NUMBERS],
+                                const uint64_t lines[MOORINGEYE_REPORT_LINES], uint64_t received,
+                                uint64_t *thousandths);
 
-/* An archive that is added in pieces: `adding` and `tally` are what is known after some pieces, while the report stays as it is until the end.
- * `adding` is the four numbers of a scan, how many lines there are, KEPT rows, LOOSE rows, and whether a transmitter was one too many; `tally` is the
- * lines. */
-void mooringeye_report_start(const uint64_t *numbers, const uint64_t *lines, uint64_t *adding, uint64_t *tally);
+/* An archive that is added in pieces: `adding` and `tally` are what is known after some pieces, while the report stays
+ * as it is until the end. `adding` is the four numbers of a scan, how many lines there are, KEPT rows, LOOSE rows, and
+ * whether a transmitter was one too many; `tally` is the lines. */
+void mooringeye_report_start(const uint64_t numbers[MOORINGEYE_REPORT_NUMBERS],
+                             const uint64_t lines[MOORINGEYE_REPORT_LINES], uint64_t adding[MOORINGEYE_ADDING_NUMBERS],
+                             uint64_t tally[MOORINGEYE_REPORT_LINES]);
 
-/* The next piece. Refused: 11 a report that no archives give, or numbers that no pieces give beside it, as far as they tell; 16 as of a scan. */
-uint8_t mooringeye_report_feed(const uint64_t *numbers, const uint64_t *lines, uint64_t *adding, uint64_t *tally, const uint8_t *piece, size_t size);
+/* The next piece. Refused: 11 a report that no archives give, or numbers that no pieces give beside it, as far as they
+ * tell; 16 as of a scan. */
+uint8_t mooringeye_report_feed(const uint64_t numbers[MOORINGEYE_REPORT_NUMBERS],
+                               const uint64_t lines[MOORINGEYE_REPORT_LINES],
+                               uint64_t adding[MOORINGEYE_ADDING_NUMBERS], uint64_t tally[MOORINGEYE_REPORT_LINES],
+                               const uint8_t *piece, size_t size);
 
-/* After the last piece: what mooringeye_report_add answers for all pieces together. Refused: 11, 12 with the position, 10, 17; nothing is added. */
-uint8_t mooringeye_report_end(uint64_t *numbers, uint64_t *lines, const uint64_t *adding, const uint64_t *tally, size_t *position);
+/* After the last piece: what mooringeye_report_add answers for all pieces together. Refused: 11, 12 with the position,
+ * 10, 17. */
+uint8_t mooringeye_report_end(uint64_t numbers[MOORINGEYE_REPORT_NUMBERS], uint64_t lines[MOORINGEYE_REPORT_LINES],
+                              const uint64_t adding[MOORINGEYE_ADDING_NUMBERS],
+                              const uint64_t tally[MOORINGEYE_REPORT_LINES], size_t *position);
+
+/* A line of a report. */
+typedef struct mooringeye_line {
+    uint64_t identity; /* the transmitter: its TXID, the first byte the highest */
+    uint64_t kept;
+    uint64_t loose;
+    uint64_t earliest;
+    uint64_t latest;
+} mooringeye_line;
+
+/* What is known of an archive that is added in pieces. */
+typedef struct mooringeye_adding {
+    uint64_t numbers[MOORINGEYE_ADDING_NUMBERS];
+    uint64_t lines[MOORINGEYE_REPORT_LINES];
+} mooringeye_adding;
+
+static inline void mooringeye_clear_report(mooringeye_report *report) {
+    mooringeye_report_empty(report->numbers, report->lines);
+}
+
+static inline uint8_t mooringeye_add_archive(mooringeye_report *report, const uint8_t *buffer, size_t size,
+                                             size_t *position) {
+    return mooringeye_report_add(report->numbers, report->lines, buffer, size, position);
+}
+
+static inline uint8_t mooringeye_get_line(const mooringeye_report *report, size_t index, mooringeye_line *line) {
+    uint64_t five[MOORINGEYE_LINE_NUMBERS];
+    uint8_t number = mooringeye_report_line(report->numbers, report->lines, index, five);
+    if (number == MOORINGEYE_DONE) memcpy(line, five, sizeof five);
+    return number;
+}
+
+static inline uint8_t mooringeye_get_share(const mooringeye_report *report, uint64_t received, uint64_t *thousandths) {
+    return mooringeye_report_share(report->numbers, report->lines, received, thousandths);
+}
+
+/* The report that is handed to these three is the same one, and is changed by the last alone. */
+static inline void mooringeye_start_adding(mooringeye_adding *adding, const mooringeye_report *report) {
+    mooringeye_report_start(report->numbers, report->lines, adding->numbers, adding->lines);
+}
+
+static inline uint8_t mooringeye_feed_adding(mooringeye_adding *adding, const mooringeye_report *report,
+                                             const uint8_t *piece, size_t size) {
+    return mooringeye_report_feed(report->numbers, report->lines, adding->numbers, adding->lines, piece, size);
+}
+
+static inline uint8_t mooringeye_end_adding(const mooringeye_adding *adding, mooringeye_report *report,
+                                            size_t *position) {
+    return mooringeye_report_end(report->numbers, report->lines, adding->numbers, adding->lines, position);
+}
 
 #ifdef __cplusplus
 }
