@@ -104,12 +104,12 @@ static void print_row(mooringeye_collector *c, uint8_t level, const reception *r
     static const char *const words[] = {"KEPT", "COPY", "LOOSE"};
     uint16_t answer = mooringeye_take(c, r->bytes, r->length, r->time);
     mooringeye_frame sent = {0};
-    if (answer % 256 != MOORINGEYE_DONE) {
-        printf("%" PRIu64 " REFUSED %d\n", r->time, answer % 256);
+    if (mooringeye_answer_number(answer) != MOORINGEYE_DONE) {
+        printf("%" PRIu64 " REFUSED %d\n", r->time, mooringeye_answer_number(answer));
         return;
     }
-    printf("%" PRIu64 " %s", r->time, words[answer / 256]);
-    if (answer / 256 == MOORINGEYE_KEPT) {
+    printf("%" PRIu64 " %s", r->time, words[mooringeye_answer_kind(answer)]);
+    if (answer == MOORINGEYE_KEPT) {
         mooringeye_repeat(level, r->bytes, r->length, &sent, sizeof sent);
     }
     for (size_t i = 0; i < sent.length; i++) {

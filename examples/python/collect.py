@@ -1,6 +1,8 @@
 """A collector in Python over libmooringeye: reads the lines of `collect`, and prints what it prints.
 
     python3 examples/python/collect.py < LINES > ROWS
+
+The module is that of the package `mooringeye`, which pip installs; in the repository PYTHONPATH=python finds it.
 """
 import re
 import sys
@@ -34,7 +36,7 @@ def main():
     collector = mooringeye.Collector()
     for line in lines:
         print(row(collector, int(first[1]), line))
-    print(*(f"{name.upper()} {count}" for name, count in collector.totals().items()))
+    print(*(f"{name.upper()} {count}" for name, count in collector.totals()._asdict().items()))
 
 
 if __name__ == "__main__":

@@ -1,18 +1,9 @@
-/* Several rows put into one block: what mooringeye_archive_put_row makes of them one after the other, or a refusal and the block as it was. Ends with
- * status 0 where all is as it should be, and else with the line that was not. */
+/* Several rows put into one block: what mooringeye_archive_put_row makes of them one after the other, or a refusal and
+ * the block as it was. Ends with status 0 where all is as it should be, and else with the line that was not. */
 #include "mooringeye.h"
+#include "should.h"
 
-#include <stdio.h>
-#include <stdlib.h>
 #include <string.h>
-
-#define SHOULD(what)                                              \
-    do {                                                          \
-        if (!(what)) {                                            \
-            fprintf(stderr, "put_rows: %d: %s\n", __LINE__, #what); \
-            exit(1);                                              \
-        }                                                         \
-    } while (0)
 
 enum {
     MOST = 16 /* one row more than a block holds */
@@ -26,26 +17,25 @@ static uint8_t before[MOORINGEYE_BLOCK];
 static size_t position;
 
 /* The number of rows n to n + count - 1; a refusal leaves the block as it was. */
-static uint8_t put(size_t n, size_t count)
-{
+static uint8_t put(size_t n, size_t count) {
     memcpy(before, block, sizeof block);
     position = 7;
-    uint8_t number = mooringeye_archive_put_rows(block, sizeof block, n, times, count, rows, count * sizeof *rows, &position);
+    uint8_t number =
+        mooringeye_archive_put_rows(block, sizeof block, n, times, count, rows, count * sizeof *rows, &position);
     SHOULD(number == MOORINGEYE_DONE || memcmp(block, before, sizeof block) == 0);
     return number;
 }
 
 /* A block of the rows from 15 on, up to row n. */
-static void fill(size_t n)
-{
+static void fill(size_t n) {
     memset(block, 0, sizeof block);
     for (size_t i = 15; i < n; i++) {
-        SHOULD(mooringeye_archive_put_row(block, sizeof block, i, press, sizeof press, 1000 + i, i % 2 == 0, &position) == MOORINGEYE_DONE);
+        SHOULD(mooringeye_archive_put_row(block, sizeof block, i, press, sizeof press, 1000 + i, i % 2 == 0,
+                                          &position) == MOORINGEYE_DONE);
     }
 }
 
-int main(void)
-{
+int main(void) {
     static uint8_t same[MOORINGEYE_BLOCK];
     for (size_t i = 0; i < MOST; i++) {
         times[i] = UINT64_MAX - i;
@@ -59,7 +49,8 @@ int main(void)
             fill(n);
             memcpy(same, block, sizeof block);
             for (size_t i = 0; i < count; i++) {
-                uint8_t number = mooringeye_archive_put_row(same, sizeof same, n + i, press, sizeof press, times[i], rows[i].loose != 0, &position);
+                uint8_t number = mooringeye_archive_put_row(same, sizeof same, n + i, press, sizeof press, times[i],
+                                                            rows[i].loose != 0, &position);
                 SHOULD(number == MOORINGEYE_DONE);
             }
             SHOULD(put(n, count) == MOORINGEYE_DONE && position == 0);

@@ -1,0 +1,16 @@
+/* What a test asks for: where it is not so, the line is told and the program ends. */
+#ifndef SHOULD_H
+#define SHOULD_H
+
+#include <stdio.h>
+#include <stdlib.h>
+
+#define SHOULD(what)                                                   \
+    do {                                                               \
+        if (!(what)) {                                                 \
+            fprintf(stderr, "%s:%d: %s\n", __FILE__, __LINE__, #what); \
+            exit(1);                                                   \
+        }                                                              \
+    } while (0)
+
+#endif
