@@ -5,8 +5,10 @@
 //! [`Report`].
 //! What is refused comes back as a [`Refusal`], which shows the papers' number.
 //!
+//! The library is found by `MOORINGEYE_LIB_DIR`, by pkg-config, or in the repository; README.md of the crate says how.
+//!
 //! `unsafe` stands in one module, [`raw`], which has every call of the library on plain slices.
-#![deny(unsafe_code)]
+#![deny(missing_docs, unsafe_code)]
 
 mod archive;
 mod collector;
@@ -29,7 +31,30 @@ pub use refusal::{Refusal, Refused};
 pub use report::{Line, Report};
 pub use telegram::{check, crc8, Fields, Telegram};
 
-/// The version of the interface that the library has.
-pub fn version() -> u32 {
-    raw::version()
+/// The version of the library.
+///
+/// ```
+/// let version = mooringeye::version();
+/// assert_eq!(version.to_string(), env!("CARGO_PKG_VERSION"));
+/// ```
+#[derive(Clone, Copy, Debug, PartialEq, Eq, PartialOrd, Ord, Hash)]
+pub struct Version {
+    /// Rises when something that was there changes or goes.
+    pub major: u32,
+    /// Rises when something is added.
+    pub minor: u32,
+    /// Rises with everything else.
+    pub patch: u32,
+}
+
+impl std::fmt::Display for Version {
+    fn fmt(&self, f: &mut std::fmt::Formatter<'_>) -> std::fmt::Result {
+        write!(f, "{}.{}.{}", self.major, self.minor, self.patch)
+    }
+}
+
+/// The version of the library that is linked.
+pub fn version() -> Version {
+    let packed = raw::version();
+    Version { major: packed / 65_536, minor: packed / 256 % 256, patch: packed % 256 }
 }

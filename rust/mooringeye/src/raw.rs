@@ -179,7 +179,7 @@ mod c {
     }
 }
 
-/// The version of the interface.
+/// The version of the library: major x 65,536 + minor x 256 + patch.
 pub fn version() -> u32 {
     // SAFETY: it takes nothing.
     unsafe { c::mooringeye_version() }
@@ -251,7 +251,7 @@ pub fn erp2_build(fields: &[u8], originator: u64, destination: u32, out: &mut [u
 
 // ---- slot plans
 
-/// A plan under the standard rule.
+/// A plan under the standard rule: the number and its slots, a byte each from the highest.
 pub fn plan(level: u8, duration: u32, draw: u64) -> u32 {
     // SAFETY: numbers alone.
     unsafe { c::mooringeye_plan(level, duration, draw) }
@@ -269,7 +269,7 @@ pub fn is_lawful(rule: u8, level: u8, duration: u32, first: u8, second: u8, thir
     unsafe { c::mooringeye_is_lawful(rule, level, duration, first, second, third) }
 }
 
-/// The check of a site, nine bytes a repeater.
+/// The check of a site, nine bytes a repeater: number x 65,536 + repeater x 256 + other.
 pub fn site(repeaters: &[u8]) -> u32 {
     // SAFETY: one slice, read only.
     unsafe { c::mooringeye_site(repeaters.as_ptr(), repeaters.len()) }

@@ -1,5 +1,5 @@
-//! The header, the declarations of this crate, the sources of the exports and the symbols of the library say the same: names, and of each parameter
-//! which number it is, or a pointer to which numbers, read or changed.
+//! The header, which include/mooringeye.abi lists, the declarations of this crate, the sources of the exports and the symbols of
+//! the library say the same: names, and of each parameter which number it is, or a pointer to which numbers, read or changed.
 use std::collections::BTreeMap;
 use std::path::{Path, PathBuf};
 use std::process::Command;
@@ -61,37 +61,25 @@ fn header_kind(declared: &str) -> String {
         name if name.starts_with("mooringeye_") => "u8", // its structs that a call takes are bytes
         other => panic!("the header has a type that this test does not know: {other}"),
     };
-    match (declared.contains('*'), words.contains(&"const")) {
+    match (declared.contains(['*', '[']), words.contains(&"const")) {
         (false, _) => number.into(),
         (true, false) => format!("*mut {number}"),
         (true, true) => format!("*const {number}"),
     }
 }
 
-/// The prototypes of the header: what ends with a semicolon; functions with a body are none.
+/// The functions of the header, as the list of the binary interface has them: `tests/abi` compares the two.
 fn header() -> Functions {
-    let text = bare(&text("include/mooringeye.h"));
-    let mut found = Functions::new();
-    let mut from = 0;
-    while let Some(at) = text[from..].find("mooringeye_").map(|i| from + i) {
-        let end = at + text[at..].find(|c: char| !c.is_alphanumeric() && c != '_').unwrap();
-        from = end;
-        if !text[end..].starts_with('(') {
-            continue;
-        }
-        let (inside, after) = parenthesis(&text, end);
-        if !after.trim_start().starts_with(';') || inside.contains("->") || inside.contains('&') {
-            continue;
-        }
-        let start = text[..at].rfind([';', '}', '{', '\n']).map_or(0, |i| i + 1);
-        if text[start..at].contains('=') || text[start..at].contains("return") {
-            continue;
-        }
-        let mut kinds: Vec<String> = inside.split(',').map(header_kind).filter(|k| k != "nothing").collect();
-        kinds.push(header_kind(&text[start..at]));
-        assert!(found.insert(text[at..end].into(), kinds).is_none(), "{} is declared twice", &text[at..end]);
-    }
-    found
+    let text = text("include/mooringeye.abi");
+    let lines = text.lines().filter_map(|l| l.split_once(" function "));
+    lines
+        .map(|(_, function)| {
+            let (name, types) = function.split_once(' ').expect("a name and its types");
+            let (answer, inside) = types.split_once(" (").expect("an answer and parameters");
+            let parameters = inside.trim_end_matches(')').split(", ").map(header_kind).filter(|k| k != "nothing");
+            (name.to_string(), parameters.chain([header_kind(answer)]).collect())
+        })
+        .collect()
 }
 
 /// The functions after a word such as `pub fn`, with what each type is.
@@ -204,6 +192,7 @@ mod built {
     fn the_shared_object_exports_these_symbols_and_no_others() {
         let lines = defined(&["-D"], "libmooringeye.so");
         assert_eq!(symbols(&lines), names());
-        assert_eq!(lines.len(), names().len());
+        let others: Vec<&String> = lines.iter().filter(|l| !l.contains(" T ") && !l.contains(" A MOORINGEYE_")).collect();
+        assert!(others.is_empty(), "{others:?}");
     }
 }

@@ -284,8 +284,9 @@ fn the_longest() {
 }
 
 #[test]
-fn the_version_is_that_of_the_header() {
+fn the_version_is_that_of_the_header_and_of_the_crate() {
     let header = include_str!("../../../include/mooringeye.h");
-    let line = header.lines().find_map(|l| l.strip_prefix("#define MOORINGEYE_VERSION ")).unwrap();
-    assert_eq!(line.parse(), Ok(raw::version()));
+    let line = header.lines().find_map(|l| l.strip_prefix("#define MOORINGEYE_VERSION_TEXT ")).unwrap();
+    assert_eq!(line, format!("\"{}\"", mooringeye::version()));
+    assert_eq!(mooringeye::version().to_string(), env!("CARGO_PKG_VERSION"));
 }
