@@ -1,0 +1,110 @@
+"""The collector: receptions go in, and each is answered KEPT, COPY or LOOSE."""
+import ctypes
+import threading
+from typing import NamedTuple, Optional, Sequence
+
+from ._library import calls
+from .refusals import Data, done, lend
+
+KINDS = ("KEPT", "COPY", "LOOSE")
+
+
+class Totals(NamedTuple):
+    """How many receptions there were, and what they were."""
+
+    received: int
+    kept: int
+    copies: int
+    loose: int
+    damaged: int
+    late: int
+
+
+class Reply(NamedTuple):
+    """The reply to a reception of a burst: its kind, or the number of its refusal, and what a repeater sends for it."""
+
+    kind: Optional[str]
+    number: int
+    sent: bytes
+
+
+class Collector:
+    """A collector: started fresh, or restored from the 2,560 bytes of a checkpoint.
+
+    >>> collector = Collector()
+    >>> press = bytes.fromhex("D5090102030400E8")
+    >>> [collector.take(press, time) for time in (1000, 1012)]
+    ['KEPT', 'COPY']
+    >>> collector.copies(0), collector.open, collector.latest
+    (1, 1, 1012)
+    """
+
+    IMAGE = 2560
+    MAX_BURST = 256
+
+    def __init__(self, image: Optional[Data] = None) -> None:
+        numbers = ctypes.c_uint64 * 8
+        sizes = (ctypes.c_uint64 * 64, ctypes.c_uint8 * 64, ctypes.c_uint8 * 1344, ctypes.c_uint16 * 64, numbers)
+        self._state = [array() for array in sizes]
+        self._lock = threading.Lock()
+        calls.collector_fresh(*self._state)
+        if image is not None:
+            done(calls.collector_restore(*self._state, *lend(image)))
+
+    def take(self, data: Data, time: int) -> str:
+        """Takes a reception at a time in milliseconds: KEPT, COPY or LOOSE. Refused: 8, the check's, 7."""
+        lent, length = lend(data)
+        with self._lock:
+            answer = calls.collector_take(*self._state, lent, length, time)
+        done(answer % 256)
+        return KINDS[answer // 256]
+
+    def burst(self, setting: int, receptions: Sequence[tuple[Data, int]]) -> list[Reply]:
+        """Takes up to 256 receptions, each its bytes and a time. Refused, and nothing taken: 10.
+
+        >>> press = bytes.fromhex("D5090102030400E8")
+        >>> [(r.kind, r.number, r.sent.hex()) for r in Collector().burst(1, [(press, 1200), (press, 1000)])]
+        [('KEPT', 0, 'd5090102030401e9'), (None, 7, '')]
+        """
+        n = len(receptions)
+        if any(not 0 <= time < 2**64 for _, time in receptions):
+            raise ValueError("a time is a number from 0 to 2^64 - 1")
+        moments = (ctypes.c_uint64 * n)(*(time for _, time in receptions))
+        records = b"".join(bytes([min(len(d), 255)]) + bytes(d)[:21].ljust(21, b"\0") for d, _ in receptions)
+        replies = (ctypes.c_uint8 * (24 * n))()
+        with self._lock:
+            number = calls.collector_burst(*self._state, setting, moments, n, records, len(records), replies, 24 * n)
+        done(number)
+        each = (bytes(replies[at : at + 24]) for at in range(0, 24 * n, 24))
+        return [Reply(None if r[1] else KINDS[r[0]], r[1], r[3 : 3 + r[2]]) for r in each]
+
+    @property
+    def open(self) -> int:
+        """How many telegrams are open."""
+        return self._state[4][0]
+
+    @property
+    def latest(self) -> int:
+        """The latest time of a reception that was neither damaged nor late."""
+        return self._state[4][1]
+
+    def totals(self) -> Totals:
+        """The totals."""
+        totals = (ctypes.c_uint64 * 6)()
+        with self._lock:
+            done(calls.collector_totals(*self._state, totals))
+        return Totals(*totals)
+
+    def copies(self, entry: int) -> int:
+        """How often an open telegram, from 0 in opening order, was heard again. Refused: 10 behind the last."""
+        heard = ctypes.c_uint64()
+        with self._lock:
+            done(calls.collector_copies(*self._state, entry, ctypes.byref(heard)))
+        return heard.value
+
+    def checkpoint(self) -> bytes:
+        """The state as bytes, to be stored and restored."""
+        image = (ctypes.c_uint8 * self.IMAGE)()
+        with self._lock:
+            done(calls.collector_checkpoint(*self._state, image, self.IMAGE))
+        return bytes(image)
