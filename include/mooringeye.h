@@ -284,7 +284,9 @@ uint8_t mooringeye_collector_burst(uint64_t times[MOORINGEYE_CAPACITY], uint8_t 
 
 enum {
     MOORINGEYE_LONGEST_ROW = 92, /* bytes of the longest text of a line */
-    MOORINGEYE_LINE_LIMIT = 150  /* a line this long is BAD, so that no more of it need be kept */
+    MOORINGEYE_LINE_LIMIT = 150, /* a line this long is BAD, so that no more of it need be kept */
+    MOORINGEYE_LINES_DONE = 4,
+    MOORINGEYE_LINES_SKIPPED = 2
 };
 
 /* A row of an archive but its time: 1 for LOOSE, and the bytes as received, zero filled, with their length. */
@@ -293,23 +295,28 @@ typedef struct mooringeye_row {
     mooringeye_frame frame;
 } mooringeye_row;
 
-/* Takes whole lines from the start of `input`, which starts at a line behind the first: each the time, a space and the bytes in hexadecimal, and a newline.
- * Into the front of `out` goes what `collect` prints for them at the setting. Into the fronts of `moments` and `rows` go the rows of what is KEPT or LOOSE, as
- * mooringeye_archive_put_rows takes them. `done` gets four numbers: the bytes of `input` that were used, the bytes of text, the rows, and the lines. What is
- * behind the text and the rows is untouched.
- * It stops after `most` lines, where no place for a row is left, where less than 92 bytes of `out` are left, or where no further line has ended: then hand
- * over the rest, 150 bytes of it at most, in front of what comes next.
- * Refused: 11, 255 where `rows_size` is not 23 bytes for each moment, 10 a setting over 2; then all that was lent is as it was. */
-uint8_t mooringeye_collector_lines(uint64_t *times, uint8_t *lengths, uint8_t *bytes, uint16_t *copies, uint64_t *numbers, uint8_t setting,
-                                   const uint8_t *input, size_t input_length, size_t most, uint8_t *out, size_t out_length, uint64_t *moments,
-                                   size_t moments_length, mooringeye_row *rows, size_t rows_size, uint64_t *done);
+/* Takes whole lines from the start of `input`, which starts at a line behind the first: each the time, a space and the
+ * bytes in hexadecimal, and a newline. Into the front of `out` goes what `collect` prints for them at the setting. Into
+ * the fronts of `moments` and `rows` go the rows of what is KEPT or LOOSE, as mooringeye_archive_put_rows takes them.
+ * `done` gets four numbers: the bytes of `input` that were used, the bytes of text, the rows, and the lines. It stops
+ * after `most` lines, where no place for a row is left, where less than 92 bytes of `out` are left, or where no further
+ * line has ended: then hand over the rest, 150 bytes of it at most, in front of what comes next. Refused: 11, 255 where
+ * `rows_size` is not 23 bytes for each moment, 10 a setting over 2. */
+uint8_t mooringeye_collector_lines(uint64_t times[MOORINGEYE_CAPACITY], uint8_t lengths[MOORINGEYE_CAPACITY],
+                                   uint8_t bytes[MOORINGEYE_COLLECTOR_BYTES], uint16_t copies[MOORINGEYE_CAPACITY],
+                                   uint64_t numbers[MOORINGEYE_COLLECTOR_NUMBERS], uint8_t setting,
+                                   const uint8_t *input, size_t input_length, size_t most, uint8_t *out,
+                                   size_t out_size, uint64_t *moments, size_t moments_length, mooringeye_row *rows,
+                                   size_t rows_size, uint64_t done[MOORINGEYE_LINES_DONE]);
 
-/* The setting that the first line of a text says: 0, 1 or 2 for `level 0`, `level 1` or `level 2`; 3 for any other line; 4 where no newline ends it. `used`
- * gets the bytes of the line with its newline, 0 where there is none. */
+/* The setting that the first line of a text says: 0, 1 or 2 for `level 0`, `level 1` or `level 2`; 3 for any other
+ * line; 4 where no newline ends it. `used` gets the bytes of the line with its newline, 0 where there is none. */
 uint8_t mooringeye_first_line(const uint8_t *input, size_t input_length, uint64_t *used);
 
-/* Passes over whole lines at the start of `input`, at most `most`. `done` gets two numbers: their bytes, and how many they are. */
-void mooringeye_skip_lines(const uint8_t *input, size_t input_length, size_t most, uint64_t *done);
+/* Passes over whole lines at the start of `input`, at most `most`. `done` gets two numbers: their bytes, and how many
+ * they are. */
+void mooringeye_skip_lines(const uint8_t *input, size_t input_length, size_t most,
+                           uint64_t done[MOORINGEYE_LINES_SKIPPED]);
 
 static inline void mooringeye_fresh(mooringeye_collector *c) {
     mooringeye_collector_fresh(c->times, c->lengths, c->bytes, c->copies, c->numbers);
@@ -353,10 +360,13 @@ static inline uint8_t mooringeye_burst(mooringeye_collector *c, uint8_t setting,
 }
 
 /* `places` is how many moments and rows there are. */
-static inline uint8_t mooringeye_lines(mooringeye_collector *c, uint8_t setting, const uint8_t *input, size_t input_length, size_t most, uint8_t *out,
-                                       size_t out_length, uint64_t *moments, mooringeye_row *rows, size_t places, uint64_t *done) {
-    return mooringeye_collector_lines(c->times, c->lengths, c->bytes, c->copies, c->numbers, setting, input, input_length, most, out, out_length,
-                                      moments, places, rows, places * sizeof *rows, done);
+static inline uint8_t mooringeye_lines(mooringeye_collector *c, uint8_t setting, const uint8_t *input,
+                                       size_t input_length, size_t most, uint8_t *out, size_t out_size,
+                                       uint64_t *moments, mooringeye_row *rows, size_t places,
+                                       uint64_t done[MOORINGEYE_LINES_DONE]) {
+    return mooringeye_collector_lines(c->times, c->lengths, c->bytes, c->copies, c->numbers, setting, input,
+                                      input_length, most, out, out_size, moments, places, rows, places * sizeof *rows,
+                                      done);
 }
 
 /* ---- ERP2 telegrams */

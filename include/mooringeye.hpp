@@ -8,10 +8,12 @@
 
 #include "mooringeye.h"
 
+#include <algorithm>
 #include <array>
 #include <exception>
 #include <iterator>
 #include <optional>
+#include <string>
 #include <type_traits>
 #include <utility>
 #include <vector>
@@ -176,6 +178,29 @@ struct totals {
     uint64_t received, kept, copies, loose, damaged, late;
 };
 
+// What was taken of a text: the bytes used, the text of `collect`, the KEPT and LOOSE rows, and how many lines.
+struct taken_lines {
+    size_t used;
+    std::string text;
+    std::vector<uint64_t> moments;
+    std::vector<mooringeye_row> rows;
+    size_t lines;
+};
+
+// The setting of a first line, 3 for another line and 4 for none that has ended; and its bytes.
+inline std::pair<uint8_t, size_t> first_line(bytes input) {
+    uint64_t used = 0;
+    uint8_t setting = mooringeye_first_line(input.data(), input.size(), &used);
+    return {setting, static_cast<size_t>(used)};
+}
+
+// The bytes of whole lines at the start of a text, at most `most`, and how many they are.
+inline std::pair<size_t, size_t> skip_lines(bytes input, size_t most) {
+    uint64_t told[MOORINGEYE_LINES_SKIPPED];
+    mooringeye_skip_lines(input.data(), input.size(), most, told);
+    return {static_cast<size_t>(told[0]), static_cast<size_t>(told[1])};
+}
+
 class collector {
 public:
     using image = std::array<uint8_t, MOORINGEYE_IMAGE>;
@@ -203,6 +228,23 @@ public:
         done(mooringeye_burst(&state_, setting, moments.data(), records.data(), moments.size(), replies.data(),
                               replies.size()));
         return replies;
+    }
+
+    // Whole lines from the start of a text, at most `most`: what `collect` prints for them, and the rows.
+    taken_lines lines(uint8_t setting, bytes input, size_t most) {
+        size_t places = std::min(most, input.size() / 3 + 1); // a line has three bytes at least
+        taken_lines taken{0, std::string(places * MOORINGEYE_LONGEST_ROW, '\0'), std::vector<uint64_t>(places),
+                          std::vector<mooringeye_row>(places), 0};
+        uint64_t told[MOORINGEYE_LINES_DONE];
+        done(mooringeye_lines(&state_, setting, input.data(), input.size(), most,
+                              reinterpret_cast<uint8_t *>(taken.text.data()), taken.text.size(), taken.moments.data(),
+                              taken.rows.data(), places, told));
+        taken.used = static_cast<size_t>(told[0]);
+        taken.text.resize(static_cast<size_t>(told[1]));
+        taken.moments.resize(static_cast<size_t>(told[2]));
+        taken.rows.resize(static_cast<size_t>(told[2]));
+        taken.lines = static_cast<size_t>(told[3]);
+        return taken;
     }
 
     mooringeye::totals totals() const {

@@ -30,7 +30,7 @@ from .archives import (
     salvage,
     verify,
 )
-from .collector import Collector, Reply, Totals
+from .collector import Collector, Lines, Reply, Totals, first_line, skip_lines
 from .refusals import REFUSALS, Refused
 from .telegrams import (
     Erp2,
@@ -62,6 +62,7 @@ __all__ = [
     "Erp2",
     "Fields",
     "Line",
+    "Lines",
     "Packed",
     "Packer",
     "REFUSALS",
@@ -81,6 +82,7 @@ __all__ = [
     "encapsulate",
     "erp2_build",
     "erp2_read",
+    "first_line",
     "is_lawful",
     "plan",
     "plan_by",
@@ -89,6 +91,7 @@ __all__ = [
     "salvage",
     "same",
     "site",
+    "skip_lines",
     "verify",
     "version",
 ]

@@ -4,6 +4,7 @@ import threading
 from typing import NamedTuple, Optional, Sequence
 
 from ._library import calls
+from .archives import Row
 from .refusals import Data, done, lend
 
 KINDS = ("KEPT", "COPY", "LOOSE")
@@ -26,6 +27,37 @@ class Reply(NamedTuple):
     kind: Optional[str]
     number: int
     sent: bytes
+
+
+class Lines(NamedTuple):
+    """What was taken of a text: the bytes used, what `collect` prints, the KEPT and LOOSE rows, and how many lines."""
+
+    used: int
+    text: bytes
+    rows: list[Row]
+    lines: int
+
+
+def first_line(text: Data) -> tuple[Optional[int], int]:
+    """The setting that a first line says, None for another line, and its bytes with the newline, 0 where none ends it.
+
+    >>> first_line(b"level 2\\n1000 D5\\n"), first_line(b"level 3\\n"), first_line(b"level 2")
+    ((2, 8), (None, 8), (None, 0))
+    """
+    used = ctypes.c_uint64()
+    setting = calls.first_line(*lend(text), ctypes.byref(used))
+    return setting if setting < 3 else None, used.value
+
+
+def skip_lines(text: Data, most: int) -> tuple[int, int]:
+    """The bytes of whole lines at the start of a text, at most `most`, and how many they are.
+
+    >>> skip_lines(b"1000 D5\\nx\\nrest", 5)
+    (10, 2)
+    """
+    told = (ctypes.c_uint64 * 2)()
+    calls.skip_lines(*lend(text), most, told)
+    return told[0], told[1]
 
 
 class Collector:
@@ -77,6 +109,25 @@ class Collector:
         done(number)
         each = (bytes(replies[at : at + 24]) for at in range(0, 24 * n, 24))
         return [Reply(None if r[1] else KINDS[r[0]], r[1], r[3 : 3 + r[2]]) for r in each]
+
+    def lines(self, setting: int, text: Data, most: int = 2**63) -> Lines:
+        """Takes whole lines from the start of a text, at most `most`, each a time, a space and bytes in hexadecimal.
+
+        >>> taken = Collector().lines(1, b"1000 D5090102030400E8\\nx\\n1012 D5")
+        >>> taken.text, taken.used, taken.lines, [row.time for row in taken.rows]
+        (b'1000 KEPT SEND D5090102030401E9\\nBAD\\n', 24, 2, [1000])
+        """
+        lent, size = lend(text)
+        places = max(1, min(most, bytes(text).count(b"\n")))
+        out, moments = (ctypes.c_uint8 * (92 * places))(), (ctypes.c_uint64 * places)()
+        rows, told = (ctypes.c_uint8 * (23 * places))(), (ctypes.c_uint64 * 4)()
+        to = out, len(out), moments, places, rows, len(rows), told
+        with self._lock:
+            done(calls.collector_lines(*self._state, setting, lent, size, most, *to))
+        used, written, count, lines = told
+        each = [bytes(rows[23 * i : 23 * i + 23]) for i in range(count)]
+        kept = [Row(moments[i], r[0] != 0, r[2 : 2 + r[1]]) for i, r in enumerate(each)]
+        return Lines(used, bytes(out[:written]), kept, lines)
 
     @property
     def open(self) -> int:

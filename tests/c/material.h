@@ -187,6 +187,7 @@ static size_t fixed_size(const char *export) {
 static size_t out_size(const struct export *e, size_t i) {
     if (starts_with(e->name, "mooringeye_erp2")) return about(once_in(2) ? 256 : 30);
     if (is(e->name, "mooringeye_collector_checkpoint")) return about(MOORINGEYE_IMAGE);
+    if (is(e->name, "mooringeye_collector_lines")) return choose(600);
     if (is(e->name, "mooringeye_pack_end")) return about(MOORINGEYE_BLOCK);
     if (is(e->name, "mooringeye_archive_salvage")) return about(sizes[0]);
     if (is(e->name, "mooringeye_pack_feed")) return about(sizes[2]);
@@ -208,6 +209,8 @@ static size_t length_of(const struct export *e, size_t i) {
     if (is(name, "row")) return about(sizeof(mooringeye_row));
     if (is(name, "moments")) return once_in(10) ? 250 + choose(10) : choose(5);
     if (is(name, "times")) return choose(18);
+    if (is(name, "input")) return choose(400);
+    if (is(name, "rows")) return about(sizes[i - 2] / 8 * sizeof(mooringeye_row));
     if (is(name, "records")) return about(sizes[i - 2] / 8 * (is(e->parameters[i - 2].name, "moments") ? 22 : 23));
     if (is(name, "replies")) return about(sizes[i - 4] / 8 * sizeof(mooringeye_reply));
     if (is(name, "positions")) return choose(BLOCKS + 1);
@@ -310,6 +313,21 @@ static void fill_numbers(const char *name, uint8_t *at, size_t size) {
     }
 }
 
+/* Lines of a time and a telegram, and others; as many as there is room for. */
+static void fill_text(uint8_t *at, size_t size) {
+    size_t n = 0;
+    uint64_t time = time_now();
+    while (n < size) {
+        char line[100];
+        int length = snprintf(line, sizeof line, once_in(10) ? "level %" PRIu64 : "%" PRIu64 " ", time);
+        size_t bytes = make_telegram(telegram);
+        for (size_t i = 0; i < bytes; i++) length += snprintf(line + length, 3, "%02X", telegram[i]);
+        line[length++] = once_in(20) ? 'x' : '\n';
+        time += choose(20);
+        for (int i = 0; i < length && n < size; i++) at[n++] = (uint8_t)line[i];
+    }
+}
+
 static void fill_known(const struct export *e, const char *name, uint8_t *at, size_t size) {
     if (is(name, "buffer") || is(name, "block") || is(name, "piece")) {
         fill_blocks(e, name, at, size);
@@ -325,6 +343,8 @@ static void fill_known(const struct export *e, const char *name, uint8_t *at, si
         fill_numbers(name, at, size);
     } else if (is(name, "repeaters")) {
         fill_repeaters(at, size);
+    } else if (is(name, "input")) {
+        fill_text(at, size);
     } else if (is(name, "identities")) {
         for (size_t i = 0; i < size; i += 4) memset(at + i + 1, 0, 3), at[i] = (uint8_t)choose(40);
     } else if (is(e->name, "mooringeye_erp2_read") && is(name, "bytes")) {

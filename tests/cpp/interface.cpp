@@ -38,6 +38,13 @@ static void collectors() {
     SHOULD(replies.size() == 2 && replies[0].sent.length == 8 && replies[1].kind == MOORINGEYE_KIND_COPY);
     SHOULD(number_of([&] { c.burst(1, std::vector<uint64_t>{1}, {}); }) == MOORINGEYE_WRONG_SIZE);
     SHOULD(c.burst(1, {}, {}).empty());
+    std::string text = "level 1\n3000 D5090102030400E8\nx\n3100 D5";
+    me::bytes view(reinterpret_cast<const uint8_t *>(text.data()), text.size());
+    auto [setting, used] = me::first_line(view);
+    me::taken_lines taken = c.lines(setting, {view.data() + used, view.size() - used}, 100);
+    SHOULD(setting == 1 && taken.text == "3000 KEPT SEND D5090102030401E9\nBAD\n" && taken.lines == 2);
+    SHOULD(taken.moments == std::vector<uint64_t>{3000} && taken.rows[0].frame.length == 8 && taken.used == 24);
+    SHOULD(me::skip_lines(view, 2).first == 30 && me::skip_lines(view, 2).second == 2);
 }
 
 static void telegrams() {

@@ -132,6 +132,17 @@ class Calls(unittest.TestCase):
         with self.assertRaises(mooringeye.Refused):
             c.copies(1)
 
+    def test_lines(self):
+        text = (ROOT / "samples/plant.txt").read_bytes()
+        setting, used = mooringeye.first_line(text)
+        c = mooringeye.Collector()
+        taken = c.lines(setting, text[used:])
+        expected = (ROOT / "samples/plant.expected").read_bytes().splitlines(keepends=True)
+        self.assertEqual(taken.text, b"".join(expected[:-1]))
+        self.assertEqual(mooringeye.skip_lines(text[used:], 2**63), (taken.used, taken.lines))
+        self.assertEqual(len(taken.rows), c.totals().kept + c.totals().loose)
+        self.assertEqual(c.lines(setting, b"").lines, 0)
+
     def test_archives(self):
         buffer = bytearray(3 * 512)
         archive = mooringeye.Archive(buffer)
