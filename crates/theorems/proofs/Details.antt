@@ -28,6 +28,8 @@ use Rattle.line_output.proofs.ReadBack as line_output
 use Rattle.streams.proofs.Pieces as streams_pieces
 use Rattle.streams.proofs.Limit as streams_limit
 use Rattle.streams.proofs.Ended as streams_ended
+use Rattle.collecting.proofs.Storing as collecting
+use Rattle.archived.proofs.Archived as archived
 use Rattle.archive_model.proofs.Claims as archive_model_claims
 use Rattle.archive_model.proofs.Identity as archive_model_identity
 use Rattle.repack_model.proofs.Rows as repack_model_rows
@@ -43,7 +45,6 @@ use Rattle.report_model.proofs.Complete as report_model_complete
 use Rattle.report_model.proofs.Adding as report_model_adding
 use Rattle.c_codec.proofs.Claims as c_codec
 use Rattle.c_erp2.proofs.Claims as c_erp2
-use Rattle.collecting.proofs.Storing as collecting
 use Rattle.rows_model.proofs.Rows as rows_alone
 use Rattle.rows_model.proofs.States as rows_states
 use Rattle.rows_model.proofs.Again as rows_again
@@ -134,7 +135,10 @@ lines = record {
   cuts-change-nothing = streams_pieces.in-pieces;
   collect-cuts-change-nothing = streams_limit.collected-in-pieces;
   wrong-start-is-silent = streams_ended.stays-ended;
-  rows-in-pieces = collecting.rows-in-pieces;
+  row-cuts-change-nothing = collecting.rows-in-pieces;
+  later-rows-follow-model = archived.lines-archived;
+  records-are-sized = archived.records-sized;
+  rows-are-storable = archived.archived-storable;
 }
 
 rows : Rows

@@ -12,6 +12,7 @@ use Rattle.model.proofs.Counting as model_counting
 use Rattle.model.proofs.Image as model_image
 use Rattle.image.proofs.Isolation as image_isolation
 use Rattle.collecting.proofs.Printed as collecting
+use Rattle.archived.proofs.Archived as archived
 use Rattle.archive_model.proofs.Claims as archive_model
 use Rattle.repack_model.proofs.Salvage as repack_model_salvage
 use Rattle.repack_model.proofs.Removal as repack_model_removal
@@ -53,6 +54,7 @@ collector = record {
   restore-is-exact = model_image.exact;
   sensors-are-independent = image_isolation.collector-isolated;
   output-follows-model = collecting.collect-prints;
+  rows-follow-model = archived.log-archived;
 }
 
 archives : Archives

@@ -26,6 +26,8 @@ use Rattle.line_output.specs.Claims as line_output
 use Rattle.streams.specs.Lines.{Program}
 use Rattle.streams.specs.Collect.{Collector}
 use Rattle.streams.specs.Claims as streams
+use Rattle.collecting.specs.Claims as collecting
+use Rattle.archived.specs.Claims as archived
 use Rattle.archive_model.specs.Claims as archive_model
 use Rattle.archive_model.specs.Identity as archive_identity
 use Rattle.repack_model.specs.Claims as repack_model
@@ -36,7 +38,6 @@ use Rattle.c_pieces.specs.Claims as c_pieces
 use Rattle.report_model.specs.Claims as report_model
 use Rattle.c_codec.specs.Claims as c_codec
 use Rattle.c_erp2.specs.Claims as c_erp2
-use Rattle.collecting.specs.Claims as collecting
 use Rattle.rows_model.specs.Rows as rows_alone
 use Rattle.rows_model.specs.States as rows_states
 use Rattle.rows_model.specs.Again as rows_again
@@ -168,8 +169,14 @@ pub record Lines : Type 1 where
   pub collect-cuts-change-nothing : {C : Type 0} (m : Collector C) → streams.CollectedInPieces m
   -- After a wrong first line `collect` writes nothing more.
   pub wrong-start-is-silent : {C : Type 0} (m : Collector C) → streams.StaysEnded m
-  -- However the input is cut into pieces, the rows for the archive and the number of lines are those of the whole.
-  pub rows-in-pieces : collecting.RowsInPieces
+  -- The rows for an archive and the count of lines are the same however the input is cut.
+  pub row-cuts-change-nothing : collecting.RowsInPieces
+  -- Lines that come after other lines give the model's rows too.
+  pub later-rows-follow-model : archived.LinesArchived
+  -- For each time of a row there is a record of 23 bytes.
+  pub records-are-sized : archived.RecordsSized
+  -- An archive can hold each of these rows, and the check refuses none of them.
+  pub rows-are-storable : archived.ArchivedStorable
 
 -- ---- the rows of a history, and the telegrams that close in it
 

@@ -34,6 +34,7 @@ use Rattle.model.specs.Copies as model_copies
 use Rattle.image.specs.Histories as image_histories
 use Rattle.image.specs.Isolation as image_isolation
 use Rattle.collecting.specs.Claims as collecting
+use Rattle.archived.specs.Claims as archived
 use Rattle.archive_model.specs.Claims as archive_model
 use Rattle.repack_model.specs.Claims as repack_model
 use Rattle.cutting.specs.Claims as cutting
@@ -88,6 +89,8 @@ pub record Collector : Type 0 where
   pub sensors-are-independent : image_isolation.CollectorIsolated
   -- The text that is defined as the output of `collect` has the model's answers and totals, however the input is cut into pieces.
   pub output-follows-model : collecting.CollectPrints
+  -- The rows that a log gives for an archive are the receptions that the model keeps, and the loose ones, in order.
+  pub rows-follow-model : archived.LogArchived
 
 -- ---- archives, and reports of the totals in archives
 
