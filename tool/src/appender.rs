@@ -1,6 +1,5 @@
 //! Rows put behind those of one archive file. The rows of a block go into it together, so that its CRC is worked out once; and blocks wait until they
 //! are written together, in one aligned write.
-use crate::burst::FRAME;
 use crate::disk::{Disk, Handle};
 use crate::failure::Failure;
 use crate::files::{self, Pieces};
@@ -10,6 +9,8 @@ use std::io;
 use std::path::{Path, PathBuf};
 
 pub const BLOCK: u64 = Archive::BLOCK as u64;
+/// The bytes of a frame: a length and 21 bytes.
+pub const FRAME: usize = RECORD - 1;
 /// The most blocks of an archive.
 pub const MAX_BLOCKS: u64 = 1 << 32;
 /// A file grows to a multiple of so many blocks, by zeros, so that it is an archive at every moment.

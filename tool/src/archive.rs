@@ -2,9 +2,8 @@
 //!
 //! Files are read in pieces, so that any length is handled in the same memory. Nothing is changed in place: what is written is a new file beside the
 //! old one, which takes its place when it is whole and on disk.
-use crate::appender::{Appender, MAX_BLOCKS};
+use crate::appender::{Appender, FRAME, MAX_BLOCKS};
 use crate::args::{parsed, Args};
-use crate::burst::FRAME;
 use crate::failure::{tell, Failure};
 use crate::files::{self, Pieces, Replacement, PIECE};
 use crate::list;

@@ -1,49 +1,56 @@
-//! The lines of a batch through the collector: the text of their rows, and the rows that go to the archive.
-use crate::burst::Burst;
+//! The lines of a batch through the collector, in one call of the library: the text of their rows, and the rows that go to the archive.
 use crate::failure::Failure;
-use crate::rows::{self, Format, Printed};
-use mooringeye::Collector;
+use crate::journal::RECORD;
+use crate::rows::{self, Format};
+use mooringeye::{raw, Collector, Lines};
 
-/// What the lines of a batch gave, so far.
+/// What the lines of a batch gave.
 #[derive(Default)]
 pub struct Batch {
-    burst: Burst,
-    pub printed: Printed,
+    /// The text of their rows, in the format that was asked for.
+    printed: Vec<u8>,
+    printed_end: usize,
     /// KEPT and LOOSE rows, as `put_rows` takes them.
-    pub times: Vec<u64>,
-    pub records: Vec<u8>,
-}
-
-/// How much was taken.
-pub struct Took {
-    pub used: usize,
-    pub lines: u64,
-    /// The first line of these that ends in CR LF, and so is BAD.
-    pub cr_lf: Option<u64>,
+    times: Vec<u64>,
+    records: Vec<u8>,
+    count: usize,
+    /// The rows as text, where another format was asked for.
+    text: Vec<u8>,
 }
 
 impl Batch {
-    /// Takes at most so many lines of a text that ends with a newline.
-    pub fn take(&mut self, collector: &mut Collector, level: u8, format: Format, text: &[u8], most: usize) -> Result<Took, Failure> {
-        let mut took = Took { used: 0, lines: 0, cr_lf: None };
-        while took.used < text.len() && (took.lines as usize) < most {
-            took.used = self.burst.read(text, took.used, most - took.lines as usize);
-            self.burst.take(collector, level)?;
-            rows::put_burst(&mut self.printed, format, text, &self.burst);
-            for row in self.burst.rows() {
-                self.times.push(row.time);
-                self.records.push(row.is_loose().into());
-                self.records.extend_from_slice(row.frame);
-            }
-            took.cr_lf = took.cr_lf.or(self.burst.cr_lf().map(|at| took.lines + at as u64));
-            took.lines += self.burst.lines().len() as u64;
+    /// Takes whole lines from the start of a text, at most so many, in the place of those it had.
+    pub fn take(&mut self, collector: &mut Collector, level: u8, format: Format, text: &[u8], most: usize) -> Result<Lines, Failure> {
+        // No line is shorter than its newline, and one more place than rows keeps the call from stopping early.
+        let places = most.min(text.len()) + 1;
+        self.times.resize(places.max(self.times.len()), 0);
+        self.records.resize(RECORD * self.times.len(), 0);
+        let room = if format == Format::Text { &mut self.printed } else { &mut self.text };
+        room.resize((raw::LONGEST_ROW * places).max(room.len()), 0);
+        let took = collector.lines(level, text, most, room, &mut self.times, &mut self.records);
+        let took = took.map_err(|why| Failure::refused("the collector", why))?;
+        (self.count, self.printed_end) = (took.rows, took.written);
+        if format != Format::Text {
+            self.printed.clear();
+            rows::put_each(&mut self.printed, format, &text[..took.used], &self.text[..took.written]);
+            self.printed_end = self.printed.len();
         }
         Ok(took)
     }
 
+    pub fn printed(&self) -> &[u8] {
+        &self.printed[..self.printed_end]
+    }
+
+    pub fn times(&self) -> &[u64] {
+        &self.times[..self.count]
+    }
+
+    pub fn records(&self) -> &[u8] {
+        &self.records[..RECORD * self.count]
+    }
+
     pub fn clear(&mut self) {
-        self.printed.clear();
-        self.times.clear();
-        self.records.clear();
+        (self.printed_end, self.count) = (0, 0);
     }
 }

@@ -7,13 +7,14 @@ use crate::disk::{Real, Shared};
 use crate::failure::{tell, Failure};
 use crate::journal::{keep_last, LogPlace, State};
 use crate::keeper::{Files, Keeper, MAX_BATCH, ORDER};
-use crate::lines::{self, MAX_LINE};
 use crate::logs::{differ, Log};
 use crate::rows::{self, Format};
 use crate::signals::{self, Signals};
 use crate::store::Place;
 use crate::streams::{Got, Input, Output};
 use crate::{sys, text};
+use mooringeye::raw::LINE_LIMIT;
+use mooringeye::{skip_lines, FirstLine};
 use std::ffi::OsString;
 use std::path::{Path, PathBuf};
 use std::rc::Rc;
@@ -189,17 +190,13 @@ struct Skipping {
 }
 
 impl Skipping {
-    /// Skips lines of a text; how long they are.
-    fn skip(&mut self, text: &[u8], mut read: impl FnMut()) -> usize {
-        let mut used = 0;
-        while self.left > 0 && used < text.len() {
-            used += lines::length(&text[used..]);
-            self.left -= 1;
-            read();
-        }
+    /// Skips lines of a text: how long they are, and how many.
+    fn skip(&mut self, text: &[u8]) -> (usize, u64) {
+        let (used, lines) = skip_lines(text, self.left.min(usize::MAX as u64) as usize);
+        self.left -= lines as u64;
         self.bytes += used as u64;
         keep_last(&mut self.tail, &text[..used]);
-        used
+        (used, lines as u64)
     }
 }
 
@@ -288,7 +285,7 @@ impl Run {
     /// Takes the lines of the input until it ends or a signal asks to stop.
     fn take_all(&mut self, signals: &Signals) -> Result<(), Failure> {
         let chunk = if self.batch == 1 { SYNCED_CHUNK } else { CHUNK };
-        let mut buffer = vec![0; MAX_LINE + 1 + chunk];
+        let mut buffer = vec![0; LINE_LIMIT + chunk];
         if self.is_settled {
             self.take_in(signals)?;
         }
@@ -311,11 +308,10 @@ impl Run {
                     continue;
                 }
             };
-            let end = buffer[carried..filled].iter().rposition(|c| *c == b'\n').map_or(0, |at| carried + at + 1);
-            self.take_lines(&buffer[..end], signals)?;
+            let used = self.take_lines(&buffer[..filled], signals)?;
             // A line that is longer than the longest is BAD, whatever else it has.
-            carried = (filled - end).min(MAX_LINE + 1);
-            buffer.copy_within(end..end + carried, 0);
+            carried = (filled - used).min(LINE_LIMIT);
+            buffer.copy_within(used..used + carried, 0);
         }
         self.tell_unfinished(&buffer[..carried], if self.ended == Ended::Input { "ended" } else { "was left" });
         match self.ended {
@@ -326,7 +322,7 @@ impl Run {
 
     fn tell_unfinished(&self, rest: &[u8], how: &str) {
         if !rest.is_empty() {
-            let shown = String::from_utf8_lossy(&rest[..rest.len().min(MAX_LINE)]);
+            let shown = String::from_utf8_lossy(&rest[..rest.len().min(LINE_LIMIT - 1)]);
             let text = format!("{} {how} in the middle of line {}, which is not counted", self.source.name(), self.read + 1);
             tell(format!("{text}: {}", shown.escape_default()));
         }
@@ -366,30 +362,37 @@ impl Run {
         true
     }
 
-    /// Takes whole lines in batches. A signal that comes meanwhile waits: what was read is taken, since nobody could read it again.
-    fn take_lines(&mut self, mut text: &[u8], signals: &Signals) -> Result<(), Failure> {
-        if self.is_first && !text.is_empty() {
-            text = &text[self.take_first(text)?..];
+    /// Takes the whole lines of a text in batches; how long they are. A signal that comes meanwhile waits: what was read is taken, since nobody could
+    /// read it again.
+    fn take_lines(&mut self, text: &[u8], signals: &Signals) -> Result<usize, Failure> {
+        let mut used = 0;
+        if self.is_first {
+            used = self.take_first(text)?;
+            if self.is_first {
+                return Ok(0);
+            }
             self.take_in(signals)?;
         }
         if self.skipping.left > 0 {
-            let read = &mut self.read;
-            text = &text[self.skipping.skip(text, || *read += 1)..];
+            let (skipped, lines) = self.skipping.skip(&text[used..]);
+            (used, self.read) = (used + skipped, self.read + lines);
         }
-        if !self.is_settled && self.skipping.left == 0 {
+        if self.skipping.left > 0 {
+            return Ok(used);
+        }
+        if !self.is_settled {
             self.settle()?;
         }
-        while !text.is_empty() {
-            let level = self.level.expect("known since the first line");
-            let took = self.keeper.take(level, text, self.batch)?;
-            if let Some(at) = took.cr_lf {
-                self.tell_cr(at);
+        let level = self.level.expect("known since the first line");
+        loop {
+            let took = self.keeper.take(level, &text[used..], self.batch)?;
+            if took.lines == 0 {
+                return Ok(used);
             }
-            self.read += took.lines;
-            text = &text[took.used..];
+            self.tell_cr(&text[used..used + took.used]);
+            (used, self.read) = (used + took.used, self.read + took.lines as u64);
             self.commit(signals)?;
         }
-        Ok(())
     }
 
     fn commit(&mut self, signals: &Signals) -> Result<(), Failure> {
@@ -408,39 +411,42 @@ impl Run {
         }
     }
 
-    /// The first line, where it says a level: how long it is. It has to agree with `--level`, and is needed where that is left out.
+    /// The first line, where it says a level and is not to be skipped: how long it is. It has to agree with `--level`, and is needed where that is
+    /// left out.
     fn take_first(&mut self, text: &[u8]) -> Result<usize, Failure> {
-        let used = lines::length(text);
-        match (lines::setting(&text[..used - 1]), self.level) {
-            (Some(said), Some(level)) if said != level => {
-                return Err(Failure::Usage(format!("the first line says level {said}, and --level {level}")));
+        let first = FirstLine::of(text);
+        self.is_first = first == FirstLine::Unended && text.len() < LINE_LIMIT;
+        match (first, self.level) {
+            (FirstLine::Level { setting, .. }, Some(level)) if setting != level => {
+                Err(Failure::Usage(format!("the first line says level {setting}, and --level {level}")))
             }
-            (Some(said), _) => self.level = Some(said),
-            (None, Some(_)) => {
-                self.is_first = false;
-                return Ok(0);
-            }
-            (None, None) => {
-                if text[..used].ends_with(b"\r\n") {
-                    self.tell_cr(0);
+            (FirstLine::Level { setting, used }, _) => {
+                self.level = Some(setting);
+                if self.skipping.left > 0 {
+                    return Ok(0); // it is skipped with the others
                 }
-                return Err(Failure::Usage(NO_LEVEL.into()));
+                self.read += 1;
+                self.keeper.pass(&text[..used], 1);
+                Ok(used)
             }
+            (FirstLine::Bad { used }, None) => {
+                self.tell_cr(&text[..used]);
+                Err(Failure::Usage(NO_LEVEL.into()))
+            }
+            (FirstLine::Unended, None) if !self.is_first => Err(Failure::Usage(NO_LEVEL.into())),
+            _ => Ok(0),
         }
-        self.is_first = false;
-        if self.skipping.left == 0 {
-            self.read += 1;
-            self.keeper.pass(&text[..used], 1);
-            return Ok(used);
-        }
-        Ok(0) // it is skipped with the others
     }
 
-    /// Says once that a line ends in CR LF, so many behind those that were read.
-    fn tell_cr(&mut self, behind: u64) {
-        if !self.told_cr {
+    /// Says once that a line of a text, behind those that were read, ends in CR LF.
+    fn tell_cr(&mut self, text: &[u8]) {
+        if self.told_cr || !text.contains(&b'\r') {
+            return;
+        }
+        if let Some(at) = text.windows(2).position(|pair| pair == b"\r\n") {
             self.told_cr = true;
-            tell(format!("line {} ends in CR LF: a carriage return is no hexadecimal digit, so such lines are BAD", self.read + behind + 1));
+            let line = self.read + skip_lines(&text[..at], at).1 as u64 + 1;
+            tell(format!("line {line} ends in CR LF: a carriage return is no hexadecimal digit, so such lines are BAD"));
         }
     }
 
@@ -483,7 +489,9 @@ fn open_log(path: &Path, options: &Options, keeper: &mut Keeper) -> Result<(Sour
             0
         }
     };
-    let front = log.front()?;
-    let said = front.split(|c| *c == b'\n').next().and_then(lines::setting).filter(|_| offset > 0);
+    let said = match FirstLine::of(&log.front()?) {
+        FirstLine::Level { setting, .. } if offset > 0 => Some(setting),
+        _ => None,
+    };
     Ok((Source::Log(log), skip, options.level.or(said)))
 }

@@ -2,7 +2,7 @@
 //!
 //! A batch is what one read brought, at most so many lines. Its rows go to the archive first, then to the file of `--out`, then the state is replaced,
 //! then the rows are printed: so a row that was printed is counted, and what stands behind the state's counts is at most one batch.
-use crate::batch::{Batch, Took};
+use crate::batch::Batch;
 use crate::disk::Shared;
 use crate::failure::Failure;
 use crate::journal::{LogPlace, State, Stored, RECORD};
@@ -11,6 +11,7 @@ use crate::rows::{self, Format};
 use crate::state::StateFile;
 use crate::store::{Place, Store};
 use crate::text;
+use mooringeye::Lines;
 use std::path::PathBuf;
 
 /// The most lines of a batch.
@@ -124,12 +125,12 @@ impl Keeper {
         Ok(())
     }
 
-    /// Takes at most so many lines of a text that ends with a newline into the batch. They stand next in the log.
-    pub fn take(&mut self, level: u8, text: &[u8], most: usize) -> Result<Took, Failure> {
-        let (before, first) = (self.state.collector.latest(), self.batch.times.len());
+    /// Takes whole lines from the start of a text, at most so many, as the next batch. They stand next in the log.
+    pub fn take(&mut self, level: u8, text: &[u8], most: usize) -> Result<Lines, Failure> {
+        let before = self.state.collector.latest();
         let took = self.batch.take(&mut self.state.collector, level, self.format, text, most)?;
-        self.pass(&text[..took.used], took.lines);
-        self.warn_of_leaps(before, first);
+        self.pass(&text[..took.used], took.lines as u64);
+        self.warn_of_leaps(before);
         Ok(took)
     }
 
@@ -146,8 +147,8 @@ impl Keeper {
         self.state.log = Some(place);
     }
 
-    fn warn_of_leaps(&self, mut before: u64, first: usize) {
-        for time in &self.batch.times[first..] {
+    fn warn_of_leaps(&self, mut before: u64) {
+        for time in self.batch.times() {
             if before > 0 && *time > before.saturating_add(DAY) {
                 let text = "If its clock is wrong, all later lines will be LATE.";
                 self.disk.tell(&format!("a line has the time {time}, more than a day after the one before it, {before}. {text}"));
@@ -166,16 +167,16 @@ impl Keeper {
         }
         for step in self.order {
             match (step, &mut self.store, &mut self.out) {
-                (Step::Archive, Some(store), _) => store.put(&self.batch.times, &self.batch.records)?,
+                (Step::Archive, Some(store), _) => store.put(self.batch.times(), self.batch.records())?,
                 (Step::Out, _, Some(out)) => {
                     if out.is_empty() {
                         out.write(rows::heading(self.format))?;
                     }
-                    out.write(self.batch.printed.as_bytes())?;
+                    out.write(self.batch.printed())?;
                     out.sync()?;
                 }
                 (Step::State, ..) => self.save()?,
-                (Step::Print, _, None) => print(self.batch.printed.as_bytes())?,
+                (Step::Print, _, None) => print(self.batch.printed())?,
                 _ => {}
             }
         }

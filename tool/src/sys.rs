@@ -1,4 +1,4 @@
-//! The few functions of the C library that std lacks, and three that use SSE2. This is the only module with `unsafe`.
+//! The few functions of the C library that std lacks. This is the only module with `unsafe`.
 //!
 //! - `signal`: std has no signals, and the collector must end in order at SIGTERM, SIGINT and SIGHUP;
 //! - `write`: the one thing that a handler may do to wake the program;
@@ -9,7 +9,6 @@
 //!
 //! Locks, the sync of a folder and aligned writes at an offset are in std.
 #![allow(unsafe_code)]
-use crate::digits;
 use std::ffi::CStr;
 use std::fs::File;
 use std::io;
@@ -169,25 +168,4 @@ pub fn watch(watcher: &File, path: &CStr, events: u32) -> io::Result<()> {
         -1 => Err(io::Error::last_os_error()),
         _ => Ok(()),
     }
-}
-
-/// What sixteen characters say as hexadecimal digits, and which of them are (`digits::bytes_of_digits`).
-#[inline]
-pub fn bytes_of_digits(characters: &[u8; 16]) -> ([u8; 8], u16) {
-    // SAFETY: every x86-64 processor has SSE2.
-    unsafe { digits::bytes_of_digits(characters) }
-}
-
-/// The sixteen hexadecimal digits of eight bytes (`digits::digits_of_bytes`).
-#[inline]
-pub fn digits_of_bytes(bytes: [u8; 8]) -> [u8; 16] {
-    // SAFETY: every x86-64 processor has SSE2.
-    unsafe { digits::digits_of_bytes(bytes) }
-}
-
-/// Which of 64 characters are newlines (`digits::newlines`).
-#[inline]
-pub fn newlines(characters: &[u8; 64]) -> u64 {
-    // SAFETY: every x86-64 processor has SSE2.
-    unsafe { digits::newlines(characters) }
 }
