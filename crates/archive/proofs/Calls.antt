@@ -19,7 +19,7 @@ use Rattle.layout.specs.Block.{cellsPerBlock, blockLength}
 use Rattle.buffers.proofs.Segments.{part-length}
 use Rattle.archive_model.specs.Row.{Row}
 use Rattle.archive_model.specs.Buffer.{Found, At, None, maxBlocks, maxRows, isWhole, blocksIn, rowsIn, mismatch, Scan, scanBlocks}
-use Rattle.archive_model.specs.Append.{Opening, Appended, Feeding, refusedAppend, stored, found, verdict, openOf, isNext, blockAt, putRow, putRowOf, appendOf, appendAtOf, isScan, feedOf, rowAtOf}
+use Rattle.archive_model.specs.Append.{Opening, Appended, Feeding, refusedAppend, stored, found, verdict, openOf, isNext, blockAt, putRow, putRowOf, appendOf, appendAtOf, isStage, isScan, feedOf, rowAtOf}
 use Rattle.archive_model.proofs.Cursor.{cursor}
 use Rattle.archive.specs.declared.Opened.the-variants as opened
 use Rattle.archive.specs.declared.Outcome.{Outcome}
@@ -32,13 +32,11 @@ use Rattle.archive.specs.Private.{noRowFor, rowInBlock}
 pub scan-many : (s : Scan) → maxBlocks < s .blocks → false ≡ isScan s
 scan-many s h = rw (lt-leb (s .blocks) maxBlocks h)
 
-pub scan-dense : (s : Scan) → s .blocks ≤ maxBlocks → leb (s .rows) (cellsPerBlock * s .blocks) ≡ isScan s
-scan-dense s h = rw (le-leb (s .blocks) maxBlocks h)
+pub scan-over : (s : Scan) → s .blocks ≤ maxBlocks → cellsPerBlock * s .blocks < s .rows → false ≡ isScan s
+scan-over s h o = rw (le-leb (s .blocks) maxBlocks h, lt-leb (s .rows) (cellsPerBlock * s .blocks) o)
 
-pub scan-facts : (s : Scan) → isScan s ≡ true → (s .blocks ≤ maxBlocks) × (s .rows ≤ cellsPerBlock * s .blocks)
-scan-facts s h =
-    let b = both (leb (s .blocks) maxBlocks) _ h in
-    (leb-true (s .blocks) maxBlocks (b .0), leb-true (s .rows) (cellsPerBlock * s .blocks) (b .1))
+pub scan-stage : (s : Scan) → s .blocks ≤ maxBlocks → s .rows ≤ cellsPerBlock * s .blocks → isStage (s .stage) (s .blocks) (s .rows) ≡ isScan s
+scan-stage s h o = rw (le-leb (s .blocks) maxBlocks h, le-leb (s .rows) (cellsPerBlock * s .blocks) o)
 
 module _ (s : Scan) (piece : List ℕ) where
   abbrev kept : Refusal → Feeding

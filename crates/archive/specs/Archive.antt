@@ -4,9 +4,9 @@ use mathlib.Core.Bool.{Bool, cond}
 use mathlib.Core.List.{List}
 use Rattle.refusal.specs.Number.{numberOf}
 use Rattle.refusal.specs.declared.Refusal.the-variants.{Mismatch}
-use lib.ListN.{length}
-use Rattle.lists.specs.Lists.{padded}
-use Rattle.layout.specs.Cell.{cellCapacity}
+use lib.Dec.{eqb}
+use lib.ListN.{length, replicate}
+use Rattle.layout.specs.Cell.{cellCapacity, cellField}
 use Rattle.archive_model.specs.Row.{Row, rowCount, isSound}
 use Rattle.archive_model.specs.Buffer as buffer
 use Rattle.archive_model.specs.Append.{Opening, Appended, Feeding, ReadRow}
@@ -43,7 +43,7 @@ abbrev pub foundNumber : Found → ℕ
 foundNumber found.Row = 0
 foundNumber (found.Refused why) = numberOf why
 
--- a row as it is handed back: its length, and all 21 bytes
+-- a row as it is handed back: its length, and 21 bytes
 pub record Shown : Type 0 where
   pub number : ℕ
   pub len : ℕ
@@ -60,12 +60,12 @@ readResult r = record {
   loose = r .loose;
 }
 
--- zero filled; beside a refusal all is zero
-abbrev pub rowShown : ReadRow → Shown
-rowShown a = record {
+-- with the 21 bytes of its cell as they stand; beside a refusal all is zero
+abbrev pub rowShown : ReadRow → List ℕ → Shown
+rowShown a cell = record {
   number = a .number;
   len = length (a .row .bytes);
-  bytes = padded cellCapacity (a .row .bytes);
+  bytes = cond (eqb (a .number) 0) (cellField cell) (replicate cellCapacity 0);
   time = a .row .time;
   loose = a .row .loose;
 }

@@ -7,12 +7,12 @@ use layout::CELLS_PER_BLOCK;
 use layout::HEADER_LENGTH;
 use refusal::Refusal;
 ghost use mathlib.Core.Path.{_≡_};
-ghost use mathlib.Core.Bool.{true, cond, _&&_};
-ghost use Prim.Native.Nat.{_+_, _-_, _*_, _/_, _≤_, _<_};
-ghost use lib.Dec.{ltb, eqb};
+ghost use mathlib.Core.Bool.{true, _&&_};
+ghost use mathlib.Core.List.{List};
+ghost use Prim.Native.Nat.{ℕ, _+_, _-_, _*_, _/_, _≤_, _<_};
+ghost use lib.Dec.{eqb};
 ghost use lib.ListN.{length};
 ghost use Rattle.lists.specs.Lists.{all};
-ghost use Rattle.buffers.specs.Buffer.{part, resized};
 ghost use Rattle.layout.specs.Cell.{cellLength, cellCapacity, cellLast};
 ghost use Rattle.layout.specs.Block.{headerLength, cellsPerBlock, blockLength, blockCell};
 ghost use Rattle.archive_model.specs.Row.{rowLast, rowsHeader, blockNumber, rowIn, isRow};
@@ -54,7 +54,7 @@ pub enum Found {
     Refused(Refusal),
 }
 
-// A row as it stands, zero filled; beside a refusal all is zero.
+// A row as it stands, and the 21 bytes of its cell: those past the length are left to the caller. Beside a refusal all is zero.
 pub struct RowAt {
     pub answer: Found,
     pub time: u64,
@@ -228,8 +228,8 @@ impl Scan {
         }
     }
 
-    // The blocks of a piece, in their order. Refused: 11 for a scan that no blocks give (over 2^32 blocks, or over 15 rows a block), 16 for a piece
-    // that isn't whole blocks or brings more than 2^32 of them in all; the scan is then as it was.
+    // The blocks of a piece, in their order. Refused: 11 for a scan that no blocks give, 16 for a piece that isn't whole blocks or brings more than
+    // 2^32 of them in all; the scan is then as it was.
     pub fn feed(self, blocks: &[u8]) -> Fed
         ensures { λ r. ⌜ feedResult r ≡ calls.feedOf (scanOf self) (now (blocks .entry)) ⌝ }
     {
@@ -250,7 +250,7 @@ impl Scan {
     }
 }
 
-// Whether some blocks give this scan, as far as its numbers tell: at most 2^32 blocks, and at most 15 rows a block.
+// Whether some blocks give this scan: at most 2^32 of them, with as many rows as blocks of its stage can have.
 pub fn is_scan(s: Scan) -> bool
     ensures { λ r. ⌜ r ≡ calls.isScan (scanOf s) ⌝ }
 {
@@ -258,7 +258,26 @@ pub fn is_scan(s: Scan) -> bool
     if MAX_BLOCKS < blocks {
         return false;
     }
-    s.rows <= CELLS_PER_BLOCK * blocks
+    let rows = s.rows;
+    if CELLS_PER_BLOCK * blocks < rows {
+        return false;
+    }
+    let stage = s.stage;
+    is_stage(stage, blocks, rows)
+}
+
+// Whether blocks of this stage can have so many rows, at most 15 each.
+fn is_stage(stage: Stage, blocks: usize, rows: usize) -> bool
+    requires { ⌜ (blocks ≤ buffer.maxBlocks) × (rows ≤ cellsPerBlock * blocks) ⌝ }
+    ensures { λ r. ⌜ r ≡ calls.isStage (stageOf stage) blocks rows ⌝ }
+{
+    let most = CELLS_PER_BLOCK * blocks;
+    match stage {
+        Stage::Filling => rows == most,
+        Stage::Short => (rows < most) & (most < rows + CELLS_PER_BLOCK),
+        Stage::Ended => rows + CELLS_PER_BLOCK <= most,
+        Stage::Wrong(j) => j < blocks,
+    }
 }
 
 // The scan stays as it was.
@@ -491,9 +510,10 @@ fn no_block(bytes: &[u8]) -> Outcome
     }
 }
 
-// Row `i` as it stands, zero filled. Refused: 16, 10 where there is no row i, 12 where its length is over 21, as in no archive.
+// Row `i` as it stands. Refused: 16, 10 where there is no row i, 12 where its length is over 21, as in no archive.
 pub fn row_at(buffer: &[u8], i: usize) -> RowAt
-    ensures { λ r. ⌜ readResult r ≡ rowShown (calls.rowAtOf (now (buffer .entry)) i) ⌝ }
+    ensures { λ r. ⌜ readResult r
+        ≡ rowShown (calls.rowAtOf (now (buffer .entry)) i) (calls.cellAt i (now (buffer .entry))) ⌝ }
 {
     if !is_whole(buffer.len()) {
         return no_row(Refusal::Size);
@@ -511,19 +531,19 @@ pub fn row_at(buffer: &[u8], i: usize) -> RowAt
 // Row `i` of a block.
 fn read_row(block: &[u8], i: usize) -> RowAt
     requires { ⌜ (length (now block) ≡ blockLength) × (i < cellsPerBlock) ⌝ }
-    ensures { λ r. ⌜ readResult r ≡ rowShown (rowInBlock (now (block .entry)) i) ⌝ }
+    ensures { λ r. ⌜ readResult r
+        ≡ rowShown (rowInBlock (now (block .entry)) i) (blockCell i (now (block .entry))) ⌝ }
 {
     if layout::byte_at(block, 4) as usize <= i {
         return no_row(Refusal::Argument);
     }
     let cell = cell_at(block, i);
     let len = layout::cell_used(cell);
-    let n = len as usize;
-    if CELL_CAPACITY < n {
+    if CELL_CAPACITY < len as usize {
         return no_row(Refusal::Mismatch);
     }
     let mut bytes = [0u8; CELL_CAPACITY];
-    put_row_bytes(&mut bytes, cell, n);
+    layout::copy_field(&mut bytes, cell);
     let time = layout::cell_time(cell);
     let loose = is_loose(cell);
     RowAt {
@@ -535,29 +555,9 @@ fn read_row(block: &[u8], i: usize) -> RowAt
     }
 }
 
-// The first `n` bytes of a cell's field, zero filled. All 21 are read, so that there is no branch on the length.
-fn put_row_bytes(out: &mut [u8], cell: &[u8], n: usize)
-    requires { ⌜ (length (now out) ≡ cellCapacity) × (length (now cell) ≡ cellLength) ⌝ }
-    ensures { λ _. ⌜ now (out .exit) ≡ resized cellCapacity (part 9 n (now (cell .entry))) ⌝ }
-{
-    for i in 0..CELL_CAPACITY {
-        out[i] = byte_below(i, n, cell[FIELD + i]);
-    }
-}
-
-// A byte at an index below `n`, and 0 from there on.
-fn byte_below(i: usize, n: usize, byte: u8) -> u8
-    ensures { λ r. ⌜ r ≡ cond (ltb i n) byte 0 ⌝ }
-{
-    if i < n {
-        return byte;
-    }
-    0
-}
-
 // No row, and why.
 fn no_row(why: Refusal) -> RowAt
-    ensures { λ r. ⌜ readResult r ≡ rowShown (noRowFor why) ⌝ }
+    ensures { λ r. ⌜ ((cell : List ℕ) → readResult r ≡ rowShown (noRowFor why) cell) ⌝ }
 {
     RowAt {
         answer: Found::Refused(why),

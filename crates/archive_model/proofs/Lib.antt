@@ -2,6 +2,7 @@ pub mod Blocks
 pub mod Buffers
 pub mod Pieces
 pub mod Exact
+pub mod Scans
 pub mod Cursor
 pub mod ByByte
 pub mod Reading

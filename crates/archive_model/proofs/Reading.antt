@@ -2,6 +2,7 @@
 --     cell-found, cell-long     the two cases of `cellRow`
 --     row-at       what is answered, of a buffer that was written
 --     row-short    and of any buffer: at most 21 bytes
+--     row-field    which are the first of its cell's 21
 use Prim.Native.Nat.{ℕ, _+_, _-_, _*_, _/_, _%_, _≤_, _<_}
 use native.Mathlib.Decide.{decLt}
 use native.Mathlib.Omega.{arith}
@@ -9,18 +10,18 @@ use mathlib.Core.Path.{_≡_, refl, sym, ap, _∙_}
 use mathlib.Core.Bool.{Bool, true, false, cond, not, _&&_}
 use mathlib.Core.List.{List}
 use lib.Dec.{ltb, leb}
-use lib.ListN.{length, getD}
-use borrow.Author.Tests.{lt-ltb, le-ltb, le-leb, lt-leb, leb-true}
+use lib.ListN.{length, getD, take}
+use borrow.Author.Tests.{lt-ltb, le-ltb, le-leb, lt-leb, leb-true, ltb-true}
 use Rattle.refusal.specs.Number.{numberOf}
-use Rattle.refusal.specs.declared.Refusal.the-variants.{Argument, Mismatch}
-use Rattle.layout.specs.Cell.{cellCapacity, cellUsed, cellField, cellBytes}
-use Rattle.layout.specs.Block.{cellsPerBlock, blockLength, blockCell}
+use Rattle.refusal.specs.declared.Refusal.the-variants.{Argument, Mismatch, Size}
+use Rattle.layout.specs.Cell.{cellLength, cellCapacity, cellUsed, cellField, cellBytes}
+use Rattle.layout.specs.Block.{headerLength, cellsPerBlock, blockLength, blockCell}
 use Rattle.lists.proofs.Tests.{by-test}
-use Rattle.buffers.proofs.Buffer.{resized-length}
-use Rattle.buffers.proofs.Segments.{part-at}
+use Rattle.buffers.proofs.Buffer.{resized-length, resized-cut}
+use Rattle.buffers.proofs.Segments.{part-at, part-length}
 use Rattle.archive_model.specs.Row.{Row, rowsBlock, rowCount, rowIn}
 use Rattle.archive_model.specs.Buffer.{blocksFor, rowsAt, bufferOf, maxBlocks, isWhole}
-use Rattle.archive_model.specs.Append.{ReadRow, blockAt, isInside, cellRow, rowAtOf}
+use Rattle.archive_model.specs.Append.{ReadRow, blockAt, isInside, cellRow, cellAt, rowAtOf}
 use Rattle.archive_model.proofs.Blocks.{Fits, noRow, short, shorts, row-back, count-back, written-cell}
 use Rattle.archive_model.proofs.Buffers.{blank, blank-blank, blank-count, group-length, group-few, group-fits, used-block, free-block, buffer-length}
 use Rattle.archive_model.proofs.Cursor.{written-whole}
@@ -130,3 +131,35 @@ row-short buffer i =
     (λ t. rw (w, t) (cell-short cell))
     (λ f. rw (w, f) (omega arith)))
     (λ w. rw w (omega arith))
+
+-- ---- the bytes of a row, where they stand
+
+cell-field : (cell : List ℕ) → length cell ≡ cellLength → cellRow cell .number ≡ 0
+    → take (length (cellRow cell .row .bytes)) (cellField cell) ≡ cellRow cell .row .bytes
+unfolding cellBytes
+cell-field cell l z = elim (decLt cellCapacity (cellUsed cell)) [
+  | yes h ↦ absurd (let e : numberOf Mismatch ≡ 0 = sym (ap (λ (r : ReadRow). r .number) (cell-long cell h)) ∙ z in omega arith)
+  | no h ↦
+      let field = cellField cell in
+      let long : length field ≡ cellCapacity = part-length 9 cellCapacity cell (omega arith) in
+      let few : cellUsed cell ≤ length field = omega arith in
+      rw (cell-found cell (omega arith)) (ap (λ (n : ℕ). take n field) (cell-shown cell) ∙ sym (resized-cut (cellUsed cell) field few))
+]
+
+pub row-field : (buffer : List ℕ) (i : ℕ) → rowAtOf buffer i .number ≡ 0
+    → take (length (rowAtOf buffer i .row .bytes)) (cellField (cellAt i buffer)) ≡ rowAtOf buffer i .row .bytes
+unfolding rowAtOf
+row-field buffer i z = go (isWhole (length buffer)) (isInside i buffer) (ltb (i % cellsPerBlock) (rowCount (blockAt (i / cellsPerBlock) buffer))) refl refl refl
+  where
+    go : (w a b : Bool) → isWhole (length buffer) ≡ w → isInside i buffer ≡ a → ltb (i % cellsPerBlock) (rowCount (blockAt (i / cellsPerBlock) buffer)) ≡ b
+        → take (length (rowAtOf buffer i .row .bytes)) (cellField (cellAt i buffer)) ≡ rowAtOf buffer i .row .bytes
+    go false a b e f g = absurd (let n : numberOf Size ≡ 0 = (rw e) ∙ z in omega arith)
+    go true false b e f g = absurd (let n : numberOf Argument ≡ 0 = (rw (e, f)) ∙ z in omega arith)
+    go true true false e f g = absurd (let n : numberOf Argument ≡ 0 = (rw (e, f, g)) ∙ z in omega arith)
+    go true true true e f g =
+        let inside = ltb-true (i / cellsPerBlock) (length buffer / blockLength) f in
+        let block : length (blockAt (i / cellsPerBlock) buffer) ≡ blockLength = part-length (blockLength * (i / cellsPerBlock)) blockLength buffer (omega arith) in
+        let long : length (cellAt i buffer) ≡ cellLength =
+        part-length (headerLength + cellLength * (i % cellsPerBlock)) cellLength (blockAt (i / cellsPerBlock) buffer) (omega arith) in
+        let found : cellRow (cellAt i buffer) .number ≡ 0 = (rw (e, f, g)) ∙ z in
+        rw (e, f, g) (cell-field (cellAt i buffer) long found)

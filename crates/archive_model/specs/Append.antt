@@ -11,7 +11,7 @@ use Rattle.layout.specs.Cell.{cellLength, cellCapacity, cellUsed}
 use Rattle.layout.specs.Block.{headerLength, cellsPerBlock, bodyLength, blockLength, sealed, blockCell}
 use Rattle.erp1.specs.Subtelegram.{checkOf, isValid}
 use Rattle.archive_model.specs.Row.{Row, rowCell, rowsHeader, blockNumber, rowCount, rowIn, isBlank}
-use Rattle.archive_model.specs.Buffer.{Found, At, None, maxBlocks, maxRows, isWhole, blocksIn, mismatch, rowsIn, bufferOf, Scan, scanBlocks}
+use Rattle.archive_model.specs.Buffer.{Found, At, None, maxBlocks, maxRows, isWhole, blocksIn, mismatch, rowsIn, bufferOf, Stage, Filling, Short, Ended, Wrong, Scan, scanBlocks}
 
 -- 16, 12 with its position; 0 for an archive
 pub record Verdict : Type 0 where
@@ -114,9 +114,18 @@ appendAtOf buffer n r =
 
 -- ---- a scan in pieces
 
--- a scan that some blocks give: 11 for one over 2^32 blocks, or over 15 rows a block
+-- the rows of n blocks by their stage: each is full; all but the last are, and that one is short; one at least is all zero; one does not match
+abbrev pub isStage : Stage → ℕ → ℕ → Bool
+isStage Filling n rows = eqb rows (cellsPerBlock * n)
+isStage Short n rows = ltb rows (cellsPerBlock * n) && ltb (cellsPerBlock * n) (rows + cellsPerBlock)
+isStage Ended n rows = leb (rows + cellsPerBlock) (cellsPerBlock * n)
+isStage (Wrong j) n rows = ltb j n
+
+-- a scan that some blocks give, at most 2^32 of at most 15 rows each: 11 for any other
 abbrev pub isScan : Scan → Bool
-isScan s = leb (s .blocks) maxBlocks && leb (s .rows) (cellsPerBlock * s .blocks)
+isScan s =
+    leb (s .blocks) maxBlocks
+    && (leb (s .rows) (cellsPerBlock * s .blocks) && isStage (s .stage) (s .blocks) (s .rows))
 
 pub record Feeding : Type 0 where
   pub number : ℕ
@@ -145,10 +154,14 @@ cellRow cell =
     cond (leb (cellUsed cell) cellCapacity) (record { number = 0; row = rowIn cell })
     (record { number = numberOf Mismatch; row = noRow })
 
+-- the cell where row i stands
+abbrev pub cellAt : ℕ → List ℕ → List ℕ
+cellAt i buffer = blockCell (i % cellsPerBlock) (blockAt (i / cellsPerBlock) buffer)
+
 -- 16, 10 where there is no row i, 12
 unfoldable pub rowAtOf : List ℕ → ℕ → ReadRow
 rowAtOf buffer i =
     cond (not (isWhole (length buffer))) (record { number = numberOf Size; row = noRow })
     (cond (isInside i buffer && ltb (i % cellsPerBlock) (rowCount (blockAt (i / cellsPerBlock) buffer)))
-    (cellRow (blockCell (i % cellsPerBlock) (blockAt (i / cellsPerBlock) buffer)))
+    (cellRow (cellAt i buffer))
     (record { number = numberOf Argument; row = noRow }))

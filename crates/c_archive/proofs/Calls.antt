@@ -1,17 +1,17 @@
 -- Records by their fields; answers and lent memory, by the number; a row's bytes, zero filled.
-use mathlib.Core.Path.{_≡_, sym, ap, _∙_}
+use mathlib.Core.Path.{_≡_, sym, ap, ap₂, _∙_}
 use mathlib.Core.Bool.{Bool, true, false}
 use mathlib.Core.List.{List, [], _∷_, _++_}
-use Prim.Native.Nat.{ℕ, _-_, _≤_}
-use native.Mathlib.Omega.{arith}
-use lib.ListN.{length, replicate, length-append}
+use Prim.Native.Nat.{ℕ}
+use lib.ListN.{length, take}
 use borrow.Author.Tests.{eq-eqb, ne-eqb}
 use Rattle.refusal.specs.Number.{numberOf}
 use Rattle.refusal.specs.declared.Refusal.{Refusal}
 use Rattle.refusal.proofs.Numbers.{refused-number}
 use Rattle.buffers.specs.Buffer.{resized}
-use Rattle.buffers.proofs.Buffer.{resized-padded, resized-whole}
-use Rattle.archive_model.specs.Append.{Opening, Appended, refusedAppend, ReadRow, rowAtOf}
+use Rattle.layout.specs.Cell.{cellCapacity, cellField}
+use Rattle.archive_model.specs.Append.{Opening, Appended, refusedAppend, cellAt, rowAtOf}
+use Rattle.archive_model.proofs.Reading.{row-field}
 use Rattle.archive.specs.Archive.{Shown, rowShown}
 use Rattle.repack_model.specs.Repack.{Salvaged, Removed}
 use Rattle.c_layout.specs.Frame.{wrongSize, frameBytes, flagByte}
@@ -82,18 +82,15 @@ module _ (buffer : List ℕ) (i : ℕ) (old : List ℕ) (was : ℕ) where
     unfolding rowCall
     row-done z = rw (eq-eqb (length old) rowLength h, z)
 
--- what is written of a row as it is handed back
-pub row-are : (flag number len time : ℕ) (xs : List ℕ) (loose : Bool) (a : ReadRow) → flag ≡ flagByte loose → length xs ≡ 21
-    → _≡_ {A = Shown} (record { number = number; len = len; bytes = xs; time = time; loose = loose }) (rowShown a)
-    → rowAnswer number ((flag ∷ []) ++ frameBytes len xs) time ≡ rowAnswer (a .number) (rowBytes (a .row)) (a .row .time)
-unfolding frameBytes rowBytes
-row-are flag number len time xs loose a f h e =
-    let bs = a .row .bytes in
-    let b = ap (λ (s : Shown). s .bytes) e in
-    let n = ap (λ (s : Shown). s .number) e in
-    let l = ap (λ (s : Shown). s .len) e in
-    let t = ap (λ (s : Shown). s .time) e in
-    let o = ap (λ (s : Shown). s .loose) e in
-    let few : length bs ≤ 21 = omega (arith, h, ap length b, length-append bs (replicate {A = ℕ} (21 - length bs) 0)) in
-    let r : resized 21 xs ≡ resized 21 bs = resized-whole 21 xs h ∙ b ∙ sym (resized-padded 21 bs few) in
-    rw (r, f, o, n, l, t)
+-- what is written of a row that was found
+module _ (buffer : List ℕ) (i flag number len time : ℕ) (xs : List ℕ) (loose : Bool) where
+  pub row-are : flag ≡ flagByte loose → rowAtOf buffer i .number ≡ 0
+      → _≡_ {A = Shown} (record { number = number; len = len; bytes = xs; time = time; loose = loose }) (rowShown (rowAtOf buffer i) (cellAt i buffer))
+      → rowAnswer number ((flag ∷ len ∷ []) ++ resized cellCapacity (take len xs)) time
+      ≡ rowAnswer (rowAtOf buffer i .number) (rowBytes (rowAtOf buffer i .row)) (rowAtOf buffer i .row .time)
+  unfolding frameBytes rowBytes
+  row-are f z e =
+      let l = ap (λ (s : Shown). s .len) e in
+      let b : xs ≡ cellField (cellAt i buffer) = ap (λ (s : Shown). s .bytes) e ∙ (rw z) in
+      let is : take len xs ≡ rowAtOf buffer i .row .bytes = ap₂ take l b ∙ row-field buffer i z in
+      rw (is, f, ap (λ (s : Shown). s .loose) e, ap (λ (s : Shown). s .number) e, l, ap (λ (s : Shown). s .time) e)

@@ -5,11 +5,17 @@ use archive::Outcome;
 use archive::Taken;
 use c_layout::WRONG_SIZE;
 use filling::ROW_LENGTH;
+use layout::CELL_CAPACITY;
 use refusal::Refusal;
 use repack::Removed;
 ghost use mathlib.Core.Path.{_≡_};
+ghost use mathlib.Core.Bool.{cond};
 ghost use mathlib.Core.List.{List};
 ghost use Prim.Native.Nat.{ℕ};
+ghost use lib.Dec.{ltb};
+ghost use lib.ListN.{length, take};
+ghost use Rattle.buffers.specs.Buffer.{resized};
+ghost use Rattle.layout.specs.Cell.{cellCapacity};
 ghost use Rattle.archive_model.specs.Append as calls;
 ghost use Rattle.archive.specs.Archive.{appendResult, rowOf, foundNumber, takenNumber};
 ghost use Rattle.repack_model.specs.Repack as repack;
@@ -108,9 +114,30 @@ pub fn row_at(buffer: &[u8], i: usize, row: &mut [u8], time: &mut u64) -> u8
     }
     let bytes = found.bytes;
     row[0] = c_layout::flag_byte(found.loose);
-    c_layout::put_frame(&mut row[1..ROW_LENGTH], found.len, &bytes);
+    row[1] = found.len;
+    put_filled(&mut row[2..ROW_LENGTH], &bytes, found.len as usize);
     *time = found.time;
     number
+}
+
+// The first `n` of 21 bytes, zero filled. All 21 are read, so that there is no branch on the length.
+fn put_filled(out: &mut [u8], bytes: &[u8; CELL_CAPACITY], n: usize)
+    requires { ⌜ length (now out) ≡ cellCapacity ⌝ }
+    ensures { λ _. ⌜ now (out .exit) ≡ resized cellCapacity (take n (now (bytes .entry))) ⌝ }
+{
+    for i in 0..CELL_CAPACITY {
+        out[i] = byte_below(i, n, bytes[i]);
+    }
+}
+
+// A byte at an index below `n`, and 0 from there on.
+fn byte_below(i: usize, n: usize, byte: u8) -> u8
+    ensures { λ r. ⌜ r ≡ cond (ltb i n) byte 0 ⌝ }
+{
+    if i < n {
+        return byte;
+    }
+    0
 }
 
 // A damaged archive packed anew: 16, 6.
@@ -133,13 +160,13 @@ pub fn salvage(
 {
     let done = repack::salvage(buffer, out, positions);
     let answer = done.answer;
-    let number = taken_number(answer);
-    if number != 0 {
-        return number;
+    let taken = taken_number(answer);
+    if taken != 0 {
+        return taken;
     }
     *dropped = done.dropped;
     *rows = done.rows;
-    number
+    taken
 }
 
 // The rows of some transmitters removed in place: 16, 12 with the position, 10.

@@ -29,13 +29,13 @@ pub fn read(bytes: &[u8], fields: &mut [u8]) -> u8
     }
     let reading = fields::read(bytes);
     let checked = reading.checked;
-    let number = c_layout::checked_number(checked);
-    if number != 0 {
-        return number;
+    let check = c_layout::checked_number(checked);
+    if check != 0 {
+        return check;
     }
     let t = reading.telegram;
     put_fields(fields, t);
-    number
+    check
 }
 
 // Builds the telegram that the 26 bytes say into `out`: 255, then 10, 5, 6.

@@ -1,6 +1,7 @@
 -- An archive verified in pieces: together they answer what they answer as one buffer.
 --     scan-back           a scan is read back from its numbers
 --     pieces-verified     the claim
+--     numbers-accepted, numbers-given     which numbers are accepted
 use Prim.Native.Nat.{ℕ, _+_, _*_, _/_, _%_, _≤_}
 use native.Mathlib.Omega.{arith}
 use mathlib.Core.Path.{_≡_, refl, sym, ap, _∙_}
@@ -8,9 +9,11 @@ use mathlib.Core.Bool.{Bool, true, false, _&&_}
 use mathlib.Core.List.{List, [], _∷_, _++_, flatten, append-assoc, append-nil}
 use lib.Dec.{leb, eqb}
 use lib.ListN.{length, length-append}
+use lib.Seq.{take-all}
 use borrow.Author.Tests.{eqb-true, leb-true, eq-eqb, le-leb}
-use Rattle.lists.specs.Lists.{upFrom}
+use Rattle.lists.specs.Lists.{all, upFrom}
 use Rattle.lists.proofs.Choice.{both}
+use Rattle.lists.proofs.Members.{all-of, all-at}
 use Rattle.lists.proofs.Tests.{by-test, and-true}
 use Rattle.refusal.specs.Number.{numberOf}
 use Rattle.refusal.specs.declared.Refusal.the-variants.{Size}
@@ -20,9 +23,11 @@ use Rattle.archive_model.specs.Append.{isScan, feedOf, openOf}
 use Rattle.archive_model.proofs.Pieces.{blocks-count, pieces-blocks, scan-append, scan-found, scan-rows}
 use Rattle.archive.specs.Archive.{openFound}
 use Rattle.archive.proofs.Calls.{open-whole}
-use Rattle.report_model.proofs.Adding.{scanned-next, blocks-after}
+use Rattle.archive_model.proofs.Scans.{scan-facts, scanned-next, blocks-after}
+use Rattle.report_model.specs.Claims.{areBytes}
+use Rattle.report_model.proofs.Given.{isBlock, scan-given}
 use Rattle.c_pieces.specs.Scan.{stageAt, scanAt, scanNumbers, noBlocks, scanEnd}
-use Rattle.c_pieces.specs.Claims.{ScanBack, scanAll, scanned, PiecesVerified}
+use Rattle.c_pieces.specs.Claims.{ScanBack, scanAll, scanned, PiecesVerified, NumbersAccepted, NumbersGiven}
 use Rattle.c_pieces.proofs.Scans.{stage-back}
 
 pub scan-back : ScanBack
@@ -131,3 +136,60 @@ pieces-from (p ∷ ps) done numbers r =
 
 pub pieces-verified : PiecesVerified
 pieces-verified pieces = pieces-from pieces [] noBlocks first
+
+-- ---- which numbers are accepted
+
+accepted-from : (pieces : List (List ℕ)) (done numbers : List ℕ) → Reached done numbers → isScan (scanAt (scanAll numbers pieces)) ≡ true
+accepted-from [] done numbers r = r .goes
+accepted-from (p ∷ ps) done numbers r =
+    let s = scanAt numbers in
+    by-test {X = isScan (scanAt (scanAll numbers (p ∷ ps))) ≡ true} (fits s p)
+    (λ t.
+    let next = scanBlocks s (blocksIn p) in
+    ap (λ (l : List ℕ). isScan (scanAt l)) (taken numbers p ps next (feed-taken s p (r .goes) t) .0)
+    ∙ accepted-from ps (done ++ p) (scanNumbers next) (reached-next done numbers p r t))
+    (λ f.
+    ap (λ (l : List ℕ). isScan (scanAt l)) (not-taken numbers p ps s (feed-not s p (r .goes) f) .0)
+    ∙ accepted-from ps done numbers r)
+
+pub numbers-accepted : NumbersAccepted
+numbers-accepted pieces = accepted-from pieces [] noBlocks first
+
+-- a piece of one block
+one-block : (b : List ℕ) → length b ≡ blockLength → blocksIn b ≡ b ∷ []
+unfolding blocksIn upFrom
+one-block b l =
+    let e : length b / blockLength ≡ 1 = omega arith in
+    rw e (ap (λ (x : List ℕ). x ∷ []) (take-all blockLength b (omega arith)))
+
+-- blocks that are handed over one by one
+by-blocks : (bs : List (List ℕ)) (s : Scan) → all isBlock bs ≡ true → isScan s ≡ true → s .blocks + length bs ≤ maxBlocks
+    → scanAt (scanAll (scanNumbers s) bs) ≡ scanBlocks s bs
+unfolding scanBlocks
+by-blocks [] s are t h = scan-back s
+by-blocks (b ∷ bs) s are t h =
+    let w = both (isBlock b) (all isBlock bs) are in
+    let long : length b ≡ blockLength = eqb-true (length b) blockLength (both (eqb (length b) blockLength) _ (w .0) .0) in
+    let even : length b % blockLength ≡ 0 = omega arith in
+    let few : s .blocks + length b / blockLength ≤ maxBlocks = omega arith in
+    let yes = and-true (eq-eqb (length b % blockLength) 0 even) (le-leb (s .blocks + length b / blockLength) maxBlocks few) in
+    let fed : feedOf (scanAt (scanNumbers s)) b ≡ record { number = 0; next = scanBlock s b } =
+    ap (λ (x : Scan). feedOf x b) (scan-back s) ∙ feed-taken s b t yes
+    ∙ ap (λ (l : List (List ℕ)). record { number = 0; next = scanBlocks s l }) (one-block b long) in
+    ap scanAt (taken (scanNumbers s) b bs (scanBlock s b) fed .0)
+    ∙ by-blocks bs (scanBlock s b) (w .1) (scanned-next b s t (omega arith)) (omega (arith, blocks-after b s))
+
+blocks-counted : (bs : List (List ℕ)) (s : Scan) → scanBlocks s bs .blocks ≡ s .blocks + length bs
+unfolding scanBlocks
+blocks-counted [] s = omega arith
+blocks-counted (b ∷ bs) s = blocks-counted bs (scanBlock s b) ∙ omega (arith, blocks-after b s)
+
+pub numbers-given : NumbersGiven
+numbers-given numbers h =
+    let g = scan-given (scanAt numbers) h in
+    let few : length (g .blocks) ≤ maxBlocks =
+    omega (arith, blocks-counted (g .blocks) startScan, ap (λ (s : Scan). s .blocks) (g .give), scan-facts (scanAt numbers) h .0) in (
+      g .blocks,
+      all-of areBytes (g .blocks) (λ b m. both (eqb (length b) blockLength) _ (all-at isBlock m (g .are)) .1),
+      by-blocks (g .blocks) startScan (g .are) refl (omega (arith, few)) ∙ g .give,
+    )

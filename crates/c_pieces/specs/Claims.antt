@@ -2,11 +2,13 @@
 -- pieces that are packed `PiecesPacked` of repack_model: the arrays hold what those definitions name.)
 use Prim.Native.Nat.{ℕ}
 use mathlib.Core.Path.{_≡_}
-use mathlib.Core.Bool.{cond}
+use mathlib.Core.Bool.{true, cond}
 use mathlib.Core.List.{List, [], _∷_, flatten}
 use lib.Dec.{eqb}
+use Rattle.lists.specs.Lists.{all}
 use Rattle.archive_model.specs.Buffer.{Scan}
-use Rattle.archive_model.specs.Append.{openOf}
+use Rattle.archive_model.specs.Append.{openOf, isScan}
+use Rattle.report_model.specs.Claims.{areBytes}
 use Rattle.c_pieces.specs.Scan.{scanAt, scanNumbers, noBlocks, scanCall, scanEnd}
 
 -- Read back: four numbers hold any scan.
@@ -29,3 +31,13 @@ scanned numbers (p ∷ ps) =
 abbrev pub PiecesVerified : Type 0
 PiecesVerified =
     (pieces : List (List ℕ)) → scanEnd (scanAt (scanAll noBlocks pieces)) ≡ openOf (flatten (scanned noBlocks pieces))
+
+-- Accepted: numbers that calls leave are accepted by the next call.
+abbrev pub NumbersAccepted : Type 0
+NumbersAccepted = (pieces : List (List ℕ)) → isScan (scanAt (scanAll noBlocks pieces)) ≡ true
+
+-- Given: numbers that are accepted say what some pieces of bytes give.
+abbrev pub NumbersGiven : Type 0
+NumbersGiven =
+    (numbers : List ℕ) → isScan (scanAt numbers) ≡ true
+    → (pieces : List (List ℕ)) × (all areBytes pieces ≡ true) × (scanAt (scanAll noBlocks pieces) ≡ scanAt numbers)

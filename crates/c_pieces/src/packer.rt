@@ -41,12 +41,12 @@ pub fn feed(
     );
     let answer = done.answer;
     *numbers = [done.used as u64, done.next as u64];
-    let number = c_archive::taken_number(answer);
-    if number != 0 {
-        return number;
+    let taken = c_archive::taken_number(answer);
+    if taken != 0 {
+        return taken;
     }
     *dropped = done.dropped;
-    number
+    taken
 }
 
 // The last block, where rows wait, and its length: 11, 6.

@@ -62,9 +62,9 @@ pub fn line(
 {
     let found = report_in(numbers, lines).line(i);
     let answer = found.answer;
-    let number = looked_number(answer);
-    if number != 0 {
-        return number;
+    let looked = looked_number(answer);
+    if looked != 0 {
+        return looked;
     }
     *line = [
         found.identity,
@@ -73,7 +73,7 @@ pub fn line(
         found.earliest,
         found.latest,
     ];
-    number
+    looked
 }
 
 // The share of its rows in receptions, in whole thousandths: 11, 10.

@@ -1,5 +1,5 @@
 -- A packer in pieces: the answers of `pack` and `finish`, each from the facts that its tests give.
---     packing-other, packing-many, packing-far      the test of a packer
+--     packing-other, packing-many, packing-far, packing-rows      the test of a packer
 --     pack-no, pack-odd, pack-far, pack-identities, pack-short, pack-list, pack-done     the answers to a piece
 --     finish-no, finish-none, finish-short, finish-last     the answers at the end
 use Prim.Native.Nat.{ℕ, _+_, _*_, _/_, _%_, _≤_, _<_}
@@ -15,9 +15,9 @@ use Rattle.refusal.specs.Number.{numberOf}
 use Rattle.refusal.specs.declared.Refusal.the-variants.{ShortOutput, Argument, NotAccepted, Size}
 use Rattle.layout.specs.Cell.{cellLength}
 use Rattle.layout.specs.Block.{cellsPerBlock, blockLength}
-use Rattle.archive_model.specs.Buffer.{maxBlocks}
+use Rattle.archive_model.specs.Buffer.{maxBlocks, maxRows}
 use Rattle.repack_model.specs.Repack.{dropped, fronted, maxIdentities}
-use Rattle.repack_model.specs.Packer.{pendingLength, packing, cellsBlock, pushedBlocks, pushed, lastBlock, keptCells, isPacking, Packed, keptAs, packedAs, packOf, Finished, finishOf}
+use Rattle.repack_model.specs.Packer.{pendingLength, packing, cellsBlock, pushedBlocks, pushed, lastBlock, keptCells, hasBlocks, isPacking, Packed, keptAs, packedAs, packOf, Finished, finishOf}
 use Rattle.repack.proofs.Closing.{last-none, last-some, last-long}
 
 module _ (next used : ℕ) (pending : List ℕ) where
@@ -29,16 +29,22 @@ module _ (next used : ℕ) (pending : List ℕ) where
   unfolding isPacking
   packing-many l h = rw (eq-eqb (length pending) pendingLength l, le-ltb used cellsPerBlock h)
 
-  pub packing-far : length pending ≡ pendingLength → used < cellsPerBlock → leb next maxBlocks ≡ isPacking next used pending
+  pub packing-far : length pending ≡ pendingLength → used < cellsPerBlock → maxBlocks < next → false ≡ isPacking next used pending
   unfolding isPacking
-  packing-far l h = rw (eq-eqb (length pending) pendingLength l, lt-ltb used cellsPerBlock h)
+  packing-far l h o =
+      rw (eq-eqb (length pending) pendingLength l, lt-ltb used cellsPerBlock h, lt-leb (cellsPerBlock * next + used) maxRows (omega arith))
+
+  pub packing-rows : length pending ≡ pendingLength → used < cellsPerBlock → hasBlocks next used ≡ isPacking next used pending
+  unfolding isPacking
+  packing-rows l h = rw (eq-eqb (length pending) pendingLength l, lt-ltb used cellsPerBlock h)
 
   pub packing-facts : isPacking next used pending ≡ true → (length pending ≡ pendingLength) × (used < cellsPerBlock) × (next ≤ maxBlocks)
   unfolding isPacking
   packing-facts e =
       let a = both (eqb (length pending) pendingLength) _ e in
       let b = both (ltb used cellsPerBlock) _ (a .1) in
-      (eqb-true (length pending) pendingLength (a .0), ltb-true used cellsPerBlock (b .0), leb-true next maxBlocks (b .1))
+      let few = leb-true (cellsPerBlock * next + used) maxRows (b .1) in
+      (eqb-true (length pending) pendingLength (a .0), ltb-true used cellsPerBlock (b .0), omega arith)
 
   module _ (piece identities output positions : List ℕ) where
     abbrev answer : Packed
@@ -57,17 +63,21 @@ module _ (next used : ℕ) (pending : List ℕ) where
       pack-odd h = rw (p, ne-eqb (length piece % blockLength) 0 h)
 
       module _ (even : length piece % blockLength ≡ 0) where
-        pub pack-far : maxBlocks < next + length piece / blockLength → kept (numberOf Size) ≡ answer
-        unfolding packOf
-        pack-far h = rw (p, eq-eqb (length piece % blockLength) 0 even, lt-leb (next + length piece / blockLength) maxBlocks h)
+        -- the rows that there can be with this piece
+        abbrev most : ℕ
+        most = cellsPerBlock * (next + length piece / blockLength) + used
 
-        module _ (near : next + length piece / blockLength ≤ maxBlocks) where
+        pub pack-far : maxRows < most → kept (numberOf Size) ≡ answer
+        unfolding packOf
+        pack-far h = rw (p, eq-eqb (length piece % blockLength) 0 even, lt-leb most maxRows h)
+
+        module _ (near : most ≤ maxRows) where
           pub pack-identities : maxIdentities < length identities → kept (numberOf Argument) ≡ answer
           unfolding packOf
           pack-identities h = rw (
             p,
             eq-eqb (length piece % blockLength) 0 even,
-            le-leb (next + length piece / blockLength) maxBlocks near,
+            le-leb most maxRows near,
             lt-ltb maxIdentities (length identities) h,
           )
 
@@ -78,7 +88,7 @@ module _ (next used : ℕ) (pending : List ℕ) where
                 rw (
                   p,
                   eq-eqb (length piece % blockLength) 0 even,
-                  le-leb (next + length piece / blockLength) maxBlocks near,
+                  le-leb most maxRows near,
                   le-ltb maxIdentities (length identities) few,
                   lt-ltb (length output) (length piece) h,
                 )
@@ -90,7 +100,7 @@ module _ (next used : ℕ) (pending : List ℕ) where
                   rw (
                     p,
                     eq-eqb (length piece % blockLength) 0 even,
-                    le-leb (next + length piece / blockLength) maxBlocks near,
+                    le-leb most maxRows near,
                     le-ltb maxIdentities (length identities) few,
                     le-ltb (length output) (length piece) fits,
                     lt-ltb (length positions) (length (dropped piece)) (leb-false (length (dropped piece)) (length positions) f),
@@ -106,7 +116,7 @@ module _ (next used : ℕ) (pending : List ℕ) where
                   rw (
                     p,
                     eq-eqb (length piece % blockLength) 0 even,
-                    le-leb (next + length piece / blockLength) maxBlocks near,
+                    le-leb most maxRows near,
                     le-ltb maxIdentities (length identities) few,
                     le-ltb (length output) (length piece) fits,
                     le-ltb (length positions) (length (dropped piece)) h,

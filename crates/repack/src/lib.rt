@@ -404,7 +404,7 @@ fn remove_from(buffer: &mut [u8], n: usize, identities: &[u32]) -> Removed
 
 // ---- in pieces
 
-// Whether a packer is lent 960 bytes, fewer than 15 cells wait, and at most 2^32 blocks were packed.
+// Whether a packer is lent 960 bytes, fewer than 15 cells wait, and there is a block number for them: no archive has more than 2^32 blocks.
 fn is_packing(pending: &[u8], used: usize, next: usize) -> bool
     ensures { λ r. ⌜ r ≡ packer.isPacking next used (now (pending .entry)) ⌝ }
 {
@@ -414,7 +414,10 @@ fn is_packing(pending: &[u8], used: usize, next: usize) -> bool
     if CELLS_PER_BLOCK <= used {
         return false;
     }
-    next <= archive::MAX_BLOCKS
+    if archive::MAX_BLOCKS < next {
+        return false;
+    }
+    CELLS_PER_BLOCK * next + used <= archive::MAX_ROWS
 }
 
 // The next piece of an archive that is packed in pieces: what stays of its rows goes behind the `used` cells that wait in `pending`, every 15 into a
@@ -440,7 +443,7 @@ pub fn pack(
     if piece.len() % BLOCK_LENGTH != 0 {
         return not_packed(used, next, Refusal::Size);
     }
-    if archive::MAX_BLOCKS < next + piece.len() / BLOCK_LENGTH {
+    if archive::MAX_ROWS < CELLS_PER_BLOCK * (next + piece.len() / BLOCK_LENGTH) + used {
         return not_packed(used, next, Refusal::Size);
     }
     if MAX_IDENTITIES < identities.len() {

@@ -3,3 +3,4 @@ pub mod Packing
 pub mod Pieces
 pub mod Salvage
 pub mod Removal
+pub mod Runs

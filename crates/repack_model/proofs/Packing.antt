@@ -2,7 +2,6 @@
 --     full-append, push-append        pushing one list and then another is pushing both
 --     cells-block-length, few-blocks, one-block, push-none      a block's length; few cells: they wait, or fill one block
 --     block-cells, archive-cells      a block and an archive by their cells
---     pieces-packed                   the claim
 use Prim.Native.Nat.{ℕ, zero, suc, _+_, _-_, _*_, _/_, _%_, _≤_, _<_}
 use native.Mathlib.Nat.{zero-add, add-zero, add-assoc}
 use native.Mathlib.Decide.{decLt}

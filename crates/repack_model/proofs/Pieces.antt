@@ -1,18 +1,16 @@
 -- What stays of a buffer's rows, block by block and piece by piece.
 --     keptIn, kept-next, kept-none    the cells that stay of some blocks; of one block more, and of none
---     pieces-packed                   pieces are the whole
+--     kept-pieces                     those of two pieces
+--     packed-archive                  what is packed of all of them is an archive
 --     held                            a packing is read back from what a packer is lent
-use Prim.Native.Nat.{ℕ, _-_, _*_, _/_, _%_, _<_}
+use Prim.Native.Nat.{ℕ, _-_, _*_, _/_, _%_}
 use native.Mathlib.Omega.{arith}
 use mathlib.Core.Path.{_≡_, refl, sym, ap, ap₂, _∙_}
-use mathlib.Core.Bool.{Bool, true, not}
-use mathlib.Core.List.{List, [], _∷_, _++_, map, flatten, append-assoc, map-append}
-use lib.Dec.{eqb}
+use mathlib.Core.Bool.{Bool, not}
+use mathlib.Core.List.{List, [], _∷_, _++_, map, flatten, map-append}
 use lib.ListN.{length, take, replicate}
 use lib.Seq.{take-at}
-use borrow.Author.Tests.{eqb-true}
-use Rattle.lists.specs.Lists.{keep, all, upFrom}
-use Rattle.lists.proofs.Choice.{both}
+use Rattle.lists.specs.Lists.{keep}
 use Rattle.lists.proofs.Keep.{keep-append}
 use Rattle.lists.proofs.Parts.{flatten-append}
 use Rattle.layout.specs.Cell.{cellLength}
@@ -21,10 +19,10 @@ use Rattle.archive_model.specs.Row.{Row, rowCell, rowsOf, isSound}
 use Rattle.archive_model.specs.Buffer.{blocksIn, archiveOf}
 use Rattle.archive_model.proofs.Pieces.{pieces-blocks}
 use Rattle.repack_model.specs.Repack.{soundRows, isListed, others}
-use Rattle.repack_model.specs.Packer.{Packing, startPacking, fullLength, pushedBlocks, pushed, lastBlock, cellsOf, keptCells, pendingLength, packedIn}
-use Rattle.repack_model.specs.Claims.{PiecesPacked, Held}
+use Rattle.repack_model.specs.Packer.{startPacking, pushedBlocks, pushed, lastBlock, cellsOf, keptCells, pendingLength}
+use Rattle.repack_model.specs.Claims.{Held}
 use Rattle.repack_model.proofs.Rows.{rowsKept, sound-rows-fit}
-use Rattle.repack_model.proofs.Packing.{push-none, push-waits, blocks-append, push-append, archive-cells}
+use Rattle.repack_model.proofs.Packing.{archive-cells}
 use Rattle.repack_model.proofs.Removal.{fits-keep}
 
 -- ---- the cells that stay
@@ -55,28 +53,9 @@ module _ (identities : List ℕ) where
   kept-next b bs = kept-append (b ∷ []) bs
 
   -- of two pieces
-  kept-pieces : (xs ys : List ℕ) → length xs % blockLength ≡ 0 → keptCells identities (xs ++ ys) ≡ keptCells identities xs ++ keptCells identities ys
+  pub kept-pieces : (xs ys : List ℕ) → length xs % blockLength ≡ 0 → keptCells identities (xs ++ ys) ≡ keptCells identities xs ++ keptCells identities ys
   kept-pieces xs ys e =
       kept-is (xs ++ ys) ∙ ap keptIn (pieces-blocks xs ys e) ∙ kept-append (blocksIn xs) (blocksIn ys) ∙ sym (ap₂ _++_ (kept-is xs) (kept-is ys))
-
-  no-cells : keptCells identities [] ≡ []
-  unfolding blocksIn upFrom
-  no-cells = kept-is [] ∙ kept-none
-
-  pieces-from : (p : Packing) → length (p .waiting) < fullLength → (pieces : List (List ℕ)) → all (λ x. eqb (length x % blockLength) 0) pieces ≡ true
-      → packedIn p identities pieces ≡ pushedBlocks p (keptCells identities (flatten pieces)) ++ lastBlock (pushed p (keptCells identities (flatten pieces)))
-  unfolding flatten
-  pieces-from p h [] ok =
-      let n = push-none p h in
-      sym (ap (λ (c : List ℕ). pushedBlocks p c ++ lastBlock (pushed p c)) no-cells ∙ ap₂ (λ (b : List ℕ) (q : Packing). b ++ lastBlock q) (n .0) (n .1))
-  pieces-from p h (x ∷ xs) ok =
-      let b = both (eqb (length x % blockLength) 0) _ ok in
-      let here = keptCells identities x in
-      let later = keptCells identities (flatten xs) in
-      ap (λ (l : List ℕ). pushedBlocks p here ++ l) (pieces-from (pushed p here) (push-waits p here) xs (b .1))
-      ∙ sym (append-assoc (pushedBlocks p here) (pushedBlocks (pushed p here) later) (lastBlock (pushed (pushed p here) later)))
-      ∙ sym (ap (λ (c : List ℕ). pushedBlocks p c ++ lastBlock (pushed p c)) (kept-pieces x (flatten xs) (eqb-true (length x % blockLength) 0 (b .0)))
-      ∙ ap₂ (λ (c : List ℕ) (q : Packing). c ++ lastBlock q) (blocks-append p here later) (push-append p here later))
 
 -- the archive of what stays
 pub packed-archive : (identities : List ℕ) (piece : List ℕ)
@@ -84,9 +63,6 @@ pub packed-archive : (identities : List ℕ) (piece : List ℕ)
 unfolding keptCells
 packed-archive identities piece =
     sym (archive-cells (others identities (soundRows piece)) (fits-keep (λ r. not (isListed identities r)) (soundRows piece) (sound-rows-fit piece)))
-
-pub pieces-packed : PiecesPacked
-pieces-packed identities pieces ok = pieces-from identities startPacking (omega arith) pieces ok ∙ packed-archive identities (flatten pieces)
 
 pub held : Held
 held count p output positions h =

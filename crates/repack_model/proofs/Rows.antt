@@ -96,7 +96,7 @@ shape-dropped (Shape.more {k} {b} {bs} g f s) = rw (g .sound) (shape-dropped s)
 
 -- ---- numbers in a row
 
-map-id : (l : List ℕ) → map (λ (i : ℕ). i) l ≡ l
+pub map-id : (l : List ℕ) → map (λ (i : ℕ). i) l ≡ l
 map-id [] = refl
 map-id (x ∷ l) = ap (λ (m : List ℕ). x ∷ m) (map-id l)
 

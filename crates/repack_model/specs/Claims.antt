@@ -9,10 +9,10 @@ use Rattle.lists.specs.Lists.{all, count, pairwise}
 use Rattle.layout.specs.Cell.{cellLength}
 use Rattle.layout.specs.Block.{cellsPerBlock, blockLength}
 use Rattle.archive_model.specs.Row.{Row, isRow, isSound, isBlank}
-use Rattle.archive_model.specs.Buffer.{blocksFor, blocksIn, rowsIn, archiveOf, bufferOf}
+use Rattle.archive_model.specs.Buffer.{maxRows, blocksFor, blocksIn, rowsIn, archiveOf, bufferOf}
 use Rattle.archive_model.specs.Append.{verdict, appendOf, blockAt}
 use Rattle.repack_model.specs.Repack.{soundRows, isDropped, dropped, salvageOf, maxIdentities, others, removeOf}
-use Rattle.repack_model.specs.Packer.{Packing, startPacking, packing, packedAs, packedIn}
+use Rattle.repack_model.specs.Packer.{Packing, packing, pendingLength, packedAs, Call, Run, startRun, packAll, endOf}
 
 -- ---- salvage
 
@@ -124,11 +124,21 @@ BothLists =
 
 -- ---- the packer
 
--- Pieces are the whole: what a packer writes of pieces of whole blocks, one after the other, is the archive of the rows that stay.
+-- after calls, and the end: it is answered 0, all blocks written are the archive of the rows that stay of the pieces that were taken, no more than
+-- 2^32 blocks hold, and the positions are those of their dropped blocks
+pub record PackedWhole (identities : List ℕ) (r : Run) (output : List ℕ) : Type 0 where
+  pub ended : endOf r output .number ≡ 0
+  pub blocks :
+      r .written ++ take (endOf r output .length) (endOf r output .output)
+      ≡ archiveOf (others identities (soundRows (r .taken)))
+  pub few : length (others identities (soundRows (r .taken))) ≤ maxRows
+  pub positions : r .dropped ≡ dropped (r .taken)
+
+-- Pieces are the whole: of calls with pieces one after the other, refused ones anywhere between.
 abbrev pub PiecesPacked : Type 0
 PiecesPacked =
-    (identities : List ℕ) (pieces : List (List ℕ)) → all (λ x. eqb (length x % blockLength) 0) pieces ≡ true
-    → packedIn startPacking identities pieces ≡ archiveOf (others identities (soundRows (flatten pieces)))
+    (identities pending output : List ℕ) (calls : List Call) → length pending ≡ pendingLength
+    → blockLength ≤ length output → PackedWhole identities (packAll identities (startRun pending) calls) output
 
 -- Held: what a packer is lent after a piece holds its packing, which the next piece reads.
 abbrev pub Held : Type 0

@@ -1,6 +1,6 @@
 -- The packer of salvage and removal: rows that stay are packed "so that only the last block is short" and renumbered from 0, the whole at once
 -- or in pieces (document 02, A9 and A11).
-use Prim.Native.Nat.{ℕ, _+_, _*_, _/_, _%_}
+use Prim.Native.Nat.{ℕ, _+_, _-_, _*_, _/_, _%_}
 use mathlib.Core.Bool.{Bool, cond, not, _&&_, _||_}
 use mathlib.Core.List.{List, [], _∷_, _++_, map, flatten}
 use lib.Dec.{ltb, leb, eqb}
@@ -12,7 +12,7 @@ use Rattle.buffers.specs.Buffer.{part}
 use Rattle.layout.specs.Cell.{cellLength}
 use Rattle.layout.specs.Block.{cellsPerBlock, bodyLength, blockLength, sealed}
 use Rattle.archive_model.specs.Row.{Row, rowCell, rowsHeader}
-use Rattle.archive_model.specs.Buffer.{maxBlocks}
+use Rattle.archive_model.specs.Buffer.{maxRows}
 use Rattle.repack_model.specs.Repack.{soundRows, dropped, fronted, maxIdentities, others}
 
 -- what was packed: how many blocks, and the cells that wait for the next one, as bytes
@@ -68,9 +68,14 @@ pendingLength = fullLength + fullLength
 abbrev pub packing : ℕ → ℕ → List ℕ → Packing
 packing next used pending = record { next = next; waiting = take (cellLength * used) pending }
 
--- fewer than 15 cells wait, behind at most 2^32 blocks
+-- so many full blocks, and cells that wait, have no more rows than an archive of 2^32 blocks
+abbrev pub hasBlocks : ℕ → ℕ → Bool
+hasBlocks full used = leb (cellsPerBlock * full + used) maxRows
+
+-- fewer than 15 cells wait, and there is a block number for them
 unfoldable pub isPacking : ℕ → ℕ → List ℕ → Bool
-isPacking next used pending = eqb (length pending) pendingLength && (ltb used cellsPerBlock && leb next maxBlocks)
+isPacking next used pending =
+    eqb (length pending) pendingLength && (ltb used cellsPerBlock && hasBlocks next used)
 
 -- the number, and how many blocks of the piece were dropped; how many cells wait then, how many blocks were packed, and every byte that the packer
 -- is lent; every byte and element of the output and of the list
@@ -107,13 +112,13 @@ packedAs count p output positions = record {
   positions = positions;
 }
 
--- a piece: 11; 16 for one that isn't whole blocks or brings more than 2^32 of them in all; 10 for more than 32 identities; 6 for an output shorter
--- than the piece or a list too short. Positions count from the first block of the piece.
+-- a piece: 11; 16 for one that isn't whole blocks, or whose rows could need more than 2^32 blocks with those before; 10 for more than 32 identities;
+-- 6 for an output shorter than the piece or a list too short. Positions count from the first block of the piece.
 unfoldable pub packOf : ℕ → ℕ → List ℕ → List ℕ → List ℕ → List ℕ → List ℕ → Packed
 packOf next used pending piece identities output positions =
     cond (not (isPacking next used pending))
     (keptAs (numberOf NotAccepted) next used pending output positions)
-    (cond (not (eqb (length piece % blockLength) 0 && leb (next + length piece / blockLength) maxBlocks))
+    (cond (not (eqb (length piece % blockLength) 0 && hasBlocks (next + length piece / blockLength) used))
     (keptAs (numberOf Size) next used pending output positions)
     (cond (ltb maxIdentities (length identities))
     (keptAs (numberOf Argument) next used pending output positions)
@@ -140,9 +145,46 @@ finishOf next used pending output =
       output = fronted (lastBlock (packing next used pending)) output;
     }))
 
--- ---- what pieces give together
+-- ---- what calls give together
 
-abbrev pub packedIn : Packing → List ℕ → List (List ℕ) → List ℕ
-packedIn p identities [] = lastBlock p
-packedIn p identities (x ∷ xs) =
-    pushedBlocks p (keptCells identities x) ++ packedIn (pushed p (keptCells identities x)) identities xs
+-- what a call is lent beside the packer
+pub record Call : Type 0 where
+  pub piece : List ℕ
+  pub output : List ℕ
+  pub positions : List ℕ
+
+-- after some calls: the packer; the blocks written, the positions of dropped blocks from the first piece on, and the pieces that were taken, each put
+-- together
+pub record Run : Type 0 where
+  pub next : ℕ
+  pub used : ℕ
+  pub pending : List ℕ
+  pub written : List ℕ
+  pub dropped : List ℕ
+  pub taken : List ℕ
+
+abbrev pub startRun : List ℕ → Run
+startRun pending = record { next = 0; used = 0; pending = pending; written = []; dropped = []; taken = [] }
+
+-- a call for a piece that was answered a: beside 0 it wrote the blocks by which their number rose
+abbrev pub ran : Run → List ℕ → Packed → Run
+ran r piece a = record {
+  next = a .next;
+  used = a .used;
+  pending = a .pending;
+  written = r .written ++ cond (eqb (a .number) 0) (take (blockLength * (a .next - r .next)) (a .output)) [];
+  dropped = r .dropped ++ cond (eqb (a .number) 0)
+      (map (λ k. length (r .taken) / blockLength + k) (take (a .count) (a .positions))) [];
+  taken = r .taken ++ cond (eqb (a .number) 0) piece [];
+}
+
+abbrev pub packAll : List ℕ → Run → List Call → Run
+packAll identities r [] = r
+packAll identities r (c ∷ cs) =
+    packAll identities
+    (ran r (c .piece)
+    (packOf (r .next) (r .used) (r .pending) (c .piece) identities (c .output) (c .positions))) cs
+
+-- the end
+abbrev pub endOf : Run → List ℕ → Finished
+endOf r output = finishOf (r .next) (r .used) (r .pending) output

@@ -33,11 +33,11 @@ use Rattle.archive_model.specs.Buffer.{maxBlocks, maxRows, blocksIn, Scan, scan
 use Rattle.archive_model.specs.Append.{isScan, feedOf}
 use Rattle.archive_model.specs.Identity.{identityOf}
 use Rattle.archive.proofs.Scans.{blocksFrom}
-use Rattle.archive.proofs.Calls.{scan-facts}
+use Rattle.archive_model.proofs.Scans.{scan-facts, rows-after, scanned-next}
 use Rattle.archive.proofs.Cells.{used-is, bytes-shown}
 use Rattle.report_model.specs.Report.{Line, Report, isReport, maxArchives, maxLines, lineOf, joined, insert, addRows, keptIn, looseIn, rowsOfLine, isRising, sumBy}
 use Rattle.report_model.specs.Pieces.{Tally, startTally, countedRows, counted, addBlock, addBlocks, Adding, isAdding}
-use Rattle.report_model.proofs.Adding.{rows-after, sound-facts, counted-length, scanned-next, blocks-one, tally-facts, going}
+use Rattle.report_model.proofs.Adding.{sound-facts, counted-length, blocks-one, tally-facts, going}
 use Rattle.report_model.proofs.Order.{add-first, add-none}
 use Rattle.report_model.proofs.Additions.{facts}
 use Rattle.report_model.proofs.Lines.{rising-insert, rising-added, sum-insert, more-added, kinds}

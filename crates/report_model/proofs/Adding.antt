@@ -1,5 +1,5 @@
 -- An archive in pieces: what pieces give, and that they are the whole.
---     rows-after, blocks-after, sound-facts, used-few, counted-length, scanned-next     what a scan of one block tells
+--     sound-facts, counted-length    what a scan of one block tells
 --     Going, going                   the parts of `isAdding`
 --     adding-next, adding-blocks     it holds after blocks more
 --     Reached, reached-next          after the pieces that make a buffer
@@ -24,6 +24,7 @@ use Rattle.archive_model.specs.Row.{Row, rowCount, rowsOf, isRow, isSound}
 use Rattle.archive_model.specs.Buffer.{maxBlocks, isWhole, blocksIn, Scan, scanBlock}
 use Rattle.archive_model.specs.Append.{isScan}
 use Rattle.archive_model.proofs.Pieces.{blocks-count, pieces-blocks, rows-count}
+use Rattle.archive_model.proofs.Scans.{rows-after, blocks-after, scanned-next}
 use Rattle.report_model.specs.Report.{Line, Report, maxLines, lineOf, addRows, keptIn, looseIn, isLine, isRising, sumBy, isTally, isReport, addOf}
 use Rattle.report_model.specs.Pieces.{Tally, startTally, countedRows, counted, addBlock, addBlocks, closing, Adding, adding, startAdding, rowsSoFar, isAdding, isPiece, fed, feedOf, endedOf}
 use Rattle.report_model.specs.Claims.{areBytes, feedAll, fedPieces, PiecesAreWhole}
@@ -35,14 +36,6 @@ use Rattle.report_model.proofs.Pieces.{closing-is}
 -- ---- a block
 
 module _ (block : List ℕ) where
-  pub rows-after : (s : Scan) → scanBlock s block .rows ≡ s .rows + cond (isSound block) (rowCount block) 0
-  unfolding scanBlock
-  rows-after s = refl
-
-  pub blocks-after : (s : Scan) → scanBlock s block .blocks ≡ s .blocks + 1
-  unfolding scanBlock
-  blocks-after s = refl
-
   pub sound-facts : isSound block ≡ true → (rowCount block ≤ cellsPerBlock) × (all isRow (rowsOf block) ≡ true)
   unfolding isSound
   sound-facts h =
@@ -51,20 +44,8 @@ module _ (block : List ℕ) where
       let c = both (all isRow (rowsOf block)) _ (b .1) in
       (leb-true (rowCount block) cellsPerBlock (b .0), c .0)
 
-  pub used-few : (used : ℕ) → used ≡ cond (isSound block) (rowCount block) 0 → used ≤ cellsPerBlock
-  used-few used e = by-test {X = used ≤ cellsPerBlock} (isSound block) (λ t. rw (e, t) (sound-facts t .0)) (λ f. rw (e, f) (omega arith))
-
   pub counted-length : length (countedRows block) ≡ cond (isSound block) (rowCount block) 0
   counted-length = by-test {X = length (countedRows block) ≡ cond (isSound block) (rowCount block) 0} (isSound block) (λ t. rw t (rows-count block)) (λ f. rw f)
-
-  pub scanned-next : (s : Scan) → isScan s ≡ true → s .blocks < maxBlocks → isScan (scanBlock s block) ≡ true
-  scanned-next s t h =
-      let next = scanBlock s block in
-      let w = both (leb (s .blocks) maxBlocks) _ t in
-      let dense : s .rows ≤ cellsPerBlock * s .blocks = leb-true (s .rows) (cellsPerBlock * s .blocks) (w .1) in
-      let few : cond (isSound block) (rowCount block) 0 ≤ cellsPerBlock = used-few (cond (isSound block) (rowCount block) 0) refl in
-      and-true (le-leb (next .blocks) maxBlocks (omega (arith, blocks-after s)))
-      (le-leb (next .rows) (cellsPerBlock * next .blocks) (omega (arith, blocks-after s, rows-after s)))
 
   counted-lines : areBytes block ≡ true → all (λ r. isLine (lineOf r)) (countedRows block) ≡ true
   counted-lines t =

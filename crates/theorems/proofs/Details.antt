@@ -36,15 +36,16 @@ use Rattle.repack_model.proofs.Rows as repack_model_rows
 use Rattle.repack_model.proofs.Salvage as repack_model_salvage
 use Rattle.repack_model.proofs.Removal as repack_model_removal
 use Rattle.repack_model.proofs.Pieces as repack_model_pieces
+use Rattle.repack_model.proofs.Runs as repack_model_runs
 use Rattle.cutting.proofs.Claims as cutting
 use Rattle.filling.proofs.Claims as filling
+use Rattle.c_codec.proofs.Claims as c_codec
+use Rattle.c_erp2.proofs.Claims as c_erp2
 use Rattle.c_archive.proofs.Claims as c_archive
 use Rattle.c_pieces.proofs.Pieces as c_pieces
 use Rattle.report_model.proofs.Claims as report_model_claims
 use Rattle.report_model.proofs.Complete as report_model_complete
 use Rattle.report_model.proofs.Adding as report_model_adding
-use Rattle.c_codec.proofs.Claims as c_codec
-use Rattle.c_erp2.proofs.Claims as c_erp2
 use Rattle.rows_model.proofs.Rows as rows_alone
 use Rattle.rows_model.proofs.States as rows_states
 use Rattle.rows_model.proofs.Again as rows_again
@@ -198,7 +199,7 @@ archives = record {
   emptied-blocks-are-counted = repack_model_removal.freed;
   freed-space-is-used = repack_model_removal.then-append;
   removals-join = repack_model_removal.both-lists;
-  pieces-are-packed = repack_model_pieces.pieces-packed;
+  pieces-are-packed = repack_model_runs.pieces-packed;
   packer-is-held = repack_model_pieces.held;
   second-cut-is-same = cutting.cut-again;
   cut-is-undone = cutting.undone;
@@ -208,6 +209,8 @@ archives = record {
   together-is-appended = filling.in-archive;
   rows-are-put-again = c_archive.given-again;
   four-numbers-are-enough = c_pieces.scan-back;
+  given-numbers-are-accepted = c_pieces.numbers-accepted;
+  accepted-numbers-are-given = c_pieces.numbers-given;
 }
 
 reports : Reports

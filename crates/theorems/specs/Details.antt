@@ -33,11 +33,11 @@ use Rattle.archive_model.specs.Identity as archive_identity
 use Rattle.repack_model.specs.Claims as repack_model
 use Rattle.cutting.specs.Claims as cutting
 use Rattle.filling.specs.Claims as filling
+use Rattle.c_codec.specs.Claims as c_codec
+use Rattle.c_erp2.specs.Claims as c_erp2
 use Rattle.c_archive.specs.Claims as c_archive
 use Rattle.c_pieces.specs.Claims as c_pieces
 use Rattle.report_model.specs.Claims as report_model
-use Rattle.c_codec.specs.Claims as c_codec
-use Rattle.c_erp2.specs.Claims as c_erp2
 use Rattle.rows_model.specs.Rows as rows_alone
 use Rattle.rows_model.specs.States as rows_states
 use Rattle.rows_model.specs.Again as rows_again
@@ -283,7 +283,7 @@ pub record Archives : Type 0 where
   pub freed-space-is-used : repack_model.ThenAppend
   -- Two removals, one after the other, are one removal of the sensors of both.
   pub removals-join : repack_model.BothLists
-  -- Blocks that are packed piece by piece give the archive of the rows that remain.
+  -- Calls that pack pieces, refused ones anywhere between, write the archive of the rows that remain and name the dropped blocks.
   pub pieces-are-packed : repack_model.PiecesPacked
   -- What is lent to a packer between two pieces is all that the next piece needs.
   pub packer-is-held : repack_model.Held
@@ -303,6 +303,10 @@ pub record Archives : Type 0 where
   pub rows-are-put-again : c_archive.GivenAgain
   -- Four numbers hold all that is known between two pieces of a verification.
   pub four-numbers-are-enough : c_pieces.ScanBack
+  -- The numbers that a verification in pieces leaves are accepted by its next call.
+  pub given-numbers-are-accepted : c_pieces.NumbersAccepted
+  -- Each four numbers that are accepted are those that some pieces leave.
+  pub accepted-numbers-are-given : c_pieces.NumbersGiven
 
 -- ---- reports
 

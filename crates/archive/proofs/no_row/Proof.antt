@@ -1,10 +1,12 @@
--- `archive::no_row` meets its contract.
-use mathlib.Core.Path.{refl}
+-- `archive::no_row` meets its contract: the 21 bytes are zero, whatever the cell.
+use borrow.Author.Tests.{ne-eqb}
+use Rattle.refusal.specs.Number.{numberOf}
+use Rattle.refusal.proofs.Numbers.{refused-number}
 use Rattle.archive.proofs.no_row.Statement.{statement}
 use Rattle.archive.proofs.no_row.Tie as tie
 
 returns : tie.Need-returns
-returns c = refl
+returns c cell = rw (ne-eqb (numberOf (c .args .why)) 0 (refused-number (c .args .why)))
 
 pub no-row-spec : {M : Type 1} → statement M
 no-row-spec =

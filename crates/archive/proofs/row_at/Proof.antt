@@ -8,20 +8,25 @@ use borrow.Author.Needs.{needs}
 use borrow.Author.Tests.{not-true, not-false}
 use denote.Ref.{now}
 use lib.ListN.{length}
-use Rattle.layout.specs.Block.{cellsPerBlock, blockLength}
+use Rattle.layout.specs.Block.{cellsPerBlock, blockLength, blockCell}
 use Rattle.buffers.proofs.Segments.{part-length, part-ends}
 use Rattle.archive_model.specs.Buffer.{isWhole}
-use Rattle.archive.specs.Archive.{rowShown}
+use Rattle.archive_model.specs.Append.{ReadRow, cellAt}
+use Rattle.archive.specs.Archive.{Shown, rowShown}
 use Rattle.archive.specs.Private.{rowInBlock}
 use Rattle.archive.proofs.Calls.{row-size, row-out, row-in}
 use Rattle.archive.proofs.row_at.Statement.{statement}
 use Rattle.archive.proofs.row_at.Tie as tie
 
+-- an answer with the bytes of its cell
+abbrev shown : tie.Start → ReadRow → Shown
+shown c a = rowShown a (cellAt (c .args .i) (now (c .args .buffer)))
+
 size : tie.Need-returns
 size c =
     let w = c .before .before in
     let a = w .before .before .args in
-    c .no-row .ensures ∙ ap rowShown (row-size (now (a .buffer)) (a .i) (sym (w .is-whole .ensures) ∙ not-true _ (c .before .if1 .taken)))
+    c .no-row .ensures (cellAt (a .i) (now (a .buffer))) ∙ ap (shown (w .before .before)) (row-size (now (a .buffer)) (a .i) (sym (w .is-whole .ensures) ∙ not-true _ (c .before .if1 .taken)))
 
 whole : (c : tie.Else1) → isWhole (length (now (c .before .before .before .args .buffer))) ≡ true
 whole c = sym (c .before .is-whole .ensures) ∙ not-false _ (c .if1 .left)
@@ -30,7 +35,7 @@ out : tie.Need-returns-2
 out c =
     let e = c .before .before in
     let a = e .before .before .before .args in
-    c .no-row2 .ensures ∙ ap rowShown (row-out (now (a .buffer)) (a .i) (whole e) (c .before .if2 .taken))
+    c .no-row2 .ensures (cellAt (a .i) (now (a .buffer))) ∙ ap (shown (e .before .before .before)) (row-out (now (a .buffer)) (a .i) (whole e) (c .before .if2 .taken))
 
 read-row-requires : tie.Need-read-row-requires
 read-row-requires c κs =
@@ -44,8 +49,8 @@ within c =
     let e = e2 .before in
     let a = e .before .before .before .args in
     let k = a .i / cellsPerBlock in
-    c .read-row .ensures ∙ ap (λ (l : List ℕ). rowShown (rowInBlock l (a .i % cellsPerBlock))) (part-ends (blockLength * k) blockLength (now (a .buffer)))
-    ∙ ap rowShown (row-in (now (a .buffer)) (a .i) (whole e) (e2 .if2 .left))
+    c .read-row .ensures ∙ ap (λ (l : List ℕ). rowShown (rowInBlock l (a .i % cellsPerBlock)) (blockCell (a .i % cellsPerBlock) l)) (part-ends (blockLength * k) blockLength (now (a .buffer)))
+    ∙ ap (shown (e .before .before .before)) (row-in (now (a .buffer)) (a .i) (whole e) (e2 .if2 .left))
 
 pub row-at-spec : {M : Type 1} → statement M
 row-at-spec =

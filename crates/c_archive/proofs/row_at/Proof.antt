@@ -3,13 +3,13 @@ use mathlib.Core.Path.{_≡_, sym, ap, _∙_}
 use native.Mathlib.Omega.{arith}
 use borrow.Author.Needs.{needs}
 use denote.Ref.{now}
-use lib.ListN.{length}
-use Rattle.buffers.proofs.Segments.{Writing, packed, begin, begun-length, within, lent, store, lend, done}
-use Rattle.buffers.proofs.Buffer.{overwritten-fits}
+use lib.ListN.{length, take}
+use Rattle.buffers.proofs.Segments.{Writing, packed, begin, begun-length, within, store, lend, done}
+use Rattle.buffers.specs.Buffer.{resized}
+use Rattle.layout.specs.Cell.{cellCapacity}
 use Rattle.archive_model.specs.Append.{ReadRow, rowAtOf}
 use Rattle.archive.specs.Archive.{foundNumber, Shown}
 use Rattle.filling.specs.Fill.{rowLength}
-use Rattle.c_layout.specs.Frame.{frameLength, frameBytes}
 use Rattle.c_archive.proofs.Calls.{row-other, row-not, row-done, row-are}
 use Rattle.c_archive.proofs.row_at.Statement.{statement}
 use Rattle.c_archive.proofs.row_at.Tie as tie
@@ -41,34 +41,30 @@ found c = c .before .before .before
 long : (c : tie.After-flag-byte) → length (now (start (found c .before) .args .row)) ≡ rowLength
 long c = let r = found c .before in r .before .if1 .left
 
-abbrev step1 : tie.After-flag-byte → Writing 1
-step1 c = packed (store (begin (now (start (found c .before) .args .row))) (c .flag-byte .result) (omega (arith, long c)))
+abbrev flagged : tie.After-flag-byte → Writing 1
+flagged c = packed (store (begin (now (start (found c .before) .args .row))) (c .flag-byte .result) (omega (arith, long c)))
 
-abbrev step2 : tie.After-put-frame → Writing 23
+abbrev step1 : tie.After-flag-byte → Writing 2
+step1 c = packed (store (flagged c .begun) (found c .before .row-at .result .len) (omega (arith, long c)))
+
+abbrev step2 : tie.After-put-filled → Writing 23
 step2 c =
-    let at = c .before .before .before in
+    let at = c .before .before .before .before in
     let r = found at .before .row-at .result in
     packed
-    (lend (step1 at .begun) _ (frameBytes (r .len) (r .bytes)) 23
-    (c .put-frame .ensures ∙ overwritten-fits frameLength _ _ (lent (step1 at .begun) 22 23 (omega arith) (omega (arith, long at))))
-    (c .put-frame .kept .0)
-    (omega arith)
-    (omega (arith, long at)))
-
-bytes-long : (c : tie.After-row-at) → length (c .row-at .result .bytes) ≡ 21
-bytes-long c = search needs
+    (lend (step1 at .begun) _ (resized cellCapacity (take (r .len) (r .bytes))) 23 (c .put-filled .ensures) (c .put-filled .kept .0) (omega arith) (omega (arith, long at)))
 
 written : tie.Need-returns-3
 written c =
     let pf = c .before .before in
-    let fl = pf .before .before .before in
+    let fl = pf .before .before .before .before in
     let n = found fl in
     let at = n .before in
     let a = start at .args in
     let r = at .row-at .result in
     let none : expected at .number ≡ 0 = sym (number n) ∙ fl .before .before .if2 .left in
     rw (n .found-number .ensures, done (step2 pf .begun) (long fl))
-    (row-are _ (foundNumber (r .answer)) (r .len) (r .time) (r .bytes) (r .loose) _ (fl .flag-byte .ensures) (bytes-long at) (at .row-at .ensures)
+    (row-are (now (a .buffer)) (a .i) _ (foundNumber (r .answer)) (r .len) (r .time) (r .bytes) (r .loose) (fl .flag-byte .ensures) none (at .row-at .ensures)
     ∙ row-done (now (a .buffer)) (a .i) (now (a .row)) (now (a .time)) (long fl) none)
 
 pub row-at-spec : {M : Type 1} → statement M
@@ -81,6 +77,7 @@ row-at-spec =
     refused
     (λ c κs. search needs)
     (λ c. omega (arith, long c))
+    (λ c. omega (arith, long c, begun-length (flagged c .begun)))
     (λ c. search needs)
     (λ c. search needs)
     (λ c. within (step1 c .begun) 23 (omega (arith, long c)))

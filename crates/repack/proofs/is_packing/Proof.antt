@@ -2,7 +2,7 @@
 use native.Mathlib.Omega.{arith}
 use borrow.Author.Needs.{needs}
 use denote.Ref.{now}
-use Rattle.repack.proofs.Packs.{packing-other, packing-many, packing-far}
+use Rattle.repack.proofs.Packs.{packing-other, packing-many, packing-far, packing-rows}
 use Rattle.repack.proofs.is_packing.Statement.{statement}
 use Rattle.repack.proofs.is_packing.Tie as tie
 
@@ -18,8 +18,13 @@ many c =
 
 far : tie.Need-returns-3
 far c =
-    let a = c .before .before .args in
-    packing-far (a .next) (a .used) (now (a .pending)) (omega arith) (omega arith)
+    let a = c .before .before .before .args in
+    packing-far (a .next) (a .used) (now (a .pending)) (omega arith) (omega arith) (c .if3 .taken)
+
+rows : tie.Need-returns-4
+rows c =
+    let a = c .before .before .before .args in
+    packing-rows (a .next) (a .used) (now (a .pending)) (omega arith) (omega arith)
 
 pub is-packing-spec : {M : Type 1} → statement M
-is-packing-spec = tie.close (tie.spec other many far)
+is-packing-spec = tie.close (tie.spec other many far (λ c. omega arith) (λ c. omega arith) rows)

@@ -136,6 +136,8 @@ pack-spec =
     (λ c. search needs)
     odd
     (λ c. omega (arith, facts (c .before)))
+    (λ c. omega (arith, facts (c .before)))
+    (λ c. omega (arith, facts (c .before)))
     (λ c κs. search needs)
     (λ c. search needs)
     far

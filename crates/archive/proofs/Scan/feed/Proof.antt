@@ -10,7 +10,8 @@ use Rattle.layout.specs.Block.{cellsPerBlock}
 use Rattle.archive_model.specs.Buffer.{maxBlocks}
 use Rattle.archive_model.specs.Append.{isScan}
 use Rattle.archive.specs.Archive.{scanOf}
-use Rattle.archive.proofs.Calls.{scan-facts, feed-not, feed-odd, feed-many, feed-done}
+use Rattle.archive_model.proofs.Scans.{scan-facts}
+use Rattle.archive.proofs.Calls.{feed-not, feed-odd, feed-many, feed-done}
 use Rattle.archive.proofs.Scan.feed.Statement.{statement}
 use Rattle.archive.proofs.Scan.feed.Tie as tie
 
@@ -26,7 +27,7 @@ yes c = sym (c .before .is-scan .ensures) ∙ not-false _ (c .if1 .left)
 facts : (c : tie.Else1)
     → (c .before .before .before .args .self .blocks ≤ maxBlocks)
     × (c .before .before .before .args .self .rows ≤ cellsPerBlock * c .before .before .before .args .self .blocks)
-facts c = scan-facts (scanOf (c .before .before .before .args .self)) (yes c)
+facts c = let f = scan-facts (scanOf (c .before .before .before .args .self)) (yes c) in (f .0, f .1)
 
 odd : tie.Need-returns-2
 odd c =

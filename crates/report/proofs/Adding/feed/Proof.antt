@@ -9,7 +9,8 @@ use mathlib.Core.Bool.{true}
 use lib.ListN.{length}
 use borrow.Author.Tests.{not-true, not-false, eq-eqb}
 use Rattle.archive_model.specs.Buffer.{blocksIn}
-use Rattle.archive.proofs.Calls.{scan-facts, whole-facts}
+use Rattle.archive_model.proofs.Scans.{scan-facts}
+use Rattle.archive.proofs.Calls.{whole-facts}
 use Rattle.refusal.specs.Number.{numberOf}
 use Rattle.refusal.specs.declared.Refusal.{Refusal}
 use Rattle.refusal.specs.declared.Refusal.the-variants.{NotAccepted, Size}

@@ -21,7 +21,7 @@ use Rattle.report.specs.declared.tally.Tally.{Tally}
 use Rattle.report.specs.Lines.{linesAt}
 use Rattle.report.specs.Private.{rowsBetween, AddedRows, tallyOf}
 use Rattle.report.proofs.Windows.{lines-count, lines-none}
-use Rattle.report_model.proofs.Adding.{rows-after, used-few}
+use Rattle.archive_model.proofs.Scans.{rows-after, used-few}
 use Rattle.report.proofs.Blocks.{between-length, loose-few, fed, counted-rows, used-rows, scan-few, over-block, done-block, over-before, over-now}
 use Rattle.report.proofs.Arrays.{grows-over}
 use Rattle.report.proofs.tally.add_block.Statement.{statement}

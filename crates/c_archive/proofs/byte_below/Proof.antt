@@ -1,7 +1,7 @@
--- `archive::byte_below` meets its contract.
+-- `c_archive::byte_below` meets its contract.
 use borrow.Author.Tests.{lt-ltb, le-ltb}
-use Rattle.archive.proofs.byte_below.Statement.{statement}
-use Rattle.archive.proofs.byte_below.Tie as tie
+use Rattle.c_archive.proofs.byte_below.Statement.{statement}
+use Rattle.c_archive.proofs.byte_below.Tie as tie
 
 pub byte-below-spec : {M : Type 1} → statement M
 byte-below-spec =
