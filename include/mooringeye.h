@@ -16,8 +16,8 @@
  *
  * Beside a refusal all memory that was lent is as it was, result pointers included; excepted are the position or place
  * that goes with a refusal where a function says so, and the counters of a collector that takes a DAMAGED or LATE
- * reception. Beside success, what stands in an output behind the result is as it was. Positions, places and indices
- * count from 0. Times are in milliseconds.
+ * reception. `position` is written beside such a refusal alone, and not beside 0. Beside success, what stands in an
+ * output behind the result is as it was. Positions, places and indices count from 0. Times are in milliseconds.
  *
  * Versions. The library has the version MAJOR.MINOR.PATCH of this header, and so have the tool, the Rust crate and the
  * Python module. MAJOR, which is also that of the shared object's name, rises when a function, a struct or a constant
@@ -538,8 +538,9 @@ uint8_t mooringeye_scan_end(const uint64_t numbers[MOORINGEYE_SCAN_NUMBERS], siz
  * that wait for a full block lie in `waiting`, 960 bytes; `numbers` are how many wait, and how many blocks were
  * written; two zeros before the first piece. Blocks go into the front of `out`, 512 bytes for each by which the second
  * number rises, and the positions of dropped blocks, from the first block of the piece, into the front of `positions`.
- * Refused: 11 numbers that no pieces give, 16 as above, 10 more than 32 transmitters, 6 an output shorter than the
- * piece or a list shorter than the positions. */
+ * Refused: 11 numbers that no pieces give, 16 a piece that isn't whole blocks or whose rows could need more than 2^32
+ * blocks with those before, 10 more than 32 transmitters, 6 an output shorter than the piece or a list shorter than the
+ * positions. */
 uint8_t mooringeye_pack_feed(uint64_t numbers[MOORINGEYE_PACKER_NUMBERS], uint8_t waiting[MOORINGEYE_PACKER_BYTES],
                              const uint8_t *piece, size_t size, const uint32_t *identities, size_t identities_length,
                              uint8_t *out, size_t out_size, uint64_t *positions, size_t positions_length,

@@ -80,7 +80,7 @@ int main(int argc, char **argv)
 {
     static uint8_t buffer[SIZE];
     size_t rows;
-    size_t position;
+    size_t position = 0;
     if (argc != 2) {
         fprintf(stderr, "usage: archive FILE < ROWS\n");
         return 2;

@@ -53,17 +53,17 @@ int main(void) {
                                                             rows[i].loose != 0, &position);
                 SHOULD(number == MOORINGEYE_DONE);
             }
-            SHOULD(put(n, count) == MOORINGEYE_DONE && position == 0);
+            SHOULD(put(n, count) == MOORINGEYE_DONE && position == 7);
             SHOULD(memcmp(block, same, sizeof block) == 0);
         }
         fill(n);
-        SHOULD(put(n, 31 - n) == 6 && position == 0);
+        SHOULD(put(n, 31 - n) == 6 && position == 7);
         SHOULD(put(n + 1, 1) == 12 && position == (n + 1) / 15);
         rows[29 - n].frame.length = 22;
         SHOULD(put(n, 31 - n) == 1 && position == 29 - n);
         rows[29 - n].frame.length = sizeof press;
     }
-    SHOULD(put((size_t)15 << 32, 1) == 16 && position == 0);
+    SHOULD(put((size_t)15 << 32, 1) == 16 && position == 7);
     SHOULD(mooringeye_archive_put_rows(block, sizeof block - 1, 15, times, 1, rows, sizeof *rows, &position) == 16);
     SHOULD(mooringeye_archive_put_rows(block, sizeof block, 15, times, 2, rows, sizeof *rows, &position) == 16);
     SHOULD(memcmp(block, before, sizeof block) == 0);

@@ -48,7 +48,7 @@ fn one_by_one(block: &mut [u8], n: usize, count: usize) {
     for i in n..n + count {
         let (time, bytes, loose) = row(i);
         let mut position = 7;
-        assert_eq!((raw::archive_put_row(block, i, &bytes, time, loose != 0, &mut position), position), (0, 0));
+        assert_eq!((raw::archive_put_row(block, i, &bytes, time, loose != 0, &mut position), position), (0, 7));
     }
 }
 
@@ -59,7 +59,7 @@ fn block_before(n: usize) -> Vec<u8> {
     block
 }
 
-/// The answer and the position.
+/// The answer and the position, 7 where none goes with it.
 fn put(block: &mut [u8], n: usize, times: &[u64], records: &[u8]) -> (u8, usize) {
     let mut position = 7;
     (raw::archive_put_rows(block, n, times, records, &mut position), position)
@@ -73,7 +73,7 @@ fn together_is_one_by_one() {
             let mut same = block.clone();
             one_by_one(&mut same, n, count);
             let (times, records) = rows(n, count);
-            assert_eq!(put(&mut block, n, &times, &records), (0, 0));
+            assert_eq!(put(&mut block, n, &times, &records), (0, 7));
             assert_eq!(block, same, "{count} rows from row {n} on");
         }
     }
@@ -85,7 +85,7 @@ fn blocks_make_an_archive() {
     let mut n = 0;
     for count in [1, 14, 15, 7, 0, 3, 5, 2] {
         let (times, records) = rows(n, count);
-        assert_eq!(put(&mut archive[n / 15 * BLOCK..][..BLOCK], n, &times, &records), (0, 0));
+        assert_eq!(put(&mut archive[n / 15 * BLOCK..][..BLOCK], n, &times, &records), (0, 7));
         n += count;
         let (mut found, mut position) = (7, 7);
         assert_eq!((raw::archive_verify(&archive, &mut found, &mut position), found), (0, n));
@@ -113,16 +113,16 @@ fn sizes() {
         for size in [0, 1, 511, 513, 1024] {
             let mut other = block.clone();
             other.resize(size, 0);
-            refused(&other, n, &times, &records, (16, 0));
+            refused(&other, n, &times, &records, (16, 7));
         }
         for size in (0..100).filter(|size| *size != raw::ROW * 3) {
-            refused(&block, n, &times, &[&records[..], &records].concat()[..size], (16, 0));
+            refused(&block, n, &times, &[&records[..], &records].concat()[..size], (16, 7));
         }
         for count in [0, 1, 2] {
-            refused(&block, n, &times[..count], &records, (16, 0));
+            refused(&block, n, &times[..count], &records, (16, 7));
         }
         for far in [15 << 32, (15 << 32) + 17, usize::MAX] {
-            refused(&block, far, &times, &records, (16, 0));
+            refused(&block, far, &times, &records, (16, 7));
         }
     }
 }
@@ -145,8 +145,8 @@ fn blocks_that_do_not_match() {
     // No more than the first five bytes are looked at.
     let mut block = block_before(17);
     block[5..].fill(0xEE);
-    assert_eq!(put(&mut block.clone(), 17, &times[1..], &records[raw::ROW..]), (0, 0));
-    assert_eq!(put(&mut block, 17, &[], &[]), (0, 0));
+    assert_eq!(put(&mut block.clone(), 17, &times[1..], &records[raw::ROW..]), (0, 7));
+    assert_eq!(put(&mut block, 17, &[], &[]), (0, 7));
     assert_eq!(block[5..], [0xEE; BLOCK - 5]);
 }
 
@@ -189,7 +189,7 @@ fn no_room() {
     for n in 0..30 {
         let (times, records) = rows(n, 300);
         for count in [16 - n % 15, 17, 300] {
-            refused(&block_before(n), n, &times[..count], &records[..count * raw::ROW], (6, 0));
+            refused(&block_before(n), n, &times[..count], &records[..count * raw::ROW], (6, 7));
         }
     }
 }

@@ -41,7 +41,7 @@ fn verified(buffer: &[u8], blocks: usize) -> (u8, usize, usize) {
         let number = raw::scan_feed(&mut numbers, piece);
         if number != 0 {
             assert_eq!(numbers, before);
-            return (number, 0, 0);
+            return (number, 7, 7);
         }
     }
     (raw::scan_end(&numbers, &mut rows, &mut position), rows, position)
@@ -63,22 +63,61 @@ fn a_scan_in_pieces_is_verify() {
 
 #[test]
 fn any_numbers_of_a_scan_are_answered() {
-    let (mut rows, mut position) = (7, 7);
     for (numbers, answer) in [
-        ([0, 0, 0, 0], (0, 0, 0)),
-        ([1 << 32, 15 << 32, 1, 9], (0, 15 << 32, 0)),
-        ([(1 << 32) + 1, 0, 0, 0], (11, 0, 0)),
-        ([1, 16, 0, 0], (11, 0, 0)),
-        ([2, 3, 3, 5], (12, 0, 5)),
-        ([2, 3, u64::MAX, u64::MAX], (12, 0, usize::MAX)),
-        ([u64::MAX; 4], (11, 0, 0)),
+        // Every block is full.
+        ([0, 0, 0, 0], (0, 0, 7)),
+        ([1 << 32, 15 << 32, 0, 9], (0, 15 << 32, 7)),
+        ([1, 0, 0, 0], (11, 7, 7)),
+        ([1, 16, 0, 0], (11, 7, 7)),
+        ([(1 << 32) + 1, 15 * ((1 << 32) + 1), 0, 0], (11, 7, 7)),
+        // The last one is short.
+        ([2, 15, 1, 0], (11, 7, 7)),
+        ([2, 16, 1, 0], (0, 16, 7)),
+        ([2, 29, 1, 0], (0, 29, 7)),
+        ([2, 30, 1, 0], (11, 7, 7)),
+        ([0, 0, 1, 0], (11, 7, 7)),
+        // An all-zero one was passed.
+        ([0, 0, 2, 0], (11, 7, 7)),
+        ([2, 0, 2, 0], (0, 0, 7)),
+        ([2, 15, 2, 0], (0, 15, 7)),
+        ([2, 16, 2, 0], (11, 7, 7)),
+        // One does not match.
+        ([2, 3, 3, 1], (12, 7, 1)),
+        ([2, 30, u64::MAX, 0], (12, 7, 0)),
+        ([2, 3, 3, 2], (11, 7, 7)),
+        ([2, 31, 3, 1], (11, 7, 7)),
+        ([u64::MAX; 4], (11, 7, 7)),
     ] {
+        let (mut rows, mut position) = (7, 7);
         let number = raw::scan_end(&numbers, &mut rows, &mut position);
         assert_eq!((number, rows, position), answer, "{numbers:?}");
     }
     let mut full = [1 << 32, 0, 2, 0];
     assert_eq!(raw::scan_feed(&mut full, &[0; BLOCK]), 16);
     assert_eq!(raw::scan_feed(&mut full, &[]), 0);
+}
+
+/// A packer whose rows would need a block after number 2^32 - 1.
+#[test]
+fn no_block_number_is_used_twice() {
+    let (mut waiting, mut out, mut count) = ([0xEE; raw::PACKER_BYTES], [0xEE; 2 * BLOCK], 7);
+    for (numbers, piece, feed, end) in [
+        ([14, (1 << 32) - 1], &[0; BLOCK][..], 16, 0),
+        ([14, (1 << 32) - 2], &[0; BLOCK][..], 0, 0),
+        ([0, (1 << 32) - 1], &[0; BLOCK][..], 0, 0),
+        ([0, 1 << 32], &[0; BLOCK][..], 16, 0),
+        ([1, 1 << 32], &[][..], 11, 11),
+        ([14, 1 << 32], &[][..], 11, 11),
+        ([15, 0], &[][..], 11, 11),
+    ] {
+        let mut after = numbers;
+        assert_eq!(raw::pack_feed(&mut after, &mut waiting, piece, &[], &mut out, &mut [], &mut count), feed, "{numbers:?}");
+        assert_eq!(after, numbers);
+        let mut length = 7;
+        assert_eq!(raw::pack_end(&numbers, &waiting, &mut out, &mut length), end, "{numbers:?}");
+        assert_eq!(length, if end == 11 { 7 } else if numbers[0] == 0 { 0 } else { BLOCK });
+    }
+    assert_eq!(count, 0);
 }
 
 /// What a packer writes of pieces, zeros up to the buffer's length, and the positions dropped.
@@ -171,19 +210,19 @@ fn a_cut_from_the_end() {
         for first in [0, 1, 14, 15, 16, 30, rows.saturating_sub(1), rows] {
             let (mut whole, mut file) = (buffer.clone(), buffer.clone());
             let number = raw::archive_cut(&mut whole, first, &mut position);
-            assert_eq!((number, position), (if rows < first { 10 } else { 0 }, 0));
+            assert_eq!((number, position), (if rows < first { 10 } else { 0 }, 7));
             if rows <= first {
                 assert_eq!(whole, buffer);
                 continue;
             }
             for k in (first / 15 + 1..rows.div_ceil(15)).rev() {
                 file[BLOCK * k..BLOCK * k + BLOCK].fill(0);
-                assert_eq!(verified(&file, 3), (0, 15 * k, 0));
+                assert_eq!(verified(&file, 3), (0, 15 * k, 7));
             }
             let at = BLOCK * (first / 15);
             assert_eq!(raw::archive_cut_block(&mut file[at..at + BLOCK], first % 15), 0);
             assert_eq!(file, whole);
-            assert_eq!(verified(&file, 3), (0, first, 0));
+            assert_eq!(verified(&file, 3), (0, first, 7));
             cuts += 1;
         }
     }

@@ -238,8 +238,8 @@ fn outputs_of_every_length() {
         let (mut out, mut length) = (vec![0xEE; n], 77);
         let number = raw::encapsulate(&VALID, 0xF1F2F3F4, &mut out, &mut length);
         let right = n >= 13;
-        assert_eq!((number, length), if right { (0, 13) } else { (6, 0) });
-        assert!(untouched(&out[length..]));
+        assert_eq!((number, length), if right { (0, 13) } else { (6, 77) });
+        assert!(untouched(&out[if right { 13 } else { 0 }..]));
     }
 }
 
@@ -253,12 +253,14 @@ fn nothing_at_all() {
     assert_eq!(raw::decapsulate(&[], &mut [], &mut length), 1);
     assert_eq!(raw::site(&[]), 0);
     assert_eq!(raw::collector_take(&mut fresh(), &[], 0), 1);
-    assert_eq!((raw::archive_verify(&[], &mut rows, &mut position), rows, position), (0, 0, 0));
+    assert_eq!(length, 7);
+    assert_eq!((raw::archive_verify(&[], &mut rows, &mut position), rows, position), (0, 0, 7));
     assert_eq!(raw::archive_append(&mut [], &VALID, 0, false, &mut position), 6);
     assert_eq!(raw::archive_put_row(&mut [], 0, &VALID, 0, false, &mut position), 16);
     assert_eq!(raw::archive_put_rows(&mut [], 0, &[], &[], &mut position), 16);
     assert_eq!(raw::archive_salvage(&[], &mut [], &mut [], &mut length, &mut rows), 0);
     assert_eq!(raw::archive_remove(&mut [], &[], &mut length, &mut position), 0);
+    assert_eq!(position, 7);
 }
 
 #[test]
