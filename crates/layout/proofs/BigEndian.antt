@@ -1,7 +1,7 @@
 -- Numbers as bytes, over any width.
 --     be-length, unbe-be        w bytes, which spell the number again where it is below 256 ^ w
 --     be-at, unbe-be-lt         each of the w bytes; what they spell is below 256 ^ w, whatever the number was
---     unbe-lt, be-front, be-unbe     bytes spell a number below 256 ^ w, which has these bytes again; so do the first of them
+--     be-front, be-unbe     the number that bytes spell has these bytes again; so do the first of them
 --     field-lt, field-back      the same of a part of a list; field-one of a single byte
 --     be-set                    how a writer that goes from the last byte to the first proceeds
 --     unbe-more, digit-lt       how a reader that goes from the first to the last does, and what bounds it
@@ -103,9 +103,6 @@ spelled-lt (suc i) bs b = elim (decLt i (length bs)) [
       let same : take (suc i) bs ≡ take i bs = take-all (suc i) bs (omega arith) ∙ sym (take-all i bs (omega arith)) in
       rw (same, ← add-one i) (omega arith))
 ]
-
-pub unbe-lt : (w : ℕ) (bs : List ℕ) → length bs ≡ w → Bytes bs → unbe bs < 256 ^ w
-unbe-lt w bs e b = rw (take-all w bs (omega arith)) at (spelled-lt w bs b)
 
 -- the first i bytes are those of the number that they spell
 pub be-front : (i : ℕ) (bs : List ℕ) → i ≤ length bs → Bytes bs → be i (unbe (take i bs)) ≡ take i bs

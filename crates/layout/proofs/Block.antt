@@ -1,6 +1,6 @@
 -- Blocks: what is read of one that was written, and how one is sealed.
 --     block-length, block-crc                    a block has 512 bytes, and the last is the CRC of those before it
---     block-header, block-cell, block-unused     what is read is what was written; a cell past those used is zero
+--     block-header, block-cell     what is read is what was written
 --     seal-not, seal-set, seal-front, seal-written     sealing: refused; in place; after all before it was written; the same, header and cells
 use mathlib.Core.Path.{_≡_, refl, sym, ap, _∙_}
 use mathlib.Core.List.{List, [], _∷_, _++_, append-assoc, flatten}
@@ -13,7 +13,7 @@ use Rattle.lists.specs.Lists.{padded}
 use Rattle.buffers.specs.Buffer.{part}
 use Rattle.layout.specs.Cell.{cellLength}
 use Rattle.layout.specs.Block.{headerLength, cellsPerBlock, bodyLength, blockLength, sealed, sealBlock, blockOf, blockHeader, blockCell}
-use Rattle.buffers.proofs.Segments.{left, right, whole, part-replicate, Each, flatten-length, flatten-part, Begun, begun-length, so-far}
+use Rattle.buffers.proofs.Segments.{left, right, whole, Each, flatten-length, flatten-part, Begun, begun-length, so-far}
 use Rattle.buffers.proofs.Buffer.{padded-length, overwritten-fits, overwritten-not}
 
 -- ---- sealing
@@ -88,13 +88,3 @@ module _ (header : List ℕ) (cells : List (List ℕ)) (h : length header ≡ he
   block-cell i l =
       in-used (headerLength + cellLength * i) cellLength (omega (arith, used-length))
       ∙ right header (flatten cells) headerLength (cellLength * i) cellLength h ∙ flatten-part cellLength cells each i l
-
-  pub block-unused : (i : ℕ) → length cells ≤ i → i < cellsPerBlock → blockCell i (blockOf header cells) ≡ replicate cellLength 0
-  block-unused i l k =
-      let zeros = bodyLength - length used in
-      let past = cellLength * i - cellLength * length cells in
-      let e : headerLength + cellLength * i ≡ length used + past = omega (arith, used-length) in
-      in-body (headerLength + cellLength * i) cellLength (omega arith)
-      ∙ ap (λ (a : ℕ). part a cellLength body) e
-      ∙ right used (replicate zeros 0) (length used) past cellLength refl
-      ∙ part-replicate past cellLength zeros 0 (omega (arith, used-length))

@@ -1,13 +1,13 @@
 -- Headers of a checkpoint's blocks: what is read of one that was written, where its numbers fit.
 --     header-length                                             a header has 24 bytes
---     header-index, header-used, header-first, header-second    what is read is what was written
+--     header-used, header-first, header-second    what is read is what was written
 use mathlib.Core.Path.{_≡_, refl, ap, _∙_}
 use mathlib.Core.List.{List, [], _∷_, _++_}
 use Prim.Native.Nat.{ℕ, _^_, _<_}
 use native.Mathlib.Omega.{arith}
 use lib.ListN.{length, replicate, length-append}
 use Rattle.layout.specs.BigEndian.{be, unbe}
-use Rattle.model.specs.Header.{headerOf, headerIndex, headerUsed, headerFirst, headerSecond}
+use Rattle.model.specs.Header.{headerOf, headerUsed, headerFirst, headerSecond}
 use Rattle.layout.specs.Block.{headerLength}
 use Rattle.buffers.proofs.Segments.{left, last}
 use Rattle.layout.proofs.BigEndian.{be-length, unbe-be}
@@ -26,10 +26,6 @@ module _ (k used a b : ℕ) where
   pub header-length : length (headerOf k used a b) ≡ headerLength
   unfolding headerOf
   header-length = simp (length-append, be-length)
-
-  pub header-index : headerIndex (headerOf k used a b) ≡ k
-  unfolding headerOf
-  header-index = refl
 
   pub header-used : headerUsed (headerOf k used a b) ≡ used
   unfolding headerOf

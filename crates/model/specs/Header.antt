@@ -11,9 +11,6 @@ headerOf k used a b = (k ∷ used ∷ []) ++ replicate 6 0 ++ be 8 a ++ be 8 b
 
 -- ---- what a header says
 
-abbrev pub headerIndex : List ℕ → ℕ
-headerIndex header = getD header 0 0
-
 abbrev pub headerUsed : List ℕ → ℕ
 headerUsed header = getD header 1 0
 

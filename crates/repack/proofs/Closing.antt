@@ -6,7 +6,6 @@
 --     salvaged-rows, salvaged-few, salvage-done, salvage-size, salvage-short, salvage-list     the answers of salvage
 use Prim.Native.Nat.{ℕ, _+_, _-_, _*_, _/_, _≤_, _<_}
 use native.Mathlib.Nat.{zero-add}
-use native.Mathlib.Decide.{decLt}
 use native.Mathlib.Omega.{arith}
 use mathlib.Core.Path.{_≡_, refl, sym, ap, ap₂, _∙_}
 use mathlib.Core.Bool.{true, false, not}
@@ -76,12 +75,6 @@ module _ (next used : ℕ) (pending : List ℕ) (l : length pending ≡ pendingL
         b .is ∙ ap (λ (x : List ℕ). x ++ drop end out) (append-assoc (take at out) block (replicate (end - (at + blockLength)) 0)
         ∙ ap (λ (m : ℕ). take at out ++ (block ++ replicate m 0)) n)
         ∙ ap (λ (x : List ℕ). take at out ++ padded (end - at) x ++ drop end out) (sym (last-some z))
-
-    pub last-fits : cellsPerBlock * next + used ≤ cellsPerBlock * (end / blockLength) → length (lastBlock (packing next used pending)) ≤ end - at
-    last-fits h = elim (decLt 0 used) [
-      | yes s ↦ omega (arith, ap length (last-some (λ q. omega arith)), last-long, h, s)
-      | no s ↦ omega (arith, ap length (last-none (omega arith)))
-    ]
 
 -- ---- a packing from the start
 

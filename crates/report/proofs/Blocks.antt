@@ -51,9 +51,6 @@ row-length cell h =
     let f = check-facts (cellBytes cell) (eqb-true (checkOf (cellBytes cell)) 0 h) in
     (omega (arith, f .low, used-is cell), omega (arith, f .high, used-is cell))
 
-pub used-low : (cell : List ℕ) → isRow (rowIn cell) ≡ true → minLength ≤ cellUsed cell
-used-low cell h = row-length cell h .0
-
 pub used-high : (cell : List ℕ) → isRow (rowIn cell) ≡ true → cellUsed cell ≤ maxLength
 used-high cell h = row-length cell h .1
 
