@@ -68,7 +68,7 @@ fn codec(r: &[u8]) -> String {
             format!("CRC {:02X}", raw::crc8(&input))
         }
         2 => {
-            let mut f = [0xEE; raw::FIELDS];
+            let mut f = [0; raw::FIELDS];
             let n = raw::read(bytes, &mut f);
             assert_eq!(n, raw::check(bytes));
             let data = hex(&f[12..12 + usize::from(f[1])]);
@@ -82,7 +82,7 @@ fn codec(r: &[u8]) -> String {
         4 => written("ENCAPSULATE", capacity, |out, length| raw::encapsulate(bytes, number(&r[4..8]) as u32, out, length)),
         5 => written("DECAPSULATE", capacity, |out, length| raw::decapsulate(bytes, out, length)),
         6 => {
-            let mut sent = [0xEE; raw::FRAME];
+            let mut sent = [0; raw::FRAME];
             let n = raw::repeat(r[1], bytes, &mut sent);
             format!("REPEAT {n} {} {}", sent[0], hex(&sent[1..]))
         }
@@ -103,7 +103,7 @@ fn codec_run() {
 fn erp2(r: &[u8]) -> String {
     if r[0] == 1 {
         let n = size(&r[1..3]).min(300);
-        let (mut f, mut from, mut to) = ([0xEE; raw::ERP2], 1, 1);
+        let (mut f, mut from, mut to) = ([0; raw::ERP2], 0, 0);
         let answer = raw::erp2_read(&r[8..8 + n], &mut f, &mut from, &mut to);
         let flags = format!("{} {} {} {} {} {} {} {} {:02X}", f[0], f[1], f[2], f[3], f[4], f[5], f[6], f[7], f[8]);
         let (data, optional) = (&f[11..11 + usize::from(f[10])], &f[261..261 + usize::from(f[6])]);
@@ -189,7 +189,7 @@ impl Room {
     }
 
     fn answer(&mut self, r: &[u8]) -> String {
-        let (mut position, mut rows, mut time) = (7, 7, 7);
+        let (mut position, mut rows, mut time) = (0, 0, 0);
         match r[0] {
             1 => {
                 self.bytes = vec![0; size(&r[1..5]).min(MOST)];
@@ -215,7 +215,7 @@ impl Room {
                 format!("{} {n} {position} {rows}", if r[0] == 5 { "OPEN" } else { "SCAN" })
             }
             6 => {
-                let mut row = [0xEE; raw::ROW];
+                let mut row = [0; raw::ROW];
                 let n = raw::archive_row(&self.bytes, size(&r[1..9]), &mut row, &mut time);
                 format!("ROW {n} {time} {} {}", row[0], hex(&row[2..2 + usize::from(row[1]).min(21)]))
             }
@@ -231,7 +231,7 @@ impl Room {
             11 => self.list.iter().fold("LIST".into(), |s, n| format!("{s} {n}")),
             12 => {
                 let identities: Vec<u32> = r[4..].chunks(4).take(usize::from(r[1]).min(70)).map(|b| number(b) as u32).collect();
-                let mut freed = 7;
+                let mut freed = 0;
                 let n = raw::archive_remove(&mut self.bytes, &identities, &mut freed, &mut position);
                 format!("REMOVE {n} {position} {freed}")
             }
@@ -247,7 +247,7 @@ impl Room {
     /// A row by the three calls that take its number, which must agree where its block is in the room.
     fn append_at(&mut self, r: &[u8]) -> String {
         let (time, loose, bytes) = self.row(r);
-        let (mut position, mut other, n) = (7, 7, size(&r[80..88]));
+        let (mut position, mut other, n) = (0, 0, size(&r[80..88]));
         let before = self.bytes.clone();
         let answer = raw::archive_append_at(&mut self.bytes, n, bytes, time, loose, &mut position);
         let k = n / 15;
@@ -270,7 +270,7 @@ impl Room {
         let (most, places) = (size(&r[1..5]).min(MOST), size(&r[5..9]).min(64));
         self.out.fill(0xEE);
         self.list.fill(0xEEEE_EEEE_EEEE_EEEE);
-        let (mut dropped, mut rows) = (7, 7);
+        let (mut dropped, mut rows) = (0, 0);
         let n = raw::archive_salvage(&self.bytes, &mut self.out[..most], &mut self.list[..places], &mut dropped, &mut rows);
         format!("SALVAGE {n} {dropped} {rows}")
     }
@@ -282,18 +282,18 @@ impl Room {
                 "REPORT".into()
             }
             14 => {
-                let mut position = 7;
+                let mut position = 0;
                 let n = raw::report_add(&mut self.numbers, &mut self.lines, &self.bytes, &mut position);
                 let [archives, lines, kept, loose] = self.numbers;
                 format!("ADD {n} {position} {archives} {lines} {kept} {loose}")
             }
             15 => {
-                let mut line = [7; raw::LINE_NUMBERS];
+                let mut line = [0; raw::LINE_NUMBERS];
                 let n = raw::report_line(&self.numbers, &self.lines, size(&r[1..9]), &mut line);
                 line.iter().fold(format!("LINE {n}"), |s, x| format!("{s} {x}"))
             }
             16 => {
-                let mut thousandths = 7;
+                let mut thousandths = 0;
                 let n = raw::report_share(&self.numbers, &self.lines, number(&r[1..9]), &mut thousandths);
                 format!("SHARE {n} {thousandths}")
             }
