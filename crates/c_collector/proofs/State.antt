@@ -3,18 +3,21 @@
 --     numbers-counted   the numbers of what a state holds beside its columns are those of the state
 --     taken             one reception, admitted as the test of the state says
 --     totals-shown, totals-refused     the totals by the test of the state
+--     copies-shown, copies-refused     the copies by what the reference model says of the entry
 use Prim.Native.Nat.{ℕ}
 use native.Mathlib.Omega.{arith}
 use mathlib.Core.Path.{_≡_, refl, sym, ap, _∙_}
 use mathlib.Core.Bool.{Bool, true, false}
 use mathlib.Core.List.{List, [], _∷_}
 use lib.ListN.{length}
+use borrow.Author.Tests.{ne-eqb}
 use Rattle.refusal.specs.Number.{numberOf}
 use Rattle.refusal.specs.declared.Refusal.the-variants.{NotAccepted}
 use Rattle.model.specs.Answer.{shownOf}
 use Rattle.model.specs.View.{Reception, View}
 use Rattle.model.specs.Acceptable.{acceptable}
 use Rattle.model.specs.Step.{Outcome, step}
+use Rattle.model.specs.Heard.{HeardResult, copiesOf}
 use Rattle.collector.specs.declared.Summary.{Summary}
 use Rattle.collector.specs.declared.merging.Admitted.{Admitted}
 use Rattle.collector.specs.Collector.{Columns, viewIn}
@@ -22,7 +25,7 @@ use Rattle.collector.specs.Admission.{admittedOf, admission, columnsAdmitted, A
 use Rattle.collector.proofs.Arrays.{entries-length}
 use Rattle.collector.proofs.Stepping.{admission-fit, columns-fit}
 use Rattle.c_collector.specs.State.{Arrays, arrays, columnsAt, summaryIn, stateAt, totalNumbers, numbersOf, numbersIn}
-use Rattle.c_collector.specs.Calls.{answerNumber, Takes, TotalsCall, totalsCall}
+use Rattle.c_collector.specs.Calls.{answerNumber, Takes, TotalsCall, totalsCall, copiesCall}
 
 pub numbers-back : (l : List ℕ) → length l ≡ 8 → numbersIn (summaryIn l) ≡ l
 numbers-back [] e = absurd (omega arith)
@@ -68,3 +71,14 @@ module _ (v : View) (old : List ℕ) where
   pub totals-shown : acceptable v ≡ true → _≡_ {A = TotalsCall} (record { number = 0; values = totalNumbers (v .totals) }) (totalsCall v old)
   unfolding totalsCall
   totals-shown ok = rw ok
+
+module _ (v : View) (k old : ℕ) where
+  pub copies-refused : (n : ℕ) → (n ≡ 0 → ⊥) → _≡_ {A = HeardResult} (record { number = n; copies = 0 }) (copiesOf v k)
+      → _≡_ {A = HeardResult} (record { number = n; copies = old }) (copiesCall v k old)
+  unfolding copiesCall
+  copies-refused n other e = rw (← e, ne-eqb n 0 other)
+
+  pub copies-shown : (n : ℕ) → _≡_ {A = HeardResult} (record { number = 0; copies = n }) (copiesOf v k)
+      → _≡_ {A = HeardResult} (record { number = 0; copies = n }) (copiesCall v k old)
+  unfolding copiesCall
+  copies-shown n e = rw (← e)

@@ -3,6 +3,7 @@ use Prim.Native.Nat.{ℕ, _+_, _*_}
 use mathlib.Core.Path.{_≡_}
 use mathlib.Core.Bool.{false, cond, not}
 use mathlib.Core.List.{List}
+use lib.Dec.{eqb}
 use lib.ListN.{replicate}
 use Rattle.refusal.specs.Number.{numberOf}
 use Rattle.refusal.specs.declared.Refusal.the-variants.{NotAccepted}
@@ -11,6 +12,7 @@ use Rattle.model.specs.Answer.{Shown, Kept, Copy, Loose, Refused, shownNumber, 
 use Rattle.model.specs.View.{Reception, View, capacity, fresh}
 use Rattle.model.specs.Acceptable.{acceptable}
 use Rattle.model.specs.Step.{step}
+use Rattle.model.specs.Heard.{HeardResult, copiesOf}
 use Rattle.collector.specs.Collector.{columnsAfter}
 use Rattle.c_collector.specs.State.{Arrays, arrays, columnsAt, stateAt, totalNumbers, numbersOf}
 
@@ -52,3 +54,9 @@ unfoldable pub totalsCall : View → List ℕ → TotalsCall
 totalsCall v old =
     cond (not (acceptable v)) (record { number = numberOf NotAccepted; values = old })
     (record { number = 0; values = totalNumbers (v .totals) })
+
+-- "How often was it heard?" (document 02, A8): the number, and what the lent number is at exit; beside 11 and 10 it stays
+unfoldable pub copiesCall : View → ℕ → ℕ → HeardResult
+copiesCall v k old =
+    let a = copiesOf v k in
+    cond (eqb (a .number) 0) a (record { number = a .number; copies = old })

@@ -4,6 +4,7 @@ use mathlib.Core.List.{List, [], _∷_}
 use lib.ListN.{length, getD}
 use Rattle.model.specs.declared.Totals.{Totals}
 use Rattle.model.specs.View.{View}
+use Rattle.collector.specs.declared.Collector.{Collector}
 use Rattle.collector.specs.declared.Summary.{Summary}
 use Rattle.collector.specs.Collector.{Columns, columns, viewIn}
 
@@ -56,3 +57,7 @@ numbersOf v = length (v .entries) ∷ v .latest ∷ totalNumbers (v .totals)
 -- those of a summary
 abbrev pub numbersIn : Summary → List ℕ
 numbersIn s = s .count ∷ s .latest ∷ totalNumbers (s .totals)
+
+-- a state by value, in such arrays
+abbrev pub arraysOf : Collector → Arrays
+arraysOf c = arrays (c .times) (c .lens) (c .bytes) (c .copies) (numbersIn (c .summary))

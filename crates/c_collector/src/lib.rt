@@ -12,9 +12,8 @@ ghost use Prim.Native.Nat.{ℕ};
 ghost use lib.ListN.{length};
 ghost use Rattle.model.specs.Answer.{shownOf, shownNumber};
 ghost use Rattle.model.specs.Acceptable.{acceptable};
-ghost use Rattle.model.specs.Heard.{copiesOf};
 ghost use Rattle.c_collector.specs.State.{arrays, summaryIn, stateAt, numbersIn};
-ghost use Rattle.c_collector.specs.Calls.{kindOf, answerNumber, Takes, Fresh, totalsCall};
+ghost use Rattle.c_collector.specs.Calls.{kindOf, answerNumber, Takes, Fresh, totalsCall, copiesCall};
 
 // How many telegrams can be open.
 pub const CAPACITY: usize = Collector::CAPACITY;
@@ -102,7 +101,7 @@ pub fn totals<'a>(
     0
 }
 
-// How often the telegram of entry `entry` was heard again, 0 beside a refusal: 11, then 10.
+// How often the telegram of entry `entry` was heard again: 11, then 10, and then `heard` stays as it was.
 pub fn copies_of<'a>(
     times: &'a [u64; CAPACITY],
     lengths: &'a [u8; CAPACITY],
@@ -113,12 +112,11 @@ pub fn copies_of<'a>(
     heard: &'a mut u64,
 ) -> u8
     ensures { λ r. ⌜ record { number = r; copies = now (heard .exit) }
-        ≡ copiesOf
+        ≡ copiesCall
         (stateAt (arrays (now (times .entry)) (now (lengths .entry)) (now (bytes .entry)) (now (copies .entry))
         (now (numbers .entry))))
-        entry ⌝ }
+        entry (now (heard .entry)) ⌝ }
 {
-    *heard = 0;
     if !is_acceptable(times, lengths, bytes, numbers) {
         return refusal::number(Refusal::NotAccepted);
     }

@@ -20,10 +20,9 @@ use Rattle.image.specs.declared.Restored.{Restored}
 use Rattle.image.specs.declared.Loaded.the-variants.{Done, Refused}
 use Rattle.image.specs.Checkpoint as image
 use Rattle.image.specs.Checkpoint.{loadedNumber}
-use Rattle.c_collector.specs.State.{Arrays, columnsAt, stateAt, numbersOf}
+use Rattle.c_collector.specs.State.{Arrays, columnsAt, stateAt, numbersOf, arraysOf}
 use Rattle.c_collector.proofs.State.{numbers-counted}
 use Rattle.c_image.specs.Calls.{Restores, restoreResult}
-use Rattle.c_image.specs.Private.{arraysOf}
 
 -- an acceptable state, and an image that is accepted or not
 module _ (v : View) (ok : acceptable v ≡ true) (image : List ℕ) where

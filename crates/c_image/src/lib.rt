@@ -9,9 +9,8 @@ use refusal::Refusal;
 ghost use mathlib.Core.Path.{_≡_};
 ghost use Rattle.model.specs.Image.{checkpointOf};
 ghost use Rattle.image.specs.Checkpoint.{savedNumber};
-ghost use Rattle.c_collector.specs.State.{arrays, stateAt};
+ghost use Rattle.c_collector.specs.State.{arrays, stateAt, arraysOf};
 ghost use Rattle.c_image.specs.Calls.{Restores};
-ghost use Rattle.c_image.specs.Private.{arraysOf};
 
 // The image of the state, into the first 2,560 bytes: 11, 6; what stands past them stays.
 pub fn checkpoint<'a>(

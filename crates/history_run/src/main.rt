@@ -1,10 +1,12 @@
 // Puts a collector through the histories of standard input, each record by `replay::resume`, and prints what that wrote: stdout is what the
-// second program says (tests/reference/README.md has the format).
+// second program says (tests/reference/README.md has the format). The collector lies in five arrays, which each call is lent.
 pub(crate) mod lent;
 pub(crate) mod records;
 pub(crate) mod shown;
 
-use collector::Collector;
+use c_collector::BYTES;
+use c_collector::CAPACITY;
+use c_collector::NUMBERS;
 use replay::Ran;
 use replay::Replayed;
 ghost use mathlib.Core.Path.{_≡_};
@@ -14,9 +16,8 @@ ghost use lib.ListN.{length};
 // The bytes of an image.
 const IMAGE: usize = 2560;
 
-// A history under way: its collector, the setting that its caller keeps, and how many images it has printed.
+// A history under way: the setting that its caller keeps, and how many images it has printed.
 struct Session {
-    collector: Collector,
     setting: u8,
     shown: u8,
 }
@@ -27,6 +28,11 @@ fn main() {
 
 // At most so many calls, until the input ends.
 fn histories(most: u64) {
+    let mut times = [0u64; CAPACITY];
+    let mut lengths = [0u8; CAPACITY];
+    let mut bytes = [0u8; BYTES];
+    let mut copies = [0u16; CAPACITY];
+    let mut numbers = [0u64; NUMBERS];
     let mut session = begun(0);
     let mut left = most;
     while 0 < left {
@@ -34,152 +40,354 @@ fn histories(most: u64) {
         let next = test_io::next_record();
         if next.more {
             let r = next.bytes;
-            session = called(session, &r);
+            session = called(
+                &mut times,
+                &mut lengths,
+                &mut bytes,
+                &mut copies,
+                &mut numbers,
+                session,
+                &r,
+            );
         } else {
             left = 0;
         }
     }
 }
 
-fn called(session: Session, r: &[u8]) -> Session
+fn called(
+    times: &mut [u64; CAPACITY],
+    lengths: &mut [u8; CAPACITY],
+    bytes: &mut [u8; BYTES],
+    copies: &mut [u16; CAPACITY],
+    numbers: &mut [u64; NUMBERS],
+    session: Session,
+    r: &[u8],
+) -> Session
     requires { ⌜ length (now r) ≡ 64 ⌝ }
 {
     let number = layout::read_number(&r[1..9]);
     let operation = r[0];
     match operation {
-        1 => started((number % 256) as u8),
-        2 => received(session, r),
-        3 => saved(session, least(number, lent::LONGEST)),
-        4 => cut(session),
-        6 => delivered(session, r, least(number, lent::LISTED)),
-        7 => asked(session, number),
-        8 => given(session, least(number, lent::LONGEST)),
-        _ => spoiled(session, least(number, IMAGE)),
+        1 => started(times, lengths, bytes, copies, numbers, (number % 256) as u8),
+        2 => received(times, lengths, bytes, copies, numbers, session, r),
+        3 => saved(
+            times,
+            lengths,
+            bytes,
+            copies,
+            numbers,
+            session,
+            least(number, lent::LONGEST),
+        ),
+        4 => cut(times, lengths, bytes, copies, numbers, session),
+        6 => delivered(
+            times,
+            lengths,
+            bytes,
+            copies,
+            numbers,
+            session,
+            r,
+            least(number, lent::LISTED),
+        ),
+        7 => asked(times, lengths, bytes, copies, numbers, session, number),
+        8 => given(
+            times,
+            lengths,
+            bytes,
+            copies,
+            numbers,
+            session,
+            least(number, lent::LONGEST),
+        ),
+        _ => spoiled(
+            times,
+            lengths,
+            bytes,
+            copies,
+            numbers,
+            session,
+            least(number, IMAGE),
+        ),
     }
 }
 
 // ---- the calls
 
-fn started(setting: u8) -> Session {
+fn started(
+    times: &mut [u64; CAPACITY],
+    lengths: &mut [u8; CAPACITY],
+    bytes: &mut [u8; BYTES],
+    copies: &mut [u16; CAPACITY],
+    numbers: &mut [u64; NUMBERS],
+    setting: u8,
+) -> Session {
     test_io::text(b"L 0\n");
+    c_collector::fresh(times, lengths, bytes, copies, numbers);
     begun(setting)
 }
 
-fn received(session: Session, r: &[u8]) -> Session
+fn received(
+    times: &mut [u64; CAPACITY],
+    lengths: &mut [u8; CAPACITY],
+    bytes: &mut [u8; BYTES],
+    copies: &mut [u16; CAPACITY],
+    numbers: &mut [u64; NUMBERS],
+    session: Session,
+    r: &[u8],
+) -> Session
     requires { ⌜ length (now r) ≡ 64 ⌝ }
 {
     let call = records::reception(r, session.setting);
     let mut out = [0u8; shown::ANSWERED];
-    let ran = made(session.collector, &call, &mut out);
+    let ran = made(times, lengths, bytes, copies, numbers, &call, &mut out);
     if is_refused(ran) {
         return session;
     }
     shown::put_answered(&out);
-    after(session, ran, session.shown)
+    after(session, session.shown)
 }
 
 // A checkpoint into an output of n bytes.
-fn saved(session: Session, n: usize) -> Session
+fn saved(
+    times: &mut [u64; CAPACITY],
+    lengths: &mut [u8; CAPACITY],
+    bytes: &mut [u8; BYTES],
+    copies: &mut [u16; CAPACITY],
+    numbers: &mut [u64; NUMBERS],
+    session: Session,
+    n: usize,
+) -> Session
     requires { ⌜ n ≤ 3000 ⌝ }
 {
     let call = records::checkpoint(replay::SAVING, n);
     let mut out = [0u8; shown::WROTE];
-    let ran = made(session.collector, &call, &mut out);
+    let ran = made(times, lengths, bytes, copies, numbers, &call, &mut out);
     if is_refused(ran) {
         return session;
     }
     let printed = shown::put_wrote(session.shown, &out[0..shown::BODY + n]);
-    after(session, ran, printed)
+    after(session, printed)
 }
 
 // A cut: a checkpoint, and its restore into another collector.
-fn cut(session: Session) -> Session {
+fn cut(
+    times: &mut [u64; CAPACITY],
+    lengths: &mut [u8; CAPACITY],
+    bytes: &mut [u8; BYTES],
+    copies: &mut [u16; CAPACITY],
+    numbers: &mut [u64; NUMBERS],
+    session: Session,
+) -> Session {
     let call = records::checkpoint(replay::CUTTING, IMAGE);
     let mut out = [0u8; shown::CUT];
-    let ran = made(session.collector, &call, &mut out);
+    let ran = made(times, lengths, bytes, copies, numbers, &call, &mut out);
     if is_refused(ran) {
         return session;
     }
     shown::put_cut(&out);
-    after(session, ran, session.shown)
+    after(session, session.shown)
 }
 
 // The restore of the present image with byte k changed, or for 2,560 without its last byte.
-fn spoiled(session: Session, k: usize) -> Session
+fn spoiled(
+    times: &mut [u64; CAPACITY],
+    lengths: &mut [u8; CAPACITY],
+    bytes: &mut [u8; BYTES],
+    copies: &mut [u16; CAPACITY],
+    numbers: &mut [u64; NUMBERS],
+    session: Session,
+    k: usize,
+) -> Session
     requires { ⌜ k ≤ 2560 ⌝ }
 {
     let call = records::checkpoint(replay::SAVING, IMAGE);
     let mut out = [0u8; shown::BODY + IMAGE];
-    let ran = made(session.collector, &call, &mut out);
+    let ran = made(times, lengths, bytes, copies, numbers, &call, &mut out);
     if is_refused(ran) {
         return session;
     }
-    let saved = after(session, ran, session.shown);
-    changed(saved, &mut out[shown::BODY..shown::BODY + IMAGE], k)
+    let saved = after(session, session.shown);
+    changed(
+        times,
+        lengths,
+        bytes,
+        copies,
+        numbers,
+        saved,
+        &mut out[shown::BODY..shown::BODY + IMAGE],
+        k,
+    )
 }
 
 // So of an image in a lent buffer.
-fn changed(session: Session, image: &mut [u8], k: usize) -> Session
+fn changed(
+    times: &mut [u64; CAPACITY],
+    lengths: &mut [u8; CAPACITY],
+    bytes: &mut [u8; BYTES],
+    copies: &mut [u16; CAPACITY],
+    numbers: &mut [u64; NUMBERS],
+    session: Session,
+    image: &mut [u8],
+    k: usize,
+) -> Session
     requires { ⌜ (length (now image) ≡ 2560) × (k ≤ 2560) ⌝ }
 {
     if k < IMAGE {
         image[k] = image[k] ^ 1;
-        return restored(session, b"X ", image);
+        return restored(
+            times,
+            lengths,
+            bytes,
+            copies,
+            numbers,
+            session,
+            b"X ",
+            image,
+        );
     }
-    restored(session, b"X ", &image[0..IMAGE - 1])
+    restored(
+        times,
+        lengths,
+        bytes,
+        copies,
+        numbers,
+        session,
+        b"X ",
+        &image[0..IMAGE - 1],
+    )
 }
 
 // The restore of an image of n bytes that the input gives.
-fn given(session: Session, n: usize) -> Session
+fn given(
+    times: &mut [u64; CAPACITY],
+    lengths: &mut [u8; CAPACITY],
+    bytes: &mut [u8; BYTES],
+    copies: &mut [u16; CAPACITY],
+    numbers: &mut [u64; NUMBERS],
+    session: Session,
+    n: usize,
+) -> Session
     requires { ⌜ n ≤ 3000 ⌝ }
 {
-    let bytes = lent::next_bytes(n);
-    restored(session, b"W ", &bytes[0..n])
+    let image = lent::next_bytes(n);
+    restored(
+        times,
+        lengths,
+        bytes,
+        copies,
+        numbers,
+        session,
+        b"W ",
+        &image[0..n],
+    )
 }
 
 // The restore of these bytes; what stands before its number says which call it is.
-fn restored<'a>(session: Session, word: &'a [u8], bytes: &'a [u8]) -> Session {
-    let call = records::restore(bytes.len());
+fn restored<'a>(
+    times: &mut [u64; CAPACITY],
+    lengths: &mut [u8; CAPACITY],
+    bytes: &mut [u8; BYTES],
+    copies: &mut [u16; CAPACITY],
+    numbers: &mut [u64; NUMBERS],
+    session: Session,
+    word: &'a [u8],
+    image: &'a [u8],
+) -> Session {
+    let call = records::restore(image.len());
     let mut out = [0u8; shown::HEAD];
-    let ran = replay::resume(session.collector, &call, bytes, &mut out);
+    let ran = replay::resume(
+        times,
+        lengths,
+        bytes,
+        copies,
+        numbers,
+        &call,
+        image,
+        &mut out,
+    );
     if is_refused(ran) {
         return session;
     }
     shown::put_restored(word, &out);
-    after(session, ran, session.shown)
+    after(session, session.shown)
 }
 
 // A burst of the next n records.
-fn delivered(session: Session, r: &[u8], n: usize) -> Session
+fn delivered(
+    times: &mut [u64; CAPACITY],
+    lengths: &mut [u8; CAPACITY],
+    bytes: &mut [u8; BYTES],
+    copies: &mut [u16; CAPACITY],
+    numbers: &mut [u64; NUMBERS],
+    session: Session,
+    r: &[u8],
+    n: usize,
+) -> Session
     requires { ⌜ (length (now r) ≡ 64) × (n ≤ 259) ⌝ }
 {
     let m = records::places_in(r);
     let call = records::burst(r, n, m);
-    let bytes = lent::next_records(n);
+    let records = lent::next_records(n);
     let mut out = [0u8; shown::DELIVERED];
-    let ran = replay::resume(session.collector, &call, &bytes, &mut out);
+    let ran = replay::resume(
+        times,
+        lengths,
+        bytes,
+        copies,
+        numbers,
+        &call,
+        &records,
+        &mut out,
+    );
     if is_refused(ran) {
         return session;
     }
     shown::put_delivered(&out, m);
-    after(session, ran, session.shown)
+    after(session, session.shown)
 }
 
 // The copies of the entry with this index.
-fn asked(session: Session, entry: u64) -> Session {
+fn asked(
+    times: &mut [u64; CAPACITY],
+    lengths: &mut [u8; CAPACITY],
+    bytes: &mut [u8; BYTES],
+    copies: &mut [u16; CAPACITY],
+    numbers: &mut [u64; NUMBERS],
+    session: Session,
+    entry: u64,
+) -> Session {
     let call = records::ask(entry);
     let mut out = [0u8; shown::BODY];
-    let ran = made(session.collector, &call, &mut out);
+    let ran = made(times, lengths, bytes, copies, numbers, &call, &mut out);
     if is_refused(ran) {
         return session;
     }
     shown::put_heard(&out);
-    after(session, ran, session.shown)
+    after(session, session.shown)
 }
 
 // A call that is lent nothing.
-fn made<'a>(c: Collector, call: &'a [u8], out: &'a mut [u8]) -> Replayed {
-    replay::resume(c, call, &call[0..0], out)
+fn made<'a>(
+    times: &mut [u64; CAPACITY],
+    lengths: &mut [u8; CAPACITY],
+    bytes: &mut [u8; BYTES],
+    copies: &mut [u16; CAPACITY],
+    numbers: &mut [u64; NUMBERS],
+    call: &'a [u8],
+    out: &'a mut [u8],
+) -> Replayed {
+    replay::resume(
+        times,
+        lengths,
+        bytes,
+        copies,
+        numbers,
+        call,
+        &call[0..0],
+        out,
+    )
 }
 
 // Whether the call was not made, for want of room: then nothing of it is printed.
@@ -194,16 +402,13 @@ fn is_refused(ran: Replayed) -> bool {
 // A history at its start, and after a call.
 fn begun(setting: u8) -> Session {
     Session {
-        collector: Collector::fresh(),
         setting: setting,
         shown: 0,
     }
 }
 
-fn after(session: Session, ran: Replayed, shown: u8) -> Session {
-    let next = ran.next;
+fn after(session: Session, shown: u8) -> Session {
     Session {
-        collector: next,
         setting: session.setting,
         shown: shown,
     }

@@ -1,4 +1,2 @@
 pub mod Checkpoint
 pub mod Private
-pub mod Histories
-pub mod Isolation

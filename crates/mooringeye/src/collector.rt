@@ -8,10 +8,9 @@ use c_lines::FIRST;
 use c_lines::SKIPPED;
 ghost use mathlib.Core.Path.{_≡_};
 ghost use mathlib.Core.List.{[], _∷_};
-ghost use Rattle.model.specs.Heard.{copiesOf};
 ghost use Rattle.model.specs.Image.{checkpointOf};
 ghost use Rattle.c_collector.specs.State.{arrays, stateAt};
-ghost use Rattle.c_collector.specs.Calls.{Takes, Fresh, totalsCall};
+ghost use Rattle.c_collector.specs.Calls.{Takes, Fresh, totalsCall, copiesCall};
 ghost use Rattle.c_image.specs.Calls.{Restores};
 ghost use Rattle.c_burst.specs.Calls.{Bursts};
 ghost use Rattle.c_lines.specs.Calls.{Lines, firstNumber, firstUsed, Skipped};
@@ -81,8 +80,8 @@ pub extern "C" fn mooringeye_collector_copies<'a>(
     heard: &'a mut u64,
 ) -> u8
     ensures { λ r. ⌜ record { number = r; copies = now (heard .exit) }
-        ≡ copiesOf (stateAt (arrays (now (times .entry)) (now (lengths .entry)) (now (bytes .entry))
-        (now (copies .entry)) (now (numbers .entry)))) entry ⌝ }
+        ≡ copiesCall (stateAt (arrays (now (times .entry)) (now (lengths .entry)) (now (bytes .entry))
+        (now (copies .entry)) (now (numbers .entry)))) entry (now (heard .entry)) ⌝ }
 {
     c_collector::copies_of(times, lengths, bytes, copies, numbers, entry, heard)
 }

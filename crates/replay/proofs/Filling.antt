@@ -1,5 +1,5 @@
--- The two lists of a burst, which are held by value.
---     Filled, filled-start, filled-next, filled-end      records read one after the other into the first
+-- Lists of a burst that are held by value.
+--     Filled, filled-start, filled-next, filled-end      elements read one after the other
 --     receptions-are, places-are                         what both lists hold
 --     cells, cells-length, cell-at                       the places of the second, as they are written
 use Prim.Native.Nat.{ℕ, zero, suc, _+_, _-_, _*_, _/_, _≤_, _<_, min}
@@ -20,60 +20,69 @@ use Rattle.burst.specs.declared.Reception.{Reception}
 use Rattle.burst.specs.declared.Reply.{Reply}
 use Rattle.burst.specs.Records.{listed, receptionOf, repliedOf}
 use Rattle.replay_model.specs.Record.{replyOf}
-use Rattle.replay.specs.Calls.{callLength, recordAt, countIn, burstReceptionIn, receptionsIn, placeIn}
-use Rattle.replay.proofs.Records.{lentRecord, lent-record}
+use Rattle.replay.specs.Calls.{callLength, recordAt, numberAt, countIn, burstReceptionIn, receptionsIn, placeIn}
+
+-- ---- elements that are read one after the other; d stands for one past the end
+
+module _ {A B : Type 0} (is : A → B) (at : ℕ → B) (d : A) where
+  -- the first i are read from s
+  pub record Filled (s : List ℕ) (n : ℕ) (all : List A) (i : ℕ) : Type 0 where
+    pub least : i ≤ n
+    pub few : n ≤ listed
+    pub whole : callLength * n ≤ length s
+    pub long : length all ≡ listed
+    pub read : map is (take i all) ≡ map at (upFrom 0 i)
+
+  pub filled-start : (s : List ℕ) (n : ℕ) (all : List A) → n ≤ listed → callLength * n ≤ length s → length all ≡ listed → Filled s n all 0
+  unfolding upFrom
+  filled-start s n all few whole long = record { least = omega arith; few = few; whole = whole; long = long; read = refl }
+
+  module _ (s : List ℕ) (n : ℕ) (all : List A) (i : ℕ) (f : Filled s n all i) where
+    next-number : upFrom 0 (i + 1) ≡ upFrom 0 i ++ (i ∷ [])
+    unfolding upFrom
+    next-number = upFrom-add 0 i 1 ∙ ap (λ (k : ℕ). upFrom 0 i ++ (k ∷ [])) (zero-add i)
+
+    pub filled-next : i < n → (x : A) → is x ≡ at i → Filled s n (set all i x) (i + 1)
+    filled-next h x e =
+        let inside : i < length all = omega (arith, f .few, f .long) in
+        let within : i < length (set all i x) = rw (length-set all i x) inside in
+        let front : take (i + 1) (set all i x) ≡ take i all ++ (x ∷ []) =
+        ap (λ (k : ℕ). take k (set all i x)) (add-one i) ∙ take-suc (set all i x) i d within
+        ∙ ap₂ (λ (l : List A) (y : A). l ++ (y ∷ [])) (take-set-le i all i x (omega arith)) (getD-set-same all i x d inside)
+        in
+        record {
+          least = omega arith;
+          few = f .few;
+          whole = f .whole;
+          long = length-set all i x ∙ f .long;
+          read =
+              ap (map is) front ∙ map-append is (take i all) (x ∷ [])
+              ∙ ap₂ (λ (l : List B) (y : B). l ++ (y ∷ [])) (f .read) e
+              ∙ sym (ap (map at) next-number ∙ map-append at (upFrom 0 i) (i ∷ []));
+        }
+
+    pub filled-end : n ≤ i → map is (take n all) ≡ map at (upFrom 0 n)
+    filled-end h =
+        let e : i ≡ n = omega (arith, f .least) in
+        rw e at (f .read)
 
 -- ---- receptions
 
 -- record i
-abbrev receptionAt : List ℕ → ℕ → view.Reception
+abbrev pub receptionAt : List ℕ → ℕ → view.Reception
 receptionAt s i = burstReceptionIn (recordAt s i)
 
--- the first i are read
-pub record Filled (s : List ℕ) (n : ℕ) (all : List Reception) (i : ℕ) : Type 0 where
-  pub least : i ≤ n
-  pub few : n ≤ listed
-  pub whole : callLength * n ≤ length s
-  pub long : length all ≡ listed
-  pub read : map receptionOf (take i all) ≡ map (receptionAt s) (upFrom 0 i)
-
-pub filled-start : (s : List ℕ) (n : ℕ) (all : List Reception) → n ≤ listed → callLength * n ≤ length s → length all ≡ listed → Filled s n all 0
-unfolding upFrom
-filled-start s n all few whole long = record { least = omega arith; few = few; whole = whole; long = long; read = refl }
-
 -- stands for a record past the end
-abbrev none : Reception
+abbrev pub none : Reception
 none = record { bytes = []; len = 0; time = 0 }
 
-module _ (s : List ℕ) (n : ℕ) (all : List Reception) (i : ℕ) (f : Filled s n all i) where
-  next-number : upFrom 0 (i + 1) ≡ upFrom 0 i ++ (i ∷ [])
-  unfolding upFrom
-  next-number = upFrom-add 0 i 1 ∙ ap (λ (k : ℕ). upFrom 0 i ++ (k ∷ [])) (zero-add i)
+-- and moments
+abbrev pub momentAt : List ℕ → ℕ → ℕ
+momentAt s i = numberAt 1 (recordAt s i)
 
-  pub filled-next : i < n → (x : Reception) → receptionOf x ≡ burstReceptionIn (lentRecord s i) → Filled s n (set all i x) (i + 1)
-  filled-next h x e =
-      let inside : i < length all = omega (arith, f .few, f .long) in
-      let within : i < length (set all i x) = rw (length-set all i x) inside in
-      let front : take (i + 1) (set all i x) ≡ take i all ++ (x ∷ []) =
-      ap (λ (k : ℕ). take k (set all i x)) (add-one i) ∙ take-suc (set all i x) i none within
-      ∙ ap₂ (λ (l : List Reception) (y : Reception). l ++ (y ∷ [])) (take-set-le i all i x (omega arith)) (getD-set-same all i x none inside)
-      in
-      let last : receptionOf x ≡ receptionAt s i = e ∙ ap burstReceptionIn (lent-record s i) in
-      record {
-        least = omega arith;
-        few = f .few;
-        whole = f .whole;
-        long = length-set all i x ∙ f .long;
-        read =
-            ap (map receptionOf) front ∙ map-append receptionOf (take i all) (x ∷ [])
-            ∙ ap₂ (λ (l : List view.Reception) (y : view.Reception). l ++ (y ∷ [])) (f .read) last
-            ∙ sym (ap (map (receptionAt s)) next-number ∙ map-append (receptionAt s) (upFrom 0 i) (i ∷ []));
-      }
-
-  pub filled-end : n ≤ i → map receptionOf (take n all) ≡ map (receptionAt s) (upFrom 0 n)
-  filled-end h =
-      let e : i ≡ n = omega (arith, f .least) in
-      rw e at (f .read)
+pub map-same : (l : List ℕ) → map (λ n. n) l ≡ l
+map-same [] = refl
+map-same (n ∷ l) = ap (λ (k : List ℕ). n ∷ k) (map-same l)
 
 -- as many as the bytes say
 pub receptions-are : (s : List ℕ) (all : List Reception) (n : ℕ) → n ≡ countIn s → map receptionOf (take n all) ≡ map (receptionAt s) (upFrom 0 n)

@@ -4,7 +4,7 @@
 --     image-lent, cut-made                    a cut: the image in the first cell, and the second cell
 use Prim.Native.Nat.{ℕ, _+_, _-_, _≤_, min}
 use native.Mathlib.Omega.{arith}
-use mathlib.Core.Path.{_≡_, sym, ap, _∙_}
+use mathlib.Core.Path.{_≡_, sym, ap, ap₂, _∙_}
 use mathlib.Core.List.{List, [], _∷_, _++_, append-assoc, append-nil}
 use lib.ListN.{length, getD, take, drop, length-append, length-take, length-drop, drop-of-length-le, replicate, length-replicate}
 use lib.Seq.{take-append-le, drop-at, drop-drop, length-take-le}
@@ -13,24 +13,30 @@ use Rattle.buffers.specs.Buffer.{part}
 use Rattle.layout.specs.BigEndian.{be}
 use Rattle.layout.proofs.BigEndian.{be-length}
 use Rattle.buffers.proofs.Segments.{part-length, part-ends, take-clamped, Begun}
+use Rattle.model.specs.declared.Totals.{Totals}
 use Rattle.model.specs.View.{Reception, View, fresh}
+use Rattle.model.specs.Answer.{shownNumber}
 use Rattle.model.specs.Step.{Outcome, step, sentFor}
 use Rattle.model.specs.Image.{CheckpointResult, RestoreResult, imageLength, checkpointOf, restoreOf}
 use Rattle.model.specs.Burst.{Replied, BurstResult, burstOf}
 use Rattle.model.specs.Heard.{HeardResult, copiesOf}
 use Rattle.model.specs.History.{Receive, Checkpoint, Restore, Cut, Burst, Ask, Look, Answered, Wrote, Restored, Delivered, Heard, Looked, run}
-use Rattle.replay_model.specs.Operation.{saving}
-use Rattle.replay_model.specs.Record.{headOf, seenBytes, recordOf}
+use Rattle.replay_model.specs.Operation.{receiving, saving}
+use Rattle.replay_model.specs.Record.{headOf, formOf, replyOf, seenBytes, recordOf}
 use Rattle.replay_model.proofs.Parts.{record-one, record-two}
 use Rattle.replay_model.proofs.Lengths.{head-length, checkpoint-length}
 use Rattle.replay.specs.Calls.{numberAt, maxOutput, outputIn}
-use Rattle.replay.specs.Private.{wroteOf}
+use Rattle.replay.specs.Private.{wroteOf, replyCell}
 
 module _ (v : View) where
-  pub answered : (setting : ℕ) (r : Reception) (o : Outcome) (sent : Frame) → o ≡ step v r → sent ≡ sentFor setting (o .answer) r
-      → seenBytes (Answered (o .answer) sent (o .next .totals)) ≡ recordOf (run v (Receive setting r ∷ []))
-  answered setting r o sent e f =
-      ap (λ (s : Frame). seenBytes (Answered (o .answer) s (o .next .totals))) f
+  -- by the form and the number of the answer
+  pub answered : (setting : ℕ) (r : Reception) (o : Outcome) (sent : Frame) (form number : ℕ) (n : Totals)
+      → o ≡ step v r → sent ≡ sentFor setting (o .answer) r → form ≡ formOf (o .answer) → number ≡ shownNumber (o .answer) → n ≡ o .next .totals
+      → headOf receiving number n ++ replyCell form number sent ≡ recordOf (run v (Receive setting r ∷ []))
+  unfolding seenBytes replyOf
+  answered setting r o sent form number n e f g k t =
+      ap₂ (λ (x y : ℕ). headOf receiving y n ++ replyCell x y sent) g k
+      ∙ ap₂ (λ (s : Frame) (m : Totals). seenBytes (Answered (o .answer) s m)) f t
       ∙ ap (λ (p : Outcome). seenBytes (Answered (p .answer) (sentFor setting (p .answer) r) (p .next .totals))) e ∙ record-one _
 
   pub loaded : (image : List ℕ) (q : RestoreResult) → q ≡ restoreOf v image

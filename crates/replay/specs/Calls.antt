@@ -9,11 +9,11 @@ use Rattle.lists.specs.Lists.{upFrom}
 use Rattle.erp1.specs.Subtelegram.{maxLength}
 use Rattle.buffers.specs.Buffer.{part, resized}
 use Rattle.layout.specs.BigEndian.{unbe}
-use Rattle.model.specs.Answer.{Shown, Kept, Copy, Loose}
 use Rattle.model.specs.View.{Reception}
 use Rattle.model.specs.Burst.{Replied}
 use Rattle.model.specs.History.{Call, Receive, Checkpoint, Restore, Cut, Burst, Ask, Look}
 use Rattle.burst.specs.Records.{listed}
+use Rattle.histories.specs.Answers.{formIn}
 use Rattle.replay_model.specs.Operation.{receiving, saving, cutting, restoring, delivering, asking}
 
 abbrev pub callLength : ℕ
@@ -60,9 +60,6 @@ unfoldable pub receptionsIn : List ℕ → List Reception
 receptionsIn bytes = map (λ (i : ℕ). burstReceptionIn (recordAt bytes i)) (upFrom 0 (countIn bytes))
 
 -- what each place of the second list holds before a burst: the form of an answer in 25, the length of a telegram in 26, and its bytes from 27 on
-abbrev pub formIn : ℕ → Shown
-formIn form = cond (eqb form 0) Kept (cond (eqb form 1) Copy Loose)
-
 abbrev pub placeIn : List ℕ → Replied
 placeIn r = record { answer = formIn (getD r 25 0); sent = record { len = getD r 26 0; bytes = part 27 maxLength r } }
 

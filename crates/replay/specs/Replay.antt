@@ -1,13 +1,13 @@
 -- What a replay of calls ensures: the record that it writes is that of what a collector shows, and so the reference model's (document 01, "One
--- history, and the clerk who writes it down").
+-- history, and the clerk who writes it down"); and every element of the collector's arrays.
 use Prim.Native.Nat.{ℕ}
 use mathlib.Core.Path.{_≡_}
 use mathlib.Core.List.{List, []}
 use Rattle.refusal.specs.Number.{numberOf}
 use Rattle.telegram.specs.Output.{Result}
-use Rattle.model.specs.View.{View, fresh}
 use Rattle.model.specs.History.{Call, IsHistory, run, expected, uncut, common}
-use Rattle.collector.specs.Collector.{viewOf}
+use Rattle.c_collector.specs.State.{Arrays, stateAt}
+use Rattle.histories.specs.Elements.{freshArrays, arraysAfterAll}
 use Rattle.replay_model.specs.Record.{recordOf}
 use Rattle.replay_model.specs.Replay.{afterCalls, putRecord, madeBy}
 use Rattle.replay.specs.declared.Ran.{Ran}
@@ -22,15 +22,16 @@ ranNumber (Refused why) = numberOf why
 abbrev pub replayedOf : Replayed → List ℕ → Result
 replayedOf r output = record { number = ranNumber (r .answer); len = r .written; output = output }
 
--- calls from any state: the record of what a collector shows, and the state after them
-pub record Resumes (v : View) (h : List Call) (entry exit : List ℕ) (r : Replayed) : Type 0 where
-  pub result : replayedOf r exit ≡ putRecord (recordOf (run v h)) entry
-  pub next : viewOf (r .next) ≡ afterCalls v (madeBy (ranNumber (r .answer)) h)
+-- calls from any state: the record of what a collector shows, the state after them, and every element of its arrays
+pub record Resumes (s : Arrays) (h : List Call) (entry exit : List ℕ) (r : Replayed) (s' : Arrays) : Type 0 where
+  pub result : replayedOf r exit ≡ putRecord (recordOf (run (stateAt s) h)) entry
+  pub state : stateAt s' ≡ afterCalls (stateAt s) (madeBy (ranNumber (r .answer)) h)
+  pub elements : s' ≡ arraysAfterAll s (madeBy (ranNumber (r .answer)) h)
 
 -- THE CLAIM on the code: from a collector started fresh it writes what a collector shows, whatever the calls; of a history that is what the reference
 -- model says; and of the uncut list of a history too, where the number of each restore is left out
-pub record Replays (h : List Call) (entry exit : List ℕ) (r : Replayed) : Type 0 where
-  pub shown : Resumes fresh h entry exit r
+pub record Replays (h : List Call) (entry exit : List ℕ) (r : Replayed) (s' : Arrays) : Type 0 where
+  pub shown : Resumes freshArrays h entry exit r s'
   pub reference : IsHistory h → replayedOf r exit ≡ putRecord (recordOf (expected [] h)) entry
   pub uncutRun : (g : List Call) → IsHistory g → h ≡ uncut g
       → replayedOf r exit ≡ putRecord (recordOf (common (expected [] g))) entry

@@ -1,17 +1,24 @@
 // Puts a collector through a list of calls, lent as records of 64 bytes, and writes what is seen of each: the function of which the claim on whole
-// histories speaks (document 01, "One history, and the clerk who writes it down"). A collector is reached by its public functions alone.
+// histories speaks (document 01, "One history, and the clerk who writes it down"). The collector lies in five lent arrays, and is reached by the calls
+// of the library alone; `values` does the same by the calls by value.
 pub(crate) mod calls;
+pub(crate) mod lent_lists;
 pub(crate) mod reading;
+pub(crate) mod value_calls;
+pub(crate) mod value_lists;
+pub mod values;
 pub(crate) mod writing;
 
-use collector::Collector;
+use c_collector::BYTES;
+use c_collector::CAPACITY;
+use c_collector::NUMBERS;
 use refusal::Refusal;
 ghost use mathlib.Core.Path.{_≡_};
 ghost use mathlib.Core.List.{[]};
 ghost use Prim.Native.Nat.{_≤_};
 ghost use lib.Dec.{leb};
 ghost use lib.ListN.{length};
-ghost use Rattle.collector.specs.Collector.{viewOf};
+ghost use Rattle.c_collector.specs.State.{arrays};
 ghost use Rattle.replay_model.specs.Replay.{callSize, sizeOfAll};
 ghost use Rattle.replay.specs.Calls.{callLength, callIn, callsIn};
 ghost use Rattle.replay.specs.Replay.{Resumes, Replays};
@@ -44,38 +51,60 @@ pub enum Ran {
     Refused(Refusal),
 }
 
-// The state after the calls, and how many bytes were written of them.
+// How many bytes were written of the calls.
 pub struct Replayed {
-    pub next: Collector,
     pub written: usize,
     pub answer: Ran,
 }
 
 // What a collector started fresh shows of all the calls. An output that is shorter than their record is refused with 6, and no call is made.
-pub fn replay<'a>(calls: &'a [u8], lent: &'a [u8], out: &'a mut [u8]) -> Replayed
-    ensures { λ r. ⌜ Replays (callsIn (now (lent .entry)) (now (calls .entry)))
-        (now (out .entry)) (now (out .exit)) r ⌝ }
+pub fn replay<'a>(
+    times: &mut [u64; CAPACITY],
+    lengths: &mut [u8; CAPACITY],
+    bytes: &mut [u8; BYTES],
+    copies: &mut [u16; CAPACITY],
+    numbers: &mut [u64; NUMBERS],
+    calls: &'a [u8],
+    lent: &'a [u8],
+    out: &mut [u8],
+) -> Replayed
+    ensures { λ r. ⌜ Replays (callsIn (now (lent .entry)) (now (calls .entry))) (now (out .entry)) (now (out .exit)) r
+        (arrays (now (times .exit)) (now (lengths .exit)) (now (bytes .exit)) (now (copies .exit))
+        (now (numbers .exit))) ⌝ }
 {
-    resume(Collector::fresh(), calls, lent, out)
+    c_collector::fresh(times, lengths, bytes, copies, numbers);
+    resume(times, lengths, bytes, copies, numbers, calls, lent, out)
 }
 
 // What a collector shows of them, whatever state it is in.
-pub fn resume<'a>(c: Collector, calls: &'a [u8], lent: &'a [u8], out: &'a mut [u8]) -> Replayed
-    ensures { λ r. ⌜ Resumes (viewOf c) (callsIn (now (lent .entry)) (now (calls .entry)))
-        (now (out .entry)) (now (out .exit)) r ⌝ }
+pub fn resume<'a>(
+    times: &mut [u64; CAPACITY],
+    lengths: &mut [u8; CAPACITY],
+    bytes: &mut [u8; BYTES],
+    copies: &mut [u16; CAPACITY],
+    numbers: &mut [u64; NUMBERS],
+    calls: &'a [u8],
+    lent: &'a [u8],
+    out: &mut [u8],
+) -> Replayed
+    ensures { λ r. ⌜ Resumes
+        (arrays (now (times .entry)) (now (lengths .entry)) (now (bytes .entry)) (now (copies .entry))
+        (now (numbers .entry)))
+        (callsIn (now (lent .entry)) (now (calls .entry))) (now (out .entry)) (now (out .exit)) r
+        (arrays (now (times .exit)) (now (lengths .exit)) (now (bytes .exit)) (now (copies .exit))
+        (now (numbers .exit))) ⌝ }
 {
     if !fits(calls, out.len()) {
         return Replayed {
-            next: c,
             written: 0,
             answer: Ran::Refused(Refusal::ShortOutput),
         };
     }
-    all(c, calls, lent, out)
+    all(times, lengths, bytes, copies, numbers, calls, lent, out)
 }
 
 // Whether n bytes are enough for what is written of the calls.
-fn fits(calls: &[u8], n: usize) -> bool
+pub(crate) fn fits(calls: &[u8], n: usize) -> bool
     ensures { λ r. ⌜ r ≡ leb (sizeOfAll (callsIn [] (now (calls .entry)))) n ⌝ }
 {
     let mut left = n;
@@ -90,17 +119,33 @@ fn fits(calls: &[u8], n: usize) -> bool
 }
 
 // All the calls, one after the other.
-fn all<'a>(c: Collector, calls: &'a [u8], lent: &'a [u8], out: &'a mut [u8]) -> Replayed
+fn all<'a>(
+    times: &mut [u64; CAPACITY],
+    lengths: &mut [u8; CAPACITY],
+    bytes: &mut [u8; BYTES],
+    copies: &mut [u16; CAPACITY],
+    numbers: &mut [u64; NUMBERS],
+    calls: &'a [u8],
+    lent: &'a [u8],
+    out: &mut [u8],
+) -> Replayed
     requires { ⌜ sizeOfAll (callsIn [] (now calls)) ≤ length (now out) ⌝ }
-    ensures { λ r. ⌜ Resumes (viewOf c) (callsIn (now (lent .entry)) (now (calls .entry)))
-        (now (out .entry)) (now (out .exit)) r ⌝ }
+    ensures { λ r. ⌜ Resumes
+        (arrays (now (times .entry)) (now (lengths .entry)) (now (bytes .entry)) (now (copies .entry))
+        (now (numbers .entry)))
+        (callsIn (now (lent .entry)) (now (calls .entry))) (now (out .entry)) (now (out .exit)) r
+        (arrays (now (times .exit)) (now (lengths .exit)) (now (bytes .exit)) (now (copies .exit))
+        (now (numbers .exit))) ⌝ }
 {
-    let mut now = c;
     let mut at: usize = 0;
     for i in 0..calls.len() / CALL_LENGTH {
         let size = reading::size_in(&calls[CALL_LENGTH * i..CALL_LENGTH * i + CALL_LENGTH]);
-        now = call(
-            now,
+        call(
+            times,
+            lengths,
+            bytes,
+            copies,
+            numbers,
             &calls[CALL_LENGTH * i..CALL_LENGTH * i + CALL_LENGTH],
             lent,
             &mut out[at..at + size],
@@ -108,35 +153,54 @@ fn all<'a>(c: Collector, calls: &'a [u8], lent: &'a [u8], out: &'a mut [u8]) -> 
         at += size;
     }
     Replayed {
-        next: now,
         written: at,
         answer: Ran::Done,
     }
 }
 
-// One call: the state after it.
-fn call<'a>(c: Collector, r: &'a [u8], lent: &'a [u8], out: &'a mut [u8]) -> Collector
+// One call.
+fn call<'a>(
+    times: &mut [u64; CAPACITY],
+    lengths: &mut [u8; CAPACITY],
+    bytes: &mut [u8; BYTES],
+    copies: &mut [u16; CAPACITY],
+    numbers: &mut [u64; NUMBERS],
+    r: &'a [u8],
+    lent: &'a [u8],
+    out: &mut [u8],
+)
     requires { ⌜ (length (now r) ≡ callLength) × (length (now out) ≡ callSize (callIn [] (now r))) ⌝ }
-    ensures { λ d. ⌜ Called (viewOf c) (callIn (now (lent .entry)) (now (r .entry))) (now (out .exit)) d ⌝ }
+    ensures { λ _. ⌜ Called
+        (arrays (now (times .entry)) (now (lengths .entry)) (now (bytes .entry)) (now (copies .entry))
+        (now (numbers .entry)))
+        (callIn (now (lent .entry)) (now (r .entry))) (now (out .exit))
+        (arrays (now (times .exit)) (now (lengths .exit)) (now (bytes .exit)) (now (copies .exit))
+        (now (numbers .exit))) ⌝ }
 {
     let operation = r[0];
     if operation == RECEIVING {
-        return calls::received(c, r, out);
+        calls::received(times, lengths, bytes, copies, numbers, r, out);
+        return;
     }
     if operation == SAVING {
-        return calls::saved(c, r, out);
+        calls::saved(times, lengths, bytes, copies, numbers, r, out);
+        return;
     }
     if operation == CUTTING {
-        return calls::cut(c, r, out);
+        calls::cut(times, lengths, bytes, copies, numbers, r, out);
+        return;
     }
     if operation == RESTORING {
-        return calls::restored(c, r, lent, out);
+        calls::restored(times, lengths, bytes, copies, numbers, r, lent, out);
+        return;
     }
     if operation == DELIVERING {
-        return calls::delivered(c, r, lent, out);
+        calls::delivered(times, lengths, bytes, copies, numbers, r, lent, out);
+        return;
     }
     if operation == ASKING {
-        return calls::asked(c, r, out);
+        calls::asked(times, lengths, bytes, copies, numbers, r, out);
+        return;
     }
-    calls::looked(c, out)
+    calls::looked(times, lengths, bytes, copies, numbers, out);
 }

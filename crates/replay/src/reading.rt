@@ -1,20 +1,16 @@
 // What a record says.
 use burst::LISTED;
-use burst::Reception;
-use burst::Reply;
-use collector::Collector;
-use model::Answer;
-use telegram::frame::Frame;
 ghost use mathlib.Core.Path.{_≡_};
-ghost use mathlib.Core.List.{[], map};
-ghost use Prim.Native.Nat.{_+_, _*_, _≤_, min};
-ghost use lib.ListN.{length, take, replicate};
-ghost use Rattle.lists.specs.Lists.{upFrom};
+ghost use mathlib.Core.List.{[]};
+ghost use Prim.Native.Nat.{_+_, _≤_, min};
+ghost use lib.ListN.{length};
 ghost use Rattle.buffers.specs.Buffer.{part};
-ghost use Rattle.model.specs.Answer.{shownOf};
-ghost use Rattle.burst.specs.Records.{receptionOf, repliedOf, listed};
+ghost use Rattle.burst.specs.Records.{listed};
 ghost use Rattle.replay_model.specs.Replay.{callSize};
-ghost use Rattle.replay.specs.Calls.{callLength, recordAt, numberAt, maxOutput, lentIn, burstReceptionIn, formIn, placeIn, callIn};
+ghost use Rattle.replay.specs.Calls.{callLength, numberAt, maxOutput, lentIn, callIn};
+
+// The most bytes that a record has for a reception.
+pub(crate) const RECEPTION: usize = 53;
 
 // How many bytes are written of the call that a record says.
 pub(crate) fn size_in(r: &[u8]) -> usize
@@ -85,80 +81,6 @@ fn window(s: &[u8], a: u64, n: u64) -> &[u8]
     let rest = &s[start..];
     let end = least(n as usize, rest.len());
     &rest[0..end]
-}
-
-// The receptions of a burst: the first n records.
-pub(crate) fn receptions_in(bytes: &[u8], n: usize) -> [Reception; LISTED]
-    requires { ⌜ (n ≤ listed) × (callLength * n ≤ length (now bytes)) ⌝ }
-    ensures { λ rs. ⌜ map receptionOf (take n rs)
-        ≡ map (λ i. burstReceptionIn (recordAt (now (bytes .entry)) i)) (upFrom 0 n) ⌝ }
-{
-    let mut all = no_receptions();
-    for i in 0..n {
-        all[i] = reception_in(
-            &bytes[crate::CALL_LENGTH * i..crate::CALL_LENGTH * i + crate::CALL_LENGTH],
-        );
-    }
-    all
-}
-
-fn no_receptions() -> [Reception; LISTED] {
-    let none = Reception {
-        bytes: [0; Collector::MAX_LEN],
-        len: 0,
-        time: 0,
-    };
-    [none; LISTED]
-}
-
-fn reception_in(r: &[u8]) -> Reception
-    requires { ⌜ length (now r) ≡ callLength ⌝ }
-    ensures { λ s. ⌜ receptionOf s ≡ burstReceptionIn (now (r .entry)) ⌝ }
-{
-    let mut bytes = [0u8; Collector::MAX_LEN];
-    layout::put_bytes(&mut bytes, &r[10..31]);
-    let time = number_at(r, 1);
-    Reception {
-        bytes: bytes,
-        len: r[9],
-        time: time,
-    }
-}
-
-// What each place of the second list holds before the burst.
-pub(crate) fn place_in(r: &[u8]) -> Reply
-    requires { ⌜ length (now r) ≡ callLength ⌝ }
-    ensures { λ p. ⌜ repliedOf p ≡ placeIn (now (r .entry)) ⌝ }
-{
-    let mut bytes = [0u8; Collector::MAX_LEN];
-    layout::put_bytes(&mut bytes, &r[27..48]);
-    let len = wide(r[26]);
-    let answer = form_in(r[25]);
-    Reply {
-        answer: answer,
-        sent: Frame {
-            len: len,
-            bytes: bytes,
-        },
-    }
-}
-
-fn form_in(form: u8) -> Answer
-    ensures { λ a. ⌜ shownOf a ≡ formIn form ⌝ }
-{
-    if form == 0 {
-        return Answer::Kept;
-    }
-    if form == 1 {
-        return Answer::Copy;
-    }
-    Answer::Loose
-}
-
-pub(crate) fn places(place: Reply) -> [Reply; LISTED]
-    ensures { λ r. ⌜ r ≡ replicate listed place ⌝ }
-{
-    [place; LISTED]
 }
 
 pub(crate) fn least(a: usize, b: usize) -> usize

@@ -14,9 +14,8 @@ use Rattle.model.proofs.Division as model_division
 use Rattle.model.proofs.Isolation as model_isolation
 use Rattle.model.proofs.States as model_states
 use Rattle.model.proofs.Struck as model_struck
-use Rattle.image.proofs.Histories as image_histories
-use Rattle.burst.proofs.Histories as burst
-use Rattle.image.proofs.Isolation as image_isolation
+use Rattle.histories.proofs.Answers as histories_answers
+use Rattle.histories.proofs.Claims as histories
 use Rattle.collector.proofs.Stepping as collector_stepping
 use Rattle.collector.proofs.Sending as collector_sending
 use Rattle.replay_model.proofs.Back as replay_model_back
@@ -110,9 +109,15 @@ code = record {
   contracts-give-divisions = model_states.states-divide;
   contracts-give-state = model_states.states-left;
   contracts-give-independence = model_struck.states-isolated;
-  calls-meet-contracts = image_histories.calls-show;
-  bursts-meet-contracts = burst.burst-shows;
-  code-state-follows-model = image_isolation.collector-left;
+  numbers-tell-answers = histories_answers.answers-back;
+  bytes-tell-replies = histories_answers.replies-back;
+  code-state-follows-model = histories.arrays-left;
+  every-element-is-known = histories.arrays-elements;
+  value-calls-follow-model = histories.values-agree;
+  value-groups-change-nothing = histories.values-divide;
+  value-state-follows-model = histories.values-left;
+  value-sensors-are-independent = histories.values-isolated;
+  value-elements-are-known = histories.values-elements;
   one-test-is-enough = collector_stepping.told-rightly;
   sent-follows-model = collector_sending.relayed-sent;
 }

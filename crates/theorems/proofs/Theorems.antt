@@ -6,11 +6,10 @@ use Rattle.slots.proofs.Listed as slots
 use Rattle.timing.proofs.Laws as timing
 use Rattle.site.proofs.Accepts as site
 use Rattle.model.proofs.Theorem as model_theorem
-use Rattle.image.proofs.Histories as image_histories
+use Rattle.histories.proofs.Claims as histories
 use Rattle.model.proofs.Latest as model_latest
 use Rattle.model.proofs.Counting as model_counting
 use Rattle.model.proofs.Image as model_image
-use Rattle.image.proofs.Isolation as image_isolation
 use Rattle.collecting.proofs.Printed as collecting
 use Rattle.archived.proofs.Archived as archived
 use Rattle.archive_model.proofs.Claims as archive_model
@@ -47,12 +46,12 @@ slotPlans = record {
 collector : Collector
 collector = record {
   histories-follow-model = model_theorem.whole-history;
-  code-follows-model = image_histories.collector-histories;
-  groups-change-nothing = image_histories.collector-divisions;
+  code-follows-model = histories.arrays-agree;
+  groups-change-nothing = histories.arrays-divide;
   latest-decides = model_latest.latest-decides;
   copies-are-counted = model_counting.numbers-are-answers;
   restore-is-exact = model_image.exact;
-  sensors-are-independent = image_isolation.collector-isolated;
+  sensors-are-independent = histories.arrays-isolated;
   output-follows-model = collecting.collect-prints;
   rows-follow-model = archived.log-archived;
 }

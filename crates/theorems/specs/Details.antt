@@ -17,9 +17,8 @@ use Rattle.model.specs.Division as model_division
 use Rattle.model.specs.Isolation as model_isolation
 use Rattle.model.specs.States as model_states
 use Rattle.collector.specs.Admission as collector
-use Rattle.image.specs.Histories as image_histories
-use Rattle.image.specs.Isolation as image_isolation
-use Rattle.burst.specs.Histories as burst
+use Rattle.histories.specs.Answers as histories_answers
+use Rattle.histories.specs.Claims as histories
 use Rattle.replay_model.specs.Claims as replay_model
 use Rattle.line_input.specs.Claims as line_input
 use Rattle.line_output.specs.Claims as line_output
@@ -125,12 +124,24 @@ pub record Code : Type 1 where
   pub contracts-give-state : {State : Type 0} (view : State → View) → model_states.StatesLeft view
   -- Its answers to one sensor do not depend on other sensors, as long as none is loose and time does not go back.
   pub contracts-give-independence : {State : Type 0} (view : State → View) → model_isolation.StatesIsolated view
-  -- These four statements ask something of each call. The contracts of the code's calls ensure it,
-  pub calls-meet-contracts : image_histories.CallsShow
-  -- and so does the contract of a burst, a call with several receptions.
-  pub bursts-meet-contracts : burst.BurstShows
-  -- The state of the code after any calls is the model's.
-  pub code-state-follows-model : image_isolation.CollectorLeft
+  -- The number that `take` returns tells which answer it is.
+  pub numbers-tell-answers : histories_answers.AnswersBack
+  -- The 24 bytes that a burst, a call with several receptions, writes for a reception tell its answer and what to send.
+  pub bytes-tell-replies : histories_answers.RepliesBack
+  -- After any calls of the library, the collector's state is the model's.
+  pub code-state-follows-model : histories.ArraysLeft
+  -- After any calls, each element of the collector's arrays is known, also those behind the open telegrams, and also beside a refusal.
+  pub every-element-is-known : histories.ArraysElements
+  -- There is a second set of calls, which take the state and return the next one. It follows the model too,
+  pub value-calls-follow-model : histories.ValuesAgree
+  -- gives the same answers to the same receptions, one by one or in groups,
+  pub value-groups-change-nothing : histories.ValuesDivide
+  -- leaves the model's state,
+  pub value-state-follows-model : histories.ValuesLeft
+  -- answers one sensor without regard to others,
+  pub value-sensors-are-independent : histories.ValuesIsolated
+  -- and leaves each element of the arrays as the library's calls do.
+  pub value-elements-are-known : histories.ValuesElements
   -- A run of receptions may test its first state only: the test gives the same result for every later state.
   pub one-test-is-enough : collector.ToldRightly
   -- After each reception, the telegram that the code sends on is the one that the model says.

@@ -31,8 +31,7 @@ use Rattle.model.specs.Exact as model_exact
 use Rattle.model.specs.History as model_history
 use Rattle.model.specs.Latest as model_latest
 use Rattle.model.specs.Copies as model_copies
-use Rattle.image.specs.Histories as image_histories
-use Rattle.image.specs.Isolation as image_isolation
+use Rattle.histories.specs.Claims as histories
 use Rattle.collecting.specs.Claims as collecting
 use Rattle.archived.specs.Claims as archived
 use Rattle.archive_model.specs.Claims as archive_model
@@ -75,10 +74,10 @@ pub record SlotPlans : Type 0 where
 pub record Collector : Type 0 where
   -- All answers and outputs of any calls, with restarts anywhere, equal those of a model that stores every reception, and of a run without restarts.
   pub histories-follow-model : model_history.WholeHistory
-  -- The same holds for the states of the code. The proof uses only the contracts of its functions.
-  pub code-follows-model : image_histories.CollectorHistories
+  -- The same holds for the calls of the library. The proof uses only their contracts.
+  pub code-follows-model : histories.ArraysAgree
   -- The same receptions get the same answers, whether they are handed over one by one or in groups of any size.
-  pub groups-change-nothing : image_histories.CollectorDivisions
+  pub groups-change-nothing : histories.ArraysDivide
   -- Of the open telegrams that are the same as a reception, only the latest decides whether the reception is a copy.
   pub latest-decides : model_latest.LatestDecides
   -- The number of copies of a telegram is the number of receptions that were answered as copies of it.
@@ -86,7 +85,7 @@ pub record Collector : Type 0 where
   -- A restore accepts exactly the bytes that a checkpoint writes, now or in the format before, and gives the state that was written.
   pub restore-is-exact : model_exact.Exact
   -- In fewer than 2^64 receptions, none loose and none earlier than the one before, a sensor's answers do not depend on the other sensors.
-  pub sensors-are-independent : image_isolation.CollectorIsolated
+  pub sensors-are-independent : histories.ArraysIsolated
   -- The text that is defined as the output of `collect` has the model's answers and totals, however the input is cut into pieces.
   pub output-follows-model : collecting.CollectPrints
   -- The rows that a log gives for an archive are the receptions that the model keeps, and the loose ones, in order.

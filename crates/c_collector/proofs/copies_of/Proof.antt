@@ -7,6 +7,9 @@ use borrow.Author.Needs.{needs}
 use borrow.Author.Tests.{not-true, not-false}
 use denote.Ref.{now}
 use lib.ListN.{getD}
+use Rattle.refusal.specs.Number.{numberOf}
+use Rattle.refusal.specs.declared.Refusal.the-variants.{Argument, NotAccepted}
+use Rattle.refusal.proofs.Numbers.{refused-number}
 use Rattle.model.specs.View.{capacity}
 use Rattle.model.specs.Acceptable.{acceptable}
 use Rattle.collector.specs.declared.Collector.{Collector}
@@ -14,6 +17,7 @@ use Rattle.collector.specs.Collector.{columns, viewOf}
 use Rattle.collector.specs.Admission.{collectorOf}
 use Rattle.collector.proofs.Hearing.{heard-unacceptable, heard-few, heard-closed, heard-open}
 use Rattle.c_collector.specs.State.{summaryIn}
+use Rattle.c_collector.proofs.State.{copies-refused, copies-shown}
 use Rattle.c_collector.proofs.copies_of.Statement.{statement}
 use Rattle.c_collector.proofs.copies_of.Tie as tie
 
@@ -34,14 +38,16 @@ returns : tie.Need-returns
 unfolding viewOf
 returns c =
     let s = c .before .before .before in
-    rw (c .number .ensures) (heard-unacceptable (state s) (s .args .entry) (sym (tested (c .before .before)) ∙ not-true _ (c .before .if1 .taken)))
+    rw (c .number .ensures) (copies-refused _ _ _ (numberOf NotAccepted) (refused-number NotAccepted)
+    (heard-unacceptable (state s) (s .args .entry) (sym (tested (c .before .before)) ∙ not-true _ (c .before .if1 .taken))))
 
 returns-2 : tie.Need-returns-2
 unfolding viewOf
 returns-2 c =
     let e = c .before .before in
     let s = e .before .before .before in
-    rw (c .number2 .ensures) (heard-closed (state s) (s .args .entry) (passed (e .before)) (c .before .if2 .taken))
+    rw (c .number2 .ensures) (copies-refused _ _ _ (numberOf Argument) (refused-number Argument)
+    (heard-closed (state s) (s .args .entry) (passed (e .before)) (c .before .if2 .taken)))
 
 -- the entry is open
 few : (c : tie.Else2) → getD (now (c .before .before .before .before .args .numbers)) 0 0 ≤ capacity
@@ -52,7 +58,7 @@ unfolding viewOf
 returns-3 c =
     let o = c .before .before in
     let s = o .before .before .before .before in
-    rw (c .wide .ensures) (heard-open (state s) (s .args .entry) (passed (o .before .before)) (o .if2 .left))
+    rw (c .wide .ensures) (copies-shown _ _ _ _ (heard-open (state s) (s .args .entry) (passed (o .before .before)) (o .if2 .left)))
 
 pub copies-of-spec : {M : Type 1} → statement M
 copies-of-spec =

@@ -1,31 +1,24 @@
--- `replay::all` meets its contract. The invariant: the record of the first i calls is written, and the state is that after them; the measure: the
+-- `replay::all` meets its contract. The invariant: the record of the first i calls is written, and the arrays are those after them; the measure: the
 -- calls left.
 use mathlib.Core.Path.{_≡_, refl, _∙_}
-use mathlib.Core.List.{List}
-use Prim.Native.Nat.{ℕ, _+_, _-_, _*_, _/_, _≤_}
+use Prim.Native.Nat.{_+_, _-_, _*_, _≤_}
 use native.Mathlib.Omega.{arith}
 use denote.Ref.{now}
-use lib.ListN.{length, take}
+use lib.ListN.{length}
 use Rattle.buffers.proofs.Segments.{begun-length, within, lent}
-use Rattle.model.specs.View.{View}
-use Rattle.collector.specs.declared.Collector.{Collector}
-use Rattle.collector.specs.Collector.{viewOf}
-use Rattle.replay.specs.Calls.{callLength, callsIn}
+use Rattle.c_collector.specs.State.{arrays}
+use Rattle.replay.specs.Calls.{callLength}
 use Rattle.replay.proofs.Records.{record-length, calls-all}
-use Rattle.replay.proofs.Running.{Made, none-made, turn, enough, ran}
+use Rattle.replay.proofs.Running.{Calling, none-made, turn, enough, ran}
 use Rattle.replay.proofs.all.Statement.{statement}
 use Rattle.replay.proofs.all.Tie as tie
 
-record Calling (calls lent : List ℕ) (v : View) (i i-end : ℕ) (entry out : List ℕ) (at : ℕ) (c : Collector) : Type 0 where
-  bounded : i ≤ i-end
-  end : i-end ≡ length calls / callLength
-  made : Made v (take i (callsIn lent calls)) entry out at c
-
 abbrev Inv-loop : tie.InvT-loop
-Inv-loop calls lent out₀ now₀ at₀ i₀ i-end out now at i = Calling calls lent (viewOf now₀) i i-end out₀ out at now
+Inv-loop times₀ lengths₀ bytes₀ copies₀ numbers₀ calls lent out₀ at₀ i₀ i-end times lengths bytes copies numbers out at i =
+    Calling calls lent (arrays times₀ lengths₀ bytes₀ copies₀ numbers₀) i i-end out₀ out at (arrays times lengths bytes copies numbers)
 
 abbrev μ-loop : tie.MeasureT-loop
-μ-loop calls lent out₀ now₀ at₀ i₀ i-end out now at i = i-end - i
+μ-loop times₀ lengths₀ bytes₀ copies₀ numbers₀ calls lent out₀ at₀ i₀ i-end times lengths bytes copies numbers out at i = i-end - i
 
 abbrev start : tie.At-loop Inv-loop μ-loop → tie.Start Inv-loop μ-loop
 start c = c .before .before .before .before
@@ -48,21 +41,33 @@ room c =
 room-now : (c : tie.After-size-in Inv-loop μ-loop) → turned c .before .loop .at + c .size-in .result ≤ length (turned c .before .loop .out)
 room-now c = within (turned c .before .loop .inv .made .begun) _ (room c)
 
+-- and before its arguments
+abbrev args5 : tie.After-call-arg5 Inv-loop μ-loop → tie.After-size-in Inv-loop μ-loop
+args5 c =
+    let a = c .before .before .before in
+    a .before .before
+
+abbrev args6 : tie.After-call-arg6 Inv-loop μ-loop → tie.After-size-in Inv-loop μ-loop
+args6 c = args5 (c .before)
+
+abbrev sized : tie.After-call-arg7 Inv-loop μ-loop → tie.After-size-in Inv-loop μ-loop
+sized c = args6 (c .before)
+
 call-requires : tie.Need-call-requires Inv-loop μ-loop
 call-requires c κs =
-    let size = c .before .before in
+    let size = sized c in
     let t = turned size in
     (record-length _ _ (record-in t), lent (t .before .loop .inv .made .begun) (size .size-in .result) _ refl (room size) ∙ size .size-in .ensures)
 
 loop-again : tie.Need-loop-again Inv-loop μ-loop
 loop-again c =
     let done = c .before .before in
-    let size = done .before .before .before in
+    let size = sized (done .before) in
     let t = turned size in
     let a = start (t .before) .args in
     let next =
-    turn (now (a .lent)) (now (a .calls)) (t .before .loop .i) (omega arith) (t .before .loop .inv .made) _ (done .call .result) (done .call .ensures)
-    (size .size-in .result) (done .call .kept .1 .1 .1 .0) (room size)
+    turn (now (a .lent)) (now (a .calls)) (t .before .loop .i) (omega arith) (t .before .loop .inv .made) _ _ (done .call .ensures)
+    (size .size-in .result) (done .call .kept .1 .1 .1 .1 .1 .1 .1 .0) (room size)
     in
     record { bounded = omega arith; end = omega arith; made = next }
 
@@ -85,18 +90,18 @@ all-spec =
     (λ c. omega (arith, record-in c))
     (λ c. omega (arith, record-in c))
     (λ c κs. record-length _ _ (record-in (c .before)))
-    (λ c. omega (arith, record-in (turned c)))
-    (λ c. omega (arith, record-in (turned c)))
-    (λ c. omega (arith, record-in (turned c)))
-    (λ c. omega (arith, record-in (turned c)))
-    (λ c. omega (arith, record-in (turned c)))
-    (λ c. omega (arith, record-in (turned c)))
-    (λ c. omega (arith, room (c .before), room-now (c .before)))
-    (λ c. omega (arith, room (c .before), room-now (c .before)))
-    (λ c. omega (arith, room (c .before), room-now (c .before)))
-    (λ c. room-now (c .before))
+    (λ c. omega (arith, record-in (turned (args5 c))))
+    (λ c. omega (arith, record-in (turned (args5 c))))
+    (λ c. omega (arith, record-in (turned (args5 c))))
+    (λ c. omega (arith, record-in (turned (args5 c))))
+    (λ c. omega (arith, record-in (turned (args5 c))))
+    (λ c. omega (arith, record-in (turned (args5 c))))
+    (λ c. omega (arith, room (args6 c), room-now (args6 c)))
+    (λ c. omega (arith, room (args6 c), room-now (args6 c)))
+    (λ c. omega (arith, room (args6 c), room-now (args6 c)))
+    (λ c. room-now (args6 c))
     call-requires
-    (λ c. omega (arith, room (c .before .before .before .before .before)))
+    (λ c. omega (arith, room (sized (c .before .before .before))))
     (λ c. omega arith)
     (λ c. omega arith)
     loop-again

@@ -7,8 +7,10 @@ use Rattle.replay.proofs.replay.Tie as tie
 returns : tie.Need-returns
 returns c =
     let done = c .before .before in
-    let started = done .before .before in
-    replays (started .fresh .result) (done .resume .result) (started .fresh .ensures .state) (done .resume .ensures)
+    let a = done .before .before .before in
+    let started = a .before .before .before .before in
+    let f = started .fresh .ensures in
+    replays _ _ _ (f .zero) (f .state) (done .resume .ensures)
 
 pub replay-spec : {M : Type 1} → statement M
 replay-spec =

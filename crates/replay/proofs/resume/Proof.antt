@@ -26,10 +26,13 @@ returns c =
           (test .fits2 .ensures) ∙ not-true _ (c .if1 .taken)),
     )
     in
-    refused (a .c) refl short refl
+    refused short refl
 
 all-requires : tie.Need-all-requires
-all-requires c κs = leb-true _ _ (sym (c .before .before .fits2 .ensures) ∙ not-false _ (c .before .if1 .left))
+all-requires c κs =
+    let a = c .before .before .before in
+    let test = a .before .before .before in
+    leb-true _ _ (sym (test .before .fits2 .ensures) ∙ not-false _ (test .if1 .left))
 
 returns-2 : tie.Need-returns-2
 returns-2 c = c .before .before .all .ensures

@@ -1,38 +1,26 @@
--- `replay::calls::burst_in` meets its contract: by what `burst_within` ensures.
-use mathlib.Core.Path.{_≡_, refl, ap, _∙_}
-use mathlib.Core.List.{map}
-use Prim.Native.Nat.{ℕ, min}
+-- `replay::calls::burst_in` meets its contract: by what `burst` ensures.
 use native.Mathlib.Omega.{arith}
 use borrow.Author.Needs.{needs}
 use denote.Ref.{now}
-use lib.ListN.{take, replicate}
-use Rattle.model.specs.View.{Reception}
-use Rattle.model.specs.Burst.{Replied, burstOf}
-use Rattle.collector.specs.Collector.{viewOf}
-use Rattle.burst.specs.declared.Reply.{Reply}
-use Rattle.burst.specs.Records.{listed, receptionOf, repliedOf}
-use Rattle.replay.specs.Calls.{settingIn, receptionsIn, placeIn}
-use Rattle.replay.proofs.Filling.{receptions-are, places-are}
+use Rattle.replay.proofs.Lent.{made}
 use Rattle.replay.proofs.calls.burst_in.Statement.{statement}
 use Rattle.replay.proofs.calls.burst_in.Tie as tie
 
+abbrev listed : tie.After-burst → tie.After-frames-in
+listed c =
+    let a = c .before .before .before in
+    let b = a .before .before .before in
+    let d = b .before .before .before in
+    d .before .before .before
+
 returns : tie.Need-returns
 returns c =
-    let places = c .before .before in
-    let place = places .before in
-    let records = place .before in
-    let count = records .before in
-    let start = count .before .before .before in
-    let a = start .args in
-    let r = now (a .r) in
-    let n : min (count .least .result) listed ≡ count .least .result = omega (arith, count .least .ensures) in
-    let m : min (a .m) listed ≡ a .m = omega (arith, start .pre .1) in
-    let is = rw (n, m) at (c .burst-within .ensures .front .result) in
-    record {
-      result = is ∙ λ i. burstOf (settingIn r) (viewOf (a .c))
-          (receptions-are (now (a .bytes)) _ (count .least .result) (count .least .ensures) (records .receptions-in .ensures) i)
-          (places-are r _ _ (a .m) (start .pre .1) (places .places .ensures) (place .place-in .ensures) i);
-    }
+    let call = c .before .before in
+    let frames = listed call in
+    let moments = frames .before in
+    let count = moments .before in
+    let s = count .before .before .before .before in
+    made (now (s .args .records)) (count .least .result) (count .least .ensures) _ _ (moments .moments-in .ensures) (frames .frames-in .ensures) (call .burst .ensures)
 
 pub burst-in-spec : {M : Type 1} → statement M
 burst-in-spec =
@@ -40,8 +28,15 @@ burst-in-spec =
     (tie.spec
     (λ c κs. search needs)
     (λ c κs. (omega (arith, c .least .ensures), omega (arith, c .least .ensures)))
-    (λ c κs. search needs)
-    (λ c κs. search needs)
+    (λ c κs. (omega (arith, c .before .least .ensures), omega (arith, c .before .least .ensures)))
+    (λ c. search needs)
+    (λ c. search needs)
+    (λ c. search needs)
+    (λ c. search needs)
+    (λ c. search needs)
+    (λ c. search needs)
+    (λ c. search needs)
     (λ c. search needs)
     (λ c κs. search needs)
+    (λ c. search needs)
     returns)

@@ -1,30 +1,57 @@
--- `replay::calls::cut` meets its contract: by what `checkpoint`, `fresh` and `restore` ensure.
+-- `replay::calls::cut` meets its contract: by what `checkpoint`, `fresh`, `restore` and `totals` ensure.
 use mathlib.Core.Path.{_≡_, refl, sym, ap, _∙_}
 use mathlib.Core.List.{List}
 use Prim.Native.Nat.{ℕ, _+_, _-_}
 use native.Mathlib.Omega.{arith}
 use borrow.Author.Needs.{needs}
 use denote.Ref.{now}
-use lib.ListN.{length, take, length-replicate}
+use lib.ListN.{length, length-replicate}
 use Rattle.buffers.specs.Buffer.{part}
-use Rattle.buffers.proofs.Segments.{Writing, packed, begin, lend, lent, within, done, part-length}
-use Rattle.model.specs.View.{fresh}
-use Rattle.model.specs.Image.{RestoreResult, imageLength, checkpointOf, restoreOf}
-use Rattle.model.specs.History.{Restored}
-use Rattle.collector.specs.Collector.{viewOf}
-use Rattle.image.specs.Checkpoint.{loadedNumber, restoreResult}
-use Rattle.replay_model.specs.Record.{seenBytes}
+use Rattle.buffers.proofs.Segments.{Writing, packed, begin, begun-length, lend, lent, within, done, part-length}
+use Rattle.c_collector.specs.State.{Arrays, arrays, stateAt}
+use Rattle.replay_model.specs.Operation.{restoring}
+use Rattle.replay_model.specs.Record.{headOf, seenBytes}
 use Rattle.replay.specs.Calls.{outputIn}
 use Rattle.replay.specs.Private.{wroteOf}
-use Rattle.replay.proofs.Making.{output-is, image-lent, cut-made}
+use Rattle.replay.proofs.Making.{output-is, image-lent}
+use Rattle.replay.proofs.Called.{restored-as, resumed}
 use Rattle.replay.proofs.calls.cut.Statement.{statement}
 use Rattle.replay.proofs.calls.cut.Tie as tie
 
-abbrev lengths : tie.After-put-wrote → tie.After-output-length
-lengths c = c .before .before .before
+-- what is lent
+abbrev lent-arrays : tie.Start → Arrays
+lent-arrays s =
+    let a = s .args in
+    arrays (now (a .times)) (now (a .lengths)) (now (a .bytes)) (now (a .copies)) (now (a .numbers))
+
+-- ---- the places on the way
 
 abbrev start : tie.After-output-length → tie.Start
 start c = c .before .before .before
+
+abbrev lengths : tie.After-put-wrote → tie.After-output-length
+lengths c =
+    let a = c .before .before .before in
+    let b = a .before .before .before in
+    b .before .before
+
+abbrev put : tie.After-least → tie.After-put-wrote
+put c =
+    let a = c .before .before .before in
+    let b = a .before .before .before in
+    b .before .before .before
+
+abbrev least : tie.After-out2 → tie.After-least
+least c =
+    let a = c .before .before .before in
+    a .before .before .before
+
+abbrev call : tie.After-totals-of → tie.After-restore
+call c =
+    let a = c .before .before .before in
+    a .before .before .before
+
+-- ---- lengths
 
 abbrev end : tie.After-output-length → ℕ
 end c = 58 + c .output-length .result
@@ -44,49 +71,44 @@ first-room c =
     let h = room c in
     part-length 0 (end c - 0) (now (start c .args .out)) (omega arith) ∙ omega arith
 
--- the first cell, by what `checkpoint` ensures
+-- ---- the two cells
+
 abbrev first : (c : tie.After-put-wrote) → Writing (end (lengths c))
 first c =
     let at = lengths c in
     let out = now (start at .args .out) in
     let h = room at in
-    let v = viewOf (start at .args .c) in
+    let v = stateAt (lent-arrays (start at)) in
     packed
     (lend (begin out) _ (seenBytes (wroteOf v (output at))) (end at)
     (c .put-wrote .ensures ∙ ap (λ (o : List ℕ). seenBytes (wroteOf v o)) (output-is (now (start at .args .r)) (part 0 (end at - 0) out)
     (first-room at ∙ omega (arith, output-length at))))
-    (c .put-wrote .kept .0) (omega arith) (omega arith))
+    (c .put-wrote .kept .1 .1 .1 .1 .1 .0) (omega arith) (omega arith))
 
-abbrev put : tie.After-restore → tie.After-put-wrote
-put c = c .before .before .before .before .before .before .before
+abbrev cells-put : tie.After-put-head → tie.After-put-wrote
+cells-put c = put (least (call (c .before .before) .before .before))
 
--- what `restore` ensures of the image in it
-restored : (c : tie.After-restore) → restoreResult (c .restore .result)
-    ≡ restoreOf fresh (take imageLength (checkpointOf (viewOf (start (lengths (put c)) .args .c)) (output (lengths (put c))) .output))
-restored c =
-    let other = c .before .before .before in
-    let m = other .before in
-    let at = lengths (put c) in
-    let v = viewOf (start at .args .c) in
-    c .restore .ensures .result
-    ∙ λ i. restoreOf (other .fresh .ensures .state i)
-    (image-lent v (output at) _ _ (m .least .result) (first (put c) .begun .is) (m .least .ensures ∙ omega (arith, output-length at)) i)
+abbrev both : (c : tie.After-put-head) → Writing (end (lengths (cells-put c)) + 50)
+both c =
+    let totals = c .before .before in
+    let at = lengths (cells-put c) in
+    let h = room at in
+    packed
+    (lend (first (cells-put c) .begun) _ (headOf restoring (call totals .restore .result) (totals .totals-of .result)) (end at + 50) (c .put-head .ensures)
+    (c .put-head .kept .0) (omega arith) (omega arith))
 
 returns : tie.Need-returns
-unfolding viewOf
 returns c =
     let second = c .before .before in
-    let t = second .before .before .before in
-    let at = lengths (put t) in
-    let h = room at in
-    let v = viewOf (start at .args .c) in
-    let both = lend (first (put t) .begun) _ (seenBytes (Restored (loadedNumber (t .restore .result .answer)) (t .restore .result .next .summary .totals)))
-    (end at + 50)
-    (second .put-restored .ensures) (second .put-restored .kept .0) (omega arith) (omega arith) in
-    record {
-      bytes = done both h ∙ cut-made v (output at) (restoreResult (t .restore .result)) (restored t);
-      next = ap (λ (q : RestoreResult). q .next) (restored t);
-    }
+    let totals = second .before .before in
+    let t = call totals in
+    let m = least (t .before .before) in
+    let at = lengths (put m) in
+    resumed (totals .totals-of .ensures) (output at) _ refl (m .before .fresh .ensures)
+    (restored-as (image-lent (stateAt (lent-arrays (start at))) (output at) _ _ (m .least .result) (first (put m) .begun .is)
+    (m .least .ensures ∙ omega (arith, output-length at)))
+    (t .restore .ensures))
+    (done (both second .begun) (room at))
 
 pub cut-spec : {M : Type 1} → statement M
 cut-spec =
@@ -94,27 +116,23 @@ cut-spec =
     (tie.spec
     (λ c κs. search needs)
     (λ c. omega (arith, c .output-length .ensures .1))
-    (λ c. omega arith)
-    (λ c. omega arith)
-    (λ c. omega (arith, room c))
     (λ c. search needs)
-    (λ c κs. omega (arith, first-room (c .before .before)))
+    (λ c. search needs)
+    (λ c. omega (arith, room (c .before .before .before .before .before)))
+    (λ c. search needs)
+    (λ c κs. omega (arith, first-room (c .before .before .before .before .before .before .before)))
     (λ c κs. search needs)
-    (λ c. omega (arith, lengths (c .before .before .before) .output-length .ensures .1))
     (λ c κs. search needs)
+    (λ c. omega (arith, c .least .ensures))
     (λ c. search needs)
     (λ c. search needs)
-    (λ c. within (first (c .before .before .before .before .before) .begun) _ (omega (
-      arith,
-      room (lengths
-          (c .before .before .before .before .before)),
-      c .before .before .least .ensures,
-    )))
+    (λ c. within (first (put (least c)) .begun) _ (omega (arith, room (lengths (put (least c))), least c .least .ensures)))
     (λ c κs. search needs)
-    (λ c. omega (arith, lengths (put (c .before)) .output-length .ensures .1))
-    (λ c. omega arith)
+    (λ c κs. search needs)
+    (λ c. omega (arith, lengths (put (least (call c .before .before))) .output-length .ensures .1))
     (λ c. search needs)
-    (λ c. within (first (put (c .before)) .begun) _ (omega (arith, room (lengths (put (c .before))))))
-    (λ c κs. lent (first (put (c .before .before)) .begun) 50 _ refl (omega (arith, room (lengths (put (c .before .before))))))
     (λ c. search needs)
+    (λ c. within (first (put (least (call c .before .before))) .begun) _ (omega (arith, room (lengths (put (least (call c .before .before)))))))
+    (λ c κs. lent (first (put (least (call (c .before) .before .before))) .begun) 50 _ refl (omega (arith, room (lengths (put (least (call (c .before) .before .before)))))))
+    (λ c. begun-length (both (c .before .before) .begun))
     returns)

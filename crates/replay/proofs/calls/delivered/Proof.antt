@@ -1,56 +1,154 @@
--- `replay::calls::delivered` meets its contract: by what `burst_within` ensures.
-use mathlib.Core.Path.{_≡_, ap, _∙_}
+-- `replay::calls::delivered` meets its contract: by what `burst` and `totals` ensure.
+use mathlib.Core.Path.{_≡_, refl, sym, ap, _∙_}
+use mathlib.Core.List.{List, _++_, map, flatten}
+use Prim.Native.Nat.{ℕ, _+_, _-_, _*_, _≤_}
+use native.Mathlib.Omega.{arith}
 use borrow.Author.Needs.{needs}
 use denote.Ref.{now}
-use lib.ListN.{replicate, take}
-use Rattle.model.specs.Burst.{BurstResult, burstOf}
-use Rattle.collector.specs.Collector.{viewOf}
-use Rattle.burst.specs.Records.{burstedOf}
+use lib.ListN.{length, replicate}
+use Rattle.buffers.specs.Buffer.{part}
+use Rattle.layout.specs.BigEndian.{be}
+use Rattle.buffers.proofs.Segments.{Writing, packed, begin, begun-length, within, lend, lent, done}
+use Rattle.histories.specs.Answers.{repliesIn}
+use Rattle.replay_model.specs.Operation.{delivering}
+use Rattle.replay_model.specs.Record.{headOf, replyOf}
 use Rattle.replay.specs.Calls.{settingIn, lentIn, receptionsIn, placeIn, placesIn}
-use Rattle.replay.proofs.Making.{delivered}
+use Rattle.replay.proofs.Lent.{count, front, front-length, come-back, come-back-length, come-back-front, places-lent}
+use Rattle.replay.proofs.Called.{made-as, delivered}
 use Rattle.replay.proofs.calls.delivered.Statement.{statement}
 use Rattle.replay.proofs.calls.delivered.Tie as tie
 
-abbrev start : tie.After-burst-in → tie.Start
-start c = c .before .before .before .before .before .before
+-- ---- the places on the way
 
--- what `burst_within` ensures, of the receptions and places that the record says
-taken : (c : tie.After-burst-in) → burstedOf (c .burst-in .result .bursted) (take (c .before .before .place-count .result)
-    (c .burst-in .result .replies))
-    ≡ burstOf (settingIn (now (start c .args .r))) (viewOf (start c .args .c)) (receptionsIn (lentIn (now (start c .args .lent)) (now
-    (start c .args .r)))) (placesIn (now (start c .args .r)))
-taken c =
-    let r = now (start c .args .r) in
-    c .burst-in .ensures .result
-    ∙ λ i. burstOf (settingIn r) (viewOf (start c .args .c)) (receptionsIn (c .before .lent-in .ensures i)) (replicate
-    (c .before .before .place-count .ensures .0 i) (placeIn r))
+abbrev counted : tie.After-burst-in → tie.After-places-in
+counted c =
+    let a = c .before .before .before in
+    let b = a .before .before .before in
+    b .before .before
 
-put-delivered-requires : tie.Need-put-delivered-requires
-put-delivered-requires c κs =
-    let b = c .before .before .before .before in
-    let m = b .before .before in
-    (m .place-count .ensures .1, rw (m .place-count .ensures .0) (start b .pre .1))
+abbrev start : tie.After-place-count → tie.Start
+start c = c .before .before .before .before
+
+abbrev burst : tie.After-totals-of → tie.After-burst-in
+burst c =
+    let a = c .before .before .before in
+    let b = a .before .before .before in
+    b .before
+
+abbrev body : tie.After-put-places → tie.After-put-body
+body c =
+    let a = c .before .before .before in
+    a .before .before .before
+
+-- ---- lengths
+
+-- how many places there are
+abbrev m : tie.After-place-count → ℕ
+m c = c .place-count .result
+
+many : (c : tie.After-place-count) → m c ≤ 259
+many c = c .place-count .ensures .1
+
+room : (c : tie.After-place-count) → length (now (start c .args .out)) ≡ 58 + 31 * m c
+room c = start c .pre .1 ∙ ap (λ n. 58 + 31 * n) (sym (c .place-count .ensures .0))
+
+-- the places that are lent
+long : (c : tie.After-places-in) → length (c .places-in .result) ≡ 6216
+long c = search needs
+
+in-places : (c : tie.After-places-in) → 24 * m (c .before) ≤ length (c .places-in .result)
+in-places c = omega (arith, long c, many (c .before))
+
+-- and come back
+abbrev new : tie.After-burst-in → List ℕ
+new c = c .burst-in .last .1 .1 .1 .1 .1 .1 .1 .0
+
+new-length : (c : tie.After-burst-in) → length (new c) ≡ 24 * m (counted c .before)
+new-length c = front-length (24 * m (counted c .before)) (counted c .places-in .result) (new c) (in-places (counted c)) (c .burst-in .kept .1 .1 .1 .1 .1 .1 .1 .0)
+
+-- ---- what is written
+
+abbrev step1 : tie.After-put-body → Writing 58
+step1 c =
+    let totals = c .before .before in
+    let b = burst totals in
+    let at = counted b .before in
+    let h = room at in
+    packed
+    (lend (begin (now (start at .args .out))) _ (headOf delivering (b .burst-in .result) (totals .totals-of .result) ++ be 8 (m at)) 58 (c .put-body .ensures)
+    (c .put-body .kept .0) (omega arith) (omega arith))
+
+abbrev at-count : tie.After-put-body → tie.After-place-count
+at-count c = counted (burst (c .before .before)) .before
+
+abbrev step2 : (c : tie.After-put-places) → Writing (58 + 31 * m (at-count (body c)))
+step2 c =
+    let at = at-count (body c) in
+    let h = room at in
+    packed
+    (lend (step1 (body c) .begun) _ _ (58 + 31 * m at) (c .put-places .ensures) (c .put-places .kept .0) (omega arith) (omega arith))
+
+-- the places that are lent again
+all-back : (c : tie.After-put-body) → 24 * m (at-count c)
+    ≤ length (come-back (24 * m (at-count c)) (counted (burst (c .before .before)) .places-in .result) (new (burst (c .before .before))))
+all-back c =
+    let b = burst (c .before .before) in
+    let kept = b .burst-in .kept .1 .1 .1 .1 .1 .1 .1 .0 in
+    omega (arith, come-back-length (24 * m (at-count c)) (counted b .places-in .result) (new b) (in-places (counted b)) kept, in-places (counted b))
+
+places-back : (c : tie.After-put-body)
+    → length (part 0 (24 * m (at-count c) - 0)
+    (come-back (24 * m (at-count c)) (counted (burst (c .before .before)) .places-in .result) (new (burst (c .before .before)))))
+    ≡ 24 * m (at-count c)
+places-back c =
+    let b = burst (c .before .before) in
+    ap length (come-back-front (24 * m (at-count c)) (counted b .places-in .result) (new b) (in-places (counted b)) (b .burst-in .kept .1 .1 .1 .1 .1 .1 .1 .0))
+    ∙ new-length b
 
 returns : tie.Need-returns
-unfolding viewOf
 returns c =
     let put = c .before .before in
-    let b = put .before .before .before .before .before in
-    let a = start b .args in
-    let r = now (a .r) in
-    record {
-      bytes = put .put-delivered .ensures ∙ delivered (viewOf (a .c)) (settingIn r) (receptionsIn (lentIn (now (a .lent)) r)) (placesIn r) _
-          (taken b);
-      next = ap (λ (q : BurstResult). q .next) (taken b);
-    }
+    let totals = body put .before .before in
+    let call = burst totals in
+    let places = counted call in
+    let at = places .before in
+    let s = start at in
+    let r = now (s .args .r) in
+    delivered (totals .totals-of .ensures) (settingIn r) (receptionsIn (lentIn (now (s .args .lent)) r)) _ (new call) (placesIn r) (m at)
+    (made-as (ap receptionsIn (call .before .before .lent-in .ensures)) (call .burst-in .ensures))
+    (ap repliesIn (front (24 * m at) (places .places-in .result) ∙ places .places-in .ensures) ∙ places-lent r (m at) (s .pre .0)
+    ∙ ap (λ n. replicate n (placeIn r)) (at .place-count .ensures .0))
+    (count (new call) (m at) (new-length call))
+    (done (step2 put .begun) (room at)
+    ∙ ap (λ (l : List ℕ). headOf delivering (call .burst-in .result) (totals .totals-of .result) ++ be 8 (m at) ++ flatten (map replyOf (repliesIn l)))
+    (come-back-front (24 * m at) (places .places-in .result) (new call) (in-places places) (call .burst-in .kept .1 .1 .1 .1 .1 .1 .1 .0)))
 
 pub delivered-spec : {M : Type 1} → statement M
 delivered-spec =
     tie.close
     (tie.spec
     (λ c κs. search needs)
+    (λ c κs. (search needs, c .place-count .ensures .1))
     (λ c κs. search needs)
-    (λ c κs. (search needs, c .before .place-count .ensures .1))
-    put-delivered-requires
     (λ c. search needs)
+    (λ c. search needs)
+    (λ c. search needs)
+    (λ c. search needs)
+    (λ c κs. search needs)
+    (λ c κs. search needs)
+    (λ c. search needs)
+    (λ c. search needs)
+    (λ c. search needs)
+    (λ c κs. search needs)
+    (λ c. omega (arith, many (at-count (c .before .before))))
+    (λ c. omega (arith, many (at-count (c .before .before))))
+    (λ c. search needs)
+    (λ c. search needs)
+    (λ c. within (step1 (c .before .before) .begun) _ (omega (arith, room (at-count (c .before .before)))))
+    (λ c. omega (arith, many (at-count (c .before .before .before))))
+    (λ c. search needs)
+    (λ c. search needs)
+    (λ c. all-back (c .before .before .before .before))
+    (λ c κs. (places-back (c .before .before .before .before .before), lent (step1 (c .before .before .before .before .before) .begun) (31 * m (at-count (c .before .before .before .before .before))) _ refl (omega (arith, room (at-count (c .before .before .before .before .before))))))
+    (λ c. begun-length (step2 (c .before .before) .begun))
     returns)

@@ -1,27 +1,32 @@
 -- `replay::calls::saved` meets its contract: by what `checkpoint` ensures.
-use mathlib.Core.Path.{refl, ap, _∙_}
+use mathlib.Core.Path.{ap, _∙_}
 use mathlib.Core.List.{List}
 use borrow.Author.Needs.{needs}
 use denote.Ref.{now}
-use Rattle.collector.specs.Collector.{viewOf}
+use Rattle.c_collector.specs.State.{Arrays, arrays, stateAt}
 use Rattle.replay_model.specs.Record.{seenBytes}
 use Rattle.replay.specs.Calls.{outputIn}
 use Rattle.replay.specs.Private.{wroteOf}
-use Rattle.replay.proofs.Making.{output-is, saved}
+use Rattle.replay.proofs.Making.{output-is}
+use Rattle.replay.proofs.Called.{saved}
 use Rattle.replay.proofs.calls.saved.Statement.{statement}
 use Rattle.replay.proofs.calls.saved.Tie as tie
+
+-- what is lent
+abbrev lent : tie.Start → Arrays
+lent s =
+    let a = s .args in
+    arrays (now (a .times)) (now (a .lengths)) (now (a .bytes)) (now (a .copies)) (now (a .numbers))
 
 returns : tie.Need-returns
 returns c =
     let put = c .before .before in
-    let start = put .before .before .before .before .before in
-    let a = start .args in
-    let v = viewOf (a .c) in
-    record {
-      bytes = put .put-wrote .ensures ∙ ap (λ (output : List _). seenBytes (wroteOf v output)) (output-is (now (a .r)) (now (a .out))
-          (start .pre .1)) ∙ saved v (outputIn (now (a .r)));
-      next = refl;
-    }
+    let arg = put .before .before .before in
+    let first = arg .before .before .before in
+    let s = first .before .before .before .before in
+    let a = s .args in
+    saved (outputIn (now (a .r)))
+    (put .put-wrote .ensures ∙ ap (λ (output : List _). seenBytes (wroteOf (stateAt (lent s)) output)) (output-is (now (a .r)) (now (a .out)) (s .pre .1)))
 
 pub saved-spec : {M : Type 1} → statement M
 saved-spec =

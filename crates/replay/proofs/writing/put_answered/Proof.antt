@@ -1,26 +1,22 @@
 -- `replay::writing::put_answered` meets its contract: a step for each part that is lent.
-use mathlib.Core.Path.{_∙_}
 use native.Mathlib.Omega.{arith}
 use borrow.Author.Needs.{needs}
 use denote.Ref.{now}
 use Rattle.buffers.proofs.Segments.{Writing, packed, begin, lend, done}
-use Rattle.model.specs.Answer.{shownOf, shownNumber}
 use Rattle.replay_model.specs.Operation.{receiving}
-use Rattle.replay_model.specs.Record.{headOf, replyOf, seenBytes}
+use Rattle.replay_model.specs.Record.{headOf}
 use Rattle.replay.proofs.writing.put_answered.Statement.{statement}
 use Rattle.replay.proofs.writing.put_answered.Tie as tie
 
 abbrev start : tie.After-put-head → tie.Start
-start c = c .before .before .before .before
+start c = c .before .before .before
 
 -- what is written, after each step
 abbrev step1 : tie.After-put-head → Writing 50
 step1 c =
     let a = start c .args in
     packed
-    (lend (begin (now (a .out))) _ (headOf receiving (shownNumber (shownOf (a .answer))) (a .totals)) 50
-    (c .put-head .ensures ∙ λ i. headOf receiving (c .before .before .number-of .ensures i) (a .totals))
-    (c .put-head .kept .0) (omega arith) (omega arith))
+    (lend (begin (now (a .out))) _ (headOf receiving (a .number) (a .totals)) 50 (c .put-head .ensures) (c .put-head .kept .0) (omega arith) (omega arith))
 
 abbrev step2 : tie.After-put-reply → Writing 81
 step2 c =
@@ -28,14 +24,12 @@ step2 c =
     packed (lend (step1 at .begun) _ _ 81 (c .put-reply .ensures) (c .put-reply .kept .0) (omega arith) (omega arith))
 
 returns : tie.Need-returns
-unfolding seenBytes
 returns c = done (step2 (c .before .before) .begun) (omega arith)
 
 pub put-answered-spec : {M : Type 1} → statement M
 put-answered-spec =
     tie.close
     (tie.spec
-    (λ c κs. search needs)
     (λ c. search needs)
     (λ c. search needs)
     (λ c. search needs)

@@ -1,0 +1,5 @@
+pub mod Answers
+pub mod Bursts
+pub mod Elements
+pub mod Follow
+pub mod Claims

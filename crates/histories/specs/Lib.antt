@@ -1,0 +1,5 @@
+pub mod Answers
+pub mod Elements
+pub mod Arrays
+pub mod Values
+pub mod Claims
