@@ -1,0 +1,6 @@
+pub mod Fields
+pub mod Laws
+pub mod Files
+pub mod Read
+pub mod Claims
+pub mod Modelled

@@ -1,0 +1,5 @@
+pub mod State
+pub mod Lawful
+pub mod Calls
+pub mod Private
+pub mod Claims
