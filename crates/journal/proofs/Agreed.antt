@@ -1,6 +1,7 @@
 -- Rows that are compared with leftovers.
 --     records-other, records-same                              a record for each time
---     same-time, same-length, same-loose, same-bytes           the cases of `sameRow`, each from the facts that its tests give
+--     same-time, same-length, same-loose, same-bytes           the cases of `sameRow`, each from the facts that its
+-- tests give
 --     agree-next, agree-stop, agree-end                        the loop over the rows
 --     going-none, going-some, compare-new, compare-left, compare-done       the cases of `compareCall`
 use Prim.Native.Nat.{ℕ, _+_, _-_, _*_, _/_, _%_, _≤_, _<_, min}
@@ -70,7 +71,8 @@ zeros-behind xs ys zs e =
     equal-said (equal xs ys) (xs ++ zs) (ys ++ zs) (
       (λ t. ap (λ (l : List ℕ). l ++ zs) (equal-eq xs ys (rw t tt))),
       (λ z.
-          let same : xs ≡ ys = sym (take-at xs zs (length xs) refl) ∙ ap (take (length xs)) z ∙ take-at ys zs (length xs) (sym e) in
+          let same : xs ≡ ys = sym (take-at xs zs (length xs) refl) ∙ ap (take (length xs)) z ∙ take-at ys zs
+          (length xs) (sym e) in
           rw (← same) (equal-refl xs)),
     )
 
@@ -91,7 +93,8 @@ shown n xs ys e =
     resized-padded n ys (omega arith) ∙ ap (λ (k : ℕ). ys ++ replicate {A = ℕ} k 0) (sym z) in
     rw m
     (ap₂ equal (take-all (length xs) xs (omega arith)) (take-all (length xs) ys (omega arith))
-    ∙ sym (zeros-behind xs ys (replicate (n - length xs) 0) e) ∙ ap₂ equal (sym (resized-padded n xs (omega arith))) (sym pad-y)))
+    ∙ sym (zeros-behind xs ys (replicate (n - length xs) 0) e) ∙ ap₂ equal (sym (resized-padded n xs (omega arith)))
+    (sym pad-y)))
 
 module _ (t : ℕ) (row : List ℕ) (u : ℕ) (other : List ℕ) where
   abbrev same? : Bool
@@ -106,7 +109,8 @@ module _ (t : ℕ) (row : List ℕ) (u : ℕ) (other : List ℕ) where
   pub same-loose : disk.sameLoose (not (eqb (getD row 0 0) 0)) (not (eqb (getD other 0 0) 0)) ≡ false → false ≡ same?
   same-loose h = and-no (equal (rowGiven t row .bytes) (rowGiven u other .bytes)) _ (sym (and-no (eqb t u) _ h))
 
-  pub same-bytes : (len : ℕ) → length row ≡ rowLength → length other ≡ rowLength → len ≡ getD row 1 0 → t ≡ u → getD other 1 0 ≡ getD row 1 0
+  pub same-bytes : (len : ℕ) → length row ≡ rowLength → length other ≡ rowLength → len ≡ getD row 1 0 → t ≡ u
+      → getD other 1 0 ≡ getD row 1 0
       → disk.sameLoose (not (eqb (getD row 0 0) 0)) (not (eqb (getD other 0 0) 0)) ≡ true
       → equal (part 2 (2 + min len 21 - 2) row) (part 2 (2 + min len 21 - 2) other) ≡ same?
   same-bytes len l k e time size loose =
@@ -114,7 +118,8 @@ module _ (t : ℕ) (row : List ℕ) (u : ℕ) (other : List ℕ) where
       let lo : length (drop 2 other) ≡ 21 = length-drop 2 other ∙ omega arith in
       let n : 2 + min len 21 - 2 ≡ min len (length (drop 2 row)) = omega arith in
       let both-shown = shown len (drop 2 row) (drop 2 other) (lr ∙ sym lo) in
-      let rest : eqb t u && disk.sameLoose (not (eqb (getD row 0 0) 0)) (not (eqb (getD other 0 0) 0)) ≡ true = rw (eq-eqb t u time, loose) in
+      let rest : eqb t u && disk.sameLoose (not (eqb (getD row 0 0) 0)) (not (eqb (getD other 0 0) 0)) ≡ true = rw
+      (eq-eqb t u time, loose) in
       ap (λ (m : ℕ). equal (part 2 m row) (part 2 m other)) n ∙ both-shown
       ∙ ap₂ (λ (a b : ℕ). equal (resized a (drop 2 row)) (resized b (drop 2 other))) e (e ∙ sym size)
       ∙ and-yes (equal (rowGiven t row .bytes) (rowGiven u other .bytes)) _ rest
@@ -146,7 +151,8 @@ module _ (new left : List Row) (i : ℕ) where
   pub agree-end : min (length new) (length left) ≤ i → rest i ≡ 0
   agree-end h =
       by-test (leb (length new) i)
-      (λ t. ap (λ (l : List Row). disk.agreeing l (drop i left)) (drop-of-length-le new (leb-true (length new) i t)) ∙ none-come (drop i left))
+      (λ t. ap (λ (l : List Row). disk.agreeing l (drop i left)) (drop-of-length-le new (leb-true (length new) i t))
+      ∙ none-come (drop i left))
       (λ f.
       let k = leb-false (length new) i f in
       let z : length left ≤ i = omega arith in
@@ -156,23 +162,28 @@ module _ (new left : List Row) (i : ℕ) where
 
 module _ (times records moments left : List ℕ) (agreed going : ℕ) where
   pub compare-new : eqb (length records) (rowLength * length times) ≡ false
-      → record { number = numberOf Size; agreed = agreed; going = going } ≡ compareCall times records moments left agreed going
+      → record { number = numberOf Size; agreed = agreed; going = going }
+      ≡ compareCall times records moments left agreed going
   unfolding compareCall
   compare-new h = rw h
 
   module _ (sized : eqb (length records) (rowLength * length times) ≡ true) where
     pub compare-left : eqb (length left) (rowLength * length moments) ≡ false
-        → record { number = numberOf Size; agreed = agreed; going = going } ≡ compareCall times records moments left agreed going
+        → record { number = numberOf Size; agreed = agreed; going = going }
+        ≡ compareCall times records moments left agreed going
     unfolding compareCall
     compare-left h = rw (sized, h)
 
     pub compare-done : eqb (length left) (rowLength * length moments) ≡ true
-        → comparedRows (rowsGiven times records) (rowsGiven moments left) ≡ compareCall times records moments left agreed going
+        → comparedRows (rowsGiven times records) (rowsGiven moments left)
+        ≡ compareCall times records moments left agreed going
     unfolding compareCall
     compare-done h = rw (sized, h)
 
 pub going-count : (new left : List Row)
-    → cond (leb (length new) (disk.agreeing new left)) 0 (length left - disk.agreeing new left) ≡ length (disk.going new left)
+    → cond (leb (length new) (disk.agreeing new left)) 0 (length left - disk.agreeing new left) ≡ length
+    (disk.going new left)
 going-count new left =
     let n = disk.agreeing new left in
-    ap (λ (d : ℕ). cond (leb (length new) n) 0 d) (sym (length-drop n left)) ∙ sym (cond-ap length (leb (length new) n) [] (drop n left))
+    ap (λ (d : ℕ). cond (leb (length new) n) 0 d) (sym (length-drop n left)) ∙ sym (cond-ap length (leb
+    (length new) n) [] (drop n left))

@@ -38,7 +38,8 @@ copy-sound last m b h =
     (λ f.
     let none : soundCount b ≡ 0 = rw f in
     by-test {X = isSound b ≡ true} (eqb (length b) blockLength)
-    (λ l. absurd (false≢true (copy-is last m b (record { number = numberOf Mismatch; block = b }) (block-unsound m b (eqb-true (length b) blockLength l) none) ∙ h)))
+    (λ l. absurd (false≢true (copy-is last m b (record { number = numberOf Mismatch; block = b }) (block-unsound m b
+    (eqb-true (length b) blockLength l) none) ∙ h)))
     (λ l. absurd (false≢true (copy-size last m b (λ z. false≢true (sym l ∙ eq-eqb (length b) blockLength z)) ∙ h))))
 
 module _ (s : State) (file : List ℕ) where
@@ -49,20 +50,26 @@ module _ (s : State) (file : List ℕ) where
   copied = isCopyOf (s .last) (counted s - cellsPerBlock * lastUsed s) b
 
   abbrev Right : Type 0
-  Right = (eqb (judgementNumber (judged s file)) 3 ≡ isOther s file) × (isOther s file ≡ false → mendedBy (judged s file) (s .last) b ≡ mended s file)
+  Right = (eqb (judgementNumber (judged s file)) 3 ≡ isOther s file) × (isOther s file ≡ false → mendedBy
+      (judged s file) (s .last) b ≡ mended s file)
 
   right-copy : copied ≡ true → Right
   unfolding judgementOf isCopyOf
   right-copy h =
       let t = copy-sound (s .last) (counted s - cellsPerBlock * lastUsed s) b h in
-      by-test {X = Right} (equal b (s .last)) (λ e. (rw (h, e), λ z. rw (h, e, t))) (λ e. (rw (h, e), λ z. rw (h, e, t)))
+      by-test {X = Right} (equal b (s .last)) (λ e. (rw (h, e), λ z. rw (h, e, t))) (λ e. (
+        rw (h, e),
+        λ z. rw
+            (h, e, t),
+      ))
 
   right-other : copied ≡ false → Right
   unfolding judgementOf isCopyOf
   right-other h =
       by-test {X = Right} (isSound b) (λ t. (rw (h, t), λ z. absurd (false≢true (sym (rw (h, t) at z)))))
       (λ f.
-      by-test {X = Right} (isBlank b) (λ t. (rw (h, f, t), λ z. absurd (false≢true (sym (rw (h, f, t) at z))))) (λ e. (rw (h, f, e), λ z. rw (h, f, e))))
+      by-test {X = Right} (isBlank b) (λ t. (rw (h, f, t), λ z. absurd (false≢true (sym (rw (h, f, t) at z))))) (λ e.
+      (rw (h, f, e), λ z. rw (h, f, e))))
 
 pub judged-right : Judged
 judged-right s file = by-test (copied s file) (right-copy s file) (right-other s file)
@@ -91,9 +98,11 @@ module _ (limit : ℕ) where
     unfolding runBlocks runBlock
     more t = rw (e, p, t)
 
-    found : belongs ≡ true → length (runFrom limit k (b ∷ bs)) ≡ rowCount b + length (cond (isShort b) [] (runFrom limit (suc k) bs))
+    found : belongs ≡ true → length (runFrom limit k (b ∷ bs)) ≡ rowCount b + length (cond (isShort b) []
+        (runFrom limit (suc k) bs))
     unfolding runFrom
-    found t = rw t (length-append (rowsOf b) _ ∙ ap (λ (n : ℕ). n + length (cond (isShort b) [] (runFrom limit (suc k) bs))) (rows-count b))
+    found t = rw t (length-append (rowsOf b) _ ∙ ap (λ (n : ℕ). n + length (cond (isShort b) [] (runFrom limit
+        (suc k) bs))) (rows-count b))
 
     stop : belongs ≡ false → runBlock r b ≡ stopped r
     unfolding runBlock
@@ -104,7 +113,8 @@ module _ (limit : ℕ) where
     count-none : belongs ≡ false → Counted
     unfolding runBlocks runFrom
     count-none f =
-        let w : runBlocks r (b ∷ bs) ≡ stopped r = ap (λ (q : Run). runBlocks q bs) (stop f) ∙ ended-stays bs (stopped r) refl in
+        let w : runBlocks r (b ∷ bs) ≡ stopped r = ap (λ (q : Run). runBlocks q bs) (stop f) ∙ ended-stays bs
+        (stopped r) refl in
         let n : length (runFrom limit k (b ∷ bs)) ≡ 0 = rw f in
         record {
           rows = ap (λ (q : Run). q .rows) w ∙ omega arith;
@@ -131,7 +141,8 @@ module _ (limit : ℕ) where
           blocks = ap (λ (q : Run). q .blocks) (more t) ∙ c .blocks ∙ omega (arith, few .1);
         }
 
-  counting : (bs : List (List ℕ)) (k : ℕ) (r : Run) → r .limit ≡ limit → r .place ≡ k % limit → r .ended ≡ false → Counting k bs r
+  counting : (bs : List (List ℕ)) (k : ℕ) (r : Run) → r .limit ≡ limit → r .place ≡ k % limit → r .ended ≡ false
+      → Counting k bs r
   unfolding runBlocks runFrom
   counting [] k r l p e = record { rows = omega arith; blocks = omega arith }
   counting (b ∷ bs) k r l p e =
@@ -158,4 +169,11 @@ bit-back true = refl
 bit-back false = refl
 
 pub run-back : RunBack
-run-back r = λ j. record { limit = r .limit; place = r .place; blocks = r .blocks; rows = r .rows; ended = bit-back (r .ended) j }
+run-back r = λ j. record {
+  limit = r .limit;
+  place = r .place;
+  blocks = r .blocks;
+  rows = r .rows;
+  ended = bit-back
+      (r .ended) j;
+}

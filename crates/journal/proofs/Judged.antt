@@ -1,6 +1,8 @@
 -- The block with the last row that a state counts.
---     copy-is, copy-size, copy-told                                       a block that is cut to its first rows, and compared
---     same, longer, other-sound, other-blank, torn               the cases of `judgementOf`, each from the facts that its tests give
+--     copy-is, copy-size, copy-told                                       a block that is cut to its first rows, and
+-- compared
+--     same, longer, other-sound, other-blank, torn               the cases of `judgementOf`, each from the facts that
+-- its tests give
 use Prim.Native.Nat.{ℕ, _≤_}
 use native.Mathlib.Omega.{arith}
 use mathlib.Core.Path.{_≡_, refl, sym, ap, _∙_}
@@ -29,7 +31,8 @@ says last cut = eqb (cut .number) 0 && equal (cut .block) last
 
 pub sound-none : (b : List ℕ) → soundCount b ≡ 0 → isSound b ≡ false
 sound-none b e =
-    by-test {X = isSound b ≡ false} (isSound b) (λ t. absurd (let z : rowCount b ≡ 0 = rw t at e in omega (arith, tests b t .0))) (λ f. f)
+    by-test {X = isSound b ≡ false} (isSound b) (λ t. absurd (let z : rowCount b ≡ 0 = rw t at e in omega
+    (arith, tests b t .0))) (λ f. f)
 
 pub sound-some : (b : List ℕ) → (soundCount b ≡ 0 → ⊥) → isSound b ≡ true
 sound-some b n = by-test {X = isSound b ≡ true} (isSound b) (λ t. t) (λ f. absurd (n (rw f refl)))

@@ -54,7 +54,13 @@ module _ (r : Run) where
   pub run-is : RunFacts r → isRun r ≡ true
   unfolding isRun
   run-is f =
-      rw (le-leb (r .limit) maxBlocks (f .limited), lt-ltb (r .place) (r .limit) (f .placed), le-leb (r .blocks) maxBlocks (f .few), le-leb (r .rows) (cellsPerBlock * r .blocks) (f .dense))
+      rw (
+        le-leb (r .limit) maxBlocks (f .limited),
+        lt-ltb (r .place) (r .limit) (f .placed),
+        le-leb
+            (r .blocks) maxBlocks (f .few),
+        le-leb (r .rows) (cellsPerBlock * r .blocks) (f .dense),
+      )
 
   pub run-limit : maxBlocks < r .limit → false ≡ isRun r
   unfolding isRun
@@ -68,11 +74,21 @@ module _ (r : Run) where
     module _ (placed : r .place < r .limit) where
       pub run-many : maxBlocks < r .blocks → false ≡ isRun r
       unfolding isRun
-      run-many h = rw (le-leb (r .limit) maxBlocks limited, lt-ltb (r .place) (r .limit) placed, lt-leb (r .blocks) maxBlocks h)
+      run-many h = rw (
+        le-leb (r .limit) maxBlocks limited,
+        lt-ltb (r .place) (r .limit) placed,
+        lt-leb
+            (r .blocks) maxBlocks h,
+      )
 
       pub run-dense : r .blocks ≤ maxBlocks → leb (r .rows) (cellsPerBlock * r .blocks) ≡ isRun r
       unfolding isRun
-      run-dense h = rw (le-leb (r .limit) maxBlocks limited, lt-ltb (r .place) (r .limit) placed, le-leb (r .blocks) maxBlocks h)
+      run-dense h = rw (
+        le-leb (r .limit) maxBlocks limited,
+        lt-ltb (r .place) (r .limit) placed,
+        le-leb
+            (r .blocks) maxBlocks h,
+      )
 
 -- ---- one block
 
@@ -96,12 +112,26 @@ module _ (r : Run) (b : List ℕ) where
       is-passed h = rw (on, sound-some b some, eq-eqb (blockNumber b) (r .place) h)
 
       pub block-passed : (used : ℕ) → used ≡ soundCount b → blockNumber b ≡ r .place
-          → record { limit = r .limit; place = (r .place + 1) % r .limit; blocks = r .blocks + 1; rows = r .rows + used; ended = ltb used cellsPerBlock }
+          → record {
+            limit = r .limit;
+            place = (r .place + 1) % r .limit;
+            blocks = r .blocks + 1;
+            rows = r .rows +
+                used;
+            ended = ltb used cellsPerBlock;
+          }
           ≡ runBlock r b
       block-passed used e h =
           let n : used ≡ rowCount b = e ∙ rw (sound-some b some) in
           ap
-          (λ (m : ℕ). record { limit = r .limit; place = (r .place + 1) % r .limit; blocks = r .blocks + 1; rows = r .rows + m; ended = ltb m cellsPerBlock })
+          (λ (m : ℕ). record {
+            limit = r .limit;
+            place = (r .place + 1) % r .limit;
+            blocks = r .blocks + 1;
+            rows = r
+                .rows + m;
+            ended = ltb m cellsPerBlock;
+          })
           n
           ∙ is-passed h
 
@@ -120,10 +150,22 @@ module _ (r : Run) (b : List ℕ) where
       let p : 0 < r .limit = omega arith in
       let k : (r .place + 1) % r .limit < r .limit = mod-lt (r .place + 1) p in
       record {
-        facts = record { limited = f .limited; placed = k; few = omega arith; dense = omega (arith, tests b (both (isSound b) _ t .0) .1) };
+        facts = record {
+          limited = f .limited;
+          placed = k;
+          few = omega arith;
+          dense = omega (
+            arith,
+            tests b (both
+                (isSound b) _ t .0) .1,
+          );
+        };
         bound = omega arith;
       })
-      (λ e. record { facts = record { limited = f .limited; placed = f .placed; few = f .few; dense = f .dense }; bound = omega arith }))
+      (λ e. record {
+        facts = record { limited = f .limited; placed = f .placed; few = f .few; dense = f .dense };
+        bound = omega arith;
+      }))
 
 -- ---- the loop
 
@@ -135,7 +177,8 @@ module _ (piece : List ℕ) where
       rw z
 
   pub rest-next : (r : Run) (n i : ℕ) → i < n
-      → runBlocks r (blocksFrom piece i (n - i)) ≡ runBlocks (runBlock r (part (blockLength * i) blockLength piece)) (blocksFrom piece (i + 1) (n - (i + 1)))
+      → runBlocks r (blocksFrom piece i (n - i)) ≡ runBlocks (runBlock r (part (blockLength * i) blockLength piece))
+      (blocksFrom piece (i + 1) (n - (i + 1)))
   unfolding blocksFrom upFrom runBlocks
   rest-next r n i h =
       let e : n - i ≡ suc (n - (i + 1)) = omega arith in
@@ -163,14 +206,26 @@ module _ (numbers piece : List ℕ) where
     feed-odd h = rw (yes, ne-eqb (length piece % blockLength) 0 h)
 
     module _ (whole : length piece % blockLength ≡ 0) where
-      pub feed-many : maxBlocks < runAt numbers .blocks + length piece / blockLength → kept (numberOf Size) ≡ scanCall numbers piece
+      pub feed-many : maxBlocks < runAt numbers .blocks + length piece / blockLength → kept (numberOf Size)
+          ≡ scanCall numbers piece
       unfolding scanCall
       feed-many h =
-          rw (yes, eq-eqb (length piece % blockLength) 0 whole, lt-leb (runAt numbers .blocks + length piece / blockLength) maxBlocks h)
+          rw (
+            yes,
+            eq-eqb (length piece % blockLength) 0 whole,
+            lt-leb (runAt numbers .blocks + length piece /
+                blockLength) maxBlocks h,
+          )
 
-      pub feed-done : runAt numbers .blocks + length piece / blockLength ≤ maxBlocks → (next : Run) → next ≡ runBlocks (runAt numbers) (blocksIn piece)
+      pub feed-done : runAt numbers .blocks + length piece / blockLength ≤ maxBlocks → (next : Run) → next
+          ≡ runBlocks (runAt numbers) (blocksIn piece)
           → record { number = 0; numbers = runNumbers next } ≡ scanCall numbers piece
       unfolding scanCall
       feed-done h next e =
-          rw (yes, eq-eqb (length piece % blockLength) 0 whole, le-leb (runAt numbers .blocks + length piece / blockLength) maxBlocks h)
+          rw (
+            yes,
+            eq-eqb (length piece % blockLength) 0 whole,
+            le-leb (runAt numbers .blocks + length piece /
+                blockLength) maxBlocks h,
+          )
           (ap (λ (s : Run). record { number = 0; numbers = runNumbers s }) e)

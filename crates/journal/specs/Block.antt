@@ -13,7 +13,8 @@ use Rattle.journal.specs.declared.Judgement.the-variants.{Same, Longer, 
 unfoldable pub isCopyOf : List ℕ → ℕ → List ℕ → Bool
 isCopyOf last rows block = let cut = cutBlockOf rows block in eqb (cut .number) 0 && equal (cut .block) last
 
--- the copy, or that with more rows behind; where it is neither, a block that is sound or all zero is another archive's, and any other was torn
+-- the copy, or that with more rows behind; where it is neither, a block that is sound or all zero is another archive's,
+-- and any other was torn
 unfoldable pub judgementOf : List ℕ → ℕ → List ℕ → Judgement
 judgementOf last rows block =
     cond (isCopyOf last rows block) (cond (equal block last) Same Longer)

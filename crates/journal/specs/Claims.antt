@@ -25,14 +25,16 @@ mendedBy Other last block = block
 abbrev pub judged : State → List ℕ → Judgement
 judged s file = judgementOf (s .last) (counted s - cellsPerBlock * lastUsed s) (blockAt (lastUsed s) file)
 
--- Judged: it is another archive's just where the model refuses it, and else it leaves the block that the model goes on from.
+-- Judged: it is another archive's just where the model refuses it, and else it leaves the block that the model goes on
+-- from.
 abbrev pub Judged : Type 0
 Judged =
     (s : State) (file : List ℕ)
     → (eqb (judgementNumber (judged s file)) 3 ≡ isOther s file)
     × (isOther s file ≡ false → mendedBy (judged s file) (s .last) (blockAt (lastUsed s) file) ≡ mended s file)
 
--- Run counts: after all blocks a run counts the rows that the model finds from block k on, and the blocks that they take.
+-- Run counts: after all blocks a run counts the rows that the model finds from block k on, and the blocks that they
+-- take.
 abbrev pub RunCounts : Type 0
 RunCounts =
     (limit k : ℕ) (blocks : List (List ℕ))

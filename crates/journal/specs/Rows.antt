@@ -27,6 +27,7 @@ comparedRows new left = record {
 -- 16 where records are not 23 bytes for each time
 unfoldable pub compareCall : List ℕ → List ℕ → List ℕ → List ℕ → ℕ → ℕ → Compared
 compareCall times records leftTimes leftRecords agreed going =
-    cond (not (eqb (length records) (rowLength * length times) && eqb (length leftRecords) (rowLength * length leftTimes)))
+    cond (not (eqb (length records) (rowLength * length times) && eqb (length leftRecords)
+    (rowLength * length leftTimes)))
     (record { number = numberOf Size; agreed = agreed; going = going })
     (comparedRows (rowsGiven times records) (rowsGiven leftTimes leftRecords))

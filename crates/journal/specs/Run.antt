@@ -11,7 +11,8 @@ use Rattle.archive_model.specs.Row.{blockNumber, rowCount, isSound}
 use Rattle.archive_model.specs.Buffer.{maxBlocks, blocksIn, isShort}
 use Rattle.journal.specs.declared.Run as declared
 
--- files of so many blocks; the number of the block that comes next; blocks passed and their rows; no block behind these belongs to them
+-- files of so many blocks; the number of the block that comes next; blocks passed and their rows; no block behind these
+-- belongs to them
 pub record Run : Type 0 where
   pub limit : ℕ
   pub place : ℕ
@@ -49,7 +50,8 @@ runBlocks r (b ∷ bs) = runBlocks (runBlock r b) bs
 
 -- ---- the call, on five numbers
 
--- numbers that some blocks give: at most 2^32 blocks in a file, in which the next one stands, and passed, and at most 15 rows a block
+-- numbers that some blocks give: at most 2^32 blocks in a file, in which the next one stands, and passed, and at most
+-- 15 rows a block
 unfoldable pub isRun : Run → Bool
 isRun r =
     leb (r .limit) maxBlocks

@@ -11,9 +11,9 @@ ghost use Rattle.filling.specs.Fill.{rowLength, rowGiven, rowsGiven};
 ghost use Rattle.journal_model.specs.Disk.{sameLoose, sameRow, agreeing};
 ghost use Rattle.journal.specs.Rows.{compareCall};
 
-// How many rows agree with the leftovers, from the first on, and how many leftovers, the last ones, are put aside: none where all that come agree.
-// Each row is a time and a record of 23 bytes, as `put_rows` takes them. Refused: 16 for records that are not 23 bytes for each time; then both
-// numbers are as they were.
+// How many rows agree with the leftovers, from the first on, and how many leftovers, the last ones, are put aside: none
+// where all that come agree. Each row is a time and a record of 23 bytes, as `put_rows` takes them. Refused: 16 for
+// records that are not 23 bytes for each time; then both numbers are as they were.
 pub fn compare(
     times: &[u64],
     rows: &[u8],

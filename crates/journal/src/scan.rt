@@ -1,4 +1,5 @@
-// How far blocks read as an archive, in pieces of whole blocks: each one sound and rightly numbered, only the last one short.
+// How far blocks read as an archive, in pieces of whole blocks: each one sound and rightly numbered, only the last one
+// short.
 use crate::Run;
 use crate::block;
 use archive::MAX_BLOCKS;
@@ -13,11 +14,12 @@ ghost use Rattle.layout.specs.Block.{blockLength};
 ghost use Rattle.archive_model.specs.Buffer.{blocksIn, maxBlocks};
 ghost use Rattle.journal.specs.Run.{runOf, runAt, runNumbers, isRun, stopped, runBlock, runBlocks, scanCall};
 
-// The blocks of a file, the number that the next block must have, blocks passed, their rows, and another number than 0 where the run has ended.
+// The blocks of a file, the number that the next block must have, blocks passed, their rows, and another number than 0
+// where the run has ended.
 pub const NUMBERS: usize = 5;
 
-// The blocks of a piece. Refused: 11 for numbers that no run has, 16 for a piece that isn't whole blocks or brings more than 2^32 of them; then every
-// number is as it was.
+// The blocks of a piece. Refused: 11 for numbers that no run has, 16 for a piece that isn't whole blocks or brings more
+// than 2^32 of them; then every number is as it was.
 pub fn feed(numbers: &mut [u64; NUMBERS], piece: &[u8]) -> u8
     ensures { λ r. ⌜ record { number = r; numbers = now (numbers .exit) }
         ≡ scanCall (now (numbers .entry)) (now (piece .entry)) ⌝ }

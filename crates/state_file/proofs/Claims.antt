@@ -19,8 +19,11 @@ pub state-written : StateWritten
 unfolding acceptsState
 state-written bytes h =
     let a = both (cond (eqb (length bytes) oldLength) (isPlain (readState bytes)) true) _ h in
-    let b = both (lawful (readState bytes)) _ (a .1) in
-    (b .0, equal-eq (take (length bytes) (stateBytes (readState bytes) (versionOf (length bytes)))) bytes (rw (b .1) tt))
+    let b = both (lawful (readState bytes)) _ (a .1) in (
+      b .0,
+      equal-eq (take (length bytes) (stateBytes (readState bytes) (versionOf (length bytes)))) bytes (rw
+          (b .1) tt),
+    )
 
 module _ (k : Kept) (z : IsKept k) (h : lawful k ≡ true) where
   abbrev file : List ℕ
@@ -28,7 +31,8 @@ module _ (k : Kept) (z : IsKept k) (h : lawful k ≡ true) where
 
   same : take (length file) (stateBytes (readState file) (versionOf (length file))) ≡ file
   same =
-      ap₂ (λ (n : ℕ) (s : Kept). take (length file) (stateBytes s n)) (ap versionOf (state-length k z 2)) (read-back k z 2 h)
+      ap₂ (λ (n : ℕ) (s : Kept). take (length file) (stateBytes s n)) (ap versionOf (state-length k z 2))
+      (read-back k z 2 h)
       ∙ take-all (length file) file (omega arith)
 
   taken : acceptsState file ≡ true

@@ -17,6 +17,7 @@ module _ (k : Kept) where
   unfolding outField
   out-alone = refl
 
-  pub header-is : (version crc : ℕ) → crc ≡ crcOf (k .tail) → headerWith (kept (k .numbers) (k .name) [] [] []) version crc ≡ stateHeader k version
+  pub header-is : (version crc : ℕ) → crc ≡ crcOf (k .tail) → headerWith (kept (k .numbers)
+      (k .name) [] [] []) version crc ≡ stateHeader k version
   unfolding headerWith stateHeader archiveField logField outField
   header-is version crc e = ap (headerWith (kept (k .numbers) (k .name) [] [] []) version) e

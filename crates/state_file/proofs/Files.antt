@@ -36,8 +36,10 @@ not-back true c h = by-test {X = true ≡ not c} c (λ t. absurd (false≢true (
 not-back false c h = rw (← h)
 
 module _ (n : ℕ) where
-  pub is-length : (b : Bool) → not (eqb n stateLength) && not (eqb n oldLength) ≡ b → eqb n stateLength || eqb n oldLength ≡ not b
-  is-length b h = not-back (eqb n stateLength || eqb n oldLength) b (sym (either (eqb n stateLength) (eqb n oldLength)) ∙ h)
+  pub is-length : (b : Bool) → not (eqb n stateLength) && not (eqb n oldLength) ≡ b
+      → eqb n stateLength || eqb n oldLength ≡ not b
+  is-length b h = not-back (eqb n stateLength || eqb n oldLength) b (sym (either (eqb n stateLength)
+      (eqb n oldLength)) ∙ h)
 
   pub lengths : eqb n stateLength || eqb n oldLength ≡ true → (oldLength ≤ n) × (n ≤ stateLength)
   lengths h =
@@ -55,8 +57,10 @@ module _ (bytes : List ℕ) where
       tail = resized-length maxTail (drop oldLength bytes);
     }
 
-    pub rest-is : resized maxTail (take (length bytes - oldLength) (drop oldLength bytes)) ≡ resized maxTail (drop oldLength bytes)
-    rest-is = ap (resized maxTail) (take-all (length bytes - oldLength) (drop oldLength bytes) (rw (length-drop oldLength bytes) (omega arith)))
+    pub rest-is : resized maxTail (take (length bytes - oldLength) (drop oldLength bytes)) ≡ resized maxTail
+        (drop oldLength bytes)
+    rest-is = ap (resized maxTail) (take-all (length bytes - oldLength) (drop oldLength bytes) (rw
+        (length-drop oldLength bytes) (omega arith)))
 
   abbrev pub said : Bool
   said = cond (eqb (length bytes) oldLength) (isPlain (readState bytes)) true
@@ -75,17 +79,20 @@ module _ (bytes : List ℕ) where
     state-unlawful h = rw (yes, h)
 
     pub state-written : lawful (readState bytes) ≡ true
-        → equal (take (length bytes) (stateBytes (readState bytes) (versionOf (length bytes)))) bytes ≡ acceptsState bytes
+        → equal (take (length bytes) (stateBytes (readState bytes) (versionOf (length bytes)))) bytes
+        ≡ acceptsState bytes
     unfolding acceptsState
     state-written h = rw (yes, h)
 
   module _ (k : Kept) where
-    pub accept-size : eqb (length bytes) stateLength || eqb (length bytes) oldLength ≡ false → record { number = numberOf Size; next = k } ≡ acceptOf k bytes
+    pub accept-size : eqb (length bytes) stateLength || eqb (length bytes) oldLength ≡ false
+        → record { number = numberOf Size; next = k } ≡ acceptOf k bytes
     unfolding acceptOf
     accept-size h = rw h
 
     module _ (long : eqb (length bytes) stateLength || eqb (length bytes) oldLength ≡ true) where
-      pub accept-not : acceptsState bytes ≡ false → record { number = numberOf NotAccepted; next = k } ≡ acceptOf k bytes
+      pub accept-not : acceptsState bytes ≡ false → record { number = numberOf NotAccepted; next = k }
+          ≡ acceptOf k bytes
       unfolding acceptOf
       accept-not h = rw (long, h)
 

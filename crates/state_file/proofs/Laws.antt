@@ -5,7 +5,8 @@
 --     tail-long, tail-dirty, tail-none, tail-some              the place in the log
 --     out-none, out-some                                       the file for rows
 --     held, counts-refused, counts-restored, rows-counted, rows-fit       the rows that an image counts
---     law-image, law-archive, law-log, law-out                 all of them; file-alone and so on: each looks at its part alone
+--     law-image, law-archive, law-log, law-out                 all of them; file-alone and so on: each looks at its
+-- part alone
 use Prim.Native.Nat.{ℕ, _+_, _-_, _*_, _/_, _%_, _^_, _≤_, _<_, min}
 use native.Mathlib.Omega.{arith}
 use mathlib.Core.Path.{_≡_, refl, sym, ap, ap₂, _∙_}
@@ -72,7 +73,8 @@ module _ (k : Kept) (counted : ℕ) where
     unfolding isFile
     file-many h = rw (le-leb (began k) counted late, lt-leb (had k + (counted - began k)) maxRows h)
 
-    pub file-last : had k + (counted - began k) ≤ maxRows → isLastOf (had k + (counted - began k)) (k .last) ≡ isFile k counted
+    pub file-last : had k + (counted - began k) ≤ maxRows → isLastOf (had k + (counted - began k)) (k .last)
+        ≡ isFile k counted
     unfolding isFile
     file-last h = rw (le-leb (began k) counted late, le-leb (had k + (counted - began k)) maxRows h)
 
@@ -98,7 +100,8 @@ module _ (k : Kept) (counted : ℕ) where
       name-some n = rw (le-leb (nameLength k) maxName short, clean, ne-eqb (nameLength k) 0 n)
 
 -- the file looks at two numbers and the block alone
-pub file-alone : (k : Kept) (counted : ℕ) → isFile (kept (0 ∷ began k ∷ had k ∷ []) [] (k .last) [] []) counted ≡ isFile k counted
+pub file-alone : (k : Kept) (counted : ℕ) → isFile (kept (0 ∷ began k ∷ had k ∷ []) [] (k .last) [] []) counted
+    ≡ isFile k counted
 unfolding isFile
 file-alone k counted = refl
 
@@ -115,7 +118,8 @@ module _ (k : Kept) where
     tail-dirty h = rw (le-leb (tailLength k) maxTail short, h)
 
     module _ (clean : isBlank (drop (tailLength k) (k .tail)) ≡ true) where
-      pub tail-none : logged k ≡ 0 → eqb (nth k 6) 0 && eqb (nth k 7) 0 && eqb (nth k 8) 0 && eqb (nth k 9) 0 ≡ isPlaced k
+      pub tail-none : logged k ≡ 0 → eqb (nth k 6) 0 && eqb (nth k 7) 0 && eqb (nth k 8) 0 && eqb (nth k 9) 0
+          ≡ isPlaced k
       unfolding isPlaced
       tail-none e = rw (le-leb (tailLength k) maxTail short, clean, eq-eqb (logged k) 0 e)
 
@@ -155,7 +159,8 @@ module _ (k : Kept) where
 
   -- each looks at its part alone
 
-  pub attached-alone : (counted : ℕ) → isAttached (kept (k .numbers) (k .name) (k .last) [] []) counted ≡ isAttached k counted
+  pub attached-alone : (counted : ℕ) → isAttached (kept (k .numbers) (k .name) (k .last) [] []) counted
+      ≡ isAttached k counted
   unfolding isAttached isFile
   attached-alone counted = refl
 
@@ -191,7 +196,8 @@ pub held : (image : List ℕ) → accepts image ≡ true → restoreOf fresh ima
 unfolding restoreOf
 held image e = rw (ok, e)
 
-stays : (image : List ℕ) → accepts image ≡ false → restoreOf fresh image ≡ record { number = numberOf NotAccepted; next = fresh }
+stays : (image : List ℕ) → accepts image ≡ false → restoreOf fresh image
+    ≡ record { number = numberOf NotAccepted; next = fresh }
 unfolding restoreOf
 stays image e = rw (ok, e)
 
@@ -202,14 +208,16 @@ module _ (image : List ℕ) (c : Collector) (new : viewOf c ≡ fresh) (r : Rest
   pub counts-refused : (why : Refusal) → r .answer ≡ Refused why → false ≡ accepts image
   counts-refused why e =
       by-test {X = false ≡ accepts image} (accepts image)
-      (λ t. absurd (refused-number why (ap loadedNumber (sym e) ∙ ap (λ (x : RestoreResult). x .number) (result ∙ held image t))))
+      (λ t. absurd (refused-number why (ap loadedNumber (sym e) ∙ ap (λ (x : RestoreResult). x .number) (result
+      ∙ held image t))))
       (λ f. sym f)
 
   module _ (e : r .answer ≡ Done) where
     pub counts-restored : accepts image ≡ true
     counts-restored =
         by-test {X = accepts image ≡ true} (accepts image) (λ t. t)
-        (λ f. absurd (refused-number NotAccepted (sym (sym (ap loadedNumber e) ∙ ap (λ (x : RestoreResult). x .number) (result ∙ stays image f)))))
+        (λ f. absurd (refused-number NotAccepted (sym (sym (ap loadedNumber e) ∙ ap (λ
+        (x : RestoreResult). x .number) (result ∙ stays image f)))))
 
     totals-are : r .next .summary .totals ≡ totalsIn image
     unfolding parse viewOf
@@ -220,8 +228,10 @@ module _ (image : List ℕ) (c : Collector) (new : viewOf c ≡ fresh) (r : Rest
     rows-counted = ap (λ (n : Totals). n .kept + n .loose) totals-are
 
     pub rows-fit : r .next .summary .totals .received
-        ≡ r .next .summary .totals .kept + r .next .summary .totals .copies + r .next .summary .totals .loose + r .next .summary .totals .damaged
+        ≡ r .next .summary .totals .kept + r .next .summary .totals .copies + r .next .summary .totals .loose + r
+        .next .summary .totals .damaged
         + r .next .summary .totals .late
     unfolding parse
     rows-fit =
-        rw totals-are (eqb-true (totalsIn image .received) _ (summed (parse image) (accepted-image image counts-restored)))
+        rw totals-are (eqb-true (totalsIn image .received) _ (summed (parse image)
+        (accepted-image image counts-restored)))

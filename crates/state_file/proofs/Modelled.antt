@@ -30,7 +30,8 @@ zeros : (xs : List ℕ) → isBlank xs ≡ true → xs ≡ replicate (length xs)
 zeros [] h = refl
 zeros (x ∷ xs) h = let a = both (eqb x 0) _ h in ap₂ _∷_ (eqb-true x 0 (a .0)) (zeros xs (a .1))
 
-module _ (k : Kept) (long : length (k .last) ≡ blockLength) (law : lawful k ≡ true) (named : nameLength k ≡ 0 → ⊥) (first : began k ≡ 0) where
+module _ (k : Kept) (long : length (k .last) ≡ blockLength) (law : lawful k ≡ true) (named : nameLength k ≡ 0 → ⊥)
+    (first : began k ≡ 0) where
   abbrev rows : ℕ
   rows = had k + imageRows (k .image)
 
@@ -59,7 +60,11 @@ module _ (k : Kept) (long : length (k .last) ≡ blockLength) (law : lawful k �
       let a = both (leb (began k) (imageRows (k .image))) _ file in
       let b = both (leb (had k + (imageRows (k .image) - began k)) maxRows) _ (a .1) in
       let e : had k + (imageRows (k .image) - began k) ≡ had k + imageRows (k .image) = omega arith in
-      record { few = rw e at (leb-true (had k + (imageRows (k .image) - began k)) maxRows (b .0)); last = rw e at (b .1) }
+      record {
+        few = rw e at (leb-true (had k + (imageRows (k .image) - began k)) maxRows (b .0));
+        last = rw e at
+            (b .1);
+      }
 
   restored : collectorIn (stateOf k) ≡ parse (k .image)
   restored = ap (λ (r : RestoreResult). r .next) (held (k .image) accepted)
@@ -78,32 +83,37 @@ module _ (k : Kept) (long : length (k .last) ≡ blockLength) (law : lawful k �
         rows = [];
         fit = refl;
         count = rw c refl;
-        last = rw (eq-eqb (counted (stateOf k)) 0 c) (zeros (k .last) blank ∙ ap (λ (m : ℕ). replicate {A = ℕ} m 0) long);
+        last = rw (eq-eqb (counted (stateOf k)) 0 c) (zeros (k .last) blank ∙ ap (λ
+            (m : ℕ). replicate {A = ℕ} m 0) long);
       }
 
   -- some: it is the block of its rows
   some : (rows ≡ 0 → ⊥) → IsCopied (stateOf k)
   unfolding isLastOf
   some n =
-      let t : isSound (k .last) && (eqb (blockNumber (k .last)) ((rows - 1) / cellsPerBlock) && eqb (rowCount (k .last)) ((rows - 1) % cellsPerBlock + 1)) ≡ true =
+      let t : isSound (k .last) && (eqb (blockNumber (k .last)) ((rows - 1) / cellsPerBlock) && eqb (rowCount
+      (k .last)) ((rows - 1) % cellsPerBlock + 1)) ≡ true =
       rw (ne-eqb rows 0 n) at (is-file .last) in
       let a = both (isSound (k .last)) _ t in
       let b = both (eqb (blockNumber (k .last)) ((rows - 1) / cellsPerBlock)) _ (a .1) in
       let number = eqb-true (blockNumber (k .last)) ((rows - 1) / cellsPerBlock) (b .0) in
       let size = eqb-true (rowCount (k .last)) ((rows - 1) % cellsPerBlock + 1) (b .1) in
       let low : lastUsed (stateOf k) < maxBlocks = omega (arith, counts, is-file .few) in
-      let place : blockNumber (k .last) ≡ lastUsed (stateOf k) % maxBlocks = number ∙ omega (arith, counts) ∙ sym (mod-eq-of-lt low) in
+      let place : blockNumber (k .last) ≡ lastUsed (stateOf k) % maxBlocks = number ∙ omega (arith, counts) ∙ sym
+      (mod-eq-of-lt low) in
       record {
         rows = rowsOf (k .last);
         fit = unfits (rowsOf (k .last)) (sound-fits (k .last) (a .0));
         count = rows-count (k .last) ∙ size ∙ omega (arith, counts);
-        last = rw (ne-eqb (counted (stateOf k)) 0 (λ z. n (sym counts ∙ z))) (sym (sound-is (k .last) (a .0)) ∙ ap (λ (m : ℕ). rowsBlock m (rowsOf (k .last))) place);
+        last = rw (ne-eqb (counted (stateOf k)) 0 (λ z. n (sym counts ∙ z))) (sym (sound-is (k .last) (a .0)) ∙ ap (λ
+            (m : ℕ). rowsBlock m (rowsOf (k .last))) place);
       }
 
   modelled : IsModelled k
   modelled = record {
     rows = counts;
-    copied = by-test {X = IsCopied (stateOf k)} (eqb rows 0) (λ t. none (eqb-true rows 0 t)) (λ f. some (eqb-false rows 0 f));
+    copied = by-test {X = IsCopied (stateOf k)} (eqb rows 0) (λ t. none (eqb-true rows 0 t)) (λ f. some
+        (eqb-false rows 0 f));
     room = omega (arith, counts, is-file .few);
   }
 

@@ -35,7 +35,8 @@ module _ (xs : List ℕ) (n : length xs ≡ 14) where
       drop-next : (l : List ℕ) (j : ℕ) → j < length l → drop j l ≡ getD l j 0 ∷ drop (j + 1) l
       drop-next l j k = rw add-one (drop-cons l j 0 k)
 
-  fourteen : xs ≡ getD xs 0 0 ∷ getD xs 1 0 ∷ getD xs 2 0 ∷ getD xs 3 0 ∷ getD xs 4 0 ∷ getD xs 5 0 ∷ getD xs 6 0 ∷ getD xs 7 0 ∷ getD xs 8 0 ∷ getD xs 9 0 ∷ getD xs 10 0 ∷ getD xs 11 0 ∷ getD xs 12 0 ∷ getD xs 13 0 ∷ []
+  fourteen : xs ≡ getD xs 0 0 ∷ getD xs 1 0 ∷ getD xs 2 0 ∷ getD xs 3 0 ∷ getD xs 4 0 ∷ getD xs 5 0 ∷ getD xs 6 0 ∷
+      getD xs 7 0 ∷ getD xs 8 0 ∷ getD xs 9 0 ∷ getD xs 10 0 ∷ getD xs 11 0 ∷ getD xs 12 0 ∷ getD xs 13 0 ∷ []
   fourteen =
       let end : length xs ≤ 14 = omega arith in
       let none : drop 14 xs ≡ [] = drop-of-length-le xs end in
@@ -118,13 +119,15 @@ module _ (k : Kept) (z : IsKept k) (version : ℕ) where
       ∙ left front (replicate (bodyLength - length front) 0) 349 a n front-long h
 
   -- field i of them
-  field : (i a n : ℕ) → a + n ≤ 349 → start i fields ≡ a → length (getD fields i []) ≡ n → part a n (stateBytes k version) ≡ getD fields i []
+  field : (i a n : ℕ) → a + n ≤ 349 → start i fields ≡ a → length (getD fields i []) ≡ n → part a n
+      (stateBytes k version) ≡ getD fields i []
   field i a n h e l = head-part a n h ∙ ap (part a n) front-is ∙ part-nth i fields a n e l
 
   last-part : part blockLength blockLength (stateBytes k version) ≡ k .last
   unfolding stateBytes
   last-part =
-      left (stateHeader k version ++ k .last ++ k .image) (k .tail) oldLength blockLength blockLength three-long (omega arith)
+      left (stateHeader k version ++ k .last ++ k .image) (k .tail) oldLength blockLength blockLength three-long
+      (omega arith)
       ∙ left (stateHeader k version ++ k .last) (k .image) 1024 blockLength blockLength two-long (omega arith)
       ∙ last (stateHeader k version) (k .last) blockLength blockLength header-long (z .last)
 
@@ -137,19 +140,24 @@ module _ (k : Kept) (z : IsKept k) (version : ℕ) where
   tail-part : resized maxTail (drop oldLength (stateBytes k version)) ≡ k .tail
   unfolding stateBytes
   tail-part =
-      ap (resized maxTail) (drop-at (stateHeader k version ++ k .last ++ k .image) (k .tail) oldLength three-long) ∙ resized-whole maxTail (k .tail) (z .tail)
+      ap (resized maxTail) (drop-at (stateHeader k version ++ k .last ++ k .image) (k .tail) oldLength three-long)
+      ∙ resized-whole maxTail (k .tail) (z .tail)
 
   name-part : part 41 maxName (stateBytes k version) ≡ k .name
   name-part = field 6 41 maxName (omega arith) (simp be-length) (z .name)
 
   number-lt : (i : ℕ) → i < 14 → nth k i < 2 ^ 64
-  number-lt i h = ltb-true (nth k i) (2 ^ 64) (all-getD (λ n. ltb n (2 ^ 64)) (k .numbers) i 0 (z .fit) (omega (arith, z .count)))
+  number-lt i h = ltb-true (nth k i) (2 ^ 64) (all-getD (λ n. ltb n (2 ^ 64)) (k .numbers) i 0 (z .fit) (omega
+      (arith, z .count)))
 
   -- a number of eight bytes, or of one
-  eight : (i a j : ℕ) → j < 14 → a + 8 ≤ 349 → start i fields ≡ a → getD fields i [] ≡ be 8 (nth k j) → unbe (part a 8 (stateBytes k version)) ≡ nth k j
-  eight i a j h l e s = ap unbe (field i a 8 l e (ap length s ∙ be-length 8 (nth k j)) ∙ s) ∙ unbe-be 8 (nth k j) (number-lt j h)
+  eight : (i a j : ℕ) → j < 14 → a + 8 ≤ 349 → start i fields ≡ a → getD fields i [] ≡ be 8 (nth k j) → unbe
+      (part a 8 (stateBytes k version)) ≡ nth k j
+  eight i a j h l e s = ap unbe (field i a 8 l e (ap length s ∙ be-length 8 (nth k j)) ∙ s) ∙ unbe-be 8 (nth k j)
+      (number-lt j h)
 
-  one : (i a j : ℕ) → nth k j < 256 → a + 1 ≤ 349 → start i fields ≡ a → getD fields i [] ≡ be 1 (nth k j) → getD (stateBytes k version) a 0 ≡ nth k j
+  one : (i a j : ℕ) → nth k j < 256 → a + 1 ≤ 349 → start i fields ≡ a → getD fields i [] ≡ be 1 (nth k j) → getD
+      (stateBytes k version) a 0 ≡ nth k j
   one i a j h l e s =
       sym (field-one a (stateBytes k version) (omega (arith, state-length)))
       ∙ ap unbe (field i a 1 l e (ap length s ∙ be-length 1 (nth k j)) ∙ s) ∙ unbe-be 1 (nth k j) h
@@ -189,7 +197,8 @@ module _ (k : Kept) (z : IsKept k) (version : ℕ) where
   numbers-part h =
       let s = small h in
       let pair : unbe (part 321 2 (stateBytes k version)) ≡ nth k 9 =
-      ap unbe (field 11 321 2 (omega arith) (simp (be-length, z .name)) (be-length 2 (nth k 9))) ∙ unbe-be 2 (nth k 9) (omega (arith, s .tails)) in
+      ap unbe (field 11 321 2 (omega arith) (simp (be-length, z .name)) (be-length 2 (nth k 9))) ∙ unbe-be 2
+      (nth k 9) (omega (arith, s .tails)) in
       rw (
         eight 1 8 0 (omega arith) (omega arith) refl refl,
         eight 2 16 1 (omega arith) (omega arith) (simp be-length) refl,

@@ -16,7 +16,11 @@ pub record Written : Type 0 where
 -- 11 for a state that is not lawful
 unfoldable pub writeOf : Kept → List ℕ → Written
 writeOf k output =
-    cond (lawful k) (record { number = 0; output = stateBytes k 2 }) (record { number = numberOf NotAccepted; output = output })
+    cond (lawful k) (record { number = 0; output = stateBytes k 2 }) (record {
+      number = numberOf NotAccepted;
+      output =
+          output;
+    })
 
 pub record Accepted : Type 0 where
   pub number : ℕ
@@ -25,6 +29,7 @@ pub record Accepted : Type 0 where
 -- 16 for another length, 11 for a file that is not accepted; then everything is as it was
 unfoldable pub acceptOf : Kept → List ℕ → Accepted
 acceptOf k bytes =
-    cond (not (eqb (length bytes) stateLength || eqb (length bytes) oldLength)) (record { number = numberOf Size; next = k })
+    cond (not (eqb (length bytes) stateLength || eqb (length bytes) oldLength))
+    (record { number = numberOf Size; next = k })
     (cond (acceptsState bytes) (record { number = 0; next = readState bytes })
     (record { number = numberOf NotAccepted; next = k }))

@@ -40,7 +40,8 @@ StateWritten =
 abbrev pub stateOf : Kept → State
 stateOf k = record { lines = lines k; limit = maxBlocks; had = had k; last = k .last; image = k .image }
 
--- what the model asks of a state before a start: the rows that it counts, a copy of the last block as the tool writes it, and room for them in a file
+-- what the model asks of a state before a start: the rows that it counts, a copy of the last block as the tool writes
+-- it, and room for them in a file
 pub record IsModelled (k : Kept) : Type 0 where
   pub rows : counted (stateOf k) ≡ had k + imageRows (k .image)
   pub copied : IsCopied (stateOf k)

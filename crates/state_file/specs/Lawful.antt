@@ -55,7 +55,8 @@ lawful k = accepts (k .image) && (isAttached k (imageRows (k .image)) && (isPlac
 -- what version 1 can say: nothing of the log's place and of a file for rows
 unfoldable pub isPlain : Kept → Bool
 isPlain k =
-    eqb (nth k 5) 0 && eqb (nth k 6) 0 && eqb (nth k 7) 0 && eqb (nth k 8) 0 && eqb (nth k 9) 0 && eqb (nth k 10) 0 && eqb (nth k 11) 0 && eqb (nth k 12) 0
+    eqb (nth k 5) 0 && eqb (nth k 6) 0 && eqb (nth k 7) 0 && eqb (nth k 8) 0 && eqb (nth k 9) 0 && eqb (nth k 10) 0
+    && eqb (nth k 11) 0 && eqb (nth k 12) 0
     && eqb (nth k 13) 0
 
 -- accepted is a file of either length that is byte for byte what is written of the lawful state that it says

@@ -11,7 +11,8 @@ use Rattle.layout.specs.BigEndian.{be, unbe}
 use Rattle.layout.specs.Block.{bodyLength, blockLength, sealed}
 use Rattle.model.specs.Image.{imageLength}
 
--- what a state file keeps: fourteen numbers; the archive's name, zeros behind it; a copy of its block with the last row; the collector's image; the log's
+-- what a state file keeps: fourteen numbers; the archive's name, zeros behind it; a copy of its block with the last
+-- row; the collector's image; the log's
 -- last bytes, zeros behind them
 pub record Kept : Type 0 where
   pub numbers : List ℕ
@@ -33,7 +34,8 @@ module _ (k : Kept) where
   abbrev pub lines : ℕ
   lines = nth 0
 
-  -- rows that the collector had counted when the archive's file began, rows that the file had then, and the file's number
+  -- rows that the collector had counted when the archive's file began, rows that the file had then, and the file's
+  -- number
   abbrev pub began : ℕ
   began = nth 1
 
@@ -46,7 +48,8 @@ module _ (k : Kept) where
   abbrev pub nameLength : ℕ
   nameLength = nth 4
 
-  -- 1 where the place in the log is known: its offset, device and inode, and how many of its bytes before the offset are kept
+  -- 1 where the place in the log is known: its offset, device and inode, and how many of its bytes before the offset
+  -- are kept
   abbrev pub logged : ℕ
   logged = nth 5
 

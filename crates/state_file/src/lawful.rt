@@ -16,7 +16,8 @@ ghost use Rattle.state_file.specs.State.{kept, maxName, maxTail};
 ghost use Rattle.state_file.specs.Lawful.{isLastOf, isFile, isAttached, isPlaced, isPrinted, lawful};
 ghost use Rattle.state_file.specs.Private.{Sized, Counts};
 
-// The image is accepted, and numbers and bytes are those of an archive's file, a place in a log and a file for rows, or of none.
+// The image is accepted, and numbers and bytes are those of an archive's file, a place in a log and a file for rows, or
+// of none.
 pub(crate) fn is_lawful(
     numbers: &[u64; NUMBERS],
     name: &[u8],
@@ -65,7 +66,8 @@ fn rows_of(image: &[u8]) -> Counted
 // The archive's name and its file, where the collector counts so many rows.
 fn is_attached(numbers: &[u64; NUMBERS], name: &[u8], last: &[u8], counted: u64) -> bool
     requires { ⌜ length (now name) ≡ maxName ⌝ }
-    ensures { λ r. ⌜ r ≡ isAttached (kept (now (numbers .entry)) (now (name .entry)) (now (last .entry)) [] []) counted ⌝ }
+    ensures { λ r. ⌜ r ≡ isAttached (kept (now (numbers .entry)) (now (name .entry)) (now (last .entry)) [] [])
+        counted ⌝ }
 {
     if (NAME_LENGTH as u64) < numbers[4] {
         return false;

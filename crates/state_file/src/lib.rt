@@ -1,4 +1,5 @@
-// The state file of the plant's tool: written from numbers and bytes, and accepted just where it is what is written (docs/FORMATS.md).
+// The state file of the plant's tool: written from numbers and bytes, and accepted just where it is what is written
+// (docs/FORMATS.md).
 pub mod lawful;
 pub mod writing;
 
@@ -18,8 +19,8 @@ ghost use Rattle.state_file.specs.State.{kept, maxTail, oldLength, state
 ghost use Rattle.state_file.specs.Lawful.{isPlain, acceptsState};
 ghost use Rattle.state_file.specs.Calls.{writeOf, acceptOf};
 
-// Lines; rows counted when the file began, rows that it had, its number; length of its name; 1 where the log's place is known, its offset, device,
-// inode, bytes kept of it; 1 where rows go to a file too, its length, device, inode.
+// Lines; rows counted when the file began, rows that it had, its number; length of its name; 1 where the log's place is
+// known, its offset, device, inode, bytes kept of it; 1 where rows go to a file too, its length, device, inode.
 pub const NUMBERS: usize = 14;
 
 pub const NAME_LENGTH: usize = 255;
@@ -47,8 +48,8 @@ pub fn write(
     out: &mut [u8; LENGTH],
 ) -> u8
     ensures { λ r. ⌜ record { number = r; output = now (out .exit) }
-        ≡ writeOf (kept (now (numbers .entry)) (now (name .entry)) (now (last .entry)) (now (image .entry)) (now (tail .entry)))
-        (now (out .entry)) ⌝ }
+        ≡ writeOf (kept (now (numbers .entry)) (now (name .entry)) (now (last .entry)) (now (image .entry))
+        (now (tail .entry))) (now (out .entry)) ⌝ }
 {
     if !lawful::is_lawful(numbers, name, last, image, tail) {
         return refusal::number(Refusal::NotAccepted);
@@ -57,8 +58,8 @@ pub fn write(
     0
 }
 
-// The state of a file: 16 for another length than 4,096 and, of version 1, 3,584; 11 for a file that is not byte for byte what is written of a lawful
-// state; then everything is as it was.
+// The state of a file: 16 for another length than 4,096 and, of version 1, 3,584; 11 for a file that is not byte for
+// byte what is written of a lawful state; then everything is as it was.
 pub fn accept(
     bytes: &[u8],
     numbers: &mut [u64; NUMBERS],
@@ -124,7 +125,8 @@ fn pair_at(bytes: &[u8], at: usize) -> u64
     layout::read_number(&bytes[at..at + 2])
 }
 
-// Whether a file is what is written of the lawful state that it says, of which the numbers and the log's bytes are read.
+// Whether a file is what is written of the lawful state that it says, of which the numbers and the log's bytes are
+// read.
 fn is_state(bytes: &[u8], read: &[u64; NUMBERS], rest: &[u8; TAIL_LENGTH]) -> bool
     requires { ⌜ (eqb (length (now bytes)) stateLength || eqb (length (now bytes)) oldLength ≡ true)
         × (now read ≡ numbersIn (now bytes)) × (now rest ≡ resized maxTail (drop oldLength (now bytes))) ⌝ }
@@ -175,7 +177,8 @@ fn is_written(bytes: &[u8], read: &[u64; NUMBERS], rest: &[u8; TAIL_LENGTH]) -> 
     requires { ⌜ (eqb (length (now bytes)) stateLength || eqb (length (now bytes)) oldLength ≡ true)
         × (now read ≡ numbersIn (now bytes)) × (now rest ≡ resized maxTail (drop oldLength (now bytes))) ⌝ }
     ensures { λ r. ⌜ r ≡ equal (take (length (now (bytes .entry)))
-        (stateBytes (readState (now (bytes .entry))) (versionOf (length (now (bytes .entry)))))) (now (bytes .entry)) ⌝ }
+        (stateBytes (readState (now (bytes .entry))) (versionOf (length (now (bytes .entry))))))
+        (now (bytes .entry)) ⌝ }
 {
     let len = bytes.len();
     let mut again = [0u8; LENGTH];

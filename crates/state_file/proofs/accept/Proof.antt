@@ -21,7 +21,8 @@ use Rattle.state_file.proofs.accept.Statement.{statement}
 use Rattle.state_file.proofs.accept.Tie as tie
 
 abbrev said : tie.Start → Kept
-said s = kept (now (s .args .numbers)) (now (s .args .name)) (now (s .args .last)) (now (s .args .image)) (now (s .args .tail))
+said s = kept (now (s .args .numbers)) (now (s .args .name)) (now (s .args .last)) (now (s .args .image)) (now
+    (s .args .tail))
 
 abbrev beside : Kept → ℕ → Accepted
 beside k number = record { number = number; next = k }
@@ -31,12 +32,14 @@ size c =
     let t = c .before in
     let s = t .before .before in
     ap (beside (said s)) (c .number .ensures)
-    ∙ files.accept-size (now (s .args .bytes)) (said s) (files.is-length (length (now (s .args .bytes))) true (t .if1 .taken))
+    ∙ files.accept-size (now (s .args .bytes)) (said s) (files.is-length (length (now (s .args .bytes))) true
+    (t .if1 .taken))
 
 abbrev begin : tie.Else1 → tie.Start
 begin c = c .before .before
 
-is-length : (c : tie.Else1) → eqb (length (now (begin c .args .bytes))) stateLength || eqb (length (now (begin c .args .bytes))) oldLength ≡ true
+is-length : (c : tie.Else1) → eqb (length (now (begin c .args .bytes))) stateLength || eqb (length (now
+    (begin c .args .bytes))) oldLength ≡ true
 is-length c = files.is-length (length (now (begin c .args .bytes))) false (c .if1 .left)
 
 long : (c : tie.Else1) → oldLength ≤ length (now (begin c .args .bytes))
@@ -46,7 +49,8 @@ abbrev first : tie.After-put-bytes → tie.Else1
 first c = c .before .before .before .before
 
 -- the log's bytes
-rest-is : (c : tie.After-put-bytes) → c .put-bytes .last .0 ≡ resized maxTail (drop oldLength (now (begin (first c) .args .bytes)))
+rest-is : (c : tie.After-put-bytes) → c .put-bytes .last .0 ≡ resized maxTail (drop oldLength (now (begin
+    (first c) .args .bytes)))
 rest-is c = c .put-bytes .ensures ∙ files.rest-is (now (begin (first c) .args .bytes)) (long (first c))
 
 is-state-requires : tie.Need-is-state-requires
@@ -63,7 +67,8 @@ refused c =
     let e = first (put i) in
     let s = begin e in
     ap (beside (said s)) (c .number2 .ensures)
-    ∙ files.accept-not (now (s .args .bytes)) (said s) (is-length e) (sym (i .is-state .ensures) ∙ not-true _ (c .before .if2 .taken))
+    ∙ files.accept-not (now (s .args .bytes)) (said s) (is-length e) (sym (i .is-state .ensures) ∙ not-true _
+    (c .before .if2 .taken))
 
 abbrev second : tie.After-put-bytes2 → tie.Else2
 second c = c .before .before .before
@@ -74,7 +79,8 @@ third c = c .before .before .before
 abbrev fourth : tie.After-put-bytes4 → tie.After-put-bytes3
 fourth c = c .before .before .before
 
-name-is : (c : tie.After-put-bytes2) → c .put-bytes2 .last .0 ≡ part 41 maxName (now (begin (first (put (second c .before))) .args .bytes))
+name-is : (c : tie.After-put-bytes2) → c .put-bytes2 .last .0 ≡ part 41 maxName (now (begin (first (put
+    (second c .before))) .args .bytes))
 name-is c =
     let e = first (put (second c .before)) in
     let bytes = now (begin e .args .bytes) in
@@ -82,15 +88,18 @@ name-is c =
     c .put-bytes2 .ensures ∙ resized-whole _ (part 41 maxName bytes) (files.sized bytes (long e) .name ∙ sym n)
 
 last-is : (c : tie.After-put-bytes3)
-    → c .put-bytes3 .last .0 ≡ part blockLength blockLength (now (begin (first (put (second (third c) .before))) .args .bytes))
+    → c .put-bytes3 .last .0 ≡ part blockLength blockLength (now (begin (first (put (second
+    (third c) .before))) .args .bytes))
 last-is c =
     let e = first (put (second (third c) .before)) in
     let bytes = now (begin e .args .bytes) in
     let n : length (now (begin e .args .last)) ≡ blockLength = search needs in
-    c .put-bytes3 .ensures ∙ resized-whole _ (part blockLength blockLength bytes) (files.sized bytes (long e) .last ∙ sym n)
+    c .put-bytes3 .ensures ∙ resized-whole _ (part blockLength blockLength bytes) (files.sized bytes (long e) .last
+    ∙ sym n)
 
 image-is : (c : tie.After-put-bytes4)
-    → c .put-bytes4 .last .0 ≡ part 1024 imageLength (now (begin (first (put (second (third (fourth c)) .before))) .args .bytes))
+    → c .put-bytes4 .last .0 ≡ part 1024 imageLength (now (begin (first (put (second (third
+    (fourth c)) .before))) .args .bytes))
 image-is c =
     let e = first (put (second (third (fourth c)) .before)) in
     let bytes = now (begin e .args .bytes) in
@@ -101,13 +110,15 @@ abbrev fifth : tie.After-put-bytes5 → tie.After-put-bytes4
 fifth c = c .before .before .before
 
 tail-is : (c : tie.After-put-bytes5)
-    → c .put-bytes5 .last .0 ≡ resized maxTail (drop oldLength (now (begin (first (put (second (third (fourth (fifth c))) .before))) .args .bytes)))
+    → c .put-bytes5 .last .0 ≡ resized maxTail (drop oldLength (now (begin (first (put (second (third (fourth
+    (fifth c))) .before))) .args .bytes)))
 tail-is c =
     let p = put (second (third (fourth (fifth c))) .before) in
     let e = first p in
     let n : length (now (begin e .args .tail)) ≡ maxTail = search needs in
     c .put-bytes5 .ensures
-    ∙ resized-whole _ (p .put-bytes .last .0) (ap length (rest-is p) ∙ resized-length maxTail (drop oldLength (now (begin e .args .bytes))) ∙ sym n)
+    ∙ resized-whole _ (p .put-bytes .last .0) (ap length (rest-is p) ∙ resized-length maxTail (drop oldLength (now
+    (begin e .args .bytes))) ∙ sym n)
     ∙ rest-is p
 
 accepted : tie.Need-returns-3

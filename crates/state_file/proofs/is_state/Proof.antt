@@ -25,12 +25,14 @@ long s = files.lengths (length (now (s .args .bytes))) (s .pre .0) .0
 abbrev said : tie.Start → Kept
 said s =
     let bytes = now (s .args .bytes) in
-    kept (now (s .args .read)) (part 41 maxName bytes) (part blockLength blockLength bytes) (part 1024 imageLength bytes) (now (s .args .rest))
+    kept (now (s .args .read)) (part 41 maxName bytes) (part blockLength blockLength bytes)
+    (part 1024 imageLength bytes) (now (s .args .rest))
 
 same : (s : tie.Start) → said s ≡ readState (now (s .args .bytes))
 same s =
     let bytes = now (s .args .bytes) in
-    ap₂ (λ (n r : List ℕ). kept n (part 41 maxName bytes) (part blockLength blockLength bytes) (part 1024 imageLength bytes) r) (s .pre .1) (s .pre .2)
+    ap₂ (λ (n r : List ℕ). kept n (part 41 maxName bytes) (part blockLength blockLength bytes)
+    (part 1024 imageLength bytes) r) (s .pre .1) (s .pre .2)
 
 abbrev start : tie.After-is-said → tie.Start
 start c = c .before .before
@@ -45,7 +47,8 @@ told c =
     c .is-said .ensures ∙ ap (λ (b : Bool). cond (eqb (length bytes) oldLength) b true) plain
 
 unsaid : tie.Need-returns
-unsaid c = files.state-unsaid (now (start (c .before) .args .bytes)) (sym (told (c .before)) ∙ not-true _ (c .if1 .taken))
+unsaid c = files.state-unsaid (now (start (c .before) .args .bytes)) (sym (told (c .before)) ∙ not-true _
+    (c .if1 .taken))
 
 yes : (c : tie.Else1) → files.said (now (start (c .before) .args .bytes)) ≡ true
 yes c = sym (told (c .before)) ∙ not-false _ (c .if1 .left)
@@ -58,7 +61,8 @@ is-lawful-requires c κs =
 abbrev first : tie.After-is-lawful → tie.Else1
 first c = c .before .before .before .before .before
 
-law-told : (c : tie.After-is-lawful) → c .is-lawful .result ≡ lawful (readState (now (start (first c .before) .args .bytes)))
+law-told : (c : tie.After-is-lawful) → c .is-lawful .result ≡ lawful (readState (now (start
+    (first c .before) .args .bytes)))
 law-told c = c .is-lawful .ensures ∙ ap lawful (same (start (first c .before)))
 
 unlawful : tie.Need-returns-2
@@ -72,7 +76,8 @@ written c =
     let e2 = c .before in
     let l = e2 .before in
     let e = first l in
-    c .is-written .ensures ∙ files.state-written (now (start (e .before) .args .bytes)) (yes e) (sym (law-told l) ∙ not-false _ (e2 .if2 .left))
+    c .is-written .ensures ∙ files.state-written (now (start (e .before) .args .bytes)) (yes e) (sym (law-told l)
+    ∙ not-false _ (e2 .if2 .left))
 
 pub is-state-spec : {M : Type 1} → statement M
 is-state-spec =

@@ -24,12 +24,14 @@ long s = lengths (length (now (s .args .bytes))) (s .pre .0)
 abbrev said : tie.Start → Kept
 said s =
     let bytes = now (s .args .bytes) in
-    kept (now (s .args .read)) (part 41 maxName bytes) (part blockLength blockLength bytes) (part 1024 imageLength bytes) (now (s .args .rest))
+    kept (now (s .args .read)) (part 41 maxName bytes) (part blockLength blockLength bytes)
+    (part 1024 imageLength bytes) (now (s .args .rest))
 
 same : (s : tie.Start) → said s ≡ readState (now (s .args .bytes))
 same s =
     let bytes = now (s .args .bytes) in
-    ap₂ (λ (n r : List ℕ). kept n (part 41 maxName bytes) (part blockLength blockLength bytes) (part 1024 imageLength bytes) r) (s .pre .1) (s .pre .2)
+    ap₂ (λ (n r : List ℕ). kept n (part 41 maxName bytes) (part blockLength blockLength bytes)
+    (part 1024 imageLength bytes) r) (s .pre .1) (s .pre .2)
 
 abbrev start : tie.After-version-of → tie.Start
 start c = c .before .before .before
@@ -70,6 +72,11 @@ is-written-spec =
     put-state-requires
     (λ c. search needs)
     (λ c. search needs)
-    (λ c. omega (arith, long (start (c .before .before .before .before .before .before .before)) .1, c .before .before .put-state .kept .0))
+    (λ c. omega (
+      arith,
+      long (start (c .before .before .before .before .before .before .before)) .1,
+      c .before .before
+          .put-state .kept .0,
+    ))
     (λ c κs. search needs)
     returns)

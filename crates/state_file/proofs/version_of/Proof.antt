@@ -8,4 +8,5 @@ use Rattle.state_file.proofs.version_of.Tie as tie
 pub version-of-spec : {M : Type 1} → statement M
 version-of-spec =
     tie.close
-    (tie.spec (λ c. rw (eq-eqb (c .before .args .len) oldLength (c .if1 .taken))) (λ c. rw (ne-eqb (c .before .args .len) oldLength (c .if1 .left))))
+    (tie.spec (λ c. rw (eq-eqb (c .before .args .len) oldLength (c .if1 .taken))) (λ c. rw (ne-eqb
+    (c .before .args .len) oldLength (c .if1 .left))))

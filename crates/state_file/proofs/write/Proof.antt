@@ -15,7 +15,8 @@ abbrev start : tie.After-is-lawful → tie.Start
 start c = c .before .before .before .before .before
 
 abbrev said : tie.Start → Kept
-said s = kept (now (s .args .numbers)) (now (s .args .name)) (now (s .args .last)) (now (s .args .image)) (now (s .args .tail))
+said s = kept (now (s .args .numbers)) (now (s .args .name)) (now (s .args .last)) (now (s .args .image)) (now
+    (s .args .tail))
 
 abbrev beside : List ℕ → ℕ → Written
 beside output number = record { number = number; output = output }

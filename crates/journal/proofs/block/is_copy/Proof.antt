@@ -23,7 +23,8 @@ use Rattle.journal.proofs.block.is_copy.Statement.{statement}
 use Rattle.journal.proofs.block.is_copy.Tie as tie
 
 returns : tie.Need-returns
-returns c = let a = c .before .before .before .args in copy-size (now (a .last)) (a .rows) (now (a .block)) (c .if1 .taken)
+returns c = let a = c .before .before .before .args in copy-size (now (a .last)) (a .rows) (now (a .block))
+    (c .if1 .taken)
 
 abbrev begin : tie.After-cut-block → tie.Else1
 begin c = c .before .before .before .before .before
@@ -33,14 +34,16 @@ start c = begin c .before .before .before
 
 -- the copy that is cut
 is-block : (c : tie.After-cut-block) → c .before .before .before .put-bytes .last .0 ≡ now (start c .args .block)
-is-block c = c .before .before .before .put-bytes .ensures ∙ resized-whole _ (now (start c .args .block)) (begin c .if1 .left)
+is-block c = c .before .before .before .put-bytes .ensures ∙ resized-whole _ (now (start c .args .block))
+    (begin c .if1 .left)
 
 copied : (c : tie.After-cut-block)
     → says (now (start c .args .last)) (cutBlockResult (c .cut-block .result) (c .cut-block .last .0))
     ≡ isCopyOf (now (start c .args .last)) (start c .args .rows) (now (start c .args .block))
 copied c =
     let a = start c .args in
-    copy-told (now (a .last)) (a .rows) (now (a .block)) (c .cut-block .result) (c .before .before .before .put-bytes .last .0) (c .cut-block .last .0) (is-block c)
+    copy-told (now (a .last)) (a .rows) (now (a .block)) (c .cut-block .result)
+    (c .before .before .before .put-bytes .last .0) (c .cut-block .last .0) (is-block c)
     (c .cut-block .ensures)
 
 returns-2 : tie.Need-returns-2

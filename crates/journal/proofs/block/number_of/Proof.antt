@@ -13,7 +13,8 @@ use Rattle.journal.proofs.block.number_of.Tie as tie
 few : tie.Need-returns
 few c =
     let block = now (c .before .before .before .args .block) in
-    c .read-number .ensures ∙ ap unbe (take-all 8 block (omega (arith, c .before .if1 .taken)) ∙ sym (take-all 4 block (omega (arith, c .before .if1 .taken))))
+    c .read-number .ensures ∙ ap unbe (take-all 8 block (omega (arith, c .before .if1 .taken)) ∙ sym
+    (take-all 4 block (omega (arith, c .before .if1 .taken))))
 
 pub number-of-spec : {M : Type 1} → statement M
 number-of-spec =
@@ -25,4 +26,5 @@ number-of-spec =
     (λ c. search needs)
     (λ c. search needs)
     (λ c κs. search needs)
-    (λ c. c .read-number2 .ensures ∙ ap unbe (take-all 8 (part 0 4 (now (c .before .before .before .before .args .block))) (rw length-take (omega arith)))))
+    (λ c. c .read-number2 .ensures ∙ ap unbe (take-all 8 (part 0 4 (now
+    (c .before .before .before .before .args .block))) (rw length-take (omega arith)))))

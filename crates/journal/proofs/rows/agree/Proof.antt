@@ -1,4 +1,5 @@
--- `journal::rows::agree` meets its contract. The invariant: the rows passed agree, and what is left decides; the measure: the rows left.
+-- `journal::rows::agree` meets its contract. The invariant: the rows passed agree, and what is left decides; the
+-- measure: the rows left.
 use mathlib.Core.Path.{_≡_, sym, ap, ap₂, _∙_}
 use mathlib.Core.List.{List}
 use Prim.Native.Nat.{ℕ, _+_, _-_, _*_, _≤_, _<_, min}
@@ -48,7 +49,8 @@ begin c = c .before .before .before .before .before .before
 
 -- row i is one of both
 inside : (c : tie.In-loop Inv-loop μ-loop)
-    → (c .before .loop .i < length (now (begin (c .before) .args .times))) × (c .before .loop .i < length (now (begin (c .before) .args .moments)))
+    → (c .before .loop .i < length (now (begin (c .before) .args .times))) × (c .before .loop .i < length (now (begin
+    (c .before) .args .moments)))
 inside c =
     let s = begin (c .before) in
     let v = c .before .loop .inv in
@@ -72,22 +74,27 @@ same-requires c κs =
     let s = begin (l .before) in
     let at = rowLength * l .before .loop .i in
     let h = inside l in (
-      ap length (part-ends at rowLength (now (s .args .rows))) ∙ part-length at rowLength (now (s .args .rows)) (omega (arith, s .pre .0, h .0)),
-      ap length (part-ends at rowLength (now (s .args .left))) ∙ part-length at rowLength (now (s .args .left)) (omega (arith, s .pre .1, h .1)),
+      ap length (part-ends at rowLength (now (s .args .rows))) ∙ part-length at rowLength (now (s .args .rows))
+          (omega (arith, s .pre .0, h .0)),
+      ap length (part-ends at rowLength (now (s .args .left))) ∙ part-length at rowLength (now (s .args .left))
+          (omega (arith, s .pre .1, h .1)),
     )
 
 -- what the comparison told of row i
 told : (c : tie.After-same Inv-loop μ-loop)
-    → c .same .result ≡ sameRow (getD (new (begin (turn c .before))) (turn c .before .loop .i) noRow) (getD (left (begin (turn c .before))) (turn c .before .loop .i) noRow)
+    → c .same .result ≡ sameRow (getD (new (begin (turn c .before))) (turn c .before .loop .i) noRow) (getD (left
+    (begin (turn c .before))) (turn c .before .loop .i) noRow)
 told c =
     let l = turn c in
     let a = begin (l .before) .args in
     let i = l .before .loop .i in
     let at = rowLength * i in
     c .same .ensures
-    ∙ ap₂ (λ (x y : List ℕ). sameRow (rowGiven (getD (now (a .times)) i 0) x) (rowGiven (getD (now (a .moments)) i 0) y))
+    ∙ ap₂ (λ (x y : List ℕ). sameRow (rowGiven (getD (now (a .times)) i 0) x) (rowGiven (getD (now
+    (a .moments)) i 0) y))
     (part-ends at rowLength (now (a .rows))) (part-ends at rowLength (now (a .left)))
-    ∙ sym (ap₂ sameRow (row-get (now (a .times)) (now (a .rows)) i (inside l .0)) (row-get (now (a .moments)) (now (a .left)) i (inside l .1)))
+    ∙ sym (ap₂ sameRow (row-get (now (a .times)) (now (a .rows)) i (inside l .0)) (row-get (now (a .moments)) (now
+    (a .left)) i (inside l .1)))
 
 returns : tie.Need-returns Inv-loop μ-loop
 returns c =
@@ -95,7 +102,8 @@ returns c =
     let l = turn e in
     let s = begin (l .before) in
     let h = inside l in (
-      sym (agree-stop (new s) (left s) (l .before .loop .i) (omega (arith, new-count s, h .0)) (omega (arith, left-count s, h .1)) (sym (told e) ∙ not-true _ (c .if1 .taken)))
+      sym (agree-stop (new s) (left s) (l .before .loop .i) (omega (arith, new-count s, h .0)) (omega
+          (arith, left-count s, h .1)) (sym (told e) ∙ not-true _ (c .if1 .taken)))
           ∙ l .before .loop .inv .rest,
       omega (arith, h .1),
     )
@@ -110,7 +118,8 @@ loop-again c =
       bounded = omega arith;
       least = l .before .loop .inv .least;
       rest =
-          sym (agree-next (new s) (left s) (l .before .loop .i) (omega (arith, new-count s, h .0)) (omega (arith, left-count s, h .1)) (sym (told e) ∙ not-false _ (c .if1 .left)))
+          sym (agree-next (new s) (left s) (l .before .loop .i) (omega (arith, new-count s, h .0)) (omega
+          (arith, left-count s, h .1)) (sym (told e) ∙ not-false _ (c .if1 .left)))
           ∙ l .before .loop .inv .rest;
     }
 

@@ -33,7 +33,8 @@ new-odd c =
     ∙ compare-new (now (a .times)) (now (a .rows)) (now (a .moments)) (now (a .left)) (now (a .agreed)) (now (a .going))
     (sym (t .are-records .ensures) ∙ not-true _ (c .before .if1 .taken))
 
-sized : (c : tie.Else1) → eqb (length (now (start (c .before) .args .rows))) (rowLength * length (now (start (c .before) .args .times))) ≡ true
+sized : (c : tie.Else1) → eqb (length (now (start (c .before) .args .rows))) (rowLength * length (now (start
+    (c .before) .args .times))) ≡ true
 sized c = sym (c .before .are-records .ensures) ∙ not-false _ (c .if1 .left)
 
 left-odd : tie.Need-returns-2
@@ -42,14 +43,16 @@ left-odd c =
     let e = t .before in
     let a = start (e .before) .args in
     ap (beside (now (a .agreed)) (now (a .going))) (c .number2 .ensures)
-    ∙ compare-left (now (a .times)) (now (a .rows)) (now (a .moments)) (now (a .left)) (now (a .agreed)) (now (a .going)) (sized e)
+    ∙ compare-left (now (a .times)) (now (a .rows)) (now (a .moments)) (now (a .left)) (now (a .agreed)) (now
+    (a .going)) (sized e)
     (sym (t .are-records2 .ensures) ∙ not-true _ (c .before .if2 .taken))
 
 abbrev first : tie.Else2 → tie.Else1
 first c = c .before .before
 
 left-sized : (c : tie.Else2)
-    → eqb (length (now (start (first c .before) .args .left))) (rowLength * length (now (start (first c .before) .args .moments))) ≡ true
+    → eqb (length (now (start (first c .before) .args .left))) (rowLength * length (now (start
+    (first c .before) .args .moments))) ≡ true
 left-sized c = sym (c .before .are-records2 .ensures) ∙ not-false _ (c .if2 .left)
 
 done : tie.Need-returns-3
@@ -61,12 +64,14 @@ done c =
     let left : List Row = rowsGiven (now (a .moments)) (now (a .left)) in
     let nc = rows-count (now (a .times)) (now (a .rows)) in
     let lc = rows-count (now (a .moments)) (now (a .left)) in
-    let going-is : c .going-of .result ≡ cond (leb (length new) (agreeing new left)) 0 (length left - agreeing new left) =
+    let going-is : c .going-of .result ≡ cond (leb (length new) (agreeing new left)) 0
+    (length left - agreeing new left) =
     c .going-of .ensures
     ∙ ap (λ (n : ℕ). cond (leb (length (now (a .times))) n) 0 (length (now (a .moments)) - n)) (g .agree .ensures .0)
     ∙ ap₂ (λ (n m : ℕ). cond (leb n (agreeing new left)) 0 (m - agreeing new left)) (sym nc) (sym lc) in
     ap₂ (λ (n m : ℕ). beside n m 0) (g .agree .ensures .0) (going-is ∙ going-count new left)
-    ∙ compare-done (now (a .times)) (now (a .rows)) (now (a .moments)) (now (a .left)) (now (a .agreed)) (now (a .going)) (sized (first e)) (left-sized e)
+    ∙ compare-done (now (a .times)) (now (a .rows)) (now (a .moments)) (now (a .left)) (now (a .agreed)) (now
+    (a .going)) (sized (first e)) (left-sized e)
 
 pub compare-spec : {M : Type 1} → statement M
 compare-spec =

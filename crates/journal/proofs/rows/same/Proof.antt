@@ -28,7 +28,8 @@ size c =
     let o = c .before in
     let r = o .before .before in
     let a = start r .args in
-    agreed.same-length (a .time) (now (a .row)) (a .moment) (now (a .other)) (λ z. c .if2 .taken (o .byte-at2 .ensures ∙ z ∙ sym (r .byte-at .ensures)))
+    agreed.same-length (a .time) (now (a .row)) (a .moment) (now (a .other)) (λ z. c .if2 .taken
+    (o .byte-at2 .ensures ∙ z ∙ sym (r .byte-at .ensures)))
 
 abbrev else2 : tie.After-same-loose → tie.Else2
 else2 c = c .before .before .before
@@ -38,10 +39,12 @@ first c = else2 c .before .before .before
 
 -- what the comparison of LOOSE told
 told : (c : tie.After-same-loose)
-    → c .same-loose .result ≡ sameLoose (not (eqb (getD (now (start (first c) .args .row)) 0 0) 0)) (not (eqb (getD (now (start (first c) .args .other)) 0 0) 0))
+    → c .same-loose .result ≡ sameLoose (not (eqb (getD (now (start (first c) .args .row)) 0 0) 0)) (not (eqb (getD
+    (now (start (first c) .args .other)) 0 0) 0))
 told c =
     c .same-loose .ensures
-    ∙ ap₂ (λ (x y : ℕ). sameLoose (not (eqb x 0)) (not (eqb y 0))) (c .before .before .byte-at3 .ensures) (c .before .byte-at4 .ensures)
+    ∙ ap₂ (λ (x y : ℕ). sameLoose (not (eqb x 0)) (not (eqb y 0))) (c .before .before .byte-at3 .ensures)
+    (c .before .byte-at4 .ensures)
 
 loose : tie.Need-returns-3
 loose c =
@@ -57,9 +60,12 @@ bytes c =
     let r = first l in
     let a = start r .args in
     c .equal .ensures
-    ∙ ap (λ (n : ℕ). equal (part 2 (2 + n - 2) (now (a .row))) (part 2 (2 + n - 2) (now (a .other)))) (m .least .ensures)
-    ∙ agreed.same-bytes (a .time) (now (a .row)) (a .moment) (now (a .other)) (r .byte-at .result) (start r .pre .0) (start r .pre .1)
-    (r .byte-at .ensures) (else2 l .before .before .if1 .left) (sym (else2 l .before .byte-at2 .ensures) ∙ else2 l .if2 .left ∙ r .byte-at .ensures)
+    ∙ ap (λ (n : ℕ). equal (part 2 (2 + n - 2) (now (a .row))) (part 2 (2 + n - 2) (now (a .other))))
+    (m .least .ensures)
+    ∙ agreed.same-bytes (a .time) (now (a .row)) (a .moment) (now (a .other)) (r .byte-at .result) (start r .pre .0)
+    (start r .pre .1)
+    (r .byte-at .ensures) (else2 l .before .before .if1 .left) (sym (else2 l .before .byte-at2 .ensures)
+    ∙ else2 l .if2 .left ∙ r .byte-at .ensures)
     (sym (told l) ∙ not-false _ (e .if3 .left))
 
 pub same-spec : {M : Type 1} → statement M

@@ -45,7 +45,8 @@ not-run : tie.Need-returns
 not-run c =
     let i = c .before .before in
     ap (beside (numbers i)) (c .number .ensures)
-    ∙ feed-not (numbers i) (piece i) (sym (ap isRun (said i)) ∙ sym (i .is-run .ensures) ∙ not-true _ (c .before .if1 .taken))
+    ∙ feed-not (numbers i) (piece i) (sym (ap isRun (said i)) ∙ sym (i .is-run .ensures) ∙ not-true _
+    (c .before .if1 .taken))
 
 odd : tie.Need-returns-2
 odd c =
@@ -69,7 +70,8 @@ done c =
     let e = e2 .before in
     let i = e .before in
     ap (λ (l : List ℕ). beside l 0) (c .store .ensures)
-    ∙ feed-done (numbers i) (piece i) (yes-at e) (e2 .if2 .left) (omega (arith, e3 .if3 .left, blocks-said i)) (runOf (rb .run-blocks .result))
+    ∙ feed-done (numbers i) (piece i) (yes-at e) (e2 .if2 .left) (omega (arith, e3 .if3 .left, blocks-said i)) (runOf
+    (rb .run-blocks .result))
     (rb .run-blocks .ensures ∙ ap (λ (r : Run). runBlocks r (blocksIn (piece i))) (said i))
 
 pub feed-spec : {M : Type 1} → statement M

@@ -22,7 +22,8 @@ unsound : tie.Need-returns-2
 unsound c =
     let s = c .before .before in
     let a = start s .args in
-    c .end .ensures ∙ block-unsound (runOf (a .r)) (now (a .block)) (s .before .if1 .left) (sym (s .sound .ensures) ∙ c .before .if2 .taken)
+    c .end .ensures ∙ block-unsound (runOf (a .r)) (now (a .block)) (s .before .if1 .left) (sym (s .sound .ensures)
+    ∙ c .before .if2 .taken)
 
 other : tie.Need-returns-3
 other c =
@@ -30,7 +31,8 @@ other c =
     let s = n .before .before in
     let a = start s .args in
     c .end2 .ensures
-    ∙ block-number (runOf (a .r)) (now (a .block)) (s .before .if1 .left) (λ z. n .before .if2 .left (s .sound .ensures ∙ z))
+    ∙ block-number (runOf (a .r)) (now (a .block)) (s .before .if1 .left) (λ z. n .before .if2 .left
+    (s .sound .ensures ∙ z))
     (λ z. c .before .if3 .taken (n .number-of .ensures ∙ z))
 
 passed : tie.Need-returns-4
@@ -39,7 +41,8 @@ passed c =
     let n = e .before in
     let s = n .before .before in
     let a = start s .args in
-    block-passed (runOf (a .r)) (now (a .block)) (s .before .if1 .left) (λ z. n .before .if2 .left (s .sound .ensures ∙ z))
+    block-passed (runOf (a .r)) (now (a .block)) (s .before .if1 .left) (λ z. n .before .if2 .left
+    (s .sound .ensures ∙ z))
     (s .sound .result) (s .sound .ensures) (sym (n .number-of .ensures) ∙ e .if3 .left)
 
 pub run-block-spec : {M : Type 1} → statement M

@@ -1,4 +1,5 @@
--- `journal::scan::run_blocks` meets its contract. The invariant: the blocks that are left bring the run so far to the end of the whole; the
+-- `journal::scan::run_blocks` meets its contract. The invariant: the blocks that are left bring the run so far to the
+-- end of the whole; the
 -- measure: the blocks left.
 use mathlib.Core.Path.{_≡_, refl, sym, ap, _∙_}
 use mathlib.Core.List.{List}
@@ -48,7 +49,8 @@ run-block-requires c κs =
     let s = at .before .before in
     let piece = now (s .args .piece) in
     let i = at .loop .i in (
-      ap length (part-ends (blockLength * i) blockLength piece) ∙ part-length (blockLength * i) blockLength piece (omega arith),
+      ap length (part-ends (blockLength * i) blockLength piece) ∙ part-length (blockLength * i) blockLength piece
+          (omega arith),
       run-is (runOf (at .loop .at)) (at .loop .inv .facts),
       omega (arith, s .pre),
     )
@@ -61,7 +63,8 @@ loop-again c =
     let i = at .loop .i in
     let piece = now (a .piece) in
     let block = part (blockLength * i) blockLength piece in
-    let e = c .run-block .ensures ∙ ap (runBlock (runOf (at .loop .at))) (part-ends (blockLength * i) blockLength piece) in
+    let e = c .run-block .ensures ∙ ap (runBlock (runOf (at .loop .at))) (part-ends
+    (blockLength * i) blockLength piece) in
     let n : Next (runOf (at .loop .at)) block (runOf (c .run-block .result)) =
     rw e (block-next (runOf (at .loop .at)) block (at .loop .inv .facts) (omega (arith, s .pre))) in
     record {
@@ -70,13 +73,15 @@ loop-again c =
       facts = n .facts;
       passed = omega (arith, n .bound);
       rest = ap (λ (r : Run). runBlocks r (blocksFrom piece (i + 1) (length piece / blockLength - (i + 1)))) e
-          ∙ sym (rest-next piece (runOf (at .loop .at)) (length piece / blockLength) i (omega arith)) ∙ at .loop .inv .rest;
+          ∙ sym (rest-next piece (runOf (at .loop .at)) (length piece / blockLength) i (omega arith))
+          ∙ at .loop .inv .rest;
     }
 
 returns : tie.Need-returns Inv-loop μ-loop
 returns c =
     let at = c .before .loop in
-    sym (rest-none (now (c .before .before .before .args .piece)) (runOf (at .at)) _ (at .i) (omega arith)) ∙ at .inv .rest
+    sym (rest-none (now (c .before .before .before .args .piece)) (runOf (at .at)) _ (at .i) (omega arith))
+    ∙ at .inv .rest
 
 pub run-blocks-spec : {M : Type 1} → statement M
 run-blocks-spec =

@@ -30,7 +30,8 @@ first c = c .before .before .before
 
 -- what stands behind the name
 told : (c : tie.After-is-blank)
-    → c .is-blank .result ≡ isBlank (drop (nameLength (said (start (first c .before)))) (now (start (first c .before) .args .name)))
+    → c .is-blank .result ≡ isBlank (drop (nameLength (said (start (first c .before)))) (now (start
+    (first c .before) .args .name)))
 told c =
     let e = first c in
     let s = start (e .before) in
@@ -53,7 +54,8 @@ none c =
     let b = e2 .before in
     let e = first b in
     let s = start (e .before) in
-    ap (λ (x : Bool). eqb (began (said s)) 0 && eqb (had (said s)) 0 && eqb (fileNumber (said s)) 0 && x) (c .is-blank2 .ensures)
+    ap (λ (x : Bool). eqb (began (said s)) 0 && eqb (had (said s)) 0 && eqb (fileNumber (said s)) 0 && x)
+    (c .is-blank2 .ensures)
     ∙ name-none (said s) (s .args .counted) (e .if1 .left) (sym (told b) ∙ not-false _ (e2 .if2 .left)) (t .if3 .taken)
 
 some : tie.Need-returns-4

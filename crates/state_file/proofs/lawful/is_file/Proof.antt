@@ -35,7 +35,8 @@ last c =
     let e2 = e3 .before in
     let e = e2 .before in
     let s = e .before .before in
-    c .is-last .ensures ∙ file-last (said s) (s .args .counted) (e .if1 .left) (omega (arith, e2 .if2 .left, e3 .if3 .left))
+    c .is-last .ensures ∙ file-last (said s) (s .args .counted) (e .if1 .left) (omega
+    (arith, e2 .if2 .left, e3 .if3 .left))
 
 pub is-file-spec : {M : Type 1} → statement M
 is-file-spec =

@@ -25,7 +25,8 @@ some c =
     let e = c .before in
     let s = e .before in
     let a = s .before .before .before .args in
-    last-some (a .rows) (now (a .block)) (s .before .if1 .left) (s .sound .result) (c .number-of .result) (λ z. e .if2 .left (s .sound .ensures ∙ z))
+    last-some (a .rows) (now (a .block)) (s .before .if1 .left) (s .sound .result) (c .number-of .result)
+    (λ z. e .if2 .left (s .sound .ensures ∙ z))
     (s .sound .ensures) (c .number-of .ensures)
 
 pub is-last-spec : {M : Type 1} → statement M

@@ -17,7 +17,8 @@ abbrev start : tie.After-struct-known → tie.Start
 start c = c .before .before .before .before .before .before
 
 abbrev said : tie.Start → Kept
-said s = kept (now (s .args .numbers)) (now (s .args .name)) (now (s .args .last)) (now (s .args .image)) (now (s .args .tail))
+said s = kept (now (s .args .numbers)) (now (s .args .name)) (now (s .args .last)) (now (s .args .image)) (now
+    (s .args .tail))
 
 image-not : tie.Need-returns
 image-not c =
@@ -30,11 +31,13 @@ yes c = not-false _ (c .if1 .left)
 image-yes : (c : tie.Else1) → accepts (now (start (c .before) .args .image)) ≡ true
 image-yes c = sym (c .before .before .rows-of .ensures .accepted) ∙ yes c
 
-archive-told : (c : tie.After-is-attached) → c .is-attached .result ≡ isAttached (said (start (c .before .before))) (imageRows (now (start (c .before .before) .args .image)))
+archive-told : (c : tie.After-is-attached) → c .is-attached .result ≡ isAttached (said (start (c .before .before)))
+    (imageRows (now (start (c .before .before) .args .image)))
 archive-told c =
     let e = c .before in
     let k = said (start (e .before)) in
-    c .is-attached .ensures ∙ ap (isAttached (kept (k .numbers) (k .name) (k .last) [] [])) (e .before .before .rows-of .ensures .rows (yes e))
+    c .is-attached .ensures ∙ ap (isAttached (kept (k .numbers) (k .name) (k .last) [] []))
+    (e .before .before .rows-of .ensures .rows (yes e))
     ∙ attached-alone k (imageRows (k .image))
 
 archive-not : tie.Need-returns-2
@@ -43,10 +46,12 @@ archive-not c =
     let e = t .before in
     law-archive (said (start (e .before))) (image-yes e) (sym (archive-told t) ∙ not-true _ (c .if2 .taken))
 
-archive-yes : (c : tie.Else2) → isAttached (said (start (c .before .before .before))) (imageRows (now (start (c .before .before .before) .args .image))) ≡ true
+archive-yes : (c : tie.Else2) → isAttached (said (start (c .before .before .before))) (imageRows (now (start
+    (c .before .before .before) .args .image))) ≡ true
 archive-yes c = sym (archive-told (c .before)) ∙ not-false _ (c .if2 .left)
 
-log-told : (c : tie.After-is-placed) → c .is-placed .result ≡ isPlaced (said (start (c .before .before .before .before)))
+log-told : (c : tie.After-is-placed) → c .is-placed .result ≡ isPlaced (said (start
+    (c .before .before .before .before)))
 log-told c = c .is-placed .ensures ∙ placed-alone (said (start (c .before .before .before .before)))
 
 log-not : tie.Need-returns-3
@@ -63,7 +68,8 @@ out-told c =
     let e2 = p .before in
     let e = e2 .before .before in
     let k = said (start (e .before)) in
-    c .is-printed .ensures ∙ printed-alone k ∙ law-out k (image-yes e) (archive-yes e2) (sym (log-told p) ∙ not-false _ (e3 .if3 .left))
+    c .is-printed .ensures ∙ printed-alone k ∙ law-out k (image-yes e) (archive-yes e2) (sym (log-told p)
+    ∙ not-false _ (e3 .if3 .left))
 
 pub is-lawful-spec : {M : Type 1} → statement M
 is-lawful-spec =

@@ -30,7 +30,8 @@ first c = c .before .before .before
 
 -- what stands behind the bytes that are kept
 told : (c : tie.After-is-blank)
-    → c .is-blank .result ≡ isBlank (drop (tailLength (said (start (first c .before)))) (now (start (first c .before) .args .tail)))
+    → c .is-blank .result ≡ isBlank (drop (tailLength (said (start (first c .before)))) (now (start
+    (first c .before) .args .tail)))
 told c =
     let e = first c in
     let s = start (e .before) in

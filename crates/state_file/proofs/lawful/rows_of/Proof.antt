@@ -12,7 +12,8 @@ refused : tie.Need-returns
 refused c =
     let r = c .before .before in
     let f = r .before in
-    let no = counts-refused (now (f .before .before .args .image)) (f .fresh .result) (f .fresh .ensures .state) (r .restore .result) (r .restore .ensures) _ (c .enum-told .given .1) in
+    let no = counts-refused (now (f .before .before .args .image)) (f .fresh .result) (f .fresh .ensures .state)
+    (r .restore .result) (r .restore .ensures) _ (c .enum-told .given .1) in
     record { accepted = no; rows = λ z. absurd (false≢true z) }
 
 abbrev restored : tie.After-struct-known → tie.After-enum-told2
@@ -23,7 +24,12 @@ fits c =
     let t = restored c in
     let r = t .before .before in
     let f = r .before in
-    omega (arith, rows-fit (now (f .before .before .args .image)) (f .fresh .result) (f .fresh .ensures .state) (r .restore .result) (r .restore .ensures) (t .enum-told2 .given .1), c .struct-known .given)
+    omega (
+      arith,
+      rows-fit (now (f .before .before .args .image)) (f .fresh .result) (f .fresh .ensures .state)
+          (r .restore .result) (r .restore .ensures) (t .enum-told2 .given .1),
+      c .struct-known .given,
+    )
 
 counted : tie.Need-returns-2
 counted c =
@@ -32,8 +38,10 @@ counted c =
     let f = r .before in
     let image = now (f .before .before .args .image) in
     record {
-      accepted = sym (counts-restored image (f .fresh .result) (f .fresh .ensures .state) (r .restore .result) (r .restore .ensures) (t .enum-told2 .given .1));
-      rows = λ z. rows-counted image (f .fresh .result) (f .fresh .ensures .state) (r .restore .result) (r .restore .ensures) (t .enum-told2 .given .1);
+      accepted = sym (counts-restored image (f .fresh .result) (f .fresh .ensures .state) (r .restore .result)
+          (r .restore .ensures) (t .enum-told2 .given .1));
+      rows = λ z. rows-counted image (f .fresh .result) (f .fresh .ensures .state) (r .restore .result)
+          (r .restore .ensures) (t .enum-told2 .given .1);
     }
 
 pub rows-of-spec : {M : Type 1} → statement M

@@ -34,31 +34,36 @@ start5 c = start4 (c .before .before .before .before .before)
 abbrev step1 : tie.After-put-number → Writing 8
 step1 c =
     packed
-    (lend-sized (begin (now (start1 c .args .out))) _ (λ w. be w (getD (now (start1 c .args .numbers)) 0 0)) 8 (c .put-number .ensures)
+    (lend-sized (begin (now (start1 c .args .out))) _ (λ w. be w (getD (now (start1 c .args .numbers)) 0 0)) 8
+    (c .put-number .ensures)
     (c .put-number .kept .0) (omega (arith, start1 c .pre .0)) (omega (arith, start1 c .pre .0)))
 
 abbrev step2 : tie.After-put-number2 → Writing 16
 step2 c =
     packed
-    (lend-sized (step1 (c .before .before .before .before .before) .begun) _ (λ w. be w (getD (now (start2 c .args .numbers)) 1 0)) 16 (c .put-number2 .ensures)
+    (lend-sized (step1 (c .before .before .before .before .before) .begun) _ (λ w. be w (getD (now
+    (start2 c .args .numbers)) 1 0)) 16 (c .put-number2 .ensures)
     (c .put-number2 .kept .0) (omega (arith, start2 c .pre .0)) (omega (arith, start2 c .pre .0)))
 
 abbrev step3 : tie.After-put-number3 → Writing 24
 step3 c =
     packed
-    (lend-sized (step2 (c .before .before .before .before .before) .begun) _ (λ w. be w (getD (now (start3 c .args .numbers)) 2 0)) 24 (c .put-number3 .ensures)
+    (lend-sized (step2 (c .before .before .before .before .before) .begun) _ (λ w. be w (getD (now
+    (start3 c .args .numbers)) 2 0)) 24 (c .put-number3 .ensures)
     (c .put-number3 .kept .0) (omega (arith, start3 c .pre .0)) (omega (arith, start3 c .pre .0)))
 
 abbrev step4 : tie.After-put-number4 → Writing 32
 step4 c =
     packed
-    (lend-sized (step3 (c .before .before .before .before .before) .begun) _ (λ w. be w (getD (now (start4 c .args .numbers)) 3 0)) 32 (c .put-number4 .ensures)
+    (lend-sized (step3 (c .before .before .before .before .before) .begun) _ (λ w. be w (getD (now
+    (start4 c .args .numbers)) 3 0)) 32 (c .put-number4 .ensures)
     (c .put-number4 .kept .0) (omega (arith, start4 c .pre .0)) (omega (arith, start4 c .pre .0)))
 
 abbrev step5 : tie.After-put-number5 → Writing 33
 step5 c =
     packed
-    (lend-sized (step4 (c .before .before .before .before .before) .begun) _ (λ w. be w (getD (now (start5 c .args .numbers)) 4 0)) 33 (c .put-number5 .ensures)
+    (lend-sized (step4 (c .before .before .before .before .before) .begun) _ (λ w. be w (getD (now
+    (start5 c .args .numbers)) 4 0)) 33 (c .put-number5 .ensures)
     (c .put-number5 .kept .0) (omega (arith, start5 c .pre .0)) (omega (arith, start5 c .pre .0)))
 
 abbrev named : tie.After-put-bytes → Writing 288
@@ -68,7 +73,8 @@ named c =
     let b = step5 at .begun in
     packed
     (lend b _ (now (s .args .name)) 288
-    (c .put-bytes .ensures ∙ ap (λ (n : ℕ). resized n (now (s .args .name))) (lent b maxName 288 (omega arith) (omega (arith, s .pre .0))) ∙ resized-whole maxName (now (s .args .name)) (s .pre .1))
+    (c .put-bytes .ensures ∙ ap (λ (n : ℕ). resized n (now (s .args .name))) (lent b maxName 288 (omega arith) (omega
+    (arith, s .pre .0))) ∙ resized-whole maxName (now (s .args .name)) (s .pre .1))
     (c .put-bytes .kept .0) (omega arith) (omega (arith, s .pre .0)))
 
 written : tie.Need-returns

@@ -30,7 +30,8 @@ marked c =
     let b = begin (now (s .args .out)) in
     packed
     (lend b _ (mark (s .args .version)) 8
-    (c .put-bytes .ensures ∙ ap (λ (n : ℕ). resized n (mark (s .args .version))) (lent b 8 8 (omega arith) (omega (arith, s .pre .0))) ∙ resized-whole 8 (mark (s .args .version)) refl)
+    (c .put-bytes .ensures ∙ ap (λ (n : ℕ). resized n (mark (s .args .version))) (lent b 8 8 (omega arith) (omega
+    (arith, s .pre .0))) ∙ resized-whole 8 (mark (s .args .version)) refl)
     (c .put-bytes .kept .0) (omega arith) (omega (arith, s .pre .0)))
 
 abbrev first : tie.After-put-archive → tie.After-put-bytes
@@ -39,7 +40,8 @@ first c = c .before .before .before .before
 abbrev archived : tie.After-put-archive → Writing 296
 archived c =
     let s = start (first c) in
-    packed (lend (marked (first c) .begun) _ (archiveField (said s)) 296 (c .put-archive .ensures) (c .put-archive .kept .0) (omega arith) (omega (arith, s .pre .0)))
+    packed (lend (marked (first c) .begun) _ (archiveField (said s)) 296 (c .put-archive .ensures)
+    (c .put-archive .kept .0) (omega arith) (omega (arith, s .pre .0)))
 
 abbrev second : tie.After-put-log → tie.After-put-archive
 second c = c .before .before .before .before
@@ -48,7 +50,8 @@ abbrev placed : tie.After-put-log → Writing 323
 placed c =
     let s = start (first (second c)) in
     packed
-    (lend (archived (second c) .begun) _ (logField (said s)) 323 (c .put-log .ensures ∙ log-alone (said s)) (c .put-log .kept .0) (omega arith) (omega (arith, s .pre .0)))
+    (lend (archived (second c) .begun) _ (logField (said s)) 323 (c .put-log .ensures ∙ log-alone (said s))
+    (c .put-log .kept .0) (omega arith) (omega (arith, s .pre .0)))
 
 abbrev third : tie.After-put-out → tie.After-put-log
 third c = c .before .before .before .before
@@ -57,7 +60,8 @@ abbrev printed : tie.After-put-out → Writing 348
 printed c =
     let s = start (first (second (third c))) in
     packed
-    (lend (placed (third c) .begun) _ (outField (said s)) 348 (c .put-out .ensures ∙ out-alone (said s)) (c .put-out .kept .0) (omega arith) (omega (arith, s .pre .0)))
+    (lend (placed (third c) .begun) _ (outField (said s)) 348 (c .put-out .ensures ∙ out-alone (said s))
+    (c .put-out .kept .0) (omega arith) (omega (arith, s .pre .0)))
 
 abbrev summed : tie.After-slice-known5 → Writing 349
 summed c =
@@ -69,7 +73,8 @@ abbrev cleared : tie.After-clear → Writing bodyLength
 cleared c =
     let at = c .before .before in
     let s = start (first (second (third (at .before .before)))) in
-    packed (wipe (summed at .begun) _ bodyLength (c .clear .ensures) (c .clear .kept .0) (omega arith) (omega (arith, s .pre .0)))
+    packed (wipe (summed at .begun) _ bodyLength (c .clear .ensures) (c .clear .kept .0) (omega arith) (omega
+    (arith, s .pre .0)))
 
 abbrev fourth : tie.After-seal → tie.After-clear
 fourth c = c .before .before .before .before
@@ -106,7 +111,11 @@ put-header-spec =
     (λ c. search needs)
     (λ c. search needs)
     (λ c. search needs)
-    (λ c. within (summed c .begun) bodyLength (omega (arith, start (first (second (third (c .before .before)))) .pre .0)))
+    (λ c. within (summed c .begun) bodyLength (omega (
+      arith,
+      start (first (second (third
+          (c .before .before)))) .pre .0,
+    )))
     (λ c κs. search needs)
     (λ c κs. search needs)
     (λ c. let at = c .before .before in at .seal .kept .0 ∙ begun-length (cleared (fourth at) .begun))

@@ -19,7 +19,8 @@ abbrev start : tie.After-put-header → tie.Start
 start c = c .before .before .before .before .before .before .before .before
 
 abbrev said : tie.Start → Kept
-said s = kept (now (s .args .numbers)) (now (s .args .name)) (now (s .args .last)) (now (s .args .image)) (now (s .args .tail))
+said s = kept (now (s .args .numbers)) (now (s .args .name)) (now (s .args .last)) (now (s .args .image)) (now
+    (s .args .tail))
 
 -- what is written, after each part
 
@@ -28,7 +29,8 @@ headed c =
     let s = start c in
     packed
     (lend (begin (now (s .args .out))) _ (stateHeader (said s) (s .args .version)) blockLength
-    (c .put-header .ensures ∙ header-is (said s) (s .args .version) (c .before .before .crc8-long .result) (c .before .before .crc8-long .ensures))
+    (c .put-header .ensures ∙ header-is (said s) (s .args .version) (c .before .before .crc8-long .result)
+    (c .before .before .crc8-long .ensures))
     (c .put-header .kept .0) (omega arith) (omega (arith, s .pre .0)))
 
 abbrev first : tie.After-put-bytes → tie.After-put-header
@@ -41,7 +43,8 @@ copied c =
     let xs = now (s .args .last) in
     packed
     (lend b _ xs 1024
-    (c .put-bytes .ensures ∙ ap (λ (n : ℕ). resized n xs) (lent b blockLength 1024 (omega arith) (omega (arith, s .pre .0))) ∙ resized-whole blockLength xs (s .pre .1 .last))
+    (c .put-bytes .ensures ∙ ap (λ (n : ℕ). resized n xs) (lent b blockLength 1024 (omega arith) (omega
+    (arith, s .pre .0))) ∙ resized-whole blockLength xs (s .pre .1 .last))
     (c .put-bytes .kept .0) (omega arith) (omega (arith, s .pre .0)))
 
 abbrev second : tie.After-put-bytes2 → tie.After-put-bytes
@@ -54,7 +57,8 @@ imaged c =
     let xs = now (s .args .image) in
     packed
     (lend b _ xs 3584
-    (c .put-bytes2 .ensures ∙ ap (λ (n : ℕ). resized n xs) (lent b imageLength 3584 (omega arith) (omega (arith, s .pre .0))) ∙ resized-whole imageLength xs (s .pre .1 .image))
+    (c .put-bytes2 .ensures ∙ ap (λ (n : ℕ). resized n xs) (lent b imageLength 3584 (omega arith) (omega
+    (arith, s .pre .0))) ∙ resized-whole imageLength xs (s .pre .1 .image))
     (c .put-bytes2 .kept .0) (omega arith) (omega (arith, s .pre .0)))
 
 abbrev third : tie.After-put-bytes3 → tie.After-put-bytes2
@@ -67,7 +71,8 @@ tailed c =
     let xs = now (s .args .tail) in
     packed
     (lend b _ xs 4096
-    (c .put-bytes3 .ensures ∙ ap (λ (n : ℕ). resized n xs) (lent b maxTail 4096 (omega arith) (omega (arith, s .pre .0))) ∙ resized-whole maxTail xs (s .pre .1 .tail))
+    (c .put-bytes3 .ensures ∙ ap (λ (n : ℕ). resized n xs) (lent b maxTail 4096 (omega arith) (omega
+    (arith, s .pre .0))) ∙ resized-whole maxTail xs (s .pre .1 .tail))
     (c .put-bytes3 .kept .0) (omega arith) (omega (arith, s .pre .0)))
 
 written : tie.Need-returns
