@@ -44,6 +44,9 @@ struct Run {
     setting: Option<u8>,
     collector: Collector,
     lines: u64,
+    /// Bytes that were taken, and the last 512 of them.
+    offset: u64,
+    tail: Vec<u8>,
     archive: Archive,
     state: PathBuf,
     name: Vec<u8>,
@@ -55,14 +58,15 @@ impl Run {
         let name = archive.file_name().expect("a file").as_bytes().to_vec();
         let file = OpenOptions::new().create_new(true).write(true).open(archive)?;
         let archive = Archive { file, blocks: 0, number: 0, count: 0, block: [0; BLOCK], is_changed: false, full: Vec::new() };
-        Ok(Run { setting: None, collector: Collector::new(), lines: 0, archive, state, name, printed: Vec::new() })
+        let (collector, tail, printed) = (Collector::new(), Vec::new(), Vec::new());
+        Ok(Run { setting: None, collector, lines: 0, offset: 0, tail, archive, state, name, printed })
     }
 
     /// Takes whole lines, in batches.
     fn take(&mut self, mut text: &[u8]) -> io::Result<()> {
         let mut bytes = [0; MAX_BYTES];
         while !text.is_empty() {
-            let mut batch = MAX_BATCH;
+            let (mut batch, before) = (MAX_BATCH, text);
             if self.setting.is_none() {
                 let (line, rest) = split_line(text);
                 self.setting = Some(text::setting(line).expect("a level"));
@@ -74,9 +78,17 @@ impl Run {
                 batch -= 1;
                 self.lines += 1;
             }
+            self.pass(&before[..before.len() - text.len()]);
             self.commit()?;
         }
         Ok(())
+    }
+
+    /// These bytes of the log were taken.
+    fn pass(&mut self, taken: &[u8]) {
+        self.offset += taken.len() as u64;
+        self.tail.extend_from_slice(&taken[taken.len().saturating_sub(BLOCK)..]);
+        self.tail.drain(..self.tail.len().saturating_sub(BLOCK));
     }
 
     #[inline]
@@ -109,13 +121,19 @@ impl Run {
         Ok(())
     }
 
-    /// The state file: a header, the archive's last block, the collector's image.
+    /// The state file: a header, the archive's last block, the collector's image, the log's last bytes.
     fn image(&self) -> Vec<u8> {
         let mut header = [0; BLOCK];
-        header[..8].copy_from_slice(b"MOORING\x01");
+        header[..8].copy_from_slice(b"MOORING\x02");
         header[8..16].copy_from_slice(&self.lines.to_be_bytes());
         header[40] = self.name.len() as u8;
         header[41..41 + self.name.len()].copy_from_slice(&self.name);
+        header[296] = 1;
+        header[297..305].copy_from_slice(&self.offset.to_be_bytes());
+        header[321..323].copy_from_slice(&(self.tail.len() as u16).to_be_bytes());
+        let mut tail = [0; BLOCK];
+        tail[..self.tail.len()].copy_from_slice(&self.tail);
+        header[348] = crc(&tail);
         seal(&mut header);
         let mut image = [header, self.archive.block].concat();
         let totals = &self.collector.totals;
@@ -134,6 +152,7 @@ impl Run {
             seal(&mut block);
             image.extend_from_slice(&block);
         }
+        image.extend_from_slice(&tail);
         image
     }
 }
