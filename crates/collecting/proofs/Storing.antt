@@ -12,7 +12,7 @@ use lib.Seq.{sets, getD-append-add, ext-getD, set-getD}
 use Rattle.lists.specs.Lists.{padded}
 use Rattle.lists.proofs.Padded.{take-padded}
 use Rattle.bytes.specs.Bytes.{indexOf}
-use Rattle.model.specs.Step.{Outcome}
+use Rattle.model.specs.Step.{Outcome, sentFor}
 use Rattle.buffers.specs.Printed.{Printed}
 use Rattle.line_input.specs.Ascii.{newline}
 use Rattle.line_input.specs.Reading.{lineLimit, lineReading, reception, bad, frontOf, lineOf, bytesIn}
@@ -22,12 +22,14 @@ use Rattle.line_input.specs.Private.{CopiedPart}
 use Rattle.line_input.proofs.Long.{fronts-tell}
 use Rattle.line_output.proofs.Pasted.{paste-first, pasted}
 use Rattle.streams.specs.Chunks.{Bounded}
-use Rattle.streams.specs.Collect.{Phase, starting, running, over, nextPhase}
+use Rattle.line_output.specs.Text.{decimalText, rowBehind, badText}
+use Rattle.streams.specs.Collect.{Phase, starting, running, over, nextPhase, phaseText}
 use Rattle.streams.specs.Lines.{Program}
 use Rattle.streams.specs.Buffer.{Fed}
 use Rattle.streams.proofs.Limit.{bounded}
 use Rattle.streams.proofs.Pieces.{in-pieces}
 use Rattle.streams.proofs.Takes.{fed-next}
+use Rattle.collecting.specs.Printed.{printedRow, sentBytes, receptionAt}
 use Rattle.collecting.specs.Session.{Receiver, modelCollector, takenAt}
 use Rattle.collecting.specs.Rows.{timesIn, recordsIn, rowTimes, rowRecords, lineTicks, storedTime, storedRecord}
 use Rattle.collecting.specs.Claims.{RowsInPieces}
@@ -124,6 +126,9 @@ module _ (c : Receiver) (l : List ℕ) where
     pub bad-next : nextPhase modelCollector (running c) l ≡ running c
     bad-next = rw e
 
+    pub bad-text : phaseText modelCollector (running c) l ≡ badText
+    bad-text = rw e
+
     pub bad-times : timesIn (running c) l ≡ []
     bad-times = rw e
 
@@ -133,6 +138,10 @@ module _ (c : Receiver) (l : List ℕ) where
   module _ {t : ℕ} {bs : List ℕ} (o : Outcome) (e : lineReading l ≡ reception t bs) (k : o ≡ takenAt (c .view) t bs) where
     pub said-next : nextPhase modelCollector (running c) l ≡ running (record { setting = c .setting; view = o .next })
     said-next = rw (e, k)
+
+    pub said-text : {time sent : List ℕ} → time ≡ decimalText t → sent ≡ sentBytes (sentFor (c .setting) (o .answer) (receptionAt t bs))
+        → phaseText modelCollector (running c) l ≡ rowBehind time (printedRow (o .answer)) sent
+    said-text f g = rw (e, f, g, k)
 
     pub said-times : timesIn (running c) l ≡ storedTime (o .answer) t bs
     said-times = rw (e, k)

@@ -5,7 +5,7 @@ use mathlib.Core.List.{List, [], _∷_}
 use Prim.Native.Nat.{ℕ, _+_, _-_, _*_, _<_, _≤_}
 use native.Mathlib.Omega.{arith}
 use lib.Dec.{ltb}
-use lib.ListN.{length, take, drop, take-append-drop, length-append, length-drop}
+use lib.ListN.{length, take, drop, take-append-drop, length-append}
 use lib.Seq.{length-sets, length-take-le, take-append-seam, take-append-le}
 use borrow.Author.Tests.{ltb-true, ltb-false}
 use Rattle.bytes.specs.Bytes.{indexOf, slice}
@@ -15,28 +15,27 @@ use Rattle.telegram.specs.Output.{Result, written}
 use Rattle.model.specs.Answer.{Shown}
 use Rattle.model.specs.View as view
 use Rattle.model.specs.View.{View}
-use Rattle.model.specs.Step.{Outcome, sentFor}
+use Rattle.model.specs.Step.{sentFor}
 use Rattle.collector.specs.Admission.{relayedFor, admission}
 use Rattle.collector.proofs.Sending.{relayed-sent}
 use Rattle.line_input.specs.Ascii.{newline, space}
-use Rattle.line_input.specs.Reading.{lineReading, reception, bad}
 use Rattle.line_input.proofs.Pairs.{leading-hex}
 use Rattle.line_input.proofs.Long.{long-time}
 use Rattle.line_input.proofs.Whole.{Said}
 use Rattle.line_output.proofs.ReadBack.{time-back}
-use Rattle.line_output.specs.Text.{decimalText, rowBehind, badText}
+use Rattle.line_output.specs.Text.{decimalText}
 use Rattle.buffers.specs.Printed.{Printed}
 use Rattle.line_output.specs.Longest.{longestNumber}
 use Rattle.streams.specs.Chunks.{feedText}
-use Rattle.streams.specs.Collect.{Phase, running, collect, phaseText, nextPhase}
+use Rattle.streams.specs.Collect.{Phase, collect, phaseText, nextPhase}
 use Rattle.streams.specs.Buffer.{isUnended, Fed}
 use Rattle.streams.proofs.Segments.{open-whole}
 use Rattle.streams.proofs.Limit.{bounded}
 use Rattle.streams.proofs.Takes.{found, fed-none, fed-next}
 use Rattle.collecting.specs.declared.Session.{Session}
 use Rattle.collecting.specs.declared.Progress.{Progress}
-use Rattle.collecting.specs.Printed.{printedRow, sentBytes}
-use Rattle.collecting.specs.Session.{Receiver, modelCollector, takenAt, phaseOf, longestLine, Ran}
+use Rattle.collecting.specs.Printed.{sentBytes}
+use Rattle.collecting.specs.Session.{Receiver, modelCollector, phaseOf, longestLine, Ran}
 
 -- ---- none
 
@@ -70,35 +69,6 @@ one-line s {out} input {n} e h q fits =
 -- the line from `at` on
 abbrev pub lineAt : List ℕ → ℕ → List ℕ
 lineAt input at = take (indexOf newline (drop at input)) (drop at input)
-
--- it has `used` characters with its newline
-module _ {c₀ c : Receiver} {out₀ out out' : List ℕ} {to most r : ℕ} (input : List ℕ) (at used : ℕ)
-    (f : Fed (collect modelCollector) (running c₀) (take at input) out₀ (running c) out to)
-    (h : (indexOf newline (drop at input) < length (drop at input)) × (used ≡ indexOf newline (drop at input) + 1)) (l : at ≤ length input)
-    (fits : r ≤ length out₀) where
-  taken-line : Printed out to (phaseText modelCollector (running c) (lineAt input at)) most out' r
-      → Fed (collect modelCollector) (running c₀) (take (at + used) input) out₀ (nextPhase modelCollector (running c) (lineAt input at)) out' r
-  taken-line q =
-      let k = indexOf newline (drop at input) in
-      let within : at + k < length input = omega (arith, h .0, length-drop at input) in
-      let same : at + k - at ≡ k = omega arith in
-      let end : at + used ≡ at + k + 1 = omega (arith, h .1) in
-      let printed : Printed out to (phaseText modelCollector (running c) (take (at + k - at) (drop at input))) most out' r = rw same q in
-      rw end (rw same at (fed-next (collect modelCollector) (bounded modelCollector) input at (at + k) f refl within l printed fits))
-
-  pub bad-line : lineReading (lineAt input at) ≡ bad → Printed out to badText most out' r
-      → Fed (collect modelCollector) (running c₀) (take (at + used) input) out₀ (running c) out' r
-  bad-line b q =
-      let w : Printed out to (phaseText modelCollector (running c) (lineAt input at)) most out' r = rw b q in
-      rw b at (taken-line w)
-
-  pub reception-line : {t : ℕ} {bs time sent : List ℕ} (o : Outcome) → lineReading (lineAt input at) ≡ reception t bs → o ≡ takenAt (c .view) t bs → time ≡ decimalText t
-      → sent ≡ sentBytes (sentFor (c .setting) (o .answer) (record { bytes = bs; time = t }))
-      → Printed out to (rowBehind time (printedRow (o .answer)) sent) most out' r
-      → Fed (collect modelCollector) (running c₀) (take (at + used) input) out₀ (running (record { setting = c .setting; view = o .next })) out' r
-  reception-line o b k e s q =
-      let w : Printed out to (phaseText modelCollector (running c) (lineAt input at)) most out' r = rw b (rw (s, e, k) at q) in
-      rw k (rw b at (taken-line w))
 
 -- ---- the time of a line is printed as it stands there
 

@@ -336,14 +336,15 @@ pub fn take_rows<'a>(
         let from = at;
         at += l.used;
         left -= 1;
-        let ok = l.ok;
-        if !ok {
-            to = line_output::put_bad(out, to);
+        let said = l.ok;
+        if !said {
+            let behind = line_output::put_bad(out, to);
+            to = behind;
             continue;
         }
         // Behind the time stand a space, two digits for each byte, and the newline.
         let len = l.len;
-        let end = at - (2 * len + 2);
+        let end = at - (2 + 2 * len);
         let done = merging::admit(
             fit,
             times,

@@ -1,6 +1,6 @@
 -- No text of a line is longer than fifteen times the line with its newline: a row without bytes to send has 30 characters beside its time, and one
 -- with bytes to send is of a line with eight bytes at least.
-use mathlib.Core.Path.{_≡_, refl, sym, ap, subst}
+use mathlib.Core.Path.{_≡_, refl, sym, ap}
 use mathlib.Core.Bool.{Bool, true, false, cond}
 use mathlib.Core.List.{List, [], _∷_, _++_}
 use Prim.Native.Nat.{ℕ, suc, _+_, _-_, _*_, _≤_, _<_}

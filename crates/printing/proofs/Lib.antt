@@ -5,3 +5,4 @@ pub mod Chunk
 pub mod Finishing
 pub mod Whole
 pub mod Turning
+pub mod Runs

@@ -11,7 +11,7 @@ use Rattle.buffers.specs.Printed.{Printed}
 use Rattle.buffers.proofs.Stores.{then, take-rest}
 use Rattle.line_input.specs.Reading.{lineLimit}
 use Rattle.streams.specs.Lines.{Program}
-use Rattle.streams.specs.Chunks.{atLineStart, feed, feedText}
+use Rattle.streams.specs.Chunks.{atLineStart}
 use Rattle.streams.specs.Buffer.{Fed}
 use Rattle.streams.proofs.Pieces.{feed-append, text-append}
 

@@ -5,9 +5,9 @@ use mathlib.Core.List.{List, [], _++_, append-assoc, append-nil}
 use Prim.Native.Nat.{ℕ, _+_, _-_, _≤_, _<_, min}
 use native.Mathlib.Omega.{arith}
 use native.Mathlib.Nat.{zero-add}
-use lib.Dec.{eqb, leb}
-use lib.ListN.{length, take, drop, length-append, length-take, length-drop}
-use lib.Seq.{sets, sets-eq, length-sets, take-append-seam, take-append-add, length-take-le}
+use lib.Dec.{eqb}
+use lib.ListN.{length, take, drop, length-append, length-drop}
+use lib.Seq.{sets, sets-eq, length-sets, take-append-seam, length-take-le}
 use borrow.Author.Tests.{le-leb, lt-leb, eqb-true, eqb-false}
 use Rattle.line_input.specs.Reading.{lineLimit}
 use Rattle.buffers.specs.Printed.{Printed}
@@ -52,11 +52,11 @@ pub front-there : (buffer line : List ℕ) {buffer' : List ℕ} {kept : ℕ} →
 front-there buffer line e fits f =
     rw (e, f, sets-eq line buffer 0 (omega arith)) (take-append-seam line (drop (0 + length line) buffer))
 
-or-false : (a b : Bool) → (a || b) ≡ false → a ≡ false
+pub or-false : (a b : Bool) → (a || b) ≡ false → a ≡ false
 or-false true b e = absurd (true≢false e)
 or-false false b e = refl
 
-or-true : (a b : Bool) → (a || b) ≡ true → a ≡ false → b ≡ true
+pub or-true : (a b : Bool) → (a || b) ≡ true → a ≡ false → b ≡ true
 or-true true b e f = absurd (true≢false f)
 or-true false b e f = e
 

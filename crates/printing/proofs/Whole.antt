@@ -1,14 +1,12 @@
 -- A whole input, gone through piece by piece.
-use mathlib.Core.Path.{_≡_, refl, sym, ap, subst, _∙_}
-use mathlib.Core.Bool.{Bool, true, false, cond, _||_}
-use mathlib.Core.List.{List, [], _∷_, _++_, append-assoc, append-nil}
-use Prim.Native.Nat.{ℕ, _+_, _-_, _≤_, _<_, min}
+use mathlib.Core.Path.{_≡_, refl, sym, ap, _∙_}
+use mathlib.Core.Bool.{true}
+use mathlib.Core.List.{List, [], _∷_, _++_, append-nil}
+use Prim.Native.Nat.{ℕ, _+_, _≤_}
 use native.Mathlib.Omega.{arith}
-use lib.ListN.{length, take, drop, take-append-drop, length-append, length-take, length-drop}
-use lib.Seq.{sets, take-add, take-all, take-length, take-append-seam, length-take-le}
+use lib.ListN.{length, take, drop, take-append-drop, length-append}
+use lib.Seq.{take-add, take-all}
 use Rattle.line_input.specs.Reading.{lineLimit}
-use Rattle.buffers.specs.Printed.{Printed}
-use Rattle.buffers.proofs.Stores.{then}
 use Rattle.streams.specs.Chunks.{Position, inLine, atLineStart, feed, feedText, feedAll, feedAllText, endText, joined}
 use Rattle.streams.specs.Collect.{Phase, starting, running, over, collect}
 use Rattle.streams.specs.Buffer.{isUnended}
@@ -16,9 +14,9 @@ use Rattle.streams.proofs.Pieces.{feed-append, text-append}
 use Rattle.streams.proofs.Segments.{feed-kept, text-kept}
 use Rattle.streams.proofs.Ended.{stays-ended}
 use Rattle.collecting.specs.Printed.{printedOf}
-use Rattle.collecting.specs.Session.{Receiver, modelCollector, phaseOf}
+use Rattle.collecting.specs.Session.{Receiver, modelCollector}
 use Rattle.collecting.proofs.Printed.{collect-prints}
-use Rattle.printing.specs.Step.{positionAfter, printedFrom, isOver}
+use Rattle.printing.specs.Step.{positionAfter, isOver}
 
 abbrev pub placeAfter : List ℕ → Position (Phase Receiver)
 placeAfter text = positionAfter starting text
@@ -33,19 +31,22 @@ printed-whole input = sym (rw (append-nil input, append-nil (textAfter input)) a
 
 -- ---- one piece more, behind what is kept of a line
 
+module _ (x y : List ℕ) (s : Phase Receiver) (kept : List ℕ) (here : placeAfter x ≡ inLine s kept) (o : isUnended kept ≡ true) (few : length kept ≤ lineLimit) where
+  pub more-stands : placeAfter (x ++ y) ≡ positionAfter s (kept ++ y)
+  more-stands =
+      rw (feed-append (collect modelCollector) lineLimit x y (atLineStart starting), here) (sym (feed-kept (collect modelCollector) lineLimit kept y s o few))
+
+  pub more-printed : textAfter (x ++ y) ≡ textAfter x ++ feedText (collect modelCollector) lineLimit (atLineStart s) (kept ++ y)
+  more-printed =
+      rw (text-append (collect modelCollector) lineLimit x y (atLineStart starting), here) (rw (text-kept (collect modelCollector) lineLimit kept y s o few))
+
 module _ (input : List ℕ) (at n : ℕ) (s : Phase Receiver) (kept : List ℕ) (here : placeAfter (take at input) ≡ inLine s kept) (o : isUnended kept ≡ true) (few : length kept ≤ lineLimit) where
-  abbrev piece : List ℕ
-  piece = take n (drop at input)
+  pub then-stands : placeAfter (take (at + n) input) ≡ positionAfter s (kept ++ take n (drop at input))
+  then-stands = rw (take-add at n input) (more-stands (take at input) (take n (drop at input)) s kept here o few)
 
-  pub then-stands : placeAfter (take (at + n) input) ≡ positionAfter s (kept ++ piece)
-  then-stands =
-      rw (take-add at n input, feed-append (collect modelCollector) lineLimit (take at input) piece (atLineStart starting), here)
-      (sym (feed-kept (collect modelCollector) lineLimit kept piece s o few))
-
-  pub then-printed : textAfter (take (at + n) input) ≡ textAfter (take at input) ++ feedText (collect modelCollector) lineLimit (atLineStart s) (kept ++ piece)
-  then-printed =
-      rw (take-add at n input, text-append (collect modelCollector) lineLimit (take at input) piece (atLineStart starting), here)
-      (rw (text-kept (collect modelCollector) lineLimit kept piece s o few))
+  pub then-printed : textAfter (take (at + n) input)
+      ≡ textAfter (take at input) ++ feedText (collect modelCollector) lineLimit (atLineStart s) (kept ++ take n (drop at input))
+  then-printed = rw (take-add at n input) (more-printed (take at input) (take n (drop at input)) s kept here o few)
 
 -- ---- the end
 

@@ -1,3 +1,4 @@
 pub mod Step
 pub mod Print
+pub mod Claims
 pub mod Private

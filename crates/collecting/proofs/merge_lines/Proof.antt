@@ -28,7 +28,8 @@ use Rattle.streams.proofs.Segments.{open-whole}
 use Rattle.streams.proofs.Limit.{bounded}
 use Rattle.streams.proofs.Takes.{fed-none}
 use Rattle.collecting.specs.Session.{modelCollector, runningAt}
-use Rattle.collecting.proofs.Taking.{lineAt, none-written, open-from-start, bad-line, reception-line, time-room, time-short, time-text, same-length, relayed-bytes}
+use Rattle.collecting.proofs.Taking.{lineAt, none-written, open-from-start, time-room, time-short, time-text, same-length, relayed-bytes}
+use Rattle.collecting.proofs.Storing.{rows-line, bad-next, bad-text, said-next, said-text}
 use Rattle.collecting.proofs.merge_lines.Statement.{statement}
 use Rattle.collecting.proofs.merge_lines.Tie as tie
 
@@ -105,7 +106,8 @@ loop-again c =
       room = omega arith;
       long = omega arith;
       tested = l .loop .inv .tested;
-      fed = bad-line (input l) (l .loop .at) (read e .parse .result .used) (l .loop .inv .fed) (ended e) (l .loop .inv .inside) (omega arith) b w;
+      fed = rows-line (collect modelCollector) (bounded modelCollector) (input l) (l .loop .at) (read e .parse .result .used) (l .loop .inv .fed) (ended e) (l .loop .inv .inside)
+          (omega arith) (bad-text _ _ b) (bad-next _ _ b) w;
     }
 
 -- ---- a reception
@@ -209,14 +211,17 @@ loop-again-2 c =
     let w = rw z at (q .put-answer .ensures) in
     let same = same-length w in
     let spare-out = parsed i .before .before .before .loop-test .taken in
+    let x = admittedOf (columns (a .admit .last .1 .0) (a .admit .last .1 .1 .0) (a .admit .last .1 .1 .1 .0) (a .admit .last .1 .1 .1 .1 .0)) (a .admit .result) in
     record {
       inside = within (passed i);
       room = omega (arith, w .short, same, spare-out);
       long = omega (arith, same, l .loop .inv .long);
       tested = rw (← o) at (tested-next _ (record { bytes = bytes i; time = parsed i .parse .result .time }) (l .loop .inv .tested) small);
-      fed = reception-line (input l) (l .loop .at) (parsed i .parse .result .used) (l .loop .inv .fed) (ended (passed i)) (l .loop .inv .inside) (omega (arith, w .short, same, spare-out, l .loop .inv .long))
-          (admittedOf (columns (a .admit .last .1 .0) (a .admit .last .1 .1 .0) (a .admit .last .1 .1 .1 .0) (a .admit .last .1 .1 .1 .1 .0)) (a .admit .result)) (says i) o (time g)
-          (relayed-bytes _ _ _ (record { bytes = bytes i; time = parsed i .parse .result .time }) _ (ap (λ (x : Outcome). x .answer) (rw z at (a .admit .ensures .outcome)))) w;
+      fed = rows-line (collect modelCollector) (bounded modelCollector) (input l) (l .loop .at) (parsed i .parse .result .used) (l .loop .inv .fed) (ended (passed i)) (l .loop .inv .inside)
+          (omega (arith, w .short, same, spare-out, l .loop .inv .long))
+          (said-text _ _ x (says i) o (time g)
+          (relayed-bytes _ _ _ (record { bytes = bytes i; time = parsed i .parse .result .time }) _ (ap (λ (y : Outcome). y .answer) (rw z at (a .admit .ensures .outcome)))))
+          (said-next _ _ x (says i) o) w;
     }
 
 returns : tie.Need-returns Inv-loop μ-loop

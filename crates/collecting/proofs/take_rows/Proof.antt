@@ -1,22 +1,21 @@
--- `collecting::take_rows` meets its contract. The invariant: the lines up to `at` were taken, what they give stands before `to`, and the test of
--- the state says what it said. The measure is what is left of the input.
+-- `collecting::take_rows` meets its contract. The invariant: the lines up to `at` were taken (`Taken`). The measure is what is left of the input.
 use mathlib.Core.Path.{_≡_, refl, ap, _∙_}
-use mathlib.Core.Bool.{Bool, true}
+use mathlib.Core.Bool.{true}
 use mathlib.Core.List.{List}
 use Prim.Native.Nat.{ℕ, _+_, _-_, _*_, _^_, _<_, _≤_}
 use native.Mathlib.Omega.{arith}
-use native.Mathlib.Nat.{sub-self, zero-add}
+use native.Mathlib.Nat.{zero-add}
 use mathlib.Core.Logic.{⊎-elim}
 use borrow.Author.Needs.{needs}
 use borrow.Author.Tests.{not-true, not-false}
 use denote.Ref.{now}
-use lib.ListN.{length, take, drop, replicate, length-take, length-drop, length-replicate}
+use lib.ListN.{length, take, drop, length-take, length-drop}
 use lib.Seq.{length-take-le}
 use Rattle.bytes.specs.Bytes.{indexOf}
-use Rattle.model.specs.View.{View}
+use Rattle.model.specs.View.{Reception}
 use Rattle.model.specs.Step.{Outcome}
 use Rattle.collector.specs.Collector.{columns, viewIn}
-use Rattle.collector.specs.Admission.{admittedOf, Tested}
+use Rattle.collector.specs.Admission.{admittedOf}
 use Rattle.collector.proofs.Stepping.{admission-fit, tested-next}
 use Rattle.line_input.specs.Ascii.{newline}
 use Rattle.line_input.specs.Reading.{lineReading, reception, frontOf, lineOf, bytesIn}
@@ -25,61 +24,39 @@ use Rattle.line_input.proofs.Whole.{said}
 use Rattle.line_output.specs.Text.{decimalText}
 use Rattle.buffers.proofs.Stores.{take-rest, if-fits}
 use Rattle.streams.specs.Collect.{collect}
-use Rattle.streams.specs.Buffer.{Fed, isUnended}
+use Rattle.streams.specs.Buffer.{isUnended}
 use Rattle.streams.proofs.Segments.{open-whole}
 use Rattle.streams.proofs.Limit.{bounded}
-use Rattle.streams.proofs.Takes.{fed-none}
-use Rattle.collecting.specs.Rows.{rowTimes, rowRecords, lineTicks}
-use Rattle.collecting.proofs.Storing.{printed-none, ticks-bounded, tick, times-bounded, records-bounded, rows-line, bad-next, bad-times, bad-records, said-next, said-times, said-records, said-padded}
-use Rattle.collecting.specs.Session.{modelCollector, runningAt}
-use Rattle.collecting.proofs.Taking.{lineAt, none-written, open-from-start, bad-line, reception-line, time-room, time-short, time-text, same-length, relayed-bytes}
+use Rattle.collecting.proofs.Storing.{bad-text, said-text, said-padded}
+use Rattle.collecting.proofs.Turns.{Taken, none-taken, bad-taken, said-taken}
+use Rattle.collecting.specs.Session.{modelCollector}
+use Rattle.collecting.proofs.Taking.{lineAt, time-room, time-short, time-text, relayed-bytes}
 use Rattle.collecting.proofs.take_rows.Statement.{statement}
 use Rattle.collecting.proofs.take_rows.Tie as tie
 
-record Merging (fit : Bool) (setting : ℕ) (v₀ : View) (input out₀ moments₀ rows₀ : List ℕ) (most : ℕ) (v : View) (out moments rows : List ℕ) (at to n left : ℕ) : Type 0 where
-  inside : at ≤ length input
-  room : to ≤ length out
-  long : length out ≡ length out₀
-  tested : Tested fit v
-  fed : Fed (collect modelCollector) (runningAt setting v₀) (take at input) out₀ (runningAt setting v) out to
-  few : left ≤ most
-  places : n ≤ length moments
-  same-moments : length moments ≡ length moments₀
-  same-rows : length rows ≡ length rows₀
-  sized : length rows₀ ≡ 23 * length moments₀
-  times : Fed rowTimes (runningAt setting v₀) (take at input) moments₀ (runningAt setting v) moments n
-  records : Fed rowRecords (runningAt setting v₀) (take at input) rows₀ (runningAt setting v) rows (23 * n)
-  ticks : Fed lineTicks (runningAt setting v₀) (take at input) (replicate most 0) (runningAt setting v) (replicate most 0) (most - left)
-
 abbrev Inv-loop : tie.InvT-loop
 Inv-loop fit setting times₀ lens₀ entries₀ copies₀ input most out₀ moments₀ rows₀ summary₀ bytes₀ at₀ to₀ n₀ left₀ times lens entries copies out moments rows summary bytes at to n left =
-    Merging fit setting (viewIn (columns times₀ lens₀ entries₀ copies₀) summary₀) input out₀ moments₀ rows₀ most (viewIn (columns times lens entries copies) summary) out moments rows at to n left
+    Taken (collect modelCollector) fit setting input most (viewIn (columns times₀ lens₀ entries₀ copies₀) summary₀) out₀ moments₀ rows₀
+    (viewIn (columns times lens entries copies) summary) out moments rows at to n left
 
 abbrev μ-loop : tie.MeasureT-loop
 μ-loop fit setting times₀ lens₀ entries₀ copies₀ input most out₀ moments₀ rows₀ summary₀ bytes₀ at₀ to₀ n₀ left₀ times lens entries copies out moments rows summary bytes at to n left =
     length input - at
 
 loop-holds : tie.Need-loop-holds Inv-loop μ-loop
-loop-holds c = record {
-  inside = omega arith;
-  room = omega arith;
-  long = refl;
-  tested = c .before .before .before .before .pre .0;
-  fed = fed-none (collect modelCollector) (bounded modelCollector) _ _;
-  few = omega arith;
-  places = omega arith;
-  same-moments = refl;
-  same-rows = refl;
-  sized = c .before .before .before .before .pre .1;
-  times = fed-none rowTimes times-bounded _ _;
-  records = fed-none rowRecords records-bounded _ _;
-  ticks = rw (sub-self (c .before .before .before .before .args .most)) (fed-none lineTicks ticks-bounded _ _);
-}
+loop-holds c =
+    let s = c .before .before .before .before in
+    let a = s .args in
+    none-taken (collect modelCollector) (bounded modelCollector) (now (a .input)) (a .most) (now (a .out)) (s .pre .0) (s .pre .1)
 
 -- ---- the line that was read
 
 abbrev turn : tie.After-parse Inv-loop μ-loop → tie.At-loop Inv-loop μ-loop
 turn p = p .before .before .before .before .before .before
+
+-- one may be taken
+some : (p : tie.After-parse Inv-loop μ-loop) → turn p .loop .left ≡ 0 → ⊥
+some p = p .before .before .before .before .if1 .left
 
 abbrev input : tie.At-loop Inv-loop μ-loop → List ℕ
 input l = now (l .before .before .before .before .before .args .input)
@@ -119,31 +96,9 @@ loop-again c =
     let l = turn (read e) in
     let b = said-bad _ (answer (read e)) (e .if3 .left) (not-true _ (i .if4 .taken)) in
     let test = read e .before .before .before .before .before .loop-test .taken in
-    let inv = l .loop .inv in
     let w = if-fits (omega arith) (q .put-bad .ensures) in
-    let h = within e in
-    let k = ended e .1 in
-    record {
-      inside = h;
-      room = omega arith;
-      long = omega arith;
-      tested = l .loop .inv .tested;
-      fed = bad-line (input l) (l .loop .at) (read e .parse .result .used) (l .loop .inv .fed) (ended e) (l .loop .inv .inside) (omega arith) b w;
-      few = omega arith;
-      places = l .loop .inv .places;
-      same-moments = l .loop .inv .same-moments;
-      same-rows = l .loop .inv .same-rows;
-      sized = l .loop .inv .sized;
-      times =
-          rows-line rowTimes times-bounded (input l) (l .loop .at) (read e .parse .result .used) (l .loop .inv .times) (ended e) (l .loop .inv .inside)
-          (omega (arith, l .loop .inv .places, l .loop .inv .same-moments)) (bad-times _ _ b) (bad-next _ _ b) (printed-none _ (l .loop .n) 0);
-      records =
-          rows-line rowRecords records-bounded (input l) (l .loop .at) (read e .parse .result .used) (l .loop .inv .records) (ended e) (l .loop .inv .inside)
-          (omega (arith, l .loop .inv .places, l .loop .inv .same-moments, l .loop .inv .sized)) (bad-records _ _ b) (bad-next _ _ b) (printed-none _ (23 * l .loop .n) 0);
-      ticks =
-          rows-line lineTicks ticks-bounded (input l) (l .loop .at) (read e .parse .result .used) (l .loop .inv .ticks) (ended e) (l .loop .inv .inside)
-          (simp length-replicate (omega (arith, l .loop .inv .few))) refl (bad-next _ _ b) (tick _ (l .loop .left) (l .loop .inv .few) (read e .before .before .before .before .if1 .left));
-    }
+    bad-taken (collect modelCollector) (bounded modelCollector) (λ s x. refl) (input l) (l .loop .inv) (read e .parse .result .used) (ended e) (some (read e)) b (bad-text _ _ b) w
+    (omega (arith, w .short, test))
 
 -- ---- a reception
 
@@ -195,13 +150,13 @@ abbrev reading : tie.After-put-answer-arg Inv-loop μ-loop → tie.Else4 Inv-loo
 reading c = c .before .before .before .before .before .before .before .before .before .before .before .before .before .before .before .before .before
 
 time : (c : tie.After-put-answer-arg Inv-loop μ-loop)
-    → take (here (reading c) .loop .at + parsed (reading c) .parse .result .used - (2 * parsed (reading c) .parse .result .len + 2) - here (reading c) .loop .at) (rest (reading c))
+    → take (here (reading c) .loop .at + parsed (reading c) .parse .result .used - (2 + 2 * parsed (reading c) .parse .result .len) - here (reading c) .loop .at) (rest (reading c))
     ≡ decimalText (parsed (reading c) .parse .result .time)
 time c =
     let i = reading c in
     let e = ended (passed i) in
     let k = indexOf newline (rest i) in
-    let n : here i .loop .at + parsed i .parse .result .used - (2 * parsed i .parse .result .len + 2) - here i .loop .at ≡ k - (2 * length (bytes i) + 1) =
+    let n : here i .loop .at + parsed i .parse .result .used - (2 + 2 * parsed i .parse .result .len) - here i .loop .at ≡ k - (2 * length (bytes i) + 1) =
     omega (arith, e .1, long i, spare i)
     in
     rw n (time-text (rest i) k (omega (arith, e .0)) (said _ (says i)))
@@ -225,7 +180,7 @@ put-answer-requires c κs =
     let i = reading (c .before .before .before) in
     let e = ended (passed i) in
     let k = indexOf newline (rest i) in
-    let n = here i .loop .at + parsed i .parse .result .used - (2 * parsed i .parse .result .len + 2) - here i .loop .at in
+    let n = here i .loop .at + parsed i .parse .result .used - (2 + 2 * parsed i .parse .result .len) - here i .loop .at in
     (omega (arith, length-take n (rest i), e .1, long i, time-short (rest i) k (omega (arith, e .0)) (said _ (says i))), omega arith)
 
 loop-less-2 : tie.Need-loop-less-2 Inv-loop μ-loop
@@ -245,36 +200,13 @@ loop-again-2 c =
     let o = rw z at (a .admit .ensures .outcome ∙ admission-fit _ _ _ (l .loop .inv .tested .said)) in
     let small : parsed i .parse .result .time < 2 ^ 64 = search needs in
     let w = rw z at (q .put-answer .ensures) in
-    let same = same-length w in
     let spare-out = parsed i .before .before .before .before .before .loop-test .taken in
-    let free = parsed i .before .before .before .if2 .left in
-    record {
-      inside = within (passed i);
-      room = omega (arith, w .short, same, spare-out);
-      long = omega (arith, same, l .loop .inv .long);
-      tested = rw (← o) at (tested-next _ (record { bytes = bytes i; time = parsed i .parse .result .time }) (l .loop .inv .tested) small);
-      fed = reception-line (input l) (l .loop .at) (parsed i .parse .result .used) (l .loop .inv .fed) (ended (passed i)) (l .loop .inv .inside) (omega (arith, w .short, same, spare-out, l .loop .inv .long))
-          (admittedOf (columns (a .admit .last .1 .0) (a .admit .last .1 .1 .0) (a .admit .last .1 .1 .1 .0) (a .admit .last .1 .1 .1 .1 .0)) (a .admit .result)) (says i) o (time g)
-          (relayed-bytes _ _ _ (record { bytes = bytes i; time = parsed i .parse .result .time }) _ (ap (λ (x : Outcome). x .answer) (rw z at (a .admit .ensures .outcome)))) w;
-      few = omega arith;
-      places = omega (arith, d .0 .short, same-length (d .0), free);
-      same-moments = same-length (d .0) ∙ l .loop .inv .same-moments;
-      same-rows = same-length (d .1) ∙ l .loop .inv .same-rows;
-      sized = l .loop .inv .sized;
-      times =
-          rows-line rowTimes times-bounded (input l) (l .loop .at) (parsed i .parse .result .used) (l .loop .inv .times) (ended (passed i)) (l .loop .inv .inside)
-          (omega (arith, d .0 .short, free, l .loop .inv .same-moments)) (said-times _ _ (admittedOf (columns (a .admit .last .1 .0) (a .admit .last .1 .1 .0) (a .admit .last .1 .1 .1 .0) (a .admit .last .1 .1 .1 .1 .0)) (a .admit .result)) (says i) o)
-          (said-next _ _ (admittedOf (columns (a .admit .last .1 .0) (a .admit .last .1 .1 .0) (a .admit .last .1 .1 .1 .0) (a .admit .last .1 .1 .1 .1 .0)) (a .admit .result)) (says i) o) (d .0);
-      records =
-          rows-line rowRecords records-bounded (input l) (l .loop .at) (parsed i .parse .result .used) (l .loop .inv .records) (ended (passed i)) (l .loop .inv .inside)
-          (omega (arith, d .0 .short, free, l .loop .inv .same-moments, l .loop .inv .sized)) (said-records _ _ (admittedOf (columns (a .admit .last .1 .0) (a .admit .last .1 .1 .0) (a .admit .last .1 .1 .1 .0) (a .admit .last .1 .1 .1 .1 .0)) (a .admit .result)) (says i) o)
-          (said-next _ _ (admittedOf (columns (a .admit .last .1 .0) (a .admit .last .1 .1 .0) (a .admit .last .1 .1 .1 .0) (a .admit .last .1 .1 .1 .1 .0)) (a .admit .result)) (says i) o) (d .1);
-      ticks =
-          rows-line lineTicks ticks-bounded (input l) (l .loop .at) (parsed i .parse .result .used) (l .loop .inv .ticks) (ended (passed i)) (l .loop .inv .inside)
-          (simp length-replicate (omega (arith, l .loop .inv .few))) refl
-          (said-next _ _ (admittedOf (columns (a .admit .last .1 .0) (a .admit .last .1 .1 .0) (a .admit .last .1 .1 .1 .0) (a .admit .last .1 .1 .1 .1 .0)) (a .admit .result)) (says i) o)
-          (tick _ (l .loop .left) (l .loop .inv .few) (parsed i .before .before .before .before .if1 .left));
-    }
+    let x = admittedOf (columns (a .admit .last .1 .0) (a .admit .last .1 .1 .0) (a .admit .last .1 .1 .1 .0) (a .admit .last .1 .1 .1 .1 .0)) (a .admit .result) in
+    let r : Reception = record { bytes = bytes i; time = parsed i .parse .result .time } in
+    said-taken (collect modelCollector) (bounded modelCollector) (λ s y. refl) (input l) (l .loop .inv) (parsed i .parse .result .used) (ended (passed i)) (some (parsed i)) x (says i) o
+    (rw (← o) at (tested-next _ r (l .loop .inv .tested) small))
+    (said-text _ _ x (says i) o (time g) (relayed-bytes _ _ _ r _ (ap (λ (y : Outcome). y .answer) (rw z at (a .admit .ensures .outcome))))) w
+    (omega (arith, w .short, spare-out)) (parsed i .before .before .before .if2 .left) (d .0) (d .1)
 
 store-row-requires : tie.Need-store-row-requires Inv-loop μ-loop
 store-row-requires c κs =

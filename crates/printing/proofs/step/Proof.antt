@@ -1,5 +1,4 @@
 -- `printing::step` meets its contract: it takes all of the buffer at most.
-use native.Mathlib.Omega.{arith}
 use borrow.Author.Needs.{needs}
 use Rattle.printing.proofs.step.Statement.{statement}
 use Rattle.printing.proofs.step.Tie as tie

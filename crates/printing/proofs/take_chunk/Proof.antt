@@ -1,24 +1,13 @@
 -- `printing::take_chunk` meets its contract: what is left of the chunk is kept, and at the end it is one more line.
-use mathlib.Core.Path.{_≡_, refl, sym, ap, _∙_}
-use mathlib.Core.Bool.{true, false}
-use mathlib.Core.List.{List, append-nil}
+use mathlib.Core.Path.{_≡_}
+use mathlib.Core.List.{List}
 use Prim.Native.Nat.{ℕ, _+_, _-_, _≤_}
 use native.Mathlib.Omega.{arith}
 use lib.ListN.{length, take, drop, length-take, length-drop}
-use lib.Seq.{length-take-le}
 use borrow.Author.Needs.{needs}
-use borrow.Author.Tests.{not-true, not-false}
 use denote.Ref.{now}
-use Rattle.line_input.specs.Reading.{lineLimit}
-use Rattle.buffers.specs.Printed.{Printed}
-use Rattle.buffers.proofs.Stores.{then}
-use Rattle.streams.specs.Chunks.{Position}
-use Rattle.streams.specs.Collect.{Phase}
-use Rattle.collecting.specs.Session.{Receiver, phaseOf}
-use Rattle.printing.specs.Step.{capacity}
+use Rattle.collecting.specs.Session.{phaseOf}
 use Rattle.printing.specs.Private.{Drained}
-use Rattle.printing.proofs.Parts.{put-part}
-use Rattle.printing.proofs.Bound.{printed-bound}
 use Rattle.printing.proofs.Chunk.{keptOf, kept-count, kept-few, kept-fits, kept-front, kept-open, room-left, stepped, ended}
 use Rattle.printing.proofs.take_chunk.Statement.{statement}
 use Rattle.printing.proofs.take_chunk.Tie as tie

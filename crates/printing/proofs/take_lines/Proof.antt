@@ -1,19 +1,15 @@
 -- `printing::take_lines` meets its contract. The invariant: the lines of the first `at` characters were taken, and what they give stands before `to`.
 -- The measure is what is left of the input.
-use mathlib.Core.Path.{_≡_, refl, sym, ap, _∙_}
-use mathlib.Core.Bool.{true}
+use mathlib.Core.Path.{_≡_, refl, _∙_}
 use mathlib.Core.List.{List}
-use Prim.Native.Nat.{ℕ, _+_, _-_, _*_, _≤_}
+use Prim.Native.Nat.{ℕ, _+_, _-_, _≤_}
 use native.Mathlib.Omega.{arith}
-use native.Mathlib.Nat.{add-zero}
 use lib.ListN.{length, take, drop, length-take, length-drop}
 use lib.Seq.{length-take-le}
 use borrow.Author.Needs.{needs}
 use borrow.Rule.Slice.PartMut.{putMid, same-len-mid}
 use denote.Ref.{now}
-use Rattle.line_input.specs.Reading.{lineLimit}
 use Rattle.buffers.proofs.Stores.{take-rest}
-use Rattle.streams.specs.Chunks.{atLineStart, feedText}
 use Rattle.streams.specs.Collect.{collect}
 use Rattle.streams.specs.Buffer.{Fed}
 use Rattle.streams.proofs.Limit.{bounded}
@@ -21,7 +17,6 @@ use Rattle.streams.proofs.Takes.{fed-none}
 use Rattle.collecting.specs.declared.Session.{Session}
 use Rattle.collecting.specs.Session.{modelCollector, phaseOf, Ran}
 use Rattle.collecting.proofs.Taking.{none-written}
-use Rattle.printing.specs.Step.{chunk, capacity}
 use Rattle.printing.proofs.Parts.{more-fed}
 use Rattle.printing.proofs.Bound.{printed-bound}
 use Rattle.printing.proofs.Draining.{none-left}

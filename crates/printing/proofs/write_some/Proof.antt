@@ -1,13 +1,12 @@
 -- `printing::write_some` meets its contract.
-use mathlib.Core.Path.{_≡_, sym, _∙_}
+use mathlib.Core.Path.{_≡_}
 use Prim.Native.Nat.{_-_}
 use native.Mathlib.Omega.{arith}
-use lib.ListN.{length, take, drop}
-use lib.Seq.{length-take-le, take-length}
+use lib.ListN.{take}
+use lib.Seq.{length-take-le}
 use borrow.Author.Needs.{needs}
 use borrow.Author.Tests.{not-true, not-false}
 use denote.Ref.{now}
-use Rattle.buffers.proofs.Stores.{take-rest}
 use Rattle.printing.proofs.Parts.{copied-sets}
 use Rattle.printing.proofs.write_some.Statement.{statement}
 use Rattle.printing.proofs.write_some.Tie as tie
