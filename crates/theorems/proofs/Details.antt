@@ -27,6 +27,7 @@ use Rattle.line_output.proofs.ReadBack as line_output
 use Rattle.streams.proofs.Pieces as streams_pieces
 use Rattle.streams.proofs.Limit as streams_limit
 use Rattle.streams.proofs.Ended as streams_ended
+use Rattle.collecting.proofs.Printed as collecting_printed
 use Rattle.collecting.proofs.Storing as collecting
 use Rattle.archived.proofs.Archived as archived
 use Rattle.archive_model.proofs.Claims as archive_model_claims
@@ -141,6 +142,7 @@ lines = record {
   cuts-change-nothing = streams_pieces.in-pieces;
   collect-cuts-change-nothing = streams_limit.collected-in-pieces;
   wrong-start-is-silent = streams_ended.stays-ended;
+  text-follows-model = collecting_printed.collect-prints;
   row-cuts-change-nothing = collecting.rows-in-pieces;
   later-rows-follow-model = archived.lines-archived;
   records-are-sized = archived.records-sized;

@@ -10,8 +10,9 @@ use Rattle.histories.proofs.Claims as histories
 use Rattle.model.proofs.Latest as model_latest
 use Rattle.model.proofs.Counting as model_counting
 use Rattle.model.proofs.Image as model_image
-use Rattle.collecting.proofs.Printed as collecting
+use Rattle.printing.proofs.Runs as printing
 use Rattle.archived.proofs.Archived as archived
+use Rattle.archived.proofs.Runs as archived_runs
 use Rattle.archive_model.proofs.Claims as archive_model
 use Rattle.repack_model.proofs.Salvage as repack_model_salvage
 use Rattle.repack_model.proofs.Removal as repack_model_removal
@@ -52,8 +53,9 @@ collector = record {
   copies-are-counted = model_counting.numbers-are-answers;
   restore-is-exact = model_image.exact;
   sensors-are-independent = histories.arrays-isolated;
-  output-follows-model = collecting.collect-prints;
+  output-follows-model = printing.runs-print;
   rows-follow-model = archived.log-archived;
+  calls-follow-model = archived_runs.calls-follow;
 }
 
 archives : Archives

@@ -180,6 +180,8 @@ pub record Lines : Type 1 where
   pub collect-cuts-change-nothing : {C : Type 0} (m : Collector C) → streams.CollectedInPieces m
   -- After a wrong first line `collect` writes nothing more.
   pub wrong-start-is-silent : {C : Type 0} (m : Collector C) → streams.StaysEnded m
+  -- The text that is defined as the output of `collect` has the model's answers and totals, however the input is cut into pieces.
+  pub text-follows-model : collecting.CollectPrints
   -- The rows for an archive and the count of lines are the same however the input is cut.
   pub row-cuts-change-nothing : collecting.RowsInPieces
   -- Lines that come after other lines give the model's rows too.

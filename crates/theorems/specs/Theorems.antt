@@ -32,8 +32,9 @@ use Rattle.model.specs.History as model_history
 use Rattle.model.specs.Latest as model_latest
 use Rattle.model.specs.Copies as model_copies
 use Rattle.histories.specs.Claims as histories
-use Rattle.collecting.specs.Claims as collecting
+use Rattle.printing.specs.Claims as printing
 use Rattle.archived.specs.Claims as archived
+use Rattle.archived.specs.Runs as archived_runs
 use Rattle.archive_model.specs.Claims as archive_model
 use Rattle.repack_model.specs.Claims as repack_model
 use Rattle.cutting.specs.Claims as cutting
@@ -86,10 +87,12 @@ pub record Collector : Type 0 where
   pub restore-is-exact : model_exact.Exact
   -- In fewer than 2^64 receptions, none loose and none earlier than the one before, a sensor's answers do not depend on the other sensors.
   pub sensors-are-independent : histories.ArraysIsolated
-  -- The text that is defined as the output of `collect` has the model's answers and totals, however the input is cut into pieces.
-  pub output-follows-model : collecting.CollectPrints
+  -- Whatever pieces its reads give, `collect` writes what the model says of all that was read. The proof uses only the contract of its step.
+  pub output-follows-model : printing.RunsPrint
   -- The rows that a log gives for an archive are the receptions that the model keeps, and the loose ones, in order.
   pub rows-follow-model : archived.LogArchived
+  -- However a log is cut into calls of `lines`, their text and their rows are the model's. The proof uses only the contract of the call.
+  pub calls-follow-model : archived_runs.CallsFollow
 
 -- ---- archives, and reports of the totals in archives
 
