@@ -1,11 +1,9 @@
 -- `c_lines::lines` meets its contract: a case for each answer.
 use mathlib.Core.Path.{_≡_, refl, sym, subst, _∙_}
 use mathlib.Core.Bool.{true, false}
-use Prim.Native.Nat.{ℕ}
 use native.Mathlib.Omega.{arith}
 use borrow.Author.Tests.{not-true, not-false, lt-ltb, le-ltb, eqb-true}
 use denote.Ref.{now}
-use lib.Dec.{eqb, ltb}
 use lib.ListN.{length}
 use Rattle.model.specs.Acceptable.{acceptable}
 use Rattle.collector.specs.declared.Summary.{Summary}
