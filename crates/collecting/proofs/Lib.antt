@@ -3,3 +3,4 @@ pub mod Printed
 pub mod Storing
 pub mod Turns
 pub mod Formatting
+pub mod PrintedIn

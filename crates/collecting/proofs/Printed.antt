@@ -38,7 +38,7 @@ time-small s e =
     let t = both (ltb 0 (length s) && not (hasLeadingZero s)) (isNumber s) e in
     ltb-true (decimalOf s) (2 ^ 64) (both (all isDigit s) (ltb (decimalOf s) (2 ^ 64)) (t .1) .1)
 
-said-small : (l : List ℕ) {t : ℕ} {bs : List ℕ} → lineReading l ≡ reception t bs → t < 2 ^ 64
+pub said-small : (l : List ℕ) {t : ℕ} {bs : List ℕ} → lineReading l ≡ reception t bs → t < 2 ^ 64
 said-small l e = let w = said l e in rw (w .saysTime) at (time-small (w .digits) (w .isTimely))
 
 -- ---- the lines after the first

@@ -4,6 +4,7 @@ use mathlib.Core.List.{List, []}
 use Rattle.erp1.specs.Status.{splitOf}
 use Rattle.erp1.specs.Subtelegram.{maxLength, isValid}
 use Rattle.telegram.specs.Fields.{readOf}
+use Rattle.model.specs.declared.Totals.{Totals}
 use Rattle.line_input.specs.declared.Setting.{Setting}
 use Rattle.line_input.specs.Hex.{maxBytes}
 use Rattle.line_input.specs.Reading.{Reading, reception, bad, settingOf, lineReading}
@@ -14,6 +15,7 @@ use Rattle.line_output.specs.Longest.{longestNumber}
 use Rattle.line_output.specs.Formats.{rowIn, badIn, headingIn, longestRowIn}
 use Rattle.streams.specs.Lines.{Program}
 use Rattle.streams.specs.Collect.{Phase, starting, running, over, nextPhase}
+use Rattle.collecting.specs.Printed.{totalsLine}
 use Rattle.collecting.specs.Session.{Receiver, modelCollector}
 
 -- where a telegram came from, as reading answers it (document 01, "Subtelegram"); of a damaged one nothing is known,
@@ -42,14 +44,14 @@ module _ (f : Format) where
   textIn over l = []
 
 -- the totals stand at the end of a text alone
-abbrev pub totalsIn : Format → Receiver → List ℕ
-totalsIn Format.Text c = modelCollector .totals c
-totalsIn Format.Csv c = []
-totalsIn Format.Json c = []
+abbrev pub totalsIn : Format → Totals → List ℕ
+totalsIn Format.Text n = totalsLine n
+totalsIn Format.Csv n = []
+totalsIn Format.Json n = []
 
 abbrev pub endIn : Format → Phase Receiver → List ℕ
 endIn f starting = badIn f
-endIn f (running c) = totalsIn f c
+endIn f (running c) = totalsIn f (c .view .totals)
 endIn f over = []
 
 -- the run: a program over the same lines as `collect`, so that what is known of texts in pieces holds of it

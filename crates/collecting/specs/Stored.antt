@@ -5,28 +5,21 @@ use mathlib.Core.List.{List}
 use Prim.Native.Nat.{ℕ, _+_, _*_, _≤_, _<_}
 use lib.ListN.{length, take, drop}
 use Rattle.line_input.specs.Reading.{lineLimit}
-use Rattle.streams.specs.Lines.{Program}
 use Rattle.streams.specs.Chunks.{atLineStart, feedText}
 use Rattle.streams.specs.Collect.{Phase, collect}
 use Rattle.streams.specs.Buffer.{isUnended, Fed}
 use Rattle.collecting.specs.Session.{Receiver, modelCollector, longestLine}
 use Rattle.collecting.specs.Rows.{rowTimes, rowRecords, lineTicks}
 
--- Whole lines of the input, of `used` characters, were taken from phase s on to s'. What they give by the program p
--- stands at the front of the output, the times of their rows and the records of these at the front of the two other
--- buffers; where fewer were taken than may be, though a further text of the longest kind and a row would fit, no
--- further line has ended.
-pub record StoredIn (p : Program (Phase Receiver)) (longest : ℕ) (s : Phase Receiver) (input : List ℕ) (most : ℕ)
-    (out moments rows out' moments' rows' : List ℕ) (s' : Phase Receiver) (used written count lines : ℕ) : Type 0 where
+-- Whole lines of the input, of `used` characters, were taken from phase s on to s'. What they give stands at the front of the output, the times of their
+-- rows and the records of these at the front of the two other buffers; where fewer were taken than may be, though a further
+-- text and row would fit, no further line has ended.
+pub record StoredTo (s : Phase Receiver) (input : List ℕ) (most : ℕ) (out moments rows out' moments' rows' : List ℕ) (s' : Phase Receiver) (used written count lines : ℕ)
+    : Type 0 where
   pub within : used ≤ length input
-  pub text : Fed p s (take used input) out s' out' written
+  pub text : Fed (collect modelCollector) s (take used input) out s' out' written
   pub times : Fed rowTimes s (take used input) moments s' moments' count
   pub records : Fed rowRecords s (take used input) rows s' rows' (23 * count)
   pub ticks : lines ≡ length (feedText lineTicks lineLimit (atLineStart s) (take used input))
   pub few : lines ≤ most
-  pub rest : lines < most → count < length moments → written + longest ≤ length out → isUnended (drop used input) ≡ true
-
--- the text as `collect` prints it
-abbrev pub StoredTo : (s : Phase Receiver) (input : List ℕ) (most : ℕ) (out moments rows out' moments' rows' : List ℕ)
-    (s' : Phase Receiver) (used written count lines : ℕ) → Type 0
-StoredTo = StoredIn (collect modelCollector) longestLine
+  pub rest : lines < most → count < length moments → written + longestLine ≤ length out → isUnended (drop used input) ≡ true

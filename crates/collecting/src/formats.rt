@@ -1,5 +1,4 @@
-// A run whose rows are printed in a format, with the rows that an archive keeps.
-use crate::Stored;
+// A run whose rows are printed in a format, with the rows that an archive keeps and what closes.
 use collector::Collector;
 use collector::Summary;
 use collector::merging;
@@ -10,6 +9,8 @@ use line_output::formats::Source;
 use model::Answer;
 use telegram::fields;
 ghost use mathlib.Core.Path.{_≡_};
+ghost use mathlib.Core.Bool.{true, cond};
+ghost use mathlib.Core.List.{[]};
 ghost use Prim.Native.Nat.{_+_, _*_, _≤_};
 ghost use lib.Dec.{eqb};
 ghost use lib.ListN.{length};
@@ -22,16 +23,28 @@ ghost use Rattle.line_output.specs.Longest.{longestNumber};
 ghost use Rattle.buffers.specs.Printed.{Printed};
 ghost use Rattle.collecting.specs.Printed.{printedRow};
 ghost use Rattle.collecting.specs.Session.{runningAt};
-ghost use Rattle.collecting.specs.Formats.{sourceOf, collectIn, longestLineIn};
-ghost use Rattle.collecting.specs.Stored.{StoredIn};
+ghost use Rattle.closings.specs.Cells.{closedCells};
+ghost use Rattle.collecting.specs.Formats.{sourceOf, longestLineIn};
+ghost use Rattle.collecting.specs.Heard.{isAsked, hasRoom, HeardIn};
 
 // The longest text of one line in any format: a row of 64 bytes that sends 21.
 pub const LONGEST: usize = line_output::LONGEST_NUMBER
     + formats::LONGEST_ROW
     + 2 * (line_input::MAX_BYTES + Collector::MAX_LEN);
 
-// Takes lines as `take_rows` does, and writes their rows in a format: in a loop of its own, since a format that is
-// looked up for each row would cost the text 32 instructions a line.
+// What a run of lines leaves: the summary of the state, how many bytes of the input they are, how many were written, the rows
+// that an archive keeps, the lines and the telegrams that they close.
+pub struct Noted {
+    pub summary: Summary,
+    pub used: usize,
+    pub written: usize,
+    pub rows: usize,
+    pub lines: usize,
+    pub closings: usize,
+}
+
+// Takes lines as `take_rows` does, and writes their rows in a format, and what they close, where `closed` has any length: in a
+// loop of its own, since a format that is looked up for each row would cost the text 32 instructions a line.
 pub fn take_rows_as<'a>(
     fit: bool,
     setting: u8,
@@ -46,29 +59,34 @@ pub fn take_rows_as<'a>(
     out: &'a mut [u8],
     moments: &'a mut [u64],
     rows: &'a mut [u8],
-) -> Stored
+    closed: &'a mut [u8],
+) -> Noted
     requires { ⌜ Tested fit (viewIn (columns (now times) (now lens) (now entries) (now copies)) summary)
         × (length (now rows) ≡ 23 * length (now moments)) ⌝ }
-    ensures { λ r. ⌜ StoredIn (collectIn format) longestLineIn
+    ensures { λ r. ⌜ HeardIn format
         (runningAt setting (viewIn
         (columns (now (times .entry)) (now (lens .entry)) (now (entries .entry)) (now (copies .entry))) summary))
-        (now (input .entry)) most (now (out .entry)) (now (moments .entry)) (now (rows .entry))
-        (now (out .exit)) (now (moments .exit)) (now (rows .exit))
+        (now (input .entry)) most (now (out .entry)) (now (moments .entry)) (now (rows .entry)) (now (closed .entry))
+        (now (out .exit)) (now (moments .exit)) (now (rows .exit)) (now (closed .exit))
         (runningAt setting (viewIn
         (columns (now (times .exit)) (now (lens .exit)) (now (entries .exit)) (now (copies .exit))) (r .summary)))
-        (r .used) (r .written) (r .rows) (r .lines) ⌝ }
+        (r .used) (r .written) (r .rows) (r .lines) (r .closings) ⌝ }
 {
     let mut summary = summary;
     let mut bytes = [0u8; line_input::MAX_BYTES];
     let mut at = 0;
     let mut to = 0;
     let mut n = 0;
+    let mut k = 0;
     let mut left = most;
     while LONGEST <= out.len() - to {
         if left == 0 {
             break;
         }
         if moments.len() <= n {
+            break;
+        }
+        if !has_room(closed.len(), k) {
             break;
         }
         let l = line_input::parse(&input[at..], &mut bytes);
@@ -86,6 +104,18 @@ pub fn take_rows_as<'a>(
         // Behind the time stand a space, two digits for each byte, and the newline.
         let len = l.len;
         let end = at - (2 * len + 2);
+        k = put_closed(
+            fit,
+            times,
+            lens,
+            entries,
+            copies,
+            summary,
+            &bytes[0..len],
+            l.time,
+            closed,
+            k,
+        );
         let done = merging::admit(
             fit,
             times,
@@ -109,13 +139,69 @@ pub fn take_rows_as<'a>(
             &bytes[0..len],
         );
     }
-    Stored {
+    Noted {
         summary: summary,
         used: at,
         written: to,
         rows: n,
         lines: most - left,
+        closings: k,
     }
+}
+
+// Whether what one line more may close fits behind k places.
+fn has_room(long: usize, k: usize) -> bool
+    ensures { λ r. ⌜ r ≡ hasRoom long k ⌝ }
+{
+    if long == 0 {
+        return true;
+    }
+    if long < closings::LONGEST {
+        return false;
+    }
+    if (long - closings::LONGEST) / closings::LENGTH < k {
+        return false;
+    }
+    true
+}
+
+// Writes what a reception closes, where it is asked for.
+fn put_closed<'a>(
+    fit: bool,
+    times: &'a [u64; Collector::CAPACITY],
+    lens: &'a [u8; Collector::CAPACITY],
+    entries: &'a [u8; Collector::CAPACITY * Collector::MAX_LEN],
+    copies: &'a [u16; Collector::CAPACITY],
+    summary: Summary,
+    bytes: &'a [u8],
+    time: u64,
+    closed: &'a mut [u8],
+    k: usize,
+) -> usize
+    requires { ⌜ Tested fit (viewIn (columns (now times) (now lens) (now entries) (now copies)) summary)
+        × (hasRoom (length (now closed)) k ≡ true) ⌝ }
+    ensures { λ r. ⌜ Printed (now (closed .entry)) (32 * k)
+        (cond (isAsked (now (closed .entry)))
+        (closedCells
+        (viewIn (columns (now (times .entry)) (now (lens .entry)) (now (entries .entry)) (now (copies .entry))) summary)
+        (record { bytes = now (bytes .entry); time = time })) [])
+        2048 (now (closed .exit)) (32 * r) ⌝ }
+{
+    if closed.len() == 0 {
+        return k;
+    }
+    closings::put_closings(
+        fit,
+        times,
+        lens,
+        entries,
+        copies,
+        summary,
+        bytes,
+        time,
+        closed,
+        k,
+    )
 }
 
 // The row of a reception behind the text of its time, with what is sent for it at the setting and where it came from.

@@ -1,7 +1,7 @@
 -- `collecting::formats::take_rows_as` meets its contract. The invariant: the lines up to `at` were taken (`Taken`). The measure is what is left of
 -- the input.
-use mathlib.Core.Path.{_≡_, refl, ap, _∙_}
-use mathlib.Core.Bool.{true}
+use mathlib.Core.Path.{_≡_, refl, sym, ap, _∙_}
+use mathlib.Core.Bool.{Bool, true, false≢true}
 use mathlib.Core.List.{List}
 use Prim.Native.Nat.{ℕ, _+_, _-_, _*_, _^_, _<_, _≤_}
 use native.Mathlib.Omega.{arith}
@@ -14,53 +14,67 @@ use lib.Seq.{length-take-le}
 use Rattle.bytes.specs.Bytes.{indexOf}
 use Rattle.model.specs.Step.{Outcome}
 use Rattle.collector.specs.Collector.{columns, viewIn}
-use Rattle.collector.specs.Admission.{admittedOf}
+use Rattle.collector.specs.Admission.{relayedFor, admission, admittedOf}
 use Rattle.collector.proofs.Stepping.{admission-fit, tested-next}
 use Rattle.line_input.specs.Ascii.{newline}
 use Rattle.line_input.specs.Reading.{lineReading, reception, frontOf, lineOf, bytesIn}
 use Rattle.line_input.proofs.Answers.{len-fits, bytes-fill, said-open, said-ended, said-bad, said-reception}
 use Rattle.line_input.proofs.Whole.{said}
 use Rattle.line_output.specs.Text.{decimalText}
+use Rattle.line_output.specs.Formats.{rowIn}
 use Rattle.line_output.specs.declared.formats.Format.{Format}
 use Rattle.buffers.proofs.Stores.{take-rest, if-fits}
 use Rattle.streams.specs.Buffer.{isUnended}
 use Rattle.streams.proofs.Segments.{open-whole}
-use Rattle.collecting.specs.Printed.{receptionAt}
-use Rattle.collecting.specs.Formats.{collectIn}
+use Rattle.collecting.specs.Printed.{printedRow, receptionAt}
+use Rattle.closings.specs.Cells.{closedCells}
+use Rattle.collecting.specs.Formats.{sourceOf, collectIn}
+use Rattle.collecting.specs.Heard.{isAsked, hasRoom}
 use Rattle.collecting.proofs.Storing.{said-padded}
 use Rattle.collecting.proofs.Taking.{lineAt, time-room, time-short, time-text, relayed-bytes}
 use Rattle.collecting.proofs.Formatting.{format-bounded, bad-text, said-text}
-use Rattle.collecting.proofs.Turns.{Taken, none-taken, bad-taken, said-taken}
+use Rattle.collecting.proofs.Turns.{Taken, none-taken, bad-taken, said-taken, room-left, asked-same}
 use borrow.Author.Needs.{needs}
 use Rattle.collecting.proofs.formats.take_rows_as.Statement.{statement}
 use Rattle.collecting.proofs.formats.take_rows_as.Tie as tie
 
 abbrev Inv-loop : tie.InvT-loop
-Inv-loop fit setting format times₀ lens₀ entries₀ copies₀ input most out₀ moments₀ rows₀ summary₀ bytes₀ at₀ to₀ n₀ left₀
-    times lens entries copies out moments rows summary bytes at to n left =
-    Taken (collectIn format) fit setting input most (viewIn (columns times₀ lens₀ entries₀ copies₀) summary₀) out₀ moments₀ rows₀
-    (viewIn (columns times lens entries copies) summary) out moments rows at to n left
+Inv-loop fit setting format times₀ lens₀ entries₀ copies₀ input most out₀ moments₀ rows₀ closed₀ summary₀ bytes₀ at₀ to₀ n₀
+    k₀ left₀ times lens entries copies out moments rows closed summary bytes at to n k left =
+    Taken (collectIn format) (isAsked closed₀) fit setting input most
+    (viewIn (columns times₀ lens₀ entries₀ copies₀) summary₀) out₀ moments₀ rows₀ closed₀
+    (viewIn (columns times lens entries copies) summary) out moments rows closed at to n k left
 
 abbrev μ-loop : tie.MeasureT-loop
-μ-loop fit setting format times₀ lens₀ entries₀ copies₀ input most out₀ moments₀ rows₀ summary₀ bytes₀ at₀ to₀ n₀ left₀
-    times lens entries copies out moments rows summary bytes at to n left =
+μ-loop fit setting format times₀ lens₀ entries₀ copies₀ input most out₀ moments₀ rows₀ closed₀ summary₀ bytes₀ at₀ to₀ n₀
+    k₀ left₀ times lens entries copies out moments rows closed summary bytes at to n k left =
     length input - at
 
-abbrev entry : tie.After-slice-known3 Inv-loop μ-loop → tie.Start Inv-loop μ-loop
-entry c =
+abbrev opening : tie.After-slice-known4 Inv-loop μ-loop → tie.After-shared-slice-known Inv-loop μ-loop
+opening c =
     let k = c .before .before .before in
     k .before
+
+abbrev entry : tie.After-slice-known4 Inv-loop μ-loop → tie.Start Inv-loop μ-loop
+entry c = opening c .before
+
+input-fits : (k : tie.After-shared-slice-known Inv-loop μ-loop) → length (now (k .before .args .input)) < 2 ^ 64
+input-fits k = search needs
 
 loop-holds : tie.Need-loop-holds Inv-loop μ-loop
 loop-holds c =
     let s = entry c in
     let a = s .args in
-    none-taken (collectIn (a .format)) (format-bounded (a .format)) (now (a .input)) (a .most) (now (a .out)) (s .pre .0) (s .pre .1)
+    none-taken (collectIn (a .format)) (format-bounded (a .format)) (isAsked (now (a .closed))) (now (a .input)) (a .most)
+    (now (a .out)) (s .pre .0) (s .pre .1)
 
 -- ---- the line that was read
 
+abbrev roomy : tie.After-parse Inv-loop μ-loop → tie.Else3 Inv-loop μ-loop
+roomy p = p .before .before .before
+
 abbrev free : tie.After-parse Inv-loop μ-loop → tie.Else2 Inv-loop μ-loop
-free p = p .before .before .before
+free p = roomy p .before .before
 
 abbrev turn : tie.After-parse Inv-loop μ-loop → tie.At-loop Inv-loop μ-loop
 turn p = free p .before .before .before
@@ -68,11 +82,18 @@ turn p = free p .before .before .before
 abbrev input : tie.At-loop Inv-loop μ-loop → List ℕ
 input l = now (entry (l .before) .args .input)
 
+abbrev asked : tie.At-loop Inv-loop μ-loop → Bool
+asked l = isAsked (now (entry (l .before) .args .closed))
+
 abbrev format : tie.At-loop Inv-loop μ-loop → Format
 format l = entry (l .before) .args .format
 
 some : (p : tie.After-parse Inv-loop μ-loop) → turn p .loop .left ≡ 0 → ⊥
 some p = free p .before .if1 .left
+
+-- what it closes fits
+fitting : (p : tie.After-parse Inv-loop μ-loop) → hasRoom (length (turn p .loop .closed)) (turn p .loop .k) ≡ true
+fitting p = sym (roomy p .before .has-room .ensures) ∙ not-false _ (roomy p .if3 .left)
 
 answer : (p : tie.After-parse Inv-loop μ-loop)
     → (p .parse .result ≡ lineOf (frontOf (drop (turn p .loop .at) (input (turn p)))))
@@ -80,28 +101,30 @@ answer : (p : tie.After-parse Inv-loop μ-loop)
 answer p = rw (take-rest (input (turn p)) (length (input (turn p))) (turn p .loop .at) refl) at (p .parse .ensures)
 
 -- it has ended
-abbrev read : tie.Else3 Inv-loop μ-loop → tie.After-parse Inv-loop μ-loop
+abbrev read : tie.Else4 Inv-loop μ-loop → tie.After-parse Inv-loop μ-loop
 read e = e .before .before
 
 small : (k : tie.After-struct-known Inv-loop μ-loop) → k .before .parse .result .time < 2 ^ 64
 small k = search needs
 
-ended : (e : tie.Else3 Inv-loop μ-loop)
+ended : (e : tie.Else4 Inv-loop μ-loop)
     → (let d = drop (turn (read e) .loop .at) (input (turn (read e))) in
     (indexOf newline d < length d) × (read e .parse .result .used ≡ indexOf newline d + 1))
-ended e = said-ended _ (answer (read e)) (e .if3 .left)
+ended e = said-ended _ (answer (read e)) (e .if4 .left)
 
-within : (e : tie.Else3 Inv-loop μ-loop) → turn (read e) .loop .at + read e .parse .result .used ≤ length (input (turn (read e)))
+within : (e : tie.Else4 Inv-loop μ-loop) → turn (read e) .loop .at + read e .parse .result .used ≤ length (input (turn (read e)))
 within e =
     let l = turn (read e) in
     omega (arith, ended e .0, ended e .1, length-drop (l .loop .at) (input l), l .loop .inv .inside)
 
 add-at : tie.Need-add-at Inv-loop μ-loop
-add-at c = let h = within (c .before) in omega arith
+add-at c =
+    let e = c .before in
+    omega (arith, within e, input-fits (opening (turn (read e) .before)))
 
 -- ---- a BAD one
 
-abbrev wrong : tie.After-put-bad Inv-loop μ-loop → tie.Then4 Inv-loop μ-loop
+abbrev wrong : tie.After-put-bad Inv-loop μ-loop → tie.Then5 Inv-loop μ-loop
 wrong q = q .before .before
 
 loop-less : tie.Need-loop-less Inv-loop μ-loop
@@ -114,40 +137,40 @@ loop-again c =
     let e = i .before .before in
     let p = read e in
     let l = turn p in
-    let b = said-bad _ (answer p) (e .if3 .left) (not-true _ (i .if4 .taken)) in
+    let b = said-bad _ (answer p) (e .if4 .left) (not-true _ (i .if5 .taken)) in
     let test = free p .before .before .loop-test .taken in
     let w = if-fits (omega arith) (q .put-bad .ensures) in
-    bad-taken (collectIn (format l)) (format-bounded (format l)) (λ s x. refl) (input l) (l .loop .inv) (p .parse .result .used)
-    (ended e) (some p) b (bad-text (format l) _ _ b) w (omega (arith, w .short, test))
+    bad-taken (collectIn (format l)) (format-bounded (format l)) (asked l) (λ s x. refl) (input l) (l .loop .inv)
+    (p .parse .result .used) (ended e) (some p) b (bad-text (format l) _ _ b) w (omega (arith, w .short, test))
 
 -- ---- a reception
 
-abbrev passed : tie.Else4 Inv-loop μ-loop → tie.Else3 Inv-loop μ-loop
+abbrev passed : tie.Else5 Inv-loop μ-loop → tie.Else4 Inv-loop μ-loop
 passed c = c .before .before
 
-abbrev parsed : tie.Else4 Inv-loop μ-loop → tie.After-parse Inv-loop μ-loop
+abbrev parsed : tie.Else5 Inv-loop μ-loop → tie.After-parse Inv-loop μ-loop
 parsed c = read (passed c)
 
-abbrev here : tie.Else4 Inv-loop μ-loop → tie.At-loop Inv-loop μ-loop
+abbrev here : tie.Else5 Inv-loop μ-loop → tie.At-loop Inv-loop μ-loop
 here c = turn (parsed c)
 
-abbrev rest : tie.Else4 Inv-loop μ-loop → List ℕ
+abbrev rest : tie.Else5 Inv-loop μ-loop → List ℕ
 rest c = drop (here c .loop .at) (input (here c))
 
-abbrev bytes : tie.Else4 Inv-loop μ-loop → List ℕ
+abbrev bytes : tie.Else5 Inv-loop μ-loop → List ℕ
 bytes c = take (parsed c .parse .result .len) (parsed c .parse .last .1 .0)
 
-says : (c : tie.Else4 Inv-loop μ-loop)
+says : (c : tie.Else5 Inv-loop μ-loop)
     → lineReading (lineAt (input (here c)) (here c .loop .at)) ≡ reception (parsed c .parse .result .time) (bytes c)
-says c = said-reception _ (answer (parsed c)) (not-false _ (c .if4 .left))
+says c = said-reception _ (answer (parsed c)) (not-false _ (c .if5 .left))
 
-long : (c : tie.Else4 Inv-loop μ-loop) → length (bytes c) ≡ parsed c .parse .result .len
+long : (c : tie.Else5 Inv-loop μ-loop) → length (bytes c) ≡ parsed c .parse .result .len
 long c = length-take-le _ _ (len-fits _ (answer (parsed c)))
 
-few : (c : tie.Else4 Inv-loop μ-loop) → parsed c .parse .result .len ≤ 64
+few : (c : tie.Else5 Inv-loop μ-loop) → parsed c .parse .result .len ≤ 64
 few c = omega (arith, len-fits _ (answer (parsed c)), bytes-fill _ (answer (parsed c)))
 
-spare : (c : tie.Else4 Inv-loop μ-loop) → 2 * parsed c .parse .result .len + 2 ≤ parsed c .parse .result .used
+spare : (c : tie.Else5 Inv-loop μ-loop) → 2 * parsed c .parse .result .len + 2 ≤ parsed c .parse .result .used
 spare c =
     let e = ended (passed c) in
     omega (arith, e .1, long c, time-room (rest c) (indexOf newline (rest c)) (omega (arith, e .0)) (said _ (says c)))
@@ -161,21 +184,42 @@ add-end c = let h = few c in omega arith
 sub-end : tie.Need-sub-end Inv-loop μ-loop
 sub-end c = omega (arith, spare c)
 
+part-put-closed-end : tie.Need-part-put-closed-end Inv-loop μ-loop
+part-put-closed-end c =
+    let a = c .before .before .before in
+    omega (arith, len-fits _ (answer (parsed (a .before .before))))
+
+abbrev lent : tie.After-put-closed-arg6 Inv-loop μ-loop → tie.Else5 Inv-loop μ-loop
+lent c =
+    let a = c .before .before .before in
+    let b = a .before .before .before in
+    b .before
+
+put-closed-requires : tie.Need-put-closed-requires Inv-loop μ-loop
+put-closed-requires c κs =
+    let p = parsed (lent c) in
+    (turn p .loop .inv .tested, fitting p)
+
+abbrev closing : tie.After-admit-arg Inv-loop μ-loop → tie.After-put-closed Inv-loop μ-loop
+closing c = c .before .before .before
+
 part-admit-end : tie.Need-part-admit-end Inv-loop μ-loop
 part-admit-end c =
     let a = c .before .before .before in
-    omega (arith, len-fits _ (answer (parsed (a .before .before))))
+    omega (arith, len-fits _ (answer (parsed (lent (closing (a .before) .before)))))
 
 abbrev admitted : tie.After-store-row Inv-loop μ-loop → tie.After-admit Inv-loop μ-loop
 admitted c =
     let a = c .before .before .before in
     a .before .before
 
-abbrev told : tie.After-admit Inv-loop μ-loop → tie.Else4 Inv-loop μ-loop
-told c =
+abbrev closer : tie.After-admit Inv-loop μ-loop → tie.After-put-closed Inv-loop μ-loop
+closer c =
     let a = c .before .before .before in
-    let b = a .before .before .before in
-    b .before
+    closing (a .before .before .before)
+
+abbrev told : tie.After-admit Inv-loop μ-loop → tie.Else5 Inv-loop μ-loop
+told c = lent (closer c .before)
 
 store-row-requires : tie.Need-store-row-requires Inv-loop μ-loop
 store-row-requires c κs =
@@ -185,7 +229,7 @@ store-row-requires c κs =
     let h = free (parsed i) .if2 .left in (
       omega (arith, h),
       omega (arith, h, l .loop .inv .same-moments, l .loop .inv .same-rows, l .loop .inv .sized),
-      said-padded _ (answer (parsed i)) (not-false _ (i .if4 .left)),
+      said-padded _ (answer (parsed i)) (not-false _ (i .if5 .left)),
       few i,
     )
 
@@ -195,10 +239,10 @@ stored c =
     let a = c .before .before .before in
     a .before .before
 
-abbrev reading : tie.After-put-answer-arg Inv-loop μ-loop → tie.Else4 Inv-loop μ-loop
+abbrev reading : tie.After-put-answer-arg Inv-loop μ-loop → tie.Else5 Inv-loop μ-loop
 reading c = told (admitted (stored c))
 
-time : (c : tie.Else4 Inv-loop μ-loop)
+time : (c : tie.Else5 Inv-loop μ-loop)
     → (let at = here c .loop .at in let n = parsed c .parse .result in
     take (at + n .used - (2 * n .len + 2) - at) (rest c) ≡ decimalText (n .time))
 time c =
@@ -234,7 +278,7 @@ put-answer-requires c κs =
       omega arith,
     )
 
-abbrev answered : tie.After-slice-known7 Inv-loop μ-loop → tie.After-put-answer-arg Inv-loop μ-loop
+abbrev answered : tie.After-slice-known9 Inv-loop μ-loop → tie.After-put-answer-arg Inv-loop μ-loop
 answered c =
     let q = c .before .before .before in
     q .before .before .before
@@ -253,43 +297,54 @@ loop-again-2 c =
     let p = parsed i in
     let l = here i in
     let r = p .parse .result in
-    let z : r .len - 0 ≡ r .len = omega arith in
-    let told-outcome = rw z at (a .admit .ensures .outcome) in
-    let o = told-outcome ∙ admission-fit _ _ _ (l .loop .inv .tested .said) in
-    let w = rw z at (q .put-answer .ensures) in
+    let s = entry (l .before) .args in
+    let heard = p .parse .last .1 .0 in
+    let v = viewIn (columns (l .loop .times) (l .loop .lens) (l .loop .entries) (l .loop .copies)) (l .loop .summary) in
     let x = receptionAt (r .time) (bytes i) in
+    -- what is lent ends at its length less 0
+    let z : r .len - 0 ≡ r .len = omega arith in
+    let outcomes : ℕ → Outcome = λ m. admission (s .fit) v (receptionAt (r .time) (take m heard)) in
+    let outcome = a .admit .ensures .outcome ∙ ap outcomes z in
+    let o = outcome ∙ admission-fit _ _ _ (l .loop .inv .tested .said) in
     let last = a .admit .last .1 in
     let next = admittedOf (columns (last .0) (last .1 .0) (last .1 .1 .0) (last .1 .1 .1 .0)) (a .admit .result) in
-    let sent = relayed-bytes _ _ _ x _ (ap (λ (y : Outcome). y .answer) told-outcome) in
+    let sent = relayed-bytes (s .setting) (s .fit) v x (next .answer) (ap (λ (y : Outcome). y .answer) outcome) in
+    let moment = take (l .loop .at + r .used - (2 * r .len + 2) - l .loop .at) (rest i) in
+    let texts : ℕ → List ℕ = λ m.
+    rowIn (format l) moment (printedRow (next .answer)) (take m heard) (relayedFor (s .setting) (next .answer) (take m heard))
+    (sourceOf (take m heard)) in
+    let text = said-text (format l) _ _ next (says i) o (time i) sent ∙ sym (ap texts z) in
+    let w = q .put-answer .ensures in
     let test = free p .before .before .loop-test .taken in
-    said-taken (collectIn (format l)) (format-bounded (format l)) (λ s y. refl) (input l) (l .loop .inv) (r .used) (ended (passed i)) (some p)
-    next (says i) o (rw (← o) at (tested-next _ x (l .loop .inv .tested) (small (passed i .before))))
-    (said-text (format l) _ _ next (says i) o (time i) sent) w (omega (arith, w .short, test))
+    let cells : ℕ → List ℕ = λ m. closedCells v (receptionAt (r .time) (take m heard)) in
+    let closes = closer a .put-closed .ensures in
+    let inv = l .loop .inv in
+    let left = room-left (l .loop .k) (closer a .put-closed .result) (cells (r .len - 0)) (fitting p) (inv .spare) closes in
+    said-taken (collectIn (format l)) (format-bounded (format l)) (asked l) (λ s y. refl) (input l) inv (r .used)
+    (ended (passed i)) (some p) next (says i) o (rw (← o) at (tested-next _ x (inv .tested) (small (passed i .before))))
+    text w (omega (arith, w .short, test))
     (omega (arith, free p .if2 .left)) (g .store-row .ensures .0) (g .store-row .ensures .1)
+    (asked-same (cells (r .len - 0)) (cells (r .len)) (now (s .closed)) (ap cells z) (inv .same-closed) closes) left
 
 -- ---- the end
 
 ended-there : (c : tie.Left-loop Inv-loop μ-loop)
     → (let l = c .before .loop in let s = entry (c .before .before) .args in
     s .most - l .left < s .most → l .n < length (now (s .moments)) → l .to + 333 ≤ length (now (s .out))
-    → isUnended (drop (l .at) (now (s .input))) ≡ true)
-ended-there c x y z =
+    → hasRoom (length (now (s .closed))) (l .k) ≡ true → isUnended (drop (l .at) (now (s .input))) ≡ true)
+ended-there c x y z r =
     let i = c .before .loop .inv in
     ⊎-elim (λ w. absurd (omega (arith, w .left, i .long)))
     (⊎-elim (λ w. absurd (omega (arith, w .1 .taken)))
     (⊎-elim (λ w. absurd (omega (arith, w .2 .taken, i .same-moments)))
+    (⊎-elim (λ w. absurd (false≢true (sym (not-true _ (w .4 .taken)) ∙ w .3 .ensures ∙ rw (i .same-closed) r)))
     (λ w.
-    let p : tie.After-parse Inv-loop μ-loop = record {
-      before = record {
-        before = record {
-          before = record { before = record { before = record { before = c .before; loop-test = w .0 }; if1 = w .1 }; if2 = w .2 };
-          parse-arg = w .3;
-        };
-        bytes = w .4;
-      };
-      parse = w .5;
-    } in
-    open-whole (drop (c .before .loop .at) (input (c .before))) (said-open _ (answer p) (w .7 .taken)))))
+    let f : tie.Else2 Inv-loop μ-loop =
+    record { before = record { before = record { before = c .before; loop-test = w .0 }; if1 = w .1 }; if2 = w .2 } in
+    let e : tie.Else3 Inv-loop μ-loop = record { before = record { before = f; has-room = w .3 }; if3 = w .4 } in
+    let p : tie.After-parse Inv-loop μ-loop =
+    record { before = record { before = record { before = e; parse-arg = w .5 }; bytes = w .6 }; parse = w .7 } in
+    open-whole (drop (c .before .loop .at) (input (c .before))) (said-open _ (answer p) (w .9 .taken))))))
     (c .loop-test .came)
 
 returns : tie.Need-returns Inv-loop μ-loop
@@ -300,9 +355,10 @@ returns c =
       text = l .fed;
       times = l .times;
       records = l .records;
+      closes = l .closes;
       ticks = l .ticks .output .next ∙ zero-add _;
       few = omega arith;
-      rest = λ x y z. ended-there c x y z;
+      rest = λ x y z r. ended-there c x y z r;
     }
 
 pub take-rows-as-spec : {M : Type 1} → statement M
@@ -313,6 +369,7 @@ take-rows-as-spec =
     μ-loop
     loop-holds
     (λ c. search needs)
+    (λ c κs. search needs)
     (λ c. search needs)
     (λ c. search needs)
     (λ c. search needs)
@@ -327,6 +384,10 @@ take-rows-as-spec =
     sub-end
     (λ c. search needs)
     (λ c. search needs)
+    part-put-closed-end
+    put-closed-requires
+    (λ c. search needs)
+    (λ c. search needs)
     part-admit-end
     (λ c κs. search needs)
     store-row-requires
@@ -339,6 +400,7 @@ take-rows-as-spec =
     put-answer-requires
     loop-less-2
     loop-again-2
+    (λ c. search needs)
     (λ c. search needs)
     (λ c. search needs)
     (λ c. search needs)
