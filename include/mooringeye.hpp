@@ -232,7 +232,7 @@ public:
 
     // Whole lines from the start of a text, at most `most`: what `collect` prints for them, and the rows.
     taken_lines lines(uint8_t setting, bytes input, size_t most) {
-        size_t places = std::min(most, input.size() / 3 + 1); // a line has three bytes at least
+        size_t places = std::min(most, input.size() / 3 + 1); // what makes a row has more than three bytes
         taken_lines taken{0, std::string(places * MOORINGEYE_LONGEST_ROW, '\0'), std::vector<uint64_t>(places),
                           std::vector<mooringeye_row>(places), 0};
         uint64_t told[MOORINGEYE_LINES_DONE];

@@ -115,7 +115,16 @@ fn no_block_number_is_used_twice() {
         assert_eq!(after, numbers);
         let mut length = 7;
         assert_eq!(raw::pack_end(&numbers, &waiting, &mut out, &mut length), end, "{numbers:?}");
-        assert_eq!(length, if end == 11 { 7 } else if numbers[0] == 0 { 0 } else { BLOCK });
+        assert_eq!(
+            length,
+            if end == 11 {
+                7
+            } else if numbers[0] == 0 {
+                0
+            } else {
+                BLOCK
+            }
+        );
     }
     assert_eq!(count, 0);
 }
