@@ -52,6 +52,7 @@ use Rattle.rows_model.proofs.Again as rows_again
 use Rattle.rows_model.proofs.Recovered as rows_recovered
 use Rattle.rows_model.proofs.Closings as rows_closings
 use Rattle.rows_model.proofs.Example as rows_example
+use Rattle.journal.proofs.Claims as journal_calls
 use Rattle.journal_model.proofs.Alone as journal_alone
 use Rattle.journal_model.proofs.Any as journal_any
 use Rattle.journal_model.proofs.Claims as journal_claims
@@ -62,6 +63,8 @@ use Rattle.journal_model.proofs.Sound as journal_sound
 use Rattle.journal_model.proofs.TakenIn as journal_taken
 use Rattle.journal_model.proofs.Untouched as journal_untouched
 use Rattle.journal_model.proofs.Whole as journal_whole
+use Rattle.state_file.proofs.Claims as state_file
+use Rattle.state_file.proofs.Modelled as state_modelled
 use Rattle.theorems.specs.Details.{Telegrams, SlotPlans, Model, Code, Records, Lines, Rows, Journal, Archives, Reports, Details}
 
 telegrams : Telegrams
@@ -187,6 +190,13 @@ journal = record {
   live-destroys-nothing = journal_taken.live-destroys-nothing;
   rows-are-given-again = journal_alone.rows-alone;
   leftovers-are-taken-in = journal_taken.all-taken-in;
+  blocks-are-judged = journal_calls.judged-right;
+  scans-count-the-run = journal_calls.run-counts;
+  scans-go-by-pieces = journal_calls.run-joins;
+  scans-are-held = journal_calls.run-back;
+  states-read-back = state_file.state-read;
+  states-are-exact = state_file.state-written;
+  states-are-modelled = state_modelled.state-modelled;
 }
 
 archives : Archives

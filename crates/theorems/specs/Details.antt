@@ -44,6 +44,8 @@ use Rattle.rows_model.specs.Recovered as rows_recovered
 use Rattle.rows_model.specs.Closings as rows_closings
 use Rattle.rows_model.specs.Example as rows_example
 use Rattle.journal_model.specs.Claims as journal_model
+use Rattle.journal.specs.Claims as journal_calls
+use Rattle.state_file.specs.Claims as state_file
 
 -- ---- telegrams
 
@@ -262,6 +264,20 @@ pub record Journal : Type 0 where
   pub rows-are-given-again : journal_model.RowsAlone
   -- So leftovers of lines that were on their way are all taken in.
   pub leftovers-are-taken-in : journal_model.AllTakenIn
+  -- The judgement on the last counted block refuses what the model refuses, and else leaves the block that the model goes on from.
+  pub blocks-are-judged : journal_calls.Judged
+  -- A scan counts the rows and blocks that the model finds from a block on.
+  pub scans-count-the-run : journal_calls.RunCounts
+  -- Blocks that are scanned in two pieces leave what they leave in one.
+  pub scans-go-by-pieces : journal_calls.RunJoins
+  -- The five numbers of a scan hold it.
+  pub scans-are-held : journal_calls.RunBack
+  -- A lawful state that is written is accepted, and reads back as it was.
+  pub states-read-back : state_file.StateRead
+  -- An accepted state file is lawful, and is byte for byte what is written of it.
+  pub states-are-exact : state_file.StateWritten
+  -- A lawful state with one archive file is a state of the model: its copy of the last block is one that the tool writes.
+  pub states-are-modelled : state_file.StateModelled
 
 -- ---- archives
 
