@@ -31,7 +31,7 @@ pub fn reception(line: &[u8]) -> Option<(u64, Vec<u8>)> {
     (bytes.len() <= MOST).then_some((time, bytes))
 }
 
-fn setting(line: Option<&[u8]>) -> Option<u8> {
+pub fn setting(line: Option<&[u8]>) -> Option<u8> {
     match line? {
         b"level 0" => Some(0),
         b"level 1" => Some(1),

@@ -23,7 +23,7 @@ pub struct Entry {
 
 /// Time opened (8), length (1), bytes as first received (21, zero filled), and in "the last two
 /// bytes" the number of copies (document 02, A8).
-fn write_entry(entry: &Entry) -> Vec<u8> {
+pub fn write_entry(entry: &Entry) -> Vec<u8> {
     let mut out = entry.time.to_be_bytes().to_vec();
     out.push(entry.bytes.len() as u8);
     out.extend(entry.bytes.iter().take(LONGEST));

@@ -41,6 +41,7 @@ mod isolation;
 mod repack_faults;
 #[cfg(test)]
 mod report_faults;
+mod rows;
 #[cfg(test)]
 mod sameness;
 
@@ -56,13 +57,10 @@ fn main() {
         ["rules", "stdout"] => rules::stdout().into_bytes(),
         ["site", "stdin"] => site::stdin().into_bytes(),
         ["site", "stdout"] => site::stdout().into_bytes(),
-        ["collect", "stdout"] => {
-            let mut input = Vec::new();
-            std::io::stdin()
-                .read_to_end(&mut input)
-                .expect("standard input");
-            collect::run(&input).into_bytes()
-        }
+        ["collect", "stdout"] => collect::run(&input()).into_bytes(),
+        ["rows", "csv"] => rows::as_csv(&input()).into_bytes(),
+        ["rows", "json"] => rows::as_json(&input()).into_bytes(),
+        ["closings", "stdout"] => rows::closings(&input()),
         ["sample", "stdout"] => sample::plant().into_bytes(),
         ["inputs", name, "stdin"] => inputs::stdin(name).unwrap_or_else(usage),
         ["inputs", "names"] => (inputs::NAMES.join("\n") + "\n").into_bytes(),
@@ -82,9 +80,19 @@ fn main() {
     std::io::stdout().write_all(&text).expect("standard output");
 }
 
+/// All of standard input.
+fn input() -> Vec<u8> {
+    let mut input = Vec::new();
+    std::io::stdin()
+        .read_to_end(&mut input)
+        .expect("standard input");
+    input
+}
+
 fn usage<T>() -> T {
     eprintln!("reference archive|codec|erp2|history|long|site stdin|stdout,");
-    eprintln!("reference slots|rules|collect|sample stdout,");
+    eprintln!("reference slots|rules|collect|sample|closings stdout,");
+    eprintln!("reference rows csv|json,");
     eprintln!("reference inputs names|stdout,");
     eprintln!(
         "reference inputs NAME stdin, NAME one of {}",
