@@ -1,4 +1,6 @@
 // Lines of text taken by a collector in five lent arrays, with their rows as text and as an archive keeps them, as other languages call it.
+pub mod formats;
+
 use c_collector::BYTES;
 use c_collector::CAPACITY;
 use c_collector::NUMBERS;
