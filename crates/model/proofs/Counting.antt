@@ -25,7 +25,8 @@ use Rattle.model.specs.Heard.{copiesIn}
 use Rattle.model.specs.Reference.{Logged, answers, totalsOf, isOpenCopy, keptOf, openAt, isBehind, latestOf, answerTo, logOf, modelView, heardBy}
 use Rattle.model.specs.Copies.{copyAnswers, NumbersAreAnswers, EachCountedOnce, closedOf, HeardIsAnswers, BelowCeiling, AnyNumber}
 use Rattle.model.proofs.Copies.{noEntry, length-credit, credit-at, cap-small}
-use Rattle.model.proofs.Latest.{inTime, ordered}
+use Rattle.model.proofs.Latest.{ordered}
+use Rattle.model.specs.Several.{inTime}
 
 -- ---- a credit
 

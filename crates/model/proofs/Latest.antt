@@ -19,12 +19,10 @@ use Rattle.model.specs.View.{Reception, Entry, opened, txMaturity, isOpe
 use Rattle.model.specs.Acceptable.{isEcho, isCopyOf}
 use Rattle.model.specs.Step.{maxCount}
 use Rattle.model.specs.Reference.{Logged, answers, isOpenCopy, keptOf, openAt, isBehind, latestOf, answerTo, logOf}
+use Rattle.model.specs.Several.{inTime}
 use Rattle.model.specs.Latest.{lastOf, latestSame, LatestDecides, CreditsLatest, LatestCredited}
 use Rattle.model.proofs.Copies.{all-credit, pairwise-credit}
 use Rattle.model.proofs.Simulation.{behind-latest}
-
-abbrev pub inTime : Entry → Entry → Bool
-inTime e later = leb (e .time) (later .time)
 
 -- ---- a list in order
 
@@ -49,7 +47,7 @@ later-echo r e later h = go (not (eqb (levelOf (r .bytes)) 0))
     go true k = refl
     go false k = le-leb (r .time - later .time) txMaturity (omega (arith, leb-true (r .time - e .time) txMaturity k, leb-true (e .time) (later .time) h))
 
-by-the-latest : (r : Reception) (l : List Entry) → pairwise inTime l ≡ true → any (λ e. isCopyOf e r) l ≡ any (λ e. isEcho e r) (latestSame l r)
+pub by-the-latest : (r : Reception) (l : List Entry) → pairwise inTime l ≡ true → any (λ e. isCopyOf e r) l ≡ any (λ e. isEcho e r) (latestSame l r)
 unfolding isCopyOf
 by-the-latest r l s =
     any-and (λ e. isSame (e .bytes) (r .bytes)) (λ e. isEcho e r) l

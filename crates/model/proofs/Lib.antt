@@ -9,6 +9,7 @@ pub mod Division
 pub mod States
 pub mod Returns
 pub mod Latest
+pub mod Several
 pub mod Counting
 pub mod Isolation
 pub mod Struck

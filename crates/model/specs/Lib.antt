@@ -12,5 +12,6 @@ pub mod History
 pub mod Division
 pub mod States
 pub mod Latest
+pub mod Several
 pub mod Copies
 pub mod Isolation

@@ -32,7 +32,8 @@ use Rattle.model.proofs.Simulation.{behind-latest, open-before, same-step, good
 use Rattle.model.proofs.Theorem.{burst-after, burst-good, taken-timely, fresh-model}
 use Rattle.model.proofs.States.{past-joined, left-model}
 use Rattle.model.proofs.Struck.{bare}
-use Rattle.model.proofs.Latest.{inTime, ordered}
+use Rattle.model.proofs.Latest.{ordered}
+use Rattle.model.specs.Several.{inTime}
 use Rattle.model.proofs.Counting.{open-later, numbers-are-answers}
 use Rattle.rows_model.specs.Closings.{closedAt, closedBy, closings, keptReceptions, ClosedOnce, closedFrom, closingsFrom, EachOnce, ViewsClosedOnce}
 use Rattle.rows_model.specs.Closings.{closingsOf, StatesClosedOnce}

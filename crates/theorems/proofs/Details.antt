@@ -9,6 +9,7 @@ use Rattle.timing.proofs.Lawful as timing_lawful
 use Rattle.timing.proofs.Laws as timing_laws
 use Rattle.site.proofs.Named as site
 use Rattle.model.proofs.Latest as model_latest
+use Rattle.model.proofs.Several as model_several
 use Rattle.model.proofs.Counting as model_counting
 use Rattle.model.proofs.Division as model_division
 use Rattle.model.proofs.Isolation as model_isolation
@@ -98,6 +99,7 @@ slotPlans = record {
 model : Model
 model = record {
   latest-is-credited = model_latest.latest-credited;
+  several-entries-are-apart = model_several.several-entries;
   copies-count-once = model_counting.each-counted-once;
   asked-copies-are-answers = model_counting.heard-is-answers;
   below-limit-is-exact = model_counting.below-ceiling;

@@ -12,6 +12,7 @@ use Rattle.site.specs.declared.Assignment.{Assignment}
 use Rattle.site.specs.Claims as site
 use Rattle.model.specs.View.{View}
 use Rattle.model.specs.Latest as model_latest
+use Rattle.model.specs.Several as model_several
 use Rattle.model.specs.Copies as model_copies
 use Rattle.model.specs.Division as model_division
 use Rattle.model.specs.Isolation as model_isolation
@@ -100,6 +101,8 @@ pub record SlotPlans : Type 0 where
 pub record Model : Type 0 where
   -- A copy is counted for the latest open telegram that is the same, and for no other.
   pub latest-is-credited : model_latest.LatestCredited
+  -- A restore accepts several entries of one telegram just where each was opened more than 40 ms after the one before and has level 0.
+  pub several-entries-are-apart : model_several.SeveralEntries
   -- Each copy is counted for one telegram: the numbers of copies sum to the total of copies.
   pub copies-count-once : model_copies.EachCountedOnce
   -- Asked for the copies of an open telegram, the model answers how many copies of it were received, and at most 65,535.
