@@ -592,6 +592,48 @@ static inline uint8_t mooringeye_end_packer(const mooringeye_packer *packer, uin
     return mooringeye_pack_end(packer->numbers, packer->waiting, out, out_size, out_length);
 }
 
+/* ---- the journal of `mooringeye collect`: its state file, and what a start and a batch decide */
+
+enum {
+    MOORINGEYE_STATE_NUMBERS = 14,
+    MOORINGEYE_STATE_NAME = 255, /* bytes of the archive's name, zero filled */
+    MOORINGEYE_STATE_TAIL = 512, /* bytes of the log before the offset, zero filled */
+    MOORINGEYE_STATE = 4096,     /* bytes of a state file */
+    MOORINGEYE_RUN_NUMBERS = 5
+};
+
+/* Writes a state file. `numbers` are lines taken; rows that were counted when the archive's file began, rows that it
+ * had then, its number; the length of its name; 1 where the place in the log is known, its offset, device, inode, and
+ * how many bytes are kept of it; 1 where rows go to a file too, its length, device, inode. `last` is a copy of the block
+ * with the last row that is counted. Refused: 11 a state that is not lawful (docs/FORMATS.md). */
+uint8_t mooringeye_state_write(const uint64_t numbers[MOORINGEYE_STATE_NUMBERS],
+                               const uint8_t name[MOORINGEYE_STATE_NAME], const uint8_t last[MOORINGEYE_BLOCK],
+                               const uint8_t image[MOORINGEYE_IMAGE], const uint8_t tail[MOORINGEYE_STATE_TAIL],
+                               uint8_t out[MOORINGEYE_STATE]);
+
+/* Reads a state file, of 4,096 bytes or, in version 1, of 3,584. Refused: 16 another size, 11 a file that is not byte
+ * for byte what is written of a lawful state. */
+uint8_t mooringeye_state_accept(const uint8_t *bytes, size_t size, uint64_t numbers[MOORINGEYE_STATE_NUMBERS],
+                                uint8_t name[MOORINGEYE_STATE_NAME], uint8_t last[MOORINGEYE_BLOCK],
+                                uint8_t image[MOORINGEYE_IMAGE], uint8_t tail[MOORINGEYE_STATE_TAIL]);
+
+/* What stands in the block with the last row that a state counts: 0 the state's copy `last`, of which `rows` rows are
+ * counted; 1 that with more rows behind; 2 a write that was torn: put `last` there; 3 another archive's block. */
+uint8_t mooringeye_journal_judge(const uint8_t *last, size_t last_size, size_t rows, const uint8_t *block,
+                                 size_t block_size);
+
+/* Compares rows that come with leftovers, each a time and 23 bytes, as mooringeye_archive_put_rows takes them. `agreed`
+ * is how many agree, from the first on; `going` how many leftovers, the last ones, are put aside: 0 where all that come
+ * agree. Refused: 16 rows that are not 23 bytes for each time. */
+uint8_t mooringeye_journal_compare(const uint64_t *times, size_t times_length, const uint8_t *rows, size_t rows_size,
+                                   const uint64_t *moments, size_t moments_length, const uint8_t *left,
+                                   size_t left_size, size_t *agreed, size_t *going);
+
+/* The next piece of the blocks from the one with the last counted row on. `numbers` are the blocks of a file, the number
+ * that the next block must have, the blocks that belong to the archive so far, their rows, and 1 where a block does not
+ * belong to it. Refused: 11 numbers that no blocks give, 16 a piece that isn't whole blocks or more than 2^32 of them. */
+uint8_t mooringeye_journal_scan(uint64_t numbers[MOORINGEYE_RUN_NUMBERS], const uint8_t *piece, size_t size);
+
 /* ---- reports over archives */
 
 enum {

@@ -21,6 +21,8 @@ static mooringeye_report reports[REPORTS];
 static mooringeye_adding addings[REPORTS];
 static mooringeye_scan scanned;
 static mooringeye_packer packing;
+static uint64_t running[MOORINGEYE_RUN_NUMBERS];
+static size_t judged; /* rows that are counted of a block */
 static uint8_t archive[ARCHIVE];
 static size_t archive_rows;
 
@@ -131,6 +133,8 @@ static void start_over(void) {
     if (once_in(300)) make_reports();
     if (once_in(20)) mooringeye_start_scan(&scanned);
     if (once_in(20)) mooringeye_start_packer(&packing);
+    if (once_in(20)) memset(running, 0, sizeof running), running[0] = once_in(2) ? 1 + choose(4) : (uint64_t)1 << 32;
+    judged = choose(17);
     if (once_in(20)) mooringeye_start_adding(&addings[report], &reports[report]);
 }
 
@@ -168,6 +172,7 @@ static uint64_t number_of(const struct export *e, size_t i) {
     if (is(p->name, "time")) return time_now();
     if (is(p->name, "index")) return choose(20);
     if (is(p->name, "rows") && is(e->name, "mooringeye_archive_cut_block")) return choose(17);
+    if (is(p->name, "rows") && is(e->name, "mooringeye_journal_judge")) return judged;
     if (is(p->name, "rows")) return once_in(6) ? choose(150) : archive_rows;
     if (is(p->name, "received")) return choose(400);
     return any_number() & most;
@@ -201,7 +206,9 @@ static size_t length_of(const struct export *e, size_t i) {
     if (is(name, "out")) return out_size(e, i);
     if (is(e->name, "mooringeye_erp2_read") && is(name, "bytes")) return about(erp2_length);
     if (is(name, "buffer")) return once_in(4) ? about(choose(BLOCKS) * MOORINGEYE_BLOCK) : ARCHIVE;
-    if (is(name, "block")) return about(MOORINGEYE_BLOCK);
+    if (is(name, "block") || is(name, "last")) return about(MOORINGEYE_BLOCK);
+    if (is(e->name, "mooringeye_state_accept")) return about(once_in(4) ? 3584 : MOORINGEYE_STATE);
+    if (is(name, "left")) return about(sizes[i - 2] / 8 * sizeof(mooringeye_row));
     if (is(name, "piece")) return about(choose(4) * MOORINGEYE_BLOCK);
     if (is(name, "image")) return about(MOORINGEYE_IMAGE);
     if (is(name, "fields")) return about(fixed_size(e->name));
@@ -238,6 +245,7 @@ static const void *live(const struct export *e, const struct parameter *p) {
         if (is(p->name, "tally")) return addings[report].lines;
     }
     if (starts_with(e->name, "mooringeye_scan_") && is(p->name, "numbers")) return scanned.numbers;
+    if (is(e->name, "mooringeye_journal_scan")) return running;
     if (starts_with(e->name, "mooringeye_pack_")) {
         if (is(p->name, "numbers")) return packing.numbers;
         if (is(p->name, "waiting")) return packing.waiting;
@@ -252,6 +260,7 @@ static void fill_blocks(const struct export *e, const char *name, uint8_t *at, s
     if (is(name, "piece")) {
         bool reports_it = starts_with(e->name, "mooringeye_report_");
         from = (size_t)(reports_it ? addings[report].numbers[0] : scanned.numbers[0]);
+        if (is(e->name, "mooringeye_journal_scan")) from = (size_t)running[2];
     }
     memset(at, 0, size);
     if (from >= BLOCKS) return;
@@ -328,9 +337,29 @@ static void fill_text(uint8_t *at, size_t size) {
     }
 }
 
+/* A state without an archive, or the file of one; of a block the copy that a state has where it counts some of its rows. */
+static void fill_journal(const struct export *e, const char *name, uint8_t *at, size_t size) {
+    static const uint64_t numbers[MOORINGEYE_STATE_NUMBERS];
+    static const uint8_t name_of[MOORINGEYE_STATE_NAME], last[MOORINGEYE_BLOCK], tail[MOORINGEYE_STATE_TAIL];
+    uint8_t image[MOORINGEYE_IMAGE], file[MOORINGEYE_STATE];
+    memset(at, 0, size);
+    if (is(name, "bytes")) {
+        mooringeye_checkpoint(&collector, image, sizeof image);
+        mooringeye_state_write(numbers, name_of, last, image, tail, file);
+        memcpy(at, file, size < sizeof file ? size : sizeof file);
+    } else if (is(e->name, "mooringeye_journal_judge")) {
+        fill_blocks(e, "block", at, size);
+        mooringeye_archive_cut_block(at, size, judged);
+    }
+}
+
 static void fill_known(const struct export *e, const char *name, uint8_t *at, size_t size) {
     if (is(name, "buffer") || is(name, "block") || is(name, "piece")) {
         fill_blocks(e, name, at, size);
+    } else if (is(name, "last") || (starts_with(e->name, "mooringeye_state_") && !is(name, "image"))) {
+        fill_journal(e, name, at, size);
+    } else if (is(name, "left")) {
+        fill_records(true, at, size);
     } else if (is(name, "image")) {
         uint8_t image[MOORINGEYE_IMAGE];
         mooringeye_checkpoint(&collector, image, sizeof image);
@@ -393,6 +422,7 @@ static void keep_material(const struct export *e, uint8_t number) {
     }
     if (number != MOORINGEYE_DONE) return;
     if (is(e->name, "mooringeye_scan_feed")) memcpy(scanned.numbers, arrays[0], sizeof scanned.numbers);
+    if (is(e->name, "mooringeye_journal_scan")) memcpy(running, arrays[0], sizeof running);
     if (is(e->name, "mooringeye_pack_feed")) {
         memcpy(packing.numbers, arrays[0], sizeof packing.numbers);
         memcpy(packing.waiting, arrays[1], sizeof packing.waiting);

@@ -5,6 +5,7 @@ pub mod codec;
 pub mod collector;
 pub mod erp2;
 pub mod plans;
+pub mod plant;
 pub mod report;
 
 use refusal::Refusal;

@@ -30,6 +30,18 @@ pub const LONGEST_ROW: usize = 92;
 pub const LINE_LIMIT: usize = 150;
 /// What lines that were taken are told by: bytes used, bytes of text, rows and lines.
 pub const LINES_DONE: usize = 4;
+/// The bytes of a block of an archive.
+pub const BLOCK: usize = 512;
+/// The numbers of a state file.
+pub const STATE_NUMBERS: usize = 14;
+/// The bytes of the archive's name in a state file.
+pub const STATE_NAME: usize = 255;
+/// The bytes of the log in a state file.
+pub const STATE_TAIL: usize = 512;
+/// The bytes of a state file.
+pub const STATE: usize = 4_096;
+/// The numbers of a run of blocks.
+pub const RUN_NUMBERS: usize = 5;
 /// The numbers of a report beside its lines.
 pub const REPORT_NUMBERS: usize = 4;
 /// The numbers of a line of a report.
@@ -157,6 +169,22 @@ mod c {
         pub fn mooringeye_report_share(numbers: In64, lines: In64, received: u64, thousandths: Out64) -> u8;
         pub fn mooringeye_archive_cut(buffer: Out, size: usize, rows: usize, position: Size) -> u8;
         pub fn mooringeye_archive_cut_block(block: Out, size: usize, rows: usize) -> u8;
+        pub fn mooringeye_state_write(numbers: In64, name: In, last: In, image: In, tail: In, out: Out) -> u8;
+        pub fn mooringeye_state_accept(bytes: In, size: usize, numbers: Out64, name: Out, last: Out, image: Out, tail: Out) -> u8;
+        pub fn mooringeye_journal_judge(last: In, last_size: usize, rows: usize, block: In, block_size: usize) -> u8;
+        pub fn mooringeye_journal_compare(
+            times: In64,
+            times_len: usize,
+            rows: In,
+            rows_size: usize,
+            moments: In64,
+            moments_len: usize,
+            left: In,
+            left_size: usize,
+            agreed: Size,
+            going: Size,
+        ) -> u8;
+        pub fn mooringeye_journal_scan(numbers: Out64, piece: In, size: usize) -> u8;
         pub fn mooringeye_scan_feed(numbers: Out64, piece: In, size: usize) -> u8;
         pub fn mooringeye_scan_end(numbers: In64, rows: Size, position: Size) -> u8;
         pub fn mooringeye_report_start(numbers: In64, lines: In64, adding: Out64, tally: Out64);
@@ -514,6 +542,56 @@ pub fn pack_feed(
 pub fn pack_end(numbers: &[u64; PACKER_NUMBERS], waiting: &[u8; PACKER_BYTES], out: &mut [u8], length: &mut usize) -> u8 {
     // SAFETY: two arrays of the sizes that the header names, which are read, and a slice and a number that are `&mut`.
     unsafe { c::mooringeye_pack_end(numbers.as_ptr(), waiting.as_ptr(), out.as_mut_ptr(), out.len(), length) }
+}
+
+// ---- the journal of the plant's tool
+
+/// Writes a state file.
+pub fn state_write(
+    numbers: &[u64; STATE_NUMBERS],
+    name: &[u8; STATE_NAME],
+    last: &[u8; BLOCK],
+    image: &[u8; IMAGE],
+    tail: &[u8; STATE_TAIL],
+    out: &mut [u8; STATE],
+) -> u8 {
+    // SAFETY: arrays of the sizes that the header names, which are read, and one that is `&mut`.
+    unsafe { c::mooringeye_state_write(numbers.as_ptr(), name.as_ptr(), last.as_ptr(), image.as_ptr(), tail.as_ptr(), out.as_mut_ptr()) }
+}
+
+/// Reads a state file.
+pub fn state_accept(
+    bytes: &[u8],
+    numbers: &mut [u64; STATE_NUMBERS],
+    name: &mut [u8; STATE_NAME],
+    last: &mut [u8; BLOCK],
+    image: &mut [u8; IMAGE],
+    tail: &mut [u8; STATE_TAIL],
+) -> u8 {
+    let (from, size) = (bytes.as_ptr(), bytes.len());
+    let (text, block) = (name.as_mut_ptr(), last.as_mut_ptr());
+    // SAFETY: a slice that is read, and arrays of the sizes that the header names, which are `&mut`.
+    unsafe { c::mooringeye_state_accept(from, size, numbers.as_mut_ptr(), text, block, image.as_mut_ptr(), tail.as_mut_ptr()) }
+}
+
+/// What stands in the block with the last row that a state counts.
+pub fn journal_judge(last: &[u8], rows: usize, block: &[u8]) -> u8 {
+    // SAFETY: two slices that are read.
+    unsafe { c::mooringeye_journal_judge(last.as_ptr(), last.len(), rows, block.as_ptr(), block.len()) }
+}
+
+/// How far rows agree with leftovers, and how many of those are put aside.
+pub fn journal_compare(times: &[u64], rows: &[u8], moments: &[u64], left: &[u8], agreed: &mut usize, going: &mut usize) -> u8 {
+    let (at, size) = (rows.as_ptr(), rows.len());
+    let (before, count) = (moments.as_ptr(), moments.len());
+    // SAFETY: four slices that are read, and two numbers that are `&mut`.
+    unsafe { c::mooringeye_journal_compare(times.as_ptr(), times.len(), at, size, before, count, left.as_ptr(), left.len(), agreed, going) }
+}
+
+/// How far the blocks of a piece read as an archive.
+pub fn journal_scan(numbers: &mut [u64; RUN_NUMBERS], piece: &[u8]) -> u8 {
+    // SAFETY: an array of the size that the header names, which is `&mut`, and a slice that is read.
+    unsafe { c::mooringeye_journal_scan(numbers.as_mut_ptr(), piece.as_ptr(), piece.len()) }
 }
 
 // ---- reports
