@@ -5,7 +5,7 @@ use crate::appender::MAX_BLOCKS;
 use crate::args::Args;
 use crate::disk::{Real, Shared};
 use crate::failure::{tell, Failure};
-use crate::journal::{keep_last, LogPlace, State};
+use crate::journal::{keep_last, LogPlace};
 use crate::keeper::{Files, Keeper, MAX_BATCH, ORDER};
 use crate::logs::{differ, Log};
 use crate::rows::{self, Format};
@@ -213,9 +213,7 @@ impl Run {
         };
         let is_first = keeper.state.log.as_ref().is_none_or(|log| log.offset == 0) || matches!(source, Source::Standard(_));
         let is_live = matches!(source, Source::Standard(_)) && !options.replay;
-        if is_live {
-            stand_in_feed(&mut keeper.state);
-        }
+        keeper.is_beside_log = is_live && keeper.state.log.as_ref().is_some_and(|log| log.inode != 0);
         let mut run = Run {
             keeper,
             source,
@@ -385,11 +383,15 @@ impl Run {
         }
         let level = self.level.expect("known since the first line");
         loop {
+            let before = self.keeper.state.collector.totals().received;
             let took = self.keeper.take(level, &text[used..], self.batch)?;
             if took.lines == 0 {
                 return Ok(used);
             }
-            self.tell_cr(&text[used..used + took.used]);
+            // Lines that are no receptions are BAD: these may end in CR LF.
+            if self.keeper.state.collector.totals().received - before < took.lines as u64 {
+                self.tell_cr(&text[used..used + took.used]);
+            }
             (used, self.read) = (used + took.used, self.read + took.lines as u64);
             self.commit(signals)?;
         }
@@ -400,10 +402,11 @@ impl Run {
         self.keeper.commit(&mut |rows| output.write_until_stopped(rows, signals))
     }
 
-    /// A feed that nobody can read again: rows that a stop left are handed to the collector, as soon as the level is known.
+    /// A feed that nobody can read again: rows that a stop left are handed to the collector, as soon as the level is known. Where the state stands in a
+    /// log they wait for it.
     fn take_in(&mut self, signals: &Signals) -> Result<(), Failure> {
         match self.level {
-            Some(level) if self.is_live && self.keeper.leftovers() > 0 => {
+            Some(level) if self.is_live && !self.keeper.is_beside_log && self.keeper.leftovers() > 0 => {
                 let output = &mut self.output;
                 self.keeper.take_in(level, &mut |rows| output.write_until_stopped(rows, signals))
             }
@@ -461,13 +464,6 @@ impl Run {
         }
         tell(totals);
         Ok(())
-    }
-}
-
-/// A feed has no place in a file; where bytes of one were counted, those of a feed can't be counted behind them.
-fn stand_in_feed(state: &mut State) {
-    if state.log.as_ref().is_some_and(|log| log.inode != 0) {
-        state.log = None;
     }
 }
 

@@ -53,6 +53,8 @@ pub struct Keeper {
     file: Option<StateFile>,
     /// Whether there was no state before.
     pub is_new: bool,
+    /// Whether the lines come from a feed, while the state stands in a log: its place there stays.
+    pub is_beside_log: bool,
     store: Option<Store>,
     out: Option<Out>,
     new_state: bool,
@@ -78,7 +80,8 @@ impl Keeper {
         let store = open_archive(disk, files, &mut state)?;
         let out = files.out.as_deref().map(|path| Out::open(disk, path, state.out)).transpose()?;
         let (new_state, format, order) = (files.new_state, files.format, files.order);
-        Ok(Keeper { disk: disk.clone(), state, saved, file, is_new, store, out, new_state, format, order, batch: Batch::default() })
+        let (disk, batch) = (disk.clone(), Batch::default());
+        Ok(Keeper { disk, state, saved, file, is_new, is_beside_log: false, store, out, new_state, format, order, batch })
     }
 
     /// Puts in order what a stop left, and writes the state: from now on lines can be taken.
@@ -137,7 +140,7 @@ impl Keeper {
     /// Counts lines of the log that give no row.
     pub fn pass(&mut self, text: &[u8], lines: u64) {
         self.state.lines += lines;
-        if let Some(log) = &mut self.state.log {
+        if let (Some(log), false) = (&mut self.state.log, self.is_beside_log) {
             log.pass(text);
         }
     }

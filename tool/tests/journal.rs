@@ -74,10 +74,17 @@ fn rows_that_were_appended_are_kept() {
     run(LOGGED, &dir, b"").with(0).says("2 rows that the state does not count are not what came in their place. They were moved to a.aside-2.");
     assert_eq!(listed(&dir, "a").len(), rows.len() + 1);
     assert_eq!(listed(&dir, "a.aside-2").join("\n") + "\n", more);
-    // Of a feed: the collector answers LATE, so they go aside too.
+    // Where the state stands in a log they wait for it.
     run("archive append a", &dir, more.as_bytes()).with(0);
-    run(KEPT, &dir, b"").with(0).says("They were moved to a.aside-3.");
-    assert_eq!(listed(&dir, "a.aside-3").join("\n") + "\n", more);
+    run(KEPT, &dir, b"").with(0);
+    assert_eq!(listed(&dir, "a").len(), rows.len() + 3);
+    run(LOGGED, &dir, b"").with(0).says("They were moved to a.aside-3.");
+    // Of a feed: the collector answers LATE, so they go aside too.
+    let dir = folder("journal_appended_feed");
+    run(KEPT, &dir, lines(2_000, 42).concat().as_bytes()).with(0);
+    run("archive append a", &dir, more.as_bytes()).with(0);
+    run(KEPT, &dir, b"").with(0).says("They were moved to a.aside-1.");
+    assert_eq!(listed(&dir, "a.aside-1").join("\n") + "\n", more);
 }
 
 #[test]
@@ -169,6 +176,20 @@ fn a_log_that_is_not_the_one_that_was_taken() {
     is_refused(&dir, LOGGED, b"", "--adopt-log");
     run(&format!("{LOGGED} --adopt-log"), &dir, b"").with(0).says("1000 lines taken");
     let whole = folder("journal_other_log_whole");
+    run(KEPT, &whole, lines.concat().as_bytes()).with(0);
+    assert!(listed(&dir, "a") == listed(&whole, "a"));
+}
+
+#[test]
+fn lines_of_a_feed_do_not_move_the_place_in_the_log() {
+    let (dir, lines) = (folder("journal_beside"), lines(400, 57));
+    fs::write(dir.join("gateway.log"), lines[..200].concat()).unwrap();
+    run(LOGGED, &dir, b"").with(0);
+    run(KEPT, &dir, b"").with(0);
+    run(KEPT, &dir, lines[200..300].concat().as_bytes()).with(0);
+    rotate(&dir, "gateway.log.1", &lines[300..].concat());
+    run(LOGGED, &dir, b"").with(0).says("300 lines taken").says("goes on with gateway.log");
+    let whole = folder("journal_beside_whole");
     run(KEPT, &whole, lines.concat().as_bytes()).with(0);
     assert!(listed(&dir, "a") == listed(&whole, "a"));
 }
