@@ -1,7 +1,8 @@
--- `collecting::take_rows` meets its contract. The invariant: the lines up to `at` were taken (`Taken`). The measure is what is left of the input.
+-- `collecting::take_rows` meets its contract. The invariant: the lines up to `at` were taken (`Taken`), and nobody asked what they close. The measure
+-- is what is left of the input.
 use mathlib.Core.Path.{_≡_, refl, ap, _∙_}
-use mathlib.Core.Bool.{true}
-use mathlib.Core.List.{List}
+use mathlib.Core.Bool.{true, false}
+use mathlib.Core.List.{List, []}
 use Prim.Native.Nat.{ℕ, _+_, _-_, _*_, _^_, _<_, _≤_}
 use native.Mathlib.Omega.{arith}
 use native.Mathlib.Nat.{zero-add}
@@ -27,7 +28,7 @@ use Rattle.streams.specs.Collect.{collect}
 use Rattle.streams.specs.Buffer.{isUnended}
 use Rattle.streams.proofs.Segments.{open-whole}
 use Rattle.streams.proofs.Limit.{bounded}
-use Rattle.collecting.proofs.Storing.{bad-text, said-text, said-padded}
+use Rattle.collecting.proofs.Storing.{printed-none, bad-text, said-text, said-padded}
 use Rattle.collecting.proofs.Turns.{Taken, none-taken, bad-taken, said-taken}
 use Rattle.collecting.specs.Session.{modelCollector}
 use Rattle.collecting.proofs.Taking.{lineAt, time-room, time-short, time-text, relayed-bytes}
@@ -36,8 +37,8 @@ use Rattle.collecting.proofs.take_rows.Tie as tie
 
 abbrev Inv-loop : tie.InvT-loop
 Inv-loop fit setting times₀ lens₀ entries₀ copies₀ input most out₀ moments₀ rows₀ summary₀ bytes₀ at₀ to₀ n₀ left₀ times lens entries copies out moments rows summary bytes at to n left =
-    Taken (collect modelCollector) fit setting input most (viewIn (columns times₀ lens₀ entries₀ copies₀) summary₀) out₀ moments₀ rows₀
-    (viewIn (columns times lens entries copies) summary) out moments rows at to n left
+    Taken (collect modelCollector) false fit setting input most (viewIn (columns times₀ lens₀ entries₀ copies₀) summary₀) out₀ moments₀ rows₀ []
+    (viewIn (columns times lens entries copies) summary) out moments rows [] at to n 0 left
 
 abbrev μ-loop : tie.MeasureT-loop
 μ-loop fit setting times₀ lens₀ entries₀ copies₀ input most out₀ moments₀ rows₀ summary₀ bytes₀ at₀ to₀ n₀ left₀ times lens entries copies out moments rows summary bytes at to n left =
@@ -47,7 +48,7 @@ loop-holds : tie.Need-loop-holds Inv-loop μ-loop
 loop-holds c =
     let s = c .before .before .before .before in
     let a = s .args in
-    none-taken (collect modelCollector) (bounded modelCollector) (now (a .input)) (a .most) (now (a .out)) (s .pre .0) (s .pre .1)
+    none-taken (collect modelCollector) (bounded modelCollector) false (now (a .input)) (a .most) (now (a .out)) (s .pre .0) (s .pre .1)
 
 -- ---- the line that was read
 
@@ -97,7 +98,7 @@ loop-again c =
     let b = said-bad _ (answer (read e)) (e .if3 .left) (not-true _ (i .if4 .taken)) in
     let test = read e .before .before .before .before .before .loop-test .taken in
     let w = if-fits (omega arith) (q .put-bad .ensures) in
-    bad-taken (collect modelCollector) (bounded modelCollector) (λ s x. refl) (input l) (l .loop .inv) (read e .parse .result .used) (ended e) (some (read e)) b (bad-text _ _ b) w
+    bad-taken (collect modelCollector) (bounded modelCollector) false (λ s x. refl) (input l) (l .loop .inv) (read e .parse .result .used) (ended e) (some (read e)) b (bad-text _ _ b) w
     (omega (arith, w .short, test))
 
 -- ---- a reception
@@ -203,10 +204,10 @@ loop-again-2 c =
     let spare-out = parsed i .before .before .before .before .before .loop-test .taken in
     let x = admittedOf (columns (a .admit .last .1 .0) (a .admit .last .1 .1 .0) (a .admit .last .1 .1 .1 .0) (a .admit .last .1 .1 .1 .1 .0)) (a .admit .result) in
     let r : Reception = record { bytes = bytes i; time = parsed i .parse .result .time } in
-    said-taken (collect modelCollector) (bounded modelCollector) (λ s y. refl) (input l) (l .loop .inv) (parsed i .parse .result .used) (ended (passed i)) (some (parsed i)) x (says i) o
+    said-taken (collect modelCollector) (bounded modelCollector) false (λ s y. refl) (input l) (l .loop .inv) (parsed i .parse .result .used) (ended (passed i)) (some (parsed i)) x (says i) o
     (rw (← o) at (tested-next _ r (l .loop .inv .tested) small))
     (said-text _ _ x (says i) o (time g) (relayed-bytes _ _ _ r _ (ap (λ (y : Outcome). y .answer) (rw z at (a .admit .ensures .outcome))))) w
-    (omega (arith, w .short, spare-out)) (parsed i .before .before .before .if2 .left) (d .0) (d .1)
+    (omega (arith, w .short, spare-out)) (parsed i .before .before .before .if2 .left) (d .0) (d .1) (printed-none [] 0 2048) (omega arith)
 
 store-row-requires : tie.Need-store-row-requires Inv-loop μ-loop
 store-row-requires c κs =
