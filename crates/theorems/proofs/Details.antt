@@ -29,7 +29,7 @@ use Rattle.streams.proofs.Pieces as streams_pieces
 use Rattle.streams.proofs.Limit as streams_limit
 use Rattle.streams.proofs.Ended as streams_ended
 use Rattle.collecting.proofs.Printed as collecting_printed
-use Rattle.collecting.proofs.PrintedIn as collecting_printed_in
+use Rattle.collecting.proofs.PrintedIn as collecting_formats
 use Rattle.collecting.proofs.Storing as collecting
 use Rattle.archived.proofs.Archived as archived
 use Rattle.archive_model.proofs.Claims as archive_model_claims
@@ -149,9 +149,9 @@ lines = record {
   collect-cuts-change-nothing = streams_limit.collected-in-pieces;
   wrong-start-is-silent = streams_ended.stays-ended;
   text-follows-model = collecting_printed.collect-prints;
-  formats-follow-model = collecting_printed_in.formats-print;
-  format-cuts-change-nothing = collecting_printed_in.formats-in-pieces;
-  text-is-printed = collecting_printed_in.text-as-printed;
+  formats-follow-model = collecting_formats.formats-print;
+  format-cuts-change-nothing = collecting_formats.formats-in-pieces;
+  text-is-printed = collecting_formats.text-as-printed;
   row-cuts-change-nothing = collecting.rows-in-pieces;
   later-rows-follow-model = archived.lines-archived;
   records-are-sized = archived.records-sized;

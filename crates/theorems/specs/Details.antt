@@ -27,7 +27,7 @@ use Rattle.streams.specs.Lines.{Program}
 use Rattle.streams.specs.Collect.{Collector}
 use Rattle.streams.specs.Claims as streams
 use Rattle.collecting.specs.Claims as collecting
-use Rattle.collecting.specs.PrintedIn as collecting_printed_in
+use Rattle.collecting.specs.PrintedIn as collecting_formats
 use Rattle.archived.specs.Claims as archived
 use Rattle.archive_model.specs.Claims as archive_model
 use Rattle.archive_model.specs.Identity as archive_identity
@@ -189,11 +189,11 @@ pub record Lines : Type 1 where
   -- The text that is defined as the output of `collect` has the model's answers and totals, however the input is cut into pieces.
   pub text-follows-model : collecting.CollectPrints
   -- As CSV and as JSON too, the rows and totals are the model's, however the input is cut.
-  pub formats-follow-model : collecting_printed_in.FormatsPrint
+  pub formats-follow-model : collecting_formats.FormatsPrint
   -- A run in any format that goes on from any state gives the same, however the input is cut.
-  pub format-cuts-change-nothing : collecting_printed_in.FormatsInPieces
+  pub format-cuts-change-nothing : collecting_formats.FormatsInPieces
   -- In the format text it is what `collect` prints.
-  pub text-is-printed : collecting_printed_in.TextAsPrinted
+  pub text-is-printed : collecting_formats.TextAsPrinted
   -- The rows for an archive and the count of lines are the same however the input is cut.
   pub row-cuts-change-nothing : collecting.RowsInPieces
   -- Lines that come after other lines give the model's rows too.
