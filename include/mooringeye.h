@@ -6,7 +6,7 @@
  *   - memory that a call changes overlaps nothing else that is lent to the same call;
  *   - one thread at a time uses one collector, report, scan, packer or buffer. No call allocates or has other state;
  *   - a `bool` is 0 or 1;
- *   - the stack has room: 96 KiB for a call on reports, 16 KiB for every other call.
+ *   - the stack has room: 96 KiB for a call on reports, 32 KiB for every other call.
  * No other precondition: every call returns for any memory contents.
  *
  * Answers. A call that returns `uint8_t` returns a number: 0 for done, a refusal of mooringeye_refusal, or

@@ -9,7 +9,7 @@ enum {
     DEPTH = 256 * 1024,
     PAINT = 0xA5,
     REPORTS_KIB = 96, /* as the header has them */
-    OTHERS_KIB = 16
+    OTHERS_KIB = 32
 };
 
 static size_t used;

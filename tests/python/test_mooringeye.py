@@ -10,12 +10,12 @@ import unittest
 from pathlib import Path
 
 import mooringeye
-from mooringeye import _library, archives, collector, refusals, telegrams
+from mooringeye import _library, archives, collector, journal, refusals, telegrams
 from mooringeye._exports import EXPORTS
 
 ROOT = Path(__file__).resolve().parent.parent.parent
 PRESS = bytes.fromhex("D5090102030400E8")
-MODULES = (mooringeye, archives, collector, refusals, telegrams)
+MODULES = (mooringeye, archives, collector, journal, refusals, telegrams)
 
 
 def load_tests(loader, tests, pattern):
@@ -181,6 +181,27 @@ class Calls(unittest.TestCase):
         self.assertEqual((caught.exception.number, caught.exception.position), (1, 1))
         block.cut(1)
         self.assertEqual(list(block), [row])
+
+    def test_journal(self):
+        collector, block, row = mooringeye.Collector(), mooringeye.Block(), mooringeye.Row(1000, False, PRESS)
+        collector.take(PRESS, 1000)
+        block.put(0, row)
+        image, copy = bytes(collector.checkpoint()), bytes(block)
+        log, out = (24, 1, 2, b"1000 D5090102030400E8\nX\n"), (9, 3, 4)
+        state = journal.State(2, image, b"plant.arc", last=copy, log=log, out=out)
+        self.assertEqual(journal.State.read(state.write()), state)
+        with self.assertRaises(mooringeye.Refused) as caught:
+            journal.State.read(state.write()[:-1])
+        self.assertEqual(caught.exception.number, 16)
+        self.assertEqual(journal.judge(copy, 1, copy), "SAME")
+        block.put(1, row)
+        self.assertEqual(journal.judge(copy, 1, bytes(block)), "LONGER")
+        self.assertEqual(journal.judge(copy, 1, copy[:-1] + bytes([copy[-1] ^ 1])), "TORN")
+        self.assertEqual(journal.compare([row], [row, row]), (1, 0))
+        self.assertEqual(journal.compare([mooringeye.Row(1, False, PRESS)], [row, row]), (0, 2))
+        run = journal.Run(2**32)
+        run.feed(bytes(block) + bytes(512))
+        self.assertEqual((run.blocks, run.rows, run.ended), (1, 2, True))
 
     @classmethod
     def tearDownClass(cls):
