@@ -367,6 +367,11 @@ impl History {
             7 => {
                 let mut heard = 7;
                 let answer = raw::collector_copies(&self.state.shared(), n as usize, &mut heard);
+                if answer != 0 {
+                    // Lent memory stays as it was; the record says 0 beside a refusal.
+                    assert_eq!(heard, 7);
+                    heard = 0;
+                }
                 format!("A {answer} {heard}{}", self.totals())
             }
             8 => {
