@@ -6,7 +6,6 @@ use crate::appender::{Appender, FRAME, MAX_BLOCKS};
 use crate::args::{parsed, Args};
 use crate::failure::{tell, Failure};
 use crate::files::{self, Pieces, Replacement, PIECE};
-use crate::list;
 use crate::rows::Format;
 use crate::streams::{each_line, Output};
 use crate::text;
@@ -14,48 +13,6 @@ use mooringeye::{Adding, Archive, Packer, Refusal, Report, Row, Scan, Telegram};
 use std::ffi::{OsStr, OsString};
 use std::fs::{self, File};
 use std::path::Path;
-
-pub const USAGE: &str = "\
-usage: mooringeye archive verify FILE..
-       mooringeye archive list FILE.. [--rows text|csv|json|tsv|binary|months] [--from TIME] [--to TIME] [--txid ID]..
-                               [--after ROW] [--count N] [--first ROW]
-       mooringeye archive append FILE < ROWS
-       mooringeye archive salvage DAMAGED NEW
-       mooringeye archive remove FILE --txid ID..
-       mooringeye archive sheet FILE.. [--rows text|csv] [--received N]
-
-  verify   says how many rows each file has, or which block does not match
-  list     prints the rows; --from and --to are the first and the last time, an ID has eight hexadecimal digits. Rows have numbers that go on from file
-           to file; the first is 1, or what --first says. --after prints the rows behind one and reads no earlier ones, --count at most so many.
-           tsv and binary, PostgreSQL's COPY BINARY, print the numbers too; months says how many rows each month has
-  append   puts rows, as `list` prints them as text, behind those of the file: all of them or none
-  salvage  packs the rows of every block that is right into a new file, and says which blocks were dropped
-  remove   removes the rows of up to 32 transmitters
-  sheet    adds up KEPT and LOOSE rows, earliest and latest time of each transmitter over up to 64 files; with --received the share of its rows in
-           so many receptions, in whole thousandths rounded down
-
-Ends with status 0, 1 where an input or output failed or a row is refused, 2 for wrong usage, 3 for a damaged archive.";
-
-pub fn run(words: impl IntoIterator<Item = OsString>) -> Result<(), Failure> {
-    let mut words = words.into_iter();
-    let command = words.next().unwrap_or_default();
-    match command.to_str() {
-        Some("verify") => verify(&Args::parse(words, &[], &[])?),
-        Some("list") => list::run(&Args::parse(words, list::OPTIONS, &[])?),
-        Some("append") => append(&Args::parse(words, &[], &[])?),
-        Some("salvage") => salvage(&Args::parse(words, &[], &[])?),
-        Some("remove") => remove(&Args::parse(words, &["txid"], &[])?),
-        Some("sheet") => sheet(&Args::parse(words, &["rows", "received"], &[])?),
-        _ => Err(Failure::Usage(USAGE.into())),
-    }
-}
-
-pub fn at_least_one(args: &Args) -> Result<&[OsString], Failure> {
-    match args.rest() {
-        [] => Err(Failure::Usage("this command takes the names of archives".into())),
-        files => Ok(files),
-    }
-}
 
 /// An archive to be read, and its length in blocks.
 pub struct Source<'a> {
@@ -104,10 +61,10 @@ impl<'a> Source<'a> {
 }
 
 /// Every file is looked at, and every failure is told; the gravest is the command's.
-fn verify(args: &Args) -> Result<(), Failure> {
+pub fn verify(args: &Args) -> Result<(), Failure> {
     let mut output = Output::standard()?;
     let mut worst: Option<Failure> = None;
-    for name in at_least_one(args)? {
+    for name in args.at_least_one()? {
         let verified = Source::open(name).and_then(|source| Ok((source.verify()?, source.blocks)));
         match (verified, worst.take()) {
             (Ok((rows, blocks)), before) => {
@@ -157,8 +114,8 @@ fn frame(telegram: &Telegram) -> [u8; FRAME] {
     frame
 }
 
-fn append(args: &Args) -> Result<(), Failure> {
-    let [name] = args.exactly("the name of one archive")?;
+pub fn append(args: &Args) -> Result<(), Failure> {
+    let [name] = args.exactly()?;
     let path = &files::resolved(Path::new(name));
     let is_new = fs::symlink_metadata(path).is_err();
     let appended = append_all(path);
@@ -207,8 +164,8 @@ fn pack(source: &Source, mut packer: Packer, new: &mut Replacement, mut dropped:
     Ok(packer.rows())
 }
 
-fn salvage(args: &Args) -> Result<(), Failure> {
-    let [from, to] = args.exactly("the name of a damaged archive and a name for the new one")?;
+pub fn salvage(args: &Args) -> Result<(), Failure> {
+    let [from, to] = args.exactly()?;
     let source = Source::open(from)?;
     let to = Path::new(to);
     if fs::symlink_metadata(to).is_ok() {
@@ -225,9 +182,9 @@ fn salvage(args: &Args) -> Result<(), Failure> {
     output.write(format!("{}: {rows} rows, {count} blocks dropped\n", to.display()).as_bytes())
 }
 
-fn remove(args: &Args) -> Result<(), Failure> {
+pub fn remove(args: &Args) -> Result<(), Failure> {
     let Some((name, more)) = args.rest().split_first() else {
-        return Err(Failure::Usage("this command takes the name of an archive and --txid ID..".into()));
+        return Err(args.wrong());
     };
     let ids = identities(args.all("txid").chain(more.iter().map(OsString::as_os_str)))?;
     if ids.is_empty() || ids.len() > Packer::MAX_IDENTITIES {
@@ -245,14 +202,14 @@ fn remove(args: &Args) -> Result<(), Failure> {
     output.write(text.as_bytes())
 }
 
-fn sheet(args: &Args) -> Result<(), Failure> {
+pub fn sheet(args: &Args) -> Result<(), Failure> {
     let format = Format::of(args)?;
     if format == Format::Json {
         return Err(Failure::Usage("a sheet is printed as text or csv".into()));
     }
     let received = args.value("received", "a number of receptions", text::number)?;
     let mut report = Report::new();
-    for name in at_least_one(args)? {
+    for name in args.at_least_one()? {
         let source = Source::open(name)?;
         let mut adding = Adding::new(&mut report);
         let mut pieces = source.pieces();

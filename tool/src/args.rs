@@ -1,10 +1,13 @@
 //! The words of a command line.
 use crate::failure::Failure;
+use crate::help::nearest;
+use crate::options::{Command, Takes, COMMON};
 use std::ffi::{OsStr, OsString};
 use std::path::PathBuf;
 
 /// Options and the other words, in the order in which they stand.
 pub struct Args {
+    command: &'static Command,
     options: Vec<(&'static str, OsString)>,
     rest: Vec<OsString>,
 }
@@ -14,29 +17,31 @@ fn usage(text: String) -> Failure {
 }
 
 impl Args {
-    /// Options that take a value, as `--name VALUE` or `--name=VALUE`, and options that take none. `--` ends them.
-    pub fn parse(words: impl IntoIterator<Item = OsString>, valued: &[&'static str], plain: &[&'static str]) -> Result<Args, Failure> {
-        let mut args = Args { options: Vec::new(), rest: Vec::new() };
+    /// The options of a command, as `--name VALUE` or `--name=VALUE`, or `--name` where they take none. `--` ends them.
+    pub fn of(command: &'static Command, words: impl IntoIterator<Item = OsString>) -> Result<Args, Failure> {
+        let mut args = Args { command, options: Vec::new(), rest: Vec::new() };
         let mut words = words.into_iter();
         while let Some(word) = words.next() {
-            let Some(option) = word.to_str().and_then(|w| w.strip_prefix("--")) else {
+            let dashed = word.to_str().filter(|w| w.starts_with('-') && w.len() > 1);
+            let Some(dashed) = dashed else {
                 args.rest.push(word);
                 continue;
             };
+            let Some(option) = dashed.strip_prefix("--") else { return Err(no_option(command, dashed)) };
             if option.is_empty() {
                 args.rest.extend(words);
                 break;
             }
             let (name, value) = option.split_once('=').map_or((option, None), |(name, value)| (name, Some(OsString::from(value))));
-            let find = |names: &[&'static str]| names.iter().find(|n| **n == name).copied();
-            let given = match (find(valued), find(plain), value) {
-                (Some(name), _, Some(value)) => (name, value),
-                (Some(name), _, None) => (name, words.next().ok_or_else(|| usage(format!("--{name} has no value")))?),
-                (None, Some(name), None) => (name, OsString::new()),
-                (None, Some(name), Some(_)) => return Err(usage(format!("--{name} takes no value"))),
-                (None, None, _) => return Err(usage(format!("--{name} is no option of this command"))),
+            let known = command.option(name).ok_or_else(|| no_option(command, &format!("--{name}")))?;
+            let missing = || usage(format!("--{name}: its value is missing. Write --{name} {}.", known.value));
+            let value = match (known.takes, value) {
+                (Takes::Nothing, None) => OsString::new(),
+                (Takes::Nothing, Some(_)) => return Err(usage(format!("--{name} takes no value. Write --{name} alone."))),
+                (_, Some(value)) => value,
+                (_, None) => words.next().ok_or_else(missing)?,
             };
-            args.options.push(given);
+            args.options.push((known.name, value));
         }
         Ok(args)
     }
@@ -54,14 +59,14 @@ impl Args {
     fn one(&self, name: &str) -> Result<Option<&OsStr>, Failure> {
         let mut all = self.all(name);
         match (all.next(), all.next()) {
-            (_, Some(_)) => Err(usage(format!("--{name} is given twice"))),
+            (_, Some(_)) => Err(usage(format!("--{name} is given twice. Give it once."))),
             (one, None) => Ok(one),
         }
     }
 
     pub fn path(&self, name: &str) -> Result<Option<PathBuf>, Failure> {
         match self.one(name)? {
-            Some(path) if path.is_empty() => Err(usage(format!("--{name} names no file"))),
+            Some(path) if path.is_empty() => Err(usage(format!("--{name}: the name of the file is empty."))),
             path => Ok(path.map(PathBuf::from)),
         }
     }
@@ -76,30 +81,72 @@ impl Args {
     }
 
     /// The words that are no options, so many of them.
-    pub fn exactly<const N: usize>(&self, names: &str) -> Result<[&OsStr; N], Failure> {
+    pub fn exactly<const N: usize>(&self) -> Result<[&OsStr; N], Failure> {
         let words: Vec<&OsStr> = self.rest.iter().map(OsString::as_os_str).collect();
-        words.try_into().map_err(|_| usage(format!("this command takes {names}")))
+        words.try_into().map_err(|_| self.wrong())
+    }
+
+    /// The words that are no options, at least one.
+    pub fn at_least_one(&self) -> Result<&[OsString], Failure> {
+        match &self.rest[..] {
+            [] => Err(self.wrong()),
+            words => Ok(words),
+        }
+    }
+
+    /// Says how the command is written.
+    pub fn wrong(&self) -> Failure {
+        let forms: Vec<String> = self.command.forms.iter().map(|form| format!("`mooringeye {} {form}`", self.command.name)).collect();
+        usage(format!("{}: {} words are given that are no options. Write {}.", self.command.name, self.rest.len(), forms.join(" or ")))
     }
 
     pub fn no_rest(&self) -> Result<(), Failure> {
-        match self.rest.first() {
-            Some(word) => Err(usage(format!("{} is no option of this command", word.display()))),
-            None => Ok(()),
-        }
+        let Some(word) = self.rest.first() else { return Ok(()) };
+        let (name, shown) = (self.command.name, word.display());
+        let advice = match self.command.option("log") {
+            Some(_) => format!("To read the file {shown}, write --log {shown} or <{shown}."),
+            None => format!("It reads standard input: write `mooringeye {name} <FILE`."),
+        };
+        Err(usage(format!("{shown}: {name} takes options only. {advice}")))
     }
+}
+
+/// A word with dashes that is no option, and what to write instead.
+fn no_option(command: &Command, word: &str) -> Failure {
+    let names = || command.options.iter().chain(COMMON).map(|o| o.name);
+    let advice = match nearest(word.trim_start_matches('-'), names()) {
+        Some(name) => format!("Write --{name}."),
+        None => format!("`mooringeye {} --help` lists the options; a file of that name is ./{word}.", command.name),
+    };
+    usage(format!("{word}: no option of {}. {advice}", command.name))
 }
 
 /// What a word says, where it says it.
 pub fn parsed<T>(word: &OsStr, name: &str, kind: &str, read: impl Fn(&str) -> Option<T>) -> Result<T, Failure> {
-    word.to_str().and_then(read).ok_or_else(|| usage(format!("{name} is {kind}, and not {}", word.display())))
+    word.to_str().and_then(read).ok_or_else(|| usage(format!("{name}: {} is wrong. Write {kind}.", word.display())))
 }
 
 #[cfg(test)]
 mod tests {
     use super::*;
+    use crate::options::Opt;
 
     fn parse(words: &[&str]) -> Result<Args, Failure> {
-        Args::parse(words.iter().map(OsString::from), &["level", "txid"], &["fresh"])
+        static COMMAND: Command = Command {
+            name: "test",
+            forms: &["WORD"],
+            words: Takes::Text,
+            brief: "",
+            about: &[],
+            options: &[
+                Opt { name: "level", value: "N", takes: Takes::Text, what: "" },
+                Opt { name: "txid", value: "ID", takes: Takes::Text, what: "" },
+                Opt { name: "fresh", value: "", takes: Takes::Nothing, what: "" },
+            ],
+            ends: "",
+            run: |_| Ok(()),
+        };
+        Args::of(&COMMAND, words.iter().map(OsString::from))
     }
 
     #[test]
@@ -114,7 +161,7 @@ mod tests {
 
     #[test]
     fn wrong_ones() {
-        for words in [&["--level"][..], &["--other"], &["--fresh=1"], &["--level", "1", "--level", "2"], &["--level=x"]] {
+        for words in [&["--level"][..], &["--other"], &["--fresh=1"], &["--level", "1", "--level", "2"], &["--level=x"], &["-l"]] {
             let answer = parse(words).and_then(|a| a.value("level", "a number", |t| t.parse::<u8>().ok()));
             assert_eq!(answer.unwrap_err().status(), 2, "{words:?}");
         }

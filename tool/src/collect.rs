@@ -15,40 +15,16 @@ use crate::streams::{Got, Input, Output};
 use crate::{sys, text};
 use mooringeye::raw::LINE_LIMIT;
 use mooringeye::{skip_lines, FirstLine};
-use std::ffi::OsString;
 use std::path::{Path, PathBuf};
 use std::rc::Rc;
-
-pub const USAGE: &str = "\
-usage: mooringeye collect [--level N] [--state FILE] [--archive FILE] [--log FILE [--follow] | --replay] [--out FILE] ..
-
-Reads lines of a time in ms and a reception in hexadecimal digits, from standard input or from a log, and prints a row for each.
-
-  --level N         the repeater setting, 0, 1 or 2; it may be left out where the first line is `level N`
-  --state FILE      goes on from this state, and keeps it up to date; a fresh collector where there is none
-  --archive FILE    KEPT and LOOSE rows go there; FILE may have ### in its name, where the number of the file stands
-  --blocks N        with such a name: a new file begins where one has N blocks of 15 rows
-  --log FILE        reads this log from where the state stands, and rotated ones (FILE.1, FILE-20260117) before it
-  --follow          with --log: waits for more lines at its end, also after it was rotated by rename
-  --replay          standard input is the whole log from its first line: lines that the state has taken are skipped
-  --out FILE        rows go to this file, each once, and not to standard output
-  --rows FORMAT     text (as `collect` prints), csv (with a heading) or json (a line each)
-  --sync WHEN       batch: state and archive are on disk before what was read at once is printed; row: before each row
-  --new-state       begins with a fresh collector, and keeps the old state aside (the same as --fresh)
-  --adopt-archive   goes on with the archive as it is, or without one, whatever the state says of its rows (the same as --begin)
-  --adopt-log       takes the log from its first byte, whatever the state says of it
-
-SIGTERM, SIGINT and SIGHUP end it in order; SIGUSR1 prints the totals on standard error.
-Ends with status 0 where the input ended or a signal came, 1 where an input or output failed, 2 for wrong usage, 3 for a state, archive or log that is
-damaged or not the one that was taken.";
 
 /// How much is read at once, and where each row is synced: a signal waits until it is taken.
 const CHUNK: usize = 1 << 20;
 const SYNCED_CHUNK: usize = 1 << 12;
 const NO_LEVEL: &str = "without --level the first line is `level 0`, `level 1` or `level 2`";
 
-pub fn run(words: impl IntoIterator<Item = OsString>) -> Result<(), Failure> {
-    let options = Options::parse(words)?;
+pub fn run(args: &Args) -> Result<(), Failure> {
+    let options = Options::of(args)?;
     let signals = Signals::catch().map_err(|e| Failure::of("catch signals", &e))?;
     let mut run = Run::start(&options)?;
     run.take_all(&signals)?;
@@ -66,16 +42,12 @@ struct Options {
     adopt_log: bool,
 }
 
-const VALUED: [&str; 8] = ["level", "state", "archive", "blocks", "rows", "sync", "log", "out"];
-const PLAIN: [&str; 7] = ["replay", "follow", "new-state", "fresh", "adopt-archive", "begin", "adopt-log"];
-
 impl Options {
-    fn parse(words: impl IntoIterator<Item = OsString>) -> Result<Options, Failure> {
-        let args = Args::parse(words, &VALUED, &PLAIN)?;
+    fn of(args: &Args) -> Result<Options, Failure> {
         args.no_rest()?;
         let blocks = args.value("blocks", "a number of blocks, 1 to 2^32", |t| text::number(t).filter(|n| (1..=MAX_BLOCKS).contains(n)))?;
         let [archive, state, log, out] = [args.path("archive")?, args.path("state")?, args.path("log")?, args.path("out")?];
-        check_together(&args, [&archive, &state, &log, &out])?;
+        check_together(args, [&archive, &state, &log, &out])?;
         let batch = args.value("sync", "row or batch", |t| match t {
             "row" => Some(1),
             "batch" => Some(MAX_BATCH),
@@ -87,7 +59,7 @@ impl Options {
             out,
             new_state: args.has("new-state") || args.has("fresh"),
             adopt: args.has("adopt-archive") || args.has("begin"),
-            format: Format::of(&args)?,
+            format: Format::of(args)?,
             order: ORDER,
         };
         Ok(Options {

@@ -3,7 +3,7 @@
 //! Rows are counted over the files, in the order of the files' numbers. Of a file whose first rows are not wanted only the blocks from there on are
 //! read: where the rows end is found by halving, and what is read from there to the end of the file has to say the same.
 use crate::appender::BLOCK;
-use crate::archive::{at_least_one, identities, Source};
+use crate::archive::{identities, Source};
 use crate::args::Args;
 use crate::copy;
 use crate::failure::Failure;
@@ -19,8 +19,6 @@ use std::os::unix::ffi::OsStrExt;
 use std::os::unix::fs::FileExt;
 use std::path::Path;
 
-/// The options of `list` that take a value.
-pub const OPTIONS: &[&str] = &["rows", "from", "to", "txid", "after", "count", "first"];
 /// The greatest number that a first row may have, so that counting on never leaves 63 bits, which databases have.
 const MAX_FIRST: u64 = 1 << 62;
 
@@ -29,7 +27,7 @@ pub fn run(args: &Args) -> Result<(), Failure> {
     let mut printer = Printer::of(args)?;
     let mut left = args.value("count", "a number of rows", text::number)?.unwrap_or(u64::MAX);
     let mut first = args.value("first", "the number of a row, from 1 on", first_row)?.unwrap_or(1);
-    let names = in_order(at_least_one(args)?);
+    let names = in_order(args.at_least_one()?);
     printer.begin()?;
     for name in names {
         first += list_one(&Source::open(name)?, first, &wanted, &mut left, &mut printer)?;

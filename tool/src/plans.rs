@@ -4,25 +4,6 @@ use crate::failure::Failure;
 use crate::streams::{each_line, Output};
 use crate::text;
 use mooringeye::{Assignment, Refusal, Rule, Site, SlotPlan};
-use std::ffi::OsString;
-
-pub const PLAN_USAGE: &str = "\
-usage: mooringeye plan RULE LEVEL DURATION [--count N] [--draw D]
-
-The slots in which a repeater sends: RULE is standard, compressed or paused, LEVEL the level sent, DURATION the time on air in microseconds.
-
-  --count N   how many transmissions; as many as the rule has at that level where it is left out, 3 at level 0 with a pause
-  --draw D    which of the lawful plans: the one at D modulo their number, counted from 0; the first where it is left out
-
-Ends with status 1 where no plan is lawful (9), 2 for an argument that is out of its range (10).";
-
-pub const SITE_USAGE: &str = "\
-usage: mooringeye site < REPEATERS
-
-Reads a line for each repeater: RULE LEVEL DURATION FIRST SECOND [THIRD], the rule by its name, the duration in microseconds, the slots as numbers.
-Empty lines and lines that begin with # are skipped. Says whether every plan is lawful and no two transmissions overlap.
-
-Ends with status 1 where a plan is not lawful (18) or two overlap (19), 2 for more than 32 repeaters or a value that is out of its range (10).";
 
 fn rule(name: &str) -> Option<Rule> {
     match name {
@@ -46,9 +27,8 @@ fn own_count(rule: Rule, level: u8) -> u8 {
     }
 }
 
-pub fn plan(words: Vec<OsString>) -> Result<(), Failure> {
-    let args = Args::parse(words, &["count", "draw"], &[])?;
-    let [named, level, duration] = args.exactly("RULE LEVEL DURATION")?;
+pub fn plan(args: &Args) -> Result<(), Failure> {
+    let [named, level, duration] = args.exactly()?;
     let rule = parsed(named, "RULE", "standard, compressed or paused", rule)?;
     let level = parsed(level, "LEVEL", "0, 1 or 2", small::<u8>)?;
     let duration = parsed(duration, "DURATION", "a number of microseconds, 1 to 65535", small::<u32>)?;
@@ -77,8 +57,8 @@ fn assignment(line: &str) -> Option<Assignment> {
     Some(Assignment { rule: rule(named)?, level: small(level)?, duration: small(duration)?, plan })
 }
 
-pub fn site(words: Vec<OsString>) -> Result<(), Failure> {
-    Args::parse(words, &[], &[])?.no_rest()?;
+pub fn site(args: &Args) -> Result<(), Failure> {
+    args.no_rest()?;
     let mut repeaters = Vec::new();
     let mut lines = Vec::new();
     each_line(|number, line| {

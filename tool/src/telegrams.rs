@@ -4,28 +4,6 @@ use crate::failure::Failure;
 use crate::streams::Output;
 use crate::text;
 use mooringeye::{Erp2, Extension, Fields, Telegram};
-use std::ffi::OsString;
-
-pub const READ_USAGE: &str = "\
-usage: mooringeye read HEX
-       mooringeye read --erp2 HEX
-
-Prints the fields of a subtelegram, or with --erp2 of an ERP2 telegram with its length byte.
-Ends with status 1 where it is refused, and says why.";
-
-pub const BUILD_USAGE: &str = "\
-usage: mooringeye build RORG DATA TXID [--status HEX] [--to DESTID]
-       mooringeye build --erp2 CONTROL TYPE ORIGINATOR DATA [--to DESTINATION] [--subtype HEX] [--hops N] [--optional HEX]
-
-Prints a subtelegram with its HASH, or an ERP2 telegram in its long form. All but CONTROL, TYPE and N, which are numbers, are hexadecimal digits.
-
-  --status HEX     STATUS, 00 where it is left out; 80 and above select the CRC
-  --to ID          to whom it is addressed
-  --subtype HEX    the extended telegram type, there just where TYPE is 15
-  --hops N         repeater count of an extended header
-  --optional HEX   its optional data
-
-Ends with status 1 where it is refused, 2 for a value that is out of its range (10).";
 
 fn hex_of(bytes: &[u8]) -> String {
     let mut out = Vec::new();
@@ -48,9 +26,8 @@ fn small(text: &str) -> Option<u8> {
     text::number(text).and_then(|n| n.try_into().ok())
 }
 
-pub fn read(words: Vec<OsString>) -> Result<(), Failure> {
-    let args = Args::parse(words, &[], &["erp2"])?;
-    let [word] = args.exactly("a telegram in hexadecimal digits")?;
+pub fn read(args: &Args) -> Result<(), Failure> {
+    let [word] = args.exactly()?;
     let bytes = parsed(word, "a telegram", HEX, text::bytes_of_hex)?;
     let refused = |why| Failure::refused(word.display(), why);
     let printed = match args.has("erp2") {
@@ -94,14 +71,13 @@ fn erp2_text(telegram: &Erp2) -> String {
     }
 }
 
-pub fn build(words: Vec<OsString>) -> Result<(), Failure> {
-    let args = Args::parse(words, &["status", "to", "subtype", "hops", "optional"], &["erp2"])?;
-    let bytes = if args.has("erp2") { build_erp2(&args)? } else { build_erp1(&args)? };
+pub fn build(args: &Args) -> Result<(), Failure> {
+    let bytes = if args.has("erp2") { build_erp2(args)? } else { build_erp1(args)? };
     Output::standard()?.write(format!("{}\n", hex_of(&bytes)).as_bytes())
 }
 
 fn build_erp1(args: &Args) -> Result<Vec<u8>, Failure> {
-    let [rorg, data, txid] = args.exactly("RORG DATA TXID")?;
+    let [rorg, data, txid] = args.exactly()?;
     let fields = Fields {
         rorg: parsed(rorg, "RORG", BYTE, byte)?,
         data: parsed(data, "DATA", HEX, text::bytes_of_hex)?,
@@ -114,7 +90,7 @@ fn build_erp1(args: &Args) -> Result<Vec<u8>, Failure> {
 }
 
 fn build_erp2(args: &Args) -> Result<Vec<u8>, Failure> {
-    let [control, kind, originator, data] = args.exactly("CONTROL TYPE ORIGINATOR DATA")?;
+    let [control, kind, originator, data] = args.exactly()?;
     let hops = args.value("hops", "a number", small)?;
     let optional = args.value("optional", HEX, text::bytes_of_hex)?;
     let has_extension = hops.is_some() || optional.is_some();
