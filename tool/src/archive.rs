@@ -6,9 +6,11 @@ use crate::appender::{Appender, FRAME, MAX_BLOCKS};
 use crate::args::{parsed, Args};
 use crate::failure::{tell, Failure};
 use crate::files::{self, Pieces, Replacement, PIECE};
+use crate::names::{quoted, Names};
 use crate::rows::Format;
 use crate::streams::{each_line, Output};
 use crate::text;
+use crate::times;
 use mooringeye::{Adding, Archive, Packer, Refusal, Report, Row, Scan, Telegram};
 use std::ffi::{OsStr, OsString};
 use std::fs::{self, File};
@@ -207,6 +209,7 @@ pub fn sheet(args: &Args) -> Result<(), Failure> {
     if format == Format::Json {
         return Err(Failure::Usage("a sheet is printed as text or csv".into()));
     }
+    let (is_iso, names) = (times::is_iso(args)?, Names::of(args)?);
     let received = args.value("received", "a number of receptions", text::number)?;
     let mut report = Report::new();
     for name in args.at_least_one()? {
@@ -220,33 +223,37 @@ pub fn sheet(args: &Args) -> Result<(), Failure> {
         adding.end().map_err(failure)?;
     }
     let share = received.map(|n| report.share(n).map_err(|why| Failure::refused(format!("--received {n}"), why))).transpose()?;
-    Output::standard()?.write(sheet_text(&report, format, share).as_bytes())
+    Output::standard()?.write(sheet_text(&report, format, share, is_iso, names.as_ref()).as_bytes())
 }
 
 /// The lines of a report, and its totals last.
-fn sheet_text(report: &Report, format: Format, share: Option<u64>) -> String {
+fn sheet_text(report: &Report, format: Format, share: Option<u64>, is_iso: bool, names: Option<&Names>) -> String {
     let mut out = String::new();
-    let mut line = |cells: [String; 6]| {
-        out += &match format {
-            Format::Csv => cells.join(","),
+    let mut line = |cells: [String; 6], name: &str| {
+        let text = match (format, names) {
+            (Format::Csv, Some(_)) => format!("{},{}", cells.join(","), quoted(name)),
+            (Format::Csv, None) => cells.join(","),
             _ => {
                 let [id, kept, loose, earliest, latest, share] = cells;
-                format!("{id:<8} {kept:>13} {loose:>13} {earliest:>20} {latest:>20} {share}").trim_end().to_string()
+                let width = if is_iso { 24 } else { 20 };
+                format!("{id:<8} {kept:>13} {loose:>13} {earliest:>width$} {latest:>width$} {share:<5} {name}")
             }
         };
+        out += text.trim_end();
         out.push('\n');
     };
-    line(["txid", "kept", "loose", "earliest", "latest", "share"].map(String::from));
+    let time = |time: u64| if is_iso { times::iso(time) } else { time.to_string() };
+    line(["txid", "kept", "loose", "earliest", "latest", "share"].map(String::from), if names.is_some() { "name" } else { "" });
     let (mut earliest, mut latest) = (u64::MAX, 0);
     for l in report.lines() {
         (earliest, latest) = (earliest.min(l.earliest), latest.max(l.latest));
-        let numbers = [l.kept, l.loose, l.earliest, l.latest].map(|n| n.to_string());
-        let [a, b, c, d] = numbers;
-        line([format!("{:08X}", l.identity), a, b, c, d, String::new()]);
+        let name = names.map_or("", |names| names.name(&l.identity.to_be_bytes()));
+        let [kept, loose] = [l.kept, l.loose].map(|n| n.to_string());
+        line([format!("{:08X}", l.identity), kept, loose, time(l.earliest), time(l.latest), String::new()], name);
     }
     let is_empty = report.lines().next().is_none();
-    let [first, last] = [earliest, latest].map(|n| if is_empty { String::new() } else { n.to_string() });
+    let [first, last] = [earliest, latest].map(|n| if is_empty { String::new() } else { time(n) });
     let share = share.map(|t| format!("{}.{:03}", t / 1000, t % 1000)).unwrap_or_default();
-    line(["TOTAL".into(), report.kept().to_string(), report.loose().to_string(), first, last, share]);
+    line(["TOTAL".into(), report.kept().to_string(), report.loose().to_string(), first, last, share], "");
     out
 }

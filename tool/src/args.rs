@@ -105,6 +105,7 @@ impl Args {
         let (name, shown) = (self.command.name, word.display());
         let advice = match self.command.option("log") {
             Some(_) => format!("To read the file {shown}, write --log {shown} or <{shown}."),
+            None if self.command.forms != [""] => return Err(self.wrong()),
             None => format!("It reads standard input: write `mooringeye {name} <FILE`."),
         };
         Err(usage(format!("{shown}: {name} takes options only. {advice}")))

@@ -8,6 +8,7 @@ use crate::failure::{tell, Failure};
 use crate::journal::{keep_last, LogPlace};
 use crate::keeper::{Files, Keeper, MAX_BATCH, ORDER};
 use crate::logs::{differ, Log};
+use crate::metrics::Metrics;
 use crate::rows::{self, Format};
 use crate::signals::{self, Signals};
 use crate::store::Place;
@@ -40,6 +41,7 @@ struct Options {
     log: Option<PathBuf>,
     follow: bool,
     adopt_log: bool,
+    metrics: Option<PathBuf>,
 }
 
 impl Options {
@@ -70,6 +72,7 @@ impl Options {
             log,
             follow: args.has("follow"),
             adopt_log: args.has("adopt-log"),
+            metrics: args.path("metrics")?,
         })
     }
 }
@@ -149,6 +152,7 @@ struct Run {
     is_settled: bool,
     /// Whether a line that ends in CR LF was told.
     told_cr: bool,
+    metrics: Metrics,
     ended: Ended,
 }
 
@@ -199,6 +203,7 @@ impl Run {
             skipping: Skipping { left: skip, is_on: skip > 0, ..Skipping::default() },
             is_settled: false,
             told_cr: false,
+            metrics: Metrics::of(options.metrics.clone()),
             ended: Ended::Input,
         };
         run.say_where_it_stands(options.files.state.as_deref());
@@ -371,7 +376,9 @@ impl Run {
 
     fn commit(&mut self, signals: &Signals) -> Result<(), Failure> {
         let output = &mut self.output;
-        self.keeper.commit(&mut |rows| output.write_until_stopped(rows, signals))
+        self.keeper.commit(&mut |rows| output.write_until_stopped(rows, signals))?;
+        self.metrics.write(&self.keeper.state);
+        Ok(())
     }
 
     /// A feed that nobody can read again: rows that a stop left are handed to the collector, as soon as the level is known. Where the state stands in a
@@ -429,6 +436,7 @@ impl Run {
     fn end(&mut self, signals: &Signals) -> Result<(), Failure> {
         if self.is_settled {
             self.keeper.end()?;
+            self.metrics.write(&self.keeper.state);
         }
         let totals = self.keeper.totals();
         if self.format == Format::Text && self.ended == Ended::Input && !self.keeper.has_out() {

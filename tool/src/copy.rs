@@ -1,5 +1,6 @@
 //! Rows as PostgreSQL's COPY BINARY takes them, and the months in which they are.
 use crate::rows::transmitter;
+use crate::times::Date;
 use mooringeye::Row;
 use std::fmt::{self, Display};
 
@@ -15,7 +16,6 @@ const EPOCH: i128 = 946_684_800_000;
 /// The first microsecond that a timestamptz cannot hold.
 const END: i128 = 9_223_371_331_200_000_000;
 const INFINITY: i64 = i64::MAX;
-const DAY: u64 = 86_400_000;
 
 pub fn put_row(out: &mut Vec<u8>, number: u64, row: &Row) {
     let bytes = row.telegram.as_bytes();
@@ -68,15 +68,8 @@ pub struct Month {
 
 impl Month {
     pub fn of(time: u64) -> Month {
-        // Years of 400 with 146,097 days each, counted from 0000-03-01, so that a leap day is the last of its year.
-        let day = time / DAY + 719_468;
-        let (era, day) = (day / 146_097, day % 146_097);
-        let year = (day - day / 1_460 + day / 36_524 - day / 146_096) / 365;
-        let day = day - (365 * year + year / 4 - year / 100);
-        let from_march = (5 * day + 2) / 153;
-        let is_after_december = from_march >= 10;
-        let month = if is_after_december { from_march - 9 } else { from_march + 3 };
-        Month { year: 400 * era + year + u64::from(is_after_december), month }
+        let Date { year, month, .. } = Date::of(time);
+        Month { year, month }
     }
 }
 
@@ -93,6 +86,7 @@ impl Display for Month {
 #[cfg(test)]
 mod tests {
     use super::*;
+    use crate::times::DAY;
 
     #[test]
     fn every_month() {

@@ -9,9 +9,10 @@ use crate::copy;
 use crate::failure::Failure;
 use crate::files::{Pieces, PIECE};
 use crate::journal::ROWS;
-use crate::rows::{self, Format};
+use crate::rows::{self, Format, Style};
 use crate::streams::Output;
 use crate::text::{self, put_hex, put_number};
+use crate::times;
 use mooringeye::{Archive, Block, Row, Scan};
 use std::collections::BTreeMap;
 use std::ffi::{OsStr, OsString};
@@ -41,7 +42,7 @@ fn first_row(text: &str) -> Option<u64> {
 
 /// The rows of a file whose first one has this number, and then how many it has. The rows before the first block that does not match are printed, and
 /// then the failure is told.
-fn list_one(source: &Source, first: u64, wanted: &Wanted, left: &mut u64, printer: &mut Printer) -> Result<u64, Failure> {
+pub fn list_one(source: &Source, first: u64, wanted: &Wanted, left: &mut u64, printer: &mut impl Sink) -> Result<u64, Failure> {
     if *left == 0 {
         return Ok(0);
     }
@@ -85,7 +86,7 @@ fn used_blocks(source: &Source) -> Result<u64, Failure> {
 }
 
 /// Files in the order of their numbers, where their names differ in a number alone: a shell sorts plant-10 before plant-9. Others stay as they are given.
-fn in_order(names: &[OsString]) -> Vec<&OsStr> {
+pub fn in_order(names: &[OsString]) -> Vec<&OsStr> {
     let mut sorted: Vec<&OsStr> = names.iter().map(OsString::as_os_str).collect();
     let numbered: Option<Vec<Numbered>> = sorted.iter().map(|name| Numbered::of(name)).collect();
     if numbered.is_some_and(|all| all.windows(2).all(|two| two[0].is_beside(&two[1]))) {
@@ -116,22 +117,30 @@ impl Numbered<'_> {
     }
 }
 
+/// Takes the rows that are wanted.
+pub trait Sink {
+    fn put(&mut self, number: u64, row: &Row);
+
+    /// Hands on what was put.
+    fn write(&mut self) -> Result<(), Failure>;
+}
+
 /// Which rows are wanted.
-struct Wanted {
+pub struct Wanted {
     /// The last row that is not, by its number; 0 where the first one is wanted.
     after: u64,
-    from: u64,
-    to: u64,
+    pub from: u64,
+    pub to: u64,
     /// None listed: those of every transmitter.
     transmitters: Vec<[u8; 4]>,
 }
 
 impl Wanted {
-    fn of(args: &Args) -> Result<Wanted, Failure> {
-        let time = |name| args.value(name, "a time in ms", text::number);
+    pub fn of(args: &Args) -> Result<Wanted, Failure> {
+        let (from, to) = times::span(args)?;
         let after = args.value("after", "the number of a row", |t| text::number(t).filter(|n| *n < u64::MAX))?;
         let transmitters = identities(args.all("txid"))?.into_iter().map(u32::to_be_bytes).collect();
-        Ok(Wanted { after: after.unwrap_or(0), from: time("from")?.unwrap_or(0), to: time("to")?.unwrap_or(u64::MAX), transmitters })
+        Ok(Wanted { after: after.unwrap_or(0), from, to, transmitters })
     }
 
     fn has(&self, number: u64, row: &Row) -> bool {
@@ -171,6 +180,8 @@ impl Form {
 /// Rows on their way to standard output.
 struct Printer {
     form: Form,
+    /// How rows as text, CSV and JSON are written beyond that.
+    style: Style,
     output: Output,
     printed: Vec<u8>,
     months: BTreeMap<copy::Month, u64>,
@@ -178,33 +189,21 @@ struct Printer {
 
 impl Printer {
     fn of(args: &Args) -> Result<Printer, Failure> {
-        Ok(Printer { form: Form::of(args)?, output: Output::standard()?, printed: Vec::with_capacity(4 * PIECE), months: BTreeMap::new() })
+        let (form, style) = (Form::of(args)?, Style::of(args)?);
+        if !matches!(form, Form::Plain(_)) && !style.is_plain() {
+            return Err(Failure::Usage("--times and --names go with --rows text, csv and json".into()));
+        }
+        Ok(Printer { form, style, output: Output::standard()?, printed: Vec::with_capacity(4 * PIECE), months: BTreeMap::new() })
     }
 
     /// What stands before the first row.
     fn begin(&mut self) -> Result<(), Failure> {
         match self.form {
-            Form::Plain(format) => rows::put_stored_heading(&mut self.printed, format),
+            Form::Plain(format) => self.style.put_heading(&mut self.printed, format),
             Form::Binary => self.printed.extend_from_slice(copy::HEADER),
             Form::Tsv | Form::Months => {}
         }
         self.write()
-    }
-
-    fn put(&mut self, number: u64, row: &Row) {
-        match self.form {
-            Form::Plain(format) => rows::put_stored(&mut self.printed, format, row),
-            Form::Tsv => put_tsv(&mut self.printed, number, row),
-            Form::Binary => copy::put_row(&mut self.printed, number, row),
-            Form::Months => *self.months.entry(copy::Month::of(row.time)).or_default() += 1,
-        }
-    }
-
-    /// Hands on what was put.
-    fn write(&mut self) -> Result<(), Failure> {
-        self.output.write(&self.printed)?;
-        self.printed.clear();
-        Ok(())
     }
 
     /// What stands behind the last row. It is missing where a file could not be read to its end, so that nobody takes a part for the whole.
@@ -216,6 +215,23 @@ impl Printer {
             self.printed.extend_from_slice(format!("{month}\t{rows}\n").as_bytes());
         }
         self.write()
+    }
+}
+
+impl Sink for Printer {
+    fn put(&mut self, number: u64, row: &Row) {
+        match self.form {
+            Form::Plain(format) => self.style.put(&mut self.printed, format, row),
+            Form::Tsv => put_tsv(&mut self.printed, number, row),
+            Form::Binary => copy::put_row(&mut self.printed, number, row),
+            Form::Months => *self.months.entry(copy::Month::of(row.time)).or_default() += 1,
+        }
+    }
+
+    fn write(&mut self) -> Result<(), Failure> {
+        self.output.write(&self.printed)?;
+        self.printed.clear();
+        Ok(())
     }
 }
 

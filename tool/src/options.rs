@@ -1,7 +1,7 @@
 //! The table of commands and options. Parsing, help, man pages and completions come from it, so that they can't differ.
 use crate::args::Args;
 use crate::failure::Failure;
-use crate::{archive, collect, generate, list, plans, telegrams};
+use crate::{archive, collect, generate, heard, list, picture, plans, status, telegrams};
 
 /// What an option or a word of a command is.
 #[derive(Clone, Copy, Debug, PartialEq, Eq)]
@@ -72,8 +72,10 @@ const fn words(name: &'static str, value: &'static str, words: &'static [&'stati
 pub const COMMON: &[Opt] = &[plain("help", "prints this help (also -h)"), plain("version", "prints the versions of the tool and of its library")];
 
 const TXID: Opt = text("txid", "ID", "only rows of this transmitter, eight hexadecimal digits; may be given several times");
-const FROM: Opt = text("from", "TIME", "no rows before this time");
-const TO: Opt = text("to", "TIME", "no rows after this time");
+const FROM: Opt = text("from", "TIME", "no rows before this time: ms, 2026-11-16 or 2026-11-16T08:00:00Z");
+const TO: Opt = text("to", "TIME", "no rows after this time; a day is taken to its end");
+const TIMES: Opt = words("times", "FORM", &["ms", "iso"], "how times are printed: ms since 1970, or iso as 2026-11-16T08:00:00.000Z");
+const NAMES: Opt = file("names", "the names of transmitters, which are printed too: lines of an ID, a comma and a name");
 
 const ENDS: &str = "0; 1 where an input or output failed or a row is refused; 2 for wrong usage; 3 for a damaged archive.";
 
@@ -96,6 +98,7 @@ pub const COMMANDS: &[Command] = &[
             plain("follow", "with --log: waits for more lines at its end, also after it was rotated by rename"),
             plain("replay", "standard input is the whole log from its first line: lines that the state has taken are skipped"),
             file("out", "rows go to this file, each once, and not to standard output"),
+            file("metrics", "totals go to this file in Prometheus' text format; it is replaced in one step after each batch"),
             words("rows", "FORMAT", &["text", "csv", "json"], "text, csv (with a heading) or json (a line each)"),
             words("sync", "WHEN", &["batch", "row"], "batch: state and archive are on disk before what was read at once is printed; row: before each row"),
             plain("new-state", "begins with a fresh collector, and keeps the old state aside"),
@@ -136,6 +139,8 @@ pub const COMMANDS: &[Command] = &[
             text("after", "ROW", "only rows behind the one with this number; earlier ones are not read"),
             text("count", "N", "at most so many rows"),
             text("first", "ROW", "the number of the first row"),
+            TIMES,
+            NAMES,
         ],
         ends: ENDS,
         run: list::run,
@@ -179,9 +184,49 @@ pub const COMMANDS: &[Command] = &[
         options: &[
             words("rows", "FORMAT", &["text", "csv"], "how lines are printed; text where it is left out"),
             text("received", "N", "prints the share of the rows in so many receptions, in whole thousandths rounded down"),
+            TIMES,
+            NAMES,
         ],
         ends: ENDS,
         run: archive::sheet,
+    },
+    Command {
+        name: "archive picture",
+        forms: &["FILE.."],
+        words: Takes::File,
+        brief: "draws the rows of archives as an HTML page",
+        about: &[
+            "Prints one page that needs no other file: a lane for each transmitter, a mark for each row at its time, coloured by RORG and data, a \
+             triangle for a LOOSE row, and a table of the rows. It has at most 20000 rows; choose them by --from, --to and --txid.",
+        ],
+        options: &[FROM, TO, TXID, NAMES, plain("svg", "prints the picture alone, as SVG")],
+        ends: ENDS,
+        run: picture::run,
+    },
+    Command {
+        name: "heard",
+        forms: &["FILE.."],
+        words: Takes::File,
+        brief: "says how often the telegrams of each transmitter were heard",
+        about: &[
+            "Reads lines opened,txid,level,copies: the time in ms at which a telegram was opened, its transmitter, the level at which it was first \
+             heard, and how often it was heard again.",
+            "Prints for each transmitter, as a whole and by week: telegrams, those that were heard once, their share rounded down to thousandths, \
+             the median and the least number of copies. The greatest share comes first: that transmitter is at the edge of reach.",
+        ],
+        options: &[words("rows", "FORMAT", &["text", "csv"], "how lines are printed; text where it is left out"), NAMES],
+        ends: "0; 1 where a file can't be read or a line is wrong; 2 for wrong usage.",
+        run: heard::run,
+    },
+    Command {
+        name: "status",
+        forms: &["--state FILE"],
+        words: Takes::Nothing,
+        brief: "prints what a state file says of its collector",
+        about: &["Prints lines, totals, open telegrams with their copies, the place in the log, the archive and the latest reception. Nothing is locked or changed."],
+        options: &[file("state", "the state of a collector"), plain("json", "prints one JSON object")],
+        ends: "0; 1 where the file can't be read; 2 for wrong usage; 3 for a damaged state.",
+        run: status::run,
     },
     Command {
         name: "plan",
