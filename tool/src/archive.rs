@@ -4,11 +4,11 @@
 //! old one, which takes its place when it is whole and on disk.
 use crate::appender::{Appender, FRAME, MAX_BLOCKS};
 use crate::args::{parsed, Args};
-use crate::failure::{tell, Failure};
+use crate::failure::{complain, Failure};
 use crate::files::{self, Pieces, Replacement, PIECE};
 use crate::names::{quoted, Names};
 use crate::rows::Format;
-use crate::streams::{each_line, Output};
+use crate::streams::{each_line, quietly, Output};
 use crate::text;
 use crate::times;
 use mooringeye::{Adding, Archive, Packer, Refusal, Report, Row, Scan, Telegram};
@@ -26,7 +26,7 @@ pub struct Source<'a> {
 impl<'a> Source<'a> {
     pub fn open(path: &'a OsStr) -> Result<Source<'a>, Failure> {
         let path = Path::new(path);
-        let file = File::open(path).map_err(|e| Failure::of(format!("open {}", path.display()), &e))?;
+        let file = files::open_archive(path)?;
         let blocks = files::blocks_of(&file, path)?;
         Ok(Source { file, path, blocks })
     }
@@ -76,7 +76,7 @@ pub fn verify(args: &Args) -> Result<(), Failure> {
             (Err(failure), None) => worst = Some(failure),
             (Err(failure), Some(before)) => {
                 let (lesser, greater) = if failure.status() > before.status() { (before, failure) } else { (failure, before) };
-                tell(lesser.text());
+                complain(lesser.text());
                 worst = Some(greater);
             }
         }
@@ -223,7 +223,7 @@ pub fn sheet(args: &Args) -> Result<(), Failure> {
         adding.end().map_err(failure)?;
     }
     let share = received.map(|n| report.share(n).map_err(|why| Failure::refused(format!("--received {n}"), why))).transpose()?;
-    Output::standard()?.write(sheet_text(&report, format, share, is_iso, names.as_ref()).as_bytes())
+    quietly(Output::standard()?.write(sheet_text(&report, format, share, is_iso, names.as_ref()).as_bytes()))
 }
 
 /// The lines of a report, and its totals last.

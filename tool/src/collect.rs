@@ -3,8 +3,9 @@
 //! This module reads the lines, from standard input or from a log, and cuts them into batches; `keeper` brings each to disk.
 use crate::appender::MAX_BLOCKS;
 use crate::args::Args;
+use crate::bad::BadLines;
 use crate::disk::{Real, Shared};
-use crate::failure::{tell, Failure};
+use crate::failure::{complain, tell, Failure};
 use crate::journal::{keep_last, LogPlace};
 use crate::keeper::{Files, Keeper, MAX_BATCH, ORDER};
 use crate::logs::{differ, Log};
@@ -153,6 +154,7 @@ struct Run {
     /// Whether a line that ends in CR LF was told.
     told_cr: bool,
     metrics: Metrics,
+    bad: BadLines,
     ended: Ended,
 }
 
@@ -204,6 +206,7 @@ impl Run {
             is_settled: false,
             told_cr: false,
             metrics: Metrics::of(options.metrics.clone()),
+            bad: BadLines::default(),
             ended: Ended::Input,
         };
         run.say_where_it_stands(options.files.state.as_deref());
@@ -329,7 +332,7 @@ impl Run {
     /// Prints the totals where they were asked for, and says whether to stop.
     fn sees_to_signal(&mut self) -> bool {
         if sys::take_totals_request() {
-            tell(self.keeper.totals());
+            complain(self.keeper.totals());
         }
         let Some(name) = signals::stop() else { return false };
         tell(format!("{name}: ends in order"));
@@ -360,14 +363,15 @@ impl Run {
         }
         let level = self.level.expect("known since the first line");
         loop {
-            let before = self.keeper.state.collector.totals().received;
+            let received = self.keeper.received();
             let took = self.keeper.take(level, &text[used..], self.batch)?;
             if took.lines == 0 {
                 return Ok(used);
             }
-            // Lines that are no receptions are BAD: these may end in CR LF.
-            if self.keeper.state.collector.totals().received - before < took.lines as u64 {
+            // Lines that are no receptions are BAD: these are told, and may end in CR LF.
+            if self.keeper.received() - received < took.lines as u64 {
                 self.tell_cr(&text[used..used + took.used]);
+                self.bad.look(self.read + 1, &text[used..used + took.used], self.keeper.printed());
             }
             (used, self.read) = (used + took.used, self.read + took.lines as u64);
             self.commit(signals)?;
@@ -438,6 +442,7 @@ impl Run {
             self.keeper.end()?;
             self.metrics.write(&self.keeper.state);
         }
+        self.bad.end();
         let totals = self.keeper.totals();
         if self.format == Format::Text && self.ended == Ended::Input && !self.keeper.has_out() {
             self.output.write_until_stopped(format!("{totals}\n").as_bytes(), signals)?;

@@ -2,12 +2,15 @@
 use mooringeye::{Refusal, Refused};
 use std::fmt::Display;
 use std::io;
+use std::sync::atomic::{AtomicBool, Ordering};
 
 /// What went wrong, in words for standard error.
 #[derive(Debug)]
 pub enum Failure {
     /// An input or an output failed, or what was read is refused: status 1.
     Failed(String),
+    /// Nobody reads standard output any more: status 1, or 0 where a command only prints.
+    Closed(String),
     /// Wrong usage: status 2.
     Usage(String),
     /// A damaged state or archive: status 3.
@@ -17,14 +20,14 @@ pub enum Failure {
 impl Failure {
     pub fn status(&self) -> u8 {
         match self {
-            Failure::Failed(_) => 1,
+            Failure::Failed(_) | Failure::Closed(_) => 1,
             Failure::Usage(_) => 2,
             Failure::Damaged(_) => 3,
         }
     }
 
     pub fn text(&self) -> &str {
-        let (Failure::Failed(text) | Failure::Usage(text) | Failure::Damaged(text)) = self;
+        let (Failure::Failed(text) | Failure::Closed(text) | Failure::Usage(text) | Failure::Damaged(text)) = self;
         text
     }
 
@@ -52,8 +55,26 @@ impl Failure {
     }
 }
 
-/// Says something on standard error. Where that cannot be written there is nobody to tell.
+/// Whether `--quiet` is given.
+static IS_QUIET: AtomicBool = AtomicBool::new(false);
+
+pub fn set_quiet(is_quiet: bool) {
+    IS_QUIET.store(is_quiet, Ordering::Relaxed);
+}
+
+pub fn is_quiet() -> bool {
+    IS_QUIET.load(Ordering::Relaxed)
+}
+
+/// Says something on standard error, but not with `--quiet`.
 pub fn tell(text: impl Display) {
+    if !is_quiet() {
+        complain(text);
+    }
+}
+
+/// Says why a command fails. Where standard error cannot be written there is nobody to tell.
+pub fn complain(text: impl Display) {
     use io::Write;
     let _ = writeln!(io::stderr(), "mooringeye: {text}");
 }

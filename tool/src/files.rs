@@ -1,6 +1,7 @@
 //! Files: locks, replacement by rename, and reading in pieces.
+use crate::appender::MAX_BLOCKS;
 use crate::disk::{Disk, Handle, Open, Real, Shared};
-use crate::failure::{tell, Failure};
+use crate::failure::{is_quiet, tell, Failure};
 use mooringeye::{Archive, Refusal};
 use std::ffi::OsString;
 use std::fs::{self, File, OpenOptions, TryLockError};
@@ -181,13 +182,31 @@ impl Drop for Replacement {
     }
 }
 
+fn not_a_file(path: &Path) -> Failure {
+    let shown = path.display();
+    Failure::Failed(format!("cannot read {shown}: it is not a file. An archive is a regular file; write what a pipe gives to one first."))
+}
+
+/// Opens an archive to be read. A pipe is refused before it is opened, which would wait for its writer.
+pub fn open_archive(path: &Path) -> Result<File, Failure> {
+    let cannot = |e: io::Error| Failure::of(format!("open {}", path.display()), &e);
+    match fs::metadata(path).map_err(cannot)?.is_file() {
+        true => File::open(path).map_err(cannot),
+        false => Err(not_a_file(path)),
+    }
+}
+
 /// The length of an archive in blocks; 16 for one that is not whole blocks.
 pub fn blocks_of(file: &dyn Handle, path: &Path) -> Result<u64, Failure> {
     let facts = file.facts().map_err(|e| Failure::of(format!("read {}", path.display()), &e))?;
     if !facts.is_file {
-        return Err(Failure::Failed(format!("cannot read {}: it is not a file", path.display())));
+        return Err(not_a_file(path));
     }
     match facts.length {
+        n if n / BLOCK > MAX_BLOCKS => {
+            let text = format!("{n} bytes, and an archive has at most 2^32 blocks of {BLOCK} bytes");
+            Err(Failure::Damaged(format!("{}: no archive: {text}. It was not read.", path.display())))
+        }
         n if n % BLOCK == 0 => Ok(n / BLOCK),
         n => Err(Failure::refused(format!("{} has {n} bytes", path.display()), Refusal::Size)),
     }
@@ -230,25 +249,37 @@ struct Progress {
     name: String,
     total: u64,
     done: u64,
-    /// When it was shown last; none where nobody looks.
+    started: Instant,
+    /// When it was shown last, or began; none where nobody looks.
     shown: Option<Instant>,
     is_shown: bool,
 }
 
 impl Progress {
     fn of(path: &Path, total: u64) -> Progress {
-        let shown = io::stderr().is_terminal().then(Instant::now);
-        Progress { name: path.display().to_string(), total, done: 0, shown, is_shown: false }
+        let started = Instant::now();
+        let shown = (io::stderr().is_terminal() && !is_quiet()).then_some(started);
+        Progress { name: path.display().to_string(), total, done: 0, started, shown, is_shown: false }
     }
 
+    /// Once a second, so that work of less than a second shows nothing.
     fn show(&mut self, more: u64) {
         self.done += more;
         let Some(last) = self.shown else { return };
-        if last.elapsed() > Duration::from_millis(500) {
-            let _ = write!(io::stderr(), "\r{}: {} %", self.name, 100 * self.done / self.total);
+        if last.elapsed() >= Duration::from_secs(1) {
+            let _ = write!(io::stderr(), "\r{}: {}\x1b[K", self.name, progress(self.done, self.total, self.started.elapsed()));
             (self.shown, self.is_shown) = (Some(Instant::now()), true);
         }
     }
+}
+
+/// How much is done of a number of bytes, how fast, and how long the rest takes.
+fn progress(done: u64, total: u64, elapsed: Duration) -> String {
+    let mega = |bytes: f64| bytes / 1e6;
+    let rate = done as f64 / elapsed.as_secs_f64().max(0.001);
+    let left = (total - done) as f64 / rate.max(1.0);
+    let (rows, rate) = (done / BLOCK * Archive::ROWS_PER_BLOCK as u64, mega(rate));
+    format!("{:.0} of {:.0} MB, up to {rows} rows, {rate:.0} MB/s, {left:.0} s left", mega(done as f64), mega(total as f64))
 }
 
 impl Drop for Progress {
@@ -270,4 +301,15 @@ pub fn while_written(failure: Failure, file: &File, path: &Path) -> Failure {
         tell(format!("{} is being written: a block may have been read half old, half new; try again", path.display()));
     }
     failure
+}
+
+#[cfg(test)]
+mod tests {
+    use super::*;
+
+    #[test]
+    fn progress_lines() {
+        let text = progress(512_000_000, 2_048_000_000, Duration::from_secs(2));
+        assert_eq!(text, "512 of 2048 MB, up to 15000000 rows, 256 MB/s, 6 s left");
+    }
 }

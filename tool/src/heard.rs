@@ -3,7 +3,7 @@ use crate::args::Args;
 use crate::failure::Failure;
 use crate::names::{quoted, Names};
 use crate::rows::Format;
-use crate::streams::Output;
+use crate::streams::{quietly, Output};
 use crate::text;
 use crate::times;
 use std::collections::BTreeMap;
@@ -21,7 +21,7 @@ pub fn run(args: &Args) -> Result<(), Failure> {
     for name in args.at_least_one()? {
         heard.read(Path::new(name))?;
     }
-    Output::standard()?.write(heard.text(format, names.as_ref()).as_bytes())
+    quietly(Output::standard()?.write(heard.text(format, names.as_ref()).as_bytes()))
 }
 
 /// Of telegrams, how many were heard again so many times.

@@ -108,6 +108,16 @@ impl Keeper {
         rows::totals(&self.state.collector.totals())
     }
 
+    /// Receptions that were taken.
+    pub fn received(&self) -> u64 {
+        self.state.collector.totals().received
+    }
+
+    /// The rows of the batch.
+    pub fn printed(&self) -> &[u8] {
+        self.batch.printed()
+    }
+
     /// Whether rows go to a file, and not to standard output.
     pub fn has_out(&self) -> bool {
         self.out.is_some()

@@ -10,7 +10,7 @@ use crate::failure::Failure;
 use crate::files::{Pieces, PIECE};
 use crate::journal::ROWS;
 use crate::rows::{self, Format, Style};
-use crate::streams::Output;
+use crate::streams::{quietly, Output};
 use crate::text::{self, put_hex, put_number};
 use crate::times;
 use mooringeye::{Archive, Block, Row, Scan};
@@ -24,6 +24,10 @@ use std::path::Path;
 const MAX_FIRST: u64 = 1 << 62;
 
 pub fn run(args: &Args) -> Result<(), Failure> {
+    quietly(list(args))
+}
+
+fn list(args: &Args) -> Result<(), Failure> {
     let wanted = Wanted::of(args)?;
     let mut printer = Printer::of(args)?;
     let mut left = args.value("count", "a number of rows", text::number)?.unwrap_or(u64::MAX);

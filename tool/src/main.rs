@@ -6,6 +6,7 @@
 mod appender;
 mod archive;
 mod args;
+mod bad;
 mod batch;
 mod collect;
 mod copy;
@@ -39,18 +40,18 @@ mod text;
 mod times;
 
 use args::Args;
-use failure::{tell, Failure};
+use failure::{complain, Failure};
 use help::Asked;
 use std::ffi::OsString;
 use std::process::ExitCode;
-use streams::Output;
+use streams::{quietly, Output};
 
 fn main() -> ExitCode {
     sys::ignore_file_size_signal();
     match run(std::env::args_os().skip(1).collect()) {
         Ok(()) => ExitCode::SUCCESS,
         Err(failure) => {
-            tell(failure.text());
+            complain(failure.text());
             ExitCode::from(failure.status())
         }
     }
@@ -58,7 +59,11 @@ fn main() -> ExitCode {
 
 fn run(words: Vec<OsString>) -> Result<(), Failure> {
     match Asked::of(&words)? {
-        Asked::Run(command, rest) => (command.run)(&Args::of(command, rest)?),
+        Asked::Run(command, rest) => {
+            let args = Args::of(command, rest)?;
+            failure::set_quiet(args.has("quiet"));
+            (command.run)(&args)
+        }
         Asked::Help(text) => say(&text),
         Asked::Version => say_version(),
     }
@@ -75,5 +80,5 @@ fn say_version() -> Result<(), Failure> {
 
 /// Prints a text.
 fn say(text: &str) -> Result<(), Failure> {
-    Output::standard()?.write(format!("{text}\n").as_bytes())
+    quietly(Output::standard()?.write(format!("{text}\n").as_bytes()))
 }

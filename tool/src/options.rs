@@ -69,7 +69,11 @@ const fn words(name: &'static str, value: &'static str, words: &'static [&'stati
 }
 
 /// The options of every command.
-pub const COMMON: &[Opt] = &[plain("help", "prints this help (also -h)"), plain("version", "prints the versions of the tool and of its library")];
+pub const COMMON: &[Opt] = &[
+    plain("quiet", "says nothing on standard error but why it fails"),
+    plain("help", "prints this help (also -h)"),
+    plain("version", "prints the versions of the tool and of its library"),
+];
 
 const TXID: Opt = text("txid", "ID", "only rows of this transmitter, eight hexadecimal digits; may be given several times");
 const FROM: Opt = text("from", "TIME", "no rows before this time: ms, 2026-11-16 or 2026-11-16T08:00:00Z");

@@ -4,7 +4,7 @@ use crate::args::Args;
 use crate::failure::Failure;
 use crate::list::{in_order, list_one, Sink, Wanted};
 use crate::names::Names;
-use crate::streams::Output;
+use crate::streams::{quietly, Output};
 use crate::text::put_hex;
 use crate::times::iso;
 use mooringeye::Row;
@@ -30,7 +30,7 @@ pub fn run(args: &Args) -> Result<(), Failure> {
     }
     let picture = Picture::of(&rows.all, (wanted.from, wanted.to), &names);
     let text = if args.has("svg") { picture.svg() } else { picture.html() };
-    Output::standard()?.write(text.as_bytes())
+    quietly(Output::standard()?.write(text.as_bytes()))
 }
 
 /// The rows that were chosen.

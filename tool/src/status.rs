@@ -4,7 +4,7 @@ use crate::failure::Failure;
 use crate::journal::{State, LENGTH};
 use crate::names::json;
 use crate::rows;
-use crate::streams::Output;
+use crate::streams::{quietly, Output};
 use crate::times::iso;
 use mooringeye::Totals;
 use std::fs::File;
@@ -21,7 +21,7 @@ pub fn run(args: &Args) -> Result<(), Failure> {
     let state = read(&path)?;
     let now = SystemTime::now().duration_since(UNIX_EPOCH).map_or(0, |since| since.as_millis() as u64);
     let text = if args.has("json") { as_json(&state, now) } else { as_text(&state, now) };
-    Output::standard()?.write(text.as_bytes())
+    quietly(Output::standard()?.write(text.as_bytes()))
 }
 
 fn read(path: &Path) -> Result<State, Failure> {

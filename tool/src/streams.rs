@@ -116,6 +116,14 @@ impl Output {
     }
 }
 
+/// What a command that only prints makes of a reader that went away, as `head` does: it has all it wanted.
+pub fn quietly(done: Result<(), Failure>) -> Result<(), Failure> {
+    match done {
+        Err(Failure::Closed(_)) => Ok(()),
+        done => done,
+    }
+}
+
 /// More characters than any line of rows or repeaters has.
 const MAX_TEXT: usize = 1_000;
 
@@ -161,5 +169,8 @@ fn cannot_read(error: io::Error) -> Failure {
 }
 
 fn cannot_write(error: io::Error) -> Failure {
-    Failure::of("write standard output", &error)
+    match (error.kind(), Failure::of("write standard output", &error)) {
+        (ErrorKind::BrokenPipe, Failure::Failed(text)) => Failure::Closed(text),
+        (_, failure) => failure,
+    }
 }
