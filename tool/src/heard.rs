@@ -6,6 +6,7 @@ use crate::rows::Format;
 use crate::streams::{quietly, Output};
 use crate::text;
 use crate::times;
+use std::cmp::Reverse;
 use std::collections::BTreeMap;
 use std::fs::File;
 use std::io::{BufRead, BufReader};
@@ -106,13 +107,13 @@ impl Heard {
         Some(())
     }
 
-    /// Transmitters with the greatest share of telegrams that were heard once first; each as a whole, then by week.
+    /// Transmitters with the greatest share of telegrams that were heard once first, then those with more telegrams; each as a whole, then by week.
     fn text(&self, format: Format, names: Option<&Names>) -> String {
         let mut out = String::new();
         let heading = ["telegrams", "once", "share", "median", "least"].map(String::from);
         put(&mut out, format, ["txid", "week"], heading, names.map(|_| "name"));
         let mut all: Vec<_> = self.all.iter().collect();
-        all.sort_by_key(|(id, (whole, _))| (std::cmp::Reverse(whole.share()), **id));
+        all.sort_by_key(|(id, (whole, _))| (Reverse((whole.share(), whole.telegrams())), **id));
         for (id, (whole, weeks)) in all {
             let name = names.map(|names| names.name(&id.to_be_bytes()));
             let id = format!("{id:08X}");
