@@ -209,7 +209,8 @@ impl<'a> Picture<'a> {
         out += "body { font-family: sans-serif; font-size: 14px; margin: 20px; color: #222222 }\nsvg { max-width: 100%; height: auto }\n";
         out += "td, th { padding: 2px 12px 2px 0; text-align: left } td { font-family: monospace }\n";
         out += ".key { display: inline-block; width: 12px; height: 12px; margin: 0 4px 0 14px }\n</style>\n</head>\n<body>\n";
-        let _ = writeln!(out, "<h1>{} to {}</h1>\n<p>{} rows, {} transmitters</p>", iso(self.from), iso(self.to), self.rows.len(), self.lanes.len());
+        let _ =
+            writeln!(out, "<h1>{} to {}</h1>\n<p>Rows: {}. Transmitters: {}.</p>", iso(self.from), iso(self.to), self.rows.len(), self.lanes.len());
         out += &self.svg();
         self.put_legend(&mut out);
         self.put_table(&mut out);
