@@ -1,23 +1,17 @@
 //! What the journal decides, as pure functions over bytes: the state file's bytes, the judgement on the block with the last counted row, where the run
 //! of leftover rows ends, and how many of them are what the log gives again. What is read, written and synced meanwhile is `store` and `keeper`
 //! (docs/CRASH.md has the whole picture; crates/journal_model its model and theorems).
-use mooringeye::{crc8, raw, Archive, Block, Collector};
+use mooringeye::{raw, Archive, Block, Collector, Refusal};
 
 const BLOCK: usize = Archive::BLOCK;
 pub const ROWS: u64 = Archive::ROWS_PER_BLOCK as u64;
 /// The bytes of a row but its time: 1 for LOOSE and else 0, a length, 21 bytes.
 pub const RECORD: usize = raw::ROW;
-/// The bytes of a state file, and of one of version 1.
-pub const LENGTH: usize = 2 * BLOCK + Collector::IMAGE + TAIL;
-const LENGTH_1: usize = 2 * BLOCK + Collector::IMAGE;
-/// The first bytes of every state: a name and the version of this layout.
-const MARK: &[u8; 8] = b"MOORING\x02";
-const MARK_1: &[u8; 8] = b"MOORING\x01";
-pub const MAX_NAME: usize = 255;
+/// The bytes of a state file.
+pub const LENGTH: usize = raw::STATE;
+pub const MAX_NAME: usize = raw::STATE_NAME;
 /// How many bytes of the log before the offset are kept.
-pub const TAIL: usize = 512;
-/// The most rows of an archive's file.
-const MAX_ROWS: u64 = ROWS << 32;
+pub const TAIL: usize = raw::STATE_TAIL;
 
 /// What a state file holds.
 #[derive(Clone)]
@@ -82,14 +76,6 @@ pub struct OutPlace {
     pub inode: u64,
 }
 
-fn put(bytes: &mut [u8], at: usize, number: u64) {
-    bytes[at..at + 8].copy_from_slice(&number.to_be_bytes());
-}
-
-fn number(bytes: &[u8], at: usize) -> u64 {
-    u64::from_be_bytes(bytes[at..at + 8].try_into().expect("eight bytes"))
-}
-
 impl State {
     pub fn fresh() -> State {
         State { collector: Collector::new(), lines: 0, archive: None, log: Some(LogPlace::default()), out: None }
@@ -101,112 +87,53 @@ impl State {
         totals.kept + totals.loose
     }
 
-    /// Rows that it counts in the archive's file.
-    fn rows(&self, archive: &Attached) -> Option<u64> {
-        self.counted().checked_sub(archive.counted)?.checked_add(archive.had).filter(|n| *n <= MAX_ROWS)
-    }
-
-    /// The bytes of docs/FORMATS.md, "State of the tool".
-    pub fn to_bytes(&self) -> Vec<u8> {
-        let mut bytes = vec![0; LENGTH];
-        bytes[..8].copy_from_slice(MARK);
-        put(&mut bytes, 8, self.lines);
-        self.put_archive(&mut bytes);
+    /// The bytes of docs/FORMATS.md, "State file". Refused: a state whose parts do not agree.
+    pub fn to_bytes(&self) -> Result<Vec<u8>, Refusal> {
+        let (mut numbers, mut name, mut tail) = ([0; raw::STATE_NUMBERS], [0; raw::STATE_NAME], [0; TAIL]);
+        let mut last = Block::default();
+        numbers[0] = self.lines;
+        if let Some(archive) = &self.archive {
+            numbers[1..5].copy_from_slice(&[archive.counted, archive.had, archive.number, archive.name.len() as u64]);
+            name[..archive.name.len()].copy_from_slice(&archive.name);
+            last = archive.last.clone();
+        }
         if let Some(log) = &self.log {
-            bytes[296] = 1;
-            put(&mut bytes, 297, log.offset);
-            put(&mut bytes, 305, log.device);
-            put(&mut bytes, 313, log.inode);
-            bytes[321..323].copy_from_slice(&(log.tail.len() as u16).to_be_bytes());
-            bytes[LENGTH_1..LENGTH_1 + log.tail.len()].copy_from_slice(&log.tail);
+            numbers[5..10].copy_from_slice(&[1, log.offset, log.device, log.inode, log.tail.len() as u64]);
+            tail[..log.tail.len()].copy_from_slice(&log.tail);
         }
         if let Some(out) = &self.out {
-            bytes[323] = 1;
-            put(&mut bytes, 324, out.length);
-            put(&mut bytes, 332, out.device);
-            put(&mut bytes, 340, out.inode);
+            numbers[10..].copy_from_slice(&[1, out.length, out.device, out.inode]);
         }
-        bytes[348] = crc8(&bytes[LENGTH_1..]);
-        bytes[BLOCK - 1] = crc8(&bytes[..BLOCK - 1]);
-        bytes[2 * BLOCK..LENGTH_1].copy_from_slice(&self.collector.checkpoint());
-        bytes
-    }
-
-    fn put_archive(&self, bytes: &mut [u8]) {
-        if let Some(archive) = &self.archive {
-            put(bytes, 16, archive.counted);
-            put(bytes, 24, archive.had);
-            put(bytes, 32, archive.number);
-            bytes[40] = archive.name.len() as u8;
-            bytes[41..41 + archive.name.len()].copy_from_slice(&archive.name);
-            bytes[BLOCK..2 * BLOCK].copy_from_slice(archive.last.as_bytes());
+        let mut bytes = [0; LENGTH];
+        match raw::state_write(&numbers, &name, last.as_bytes(), &self.collector.checkpoint(), &tail, &mut bytes) {
+            0 => Ok(bytes.to_vec()),
+            _ => Err(Refusal::NotAccepted),
         }
-    }
-
-    /// The same as version 1 had it: of a state without a place in a log.
-    fn to_bytes_1(&self) -> Vec<u8> {
-        let mut bytes = vec![0; LENGTH_1];
-        bytes[..8].copy_from_slice(MARK_1);
-        put(&mut bytes, 8, self.lines);
-        self.put_archive(&mut bytes);
-        bytes[BLOCK - 1] = crc8(&bytes[..BLOCK - 1]);
-        bytes[2 * BLOCK..].copy_from_slice(&self.collector.checkpoint());
-        bytes
     }
 
     /// The state of these bytes, or why there is none. Accepted is just what is written of a state, in this version or in version 1.
     pub fn of_bytes(bytes: &[u8]) -> Result<State, String> {
-        if bytes.len() != LENGTH && bytes.len() != LENGTH_1 {
-            return Err(format!("{} bytes, expected {LENGTH}", bytes.len()));
+        let (mut numbers, mut name, mut tail) = ([0; raw::STATE_NUMBERS], [0; raw::STATE_NAME], [0; TAIL]);
+        let (mut last, mut image) = ([0; BLOCK], [0; Collector::IMAGE]);
+        match raw::state_accept(bytes, &mut numbers, &mut name, &mut last, &mut image, &mut tail) {
+            0 => {}
+            16 => return Err(format!("{} bytes, expected {LENGTH}", bytes.len())),
+            _ => return Err("it is not what is written of a state".into()),
         }
-        let is_1 = bytes.len() == LENGTH_1;
-        if bytes[..8] != *(if is_1 { MARK_1 } else { MARK }) {
-            return Err("it does not begin as a state does".into());
-        }
-        let header = &bytes[..BLOCK];
-        if crc8(&header[..BLOCK - 1]) != header[BLOCK - 1] || !is_1 && crc8(&bytes[LENGTH_1..]) != header[348] {
-            return Err("a CRC is wrong".into());
-        }
-        let collector = Collector::restore(&bytes[2 * BLOCK..LENGTH_1]).map_err(|why| format!("its image is {why}"))?;
-        let (log, out) = if is_1 { (None, None) } else { (log_of(bytes)?, out_of(header)) };
-        let state = State { collector, lines: number(header, 8), archive: attached_of(bytes), log, out };
-        state.check_copy()?;
-        match bytes == if is_1 { state.to_bytes_1() } else { state.to_bytes() } {
-            true => Ok(state),
-            false => Err("it is not byte for byte what is written of a state".into()),
-        }
+        let collector = Collector::restore(&image).map_err(|why| format!("its image is {why}"))?;
+        let [lines, counted, had, number, length, has_log, offset, device, inode, kept, has_out, ..] = numbers;
+        let name = name[..length as usize].to_vec();
+        let archive = Attached { name, number, counted, had, last: Block::new(last) };
+        let log = LogPlace { offset, device, inode, tail: tail[..kept as usize].to_vec() };
+        let out = OutPlace { length: numbers[11], device: numbers[12], inode: numbers[13] };
+        Ok(State {
+            collector,
+            lines,
+            archive: (length > 0).then_some(archive),
+            log: (has_log == 1).then_some(log),
+            out: (has_out == 1).then_some(out),
+        })
     }
-
-    /// The copy of the archive's last block has to be the one with the last counted row.
-    fn check_copy(&self) -> Result<(), String> {
-        let Some(archive) = &self.archive else { return Ok(()) };
-        let rows = self.rows(archive).ok_or("it counts fewer rows than when its archive began, or more than a file has")?;
-        let is_right = match rows {
-            0 => archive.last.is_blank(),
-            rows => judge(&archive.last, in_last(rows), &archive.last) == Found::Same && number_of(&archive.last) == (rows - 1) / ROWS,
-        };
-        is_right.then_some(()).ok_or_else(|| "its copy of the archive's last block does not match".into())
-    }
-}
-
-fn attached_of(bytes: &[u8]) -> Option<Attached> {
-    let name = &bytes[41..41 + usize::from(bytes[40])];
-    let last = Block::new(bytes[BLOCK..2 * BLOCK].try_into().expect("a block"));
-    let attached = Attached { name: name.into(), number: number(bytes, 32), counted: number(bytes, 16), had: number(bytes, 24), last };
-    (!name.is_empty()).then_some(attached)
-}
-
-fn log_of(bytes: &[u8]) -> Result<Option<LogPlace>, String> {
-    let (offset, kept) = (number(bytes, 297), usize::from(u16::from_be_bytes([bytes[321], bytes[322]])));
-    if kept as u64 != offset.min(TAIL as u64) {
-        return Err("it does not keep the log's last bytes".into());
-    }
-    let tail = bytes[LENGTH_1..LENGTH_1 + kept].to_vec();
-    Ok((bytes[296] == 1).then(|| LogPlace { offset, device: number(bytes, 305), inode: number(bytes, 313), tail }))
-}
-
-fn out_of(header: &[u8]) -> Option<OutPlace> {
-    (header[323] == 1).then(|| OutPlace { length: number(header, 324), device: number(header, 332), inode: number(header, 340) })
 }
 
 /// Of so many rows of a file how many stand in the last block.
@@ -231,19 +158,12 @@ pub enum Found {
 
 /// `rows` of the block's rows are counted.
 pub fn judge(last: &Block, rows: usize, block: &Block) -> Found {
-    let mut front = block.clone();
-    let is_copy = front.cut(rows).is_ok() && front == *last;
-    match () {
-        () if is_copy && front == *block => Found::Same,
-        () if is_copy => Found::Longer,
-        () if !block.is_sound() && !block.is_blank() => Found::Torn,
-        () => Found::Another,
+    match raw::journal_judge(last.as_bytes(), rows, block.as_bytes()) {
+        0 => Found::Same,
+        1 => Found::Longer,
+        2 => Found::Torn,
+        _ => Found::Another,
     }
-}
-
-fn number_of(block: &Block) -> u64 {
-    let [a, b, c, d, ..] = *block.as_bytes();
-    u32::from_be_bytes([a, b, c, d]).into()
 }
 
 /// A row as `put_rows` takes it.
@@ -267,45 +187,43 @@ pub fn rows_of(block: &Block) -> Vec<Stored> {
 
 /// How many rows that come are what stands there, from the first on. Where all are they are counted; else the leftovers behind go aside.
 pub fn agreeing(times: &[u64], records: &[u8], left: &[Stored]) -> usize {
-    let came = times.iter().zip(records.chunks_exact(RECORD));
-    came.zip(left).take_while(|((time, record), stored)| **time == stored.time && told(record) == told(&stored.record)).count()
-}
-
-/// The part of a record that says something: what stands behind the telegram is unspecified.
-fn told(record: &[u8]) -> &[u8] {
-    &record[..record.len().min(2 + usize::from(record[1]))]
+    let moments: Vec<u64> = left.iter().map(|row| row.time).collect();
+    let standing: Vec<u8> = left.iter().flat_map(|row| row.record).collect();
+    let (mut agreed, mut going) = (0, 0);
+    let number = raw::journal_compare(times, records, &moments, &standing, &mut agreed, &mut going);
+    assert_eq!(number, 0, "a record of 23 bytes for each time");
+    agreed
 }
 
 /// Where a run of blocks ends that reads as an archive: sound, rightly numbered, only the last one short.
 pub struct Run {
-    /// The number that the next block has to have.
-    next: u64,
-    /// The blocks of it, and their rows.
-    pub blocks: u64,
-    pub rows: u64,
-    pub has_ended: bool,
+    numbers: [u64; raw::RUN_NUMBERS],
 }
 
 impl Run {
-    /// The next block has this number.
+    /// The next block has this number; in one file none is too large.
     pub fn from(next: u64) -> Run {
-        Run { next, blocks: 0, rows: 0, has_ended: false }
+        Run { numbers: [1 << 32, next, 0, 0, 0] }
+    }
+
+    /// A run that ends before its first block.
+    pub fn ended() -> Run {
+        Run { numbers: [1 << 32, 0, 0, 0, 1] }
+    }
+
+    /// The blocks of it, and their rows.
+    pub fn blocks(&self) -> u64 {
+        self.numbers[2]
+    }
+
+    pub fn rows(&self) -> u64 {
+        self.numbers[3]
     }
 
     /// Takes blocks until the run ends.
     pub fn feed(&mut self, piece: &[u8]) {
-        for bytes in piece.chunks_exact(BLOCK) {
-            if self.has_ended {
-                return;
-            }
-            let block = Block::new(bytes.try_into().expect("a block"));
-            if is_zero(bytes) || !block.is_sound() || number_of(&block) != self.next {
-                self.has_ended = true;
-                return;
-            }
-            let rows = u64::from(bytes[4]);
-            (self.next, self.blocks, self.rows, self.has_ended) = (self.next + 1, self.blocks + 1, self.rows + rows, rows < ROWS);
-        }
+        let number = raw::journal_scan(&mut self.numbers, piece);
+        assert_eq!(number, 0, "whole blocks, and numbers of a scan");
     }
 }
 
@@ -357,22 +275,30 @@ mod tests {
     #[test]
     fn reads_back() {
         for state in [state(), State::fresh()] {
-            let bytes = state.to_bytes();
-            assert_eq!(State::of_bytes(&bytes).ok().unwrap().to_bytes(), bytes);
+            let bytes = state.to_bytes().unwrap();
+            assert_eq!(State::of_bytes(&bytes).ok().unwrap().to_bytes().unwrap(), bytes);
         }
+    }
+
+    /// What version 1 wrote of a state without a place in a log.
+    fn bytes_1(state: State) -> Vec<u8> {
+        let mut bytes = State { log: None, out: None, ..state }.to_bytes().unwrap();
+        bytes.truncate(LENGTH - TAIL);
+        bytes[7] = 1;
+        bytes[348] = 0;
+        bytes[BLOCK - 1] = mooringeye::crc8(&bytes[..BLOCK - 1]);
+        bytes
     }
 
     #[test]
     fn reads_version_1() {
-        let state = State { log: None, out: None, ..state() };
-        let bytes = state.to_bytes_1();
-        let read = State::of_bytes(&bytes).ok().unwrap();
-        assert_eq!((read.lines, read.log.is_none(), read.to_bytes_1()), (7, true, bytes));
+        let read = State::of_bytes(&bytes_1(state())).ok().unwrap();
+        assert_eq!((read.lines, read.log.is_none(), read.out), (7, true, None));
     }
 
     #[test]
     fn no_bit_can_flip() {
-        for bytes in [state().to_bytes(), State { log: None, out: None, ..state() }.to_bytes_1()] {
+        for bytes in [state().to_bytes().unwrap(), bytes_1(state())] {
             for bit in 0..8 * bytes.len() {
                 let mut other = bytes.clone();
                 other[bit / 8] ^= 1 << (bit % 8);
@@ -383,8 +309,8 @@ mod tests {
 
     #[test]
     fn no_byte_can_be_missing() {
-        let bytes = state().to_bytes();
-        for n in (0..LENGTH).filter(|n| *n != LENGTH_1) {
+        let bytes = state().to_bytes().unwrap();
+        for n in 0..LENGTH {
             assert!(State::of_bytes(&bytes[..n]).is_err());
         }
     }
@@ -424,10 +350,10 @@ mod tests {
         let bytes = [block(15, 15), block(30, 15), block(45, 3), block(60, 15)].map(|b| *b.as_bytes()).concat();
         let mut run = Run::from(1);
         bytes.chunks(1024).for_each(|piece| run.feed(piece));
-        assert_eq!((run.blocks, run.rows, run.has_ended), (3, 33, true));
+        assert_eq!((run.blocks(), run.rows()), (3, 33));
         let mut run = Run::from(2);
         run.feed(&bytes);
-        assert_eq!((run.blocks, run.rows, run.has_ended), (0, 0, true));
+        assert_eq!((run.blocks(), run.rows()), (0, 0));
         let mut behind = Behind::default();
         behind.feed(&[&bytes[..], &[0; 512], &[7; 512], &[0; 600]].concat());
         assert_eq!((behind.blocks, behind.sound), (6, 4));

@@ -43,10 +43,11 @@ impl StateFile {
     /// Replaces the file: after a crash it holds the old state or the new one.
     pub fn write(&self, state: &State) -> Result<(), Failure> {
         let beside = with_suffix(&self.path, ".new");
+        let bytes = state.to_bytes().map_err(|why| Failure::refused(self.path.display(), why))?;
         let write = || {
             let file = self.disk.open(&beside, Open::Empty)?;
             file.share_as(&self.path)?;
-            file.write_at(&state.to_bytes(), 0)?;
+            file.write_at(&bytes, 0)?;
             file.sync()
         };
         write().map_err(|error| {

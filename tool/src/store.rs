@@ -170,37 +170,36 @@ impl Store {
             run.feed(block.as_bytes());
         }
         self.look_behind(self.number, None, used, &mut run)?;
-        self.left = run.rows - in_last(self.file.rows()) as u64;
+        self.left = run.rows() - in_last(self.file.rows()) as u64;
         if self.place.blocks.is_none() {
             return Ok(());
         }
-        let mut is_full = ROWS * used.saturating_sub(1) + run.rows == self.place.full();
+        let mut is_full = ROWS * used.saturating_sub(1) + run.rows() == self.place.full();
         for number in self.number + 1.. {
             let Some(path) = self.place.existing(&*self.disk, number)? else { break };
             let later = Appender::over(files::open_kept(&*self.disk, &path)?, &path, self.place.size())?;
-            let mut run = Run::from(0);
-            run.has_ended = !is_full;
+            let mut run = if is_full { Run::from(0) } else { Run::ended() };
             self.look_behind(number, Some(&later), 0, &mut run)?;
-            self.left += run.rows;
-            is_full = run.rows == self.place.full();
+            self.left += run.rows();
+            is_full = run.rows() == self.place.full();
         }
         Ok(())
     }
 
     /// Goes on with a run from a block on, in a later file or in this one, and notes what stands behind it.
     fn look_behind(&mut self, number: u64, later: Option<&Appender>, from: u64, run: &mut Run) -> Result<(), Failure> {
-        let (file, before) = (later.unwrap_or(&self.file), run.blocks);
+        let (file, before) = (later.unwrap_or(&self.file), run.blocks());
         let mut behind = Behind::default();
         let mut pieces = file.pieces(from);
         while let Some(piece) = pieces.next()? {
-            let first = run.blocks;
+            let first = run.blocks();
             run.feed(piece);
-            behind.feed(&piece[(run.blocks - first) as usize * Archive::BLOCK..]);
+            behind.feed(&piece[(run.blocks() - first) as usize * Archive::BLOCK..]);
         }
         let odd = file.odd_end()?;
         behind.feed(&odd);
         if behind.blocks > 0 || !odd.is_empty() {
-            self.untidy.push(Untidy { number, from: from + run.blocks - before, behind, is_odd: !odd.is_empty() });
+            self.untidy.push(Untidy { number, from: from + run.blocks() - before, behind, is_odd: !odd.is_empty() });
         }
         Ok(())
     }

@@ -349,7 +349,7 @@ fn damaged_states_are_refused_and_stay() {
     flipped[2_000] ^= 0x10;
     let mut header = good.clone();
     header[15] ^= 1;
-    for (bytes, why) in [(&good[..3_000], "3000 bytes"), (&[], "0 bytes"), (&flipped, "refused with 11"), (&header, "CRC"), (&[0; 4_096], "begin")] {
+    for (bytes, why) in [(&good[..3_000], "3000 bytes"), (&[], "0 bytes"), (&flipped, "not what"), (&header, "not what"), (&[0; 4_096], "not what")] {
         fs::write(dir.join("s"), bytes).unwrap();
         run("collect --state s --archive a --replay", &dir, &sample()).with(3).says(why).says("--new-state");
         assert_eq!(fs::read(dir.join("s")).unwrap(), bytes, "it stays as it is");

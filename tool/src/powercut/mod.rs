@@ -89,7 +89,7 @@ fn log(lines: usize, random: &mut Random) -> (Vec<u8>, Vec<usize>) {
 }
 
 impl Plant {
-    fn of(seed: u64, kind: Kind, fault: Fault, order: [Step; 4]) -> Plant {
+    fn of(seed: u64, kind: Kind, fault: Fault, order: [Step; 4]) -> Result<Plant, String> {
         let mut random = Random(seed);
         let (log, starts) = log(30 + random.below(120), &mut random);
         let place = match random.below(3) {
@@ -99,18 +99,18 @@ impl Plant {
         let out = (random.below(2) == 0).then(|| "out".into());
         let files = Files { state: Some("s".into()), archive: Some(place), out, new_state: false, adopt: false, format: Format::Text, order };
         let mut plant = Plant { log, starts, files, kind, fault, moments: Vec::new(), end: Content::default(), start: 0, printed: Vec::new() };
-        plant.record(&mut random);
-        plant
+        plant.record(&mut random).map_err(|failure| format!("refused before the power was cut: {}", failure.text()))?;
+        Ok(plant)
     }
 
     /// The undisturbed run.
-    fn record(&mut self, random: &mut Random) {
+    fn record(&mut self, random: &mut Random) -> Result<(), Failure> {
         let before = if self.kind == Kind::TwoStates { self.with_other_rows(random) } else { Content::default() };
         let disk = Simulated::of(before, self.fault, usize::MAX, true);
         let mut marks = Vec::new();
         let changes = || disk.history.as_ref().expect("kept").borrow().len();
         let ran = self.run(&disk, 0, random, |read, printed| marks.push((changes(), read, printed)));
-        ran.end.unwrap();
+        ran.end?;
         self.start = ran.from;
         self.printed = ran.printed;
         self.end = disk.content();
@@ -119,6 +119,7 @@ impl Plant {
             let (_, read, printed) = marks.iter().rev().find(|mark| mark.0 <= at + 1).copied().unwrap_or((0, 0, 0));
             self.moments.push(Moment { disk, read, printed });
         }
+        Ok(())
     }
 
     /// The first lines taken, and rows of another collector behind theirs.
@@ -329,7 +330,7 @@ fn cut_often(count: usize, seed: u64, kind: Kind, fault: Fault, order: [Step; 4]
     let mut random = Random(seed);
     let (mut done, mut found) = (0, Found::default());
     while done < count {
-        let plant = Plant::of(random.next(), kind, fault, order);
+        let plant = Plant::of(random.next(), kind, fault, order)?;
         for _ in 0..300.min(count - done) {
             plant.cut(&mut random, &mut found).map_err(|wrong| format!("{wrong} (disk {done})"))?;
             done += 1;
