@@ -20,11 +20,11 @@ use Rattle.c_lines.specs.Calls.{isSized}
 abbrev pub formatOf : ℕ → Format
 formatOf n = cond (eqb n 0) Format.Text (cond (eqb n 1) Format.Csv Format.Json)
 
--- 255, then 11, then 10 for the setting or the format; 0 if for nothing
+-- 11 before all else, then 255, then 10 for the setting or the format; 0 if for nothing
 abbrev pub linesAsNumber : Arrays → (setting format : ℕ) → List ℕ → List ℕ → ℕ
 linesAsNumber s setting format moments rows =
-    cond (not (isSized (length moments) (length rows))) wrongSize
-    (cond (not (acceptable (stateAt s))) (numberOf NotAccepted)
+    cond (not (acceptable (stateAt s))) (numberOf NotAccepted)
+    (cond (not (isSized (length moments) (length rows))) wrongSize
     (cond (ltb 2 setting || ltb 2 format) (numberOf Argument)
     0))
 

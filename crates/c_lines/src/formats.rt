@@ -19,7 +19,7 @@ const MAX_FORMAT: u8 = 2;
 pub const DONE: usize = 5;
 
 // Takes whole lines from the start of the input, at most `most`, as `lines` does, and writes their rows in a format, and what
-// they close, 32 bytes each, where `closed` has any length: 255, then 11, then 10 for the setting or the format; then all is as
+// they close, 32 bytes each, where `closed` has any length: 11, then 255, then 10 for the setting or the format; then all is as
 // it was.
 pub fn lines_as(
     times: &mut [u64; CAPACITY],
@@ -46,11 +46,11 @@ pub fn lines_as(
         (now (numbers .exit)))
         (now (out .exit)) (now (moments .exit)) (now (rows .exit)) (now (closed .exit)) (now (done .exit)) ⌝ }
 {
-    if !crate::is_sized(moments.len(), rows.len()) {
-        return WRONG_SIZE;
-    }
     if !c_collector::is_acceptable(times, lengths, bytes, numbers) {
         return refusal::number(Refusal::NotAccepted);
+    }
+    if !crate::is_sized(moments.len(), rows.len()) {
+        return WRONG_SIZE;
     }
     if (MAX_SETTING < setting) | (MAX_FORMAT < format) {
         return refusal::number(Refusal::Argument);

@@ -21,25 +21,25 @@ lent s =
     let a = s .args in
     arrays (now (a .times)) (now (a .lengths)) (now (a .bytes)) (now (a .copies)) (now (a .numbers))
 
-abbrev entry : tie.After-is-sized → tie.Start
+abbrev entry : tie.After-is-acceptable → tie.Start
 entry c =
     let k = c .before .before .before in
-    k .before .before .before
+    let l = k .before .before .before in
+    let m = l .before .before .before in
+    m .before
 
-sized : (c : tie.Else1)
-    → let a = entry (c .before) .args in isSized (length (now (a .moments))) (length (now (a .rows))) ≡ true
-sized c = sym (c .before .is-sized .ensures) ∙ not-false _ (c .if1 .left)
+acceptable-here : (c : tie.Else1) → acceptable (stateAt (lent (entry (c .before)))) ≡ true
+acceptable-here c = sym (c .before .is-acceptable .ensures _) ∙ not-false _ (c .if1 .left)
 
-abbrev after-sized : tie.After-is-acceptable → tie.Else1
-after-sized c =
-    let k = c .before .before .before in
-    k .before .before
+abbrev after-state : tie.After-is-sized → tie.Else1
+after-state c = c .before
 
-abbrev start : tie.After-is-acceptable → tie.Start
-start c = entry (after-sized c .before)
+abbrev start : tie.After-is-sized → tie.Start
+start c = entry (after-state c .before)
 
-acceptable-here : (c : tie.Else2) → acceptable (stateAt (lent (start (c .before)))) ≡ true
-acceptable-here c = sym (c .before .is-acceptable .ensures _) ∙ not-false _ (c .if2 .left)
+sized : (c : tie.Else2)
+    → let a = start (c .before) .args in isSized (length (now (a .moments))) (length (now (a .rows))) ≡ true
+sized c = sym (c .before .is-sized .ensures) ∙ not-false _ (c .if2 .left)
 
 abbrev after-tests : tie.After-summary-of → tie.Else3
 after-tests c =
@@ -53,20 +53,24 @@ tested : (c : tie.After-summary-of) → Tested true (viewIn (columnsAt (lent (be
 tested c =
     let e = after-tests c .before in
     subst (λ (s : Summary). Tested true (viewIn (columnsAt (lent (begun c))) s)) (sym (c .summary-of .ensures .0))
-    (record { said = sym (acceptable-here e); fits = c .summary-of .ensures .1 _ _ _ })
+    (record { said = sym (acceptable-here (after-state (e .before))); fits = c .summary-of .ensures .1 _ _ _ })
 
 returns : tie.Need-returns
 returns c =
-    let e = sym (c .before .is-sized .ensures) ∙ not-true _ (c .if1 .taken) in
-    record { answer = rw e; taken = λ z. absurd (omega arith); stays = λ n. (refl, refl, refl, refl, refl, refl) }
+    let k = c .before .before in
+    let e : acceptable (stateAt (lent (entry k))) ≡ false = sym (k .is-acceptable .ensures _) ∙ not-true _ (c .before .if1 .taken) in
+    record {
+      answer = rw e (c .number .ensures);
+      taken = λ z. absurd (omega (arith, c .number .ensures));
+      stays = λ n. (refl, refl, refl, refl, refl, refl);
+    }
 
 returns-2 : tie.Need-returns-2
 returns-2 c =
-    let k = c .before .before in
-    let e : acceptable (stateAt (lent (start k))) ≡ false = sym (k .is-acceptable .ensures _) ∙ not-true _ (c .before .if2 .taken) in
+    let e = sym (c .before .is-sized .ensures) ∙ not-true _ (c .if2 .taken) in
     record {
-      answer = rw (sized (after-sized k), e) (c .number .ensures);
-      taken = λ z. absurd (omega (arith, c .number .ensures));
+      answer = rw (acceptable-here (after-state (c .before)), e);
+      taken = λ z. absurd (omega arith);
       stays = λ n. (refl, refl, refl, refl, refl, refl);
     }
 
@@ -74,7 +78,7 @@ returns-3 : tie.Need-returns-3
 returns-3 c =
     let e = c .before .before in
     record {
-      answer = rw (sized (after-sized (e .before)), acceptable-here e, c .before .if3 .taken) (c .number2 .ensures);
+      answer = rw (acceptable-here (after-state (e .before)), sized e, c .before .if3 .taken) (c .number2 .ensures);
       taken = λ z. absurd (omega (arith, c .number2 .ensures));
       stays = λ n. (refl, refl, refl, refl, refl, refl);
     }
@@ -89,7 +93,7 @@ summed c =
 take-rows-as-requires : tie.Need-take-rows-as-requires
 take-rows-as-requires c κs =
     let k = summed c in
-    (tested k, eqb-true _ _ (sized (after-sized (after-tests k .before .before))))
+    (tested k, eqb-true _ _ (sized (after-tests k .before)))
 
 returns-4 : tie.Need-returns-4
 returns-4 c =
@@ -103,7 +107,7 @@ returns-4 c =
     let k = h .before in
     let e = after-tests k .before in
     record {
-      answer = rw (sized (after-sized (e .before)), acceptable-here e, after-tests k .if3 .left);
+      answer = rw (acceptable-here (after-state (e .before)), sized e, after-tests k .if3 .left);
       taken = λ z. rw (c .before .store .ensures) (rw (k .summary-of .ensures .0, h .format-of .ensures) at (t .take-rows-as .ensures));
       stays = λ n. absurd (n refl);
     }
@@ -113,8 +117,8 @@ lines-as-spec =
     tie.close
     (tie.spec
     (λ c κs. search needs)
-    returns
     (λ c κs. search needs)
+    returns
     (λ c κs. search needs)
     returns-2
     (λ c κs. search needs)
