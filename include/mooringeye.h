@@ -286,8 +286,20 @@ enum {
     MOORINGEYE_LONGEST_ROW = 92, /* bytes of the longest text of a line */
     MOORINGEYE_LINE_LIMIT = 150, /* a line this long is BAD, so that no more of it need be kept */
     MOORINGEYE_LINES_DONE = 4,
-    MOORINGEYE_LINES_SKIPPED = 2
+    MOORINGEYE_LINES_SKIPPED = 2,
+    MOORINGEYE_LONGEST_ROW_AS = 333, /* bytes of the longest row of a line in any format */
+    MOORINGEYE_LINES_AS_DONE = 5
 };
+
+/* The formats of rows. */
+enum mooringeye_format {
+    MOORINGEYE_FORMAT_TEXT = 0, /* as `collect` prints them */
+    MOORINGEYE_FORMAT_CSV = 1,  /* comma-separated */
+    MOORINGEYE_FORMAT_JSON = 2  /* an object on each line */
+};
+
+/* The line that a file of comma-separated rows starts with. */
+#define MOORINGEYE_CSV_HEADING "time,answer,refusal,telegram,send,txid,rorg,level\n"
 
 /* A row of an archive but its time: 1 for LOOSE, and the bytes as received, zero filled, with their length. */
 typedef struct mooringeye_row {
@@ -308,6 +320,42 @@ uint8_t mooringeye_collector_lines(uint64_t times[MOORINGEYE_CAPACITY], uint8_t 
                                    const uint8_t *input, size_t input_length, size_t most, uint8_t *out,
                                    size_t out_size, uint64_t *moments, size_t moments_length, mooringeye_row *rows,
                                    size_t rows_size, uint64_t done[MOORINGEYE_LINES_DONE]);
+
+/* What a telegram was heard when it closed, as an entry of a checkpoint has it: when it was opened and how often it was
+ * heard again, both big-endian, and its bytes as first received, zero filled, with their length. */
+typedef struct mooringeye_closing {
+    uint8_t opened[8];
+    mooringeye_frame frame;
+    uint8_t copies[2];
+} mooringeye_closing;
+
+/* When it was opened. */
+static inline uint64_t mooringeye_closing_opened(const mooringeye_closing *closing) {
+    uint64_t opened = 0;
+    for (size_t i = 0; i < sizeof closing->opened; i++) opened = opened * 256u + closing->opened[i];
+    return opened;
+}
+
+/* How often it was heard again, up to 65,535. */
+static inline uint16_t mooringeye_closing_copies(const mooringeye_closing *closing) {
+    return (uint16_t)(closing->copies[0] * 256 + closing->copies[1]);
+}
+
+/* Takes lines as mooringeye_collector_lines does, and writes their rows in a format of mooringeye_format; no heading
+ * stands before them. Where `closed_size` is not 0, into the front of `closed` goes what each telegram was heard that
+ * closes with these lines, in the order of their openings: it closes with the first KEPT, COPY or LOOSE reception more
+ * than 100 ms after its opening. What is still open at the end of a log has not closed. `done` gets five numbers: the
+ * bytes of `input` that were used, the bytes of rows, the rows for an archive, the lines, and the closings. It stops
+ * where mooringeye_collector_lines stops, but with less than 333 bytes of `out` left; and where `closed_size` is not 0
+ * and less than 64 places, 2,048 bytes, are left there. Refused: 11, 255 where `rows_size` is not 23 bytes for each
+ * moment, 10 a setting or a format over 2. */
+uint8_t mooringeye_collector_lines_as(uint64_t times[MOORINGEYE_CAPACITY], uint8_t lengths[MOORINGEYE_CAPACITY],
+                                      uint8_t bytes[MOORINGEYE_COLLECTOR_BYTES], uint16_t copies[MOORINGEYE_CAPACITY],
+                                      uint64_t numbers[MOORINGEYE_COLLECTOR_NUMBERS], uint8_t setting, uint8_t format,
+                                      const uint8_t *input, size_t input_length, size_t most, uint8_t *out,
+                                      size_t out_size, uint64_t *moments, size_t moments_length, mooringeye_row *rows,
+                                      size_t rows_size, mooringeye_closing *closed, size_t closed_size,
+                                      uint64_t done[MOORINGEYE_LINES_AS_DONE]);
 
 /* The setting that the first line of a text says: 0, 1 or 2 for `level 0`, `level 1` or `level 2`; 3 for any other
  * line; 4 where no newline ends it. `used` gets the bytes of the line with its newline, 0 where there is none. */
@@ -367,6 +415,17 @@ static inline uint8_t mooringeye_lines(mooringeye_collector *c, uint8_t setting,
     return mooringeye_collector_lines(c->times, c->lengths, c->bytes, c->copies, c->numbers, setting, input,
                                       input_length, most, out, out_size, moments, places, rows, places * sizeof *rows,
                                       done);
+}
+
+/* `places` is how many moments and rows there are, `closings` how many places `closed` has: 0, or 64 and more. */
+static inline uint8_t mooringeye_lines_as(mooringeye_collector *c, uint8_t setting, uint8_t format,
+                                          const uint8_t *input, size_t input_length, size_t most, uint8_t *out,
+                                          size_t out_size, uint64_t *moments, mooringeye_row *rows, size_t places,
+                                          mooringeye_closing *closed, size_t closings,
+                                          uint64_t done[MOORINGEYE_LINES_AS_DONE]) {
+    return mooringeye_collector_lines_as(c->times, c->lengths, c->bytes, c->copies, c->numbers, setting, format, input,
+                                         input_length, most, out, out_size, moments, places, rows,
+                                         places * sizeof *rows, closed, closings * sizeof *closed, done);
 }
 
 /* ---- ERP2 telegrams */

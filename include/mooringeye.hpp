@@ -187,6 +187,19 @@ struct taken_lines {
     size_t lines;
 };
 
+// What a telegram was heard when it closed: when it was opened, its bytes as first received, and how often it was heard
+// again.
+struct closing {
+    uint64_t opened;
+    std::vector<uint8_t> telegram;
+    uint16_t copies;
+};
+
+// What was taken of a text in a format: the same, with the rows in it, and what closed.
+struct taken_lines_as : taken_lines {
+    std::vector<closing> closings;
+};
+
 // The setting of a first line, 3 for another line and 4 for none that has ended; and its bytes.
 inline std::pair<uint8_t, size_t> first_line(bytes input) {
     uint64_t used = 0;
@@ -244,6 +257,31 @@ public:
         taken.moments.resize(static_cast<size_t>(told[2]));
         taken.rows.resize(static_cast<size_t>(told[2]));
         taken.lines = static_cast<size_t>(told[3]);
+        return taken;
+    }
+
+    // The same with rows in a format of mooringeye_format, and with what closes.
+    taken_lines_as lines_as(uint8_t setting, uint8_t format, bytes input, size_t most) {
+        size_t places = std::min(most, input.size() / 3 + 1);
+        taken_lines_as taken{{0, std::string(places * MOORINGEYE_LONGEST_ROW_AS, '\0'), std::vector<uint64_t>(places),
+                              std::vector<mooringeye_row>(places), 0},
+                             {}};
+        std::vector<mooringeye_closing> closed(places + 2 * MOORINGEYE_CAPACITY);
+        uint64_t told[MOORINGEYE_LINES_AS_DONE];
+        done(mooringeye_lines_as(&state_, setting, format, input.data(), input.size(), most,
+                                 reinterpret_cast<uint8_t *>(taken.text.data()), taken.text.size(),
+                                 taken.moments.data(), taken.rows.data(), places, closed.data(), closed.size(), told));
+        taken.used = static_cast<size_t>(told[0]);
+        taken.text.resize(static_cast<size_t>(told[1]));
+        taken.moments.resize(static_cast<size_t>(told[2]));
+        taken.rows.resize(static_cast<size_t>(told[2]));
+        taken.lines = static_cast<size_t>(told[3]);
+        for (size_t i = 0; i < static_cast<size_t>(told[4]); i++) {
+            const uint8_t *from = closed[i].frame.bytes;
+            taken.closings.push_back({mooringeye_closing_opened(&closed[i]),
+                                      {from, from + closed[i].frame.length},
+                                      mooringeye_closing_copies(&closed[i])});
+        }
         return taken;
     }
 

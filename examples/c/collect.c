@@ -15,107 +15,30 @@
 #include <string.h>
 #include <unistd.h>
 
-enum {
-    MAX_BYTES = 64,
-    MAX_LINE = 20 + 1 + 2 * MAX_BYTES /* the longest right line */
-};
+/* ---- lines and rows */
 
-/* ---- lines */
-
-typedef struct line {
-    size_t length;
-    char text[MAX_LINE + 2];
-} line;
-
-typedef struct reception {
-    uint64_t time;
-    size_t length;
-    uint8_t bytes[MAX_BYTES];
-} reception;
-
-/* The next line without its newline; one that is longer than any right one is cut, and is longer still. False at the end of the input. */
-static bool next_line(line *l)
+/* The next line with its newline, which the last one may lack. Answers its length, 0 at the end of the input. */
+static size_t next_line(char **line, size_t *size)
 {
-    int c = getchar();
-    l->length = 0;
-    if (c == EOF) {
-        return false;
+    ssize_t n = getline(line, size, stdin);
+    if (n <= 0) {
+        return 0;
     }
-    for (; c != EOF && c != '\n'; c = getchar()) {
-        if (l->length <= MAX_LINE) {
-            l->text[l->length++] = (char)c;
-        }
+    if ((*line)[n - 1] != '\n') {
+        (*line)[n++] = '\n'; /* in the place of the zero behind it */
     }
-    l->text[l->length] = '\0';
-    return true;
+    return (size_t)n;
 }
 
-/* The level that a first line says; a number over 2 for none. */
-static uint8_t parse_level(const line *l)
+/* Takes a line, and prints its row. */
+static void print_row(mooringeye_collector *c, uint8_t level, const char *line, size_t length)
 {
-    bool right = l->length == 7 && memcmp(l->text, "level ", 6) == 0 && l->text[6] >= '0' && l->text[6] <= '2';
-    return right ? (uint8_t)(l->text[6] - '0') : UINT8_MAX;
-}
-
-/* The number at the front of a text, without leading zeros. Answers its digits, 0 for no right number. */
-static size_t parse_time(const char *text, uint64_t *time)
-{
-    size_t n = 0;
-    for (*time = 0; text[n] >= '0' && text[n] <= '9'; n++) {
-        uint64_t digit = (uint64_t)(text[n] - '0');
-        if (*time > (UINT64_MAX - digit) / 10) {
-            return 0;
-        }
-        *time = 10 * *time + digit;
-    }
-    return n > 1 && text[0] == '0' ? 0 : n;
-}
-
-static int nibble(char c)
-{
-    const char *digits = "0123456789ABCDEF0123456789abcdef";
-    const char *at = c == '\0' ? NULL : strchr(digits, c);
-    return at == NULL ? -1 : (int)((at - digits) % 16);
-}
-
-/* What a line after the first says. False for a line that says no reception. */
-static bool parse(const line *l, reception *r)
-{
-    size_t at = parse_time(l->text, &r->time);
-    if (at == 0 || l->text[at] != ' ' || l->length > MAX_LINE) {
-        return false;
-    }
-    for (r->length = 0, at++; at + 1 < l->length && r->length < MAX_BYTES; at += 2) {
-        int high = nibble(l->text[at]);
-        int low = nibble(l->text[at + 1]);
-        if (high < 0 || low < 0) {
-            return false;
-        }
-        r->bytes[r->length++] = (uint8_t)(16 * high + low);
-    }
-    return at == l->length;
-}
-
-/* ---- rows */
-
-/* The row of a reception, and what is sent on for one that is kept. */
-static void print_row(mooringeye_collector *c, uint8_t level, const reception *r)
-{
-    static const char *const words[] = {"KEPT", "COPY", "LOOSE"};
-    uint16_t answer = mooringeye_take(c, r->bytes, r->length, r->time);
-    mooringeye_frame sent = {0};
-    if (mooringeye_answer_number(answer) != MOORINGEYE_DONE) {
-        printf("%" PRIu64 " REFUSED %d\n", r->time, mooringeye_answer_number(answer));
-        return;
-    }
-    printf("%" PRIu64 " %s", r->time, words[mooringeye_answer_kind(answer)]);
-    if (answer == MOORINGEYE_KEPT) {
-        mooringeye_repeat(level, r->bytes, r->length, &sent, sizeof sent);
-    }
-    for (size_t i = 0; i < sent.length; i++) {
-        printf("%s%02X", i == 0 ? " SEND " : "", sent.bytes[i]);
-    }
-    printf("\n");
+    uint8_t text[MOORINGEYE_LONGEST_ROW];
+    mooringeye_row row;
+    uint64_t moment;
+    uint64_t done[MOORINGEYE_LINES_DONE] = {0};
+    mooringeye_lines(c, level, (const uint8_t *)line, length, 1, text, sizeof text, &moment, &row, 1, done);
+    fwrite(text, 1, (size_t)done[1], stdout);
 }
 
 static void print_totals(const mooringeye_collector *c)
@@ -129,23 +52,19 @@ static void print_totals(const mooringeye_collector *c)
 /* All lines of standard input. False where the first is not right, and then nothing was taken. */
 static bool collect(mooringeye_collector *c)
 {
-    line l;
-    reception r;
-    uint8_t level = next_line(&l) ? parse_level(&l) : UINT8_MAX;
-    if (level > 2) {
-        if (!ferror(stdin)) {
-            puts("BAD");
-        }
-        return false;
+    char *line = NULL;
+    size_t size = 0;
+    uint64_t used;
+    size_t length = next_line(&line, &size);
+    uint8_t level = mooringeye_first_line((const uint8_t *)line, length, &used);
+    if (level > 2 && !ferror(stdin)) {
+        puts("BAD");
     }
-    while (next_line(&l)) {
-        if (parse(&l, &r)) {
-            print_row(c, level, &r);
-        } else {
-            puts("BAD");
-        }
+    while (level <= 2 && (length = next_line(&line, &size)) > 0) {
+        print_row(c, level, line, length);
     }
-    return true;
+    free(line);
+    return level <= 2;
 }
 
 /* ---- the state file */

@@ -1,22 +1,19 @@
 /* Collects lines of a time and a reception in hexadecimal digits: twenty lines, written from the header alone. */
+#define _POSIX_C_SOURCE 200809L
 #include "mooringeye.h"
-#include <inttypes.h>
 #include <stdio.h>
-#include <stdlib.h>
 
 int main(void) {
-    static const char *const words[] = {"KEPT", "COPY", "LOOSE"};
     mooringeye_collector collector;
-    uint8_t bytes[100];
-    char line[200], *at;
+    mooringeye_row row;
+    uint64_t moment, done[MOORINGEYE_LINES_DONE];
+    uint8_t text[MOORINGEYE_LONGEST_ROW];
+    char *line = NULL;
+    size_t size = 0;
     mooringeye_fresh(&collector);
-    while (fgets(line, sizeof line, stdin) != NULL) {
-        uint64_t time = strtoull(line, &at, 10);
-        size_t n = *at == ' ' ? strspn(at + 1, "0123456789ABCDEFabcdef") / 2 : 100;
-        if (n == 100 || strchr("\n", at[1 + 2 * n]) == NULL) { puts("BAD"); continue; }
-        for (size_t i = 0; i < n; i++) sscanf(at + 1 + 2 * i, "%2" SCNx8, &bytes[i]);
-        uint16_t answer = mooringeye_take(&collector, bytes, n, time);
-        if (mooringeye_answer_number(answer) != 0) printf("%" PRIu64 " REFUSED %d\n", time, answer);
-        else printf("%" PRIu64 " %s\n", time, words[mooringeye_answer_kind(answer)]);
+    for (ssize_t n; (n = getline(&line, &size, stdin)) > 0;) {
+        if (line[n - 1] != '\n') line[n++] = '\n'; /* in the place of the zero behind it */
+        mooringeye_lines(&collector, 0, (uint8_t *)line, (size_t)n, 1, text, sizeof text, &moment, &row, 1, done);
+        fwrite(text, 1, (size_t)done[1], stdout);
     }
 }

@@ -30,7 +30,18 @@ from .archives import (
     salvage,
     verify,
 )
-from .collector import Collector, Lines, Reply, Totals, first_line, skip_lines
+from .collector import (
+    CSV_HEADING,
+    Closing,
+    Collector,
+    Lines,
+    Reply,
+    Session,
+    Taken,
+    Totals,
+    first_line,
+    skip_lines,
+)
 from .refusals import REFUSALS, Refused
 from .telegrams import (
     Erp2,
@@ -58,6 +69,8 @@ __all__ = [
     "Adding",
     "Archive",
     "Block",
+    "CSV_HEADING",
+    "Closing",
     "Collector",
     "Erp2",
     "Fields",
@@ -73,6 +86,8 @@ __all__ = [
     "Row",
     "Salvaged",
     "Scan",
+    "Session",
+    "Taken",
     "Totals",
     "append",
     "build",

@@ -1,13 +1,15 @@
 """The collector: receptions go in, and each is answered KEPT, COPY or LOOSE."""
 import ctypes
 import threading
-from typing import NamedTuple, Optional, Sequence
+from typing import Any, NamedTuple, Optional, Sequence
 
 from ._library import calls
 from .archives import Row
 from .refusals import Data, done, lend
 
 KINDS = ("KEPT", "COPY", "LOOSE")
+FORMATS = ("text", "csv", "json")
+CSV_HEADING = "time,answer,refusal,telegram,send,txid,rorg,level\n"
 
 
 class Totals(NamedTuple):
@@ -38,6 +40,24 @@ class Lines(NamedTuple):
     lines: int
 
 
+class Closing(NamedTuple):
+    """What a telegram was heard when it closed: when it was opened, its bytes as first received, and its copies."""
+
+    opened: int
+    data: bytes
+    copies: int
+
+
+class Taken(NamedTuple):
+    """What lines gave: the bytes used, rows in a format, the KEPT and LOOSE rows, how many lines, and what closed."""
+
+    used: int
+    text: bytes
+    rows: list[Row]
+    lines: int
+    closings: list[Closing]
+
+
 def first_line(text: Data) -> tuple[Optional[int], int]:
     """The setting that a first line says, None for another line, and its bytes with the newline, 0 where none ends it.
 
@@ -58,6 +78,17 @@ def skip_lines(text: Data, most: int) -> tuple[int, int]:
     told = (ctypes.c_uint64 * 2)()
     calls.skip_lines(*lend(text), most, told)
     return told[0], told[1]
+
+
+def _rows(moments: Sequence[int], rows: Any, count: int) -> list[Row]:
+    """Rows as a call wrote them: a time, and 23 bytes with LOOSE, the length and the telegram."""
+    each = [bytes(rows[23 * i : 23 * i + 23]) for i in range(count)]
+    return [Row(moments[i], r[0] != 0, r[2 : 2 + r[1]]) for i, r in enumerate(each)]
+
+
+def _closing(c: bytes) -> Closing:
+    """A closing as a call wrote it: when it was opened, a frame, and the copies."""
+    return Closing(int.from_bytes(c[:8], "big"), c[9 : 9 + c[8]], int.from_bytes(c[30:], "big"))
 
 
 class Collector:
@@ -125,9 +156,30 @@ class Collector:
         with self._lock:
             done(calls.collector_lines(*self._state, setting, lent, size, most, *to))
         used, written, count, lines = told
-        each = [bytes(rows[23 * i : 23 * i + 23]) for i in range(count)]
-        kept = [Row(moments[i], r[0] != 0, r[2 : 2 + r[1]]) for i, r in enumerate(each)]
-        return Lines(used, bytes(out[:written]), kept, lines)
+        return Lines(used, bytes(out[:written]), _rows(moments, rows, count), lines)
+
+    def lines_as(self, setting: int, format: str, text: Data, most: int = 2**63) -> Taken:
+        """Takes whole lines as `lines` does, with their rows as "text", "csv" or "json", and with what closes.
+
+        >>> text = b"1000 D5090102030400E8\\n1012 D5090102030401E9\\n1102 D5090102030400E8\\n"
+        >>> taken = Collector().lines_as(0, "csv", text)
+        >>> taken.text.splitlines()[1], [(c.opened, c.copies) for c in taken.closings]
+        (b'1012,COPY,,D5090102030401E9,,01020304,D5,1', [(1000, 1)])
+        """
+        if format not in FORMATS:
+            raise ValueError(f"{format!r} is not one of {', '.join(FORMATS)}")
+        lent, size = lend(text)
+        places = max(1, min(most, bytes(text).count(b"\n")))
+        # Those that are open may close, those that these lines open, and what one line more may close has to fit.
+        room = 32 * (places + 128)
+        out, moments = (ctypes.c_uint8 * (333 * places))(), (ctypes.c_uint64 * places)()
+        rows, closed, told = (ctypes.c_uint8 * (23 * places))(), (ctypes.c_uint8 * room)(), (ctypes.c_uint64 * 5)()
+        to = out, len(out), moments, places, rows, len(rows), closed, room, told
+        with self._lock:
+            done(calls.collector_lines_as(*self._state, setting, FORMATS.index(format), lent, size, most, *to))
+        used, written, count, lines, closings = told
+        shut = [bytes(closed[32 * i : 32 * i + 32]) for i in range(closings)]
+        return Taken(used, bytes(out[:written]), _rows(moments, rows, count), lines, [_closing(c) for c in shut])
 
     @property
     def open(self) -> int:
@@ -159,3 +211,52 @@ class Collector:
         with self._lock:
             done(calls.collector_checkpoint(*self._state, image, self.IMAGE))
         return bytes(image)
+
+
+class Session:
+    """A collector that is fed the bytes of a log in pieces, cut anywhere, and yields rows.
+
+    The log's first line says the setting, which `first_line` reads; the session is fed what stands behind it.
+
+    >>> session = Session(1, "csv")
+    >>> session.feed(b"1000 D509010203").lines
+    0
+    >>> taken = session.feed(b"0400E8\\n1012 D5090102030401E9")
+    >>> taken.text, taken.rows[0].time
+    (b'1000,KEPT,,D5090102030400E8,D5090102030401E9,01020304,D5,0\\n', 1000)
+    >>> session.end().lines, session.collector.totals().copies
+    (1, 1)
+    """
+
+    PIECE = 65536
+    LINE_LIMIT = 150
+
+    def __init__(self, setting: int, format: str = "text", collector: Optional[Collector] = None) -> None:
+        self.collector = collector if collector is not None else Collector()
+        self._setting, self._format = setting, format
+        self._rest = b""
+        self._lock = threading.Lock()
+        self.collector.lines_as(setting, format, b"", 0)  # refuses a wrong setting or format
+
+    def feed(self, data: Data) -> Taken:
+        """Takes the next bytes: what the lines gave that ended in them."""
+        parts = []
+        with self._lock:
+            text, at = self._rest + bytes(data), 0
+            while True:
+                end = text.rfind(b"\n", at, at + self.PIECE)
+                end = end if end >= 0 else text.find(b"\n", at)
+                if end < 0:
+                    break
+                parts.append(self.collector.lines_as(self._setting, self._format, text[at : end + 1]))
+                at = end + 1
+            # A line that is longer than the longest is BAD, whatever else it has.
+            self._rest = text[at : at + self.LINE_LIMIT]
+        rows = [row for part in parts for row in part.rows]
+        closings = [closing for part in parts for closing in part.closings]
+        whole = b"".join(part.text for part in parts)
+        return Taken(at, whole, rows, sum(part.lines for part in parts), closings)
+
+    def end(self) -> Taken:
+        """The input has ended: a line that no newline ended counts, as `collect` counts it."""
+        return self.feed(b"\n" if self._rest else b"")

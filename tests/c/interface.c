@@ -147,8 +147,35 @@ static void structs(void) {
     SHOULD(mooringeye_get_share(&report, 80, &share) == MOORINGEYE_DONE && share == 500);
 }
 
+/* Rows in a format, and what closes, by the struct. */
+static void formats(void) {
+    static const char text[] = "1000 D5090102030400E8\n1012 D5090102030401E9\nx\n1101 D5090102030400E8\n";
+    static const char csv[] = "1000,KEPT,,D5090102030400E8,,01020304,D5,0\n1012,COPY,,D5090102030401E9,,01020304,D5,1\n"
+                              ",BAD,,,,,,\n1101,KEPT,,D5090102030400E8,,01020304,D5,0\n";
+    mooringeye_collector c;
+    uint8_t out[4 * MOORINGEYE_LONGEST_ROW_AS];
+    uint64_t moments[4], done[MOORINGEYE_LINES_AS_DONE];
+    mooringeye_row rows[4];
+    mooringeye_closing closed[MOORINGEYE_CAPACITY + 4];
+    mooringeye_fresh(&c);
+    SHOULD(mooringeye_lines_as(&c, 0, MOORINGEYE_FORMAT_CSV, (const uint8_t *)text, sizeof text - 1, 9, out, sizeof out,
+                               moments, rows, 4, closed, MOORINGEYE_CAPACITY + 4, done) == MOORINGEYE_DONE);
+    SHOULD(done[0] == sizeof text - 1 && done[1] == sizeof csv - 1 && memcmp(out, csv, sizeof csv - 1) == 0);
+    SHOULD(done[2] == 2 && moments[0] == 1000 && moments[1] == 1101 && done[3] == 4 && done[4] == 1);
+    SHOULD(mooringeye_closing_opened(&closed[0]) == 1000 && mooringeye_closing_copies(&closed[0]) == 1);
+    SHOULD(closed[0].frame.length == 8 && memcmp(closed[0].frame.bytes, press, 8) == 0);
+    SHOULD(mooringeye_lines_as(&c, 0, MOORINGEYE_FORMAT_JSON, (const uint8_t *)"2000 \n", 6, 9, out, sizeof out,
+                               moments, rows, 4, NULL, 0, done) == MOORINGEYE_DONE);
+    SHOULD(done[3] == 1 && done[4] == 0 &&
+           strncmp((const char *)out, "{\"time\":2000,\"answer\":\"REFUSED\"", 31) == 0);
+    SHOULD(mooringeye_lines_as(&c, 0, 3, NULL, 0, 9, out, sizeof out, moments, rows, 4, NULL, 0, done) ==
+           MOORINGEYE_ARGUMENT);
+    SHOULD(strlen(MOORINGEYE_CSV_HEADING) == 50);
+}
+
 int main(void) {
     whole_answers();
+    formats();
     parts();
     names();
     versions();

@@ -14,7 +14,7 @@
 #include <sys/mman.h>
 
 enum {
-    MOST_PARAMETERS = 16,
+    MOST_PARAMETERS = 19,
     PAGE = 4096,
     ROOM = 5 * PAGE /* of one parameter */
 };
@@ -35,7 +35,8 @@ struct parameter {
 };
 
 typedef uint64_t (*call)(uint64_t, uint64_t, uint64_t, uint64_t, uint64_t, uint64_t, uint64_t, uint64_t, uint64_t,
-                         uint64_t, uint64_t, uint64_t, uint64_t, uint64_t, uint64_t, uint64_t);
+                         uint64_t, uint64_t, uint64_t, uint64_t, uint64_t, uint64_t, uint64_t, uint64_t, uint64_t,
+                         uint64_t);
 
 struct export {
     const char *name;
@@ -183,7 +184,7 @@ static uint64_t invoke(call function, const uint64_t *w);
 
 #define INVOKE(function, w)                                                                                      \
     (function)((w)[0], (w)[1], (w)[2], (w)[3], (w)[4], (w)[5], (w)[6], (w)[7], (w)[8], (w)[9], (w)[10], (w)[11], \
-               (w)[12], (w)[13], (w)[14], (w)[15])
+               (w)[12], (w)[13], (w)[14], (w)[15], (w)[16], (w)[17], (w)[18])
 
 /* Makes one call and compares; the number of its answer. */
 static uint8_t make_call(const struct export *e) {

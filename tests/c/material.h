@@ -167,6 +167,7 @@ static uint64_t number_of(const struct export *e, size_t i) {
     if (is(p->name, "loose")) return choose(2);
     if (once_in(20)) return any_number() & most;
     if (is(p->name, "setting") || is(p->name, "level") || is(p->name, "rule")) return choose(4);
+    if (is(p->name, "format")) return choose(4);
     if (is(p->name, "transmissions")) return 1 + choose(3);
     if (is(p->name, "duration")) return durations[choose(8)];
     if (is(p->name, "time")) return time_now();
@@ -193,6 +194,7 @@ static size_t out_size(const struct export *e, size_t i) {
     if (starts_with(e->name, "mooringeye_erp2")) return about(once_in(2) ? 256 : 30);
     if (is(e->name, "mooringeye_collector_checkpoint")) return about(MOORINGEYE_IMAGE);
     if (is(e->name, "mooringeye_collector_lines")) return choose(600);
+    if (is(e->name, "mooringeye_collector_lines_as")) return choose(2000);
     if (is(e->name, "mooringeye_pack_end")) return about(MOORINGEYE_BLOCK);
     if (is(e->name, "mooringeye_archive_salvage")) return about(sizes[0]);
     if (is(e->name, "mooringeye_pack_feed")) return about(sizes[2]);
@@ -217,6 +219,7 @@ static size_t length_of(const struct export *e, size_t i) {
     if (is(name, "moments")) return once_in(10) ? 250 + choose(10) : choose(5);
     if (is(name, "times")) return choose(18);
     if (is(name, "input")) return choose(400);
+    if (is(name, "closed")) return once_in(3) ? 0 : choose(2 * MOORINGEYE_CAPACITY * sizeof(mooringeye_closing));
     if (is(name, "rows")) return about(sizes[i - 2] / 8 * sizeof(mooringeye_row));
     if (is(name, "records")) return about(sizes[i - 2] / 8 * (is(e->parameters[i - 2].name, "moments") ? 22 : 23));
     if (is(name, "replies")) return about(sizes[i - 4] / 8 * sizeof(mooringeye_reply));

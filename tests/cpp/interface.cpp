@@ -45,6 +45,14 @@ static void collectors() {
     SHOULD(setting == 1 && taken.text == "3000 KEPT SEND D5090102030401E9\nBAD\n" && taken.lines == 2);
     SHOULD(taken.moments == std::vector<uint64_t>{3000} && taken.rows[0].frame.length == 8 && taken.used == 24);
     SHOULD(me::skip_lines(view, 2).first == 30 && me::skip_lines(view, 2).second == 2);
+    text = "5000 D5090102030400E8\nx\n5100 D5090102030401E9\n5101 D5090102030400E8\n";
+    me::bytes more(reinterpret_cast<const uint8_t *>(text.data()), text.size());
+    me::taken_lines_as as = c.lines_as(0, MOORINGEYE_FORMAT_CSV, more, 100);
+    SHOULD(as.lines == 4 && as.used == text.size() &&
+           as.text.substr(0, 43) == "5000,KEPT,,D5090102030400E8,,01020304,D5,0\n");
+    SHOULD(as.closings.size() == 2 && as.closings[0].opened == 3000 && as.closings[1].opened == 5000);
+    SHOULD(as.closings[1].copies == 1 && as.closings[1].telegram == press && as.rows.size() == 2);
+    SHOULD(number_of([&] { c.lines_as(0, 3, more, 1); }) == MOORINGEYE_ARGUMENT);
 }
 
 static void telegrams() {

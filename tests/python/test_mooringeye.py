@@ -143,6 +143,32 @@ class Calls(unittest.TestCase):
         self.assertEqual(len(taken.rows), c.totals().kept + c.totals().loose)
         self.assertEqual(c.lines(setting, b"").lines, 0)
 
+    def test_sessions(self):
+        text = (ROOT / "samples/plant.txt").read_bytes()
+        setting, used = mooringeye.first_line(text)
+        expected = (ROOT / "samples/plant.expected").read_bytes().splitlines(keepends=True)
+        whole = mooringeye.Collector().lines_as(setting, "csv", text[used:])
+        self.assertEqual(whole.lines, len(expected) - 1)
+        for piece in (1, 7, 100, 4096, len(text)):
+            printed, csv = mooringeye.Session(setting), mooringeye.Session(setting, "csv")
+            parts = [text[at : at + piece] for at in range(used, len(text), piece)]
+            said, taken = [printed.feed(part).text for part in parts], [csv.feed(part) for part in parts]
+            self.assertEqual(b"".join(said), b"".join(expected[:-1]))
+            self.assertEqual(b"".join(t.text for t in taken), whole.text)
+            self.assertEqual([row for t in taken for row in t.rows], whole.rows)
+            self.assertEqual([closing for t in taken for closing in t.closings], whole.closings)
+            self.assertEqual((printed.end().lines, csv.end().lines), (0, 0))
+        kept, still_open = csv.collector.totals().kept, csv.collector.open
+        self.assertEqual(len(whole.closings), kept - still_open)
+        long = mooringeye.Session(0, "json")
+        for _ in range(100):
+            self.assertEqual(long.feed(b"7" * 100).lines, 0)
+        self.assertEqual(long.end().text, b'{"answer":"BAD"}\n')
+        with self.assertRaises(mooringeye.Refused):
+            mooringeye.Session(3)
+        with self.assertRaises(ValueError):
+            mooringeye.Session(0, "xml")
+
     def test_archives(self):
         buffer = bytearray(3 * 512)
         archive = mooringeye.Archive(buffer)

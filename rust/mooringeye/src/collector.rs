@@ -1,5 +1,5 @@
 //! The collector: receptions go in, and each is answered KEPT, COPY or LOOSE.
-use crate::lines::Lines;
+use crate::lines::{Format, Lines, Taken};
 use crate::raw;
 use crate::refusal::{done, Refusal};
 use crate::telegram::{frame, Telegram};
@@ -134,6 +134,8 @@ impl Collector {
     pub const IMAGE: usize = raw::IMAGE;
     /// The most receptions of a burst.
     pub const MAX_BURST: usize = 256;
+    /// For so many milliseconds after its opening a telegram is open.
+    pub const OPEN_FOR: u64 = 100;
 
     /// A collector with nothing open and nothing counted.
     pub fn new() -> Collector {
@@ -218,6 +220,40 @@ impl Collector {
         let mut to = raw::RowsMut { text: out, moments, rows };
         done(raw::collector_lines(&mut self.arrays_mut(), setting, input, most, &mut to, &mut told))?;
         Ok(Lines::of(told))
+    }
+
+    /// Takes whole lines from the start of a text, at most `most`, with their rows in a format, the rows that an archive keeps, and what closes where `to`
+    /// asks for it. `to` grows as it has to, so that it stops after `most` lines or where no further line has ended. Answers how much there is of each.
+    ///
+    /// Refused, and nothing taken: [`Refusal::Argument`] for a setting over 2.
+    ///
+    /// ```
+    /// use mooringeye::{Collector, Format, Taken};
+    ///
+    /// let mut taken = Taken::new();
+    /// let done = Collector::new().lines_as(1, Format::Json, b"1000 D5090102030400E8\n1012 D5", 1_000, &mut taken).unwrap();
+    /// let row = r#"{"time":1000,"answer":"KEPT","telegram":"D5090102030400E8","send":"D5090102030401E9","txid":"01020304","rorg":"D5","level":0}"#;
+    /// assert_eq!(std::str::from_utf8(taken.text()).unwrap(), format!("{row}\n"));
+    /// assert_eq!((done.lines, done.used), (1, 22));
+    /// ```
+    pub fn lines_as(&mut self, setting: u8, format: Format, input: &[u8], most: usize, to: &mut Taken) -> Result<Lines, Refusal> {
+        to.clear();
+        // Lines are counted only where they may be far fewer than `most`.
+        let ends = || input.iter().filter(|c| **c == b'\n').count();
+        let lines = if most <= input.len() / 16 { most } else { most.min(ends()) };
+        let mut told = [0; raw::LINES_AS_DONE];
+        let state = &mut self.arrays_mut();
+        if format == Format::Text && !to.asks_closings() {
+            // The same rows, by the quicker call.
+            let raw::RowsAsMut { text, moments, rows, .. } = to.lend(lines, raw::LONGEST_ROW);
+            let mut four = [0; raw::LINES_DONE];
+            done(raw::collector_lines(state, setting, input, most, &mut raw::RowsMut { text, moments, rows }, &mut four))?;
+            told[..raw::LINES_DONE].copy_from_slice(&four);
+        } else {
+            let mut lent = to.lend(lines, raw::LONGEST_ROW_AS);
+            done(raw::collector_lines_as(state, setting, format.number(), input, most, &mut lent, &mut told))?;
+        }
+        Ok(to.told(told))
     }
 
     /// How many telegrams are open.

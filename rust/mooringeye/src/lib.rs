@@ -2,7 +2,7 @@
 //!
 //! The work is done by `libmooringeye.a`, whose functions are proved to do what `docs/API.md` says of them, for every input. This crate makes types
 //! of their numbers: the [`Collector`], [`Telegram`] and [`Fields`] of ERP1, [`Erp2`], [`SlotPlan`] and [`Site`], [`Archive`] with its [`Rows`], and
-//! [`Report`].
+//! [`Report`]. A [`Session`] is fed the bytes of a log and yields rows, as text, CSV or JSON.
 //! What is refused comes back as a [`Refusal`], which shows the papers' number.
 //!
 //! The library is found by `MOORINGEYE_LIB_DIR`, by pkg-config, or in the repository; README.md of the crate says how.
@@ -24,7 +24,7 @@ mod telegram;
 pub use archive::{Archive, Row, Rows, Salvaged};
 pub use collector::{Answer, Collector, Reception, Reply, Totals};
 pub use erp2::{Erp2, Extension};
-pub use lines::{skip_lines, FirstLine, Lines};
+pub use lines::{skip_lines, Closing, FirstLine, Format, Lines, Session, Taken};
 pub use pieces::{Adding, Block, Packed, Packer, PieceRows, Scan};
 pub use plans::{Assignment, Rule, Site, SlotPlan};
 pub use refusal::{Refusal, Refused};

@@ -1,5 +1,9 @@
 //! Lines of text: what `collect` reads, and the rows of it.
+use crate::archive::Row;
+use crate::collector::Collector;
 use crate::raw;
+use crate::refusal::Refusal;
+use crate::telegram::Telegram;
 
 /// What [`Collector::lines`](crate::Collector::lines) did.
 #[derive(Clone, Copy, Debug, Default, PartialEq, Eq, Hash)]
@@ -18,6 +22,240 @@ impl Lines {
     pub(crate) fn of([used, written, rows, lines]: [u64; raw::LINES_DONE]) -> Lines {
         let [used, written, rows, lines] = [used, written, rows, lines].map(size);
         Lines { used, written, rows, lines }
+    }
+}
+
+/// How rows are written.
+#[derive(Clone, Copy, Debug, Default, PartialEq, Eq, Hash)]
+pub enum Format {
+    /// As `collect` prints them.
+    #[default]
+    Text,
+    /// Comma-separated: time, answer, refusal, telegram, send, txid, rorg, level. What is not there is empty.
+    Csv,
+    /// A JSON object on each line, with the same members. What is not there is left out.
+    Json,
+}
+
+impl Format {
+    /// What stands before the first row: of CSV the names of its columns.
+    pub fn heading(self) -> &'static str {
+        match self {
+            Format::Csv => "time,answer,refusal,telegram,send,txid,rorg,level\n",
+            Format::Text | Format::Json => "",
+        }
+    }
+
+    pub(crate) fn number(self) -> u8 {
+        match self {
+            Format::Text => 0,
+            Format::Csv => 1,
+            Format::Json => 2,
+        }
+    }
+}
+
+/// What a telegram was heard when it closed: with the first KEPT, COPY or LOOSE reception more than 100 ms after its opening.
+#[derive(Clone, Copy, Debug, PartialEq, Eq, Hash)]
+pub struct Closing {
+    /// When it was opened, in milliseconds.
+    pub opened: u64,
+    /// The telegram as it was first received.
+    pub telegram: Telegram,
+    /// How often it was heard again, up to 65,535.
+    pub copies: u16,
+}
+
+impl Closing {
+    fn of(bytes: &[u8]) -> Option<Closing> {
+        let (opened, rest) = bytes.split_first_chunk()?;
+        let (frame, copies) = rest.split_first_chunk()?;
+        let telegram = Telegram::of_frame(*frame)?;
+        Some(Closing { opened: u64::from_be_bytes(*opened), telegram, copies: u16::from_be_bytes(copies.try_into().ok()?) })
+    }
+}
+
+/// What lines gave: their rows as text, the rows that an archive keeps, and what closed. The next call uses its buffers again.
+///
+/// ```
+/// use mooringeye::{Collector, Format, Taken};
+///
+/// let text = b"1000 D5090102030400E8\n1012 D5090102030401E9\n1102 D5090102030400E8\n";
+/// let mut taken = Taken::with_closings();
+/// Collector::new().lines_as(0, Format::Csv, text, 1_000, &mut taken).unwrap();
+/// assert!(taken.text().starts_with(b"1000,KEPT,,D5090102030400E8,,01020304,D5,0\n1012,COPY,"));
+/// assert_eq!(taken.rows().map(|row| row.time).collect::<Vec<_>>(), [1_000, 1_102]);
+/// let closing = taken.closings().next().unwrap();
+/// assert_eq!((closing.opened, closing.copies), (1_000, 1));
+/// assert_eq!(closing.telegram.fields().txid, [1, 2, 3, 4]);
+/// ```
+#[derive(Clone, Debug, Default)]
+pub struct Taken {
+    text: Vec<u8>,
+    moments: Vec<u64>,
+    records: Vec<u8>,
+    closed: Vec<u8>,
+    asks_closings: bool,
+    done: Lines,
+    closings: usize,
+}
+
+impl Taken {
+    /// For rows alone.
+    pub fn new() -> Taken {
+        Taken::default()
+    }
+
+    /// For rows, and for what closes.
+    pub fn with_closings() -> Taken {
+        Taken { asks_closings: true, ..Taken::default() }
+    }
+
+    /// The rows of all lines in the format.
+    pub fn text(&self) -> &[u8] {
+        &self.text[..self.done.written]
+    }
+
+    /// When each row for an archive was received, as [`raw::archive_put_rows`] takes it.
+    pub fn moments(&self) -> &[u64] {
+        &self.moments[..self.done.rows]
+    }
+
+    /// The rest of these rows, [`raw::ROW`] bytes each.
+    pub fn records(&self) -> &[u8] {
+        &self.records[..raw::ROW * self.done.rows]
+    }
+
+    /// The rows that an archive keeps.
+    pub fn rows(&self) -> impl Iterator<Item = Row> + '_ {
+        let records = self.records().chunks_exact(raw::ROW);
+        self.moments().iter().zip(records).filter_map(|(time, record)| {
+            let telegram = Telegram::of_frame(record[1..].try_into().ok()?)?;
+            Some(Row { telegram, time: *time, loose: record[0] != 0 })
+        })
+    }
+
+    /// What closed, in the order of the openings.
+    pub fn closings(&self) -> impl Iterator<Item = Closing> + '_ {
+        self.closed[..raw::CLOSING * self.closings].chunks_exact(raw::CLOSING).filter_map(Closing::of)
+    }
+
+    /// How many lines there were.
+    pub fn lines(&self) -> usize {
+        self.done.lines
+    }
+
+    /// Forgets all of it.
+    pub fn clear(&mut self) {
+        (self.done, self.closings) = (Lines::default(), 0);
+    }
+
+    pub(crate) fn asks_closings(&self) -> bool {
+        self.asks_closings
+    }
+
+    /// Makes room for what so many lines may give, each a row of at most so many bytes.
+    pub(crate) fn lend(&mut self, lines: usize, longest: usize) -> raw::RowsAsMut<'_> {
+        let grow = |have: usize, need: usize| need.max(have);
+        self.text.resize(grow(self.text.len(), longest * lines), 0);
+        self.moments.resize(grow(self.moments.len(), lines), 0);
+        self.records.resize(raw::ROW * self.moments.len(), 0);
+        if self.asks_closings {
+            // Those that are open, those that these lines open, and what one line more may close.
+            self.closed.resize(grow(self.closed.len(), raw::CLOSING * (lines + 2 * raw::CAPACITY)), 0);
+        }
+        raw::RowsAsMut { text: &mut self.text, moments: &mut self.moments, rows: &mut self.records, closed: &mut self.closed }
+    }
+
+    pub(crate) fn told(&mut self, [used, written, rows, lines, closings]: [u64; raw::LINES_AS_DONE]) -> Lines {
+        self.done = Lines::of([used, written, rows, lines]);
+        self.closings = size(closings);
+        self.done
+    }
+
+    /// Puts what other lines gave behind it.
+    fn append(&mut self, other: &Taken) {
+        self.text.truncate(self.done.written);
+        self.text.extend_from_slice(other.text());
+        self.moments.truncate(self.done.rows);
+        self.moments.extend_from_slice(other.moments());
+        self.records.truncate(raw::ROW * self.done.rows);
+        self.records.extend_from_slice(other.records());
+        self.closed.truncate(raw::CLOSING * self.closings);
+        self.closed.extend_from_slice(&other.closed[..raw::CLOSING * other.closings]);
+        let Lines { used, written, rows, lines } = other.done;
+        self.done.used += used;
+        self.done.written += written;
+        self.done.rows += rows;
+        self.done.lines += lines;
+        self.closings += other.closings;
+    }
+}
+
+/// A collector that is fed the bytes of a log in pieces, cut anywhere, and yields rows.
+///
+/// ```
+/// use mooringeye::{Collector, Format, Session};
+///
+/// let mut session = Session::new(Collector::new(), 1, Format::Json).unwrap();
+/// assert_eq!(session.feed(b"1000 D50901020").text(), b"");
+/// let taken = session.feed(b"30400E8\n1012 D5090102030401E9");
+/// assert!(taken.text().starts_with(b"{\"time\":1000,\"answer\":\"KEPT\""));
+/// assert_eq!(taken.rows().count(), 1);
+/// assert_eq!(session.end().lines(), 1); // the line that no newline ended
+/// assert_eq!(session.collector().totals().copies, 1);
+/// ```
+#[derive(Clone, Debug)]
+pub struct Session {
+    collector: Collector,
+    setting: u8,
+    format: Format,
+    /// A line that has not ended, as far as it matters.
+    rest: Vec<u8>,
+    part: Taken,
+    whole: Taken,
+}
+
+impl Session {
+    /// Lines of a call.
+    const BATCH: usize = 4_096;
+
+    /// Behind the first line of a log, which says the setting: [`FirstLine`] reads it. Refused: [`Refusal::Argument`] for a setting over 2.
+    pub fn new(collector: Collector, setting: u8, format: Format) -> Result<Session, Refusal> {
+        let (mut collector, mut part) = (collector, Taken::with_closings());
+        collector.lines_as(setting, format, b"", 0, &mut part)?;
+        Ok(Session { collector, setting, format, rest: vec![], part, whole: Taken::with_closings() })
+    }
+
+    /// Takes the next bytes: what the lines gave that ended in them.
+    pub fn feed(&mut self, bytes: &[u8]) -> &Taken {
+        self.whole.clear();
+        self.rest.extend_from_slice(bytes);
+        let mut used = 0;
+        loop {
+            let done = self.collector.lines_as(self.setting, self.format, &self.rest[used..], Session::BATCH, &mut self.part);
+            let done = done.expect("the setting is right, and so is a collector");
+            if done.lines == 0 {
+                break;
+            }
+            self.whole.append(&self.part);
+            used += done.used;
+        }
+        self.rest.drain(..used);
+        // A line that is longer than the longest is BAD, whatever else it has.
+        self.rest.truncate(raw::LINE_LIMIT);
+        &self.whole
+    }
+
+    /// The input has ended: a line that no newline ended counts, as `collect` counts it.
+    pub fn end(&mut self) -> &Taken {
+        let end: &[u8] = if self.rest.is_empty() { b"" } else { b"\n" };
+        self.feed(end)
+    }
+
+    /// The collector after the lines that were taken.
+    pub fn collector(&self) -> &Collector {
+        &self.collector
     }
 }
 
@@ -80,7 +318,7 @@ fn size(n: u64) -> usize {
 #[cfg(test)]
 mod tests {
     use super::*;
-    use crate::{Archive, Collector};
+    use crate::Archive;
 
     const TEXT: &[u8] = b"1000 D5090102030400E8\n1012 D5090102030401E9\nnothing\n1101 d5090102030400e8\n1102 D5";
     const PRINTED: &[u8] = b"1000 KEPT SEND D5090102030401E9\n1012 COPY\nBAD\n1101 KEPT SEND D5090102030401E9\n";
@@ -118,6 +356,70 @@ mod tests {
                 assert_eq!(fed(piece, most, places), whole, "pieces of {piece}, {most} lines and {places} rows a call");
             }
         }
+    }
+
+    const CSV: &[u8] = b"1000,KEPT,,D5090102030400E8,D5090102030401E9,01020304,D5,0\n1012,COPY,,D5090102030401E9,,01020304,D5,1\n\
+        ,BAD,,,,,,\n1101,KEPT,,D5090102030400E8,D5090102030401E9,01020304,D5,0\n";
+
+    /// All that a session gives for the text in pieces of so many bytes, without its last line.
+    fn session(piece: usize, format: Format) -> (Vec<u8>, Vec<Row>, Vec<Closing>, Session) {
+        let mut session = Session::new(Collector::new(), 1, format).unwrap();
+        let (mut text, mut rows, mut closings) = (vec![], vec![], vec![]);
+        for part in TEXT.chunks(piece) {
+            let taken = session.feed(part);
+            text.extend_from_slice(taken.text());
+            rows.extend(taken.rows());
+            closings.extend(taken.closings());
+        }
+        (text, rows, closings, session)
+    }
+
+    #[test]
+    fn sessions_in_every_format() {
+        for (format, expected) in [(Format::Text, PRINTED), (Format::Csv, CSV)] {
+            for piece in 1..=TEXT.len() {
+                let (text, rows, closings, mut session) = session(piece, format);
+                assert_eq!(text, expected, "pieces of {piece}");
+                assert_eq!(rows.iter().map(|row| row.time).collect::<Vec<_>>(), [1_000, 1_101]);
+                let telegram = Telegram::new(&[0xD5, 0x09, 1, 2, 3, 4, 0, 0xE8]).unwrap();
+                assert_eq!(closings, [Closing { opened: 1_000, telegram, copies: 1 }]);
+                assert_eq!(session.end().lines(), 1);
+                assert_eq!(session.end().lines(), 0);
+                assert_eq!((session.collector().totals().received, session.collector().totals().damaged), (4, 1));
+            }
+        }
+        assert!(session(9, Format::Json).0.starts_with(b"{\"time\":1000,"));
+        assert_eq!(Session::new(Collector::new(), 3, Format::Text).unwrap_err(), Refusal::Argument);
+    }
+
+    #[test]
+    fn a_long_line_is_one_bad_row() {
+        let mut session = Session::new(Collector::new(), 0, Format::Csv).unwrap();
+        for _ in 0..1_000 {
+            assert_eq!(session.feed(&[b'7'; 100]).lines(), 0);
+        }
+        assert_eq!(session.feed(b"\n1 D5090102030400E8\n").text(), b",BAD,,,,,,\n1,KEPT,,D5090102030400E8,,01020304,D5,0\n");
+    }
+
+    /// More lines than a call takes, and more than 64 telegrams that close with one.
+    #[test]
+    fn many_lines() {
+        let press = |id: u16, time: u64| {
+            let [high, low] = id.to_be_bytes();
+            let fields = crate::Fields { rorg: 0xD5, data: vec![9], destid: None, txid: [1, 2, high, low], status: 0 };
+            format!("{time} {}\n", Telegram::build(&fields).unwrap())
+        };
+        let text: String = (0..20_000).map(|i| press(i, u64::from(i) * 3)).collect();
+        let mut session = Session::new(Collector::new(), 0, Format::Text).unwrap();
+        let taken = session.feed(text.as_bytes());
+        assert_eq!((taken.lines(), taken.rows().count()), (20_000, 20_000));
+        let opened: Vec<u64> = taken.closings().map(|c| c.opened).collect();
+        assert_eq!(opened, (0..20_000 - 34).map(|i| i * 3).collect::<Vec<_>>());
+        let mut text_alone = Taken::new();
+        Collector::new().lines_as(0, Format::Text, text.as_bytes(), usize::MAX, &mut text_alone).unwrap();
+        assert_eq!(text_alone.closings().count(), 0);
+        let mut again = Session::new(Collector::new(), 0, Format::Text).unwrap();
+        assert!(again.feed(text.as_bytes()).text() == text_alone.text());
     }
 
     #[test]

@@ -30,6 +30,12 @@ pub const LONGEST_ROW: usize = 92;
 pub const LINE_LIMIT: usize = 150;
 /// What lines that were taken are told by: bytes used, bytes of text, rows and lines.
 pub const LINES_DONE: usize = 4;
+/// The bytes of the longest row of a line in any format.
+pub const LONGEST_ROW_AS: usize = 333;
+/// What lines that were taken in a format are told by: bytes used, bytes of rows, rows for an archive, lines and closings.
+pub const LINES_AS_DONE: usize = 5;
+/// The bytes of a closing: when it was opened, a frame, and the copies.
+pub const CLOSING: usize = 32;
 /// The bytes of a block of an archive.
 pub const BLOCK: usize = 512;
 /// The numbers of a state file.
@@ -133,6 +139,27 @@ mod c {
             moments_len: usize,
             rows: Out,
             rows_size: usize,
+            done: Out64,
+        ) -> u8;
+        pub fn mooringeye_collector_lines_as(
+            times: Out64,
+            lens: Out,
+            bytes: Out,
+            copies: Out16,
+            numbers: Out64,
+            setting: u8,
+            format: u8,
+            input: In,
+            input_len: usize,
+            most: usize,
+            out: Out,
+            out_len: usize,
+            moments: Out64,
+            moments_len: usize,
+            rows: Out,
+            rows_size: usize,
+            closed: Out,
+            closed_size: usize,
             done: Out64,
         ) -> u8;
         pub fn mooringeye_first_line(input: In, input_len: usize, used: Out64) -> u8;
@@ -427,6 +454,43 @@ pub fn collector_lines(state: &mut ArraysMut<'_>, setting: u8, input: &[u8], mos
     let told = done.as_mut_ptr();
     // SAFETY: six arrays of the sizes that the header names and three slices, all `&mut`, and a slice that is read.
     unsafe { c::mooringeye_collector_lines(times, lens, bytes, copies, numbers, setting, from, n, most, out, out_len, at, at_len, rows, size, told) }
+}
+
+/// The same, and where closings go: `closed` has [`CLOSING`] bytes for each, or no byte where none are asked for.
+pub struct RowsAsMut<'a> {
+    /// Rows in a format.
+    pub text: &'a mut [u8],
+    /// When each row for an archive was received.
+    pub moments: &'a mut [u64],
+    /// The rest of it.
+    pub rows: &'a mut [u8],
+    /// What each telegram was heard that closed.
+    pub closed: &'a mut [u8],
+}
+
+/// Whole lines from the start of a text, at most `most`, with rows in a format: 0 text, 1 comma-separated, 2 JSON.
+pub fn collector_lines_as(
+    state: &mut ArraysMut<'_>,
+    setting: u8,
+    format: u8,
+    input: &[u8],
+    most: usize,
+    to: &mut RowsAsMut<'_>,
+    done: &mut [u64; LINES_AS_DONE],
+) -> u8 {
+    let (times, lens, bytes, copies, numbers) = state.pointers();
+    let (from, n) = (input.as_ptr(), input.len());
+    let (out, out_len) = (to.text.as_mut_ptr(), to.text.len());
+    let (at, at_len) = (to.moments.as_mut_ptr(), to.moments.len());
+    let (rows, size) = (to.rows.as_mut_ptr(), to.rows.len());
+    let (shut, shut_size) = (to.closed.as_mut_ptr(), to.closed.len());
+    let told = done.as_mut_ptr();
+    // SAFETY: six arrays of the sizes that the header names and four slices, all `&mut`, and a slice that is read.
+    unsafe {
+        c::mooringeye_collector_lines_as(
+            times, lens, bytes, copies, numbers, setting, format, from, n, most, out, out_len, at, at_len, rows, size, shut, shut_size, told,
+        )
+    }
 }
 
 /// The setting of the first line, 3 for another line, 4 for none that has ended; and its bytes.

@@ -71,9 +71,24 @@ impl Telegram {
 
     /// Its fields.
     pub fn fields(&self) -> Fields {
+        Fields::from_bytes(&self.read())
+    }
+
+    /// Its fields as the library writes them.
+    fn read(&self) -> [u8; raw::FIELDS] {
         let mut bytes = [0; raw::FIELDS];
         done(raw::read(self.as_bytes(), &mut bytes)).expect("a telegram is valid");
-        Fields::from_bytes(&bytes)
+        bytes
+    }
+
+    /// Who sent it.
+    ///
+    /// ```
+    /// let telegram = mooringeye::Telegram::new(&[0xD5, 0x09, 1, 2, 3, 4, 0, 0xE8]).unwrap();
+    /// assert_eq!(telegram.txid(), [1, 2, 3, 4]);
+    /// ```
+    pub fn txid(&self) -> [u8; 4] {
+        Fields::id(&self.read(), Fields::TXID)
     }
 
     /// This telegram addressed to a DESTID. Refused: [`Refusal::Nested`] where it is addressed, [`Refusal::TooLong`].
@@ -172,6 +187,16 @@ pub struct Fields {
 }
 
 impl Fields {
+    /// How often it was sent on: 0 for an original.
+    ///
+    /// ```
+    /// let telegram = mooringeye::Telegram::new(&[0xD5, 0x09, 1, 2, 3, 4, 1, 0xE9]).unwrap();
+    /// assert_eq!(telegram.fields().level(), 1);
+    /// ```
+    pub fn level(&self) -> u8 {
+        self.status & 15
+    }
+
     // A length that a byte does not hold is no length that can be built.
     fn to_bytes(&self) -> [u8; raw::FIELDS] {
         let mut bytes = [0; raw::FIELDS];
@@ -187,13 +212,20 @@ impl Fields {
         bytes
     }
 
+    /// Where an ID stands in them.
+    const DESTID: usize = 4;
+    const TXID: usize = 8;
+
+    fn id(bytes: &[u8; raw::FIELDS], at: usize) -> [u8; 4] {
+        [bytes[at], bytes[at + 1], bytes[at + 2], bytes[at + 3]]
+    }
+
     fn from_bytes(bytes: &[u8; raw::FIELDS]) -> Fields {
-        let id = |at: usize| [bytes[at], bytes[at + 1], bytes[at + 2], bytes[at + 3]];
         Fields {
             rorg: bytes[0],
             data: bytes[12..12 + usize::from(bytes[1])].to_vec(),
-            destid: (bytes[2] != 0).then(|| id(4)),
-            txid: id(8),
+            destid: (bytes[2] != 0).then(|| Fields::id(bytes, Fields::DESTID)),
+            txid: Fields::id(bytes, Fields::TXID),
             status: bytes[3],
         }
     }

@@ -191,6 +191,58 @@ fn lines_that_do_not_fit() {
 }
 
 #[test]
+fn lines_in_a_format() {
+    let mut state = fresh();
+    assert_eq!(raw::collector_take(&mut state, &VALID, 1_000), 0);
+    let before = image_of(&state);
+    let (mut out, mut closed) = (vec![0xEE; 400], vec![0xEE; 4_096]);
+    let (mut moments, mut rows, mut done) = (vec![77; 9], vec![0xEE; 23 * 9], [77; raw::LINES_AS_DONE]);
+    let mut refused = |number: u8, setting: u8, format: u8, n: usize, size: usize| {
+        let mut to = raw::RowsAsMut { text: &mut out, moments: &mut moments[..n], rows: &mut rows[..size], closed: &mut closed };
+        assert_eq!(raw::collector_lines_as(&mut state, setting, format, b"2000 D5090102030400E8\n", 5, &mut to, &mut done), number);
+        assert_eq!(image_of(&state), before);
+        assert!(untouched(&out) && untouched(&rows) && untouched(&closed) && moments.iter().chain(&done).all(|m| *m == 77));
+    };
+    for n in 0..9 {
+        for size in (0..23 * 9).filter(|size| *size != 23 * n) {
+            refused(WRONG, 0, 0, n, size);
+            refused(WRONG, 3, 3, n, size);
+        }
+        for (setting, format) in [(3, 0), (255, 2), (0, 3), (2, 255), (9, 9)] {
+            refused(10, setting, format, n, 23 * n);
+        }
+    }
+}
+
+/// Where a call with a format stops, beside where one on text does: at the rows' bytes and at the places for what closes.
+#[test]
+fn formatted_lines_that_do_not_fit() {
+    let text = b"1000 D5090102030400E8\n1000 D5090102030400E8\n2000 D5090102030400E8\nx\n3000 D5";
+    for (most, places, room, closings, expected) in [
+        (0, 9, 999, 4_096, [0, 0, 0, 0, 0]),
+        (9, 0, 999, 4_096, [0, 0, 0, 0, 0]),
+        (9, 9, 332, 4_096, [0, 0, 0, 0, 0]),
+        (9, 9, 333, 4_096, [22, 59, 1, 1, 0]),
+        (9, 9, 999, 1, [0, 0, 0, 0, 0]),
+        (9, 9, 999, 2_047, [0, 0, 0, 0, 0]),
+        (9, 9, 999, 2_048, [66, 161, 2, 3, 1]),
+        (9, 9, 999, 2_079, [66, 161, 2, 3, 1]),
+        (9, 9, 999, 2_080, [68, 172, 2, 4, 1]),
+        (9, 9, 999, 0, [68, 172, 2, 4, 0]),
+        (9, 2, 999, 0, [66, 161, 2, 3, 0]),
+    ] {
+        let (mut out, mut closed) = (vec![0xEE; room], vec![0xEE; closings]);
+        let (mut moments, mut rows, mut done) = (vec![77; places], vec![0xEE; 23 * places], [77; raw::LINES_AS_DONE]);
+        let mut to = raw::RowsAsMut { text: &mut out, moments: &mut moments, rows: &mut rows, closed: &mut closed };
+        assert_eq!(raw::collector_lines_as(&mut fresh(), 1, 1, text, most, &mut to, &mut done), 0);
+        assert_eq!(done, expected, "{most} lines, {places} places, room for {room} bytes and {closings} of closings");
+        let [_, written, n, _, k] = expected.map(|n| n as usize);
+        assert!(untouched(&out[written..]) && untouched(&rows[23 * n..]) && untouched(&closed[32 * k..]));
+        assert!(moments[n..].iter().all(|m| *m == 77));
+    }
+}
+
+#[test]
 fn first_lines_and_skipped_lines() {
     let mut used = 77;
     for (text, number, size) in
@@ -224,6 +276,12 @@ fn arrays_that_no_collector_has() {
             let (text, rows) = image.split_at_mut(200);
             let mut to = raw::RowsMut { text, moments: &mut moments, rows: &mut rows[..size] };
             assert_eq!(raw::collector_lines(&mut state, 9, b"1 D5\n", 9, &mut to, &mut done), 11);
+            let (text, rest) = image.split_at_mut(400);
+            let (rows, closed) = rest.split_at_mut(size);
+            let mut to = raw::RowsAsMut { text, moments: &mut moments, rows, closed };
+            let mut five = [77; raw::LINES_AS_DONE];
+            assert_eq!(raw::collector_lines_as(&mut state, 9, 9, b"1 D5\n", 9, &mut to, &mut five), 11);
+            assert_eq!(five, [77; raw::LINES_AS_DONE]);
         }
         assert!(untouched(&image) && moments == [77] && done == [77; raw::LINES_DONE]);
         assert!(state.lengths.iter().chain(state.bytes.iter()).all(|b| *b == content));
