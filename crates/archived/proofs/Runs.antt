@@ -21,18 +21,20 @@ use Rattle.filling.specs.Fill.{rowsGiven}
 use Rattle.collecting.specs.Printed.{pastAfterLines, totalsLine, printedWith, printedOf}
 use Rattle.collecting.specs.Session.{Receiver, modelCollector, runningAt}
 use Rattle.collecting.specs.Rows.{rowTimes, rowRecords}
+use Rattle.collecting.specs.Elements.{Held, held, lineColumns, ElementsAfter}
 use Rattle.collecting.proofs.Storing.{times-bounded, records-bounded}
 use Rattle.printing.proofs.Whole.{printed-whole}
 use Rattle.printing.proofs.Turning.{front-there}
 use Rattle.journal_model.specs.Rows.{modelRows}
-use Rattle.c_collector.specs.State.{Arrays, stateAt}
+use Rattle.c_collector.specs.State.{Arrays, columnsAt, stateAt}
 use Rattle.c_lines.specs.Calls.{Lines}
 use Rattle.archived.specs.Runs.{Call, usedBy, textBy, timesBy, recordsBy, IsRun, leftBy, usedIn, CallsFollow}
 use Rattle.archived.specs.Claims.{rowsSaid}
 use Rattle.archived.proofs.Archived.{lines-archived}
 
 -- what stands at the front of an output after lines
-fed-front : (p : Program (Phase Receiver)) (s s' : Phase Receiver) (x out out' : List ℕ) (n : ℕ) → Fed p s x out s' out' n → Drained p lineLimit s x s' (take n out')
+fed-front : {S : Type 0} (p : Program S) (s s' : S) (x out out' : List ℕ) (n : ℕ) → Fed p s x out s' out' n
+    → Drained p lineLimit s x s' (take n out')
 fed-front p s s' x out out' n f =
     let t = feedText p lineLimit (atLineStart s) x in
     record { state = f .state; text = sym (front-there out t (f .output .next ∙ zero-add (length t)) (omega (arith, f .output .short)) (f .output .bytes)) }
@@ -62,6 +64,25 @@ module _ (setting : ℕ) (a : Arrays) (cs : List Call) (r : IsRun setting a cs) 
 
   records : Drained rowRecords lineLimit (phase setting a) (usedIn cs) (phase setting (leftBy a cs)) (joined (map recordsBy cs))
   records = chain setting rowRecords recordsBy (λ b c k. fed-front _ _ _ _ _ _ _ (k .taken refl .records)) cs a r
+
+-- every element of the arrays
+
+abbrev laid : ℕ → Arrays → Held
+laid setting a = held (phase setting a) (columnsAt a)
+
+columns-run : (setting : ℕ) (cs : List Call) (a : Arrays) → IsRun setting a cs
+    → Drained lineColumns lineLimit (laid setting a) (usedIn cs) (laid setting (leftBy a cs)) []
+unfolding IsRun leftBy joined
+columns-run setting [] a r = none lineColumns lineLimit (laid setting a)
+columns-run setting (c ∷ cs) a r =
+    both lineColumns lineLimit (fed-front _ _ _ _ [] [] 0 (r .0 .taken refl .elements))
+    (columns-run setting cs (c .after) (r .1))
+
+columns-fed : {h h' : Held} (x : List ℕ) → Drained lineColumns lineLimit h x h' [] → Fed lineColumns h x [] h' [] 0
+columns-fed x d = record {
+  state = d .state;
+  output = rw (d .text) (record { bytes = refl; next = refl; short = omega arith });
+}
 
 -- all that a program gives for such a text
 given-whole : (p : Program (Phase Receiver)) → Bounded p lineLimit → {s s' : Phase Receiver} {x t : List ℕ} → Drained p lineLimit s x s' t → t ++ p .end s' ≡ outputOf p s x
@@ -108,5 +129,15 @@ module _ (setting : ℕ) (a : Arrays) (cs : List Call) (few : setting ≤ 2) (e 
       let b = sym (append-nil (joined (map recordsBy cs))) ∙ given-whole rowRecords records-bounded (records setting a cs r) in
       ap₂ rowsGiven t b ∙ ap (λ (v : View). rowsSaid (runningAt setting v) (usedIn cs)) (e ∙ fresh-model) ∙ lines-archived setting [] (usedIn cs)
 
+  follows-elements : ElementsAfter (runningAt setting fresh) (columnsAt a) (usedIn cs) last (columnsAt (leftBy a cs))
+  follows-elements =
+      subst
+      (λ (v : View). ElementsAfter (runningAt setting v) (columnsAt a) (usedIn cs) last (columnsAt (leftBy a cs))) e
+      (columns-fed (usedIn cs) (columns-run setting cs a r))
+
 pub calls-follow : CallsFollow
-calls-follow setting a cs few e r = record { text = follows-text setting a cs few e r; rows = follows-rows setting a cs few e r }
+calls-follow setting a cs few e r = record {
+  text = follows-text setting a cs few e r;
+  rows = follows-rows setting a cs few e r;
+  elements = follows-elements setting a cs few e r;
+}

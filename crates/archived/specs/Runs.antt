@@ -10,7 +10,9 @@ use Rattle.streams.specs.Lines.{linesOf}
 use Rattle.streams.specs.Chunks.{joined}
 use Rattle.filling.specs.Fill.{rowLength, rowsGiven}
 use Rattle.collecting.specs.Printed.{totalsLine, printedWith}
-use Rattle.c_collector.specs.State.{Arrays, stateAt}
+use Rattle.collecting.specs.Session.{runningAt}
+use Rattle.collecting.specs.Elements.{ElementsAfter}
+use Rattle.c_collector.specs.State.{Arrays, columnsAt, stateAt}
 use Rattle.c_lines.specs.Calls.{Lines}
 use Rattle.journal_model.specs.Rows.{modelRows}
 
@@ -58,11 +60,13 @@ abbrev pub usedIn : List Call → List ℕ
 usedIn cs = joined (map usedBy cs)
 
 -- THE CLAIM: from a fresh collector on, however the log is cut into calls, their texts with the totals are what `collect` prints behind its first
--- line, and their rows are the reference model's
+-- line, their rows are the reference model's, and every element of the arrays is what the lines of the whole log make of it
 pub record Follows (setting : ℕ) (a : Arrays) (cs : List Call) : Type 0 where
   pub text : joined (map textBy cs) ++ totalsLine (stateAt (leftBy a cs) .totals)
       ≡ printedWith (Setting.Level setting) (linesOf (usedIn cs))
   pub rows : rowsGiven (joined (map timesBy cs)) (joined (map recordsBy cs)) ≡ modelRows [] (linesOf (usedIn cs))
+  pub elements : ElementsAfter (runningAt setting fresh) (columnsAt a) (usedIn cs)
+      (runningAt setting (stateAt (leftBy a cs))) (columnsAt (leftBy a cs))
 
 abbrev pub CallsFollow : Type 0
 CallsFollow =

@@ -10,7 +10,7 @@ use Rattle.refusal.specs.Number.{numberOf}
 use Rattle.refusal.specs.declared.Refusal.the-variants.{NotAccepted, Argument}
 use Rattle.model.specs.Acceptable.{acceptable}
 use Rattle.c_layout.specs.Frame.{wrongSize}
-use Rattle.c_collector.specs.State.{Arrays, stateAt}
+use Rattle.c_collector.specs.State.{Arrays, columnsAt, stateAt}
 use Rattle.line_input.specs.Ascii.{newline}
 use Rattle.line_input.specs.declared.Setting.{Setting}
 use Rattle.line_input.specs.Reading.{settingOf, lineLimit}
@@ -38,7 +38,8 @@ pub record Lines (s : Arrays) (setting : ℕ) (input : List ℕ) (most : ℕ) (o
     (out' moments' rows' done' : List ℕ) : Type 0 where
   pub answer : number ≡ linesNumber s setting moments rows
   pub taken : number ≡ 0
-      → StoredTo (runningAt setting (stateAt s)) input most out moments rows out' moments' rows' (runningAt setting (stateAt s'))
+      → StoredTo (runningAt setting (stateAt s)) (columnsAt s) input most out moments rows out' moments' rows'
+      (runningAt setting (stateAt s')) (columnsAt s')
       (getD done' 0 0) (getD done' 1 0) (getD done' 2 0) (getD done' 3 0)
   -- beside any other number than 0 all is as it was
   pub stays : (number ≡ 0 → ⊥) → (s' ≡ s) × (out' ≡ out) × (moments' ≡ moments) × (rows' ≡ rows) × (done' ≡ done)

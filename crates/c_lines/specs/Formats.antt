@@ -11,7 +11,7 @@ use Rattle.refusal.specs.declared.Refusal.the-variants.{NotAccepted, Argument}
 use Rattle.model.specs.Acceptable.{acceptable}
 use Rattle.line_output.specs.declared.formats.Format.{Format}
 use Rattle.c_layout.specs.Frame.{wrongSize}
-use Rattle.c_collector.specs.State.{Arrays, stateAt}
+use Rattle.c_collector.specs.State.{Arrays, columnsAt, stateAt}
 use Rattle.collecting.specs.Session.{runningAt}
 use Rattle.collecting.specs.Heard.{HeardIn}
 use Rattle.c_lines.specs.Calls.{isSized}
@@ -34,8 +34,8 @@ pub record LinesAs (s : Arrays) (setting format : ℕ) (input : List ℕ) (most 
     (number : ℕ) (s' : Arrays) (out' moments' rows' closed' done' : List ℕ) : Type 0 where
   pub answer : number ≡ linesAsNumber s setting format moments rows
   pub taken : number ≡ 0
-      → HeardIn (formatOf format) (runningAt setting (stateAt s)) input most out moments rows closed
-      out' moments' rows' closed' (runningAt setting (stateAt s'))
+      → HeardIn (formatOf format) (runningAt setting (stateAt s)) (columnsAt s) input most out moments rows closed
+      out' moments' rows' closed' (runningAt setting (stateAt s')) (columnsAt s')
       (getD done' 0 0) (getD done' 1 0) (getD done' 2 0) (getD done' 3 0) (getD done' 4 0)
   -- beside any other number than 0 all is as it was
   pub stays : (number ≡ 0 → ⊥)

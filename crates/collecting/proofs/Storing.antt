@@ -108,7 +108,8 @@ records-bounded = record { next = next-front; text = records-front }
 
 -- ---- one line more
 
-pub rows-line : (p : Program (Phase Receiver)) → Bounded p lineLimit → {s₀ s s' : Phase Receiver} {out₀ out out' text : List ℕ} {to most r : ℕ} (input : List ℕ) (at used : ℕ)
+pub rows-line : {S : Type 0} (p : Program S) → Bounded p lineLimit → {s₀ s s' : S} {out₀ out out' text : List ℕ}
+    {to most r : ℕ} (input : List ℕ) (at used : ℕ)
     → Fed p s₀ (take at input) out₀ s out to
     → (indexOf newline (drop at input) < length (drop at input)) × (used ≡ indexOf newline (drop at input) + 1) → at ≤ length input → r ≤ length out₀
     → p .text s (lineAt input at) ≡ text → p .next s (lineAt input at) ≡ s' → Printed out to text most out' r

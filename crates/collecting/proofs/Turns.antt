@@ -1,6 +1,6 @@
 -- Lines taken one after the other with the rows that an archive keeps of them, by any program over the same lines: none, a BAD one, a
 -- reception.
-use mathlib.Core.Path.{_≡_, refl, subst, _∙_}
+use mathlib.Core.Path.{_≡_, refl, sym, ap₂, subst, _∙_}
 use mathlib.Core.Bool.{Bool, true, false, cond, not, _||_}
 use mathlib.Core.List.{List, []}
 use Prim.Native.Nat.{ℕ, _+_, _-_, _*_, _<_, _≤_}
@@ -12,6 +12,7 @@ use lib.ListN.{length, take, drop, replicate, length-drop, length-replicate}
 use Rattle.bytes.specs.Bytes.{indexOf}
 use Rattle.model.specs.View.{View}
 use Rattle.model.specs.Step.{Outcome}
+use Rattle.collector.specs.Collector.{Columns, columnsAfter}
 use Rattle.collector.specs.Admission.{Tested}
 use Rattle.buffers.specs.Printed.{Printed}
 use Rattle.line_input.specs.Ascii.{newline}
@@ -25,6 +26,7 @@ use Rattle.closings.specs.Cells.{closedCells}
 use Rattle.streams.specs.Buffer.{Fed}
 use Rattle.streams.proofs.Takes.{fed-none}
 use Rattle.collecting.specs.Printed.{receptionAt}
+use Rattle.collecting.specs.Elements.{columnsIn, held, lineColumns, ElementsAfter}
 use Rattle.collecting.specs.Heard.{lineClosings, isAsked, hasRoom}
 use Rattle.collecting.specs.Session.{Receiver, modelCollector, takenAt, runningAt}
 use Rattle.collecting.specs.Rows.{rowTimes, rowRecords, lineTicks, storedTime, storedRecord}
@@ -33,12 +35,13 @@ use Rattle.collecting.proofs.Storing.{printed-none, ticks-bounded, tick
 
 -- the lines up to `at` were taken: what they give stands before `to`, n and k, and the test of the state says what it said
 pub record Taken (p : Program (Phase Receiver)) (asked fit : Bool) (setting : ℕ) (input : List ℕ) (most : ℕ)
-    (v₀ : View) (out₀ moments₀ rows₀ closed₀ : List ℕ) (v : View) (out moments rows closed : List ℕ)
-    (at to n k left : ℕ) : Type 0 where
+    (v₀ : View) (a₀ : Columns) (out₀ moments₀ rows₀ closed₀ : List ℕ) (v : View) (a : Columns)
+    (out moments rows closed : List ℕ) (at to n k left : ℕ) : Type 0 where
   pub inside : at ≤ length input
   pub room : to ≤ length out
   pub long : length out ≡ length out₀
   pub tested : Tested fit v
+  pub elements : ElementsAfter (runningAt setting v₀) a₀ (take at input) (runningAt setting v) a
   pub fed : Fed p (runningAt setting v₀) (take at input) out₀ (runningAt setting v) out to
   pub few : left ≤ most
   pub places : n ≤ length moments
@@ -52,6 +55,27 @@ pub record Taken (p : Program (Phase Receiver)) (asked fit : Bool) (setting : �
   pub closes : Fed (lineClosings asked) (runningAt setting v₀) (take at input) closed₀ (runningAt setting v) closed (32 * k)
   pub ticks : Fed lineTicks (runningAt setting v₀) (take at input) (replicate most 0) (runningAt setting v)
       (replicate most 0) (most - left)
+
+-- ---- what a line makes of the columns
+
+columns-front : (s : Phase Receiver) (l : List ℕ) (a : Columns) → columnsIn s (take lineLimit l) a ≡ columnsIn s l a
+columns-front starting l a = refl
+columns-front (running c) l a = rw (fronts-tell l .reading)
+columns-front over l a = refl
+
+columns-bounded : Bounded lineColumns lineLimit
+columns-bounded = record {
+  next = λ h l. ap₂ held (bounded modelCollector .next (h .phase) l) (columns-front (h .phase) l (h .columns));
+  text = λ h l. refl;
+}
+
+module _ (c : Receiver) (l : List ℕ) (a : Columns) where
+  bad-columns : lineReading l ≡ bad → columnsIn (running c) l a ≡ a
+  bad-columns e = rw e
+
+  said-columns : {t : ℕ} {bs : List ℕ} → lineReading l ≡ reception t bs
+      → columnsIn (running c) l a ≡ columnsAfter (c .view) (receptionAt t bs) a
+  said-columns e = rw e
 
 -- ---- what a line closes
 
@@ -79,15 +103,16 @@ module _ (asked : Bool) where
 -- ---- lines
 
 module _ (p : Program (Phase Receiver)) (b : Bounded p lineLimit) (asked : Bool) where
-  pub none-taken : {fit : Bool} {setting : ℕ} (input : List ℕ) (most : ℕ) {v : View} (out : List ℕ)
+  pub none-taken : {fit : Bool} {setting : ℕ} (input : List ℕ) (most : ℕ) {v : View} {a : Columns} (out : List ℕ)
       {moments rows closed : List ℕ} → Tested fit v → length rows ≡ 23 * length moments
-      → Taken p asked fit setting input most v out moments rows closed v out moments rows closed 0 0 0 0 most
+      → Taken p asked fit setting input most v a out moments rows closed v a out moments rows closed 0 0 0 0 most
   none-taken input most out t e =
       record {
         inside = omega arith;
         room = omega arith;
         long = refl;
         tested = t;
+        elements = fed-none lineColumns columns-bounded _ _;
         fed = fed-none p b _ _;
         few = omega arith;
         places = omega arith;
@@ -104,9 +129,10 @@ module _ (p : Program (Phase Receiver)) (b : Bounded p lineLimit) (asked : Bool)
 
   -- one line more, which has `used` characters with its newline
   module _ (nexts : (s : Phase Receiver) (l : List ℕ) → p .next s l ≡ nextPhase modelCollector s l)
-      {fit : Bool} {setting : ℕ} (input : List ℕ) {most : ℕ} {v₀ v : View}
+      {fit : Bool} {setting : ℕ} (input : List ℕ) {most : ℕ} {v₀ v : View} {a₀ a : Columns}
       {out₀ moments₀ rows₀ closed₀ out moments rows closed : List ℕ} {at to n k left : ℕ}
-      (i : Taken p asked fit setting input most v₀ out₀ moments₀ rows₀ closed₀ v out moments rows closed at to n k left)
+      (i : Taken p asked fit setting input most v₀ a₀ out₀ moments₀ rows₀ closed₀ v a out moments rows closed at to n k
+      left)
       (used : ℕ)
       (e : (indexOf newline (drop at input) < length (drop at input)) × (used ≡ indexOf newline (drop at input) + 1))
       (some : left ≡ 0 → ⊥) where
@@ -118,8 +144,8 @@ module _ (p : Program (Phase Receiver)) (b : Bounded p lineLimit) (asked : Bool)
 
     pub bad-taken : {text out' : List ℕ} {longest r : ℕ} → lineReading (lineAt input at) ≡ bad
         → p .text (runningAt setting v) (lineAt input at) ≡ text → Printed out to text longest out' r → r ≤ length out
-        → Taken p asked fit setting input most v₀ out₀ moments₀ rows₀ closed₀ v out' moments rows closed (at + used) r n k
-        (left - 1)
+        → Taken p asked fit setting input most v₀ a₀ out₀ moments₀ rows₀ closed₀ v a out' moments rows closed
+        (at + used) r n k (left - 1)
     bad-taken u x w fits =
         let same = same-length w in
         let next = bad-next (record { setting = setting; view = v }) (lineAt input at) u in
@@ -128,6 +154,9 @@ module _ (p : Program (Phase Receiver)) (b : Bounded p lineLimit) (asked : Bool)
           room = omega arith;
           long = same ∙ i .long;
           tested = i .tested;
+          elements =
+              rows-line lineColumns columns-bounded input at used (i .elements) e (i .inside) (omega arith) refl
+              (ap₂ held next (bad-columns _ _ a u)) (printed-none [] 0 0);
           fed = rows-line p b input at used (i .fed) e (i .inside) (omega (arith, i .long)) x (nexts _ _ ∙ next) w;
           few = omega (arith, i .few);
           places = i .places;
@@ -152,15 +181,16 @@ module _ (p : Program (Phase Receiver)) (b : Bounded p lineLimit) (asked : Bool)
         }
 
     pub said-taken : {t : ℕ} {bs text out' moments' rows' closed' : List ℕ} {longest r n' k' : ℕ} (o : Outcome)
-        → lineReading (lineAt input at) ≡ reception t bs → o ≡ takenAt v t bs → Tested fit (o .next)
+        {a' : Columns} → lineReading (lineAt input at) ≡ reception t bs → o ≡ takenAt v t bs
+        → a' ≡ columnsAfter v (receptionAt t bs) a → Tested fit (o .next)
         → p .text (runningAt setting v) (lineAt input at) ≡ text → Printed out to text longest out' r → r ≤ length out
         → n < length moments → Printed moments n (storedTime (o .answer) t bs) 1 moments' n'
         → Printed rows (23 * n) (storedRecord (o .answer) bs) 23 rows' (23 * n')
         → Printed closed (32 * k) (cond asked (closedCells v (receptionAt t bs)) []) 2048 closed' (32 * k')
         → 32 * k' ≤ length closed
-        → Taken p asked fit setting input most v₀ out₀ moments₀ rows₀ closed₀ (o .next) out' moments' rows' closed'
-        (at + used) r n' k' (left - 1)
-    said-taken o u s t x w fits free d f g spare =
+        → Taken p asked fit setting input most v₀ a₀ out₀ moments₀ rows₀ closed₀ (o .next) a' out' moments' rows'
+        closed' (at + used) r n' k' (left - 1)
+    said-taken o u s c t x w fits free d f g spare =
         let same = same-length w in
         let next = said-next (record { setting = setting; view = v }) (lineAt input at) o u s in
         record {
@@ -168,6 +198,9 @@ module _ (p : Program (Phase Receiver)) (b : Bounded p lineLimit) (asked : Bool)
           room = omega arith;
           long = same ∙ i .long;
           tested = t;
+          elements =
+              rows-line lineColumns columns-bounded input at used (i .elements) e (i .inside) (omega arith) refl
+              (ap₂ held next (said-columns _ _ a u ∙ sym c)) (printed-none [] 0 0);
           fed = rows-line p b input at used (i .fed) e (i .inside) (omega (arith, i .long)) x (nexts _ _ ∙ next) w;
           few = omega (arith, i .few);
           places = omega (arith, d .short, same-length d, free);

@@ -6,6 +6,7 @@ use Prim.Native.Nat.{ℕ, _+_, _*_, _≤_, _<_}
 use lib.Dec.{eqb, leb}
 use lib.ListN.{length, take, drop}
 use Rattle.closings.specs.Cells.{closedCells}
+use Rattle.collector.specs.Collector.{Columns}
 use Rattle.line_input.specs.Reading.{lineLimit, Reading, reception, bad, lineReading}
 use Rattle.line_output.specs.declared.formats.Format.{Format}
 use Rattle.streams.specs.Lines.{Program}
@@ -15,6 +16,7 @@ use Rattle.streams.specs.Buffer.{isUnended, Fed}
 use Rattle.collecting.specs.Printed.{receptionAt}
 use Rattle.collecting.specs.Session.{Receiver, modelCollector}
 use Rattle.collecting.specs.Rows.{rowTimes, rowRecords, lineTicks}
+use Rattle.collecting.specs.Elements.{ElementsAfter}
 use Rattle.collecting.specs.Formats.{collectIn, longestLineIn}
 
 -- ---- what lines close, 32 bytes for each telegram
@@ -42,13 +44,15 @@ isAsked closed = not (eqb (length closed) 0)
 abbrev pub hasRoom : (long count : ℕ) → Bool
 hasRoom long count = eqb long 0 || leb (32 * count + 2048) long
 
--- Whole lines of the input, of `used` characters, were taken from phase s on to s'. Their rows in the format stand at the
--- front of the output, the times of the rows that an archive keeps, their records and what the lines close at the front of
--- the three other buffers; where fewer were taken than may be, though what a further one gives would fit, no further line
--- has ended.
-pub record HeardIn (f : Format) (s : Phase Receiver) (input : List ℕ) (most : ℕ) (out moments rows closed : List ℕ)
-    (out' moments' rows' closed' : List ℕ) (s' : Phase Receiver) (used written count lines closings : ℕ) : Type 0 where
+-- Whole lines of the input, of `used` characters, were taken from phase s on to s', and from the collector's columns a on to
+-- a'. Their rows in the format stand at the front of the output, the times of the rows that an archive keeps, their records
+-- and what the lines close at the front of the three other buffers; where fewer were taken than may be, though what a
+-- further one gives would fit, no further line has ended.
+pub record HeardIn (f : Format) (s : Phase Receiver) (a : Columns) (input : List ℕ) (most : ℕ)
+    (out moments rows closed out' moments' rows' closed' : List ℕ) (s' : Phase Receiver) (a' : Columns)
+    (used written count lines closings : ℕ) : Type 0 where
   pub within : used ≤ length input
+  pub elements : ElementsAfter s a (take used input) s' a'
   pub text : Fed (collectIn f) s (take used input) out s' out' written
   pub times : Fed rowTimes s (take used input) moments s' moments' count
   pub records : Fed rowRecords s (take used input) rows s' rows' (23 * count)

@@ -1,6 +1,7 @@
 pub mod Printed
 pub mod Session
 pub mod Rows
+pub mod Elements
 pub mod Stored
 pub mod Formats
 pub mod Heard

@@ -4,19 +4,24 @@ use mathlib.Core.Bool.{true}
 use mathlib.Core.List.{List}
 use Prim.Native.Nat.{ℕ, _+_, _*_, _≤_, _<_}
 use lib.ListN.{length, take, drop}
+use Rattle.collector.specs.Collector.{Columns}
 use Rattle.line_input.specs.Reading.{lineLimit}
 use Rattle.streams.specs.Chunks.{atLineStart, feedText}
 use Rattle.streams.specs.Collect.{Phase, collect}
 use Rattle.streams.specs.Buffer.{isUnended, Fed}
 use Rattle.collecting.specs.Session.{Receiver, modelCollector, longestLine}
 use Rattle.collecting.specs.Rows.{rowTimes, rowRecords, lineTicks}
+use Rattle.collecting.specs.Elements.{ElementsAfter}
 
--- Whole lines of the input, of `used` characters, were taken from phase s on to s'. What they give stands at the front of the output, the times of their
--- rows and the records of these at the front of the two other buffers; where fewer were taken than may be, though a further
--- text and row would fit, no further line has ended.
-pub record StoredTo (s : Phase Receiver) (input : List ℕ) (most : ℕ) (out moments rows out' moments' rows' : List ℕ) (s' : Phase Receiver) (used written count lines : ℕ)
+-- Whole lines of the input, of `used` characters, were taken from phase s on to s', and from the collector's columns a on to
+-- a'. What they give stands at the front of the output, the times of their rows and the records of these at the front of
+-- the two other buffers; where fewer were taken than may be, though a further text and row would fit, no further line has
+-- ended.
+pub record StoredTo (s : Phase Receiver) (a : Columns) (input : List ℕ) (most : ℕ)
+    (out moments rows out' moments' rows' : List ℕ) (s' : Phase Receiver) (a' : Columns) (used written count lines : ℕ)
     : Type 0 where
   pub within : used ≤ length input
+  pub elements : ElementsAfter s a (take used input) s' a'
   pub text : Fed (collect modelCollector) s (take used input) out s' out' written
   pub times : Fed rowTimes s (take used input) moments s' moments' count
   pub records : Fed rowRecords s (take used input) rows s' rows' (23 * count)

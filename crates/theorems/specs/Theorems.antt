@@ -91,7 +91,7 @@ pub record Collector : Type 0 where
   pub output-follows-model : printing.RunsPrint
   -- The rows that a log gives for an archive are the receptions that the model keeps, and the loose ones, in order.
   pub rows-follow-model : archived.LogArchived
-  -- However a log is cut into calls of `lines`, their text and their rows are the model's. The proof uses only the contract of the call.
+  -- However a log is cut into calls of `lines`, text and rows are the model's and each element of the arrays what its lines make of it, by the call's contract alone.
   pub calls-follow-model : archived_runs.CallsFollow
 
 -- ---- archives, and reports of the totals in archives

@@ -17,7 +17,7 @@ use Rattle.model.specs.View.{Reception}
 use Rattle.model.specs.Step.{Outcome}
 use Rattle.collector.specs.Collector.{columns, viewIn}
 use Rattle.collector.specs.Admission.{admittedOf}
-use Rattle.collector.proofs.Stepping.{admission-fit, tested-next}
+use Rattle.collector.proofs.Stepping.{admission-fit, columns-fit, tested-next}
 use Rattle.line_input.specs.Ascii.{newline}
 use Rattle.line_input.specs.Reading.{lineReading, reception, frontOf, lineOf, bytesIn}
 use Rattle.line_input.proofs.Answers.{len-fits, bytes-fill, said-open, said-ended, said-bad, said-reception}
@@ -37,8 +37,11 @@ use Rattle.collecting.proofs.take_rows.Tie as tie
 
 abbrev Inv-loop : tie.InvT-loop
 Inv-loop fit setting times₀ lens₀ entries₀ copies₀ input most out₀ moments₀ rows₀ summary₀ bytes₀ at₀ to₀ n₀ left₀ times lens entries copies out moments rows summary bytes at to n left =
-    Taken (collect modelCollector) false fit setting input most (viewIn (columns times₀ lens₀ entries₀ copies₀) summary₀) out₀ moments₀ rows₀ []
-    (viewIn (columns times lens entries copies) summary) out moments rows [] at to n 0 left
+    Taken (collect modelCollector) false fit setting input most
+    (viewIn (columns times₀ lens₀ entries₀ copies₀) summary₀) (columns times₀ lens₀ entries₀ copies₀)
+    out₀ moments₀ rows₀ []
+    (viewIn (columns times lens entries copies) summary) (columns times lens entries copies)
+    out moments rows [] at to n 0 left
 
 abbrev μ-loop : tie.MeasureT-loop
 μ-loop fit setting times₀ lens₀ entries₀ copies₀ input most out₀ moments₀ rows₀ summary₀ bytes₀ at₀ to₀ n₀ left₀ times lens entries copies out moments rows summary bytes at to n left =
@@ -205,6 +208,7 @@ loop-again-2 c =
     let x = admittedOf (columns (a .admit .last .1 .0) (a .admit .last .1 .1 .0) (a .admit .last .1 .1 .1 .0) (a .admit .last .1 .1 .1 .1 .0)) (a .admit .result) in
     let r : Reception = record { bytes = bytes i; time = parsed i .parse .result .time } in
     said-taken (collect modelCollector) (bounded modelCollector) false (λ s y. refl) (input l) (l .loop .inv) (parsed i .parse .result .used) (ended (passed i)) (some (parsed i)) x (says i) o
+    (rw z at (a .admit .ensures .elements) ∙ columns-fit _ r _ _ (l .loop .inv .tested .said))
     (rw (← o) at (tested-next _ r (l .loop .inv .tested) small))
     (said-text _ _ x (says i) o (time g) (relayed-bytes _ _ _ r _ (ap (λ (y : Outcome). y .answer) (rw z at (a .admit .ensures .outcome))))) w
     (omega (arith, w .short, spare-out)) (parsed i .before .before .before .if2 .left) (d .0) (d .1) (printed-none [] 0 2048) (omega arith)
@@ -246,6 +250,7 @@ returns c =
     let l = c .before .loop .inv in
     record {
       within = l .inside;
+      elements = l .elements;
       text = l .fed;
       times = l .times;
       records = l .records;

@@ -13,9 +13,9 @@ use lib.ListN.{length, take, drop, length-take, length-drop}
 use lib.Seq.{length-take-le}
 use Rattle.bytes.specs.Bytes.{indexOf}
 use Rattle.model.specs.Step.{Outcome}
-use Rattle.collector.specs.Collector.{columns, viewIn}
-use Rattle.collector.specs.Admission.{relayedFor, admission, admittedOf}
-use Rattle.collector.proofs.Stepping.{admission-fit, tested-next}
+use Rattle.collector.specs.Collector.{Columns, columns, viewIn}
+use Rattle.collector.specs.Admission.{relayedFor, admission, admittedOf, columnsAdmitted}
+use Rattle.collector.proofs.Stepping.{admission-fit, columns-fit, tested-next}
 use Rattle.line_input.specs.Ascii.{newline}
 use Rattle.line_input.specs.Reading.{lineReading, reception, frontOf, lineOf, bytesIn}
 use Rattle.line_input.proofs.Answers.{len-fits, bytes-fill, said-open, said-ended, said-bad, said-reception}
@@ -42,8 +42,10 @@ abbrev Inv-loop : tie.InvT-loop
 Inv-loop fit setting format times₀ lens₀ entries₀ copies₀ input most out₀ moments₀ rows₀ closed₀ summary₀ bytes₀ at₀ to₀ n₀
     k₀ left₀ times lens entries copies out moments rows closed summary bytes at to n k left =
     Taken (collectIn format) (isAsked closed₀) fit setting input most
-    (viewIn (columns times₀ lens₀ entries₀ copies₀) summary₀) out₀ moments₀ rows₀ closed₀
-    (viewIn (columns times lens entries copies) summary) out moments rows closed at to n k left
+    (viewIn (columns times₀ lens₀ entries₀ copies₀) summary₀) (columns times₀ lens₀ entries₀ copies₀)
+    out₀ moments₀ rows₀ closed₀
+    (viewIn (columns times lens entries copies) summary) (columns times lens entries copies)
+    out moments rows closed at to n k left
 
 abbrev μ-loop : tie.MeasureT-loop
 μ-loop fit setting format times₀ lens₀ entries₀ copies₀ input most out₀ moments₀ rows₀ closed₀ summary₀ bytes₀ at₀ to₀ n₀
@@ -306,6 +308,9 @@ loop-again-2 c =
     let outcomes : ℕ → Outcome = λ m. admission (s .fit) v (receptionAt (r .time) (take m heard)) in
     let outcome = a .admit .ensures .outcome ∙ ap outcomes z in
     let o = outcome ∙ admission-fit _ _ _ (l .loop .inv .tested .said) in
+    let entries = columns (l .loop .times) (l .loop .lens) (l .loop .entries) (l .loop .copies) in
+    let laid : ℕ → Columns = λ m. columnsAdmitted (s .fit) v (receptionAt (r .time) (take m heard)) entries in
+    let elements = a .admit .ensures .elements ∙ ap laid z ∙ columns-fit _ x _ _ (l .loop .inv .tested .said) in
     let last = a .admit .last .1 in
     let next = admittedOf (columns (last .0) (last .1 .0) (last .1 .1 .0) (last .1 .1 .1 .0)) (a .admit .result) in
     let sent = relayed-bytes (s .setting) (s .fit) v x (next .answer) (ap (λ (y : Outcome). y .answer) outcome) in
@@ -321,7 +326,8 @@ loop-again-2 c =
     let inv = l .loop .inv in
     let left = room-left (l .loop .k) (closer a .put-closed .result) (cells (r .len - 0)) (fitting p) (inv .spare) closes in
     said-taken (collectIn (format l)) (format-bounded (format l)) (asked l) (λ s y. refl) (input l) inv (r .used)
-    (ended (passed i)) (some p) next (says i) o (rw (← o) at (tested-next _ x (inv .tested) (small (passed i .before))))
+    (ended (passed i)) (some p) next (says i) o elements
+    (rw (← o) at (tested-next _ x (inv .tested) (small (passed i .before))))
     text w (omega (arith, w .short, test))
     (omega (arith, free p .if2 .left)) (g .store-row .ensures .0) (g .store-row .ensures .1)
     (asked-same (cells (r .len - 0)) (cells (r .len)) (now (s .closed)) (ap cells z) (inv .same-closed) closes) left
@@ -352,6 +358,7 @@ returns c =
     let l = c .before .loop .inv in
     record {
       within = l .inside;
+      elements = l .elements;
       text = l .fed;
       times = l .times;
       records = l .records;
