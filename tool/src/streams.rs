@@ -11,7 +11,7 @@ use std::time::{Duration, Instant};
 
 /// How long an output that takes nothing is waited for after a signal.
 const GRACE: Duration = Duration::from_secs(5);
-/// A pipe that is ready takes so many bytes without blocking (PIPE_BUF).
+/// A pipe that is ready takes so many bytes without blocking, all of them or none (PIPE_BUF).
 const PIPE_PART: usize = 4096;
 
 pub struct Input {
@@ -106,7 +106,7 @@ impl Output {
             if signals.wait_to_write(&self.file, timeout).map_err(cannot_write)? == Waited::Not {
                 continue;
             }
-            match self.file.write(&bytes[..bytes.len().min(PIPE_PART)]) {
+            match self.file.write(pipe_part(bytes)) {
                 Ok(n) => bytes = &bytes[n..],
                 Err(error) if is_temporary(&error) => {}
                 Err(error) => return Err(cannot_write(error)),
@@ -114,6 +114,13 @@ impl Output {
         }
         Ok(())
     }
+}
+
+/// What a pipe takes at once: whole lines, so that whoever reads it finds no part of one where the tool was stopped or killed; a part of a line that is
+/// longer by itself.
+fn pipe_part(bytes: &[u8]) -> &[u8] {
+    let most = &bytes[..bytes.len().min(PIPE_PART)];
+    most.iter().rposition(|c| *c == b'\n').map_or(most, |at| &most[..=at])
 }
 
 /// What a command that only prints makes of a reader that went away, as `head` does: it has all it wanted.
@@ -172,5 +179,20 @@ fn cannot_write(error: io::Error) -> Failure {
     match (error.kind(), Failure::of("write standard output", &error)) {
         (ErrorKind::BrokenPipe, Failure::Failed(text)) => Failure::Closed(text),
         (_, failure) => failure,
+    }
+}
+
+#[cfg(test)]
+mod tests {
+    use super::*;
+
+    #[test]
+    fn a_pipe_takes_whole_lines() {
+        let rows = "1000 KEPT\n".repeat(1_000);
+        assert_eq!(pipe_part(rows.as_bytes()).len(), PIPE_PART / 10 * 10);
+        assert_eq!(pipe_part(b"1000 KEPT\n1006 COPY\n").len(), 20);
+        assert_eq!(pipe_part(b"1000 KEPT\n1006").len(), 10);
+        assert_eq!(pipe_part(&[b'x'; 5_000]).len(), PIPE_PART);
+        assert_eq!(pipe_part(b"").len(), 0);
     }
 }

@@ -2,11 +2,11 @@
 //! sentence of docs/GUIDE.md on crashes and logs.
 mod common;
 use common::*;
-use std::fs::{self, OpenOptions};
-use std::io::Write;
-use std::os::unix::fs::{MetadataExt, PermissionsExt};
+use std::fs::{self, File, OpenOptions};
+use std::io::{BufRead, BufReader, Read, Write};
+use std::os::unix::fs::{chown, MetadataExt, PermissionsExt};
 use std::path::Path;
-use std::process::Stdio;
+use std::process::{Command, Stdio};
 use std::thread::sleep;
 use std::time::{Duration, Instant};
 
@@ -285,17 +285,37 @@ fn a_log_is_followed_through_rotation() {
     assert!(listed(&dir, "a") == listed(&whole, "a"));
 }
 
+/// The times from a line's end in the log to its row on standard output, sorted.
+fn delays(words: &str, dir: &Path) -> Vec<Duration> {
+    fs::write(dir.join("gateway.log"), "1 D5090102030400E8\n").unwrap();
+    let mut child = tool(words, dir).stdin(Stdio::null()).stdout(Stdio::piped()).stderr(Stdio::null()).spawn().unwrap();
+    let mut rows = BufReader::new(child.stdout.take().unwrap()).lines();
+    assert_eq!(rows.next().unwrap().unwrap(), "1 KEPT SEND D5090102030401E9");
+    let mut gateway = OpenOptions::new().append(true).open(dir.join("gateway.log")).unwrap();
+    let mut delays: Vec<Duration> = (1..=200)
+        .map(|n| {
+            sleep(Duration::from_millis(1 + n % 5)); // by then the collector waits
+            let written = Instant::now();
+            gateway.write_all(format!("{} D5090102030400E8\n", 1_000 * n).as_bytes()).unwrap();
+            assert_eq!(rows.next().unwrap().unwrap(), format!("{} KEPT SEND D5090102030401E9", 1_000 * n));
+            written.elapsed()
+        })
+        .collect();
+    child.kill().unwrap();
+    child.wait().unwrap();
+    delays.sort();
+    delays
+}
+
+/// The collector is woken where the log grows. One that looks at it each 20 ms takes more than 15 ms here.
 #[test]
 fn a_line_is_out_soon() {
-    let (dir, lines) = (folder("journal_soon"), lines(200, 51));
-    fs::write(dir.join("gateway.log"), "").unwrap();
-    let running = start(tool("collect --level 1 --log gateway.log --follow", &dir));
-    sleep(Duration::from_millis(100));
-    let mut gateway = OpenOptions::new().append(true).open(dir.join("gateway.log")).unwrap();
-    gateway.write_all(lines.concat().as_bytes()).unwrap();
-    sleep(Duration::from_millis(500));
-    running.signal("TERM");
-    assert_eq!(running.end().with(0).out.lines().count(), 200);
+    let without = delays("collect --level 1 --log gateway.log --follow", &folder("journal_soon"))[100];
+    assert!(without < Duration::from_millis(10), "{without:?} at the median");
+    // Here it waits for the disk as well.
+    let kept = delays(&format!("{LOGGED} --follow"), &folder("journal_soon_kept"))[100];
+    assert!(kept < Duration::from_millis(500), "{kept:?} at the median");
+    println!("a line is out after {without:?} at the median, with state and archive after {kept:?}");
 }
 
 #[test]
@@ -471,28 +491,89 @@ fn names_and_words_of_options() {
     assert_eq!(fs::read_dir(&dir).unwrap().count(), 0);
 }
 
-/// Only where the tests do not run as root, whom no permission stops.
+fn is_root() -> bool {
+    fs::metadata("/proc/self").unwrap().uid() == 0
+}
+
+/// The tool as a user whom permissions stop: nobody, where the tests run as root.
+fn as_a_user(words: &str, dir: &Path) -> Ran {
+    if !is_root() {
+        return run(words, dir, b"");
+    }
+    // A copy, since nobody may not go into every folder.
+    let program = dir.join("mooringeye");
+    fs::copy(env!("CARGO_BIN_EXE_mooringeye"), &program).unwrap();
+    let mut command = Command::new("setpriv");
+    command.args(["--reuid=65534", "--regid=65534", "--clear-groups"]).arg(program).args(words.split_ascii_whitespace()).current_dir(dir);
+    run_command(command, b"")
+}
+
 #[test]
 fn a_lock_file_of_another_user() {
-    let dir = folder("journal_lock");
-    fs::write(dir.join("s.lock"), "").unwrap();
-    fs::set_permissions(dir.join("s.lock"), fs::Permissions::from_mode(0o444)).unwrap();
-    run("collect --level 1 --state s", &dir, b"").with(0);
-    fs::set_permissions(dir.join("s.lock"), fs::Permissions::from_mode(0o000)).unwrap();
-    if fs::metadata(&dir).unwrap().uid() != 0 {
-        run("collect --level 1 --state s", &dir, b"").with(1).says("cannot open the lock file s.lock").says("Change its owner");
+    let dir = std::env::temp_dir().join(format!("mooringeye-lock-{}", std::process::id()));
+    fs::create_dir(&dir).unwrap();
+    if is_root() {
+        chown(&dir, Some(65_534), Some(65_534)).unwrap();
     }
+    let lock = dir.join("s.lock");
+    fs::write(&lock, "").unwrap();
+    let mode = |mode| fs::set_permissions(&lock, fs::Permissions::from_mode(mode)).unwrap();
+    mode(0o444);
+    as_a_user("collect --level 1 --state s", &dir).with(0);
+    mode(0o000);
+    as_a_user("collect --level 1 --state s", &dir).with(1).says("cannot open the lock file s.lock").says("Change its owner");
+    fs::remove_dir_all(&dir).unwrap();
+}
+
+/// What is in a pipe whose writer has ended.
+fn rest_of(mut pipe: impl Read) -> String {
+    let mut text = String::new();
+    pipe.read_to_string(&mut text).unwrap();
+    text
 }
 
 #[test]
 fn a_stalled_reader_fuses_no_line() {
-    // Standard output is at most once; a file named by --out has each row, whatever the reader does.
     let (dir, log) = (folder("journal_stalled"), log(30_000, 56));
-    let mut child =
-        tool("collect --state s --out rows.txt", &dir).stdin(Stdio::piped()).stdout(Stdio::piped()).stderr(Stdio::null()).spawn().unwrap();
-    let mut stdin = child.stdin.take().unwrap();
-    stdin.write_all(log.as_bytes()).unwrap();
-    drop(stdin);
+    let whole = folder("journal_stalled_whole");
+    let expected = run("collect --state s --archive a", &whole, log.as_bytes()).with(0).out;
+    fs::write(dir.join("log"), &log).unwrap();
+    // Nobody reads: the pipe is full long before the end, and the collector waits. A signal ends it when its reader had time enough.
+    let mut child = tool("collect --state s --archive a", &dir)
+        .stdin(File::open(dir.join("log")).unwrap())
+        .stdout(Stdio::piped())
+        .stderr(Stdio::null())
+        .spawn()
+        .unwrap();
+    wait_for("a state with lines", || fs::read(dir.join("s")).is_ok_and(|s| s.get(14).is_some_and(|n| *n > 0)));
+    sleep(Duration::from_millis(500));
+    assert!(child.try_wait().unwrap().is_none(), "it waits for its reader");
+    assert!(Command::new("kill").arg(child.id().to_string()).status().unwrap().success());
+    assert_eq!(child.wait().unwrap().code(), Some(1));
+    let first = rest_of(child.stdout.take().unwrap());
+    assert!(first.ends_with('\n') && first.len() > 32_768 && expected.starts_with(&first), "whole rows, from the first on");
+    // What comes behind them, in the same file, is rows of their own: some are missing, none is there twice and none is fused.
+    let second = run("collect --state s --archive a --replay", &dir, log.as_bytes()).with(0).out;
+    assert!(expected.ends_with(&second) && first.len() + second.len() < expected.len());
+    assert!(listed(&dir, "a") == listed(&whole, "a"), "the archive has every row");
+}
+
+#[test]
+fn a_stalled_reader_does_not_stop_the_out_file() {
+    let (dir, log) = (folder("journal_stalled_out"), log(30_000, 58));
+    // A pipe that is full: whatever is written to it waits for ever.
+    let (reader, mut writer) = std::io::pipe().unwrap();
+    writer.write_all(&[b'x'; 65_536]).unwrap();
+    fs::write(dir.join("log"), &log).unwrap();
+    let mut command = tool("collect --state s --archive a --out rows.txt --quiet", &dir);
+    let mut child = command.stdin(File::open(dir.join("log")).unwrap()).stdout(writer).spawn().unwrap();
+    let started = Instant::now();
+    while child.try_wait().unwrap().is_none() {
+        assert!(started.elapsed() < Duration::from_secs(60), "it waits for a reader of rows that go to a file");
+        sleep(Duration::from_millis(10));
+    }
     assert!(child.wait().unwrap().success());
+    drop(command);
     assert_eq!(fs::read_to_string(dir.join("rows.txt")).unwrap().lines().count(), 29_999);
+    assert!(rest_of(reader).bytes().all(|c| c == b'x'));
 }
