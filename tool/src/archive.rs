@@ -133,7 +133,7 @@ fn append_all(path: &Path) -> Result<(u64, u64), Failure> {
     let file = files::open_locked(path, true)?;
     let source = Source { blocks: files::blocks_of(&file, path)?, file, path };
     let mut new = Replacement::of(path)?;
-    files::copy(&source.file, path, &mut new)?;
+    files::copy(&source.file, path, source.blocks, &mut new)?;
     let copy = new.file.try_clone().map_err(|e| Failure::of(format!("write {}", path.display()), &e))?;
     let mut appender = Appender::behind_all(copy, path, MAX_BLOCKS)?;
     let before = appender.rows();

@@ -10,6 +10,7 @@ use crate::journal::{keep_last, LogPlace};
 use crate::keeper::{Files, Keeper, MAX_BATCH, ORDER};
 use crate::logs::{differ, Log};
 use crate::metrics::Metrics;
+use crate::progress::Progress;
 use crate::rows::{self, Format};
 use crate::signals::{self, Signals};
 use crate::store::Place;
@@ -17,6 +18,7 @@ use crate::streams::{Got, Input, Output};
 use crate::{sys, text};
 use mooringeye::raw::LINE_LIMIT;
 use mooringeye::{skip_lines, FirstLine};
+use std::io::{self, IsTerminal};
 use std::path::{Path, PathBuf};
 use std::rc::Rc;
 
@@ -127,6 +129,16 @@ impl Source {
         }
     }
 
+    /// How far a log is that is read again, for a terminal on which no rows are printed; none of lines that are still to come.
+    fn progress(&self, is_replayed: bool) -> Option<Progress> {
+        let total = match self {
+            Source::Standard(input) => input.length(),
+            Source::Log(log) => log.left(),
+        };
+        let has_end = total.is_some() || is_replayed;
+        (has_end && !io::stdout().is_terminal()).then(|| Progress::of(self.name(), total))
+    }
+
     fn name(&self) -> String {
         match self {
             Source::Standard(_) => "the input".into(),
@@ -154,6 +166,7 @@ struct Run {
     /// Whether a line that ends in CR LF was told.
     told_cr: bool,
     metrics: Metrics,
+    progress: Option<Progress>,
     bad: BadLines,
     ended: Ended,
 }
@@ -192,6 +205,7 @@ impl Run {
         let is_first = keeper.state.log.as_ref().is_none_or(|log| log.offset == 0) || matches!(source, Source::Standard(_));
         let is_live = matches!(source, Source::Standard(_)) && !options.replay;
         keeper.is_beside_log = is_live && keeper.state.log.as_ref().is_some_and(|log| log.inode != 0);
+        let progress = source.progress(options.replay);
         let mut run = Run {
             keeper,
             source,
@@ -206,6 +220,7 @@ impl Run {
             is_settled: false,
             told_cr: false,
             metrics: Metrics::of(options.metrics.clone()),
+            progress,
             bad: BadLines::default(),
             ended: Ended::Input,
         };
@@ -287,10 +302,14 @@ impl Run {
                 }
             };
             let used = self.take_lines(&buffer[..filled], signals)?;
+            if let Some(progress) = &mut self.progress {
+                progress.show((filled - carried) as u64, |_| format!("{} rows", self.read));
+            }
             // A line that is longer than the longest is BAD, whatever else it has.
             carried = (filled - used).min(LINE_LIMIT);
             buffer.copy_within(used..used + carried, 0);
         }
+        self.progress = None;
         self.tell_unfinished(&buffer[..carried], if self.ended == Ended::Input { "ended" } else { "was left" });
         match self.ended {
             Ended::Input => self.input_ended(),

@@ -1,6 +1,7 @@
 //! The file operations on which crash safety rests (docs/CRASH.md), in one small trait: the real ones, and those of a simulated disk with a volatile
 //! cache (`powercut`), which shows that their order is right.
 use crate::failure::tell;
+use crate::sys;
 use std::ffi::OsString;
 use std::fmt::Display;
 use std::fs::{self, File, Metadata, OpenOptions, TryLockError};
@@ -51,6 +52,10 @@ pub trait Handle {
     fn lock(&self) -> io::Result<bool>;
     /// Lets the same users in as another file does.
     fn share_as(&self, other: &Path) -> io::Result<()>;
+    /// Whether there may be data from a byte before the end on; else only zeros follow.
+    fn has_data_from(&self, _at: u64) -> bool {
+        true
+    }
 
     fn read_all_at(&self, mut buffer: &mut [u8], mut at: u64) -> io::Result<()> {
         while !buffer.is_empty() {
@@ -120,6 +125,10 @@ impl Handle for File {
             Ok(metadata) => self.set_permissions(metadata.permissions()),
             Err(_) => Ok(()),
         }
+    }
+
+    fn has_data_from(&self, at: u64) -> bool {
+        sys::has_data_from(self, at)
     }
 }
 

@@ -73,8 +73,17 @@ pub fn tell(text: impl Display) {
     }
 }
 
-/// Says why a command fails. Where standard error cannot be written there is nobody to tell.
+/// Whether a line of progress stands on the terminal.
+static HAS_LINE: AtomicBool = AtomicBool::new(false);
+
+/// Notes whether one stands there now, and says whether one did before.
+pub fn set_line(is_there: bool) -> bool {
+    HAS_LINE.swap(is_there, Ordering::Relaxed)
+}
+
+/// Says why a command fails, in the place of a line of progress. Where standard error cannot be written there is nobody to tell.
 pub fn complain(text: impl Display) {
     use io::Write;
-    let _ = writeln!(io::stderr(), "mooringeye: {text}");
+    let front = if set_line(false) { "\r\x1b[K" } else { "" };
+    let _ = writeln!(io::stderr(), "{front}mooringeye: {text}");
 }

@@ -1,13 +1,13 @@
 //! Files: locks, replacement by rename, and reading in pieces.
 use crate::appender::MAX_BLOCKS;
 use crate::disk::{Disk, Handle, Open, Real, Shared};
-use crate::failure::{is_quiet, tell, Failure};
+use crate::failure::{tell, Failure};
+use crate::progress::Progress;
 use mooringeye::{Archive, Refusal};
 use std::ffi::OsString;
 use std::fs::{self, File, OpenOptions, TryLockError};
-use std::io::{self, IsTerminal, Write};
+use std::io::{self, Write};
 use std::path::{Path, PathBuf};
-use std::time::{Duration, Instant};
 
 /// How much of an archive is read at once.
 pub const PIECE: usize = 1 << 20;
@@ -227,11 +227,20 @@ impl<'a> Pieces<'a> {
     /// The blocks `from` to `to`.
     pub fn of(file: &'a dyn Handle, path: &'a Path, from: u64, to: u64) -> Pieces<'a> {
         let size = PIECE.min(((to - from) * BLOCK) as usize);
-        Pieces { file, path, buffer: vec![0; size], at: from * BLOCK, end: to * BLOCK, progress: Progress::of(path, (to - from) * BLOCK) }
+        Pieces {
+            file,
+            path,
+            buffer: vec![0; size],
+            at: from * BLOCK,
+            end: to * BLOCK,
+            progress: Progress::of(path.display().to_string(), Some((to - from) * BLOCK)),
+        }
     }
 
+    /// The next piece. Where the file has no data from there on, as a sparse one at its end, there is none: what follows are zeros, and no reader of an
+    /// archive makes anything of zeros at its end.
     pub fn next(&mut self) -> Result<Option<&[u8]>, Failure> {
-        if self.at == self.end {
+        if self.at == self.end || !self.file.has_data_from(self.at) {
             return Ok(None);
         }
         let size = self.buffer.len().min((self.end - self.at) as usize);
@@ -239,60 +248,18 @@ impl<'a> Pieces<'a> {
         let place = |e: io::Error| Failure::of(format!("read {} at byte {}", self.path.display(), self.at), &e);
         self.file.read_all_at(piece, self.at).map_err(place)?;
         self.at += size as u64;
-        self.progress.show(size as u64);
+        self.progress.show(size as u64, |bytes| format!("up to {} rows", bytes / BLOCK * Archive::ROWS_PER_BLOCK as u64));
         Ok(Some(piece))
     }
 }
 
-/// How far long work is, on standard error where that is a terminal.
-struct Progress {
-    name: String,
-    total: u64,
-    done: u64,
-    started: Instant,
-    /// When it was shown last, or began; none where nobody looks.
-    shown: Option<Instant>,
-    is_shown: bool,
-}
-
-impl Progress {
-    fn of(path: &Path, total: u64) -> Progress {
-        let started = Instant::now();
-        let shown = (io::stderr().is_terminal() && !is_quiet()).then_some(started);
-        Progress { name: path.display().to_string(), total, done: 0, started, shown, is_shown: false }
+/// Copies an archive of so many blocks; zeros at its end take no room.
+pub fn copy(from: &File, path: &Path, blocks: u64, to: &mut Replacement) -> Result<(), Failure> {
+    let mut pieces = Pieces::of(from, path, 0, blocks);
+    while let Some(piece) = pieces.next()? {
+        to.write(piece)?;
     }
-
-    /// Once a second, so that work of less than a second shows nothing.
-    fn show(&mut self, more: u64) {
-        self.done += more;
-        let Some(last) = self.shown else { return };
-        if last.elapsed() >= Duration::from_secs(1) {
-            let _ = write!(io::stderr(), "\r{}: {}\x1b[K", self.name, progress(self.done, self.total, self.started.elapsed()));
-            (self.shown, self.is_shown) = (Some(Instant::now()), true);
-        }
-    }
-}
-
-/// How much is done of a number of bytes, how fast, and how long the rest takes.
-fn progress(done: u64, total: u64, elapsed: Duration) -> String {
-    let mega = |bytes: f64| bytes / 1e6;
-    let rate = done as f64 / elapsed.as_secs_f64().max(0.001);
-    let left = (total - done) as f64 / rate.max(1.0);
-    let (rows, rate) = (done / BLOCK * Archive::ROWS_PER_BLOCK as u64, mega(rate));
-    format!("{:.0} of {:.0} MB, up to {rows} rows, {rate:.0} MB/s, {left:.0} s left", mega(done as f64), mega(total as f64))
-}
-
-impl Drop for Progress {
-    fn drop(&mut self) {
-        if self.is_shown {
-            let _ = write!(io::stderr(), "\r\x1b[K");
-        }
-    }
-}
-
-/// Copies all of a file.
-pub fn copy(mut from: &File, path: &Path, to: &mut Replacement) -> Result<(), Failure> {
-    io::copy(&mut from, &mut to.file).map(|_| ()).map_err(|e| Failure::of(format!("copy {}", path.display()), &e))
+    to.file.set_len(blocks * BLOCK).map_err(|e| to.cannot("write", &e))
 }
 
 /// Says in a failure of damage that somebody is writing the file, where it is so.
@@ -301,15 +268,4 @@ pub fn while_written(failure: Failure, file: &File, path: &Path) -> Failure {
         tell(format!("{} is being written: a block may have been read half old, half new; try again", path.display()));
     }
     failure
-}
-
-#[cfg(test)]
-mod tests {
-    use super::*;
-
-    #[test]
-    fn progress_lines() {
-        let text = progress(512_000_000, 2_048_000_000, Duration::from_secs(2));
-        assert_eq!(text, "512 of 2048 MB, up to 15000000 rows, 256 MB/s, 6 s left");
-    }
 }

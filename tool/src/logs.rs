@@ -118,6 +118,12 @@ impl Log {
         &self.current.path
     }
 
+    /// How many bytes there are to be read now; none where more is waited for.
+    pub fn left(&self) -> Option<u64> {
+        let newer = self.newer.iter().filter_map(|log| log.length().ok()).sum::<u64>();
+        (!self.follows).then(|| self.current.length().unwrap_or(0).saturating_sub(self.at) + newer)
+    }
+
     /// The first bytes of the log that is read.
     pub fn front(&self) -> Result<Vec<u8>, Failure> {
         let mut bytes = vec![0; 16];

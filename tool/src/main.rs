@@ -28,6 +28,7 @@ mod picture;
 mod plans;
 #[cfg(test)]
 mod powercut;
+mod progress;
 mod rows;
 mod signals;
 mod state;

@@ -3,7 +3,7 @@
 use crate::failure::Failure;
 use crate::signals::{self, Signals, Waited};
 use crate::sys;
-use std::fs::File;
+use std::fs::{File, Metadata};
 use std::io::{self, ErrorKind, Read, Write};
 use std::os::fd::AsFd;
 use std::os::unix::fs::FileTypeExt;
@@ -35,6 +35,11 @@ impl Input {
             Ok(File::from(io::stdin().as_fd().try_clone_to_owned()?))
         };
         open().map(|file| Input { file }).map_err(cannot_read)
+    }
+
+    /// How long it is, where it is a file.
+    pub fn length(&self) -> Option<u64> {
+        self.file.metadata().ok().filter(Metadata::is_file).map(|m| m.len())
     }
 
     pub fn read(&mut self, buffer: &mut [u8], signals: &Signals) -> Result<Got, Failure> {

@@ -5,6 +5,7 @@
 //! - `poll`: std cannot wait for a descriptor and a signal at once;
 //! - `__errno_location`: a handler must leave the number of the last error as it found it;
 //! - `inotify_init1`, `inotify_add_watch`: std cannot wait until a file grows;
+//! - `lseek`: std cannot ask where a sparse file has data;
 //! - `fcntl`: std opens /dev/null where a standard descriptor is closed, so that has to be asked before std begins.
 //!
 //! Locks, the sync of a folder and aligned writes at an offset are in std.
@@ -29,6 +30,7 @@ mod c {
         pub fn poll(fds: *mut PollFd, count: std::ffi::c_ulong, timeout: i32) -> i32;
         pub fn __errno_location() -> *mut i32;
         pub fn fcntl(fd: i32, command: i32, ...) -> i32;
+        pub fn lseek(fd: i32, offset: i64, whence: i32) -> i64;
         pub fn inotify_init1(flags: i32) -> i32;
         pub fn inotify_add_watch(fd: i32, path: *const std::ffi::c_char, mask: u32) -> i32;
     }
@@ -168,4 +170,17 @@ pub fn watch(watcher: &File, path: &CStr, events: u32) -> io::Result<()> {
         -1 => Err(io::Error::last_os_error()),
         _ => Ok(()),
     }
+}
+
+const SEEK_DATA: i32 = 3;
+/// No data from there on.
+const ENXIO: i32 = 6;
+
+/// Whether a file may have data from a byte on; what is no data reads as zeros. Where the system does not know, it may. This moves the file's own offset,
+/// which nobody uses who reads and writes at offsets.
+pub fn has_data_from(file: &File, at: u64) -> bool {
+    let Ok(at) = i64::try_from(at) else { return true };
+    // SAFETY: numbers alone, of a descriptor that is open.
+    let found = unsafe { c::lseek(file.as_raw_fd(), at, SEEK_DATA) };
+    found != -1 || io::Error::last_os_error().raw_os_error() != Some(ENXIO)
 }

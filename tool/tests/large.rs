@@ -3,6 +3,8 @@ mod common;
 use common::*;
 use std::fs::{self, File};
 use std::io::Read;
+use std::os::unix::fs::{FileExt, MetadataExt};
+use std::path::Path;
 use std::process::{Command, Stdio};
 use std::time::{Duration, Instant};
 
@@ -18,6 +20,97 @@ fn more_blocks_than_an_archive_has() {
         assert!(started.elapsed() < Duration::from_secs(10), "{words}");
     }
     assert!(!dir.join("b").exists());
+}
+
+/// An archive of all the blocks that there can be, of which the first few have rows and the rest is a hole: every command answers as of a short one,
+/// and at once.
+#[test]
+fn zeros_at_the_end_of_a_sparse_archive() {
+    let dir = folder("large_sparse");
+    let names = ["short", "long"];
+    for name in names {
+        fs::create_dir(dir.join(name)).unwrap();
+        run("collect --archive a", &dir.join(name), &sample()).with(0);
+    }
+    let length = (1 << 32) * 512;
+    File::options().write(true).open(dir.join("long/a")).unwrap().set_len(length).unwrap();
+    let started = Instant::now();
+    let both = |words: &str, input: &[u8]| names.map(|name| run(words, &dir.join(name), input).with(0).out);
+    let [short, long] = both("archive verify a", b"");
+    assert_eq!((short.as_str(), long.as_str()), ("a: 159 rows, 2048 blocks\n", "a: 159 rows, 4294967296 blocks\n"));
+    let same = |words: &str, input: &[u8]| {
+        let [short, long] = both(words, input);
+        assert_eq!(short, long, "{words}");
+    };
+    same("archive list a", b"");
+    same("archive list a --after 100", b"");
+    same("archive sheet a", b"");
+    same("archive picture a", b"");
+    same("archive salvage a saved", b"");
+    same("archive append a", b"100000 KEPT D5090102030400E8\n");
+    same("archive remove a --txid 01814D10", b"");
+    same("collect --level 1 --state s --archive a", b"200000 D5090102030400E8\n");
+    same("collect --level 1 --state s --archive a", b"300000 D5090102030400E8\n");
+    for name in ["a", "saved"] {
+        let metadata = fs::metadata(dir.join("long").join(name)).unwrap();
+        assert_eq!(metadata.len(), length, "{name} keeps its length");
+        assert!(metadata.blocks() < 10_000, "{name} takes no room for zeros");
+    }
+    same("archive list a", b"");
+    assert!(started.elapsed() < Duration::from_secs(30));
+    // A block behind the hole is found where it is.
+    let far = File::options().write(true).open(dir.join("short/a")).unwrap();
+    far.set_len(1 << 30).unwrap();
+    far.write_all_at(&[1; 512], (1 << 30) - 512).unwrap();
+    run("archive verify a", &dir.join("short"), b"").with(3).says("(block 2097151)");
+}
+
+/// What a command shows on a terminal, where it is stopped for a second in its middle.
+fn on_terminal(command: &str, dir: &Path) -> String {
+    let mut child = Command::new("script");
+    child.args(["--quiet", "--flush", "--command", command, "/dev/null"]).current_dir(dir).env("TERM", "dumb");
+    let running = start(child);
+    let script = running.child.id().to_string();
+    let signal = |name: &str, to: &str| _ = Command::new("kill").args([name, to]).status().unwrap();
+    std::thread::sleep(Duration::from_millis(60));
+    let child = fs::read_to_string(format!("/proc/{script}/task/{script}/children")).unwrap();
+    signal("-STOP", child.trim());
+    std::thread::sleep(Duration::from_millis(1_200));
+    // `script` stops with its child.
+    signal("-CONT", child.trim());
+    signal("-CONT", &script);
+    running.end().out
+}
+
+#[test]
+fn progress_on_a_terminal() {
+    let dir = folder("large_progress");
+    // A hole with a block behind it: it is read to its end, which takes a while, and takes no room.
+    let file = File::create(dir.join("a")).unwrap();
+    file.set_len(1 << 30).unwrap();
+    file.write_all_at(&[1; 512], (1 << 30) - 512).unwrap();
+    let program = env!("CARGO_BIN_EXE_mooringeye");
+    for words in ["verify a", "list a", "salvage a b", "sheet a"] {
+        let shown = on_terminal(&format!("exec {program} archive {words}"), &dir);
+        let line = shown.split('\r').find(|l| l.contains(" MB/s")).unwrap_or_else(|| panic!("{words}: {shown:?}"));
+        assert!(line.starts_with("a: ") && line.contains(" of 1074 MB, up to ") && line.contains(" s left"), "{words}: {line:?}");
+        assert!(shown.contains("\r\x1b[K"), "it goes away: {shown:?}");
+    }
+    assert!(!on_terminal(&format!("exec {program} archive verify a --quiet"), &dir).contains("MB/s"));
+    // A log that is read again, while whoever reads the rows takes his time.
+    fs::write(dir.join("log"), log(60_000, 8)).unwrap();
+    for words in ["--log log", "--replay <log"] {
+        let command = format!("{program} collect --level 1 --state s --archive c {words} | (sleep 1.5; cat >rows)");
+        let _ = fs::remove_file(dir.join("s"));
+        let mut shell = Command::new("script");
+        shell.args(["--quiet", "--flush", "--command", &command, "/dev/null"]).current_dir(&dir);
+        let shown = run_command(shell, b"").out;
+        let line = shown.split('\r').find(|l| l.contains(" MB/s")).unwrap_or_else(|| panic!("{words}: {shown:?}"));
+        assert!(line.contains(" of 2 MB, ") && line.contains(" rows, ") && line.contains(" s left"), "{words}: {line:?}");
+        assert!(shown.contains("\r\x1b[Kmooringeye: ") || shown.contains("\x1b[K\r\x1b[K"), "messages stand on lines of their own: {shown:?}");
+    }
+    // Where the rows are printed on the terminal there is none.
+    assert!(!on_terminal(&format!("exec {program} collect --level 1 --log log"), &dir).contains("MB/s"));
 }
 
 #[test]
