@@ -117,7 +117,7 @@ lines-archived setting before input =
 
 -- ---- a log
 
-over-silent : (p : Program (Phase Receiver)) → ((l : List ℕ) → p .text over l ≡ []) → ((l : List ℕ) → p .next over l ≡ over) → (ls : List (List ℕ)) → textOf p over ls ≡ []
+pub over-silent : (p : Program (Phase Receiver)) → ((l : List ℕ) → p .text over l ≡ []) → ((l : List ℕ) → p .next over l ≡ over) → (ls : List (List ℕ)) → textOf p over ls ≡ []
 unfolding textOf
 over-silent p t n [] = refl
 over-silent p t n (l ∷ ls) = rw (t l, n l) (over-silent p t n ls)

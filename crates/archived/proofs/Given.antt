@@ -5,8 +5,8 @@ use mathlib.Core.List.{List, [], _∷_, _++_, map, flatten, append-assoc}
 use Prim.Native.Nat.{ℕ, suc, _+_, _*_, _≤_, _<_}
 use native.Mathlib.Omega.{arith}
 use native.Mathlib.Nat.{zero-add}
-use lib.ListN.{length, getD, drop}
-use lib.Seq.{take-append-seam, drop-append-add}
+use lib.ListN.{length, getD, take, drop, take-append-drop, length-drop}
+use lib.Seq.{take-append-seam, drop-append-add, length-take-le}
 use borrow.Author.Tests.{eqb-true}
 use Rattle.lists.specs.Lists.{padded, all, upFrom}
 use Rattle.lists.proofs.Choice.{both}
@@ -59,6 +59,23 @@ first-given t ts r rs e =
     rw (d, s, zero-add i)
     in
     ap₂ _∷_ (ap (rowGiven t) front) (map-moved f g 1 0 (length ts) next)
+
+-- times and records in two parts
+pub given-append : (ts rs us qs : List ℕ) → length rs ≡ rowLength * length ts → rowsGiven (ts ++ us) (rs ++ qs) ≡ rowsGiven ts rs ++ rowsGiven us qs
+unfolding rowsGiven upFrom
+given-append [] [] us qs e = refl
+given-append [] (r ∷ rs) us qs e = absurd (omega arith)
+given-append (t ∷ ts) rs us qs e =
+    let r = take rowLength rs in
+    let rest = drop rowLength rs in
+    let long : length r ≡ rowLength = length-take-le rowLength rs (omega arith) in
+    let split : rs ≡ r ++ rest = sym (take-append-drop rowLength rs) in
+    let ih = given-append ts rest us qs (omega (arith, length-drop rowLength rs)) in
+    ap (λ (l : List ℕ). rowsGiven (t ∷ (ts ++ us)) (l ++ qs)) split
+    ∙ ap (rowsGiven (t ∷ (ts ++ us))) (append-assoc r rest qs)
+    ∙ first-given t (ts ++ us) r (rest ++ qs) long
+    ∙ ap (λ (l : List Row). rowGiven t r ∷ l) ih
+    ∙ ap (λ (l : List Row). l ++ rowsGiven us qs) (sym (first-given t ts r rest long) ∙ ap (rowsGiven (t ∷ ts)) (sym split))
 
 pub given-back : (rows : List Row) → all isFit rows ≡ true → rowsGiven (timesOf rows) (recordsOf rows) ≡ rows
 unfolding rowsGiven upFrom flatten

@@ -32,6 +32,7 @@ use Rattle.collecting.proofs.Printed as collecting_printed
 use Rattle.collecting.proofs.PrintedIn as collecting_formats
 use Rattle.collecting.proofs.Storing as collecting
 use Rattle.archived.proofs.Archived as archived
+use Rattle.whole_log.proofs.Claims as whole_log
 use Rattle.archive_model.proofs.Claims as archive_model_claims
 use Rattle.archive_model.proofs.Identity as archive_model_identity
 use Rattle.repack_model.proofs.Rows as repack_model_rows
@@ -156,6 +157,7 @@ lines = record {
   later-rows-follow-model = archived.lines-archived;
   records-are-sized = archived.records-sized;
   rows-are-storable = archived.archived-storable;
+  kept-log-reads-back = whole_log.kept-read-back;
 }
 
 rows : Rows

@@ -13,6 +13,7 @@ use Rattle.model.proofs.Image as model_image
 use Rattle.printing.proofs.Runs as printing
 use Rattle.archived.proofs.Archived as archived
 use Rattle.archived.proofs.Runs as archived_runs
+use Rattle.whole_log.proofs.Claims as whole_log
 use Rattle.archive_model.proofs.Claims as archive_model
 use Rattle.repack_model.proofs.Salvage as repack_model_salvage
 use Rattle.repack_model.proofs.Removal as repack_model_removal
@@ -56,6 +57,7 @@ collector = record {
   output-follows-model = printing.runs-print;
   rows-follow-model = archived.log-archived;
   calls-follow-model = archived_runs.calls-follow;
+  log-is-archived = whole_log.fresh-kept;
 }
 
 archives : Archives

@@ -29,6 +29,7 @@ use Rattle.streams.specs.Claims as streams
 use Rattle.collecting.specs.Claims as collecting
 use Rattle.collecting.specs.PrintedIn as collecting_formats
 use Rattle.archived.specs.Claims as archived
+use Rattle.whole_log.specs.Claims as whole_log
 use Rattle.archive_model.specs.Claims as archive_model
 use Rattle.archive_model.specs.Identity as archive_identity
 use Rattle.repack_model.specs.Claims as repack_model
@@ -202,6 +203,8 @@ pub record Lines : Type 1 where
   pub records-are-sized : archived.RecordsSized
   -- An archive can hold each of these rows, and the check refuses none of them.
   pub rows-are-storable : archived.ArchivedStorable
+  -- A log kept in any archive is read back: the rows that were there, and then the model's, in order.
+  pub kept-log-reads-back : whole_log.KeptReadBack
 
 -- ---- the rows of a history, and the telegrams that close in it
 

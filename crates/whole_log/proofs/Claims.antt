@@ -1,0 +1,64 @@
+-- The claims on a log that is kept.
+use Prim.Native.Nat.{ℕ, _*_, _/_, _≤_}
+use native.Mathlib.Omega.{arith}
+use mathlib.Core.Path.{_≡_, refl, sym, ap, _∙_}
+use mathlib.Core.Bool.{Bool, true, false}
+use mathlib.Core.List.{List, [], _++_}
+use lib.Dec.{ltb, eqb}
+use lib.ListN.{length, replicate, length-append, length-replicate}
+use borrow.Author.Tests.{le-ltb, ltb-false, eqb-true, eqb-false}
+use Rattle.lists.specs.Lists.{all, padded}
+use Rattle.lists.proofs.Tests.{by-test, all-append}
+use Rattle.layout.specs.Block.{cellsPerBlock, blockLength}
+use Rattle.archive_model.specs.Row.{Row}
+use Rattle.archive_model.specs.Buffer.{bufferOf, archiveOf, rowsIn, maxBlocks}
+use Rattle.archive_model.specs.Append.{verdict}
+use Rattle.archive_model.specs.Claims.{isFit}
+use Rattle.archive_model.proofs.Claims.{read-back, exact, run}
+use Rattle.archive_model.proofs.Cursor.{blocks-of}
+use Rattle.archived.specs.Archived.{archivedOf}
+use Rattle.archived.proofs.Archived.{archived-storable}
+use Rattle.whole_log.specs.Keep.{capacityOf, keepOf}
+use Rattle.whole_log.specs.Claims.{FreshKept, ReadsBack, KeptReadBack}
+
+pub fresh-kept : FreshKept
+unfolding keepOf bufferOf
+fresh-kept log m most few =
+    let zeros = replicate {A = ℕ} (blockLength * m) 0 in
+    let z = run m [] most refl in
+    let long : length zeros ≡ blockLength * m = length-replicate (blockLength * m) 0 in
+    let free : capacityOf (length zeros) ≡ cellsPerBlock * m = omega (arith, long) in
+    rw (z .0, z .1, free, le-ltb (cellsPerBlock * m) (length (archivedOf log)) few, long)
+
+-- what a number of 0 says
+record Done (log archive : List ℕ) : Type 0 where
+  right : verdict archive .number ≡ 0
+  room : length (rowsIn archive ++ archivedOf log) ≤ capacityOf (length archive)
+  is : keepOf log archive .archive ≡ bufferOf (length archive) (rowsIn archive ++ archivedOf log)
+
+done : (log archive : List ℕ) → keepOf log archive .number ≡ 0 → Done log archive
+unfolding keepOf
+done log archive z =
+    let rows = rowsIn archive ++ archivedOf log in
+    by-test (eqb (verdict archive .number) 0)
+    (λ v.
+    by-test (ltb (capacityOf (length archive)) (length rows))
+    (λ m. absurd (let q : 6 ≡ 0 = rw (v, m) at z in omega arith))
+    (λ f. record {
+      right = eqb-true (verdict archive .number) 0 v;
+      room = ltb-false (capacityOf (length archive)) (length rows) f;
+      is = rw (v, f);
+    }))
+    (λ f. absurd (eqb-false (verdict archive .number) 0 f (let q : verdict archive .number ≡ 0 = rw f at z in q)))
+
+pub kept-read-back : KeptReadBack
+kept-read-back log archive z =
+    let d = done log archive z in
+    let rows = rowsIn archive ++ archivedOf log in
+    let b = blocks-of archive (d .right) in
+    let fit = all-append isFit (rowsIn archive) (archivedOf log) (exact archive (d .right) .1)
+    (archived-storable log .fit) in
+    let m = length archive / blockLength in
+    let r = read-back m rows (b .1) (d .room) fit in
+    let e : keepOf log archive .archive ≡ bufferOf (512 * m) rows = d .is ∙ ap (λ (n : ℕ). bufferOf n rows) (b .0) in
+    record { right = rw e (r .0); rows = rw e (r .1) }

@@ -1,0 +1,6 @@
+pub mod Said
+pub mod Growing
+pub mod Turning
+pub mod Calling
+pub mod Keeping
+pub mod Claims
