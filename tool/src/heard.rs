@@ -2,6 +2,7 @@
 use crate::args::Args;
 use crate::failure::Failure;
 use crate::names::{quoted, Names};
+use crate::reach;
 use crate::rows::Format;
 use crate::streams::{quietly, Output};
 use crate::text;
@@ -17,17 +18,24 @@ pub fn run(args: &Args) -> Result<(), Failure> {
     if format == Format::Json {
         return Err(Failure::Usage("--rows: heard prints text or csv".into()));
     }
+    if args.has("picture") && args.has("rows") {
+        return Err(Failure::Usage("--picture goes without --rows".into()));
+    }
     let names = Names::of(args)?;
     let mut heard = Heard::default();
     for name in args.at_least_one()? {
         heard.read(Path::new(name))?;
     }
-    quietly(Output::standard()?.write(heard.text(format, names.as_ref()).as_bytes()))
+    let text = match args.has("picture") {
+        true => reach::html(&heard, &names.unwrap_or_default())?,
+        false => heard.text(format, names.as_ref()),
+    };
+    quietly(Output::standard()?.write(text.as_bytes()))
 }
 
 /// Of telegrams, how many were heard again so many times.
 #[derive(Clone, Default)]
-struct Counts {
+pub struct Counts {
     by_copies: BTreeMap<u16, u64>,
 }
 
@@ -42,7 +50,7 @@ impl Counts {
     }
 
     /// The share of those in thousandths, rounded down.
-    fn share(&self) -> u64 {
+    pub fn share(&self) -> u64 {
         (u128::from(self.once()) * 1_000 / u128::from(self.telegrams().max(1))) as u64
     }
 
@@ -67,7 +75,7 @@ impl Counts {
         self.by_copies.keys().next().copied().unwrap_or(0)
     }
 
-    fn cells(&self) -> [String; 5] {
+    pub fn cells(&self) -> [String; 5] {
         let share = self.share();
         let share = format!("{}.{:03}", share / 1_000, share % 1_000);
         [self.telegrams().to_string(), self.once().to_string(), share, self.median(), self.least().to_string()]
@@ -75,7 +83,7 @@ impl Counts {
 }
 
 #[derive(Default)]
-struct Heard {
+pub struct Heard {
     all: BTreeMap<u32, (Counts, BTreeMap<String, Counts>)>,
 }
 
@@ -107,14 +115,18 @@ impl Heard {
         Some(())
     }
 
-    /// Transmitters with the greatest share of telegrams that were heard once first, then those with more telegrams; each as a whole, then by week.
+    /// Transmitters with the greatest share of telegrams that were heard once first, then those with more telegrams: as a whole, and by week.
+    pub fn lines(&self) -> Vec<(u32, &Counts, &BTreeMap<String, Counts>)> {
+        let mut all: Vec<_> = self.all.iter().map(|(id, (whole, weeks))| (*id, whole, weeks)).collect();
+        all.sort_by_key(|(id, whole, _)| (Reverse((whole.share(), whole.telegrams())), *id));
+        all
+    }
+
     fn text(&self, format: Format, names: Option<&Names>) -> String {
         let mut out = String::new();
         let heading = ["telegrams", "once", "share", "median", "least"].map(String::from);
         put(&mut out, format, ["txid", "week"], heading, names.map(|_| "name"));
-        let mut all: Vec<_> = self.all.iter().collect();
-        all.sort_by_key(|(id, (whole, _))| (Reverse((whole.share(), whole.telegrams())), **id));
-        for (id, (whole, weeks)) in all {
+        for (id, whole, weeks) in self.lines() {
             let name = names.map(|names| names.name(&id.to_be_bytes()));
             let id = format!("{id:08X}");
             put(&mut out, format, [&id, "all"], whole.cells(), name);

@@ -148,8 +148,15 @@ impl Wanted {
     }
 
     fn has(&self, number: u64, row: &Row) -> bool {
-        let is_listed = || self.transmitters.iter().any(|id| id == rows::transmitter(row.telegram.as_bytes()));
-        number > self.after && (self.from..=self.to).contains(&row.time) && (self.transmitters.is_empty() || is_listed())
+        number > self.after && (self.from..=self.to).contains(&row.time) && self.has_transmitter(rows::transmitter(row.telegram.as_bytes()))
+    }
+
+    pub fn has_every_transmitter(&self) -> bool {
+        self.transmitters.is_empty()
+    }
+
+    pub fn has_transmitter(&self, id: &[u8]) -> bool {
+        self.has_every_transmitter() || self.transmitters.iter().any(|listed| listed == id)
     }
 }
 

@@ -24,11 +24,14 @@ mod metrics;
 mod names;
 mod options;
 mod out;
+mod page;
 mod picture;
 mod plans;
 #[cfg(test)]
 mod powercut;
 mod progress;
+mod reach;
+mod receptions;
 mod rows;
 mod signals;
 mod state;

@@ -1,7 +1,7 @@
 //! The table of commands and options. Parsing, help, man pages and completions come from it, so that they can't differ.
 use crate::args::Args;
 use crate::failure::Failure;
-use crate::{archive, collect, generate, heard, list, picture, plans, status, telegrams};
+use crate::{archive, collect, generate, heard, list, picture, plans, receptions, status, telegrams};
 
 /// What an option or a word of a command is.
 #[derive(Clone, Copy, Debug, PartialEq, Eq)]
@@ -208,6 +208,29 @@ pub const COMMANDS: &[Command] = &[
         run: picture::run,
     },
     Command {
+        name: "picture",
+        forms: &["LOG.."],
+        words: Takes::File,
+        brief: "draws the receptions of logs as an HTML page",
+        about: &[
+            "Takes logs through a collector of their own, the oldest first, and prints one page that needs no other file: a lane for each transmitter and \
+             repeater level, a mark for each reception by its answer (KEPT, COPY, LOOSE, LATE), a lane for damaged ones, and a table. The 100 ms in which a \
+             telegram is open are shaded, and the first 40 of them darker.",
+            "It has at most 20000 receptions; choose them by --from, --to and --txid. A log is read from its first line: what is open depends on what came \
+             before.",
+        ],
+        options: &[
+            words("level", "N", &["0", "1", "2"], "the repeater setting; it may be left out where the first line is `level N`"),
+            FROM,
+            TO,
+            TXID,
+            NAMES,
+            plain("svg", "prints the picture alone, as SVG"),
+        ],
+        ends: "0; 1 where a log can't be read or has too many receptions; 2 for wrong usage.",
+        run: receptions::run,
+    },
+    Command {
         name: "heard",
         forms: &["FILE.."],
         words: Takes::File,
@@ -218,7 +241,11 @@ pub const COMMANDS: &[Command] = &[
             "Prints for each transmitter, as a whole and by week: telegrams, those that were heard once, their share rounded down to thousandths, \
              the median and the least number of copies. The greatest share comes first: that transmitter is at the edge of reach.",
         ],
-        options: &[words("rows", "FORMAT", &["text", "csv"], "how lines are printed; text where it is left out"), NAMES],
+        options: &[
+            words("rows", "FORMAT", &["text", "csv"], "how lines are printed; text where it is left out"),
+            NAMES,
+            plain("picture", "prints one HTML page instead: a bar for each transmitter, and a field for each of its weeks"),
+        ],
         ends: "0; 1 where a file can't be read or a line is wrong; 2 for wrong usage.",
         run: heard::run,
     },

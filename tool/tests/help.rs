@@ -12,6 +12,7 @@ const COMMANDS: &[&str] = &[
     "archive remove",
     "archive sheet",
     "archive picture",
+    "picture",
     "heard",
     "status",
     "plan",

@@ -1,8 +1,9 @@
-//! Times and names for people in `archive list` and `archive sheet`, and the picture of archives.
+//! Times and names for people in `archive list` and `archive sheet`; pictures of archives, of logs, and of how often telegrams were heard.
 mod common;
 use common::*;
+use std::collections::HashMap;
 use std::fs;
-use std::path::PathBuf;
+use std::path::{Path, PathBuf};
 
 /// A folder with the archive of the sample, and names of two of its transmitters.
 fn plant(name: &str) -> PathBuf {
@@ -80,4 +81,146 @@ fn many_rows() {
     let log = log(60_000, 3);
     run("collect --archive a", &dir, log.as_bytes()).with(0);
     run("archive picture a", &dir, b"").with(1).says("more than 20000 rows are too many for a picture. Choose fewer by --from, --to or --txid.");
+}
+
+/// The answers of a log's lines in a span, as `picture` names them, by `collect`; and its BAD lines.
+fn answers(dir: &Path, log: &[u8], from: u64, to: u64) -> (HashMap<&'static str, usize>, usize) {
+    let rows = run("collect", dir, log).with(0).out;
+    let (mut counts, mut bad) = (HashMap::new(), 0);
+    for row in rows.lines().filter(|row| !row.starts_with("RECEIVED")) {
+        let mut words = row.split(' ');
+        let Some(time) = words.next().and_then(|t| t.parse::<u64>().ok()) else {
+            bad += 1;
+            continue;
+        };
+        let answer = match (words.next().unwrap(), words.next()) {
+            ("KEPT", _) => "kept",
+            ("COPY", _) => "copy",
+            ("LOOSE", _) => "loose",
+            (_, Some("7")) => "late",
+            _ => "damaged",
+        };
+        *counts.entry(answer).or_insert(0) += usize::from((from..=to).contains(&time));
+    }
+    (counts, bad)
+}
+
+#[test]
+fn a_mark_for_each_reception() {
+    let dir = plant("picture_log");
+    fs::write(dir.join("log"), sample()).unwrap();
+    for (chosen, from, to) in [("", 0, u64::MAX), ("--from 900 --to 1800", 900, 1_800), ("--from 500000000", 500_000_000, u64::MAX)] {
+        let page = run(&format!("picture log --names names {chosen}"), &dir, b"").with(0).out;
+        let count = |text: &str| page.matches(text).count();
+        let (expected, bad) = answers(&dir, &sample(), from, to);
+        for (answer, marks) in &expected {
+            assert_eq!(count(&format!("class=\"reception {answer}\"")), *marks, "{answer} {chosen}");
+        }
+        assert_eq!(expected.len(), 5, "the sample has every answer");
+        assert_eq!(count("<tr><td>"), expected.values().sum::<usize>(), "{chosen}");
+        assert!(page.contains(&format!("BAD lines of the whole log: {bad}.")));
+        assert!(!page.contains("<script") && !page.contains("href") && !page.contains("src="), "it needs no other file");
+    }
+    let page = run("picture log --names names", &dir, b"").with(0).out;
+    assert!(page.contains("Gate &lt;2&gt;") && !page.contains("Gate <2>"));
+    // Of one transmitter: nothing damaged, since that says no transmitter.
+    let page = run("picture log --txid 0583A1C0", &dir, b"").with(0).out;
+    assert!(!page.contains("reception damaged") && page.contains("Transmitters: 1."));
+    let svg = run("picture log --svg --to 1800", &dir, b"").with(0).out;
+    assert!(svg.starts_with("<svg ") && svg.ends_with("</svg>\n"));
+}
+
+/// A number of an element: `x="12.5"`.
+fn attribute(element: &str, name: &str) -> f64 {
+    element.split_once(&format!(" {name}=\"")).unwrap().1.split('"').next().unwrap().parse().unwrap()
+}
+
+#[test]
+fn the_gate_explains_itself() {
+    let dir = folder("picture_gate");
+    fs::write(dir.join("log"), sample()).unwrap();
+    let svg = run("picture log --svg --from 1000 --to 1200 --txid 0583A1C0", &dir, b"").with(0).out;
+    let all = |class: &str| svg.lines().filter(|l| l.contains(&format!("class=\"{class}\""))).collect::<Vec<_>>();
+    // 1000 pixels are 200 ms, from pixel 230 on.
+    let ms = |x: f64| ((x - 230.0) / 5.0).round() as u64;
+    let spans = |class| all(class).iter().map(|l| (ms(attribute(l, "x")), ms(attribute(l, "x") + attribute(l, "width")))).collect::<Vec<_>>();
+    assert_eq!(all("reception kept").iter().map(|l| ms(attribute(l, "x") + 2.0)).collect::<Vec<_>>(), [0, 60, 120]);
+    assert_eq!(all("reception copy").iter().map(|l| ms(attribute(l, "cx"))).collect::<Vec<_>>(), [6]);
+    assert_eq!(spans("window sent"), [(0, 40), (60, 100), (120, 160)]);
+    assert_eq!(spans("window open"), [(0, 100), (60, 160), (120, 200)], "the last one is cut at the picture's end");
+    // The first and the third opening are the same telegram, the second is another one.
+    let fill = |l: &str| l.split_once(" fill=\"").unwrap().1[..7].to_string();
+    let fills: Vec<String> = all("reception kept").iter().map(|l| fill(l)).collect();
+    assert!(fills[0] == fills[2] && fills[0] != fills[1]);
+    assert_eq!(all("window open").iter().map(|l| fill(l)).collect::<Vec<_>>(), fills);
+}
+
+/// Every COPY stands in the shade of its telegram's colour, over the lanes of its transmitter.
+#[test]
+fn copies_stand_in_the_shade() {
+    let dir = folder("picture_shade");
+    fs::write(dir.join("log"), log(2_000, 71)).unwrap();
+    let svg = run("picture log --svg", &dir, b"").with(0).out;
+    let colour = |l: &str, name: &str| l.split_once(&format!(" {name}=\"#")).unwrap().1[..6].to_string();
+    let windows: Vec<(f64, f64, f64, f64, String)> = svg
+        .lines()
+        .filter(|l| l.contains("class=\"window open\""))
+        .map(|l| (attribute(l, "x"), attribute(l, "width"), attribute(l, "y"), attribute(l, "height"), colour(l, "fill")))
+        .collect();
+    let copies: Vec<&str> = svg.lines().filter(|l| l.contains("class=\"reception copy\"")).collect();
+    assert!(copies.len() > 300 && windows.len() > 300);
+    for copy in copies {
+        let (x, y, stroke) = (attribute(copy, "cx"), attribute(copy, "cy"), colour(copy, "stroke"));
+        let is_shade = |(left, width, top, height, fill): &(f64, f64, f64, f64, String)| {
+            (left - 0.1..=left + width + 0.1).contains(&x) && (*top..=top + height).contains(&y) && *fill == stroke
+        };
+        assert!(windows.iter().any(is_shade), "{copy}");
+    }
+}
+
+#[test]
+fn lanes_by_repeater_level() {
+    let dir = folder("picture_levels");
+    // The press at 1500 of the sample: the original and its copies by two repeaters.
+    fs::write(dir.join("log"), "1500 F650FEF1B2C330DA\n1512 F650FEF1B2C331DB\n1524 F650FEF1B2C332DC\n").unwrap();
+    run("picture log", &dir, b"").with(2).says("log: without --level the first line is `level 0`, `level 1` or `level 2`");
+    let svg = run("picture log --svg --level 1", &dir, b"").with(0).out;
+    let labels: Vec<&str> = ["original", "level 1", "level 2"].into_iter().filter(|l| svg.contains(&format!(">{l}</text>"))).collect();
+    assert_eq!((labels.len(), svg.matches("class=\"lane\"").count()), (3, 3));
+    // Logs that follow each other are one: the second is open still.
+    fs::write(dir.join("old"), "level 1\n1500 F650FEF1B2C330DA\n").unwrap();
+    fs::write(dir.join("new"), "level 1\n1512 F650FEF1B2C331DB\n").unwrap();
+    assert!(run("picture old new", &dir, b"").with(0).out.contains("class=\"reception copy\""));
+    assert!(run("picture new", &dir, b"").with(0).out.contains("class=\"reception kept\""));
+    run("picture old --level 2", &dir, b"").with(2).says("the first line of old says level 1, and the level is 2");
+    run("picture none", &dir, b"").with(1).says("cannot open none");
+    fs::write(dir.join("many"), log(30_000, 72)).unwrap();
+    run("picture many", &dir, b"").with(1).says("more than 20000 receptions are too many for a picture. Choose fewer by --from, --to or --txid.");
+    assert!(run("picture many --to 1010000", &dir, b"").with(0).out.contains("class=\"reception kept\""));
+}
+
+#[test]
+fn a_bar_for_each_transmitter() {
+    let dir = folder("picture_heard");
+    // Two transmitters in weeks 1 and 2 of 1970, a third in week 2 alone.
+    let (one, two) = (1_000, 7 * 86_400_000);
+    let lines = [(one, "0583A1C0", 2), (two, "0583A1C0", 1), (one, "FEF1B2C3", 0), (two, "FEF1B2C3", 0), (two, "01020304", 0), (two, "01020304", 3)];
+    let text: String = lines.iter().map(|(opened, txid, copies)| format!("{opened},{txid},0,{copies}\n")).collect();
+    fs::write(dir.join("heard"), format!("time,txid,level,copies\n{text}")).unwrap();
+    fs::write(dir.join("names"), "FEF1B2C3,\"Far <away>, north\"\n").unwrap();
+    let page = run("heard heard --names names --picture", &dir, b"").with(0).out;
+    let listed = run("heard heard --rows csv", &dir, b"").with(0).out;
+    let count = |text: &str| page.matches(text).count();
+    assert_eq!((count("class=\"share\""), count("class=\"week\"")), (3, 5));
+    assert_eq!(count("<tr><td>"), listed.lines().count() - 1, "the table has the lines of `heard`");
+    // The one that needs a repeater comes first, with the longest bar.
+    let widths: Vec<f64> = page.lines().filter(|l| l.contains("class=\"share\"")).map(|l| attribute(l, "width")).collect();
+    assert_eq!(widths, [180.0, 90.0, 1.0]);
+    let order: Vec<usize> = ["FEF1B2C3", "01020304", "0583A1C0"].iter().map(|id| page.find(&format!(">{id}</tspan>")).unwrap()).collect();
+    assert!(order.is_sorted() && page.contains("Far &lt;away&gt;, north"));
+    assert!(!page.contains("<script") && !page.contains("href") && !page.contains("src="), "it needs no other file");
+    run("heard heard --picture --rows csv", &dir, b"").with(2).says("--picture goes without --rows");
+    let many: String = (0..20_001).map(|n| format!("1000,{n:08X},0,1\n")).collect();
+    fs::write(dir.join("many"), many).unwrap();
+    run("heard many --picture", &dir, b"").with(1).says("are too many for a picture");
 }
