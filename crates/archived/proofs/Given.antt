@@ -61,7 +61,8 @@ first-given t ts r rs e =
     ap₂ _∷_ (ap (rowGiven t) front) (map-moved f g 1 0 (length ts) next)
 
 -- times and records in two parts
-pub given-append : (ts rs us qs : List ℕ) → length rs ≡ rowLength * length ts → rowsGiven (ts ++ us) (rs ++ qs) ≡ rowsGiven ts rs ++ rowsGiven us qs
+pub given-append : (ts rs us qs : List ℕ) → length rs ≡ rowLength * length ts
+    → rowsGiven (ts ++ us) (rs ++ qs) ≡ rowsGiven ts rs ++ rowsGiven us qs
 unfolding rowsGiven upFrom
 given-append [] [] us qs e = refl
 given-append [] (r ∷ rs) us qs e = absurd (omega arith)
@@ -75,7 +76,8 @@ given-append (t ∷ ts) rs us qs e =
     ∙ ap (rowsGiven (t ∷ (ts ++ us))) (append-assoc r rest qs)
     ∙ first-given t (ts ++ us) r (rest ++ qs) long
     ∙ ap (λ (l : List Row). rowGiven t r ∷ l) ih
-    ∙ ap (λ (l : List Row). l ++ rowsGiven us qs) (sym (first-given t ts r rest long) ∙ ap (rowsGiven (t ∷ ts)) (sym split))
+    ∙ ap (λ (l : List Row). l ++ rowsGiven us qs)
+    (sym (first-given t ts r rest long) ∙ ap (rowsGiven (t ∷ ts)) (sym split))
 
 pub given-back : (rows : List Row) → all isFit rows ≡ true → rowsGiven (timesOf rows) (recordsOf rows) ≡ rows
 unfolding rowsGiven upFrom flatten
