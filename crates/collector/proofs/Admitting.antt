@@ -7,29 +7,30 @@ use mathlib.Core.Bool.{Bool, true, false, cond, not, _&&_, false≢true}
 use mathlib.Core.List.{List}
 use lib.Dec.{leb, ltb, eqb}
 use lib.ListN.{length, drop}
-use borrow.Author.Tests.{le-leb, lt-leb, leb-true, leb-false, ltb-true, eqb-true}
+use borrow.Author.Tests.{le-leb, lt-leb, leb-true, leb-false, ltb-true, eqb-true, ne-eqb}
 use Rattle.lists.proofs.Choice.{both}
 use Rattle.lists.proofs.Tests.{by-test}
 use Rattle.refusal.specs.Number.{numberOf}
 use Rattle.refusal.specs.declared.Refusal.{Refusal}
 use Rattle.refusal.specs.declared.Refusal.the-variants as refusal
 use Rattle.refusal.specs.declared.Refusal.the-variants.{Full, NotAccepted}
+use Rattle.refusal.proofs.Numbers.{refused-number}
 use Rattle.erp1.specs.Subtelegram.{minLength, maxLength, checkOf, isValid}
 use Rattle.erp1.proofs.Checks.{check-facts}
+use Rattle.model.specs.declared.Answer.{Answer}
 use Rattle.model.specs.declared.Answer.the-variants as answer
 use Rattle.model.specs.declared.Totals.{Totals}
-use Rattle.model.specs.Answer.{Shown, Kept, Copy, Loose, Refused, isKept, isCopy, isReceived, shownOf}
+use Rattle.model.specs.Answer.{Shown, Kept, Copy, Loose, Refused, isKept, isCopy, isAccepted, isReceived, shownOf}
 use Rattle.model.specs.View.{Reception, Entry, View, opened, capacity}
 use Rattle.model.specs.Acceptable.{isSummed}
 use Rattle.model.specs.Step.{Outcome, maxCount, tally, plusIf}
 use Rattle.model.proofs.Check.{Failed, length-wrong, sum-wrong, crc-wrong, nested, check-failed}
 use Rattle.collector.specs.declared.Summary.{Summary}
 use Rattle.collector.specs.declared.merging.Admitted.{Admitted}
-use Rattle.collector.specs.declared.merging.Judged.{Judged}
 use Rattle.collector.specs.declared.merging.Decision.{Decision}
 use Rattle.collector.specs.Collector.{Columns, columns, entriesAt, viewIn, moved, setIf, lastCopy, columnsWith}
-use Rattle.collector.specs.Admission.{hasCopy, receptionCheck, answerFor, admittedOf, isSafe, numberOn, latestAfter, leftAfter, answerOn, entriesWith, admitted, notAdmitted, admission, columnsAdmitted, Admits}
-use Rattle.collector.specs.Private.{JudgedBy, Expired, Becomes, unchanged, changed, Whole, Decides}
+use Rattle.collector.specs.Admission.{hasCopy, receptionCheck, answerFor, admittedOf, isSafe, numberOn, latestAfter, openFrom, leftAfter, answerOn, entriesWith, admitted, notAdmitted, admission, columnsAdmitted, Admits}
+use Rattle.collector.specs.Private.{JudgedBy, Expired, Becomes, countedOnly, unchanged, changed, Whole, Decides}
 use Rattle.collector.proofs.Arrays.{entries-length, left-length, found-known}
 use Rattle.collector.proofs.Moving.{creditIf, addIf, more-at, changed-entries, expired-open}
 
@@ -88,15 +89,15 @@ number-received v r =
     failed crc-wrong = refl
     failed nested = refl
 
-pub is-received : (v : View) (r : Reception) → isReceived (answerOn v r) ≡ true
+-- and what passed those tests is KEPT, COPY or LOOSE
+is-accepted : (v : View) (r : Reception) → numberOn v r ≡ 0 → (isAccepted (answerOn v r) ≡ true) × (isReceived (answerOn v r) ≡ true)
 unfolding answerFor
-is-received v r = go (eqb (numberOn v r) 0) (hasCopy (leftAfter v r) r) (leb capacity (length (leftAfter v r)))
+is-accepted v r z = rw z (go (hasCopy (openFrom (r .time) (v .entries)) r) (leb capacity (length (openFrom (r .time) (v .entries)))))
   where
-    go : (b k c : Bool) → isReceived (cond b (cond k Copy (cond c Loose Kept)) (Refused (numberOn v r))) ≡ true
-    go true true c = refl
-    go true false true = refl
-    go true false false = refl
-    go false k c = number-received v r
+    go : (k c : Bool) → (isAccepted (cond k Copy (cond c Loose Kept)) ≡ true) × (isReceived (cond k Copy (cond c Loose Kept)) ≡ true)
+    go true c = (refl, refl)
+    go false true = (refl, refl)
+    go false false = (refl, refl)
 
 -- the entries after an answer, by what it says
 by-answer : (shown : Shown) (r : Reception) (l : List Entry) → addIf (isKept shown) (opened r) (creditIf (isCopy shown) r l) ≡ entriesWith shown r l
@@ -123,40 +124,59 @@ module _ (fit : Bool) (a : Columns) (s : Summary) (r : Reception) where
       let u = both (leb (s .count) capacity) (isSummed (s .totals)) (w .1) in
       record { found = w .0; few = leb-true _ _ (u .0); summed = u .1 }
 
-  -- the columns by whether the reception was received
-  stay-put : (o : Outcome) → o ≡ admission fit (viewIn a s) r → isReceived (o .answer) ≡ false → a ≡ columnsAdmitted fit (viewIn a s) r a
+  -- the columns by whether the reception was accepted
+  stay-put : (o : Outcome) → o ≡ admission fit (viewIn a s) r → isAccepted (o .answer) ≡ false → a ≡ columnsAdmitted fit (viewIn a s) r a
   unfolding columnsAdmitted
   stay-put o e n = rw (← e, n)
 
-  are-changed : (o : Outcome) → o ≡ admission fit (viewIn a s) r → isReceived (o .answer) ≡ true
+  are-changed : (o : Outcome) → o ≡ admission fit (viewIn a s) r → isAccepted (o .answer) ≡ true
       → columnsWith (answerOn (viewIn a s) r) r (length (viewIn a s .entries)) (leftAfter (viewIn a s) r) a ≡ columnsAdmitted fit (viewIn a s) r a
   unfolding columnsAdmitted
   are-changed o e n = rw (← e, n)
 
   -- at 8 and 11 nothing is changed
-  pub admits-nothing : (why : Refusal) → isReceived (Refused (numberOf why)) ≡ false → notAdmitted why (viewIn a s) ≡ admission fit (viewIn a s) r
+  pub admits-nothing : (why : Refusal) → notAdmitted why (viewIn a s) ≡ admission fit (viewIn a s) r
       → Admits fit a s r a (record { summary = s; answer = answer.Refused why })
-  admits-nothing why n e = record { outcome = e; elements = stay-put _ e n; stays = λ _. (refl, refl) }
+  admits-nothing why e = record { outcome = e; elements = stay-put _ e refl; refused = λ _. refl; stays = λ _. (refl, refl) }
 
-  pub decides-nothing : (why : Refusal) → isReceived (Refused (numberOf why)) ≡ false → notAdmitted why (viewIn a s) ≡ admission fit (viewIn a s) r
-      → Decides fit a s r (unchanged s why)
-  unfolding moved
-  decides-nothing why n e = record {
-    few = omega arith;
-    room = λ k. absurd (false≢true k);
-    inside = λ k. absurd (false≢true k);
-    admits = λ _. admits-nothing why n e;
+  -- one that is refused by the tests before the open telegrams are looked at is counted
+  counted-outcome : (why : Refusal) → numberOf why ≡ numberOn (viewIn a s) r
+      → admittedOf a (record { summary = countedOnly s why; answer = answer.Refused why }) ≡ admitted (viewIn a s) r
+  unfolding admitted answerFor
+  counted-outcome why n = rw (← n, ne-eqb (numberOf why) 0 (refused-number why))
+
+  pub admits-refused : (why : Refusal) → numberOf why ≡ numberOn (viewIn a s) r → admitted (viewIn a s) r ≡ admission fit (viewIn a s) r
+      → Admits fit a s r a (record { summary = countedOnly s why; answer = answer.Refused why })
+  admits-refused why n e = record {
+    outcome = counted-outcome why n ∙ e;
+    elements = stay-put _ (counted-outcome why n ∙ e) refl;
+    refused = λ _. refl;
+    stays = λ f. absurd (false≢true (sym f ∙ ap (λ (k : ℕ). isReceived (Refused k)) n ∙ number-received (viewIn a s) r));
   }
+
+  -- nothing is moved where none goes
+  module _ {s' : Summary} {why : Refusal} (k : Admits fit a s r a (record { summary = s'; answer = answer.Refused why })) where
+    pub decides-refused : Decides fit a s r (unchanged s' why)
+    unfolding moved
+    decides-refused = record {
+      few = omega arith;
+      room = λ k. absurd (false≢true k);
+      inside = λ k. absurd (false≢true k);
+      admits = λ _. k;
+    }
 
   taken-admits : {a' : Columns} (d : Admitted) → admittedOf a' d ≡ admitted (viewIn a s) r
       → a' ≡ columnsWith (answerOn (viewIn a s) r) r (length (viewIn a s .entries)) (leftAfter (viewIn a s) r) a
-      → admitted (viewIn a s) r ≡ admission fit (viewIn a s) r → Admits fit a s r a' d
+      → numberOn (viewIn a s) r ≡ 0 → admitted (viewIn a s) r ≡ admission fit (viewIn a s) r → Admits fit a s r a' d
   unfolding admitted
-  taken-admits d k c e = record {
-    outcome = k ∙ e;
-    elements = c ∙ are-changed (admitted (viewIn a s) r) e (is-received (viewIn a s) r);
-    stays = λ f. absurd (false≢true (sym f ∙ ap (λ (o : Outcome). isReceived (o .answer)) k ∙ is-received (viewIn a s) r));
-  }
+  taken-admits d k c z e =
+      let is = is-accepted (viewIn a s) r z in
+      record {
+        outcome = k ∙ e;
+        elements = c ∙ are-changed (admitted (viewIn a s) r) e (is .0);
+        refused = λ f. absurd (false≢true (sym f ∙ ap (λ (o : Outcome). isAccepted (o .answer)) k ∙ is .0));
+        stays = λ f. absurd (false≢true (sym f ∙ ap (λ (o : Outcome). isReceived (o .answer)) k ∙ is .1));
+      }
 
   pub not-accepted : fit && (leb (s .count) capacity && isSummed (s .totals)) ≡ false
       → notAdmitted NotAccepted (viewIn a s) ≡ admission fit (viewIn a s) r
@@ -173,12 +193,11 @@ module _ (fit : Bool) (a : Columns) (s : Summary) (r : Reception) where
     is-taken h = rw (safe-by, f .found, le-leb _ _ (f .few), f .summed, lt-leb maxCount (s .totals .received) h)
 
 -- what the code's steps tell before the open telegrams are looked at
-pub record Looked (a : Columns) (s : Summary) (r : Reception) (n time gone : ℕ) : Type 0 where
-  pub checked : n ≡ receptionCheck (s .latest) r
-  pub latest : time ≡ cond (eqb n 0) (r .time) (s .latest)
-  pub expired : Expired (a .times) (s .count) time gone
+pub record Looked (a : Columns) (s : Summary) (r : Reception) (gone : ℕ) : Type 0 where
+  pub passed : receptionCheck (s .latest) r ≡ 0
+  pub expired : Expired (a .times) (s .count) (r .time) gone
 
-module _ {a : Columns} {s : Summary} {r : Reception} {n time gone : ℕ} (k : Looked a s r n time gone) where
+module _ {a : Columns} {s : Summary} {r : Reception} {gone : ℕ} (k : Looked a s r gone) where
   abbrev view : View
   view = viewIn a s
 
@@ -186,54 +205,57 @@ module _ {a : Columns} {s : Summary} {r : Reception} {n time gone : ℕ} (k : Lo
   left = s .count - gone
 
   left-open : drop gone (entriesAt a (s .count)) ≡ leftAfter view r
-  left-open = rw (← k .checked, ← k .latest) (sym (expired-open a (s .count) time gone (k .expired)))
+  left-open = rw (k .passed) (sym (expired-open a (s .count) (r .time) gone (k .expired)))
 
   open-length : length (leftAfter view r) ≡ left
   open-length = sym (ap length left-open) ∙ left-length a gone (s .count)
 
-  latest-is : time ≡ latestAfter view r
-  latest-is = k .latest ∙ rw (k .checked)
+  latest-is : r .time ≡ latestAfter view r
+  latest-is = rw (k .passed)
 
-  module _ {j : Judged} (by : JudgedBy n (drop gone (entriesAt a (s .count))) r j) where
-    answer-said : shownOf (j .answer) ≡ answerOn view r
-    answer-said = by .answer ∙ rw (k .checked, left-open)
+  module _ (answer : Answer) {entry : ℕ} (by : JudgedBy (drop gone (entriesAt a (s .count))) r (shownOf answer) entry) where
+    answer-said : shownOf answer ≡ answerOn view r
+    answer-said =
+        by .answer
+        ∙ ap (λ (l : List Entry). answerFor 0 (hasCopy l r) (leb capacity (length l))) left-open
+        ∙ ap (λ (n : ℕ). answerFor n (hasCopy (leftAfter view r) r) (leb capacity (length (leftAfter view r)))) (sym (k .passed))
 
     -- a copy is one of an open telegram
-    inside : isCopy (shownOf (j .answer)) ≡ true → j .entry < left
+    inside : isCopy (shownOf answer) ≡ true → entry < left
     inside e =
         let known = copy-known _ _ _ (ap isCopy (sym (by .answer)) ∙ e) in
         rw (by .entry e) (ltb-true _ left (found-known (drop gone (entriesAt a (s .count))) left r (left-length a gone (s .count)) ∙ known))
 
     -- what is kept is valid, and there is room for it
-    module _ {kept : Bool} (keeps : kept ≡ isKept (shownOf (j .answer))) where
+    module _ {kept : Bool} (keeps : kept ≡ isKept (shownOf answer)) where
       pub room : kept ≡ true → (left < capacity) × (length (r .bytes) ≤ maxLength)
       room e =
           let w = kept-room view r (ap isKept (sym answer-said) ∙ sym keeps ∙ e) in
           (omega (arith, w .0, open-length), valid-fits (r .bytes) (w .1) .1)
 
       -- the law: what is decided, carried out column by column, is what `admitted` says
-      module _ {heard : Bool} (hears : heard ≡ isCopy (shownOf (j .answer))) {count : ℕ} (counts : count ≡ plusIf kept left)
-          {totals : Totals} (tallies : totals ≡ tally (shownOf (j .answer)) (s .totals)) (few : s .count ≤ capacity) where
+      module _ {heard : Bool} (hears : heard ≡ isCopy (shownOf answer)) {count : ℕ} (counts : count ≡ plusIf kept left)
+          {totals : Totals} (tallies : totals ≡ tally (shownOf answer) (s .totals)) (few : s .count ≤ capacity) where
         abbrev decision : Decision
         decision = record {
           gone = gone;
           left = left;
           heard = heard;
-          entry = j .entry;
+          entry = entry;
           kept = kept;
-          summary = record { count = count; latest = time; totals = totals };
-          answer = j .answer;
+          summary = record { count = count; latest = r .time; totals = totals };
+          answer = answer;
         }
 
-        next-entries : Whole a → entriesAt (changed decision r a) (plusIf kept left) ≡ entriesWith (shownOf (j .answer)) r (leftAfter view r)
+        next-entries : Whole a → entriesAt (changed decision r a) (plusIf kept left) ≡ entriesWith (shownOf answer) r (leftAfter view r)
         next-entries whole =
             let below = k .expired .few in
             changed-entries a whole decision (s .count) (omega arith) few r room (λ e. by .entry (sym hears ∙ e))
-            ∙ rw (keeps, hears, left-open) (by-answer (shownOf (j .answer)) r (leftAfter view r))
+            ∙ rw (keeps, hears, left-open) (by-answer (shownOf answer) r (leftAfter view r))
 
-        outcome : Whole a → admittedOf (changed decision r a) (record { summary = decision .summary; answer = j .answer }) ≡ admitted view r
+        outcome : Whole a → admittedOf (changed decision r a) (record { summary = decision .summary; answer = answer }) ≡ admitted view r
         unfolding admitted
-        outcome whole = rw (counts, tallies, latest-is, next-entries whole, answer-said)
+        outcome whole = rw (counts, tallies, ← latest-is, next-entries whole, answer-said)
 
         -- every element is as the definition says
         elements : changed decision r a ≡ columnsWith (answerOn view r) r (length (view .entries)) (leftAfter view r) a
@@ -242,7 +264,7 @@ module _ {a : Columns} {s : Summary} {r : Reception} {n time gone : ℕ} (k : Lo
             let below = k .expired .few in
             let back : s .count - (s .count - gone) ≡ gone = omega arith in
             ap (λ (l : List ℕ). columns (changed decision r a .times) (changed decision r a .lens) (changed decision r a .bytes) (setIf kept left 0 l))
-            (more-at heard (j .entry) (lastCopy (leftAfter view r) r) (moved gone left (a .copies))
+            (more-at heard entry (lastCopy (leftAfter view r) r) (moved gone left (a .copies))
             (λ e. by .entry (sym hears ∙ e) ∙ ap (λ (l : List Entry). lastCopy l r) left-open))
             ∙ rw (keeps, hears, answer-said, open-length, entries-length a (s .count), back)
 
@@ -251,7 +273,7 @@ module _ {a : Columns} {s : Summary} {r : Reception} {n time gone : ℕ} (k : Lo
           few = (let below = k .expired .few in omega arith);
           room = room;
           inside = λ e. omega (arith, inside (sym hears ∙ e));
-          admits = λ whole. taken-admits fit a s r _ (outcome whole) elements taken;
+          admits = λ whole. taken-admits fit a s r _ (outcome whole) elements (k .passed) taken;
         }
 
 -- ---- what is decided is carried out, column by column

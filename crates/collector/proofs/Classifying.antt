@@ -1,7 +1,7 @@
 -- A reception's answer by the parts that the code finds it by, and the next state by that answer.
 use Prim.Native.Nat.{ℕ, _+_, _≤_, _<_}
 use native.Mathlib.Omega.{arith}
-use mathlib.Core.Path.{_≡_, sym, _∙_, ap}
+use mathlib.Core.Path.{_≡_, sym, _∙_}
 use mathlib.Core.Bool.{Bool, true, false, false≢true}
 use mathlib.Core.List.{List}
 use lib.Dec.{leb}
@@ -13,11 +13,9 @@ use Rattle.refusal.specs.declared.Refusal.the-variants as refusal
 use Rattle.refusal.proofs.Numbers.{refused-number}
 use Rattle.erp1.specs.Subtelegram.{checkOf, isValid}
 use Rattle.model.specs.declared.Totals.{Totals}
-use Rattle.model.specs.declared.Answer.{Answer}
-use Rattle.model.specs.Answer.{Kept, Copy, Loose, Refused, isCopy, shownOf}
+use Rattle.model.specs.Answer.{Shown, Kept, Copy, Loose, Refused, isCopy}
 use Rattle.model.specs.View.{Reception, Entry, capacity}
 use Rattle.model.specs.Step.{maxCount}
-use Rattle.collector.specs.declared.merging.Judged.{Judged}
 use Rattle.collector.specs.Admission.{hasCopy, receptionCheck, answerFor}
 use Rattle.collector.specs.Private.{JudgedBy, Countable}
 
@@ -43,27 +41,24 @@ pub answer-refused : (why : Refusal) (known crowded : Bool) → Refused (numberO
 unfolding answerFor
 answer-refused why known crowded = rw (ne-eqb (numberOf why) 0 (refused-number why))
 
-module _ (n : ℕ) (known crowded : Bool) (passed : n ≡ 0) where
-  pub answer-copy : known ≡ true → Copy ≡ answerFor n known crowded
+module _ (known crowded : Bool) where
+  pub answer-copy : known ≡ true → Copy ≡ answerFor 0 known crowded
   unfolding answerFor
-  answer-copy k = rw (passed, k)
+  answer-copy k = rw k
 
   module _ (new : known ≡ false) where
-    pub answer-loose : crowded ≡ true → Loose ≡ answerFor n known crowded
+    pub answer-loose : crowded ≡ true → Loose ≡ answerFor 0 known crowded
     unfolding answerFor
-    answer-loose c = rw (passed, new, c)
+    answer-loose c = rw (new, c)
 
-    pub answer-kept : crowded ≡ false → Kept ≡ answerFor n known crowded
+    pub answer-kept : crowded ≡ false → Kept ≡ answerFor 0 known crowded
     unfolding answerFor
-    answer-kept c = rw (passed, new, c)
+    answer-kept c = rw (new, c)
 
 -- an answer that is no copy names no entry
-pub judged-other : {number : ℕ} {l : List Entry} {r : Reception} {j : Judged} (answer : Answer) → j .answer ≡ answer → isCopy (shownOf answer) ≡ false
-    → shownOf answer ≡ answerFor number (hasCopy l r) (leb capacity (length l)) → JudgedBy number l r j
-judged-other answer e other said = record {
-  answer = ap shownOf e ∙ said;
-  entry = λ c. absurd (false≢true (sym other ∙ sym (ap (λ (a : Answer). isCopy (shownOf a)) e) ∙ c));
-}
+pub judged-other : {l : List Entry} {r : Reception} {entry : ℕ} (shown : Shown) → isCopy shown ≡ false
+    → shown ≡ answerFor 0 (hasCopy l r) (leb capacity (length l)) → JudgedBy l r shown entry
+judged-other shown other said = record { answer = said; entry = λ c. absurd (false≢true (sym other ∙ c)) }
 
 -- ---- the totals
 

@@ -1,30 +1,28 @@
 -- A reception that is admitted as the test of the state says is a step of the model: the times of an acceptable state never fall, so that its open
--- telegrams are those from the first open one on, and at its latest time all are open.
-use Prim.Native.Nat.{ℕ, _-_, _*_, _^_, _<_}
-use native.Mathlib.Nat.{sub-self}
+-- telegrams are those from the first open one on.
+use Prim.Native.Nat.{ℕ, _-_, _^_, _<_}
 use native.Mathlib.Omega.{arith}
 use mathlib.Core.Path.{_≡_, refl, sym, _∙_, ap}
 use mathlib.Core.Bool.{Bool, true, false, cond, not, _&&_}
 use mathlib.Core.List.{List, [], _∷_}
 use lib.Dec.{leb, ltb, eqb}
-use lib.ListN.{length, take-append-drop}
+use lib.ListN.{length}
 use borrow.Author.Tests.{le-leb, leb-true}
 use Rattle.lists.specs.Lists.{keep, all, pairwise}
 use Rattle.lists.proofs.Choice.{both}
 use Rattle.lists.proofs.Keep.{keep-every}
 use Rattle.lists.proofs.Tests.{by-test, all-both}
-use Rattle.erp1.specs.Subtelegram.{maxLength, isValid}
+use Rattle.erp1.specs.Subtelegram.{isValid}
 use Rattle.refusal.specs.declared.Refusal.the-variants.{Full}
-use Rattle.model.specs.Answer.{Kept, Copy, Loose, Refused, isAccepted, isReceived}
+use Rattle.model.specs.Answer.{Kept, Copy, Loose, isAccepted}
 use Rattle.model.specs.View.{Reception, Entry, View, openedBy, capacity, maturity, isOpen, stillOpen}
-use Rattle.model.specs.Acceptable.{isCopyOf, isEntry, mayFollow, acceptable}
+use Rattle.model.specs.Acceptable.{isCopyOf, mayFollow, acceptable}
 use Rattle.model.specs.Step.{Outcome, maxCount, isKnown, isCrowded, classify, tally, entriesAfter, advance, step}
 use Rattle.model.proofs.Returns.{step-unacceptable}
 use Rattle.model.proofs.Invariant.{good-acceptable, good-of, good-advance, classified}
-use Rattle.collector.specs.Collector.{Columns, moved, columnsWith, columnsAfter}
+use Rattle.collector.specs.Collector.{Columns, columnsWith, columnsAfter}
 use Rattle.collector.specs.Admission.{hasCopy, receptionCheck, answerFor, isSafe, numberOn, latestAfter, openFrom, leftAfter, answerOn, entriesWith, admitted, notAdmitted, admission, columnsAdmitted, Tested, ToldRightly}
-use Rattle.collector.proofs.Admitting.{is-received}
-use Rattle.collector.proofs.Accepting.{accepted-few, accepted-each, accepted-order, accepted-summed}
+use Rattle.collector.proofs.Accepting.{accepted-few, accepted-order, accepted-summed}
 
 -- ---- the open telegrams
 
@@ -41,12 +39,6 @@ open-kept t (e ∷ l) order =
     (λ o. rw o (ap (λ (m : List Entry). e ∷ m)
     (sym (keep-every (isOpen t) l (all-both (mayFollow e) (mayFollow e) (isOpen t) (λ x p _. later-open t e x o p) l (w .0) (w .0))))))
     (λ o. rw o (open-kept t l (w .1)))
-
--- ---- columns of which no entry goes
-
-none-gone : (n : ℕ) (r : Reception) (l : List Entry) (a : Columns) → columnsWith (Refused n) r (length l) l a ≡ a
-unfolding columnsWith moved
-none-gone n r l a = rw (sub-self (length l), take-append-drop (length l) (a .times), take-append-drop (length l) (a .lens), take-append-drop (maxLength * length l) (a .bytes), take-append-drop (length l) (a .copies))
 
 -- ---- an acceptable view
 
@@ -69,15 +61,6 @@ module _ (v : View) (r : Reception) (ok : acceptable v ≡ true) where
   left-kept : (t : ℕ) → openFrom t (v .entries) ≡ keep (isOpen t) (v .entries)
   left-kept t = open-kept t (v .entries) (accepted-order v ok)
 
-  -- at the latest time itself every entry is open
-  unchanged : openFrom (v .latest) (v .entries) ≡ v .entries
-  unchanged =
-      left-kept (v .latest)
-      ∙ keep-every (isOpen (v .latest)) (v .entries)
-      (all-both (isEntry (v .latest)) (isEntry (v .latest)) (isOpen (v .latest))
-      (λ e p _. both (leb (e .time) (v .latest)) (isOpen (v .latest) e) (both (isValid (e .bytes)) (leb (e .time) (v .latest) && isOpen (v .latest) e) p .1) .1)
-      (v .entries) (accepted-each v ok) (accepted-each v ok))
-
   answered : leb maxCount (v .totals .received) ≡ false → answerOn v r ≡ classify v r
   unfolding answerFor hasCopy
   answered a = by-test (eqb number 0) (λ e. rw (classify-by a, e, left-kept (r .time))) (λ e. rw (classify-by a, e))
@@ -86,7 +69,7 @@ module _ (v : View) (r : Reception) (ok : acceptable v ≡ true) where
       → (let a = answerFor number known crowded in
       record { latest = latestAfter v r; totals = tally a (v .totals); entries = entriesWith a r (leftAfter v r) } ≡ advance v r a)
   unfolding advance answerFor
-  advanced known crowded = by-test (eqb number 0) (λ e. rw (e, left-kept (r .time)) (accepted known crowded)) (λ e. rw (e, unchanged))
+  advanced known crowded = by-test (eqb number 0) (λ e. rw (e, left-kept (r .time)) (accepted known crowded)) (λ e. rw e)
     where
       accepted : (known crowded : Bool)
           → (let a = cond known Copy (cond crowded Loose Kept) in
@@ -102,24 +85,10 @@ module _ (v : View) (r : Reception) (ok : acceptable v ≡ true) where
 
   -- a refused reception leaves every entry where it stands, and another the open ones
   columns-stepped : (a : Columns)
-      → cond (isReceived (answerOn v r)) (columnsWith (answerOn v r) r (length (v .entries)) (leftAfter v r) a) a
+      → cond (isAccepted (answerOn v r)) (columnsWith (answerOn v r) r (length (v .entries)) (leftAfter v r) a) a
       ≡ cond (isAccepted (answerOn v r)) (columnsWith (answerOn v r) r (length (v .entries)) (stillOpen (r .time) v) a) a
   unfolding answerFor
-  columns-stepped a = rw (is-received v r)
-      (by-test (eqb number 0)
-      (λ e. rw (e, left-kept (r .time)) (accepted (hasCopy (stillOpen (r .time) v) r) (leb capacity (length (stillOpen (r .time) v)))))
-      (λ e. rw (e, unchanged) (none-moved number a)))
-    where
-      accepted : (known crowded : Bool)
-          → (let answer = cond known Copy (cond crowded Loose Kept) in
-          let new = columnsWith answer r (length (v .entries)) (stillOpen (r .time) v) a in
-          new ≡ cond (isAccepted answer) new a)
-      accepted true crowded = refl
-      accepted false true = refl
-      accepted false false = refl
-
-      none-moved : (n : ℕ) (a : Columns) → columnsWith (Refused n) r (length (v .entries)) (v .entries) a ≡ a
-      none-moved n a = none-gone n r (v .entries) a
+  columns-stepped a = by-test (eqb number 0) (λ e. rw (e, left-kept (r .time))) (λ e. rw e)
 
   safe : isSafe v ≡ true
   safe = rw (le-leb _ _ (accepted-few v ok), accepted-summed v ok)

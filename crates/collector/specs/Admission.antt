@@ -15,7 +15,7 @@ use Rattle.refusal.specs.Number.{numberOf}
 use Rattle.refusal.specs.declared.Refusal.the-variants as refusal
 use Rattle.telegram.specs.Frame.{frameOf}
 use Rattle.telegram.specs.Repeater.{relayOf}
-use Rattle.model.specs.Answer.{Shown, Kept, Copy, Loose, Refused, isKept, isReceived, shownOf}
+use Rattle.model.specs.Answer.{Shown, Kept, Copy, Loose, Refused, isKept, isAccepted, isReceived, shownOf}
 use Rattle.model.specs.Step.{Outcome, maxCount, step, tally, credit, sentFor}
 use Rattle.refusal.specs.declared.Refusal.{Refusal}
 use Rattle.refusal.specs.declared.Refusal.the-variants.{Full, NotAccepted}
@@ -72,9 +72,9 @@ abbrev pub openFrom : ℕ → List Entry → List Entry
 openFrom t [] = []
 openFrom t (e ∷ l) = cond (isOpen t e) (e ∷ l) (openFrom t l)
 
--- the telegrams open after it, before it opens one
+-- the entries after it, before it opens one: where it passed those tests, the open ones; else all
 abbrev pub leftAfter : View → Reception → List Entry
-leftAfter v r = openFrom (latestAfter v r) (v .entries)
+leftAfter v r = cond (eqb (numberOn v r) 0) (openFrom (r .time) (v .entries)) (v .entries)
 
 -- "Then: same telegram open, COPY; else 64 telegrams open, LOOSE; else KEPT"
 abbrev pub answerOn : View → Reception → Shown
@@ -110,17 +110,19 @@ admission fit v r =
     (cond (leb maxCount (v .totals .received)) (notAdmitted Full v)
     (admitted v r))
 
--- the columns after it: what is received leaves what `leftAfter` says
+-- the columns after it: one that is KEPT, COPY or LOOSE leaves the open telegrams, and beside a refusal every element is as it was
 unfoldable pub columnsAdmitted : Bool → View → Reception → Columns → Columns
 columnsAdmitted fit v r a =
-    cond (isReceived (admission fit v r .answer)) (columnsWith (answerOn v r) r (length (v .entries)) (leftAfter v r) a) a
+    cond (isAccepted (admission fit v r .answer)) (columnsWith (answerOn v r) r (length (v .entries)) (leftAfter v r) a) a
 
 -- what `admit` makes of columns and a summary, told whether the state is acceptable
 pub record Admits (fit : Bool) (a : Columns) (s : Summary) (r : Reception) (a' : Columns) (d : Admitted) : Type 0 where
   pub outcome : admittedOf a' d ≡ admission fit (viewIn a s) r
   -- every element
   pub elements : a' ≡ columnsAdmitted fit (viewIn a s) r a
-  -- at 8 and 11 every element is as it was
+  -- beside every refusal every element is as it was
+  pub refused : isAccepted (shownOf (d .answer)) ≡ false → a' ≡ a
+  -- at 8 and 11 the summary too
   pub stays : isReceived (shownOf (d .answer)) ≡ false → (a' ≡ a) × (d .summary ≡ s)
 
 -- fit says whether a state is acceptable, whose numbers have 64 bits: what is known of the first state of a run, and of every next one

@@ -12,9 +12,11 @@ use mathlib.Core.Path.{_≡_}
 use mathlib.Core.Bool.{Bool, true, false, not, _&&_, cond}
 use lib.Dec.{leb}
 use Rattle.model.specs.Acceptable.{isCopyOf, isSummed}
-use Rattle.model.specs.Answer.{isCopy, shownOf}
-use Rattle.model.specs.Step.{maxCount}
+use Rattle.model.specs.Answer.{Shown, Kept, Copy, Loose, Refused, isCopy}
+use Rattle.model.specs.Step.{maxCount, tally}
 use Rattle.collector.specs.declared.merging.Judged.{Judged}
+use Rattle.collector.specs.declared.merging.Judged.the-variants as judged
+use Rattle.refusal.specs.Number.{numberOf}
 use Rattle.refusal.specs.declared.Refusal.{Refusal}
 use Rattle.model.specs.declared.Answer.the-variants as answer
 use Rattle.collector.specs.declared.Summary.{Summary}
@@ -62,10 +64,26 @@ pub record Repeated (seen : ℕ) (known r : Bool) : Type 0 where
 
 -- ---- one reception: what is decided, and what it makes of each array
 
--- the answer by that number and the open telegrams, and the entry of which a copy is one
-pub record JudgedBy (number : ℕ) (l : List Entry) (r : Reception) (j : Judged) : Type 0 where
-  pub answer : shownOf (j .answer) ≡ answerFor number (hasCopy l r) (leb capacity (length l))
-  pub entry : isCopy (shownOf (j .answer)) ≡ true → j .entry ≡ lastCopy l r
+-- what a reception that passed the tests is found to be: its answer
+abbrev pub judgedAs : Judged → Shown
+judgedAs judged.Kept = Kept
+judgedAs (judged.Copy entry) = Copy
+judgedAs judged.Loose = Loose
+
+-- and of a copy the entry of which it is one
+abbrev pub judgedEntry : Judged → ℕ
+judgedEntry judged.Kept = 0
+judgedEntry (judged.Copy entry) = entry
+judgedEntry judged.Loose = 0
+
+-- these by the open telegrams
+pub record JudgedBy (l : List Entry) (r : Reception) (shown : Shown) (which : ℕ) : Type 0 where
+  pub answer : shown ≡ answerFor 0 (hasCopy l r) (leb capacity (length l))
+  pub entry : isCopy shown ≡ true → which ≡ lastCopy l r
+
+-- the summary after a reception that was refused for this: it is counted
+abbrev pub countedOnly : Summary → Refusal → Summary
+countedOnly s why = record { count = s .count; latest = s .latest; totals = tally (Refused (numberOf why)) (s .totals) }
 
 -- no total is at its end
 pub record Countable (n : Totals) : Type 0 where

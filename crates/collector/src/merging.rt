@@ -22,7 +22,7 @@ ghost use Rattle.model.specs.Acceptable.{isSummed};
 ghost use Rattle.model.specs.Step.{maxCount, plusIf, tally};
 ghost use Rattle.collector.specs.Collector.{columns, entriesAt};
 ghost use Rattle.collector.specs.Admission.{relayedFor, receptionCheck, Admits};
-ghost use Rattle.collector.specs.Private.{JudgedBy, Countable, Decides, unchanged};
+ghost use Rattle.collector.specs.Private.{JudgedBy, judgedAs, judgedEntry, Countable, countedOnly, Decides, unchanged};
 
 // The summary after a reception, and the answer.
 pub struct Admitted {
@@ -32,7 +32,7 @@ pub struct Admitted {
 
 // Takes one reception at a state that is changed where it lies: its four arrays are lent. `fit` is what the test of the state said, so that a run
 // of receptions pays for it once; where it is false, over 64 entries are counted or the totals do not add up, the answer is 11 and nothing is
-// changed.
+// changed. Beside every refusal the four arrays stay as they were, whatever was told.
 pub fn admit<'a>(
     fit: bool,
     times: &'a mut [u64; Collector::CAPACITY],
@@ -51,20 +51,20 @@ pub fn admit<'a>(
     let count = summary.count;
     let totals = summary.totals;
     if !is_safe(fit, count, totals) {
-        return not_admitted(summary, Refusal::NotAccepted);
+        return refused(summary, Refusal::NotAccepted);
     }
     if totals.received == u64::MAX {
-        return not_admitted(summary, Refusal::Full);
+        return refused(summary, Refusal::Full);
     }
     let checked = check_reception(summary.latest, received, time);
-    let latest = latest_after(checked, summary.latest, time);
-    let gone = entries::expired(times, count, latest);
-    let judged = classify(times, lens, bytes, gone, count, checked, received, time);
-    let answer = judged.answer;
-    let entry = judged.entry;
+    if let Checked::Refused(why) = checked {
+        return refused(only_counted(summary, why), why);
+    }
+    let gone = entries::expired(times, count, time);
     let left = count - gone;
-    match answer {
-        Answer::Kept => {
+    let judged = classify(times, lens, bytes, gone, count, received, time);
+    match judged {
+        Judged::Kept => {
             entries::change(
                 times,
                 lens,
@@ -73,14 +73,14 @@ pub fn admit<'a>(
                 gone,
                 left,
                 false,
-                entry,
+                0,
                 true,
                 received,
                 time,
             );
-            now_open(left + 1, latest, counted(totals, answer), answer)
+            now_open(left + 1, time, counted(totals, Answer::Kept), Answer::Kept)
         }
-        Answer::Copy => {
+        Judged::Copy(entry) => {
             entries::change(
                 times,
                 lens,
@@ -94,9 +94,9 @@ pub fn admit<'a>(
                 received,
                 time,
             );
-            now_open(left, latest, counted(totals, answer), answer)
+            now_open(left, time, counted(totals, Answer::Copy), Answer::Copy)
         }
-        Answer::Loose => {
+        Judged::Loose => {
             entries::change(
                 times,
                 lens,
@@ -105,33 +105,18 @@ pub fn admit<'a>(
                 gone,
                 left,
                 false,
-                entry,
+                0,
                 false,
                 received,
                 time,
             );
-            now_open(left, latest, counted(totals, answer), answer)
-        }
-        Answer::Refused(_) => {
-            entries::change(
-                times,
-                lens,
-                bytes,
-                copies,
-                gone,
-                left,
-                false,
-                entry,
-                false,
-                received,
-                time,
-            );
-            now_open(left, latest, counted(totals, answer), answer)
+            now_open(left, time, counted(totals, Answer::Loose), Answer::Loose)
         }
     }
 }
 
-fn not_admitted(summary: Summary, why: Refusal) -> Admitted
+// A refusal, beside which no entry is changed.
+fn refused(summary: Summary, why: Refusal) -> Admitted
     ensures { λ r. ⌜ r ≡ record { summary = summary; answer = answer.Refused why } ⌝ }
 {
     Admitted {
@@ -165,14 +150,14 @@ pub(crate) struct Decision {
     pub(crate) answer: Answer,
 }
 
-// The answer, and the entry of which a copy is one.
-struct Judged {
-    answer: Answer,
-    entry: usize,
+// What a reception that passed the tests is; of a copy, the entry of which it is one.
+enum Judged {
+    Kept,
+    Copy(usize),
+    Loose,
 }
 
-// Decides on one reception before anything is changed, so that each array can then be changed by itself. A refused one leaves the latest time, at
-// which every entry of an acceptable state is open.
+// Decides on one reception before anything is changed, so that each array can then be changed by itself.
 pub(crate) fn decide<'a>(
     fit: bool,
     times: &'a [u64; Collector::CAPACITY],
@@ -195,22 +180,24 @@ pub(crate) fn decide<'a>(
         return nothing(summary, Refusal::Full);
     }
     let checked = check_reception(summary.latest, received, time);
-    let latest = latest_after(checked, summary.latest, time);
-    let gone = entries::expired(times, count, latest);
-    let judged = classify(times, lens, bytes, gone, count, checked, received, time);
-    let answer = judged.answer;
+    if let Checked::Refused(why) = checked {
+        return nothing(only_counted(summary, why), why);
+    }
+    let gone = entries::expired(times, count, time);
+    let judged = classify(times, lens, bytes, gone, count, received, time);
+    let answer = answer_of(judged);
     let left = count - gone;
     let kept = is_kept(answer);
     let after = Summary {
         count: count_after(kept, left),
-        latest: latest,
+        latest: time,
         totals: counted(totals, answer),
     };
     Decision {
         gone: gone,
         left: left,
         heard: is_copy(answer),
-        entry: judged.entry,
+        entry: entry_of(judged),
         kept: kept,
         summary: after,
         answer: answer,
@@ -241,7 +228,7 @@ fn is_safe(fit: bool, count: usize, totals: Totals) -> bool
     fit & ((count <= Collector::CAPACITY) & acceptable::is_summed(totals))
 }
 
-// Nothing is changed.
+// No entry is changed.
 fn nothing(summary: Summary, why: Refusal) -> Decision
     ensures { λ r. ⌜ r ≡ unchanged summary why ⌝ }
 {
@@ -270,59 +257,62 @@ fn check_reception(latest: u64, bytes: &[u8], time: u64) -> Checked
     Checked::Valid
 }
 
-// The latest time after a reception.
-fn latest_after(checked: Checked, latest: u64, time: u64) -> u64
-    ensures { λ r. ⌜ r ≡ cond (eqb (checkedNumber checked) 0) time latest ⌝ }
+// The summary after a reception that was refused: it is counted.
+fn only_counted(summary: Summary, why: Refusal) -> Summary
+    requires { ⌜ Countable (summary .totals) ⌝ }
+    ensures { λ r. ⌜ r ≡ countedOnly summary why ⌝ }
 {
-    match checked {
-        Checked::Valid => time,
-        Checked::Refused(_) => latest,
+    Summary {
+        count: summary.count,
+        latest: summary.latest,
+        totals: counted(summary.totals, Answer::Refused(why)),
     }
 }
 
-// The answer, where of `count` telegrams the first `gone` are no longer open, and for a copy which of the others it is one of; no number of copies is
-// looked at.
+// What a valid reception is, where of `count` telegrams the first `gone` are no longer open; no number of copies is looked at.
 fn classify<'a>(
     times: &'a [u64; Collector::CAPACITY],
     lens: &'a [u8; Collector::CAPACITY],
     bytes: &'a [u8; Collector::CAPACITY * Collector::MAX_LEN],
     gone: usize,
     count: usize,
-    checked: Checked,
     received: &'a [u8],
     time: u64,
 ) -> Judged
     requires { ⌜ (gone ≤ count) × (count ≤ capacity)
-        × (checkedNumber checked ≡ 0 → (minLength ≤ length (now received)) × (length (now received) ≤ maxLength)) ⌝ }
-    ensures { λ r. ⌜ ((copies : List ℕ) → JudgedBy (checkedNumber checked)
+        × (minLength ≤ length (now received)) × (length (now received) ≤ maxLength) ⌝ }
+    ensures { λ r. ⌜ ((copies : List ℕ) → JudgedBy
         (drop gone (entriesAt (columns (now (times .entry)) (now (lens .entry)) (now (bytes .entry)) copies) count))
-        (record { bytes = now (received .entry); time = time }) r) ⌝ }
+        (record { bytes = now (received .entry); time = time }) (judgedAs r) (judgedEntry r)) ⌝ }
 {
-    match checked {
-        Checked::Refused(why) => no_copy(Answer::Refused(why)),
-        Checked::Valid => {
-            let left = count - gone;
-            let entry = entries::find(times, lens, bytes, gone, count, received, time);
-            if entry < left {
-                return Judged {
-                    answer: Answer::Copy,
-                    entry: entry,
-                };
-            }
-            if Collector::CAPACITY <= left {
-                return no_copy(Answer::Loose);
-            }
-            no_copy(Answer::Kept)
-        }
+    let left = count - gone;
+    let entry = entries::find(times, lens, bytes, gone, count, received, time);
+    if entry < left {
+        return Judged::Copy(entry);
+    }
+    if Collector::CAPACITY <= left {
+        return Judged::Loose;
+    }
+    Judged::Kept
+}
+
+fn answer_of(judged: Judged) -> Answer
+    ensures { λ r. ⌜ shownOf r ≡ judgedAs judged ⌝ }
+{
+    match judged {
+        Judged::Kept => Answer::Kept,
+        Judged::Copy(_) => Answer::Copy,
+        Judged::Loose => Answer::Loose,
     }
 }
 
-fn no_copy(answer: Answer) -> Judged
-    ensures { λ r. ⌜ r .answer ≡ answer ⌝ }
+fn entry_of(judged: Judged) -> usize
+    ensures { λ r. ⌜ r ≡ judgedEntry judged ⌝ }
 {
-    Judged {
-        answer: answer,
-        entry: 0,
+    match judged {
+        Judged::Kept => 0,
+        Judged::Copy(entry) => entry,
+        Judged::Loose => 0,
     }
 }
 

@@ -1,23 +1,26 @@
 -- `collector::merging::admit` meets its contract: the steps of `admitted` are decided, and carried out column by column; or 11 or 8 and nothing.
 use Prim.Native.Nat.{ℕ, _-_, _<_}
-use mathlib.Core.Path.{_≡_, sym, refl, _∙_}
+use mathlib.Core.Path.{_≡_, sym, refl, _∙_, ap}
 use mathlib.Core.Bool.{Bool, true, false}
-use mathlib.Core.List.{List}
 use native.Mathlib.Omega.{arith}
 use borrow.Author.Needs.{needs}
 use borrow.Author.Tests.{not-true, not-false}
 use denote.Ref.{now}
-use lib.ListN.{drop}
 use Rattle.refusal.specs.declared.Refusal.the-variants.{Full, NotAccepted}
 use Rattle.erp1.specs.Subtelegram.{checkedNumber}
+use Rattle.model.specs.declared.Answer.{Answer}
+use Rattle.model.specs.declared.Answer.the-variants as answer
 use Rattle.model.specs.Answer.{shownOf, isKept, isCopy}
 use Rattle.model.specs.View.{Reception}
 use Rattle.model.specs.Step.{maxCount, plusIf, tally}
 use Rattle.collector.specs.declared.merging.Decision.{Decision}
-use Rattle.collector.specs.Collector.{Columns, columns, entriesAt, viewIn}
-use Rattle.collector.specs.Private.{JudgedBy, Countable, Decides}
+use Rattle.collector.specs.declared.merging.Judged.{Judged}
+use Rattle.collector.specs.declared.merging.Judged.the-variants as judged
+use Rattle.collector.specs.Collector.{Columns, columns, viewIn}
+use Rattle.collector.specs.Admission.{admitted, admission}
+use Rattle.collector.specs.Private.{judgedAs, judgedEntry, Countable, Decides}
 use Rattle.collector.proofs.Admitting.{Fit, Looked, passed-valid, valid-fits, fit-says, not-accepted, all-full, is-taken}
-use Rattle.collector.proofs.Admitting.{admits-nothing, decides, carried-out}
+use Rattle.collector.proofs.Admitting.{admits-nothing, admits-refused, decides, carried-out}
 use Rattle.collector.proofs.merging.admit.Statement.{statement}
 use Rattle.collector.proofs.merging.admit.Tie as tie
 
@@ -28,8 +31,11 @@ abbrev reception : tie.Start → Reception
 reception s = record { bytes = now (s .args .received); time = s .args .time }
 
 -- a state that may be taken, and is not full
+abbrev entered : tie.After-is-safe → tie.Start
+entered c = c .before .before .before
+
 abbrev start : tie.Else1 → tie.Start
-start c = c .before .before .before .before
+start c = entered (c .before)
 
 fit : (c : tie.Else1) → Fit (start c .args .fit) (start c .args .summary)
 fit c =
@@ -39,82 +45,86 @@ fit c =
 spare : (c : tie.Else2) → start (c .before .before) .args .summary .totals .received < maxCount
 spare c = omega (arith, c .if2 .left)
 
--- what is looked at before the open telegrams
-abbrev checking : tie.After-expired → tie.After-check-reception
-checking c = c .before .before .before
+countable : (c : tie.Else2) → Countable (start (c .before .before) .args .summary .totals)
+countable c = record { summed = fit (c .before .before) .summed; room = spare c }
 
-abbrev found : tie.After-expired → tie.Else1
-found c = checking c .before .before .before
+taken : (c : tie.Else2)
+    → (let s = start (c .before .before) in
+    let v = viewIn (table s) (s .args .summary) in
+    admitted v (reception s) ≡ admission (s .args .fit) v (reception s))
+taken c =
+    let s = start (c .before .before) in
+    is-taken (s .args .fit) (table s) (s .args .summary) (reception s) (fit (c .before .before)) (spare c)
+
+-- the tests before the open telegrams are looked at are passed
+abbrev checking : tie.After-enum-told → tie.After-check-reception
+checking c = c .before .before
+
+abbrev passing : tie.After-expired → tie.After-enum-told
+passing c = c .before .before
 
 abbrev looking : tie.After-expired → tie.Start
-looking c = start (found c)
+looking c = start (checking (passing c) .before .before .before)
 
-looked : (c : tie.After-expired)
-    → Looked (table (looking c)) (looking c .args .summary) (reception (looking c)) (checkedNumber (checking c .check-reception .result))
-    (c .before .before .latest-after .result) (c .expired .result)
+looked : (c : tie.After-expired) → Looked (table (looking c)) (looking c .args .summary) (reception (looking c)) (c .expired .result)
 looked c = record {
-  checked = checking c .check-reception .ensures;
-  latest = c .before .before .latest-after .ensures;
+  passed = sym (checking (passing c) .check-reception .ensures) ∙ ap checkedNumber (passing c .enum-told .given .1);
   expired = c .expired .ensures;
 }
 
 -- the answer, and the entry of which a copy is one
+abbrev lent : tie.After-classify-arg3 → tie.After-expired
+lent c = c .before .before .before
+
 abbrev expiring : tie.After-classify → tie.After-expired
-expiring c = c .before .before .before .before
+expiring c = lent (c .before)
 
 abbrev first : tie.After-classify → tie.Start
 first c = looking (expiring c)
 
-judged : (c : tie.After-classify)
-    → JudgedBy (checkedNumber (checking (expiring c) .check-reception .result))
-    (drop (expiring c .expired .result) (entriesAt (table (first c)) (first c .args .summary .count)))
-    (reception (first c)) (c .classify .result)
-judged c = c .classify .ensures (now (first c .args .copies))
+abbrev found : tie.After-classify → tie.Else2
+found c = checking (passing (expiring c)) .before
 
 -- what is decided
-abbrev decided : tie.After-classify → Bool → Bool → Decision
-decided c kept heard = let left = first c .args .summary .count - expiring c .expired .result in record {
+abbrev decided : tie.After-classify → Answer → ℕ → Bool → Bool → Decision
+decided c answer entry kept heard = let left = first c .args .summary .count - expiring c .expired .result in record {
   gone = expiring c .expired .result;
   left = left;
   heard = heard;
-  entry = c .classify .result .entry;
+  entry = entry;
   kept = kept;
-  summary = record {
-    count = plusIf kept left;
-    latest = expiring c .before .before .latest-after .result;
-    totals = tally (shownOf (c .classify .result .answer)) (first c .args .summary .totals);
-  };
-  answer = c .classify .result .answer;
+  summary = record { count = plusIf kept left; latest = first c .args .time; totals = tally (shownOf answer) (first c .args .summary .totals) };
+  answer = answer;
 }
 
-made : (c : tie.After-classify) (kept heard : Bool) → kept ≡ isKept (shownOf (c .classify .result .answer))
-    → heard ≡ isCopy (shownOf (c .classify .result .answer))
-    → Decides (first c .args .fit) (table (first c)) (first c .args .summary) (reception (first c)) (decided c kept heard)
-made c kept heard keeps hears =
-    let s = first c in
-    let f = found (expiring c) in
-    decides (looked (expiring c)) (judged c) keeps hears refl refl
-    (fit f .few) (s .args .fit)
-    (is-taken (s .args .fit) (table s) (s .args .summary) (reception s) (fit f) (spare (checking (expiring c) .before)))
+made : (c : tie.After-classify) (judged : Judged) → c .classify .result ≡ judged → (answer : Answer) → judgedAs judged ≡ shownOf answer
+    → (kept heard : Bool) → kept ≡ isKept (shownOf answer) → heard ≡ isCopy (shownOf answer)
+    → Decides (first c .args .fit) (table (first c)) (first c .args .summary) (reception (first c))
+    (decided c answer (judgedEntry judged) kept heard)
+made c judged found-so answer shown kept heard keeps hears =
+    let by = rw (found-so, shown) at (c .classify .ensures (now (first c .args .copies))) in
+    decides (looked (expiring c)) answer by keeps hears refl refl
+    (fit (found c .before .before) .few) (first c .args .fit) (taken (found c))
 
 -- the cases
-kept : (c : tie.After-enum-told) → Decides (first (c .before .before) .args .fit) (table (first (c .before .before)))
-    (first (c .before .before) .args .summary) (reception (first (c .before .before))) (decided (c .before .before) true false)
-kept c = made (c .before .before) true false (rw (c .enum-told .given .1)) (rw (c .enum-told .given .1))
+abbrev Made : tie.After-classify → Answer → ℕ → Bool → Bool → Type 0
+Made c answer entry kept heard =
+    Decides (first c .args .fit) (table (first c)) (first c .args .summary) (reception (first c)) (decided c answer entry kept heard)
 
-copied : (c : tie.After-enum-told2) → Decides (first (c .before .before) .args .fit) (table (first (c .before .before)))
-    (first (c .before .before) .args .summary) (reception (first (c .before .before))) (decided (c .before .before) false true)
-copied c = made (c .before .before) false true (rw (c .enum-told2 .given .1)) (rw (c .enum-told2 .given .1))
+kept : (c : tie.After-enum-told2) → Made (c .before .before) answer.Kept 0 true false
+kept c = made (c .before .before) judged.Kept (c .enum-told2 .given .1) answer.Kept refl true false refl refl
 
-loose : (c : tie.After-enum-told3) → Decides (first (c .before .before) .args .fit) (table (first (c .before .before)))
-    (first (c .before .before) .args .summary) (reception (first (c .before .before))) (decided (c .before .before) false false)
-loose c = made (c .before .before) false false (rw (c .enum-told3 .given .1)) (rw (c .enum-told3 .given .1))
+copied : (c : tie.After-judged) → Made (c .before .before) answer.Copy (c .judged .given .0 .0) false true
+copied c = made (c .before .before) (judged.Copy (c .judged .given .0 .0)) (c .judged .given .1) answer.Copy refl false true refl refl
+
+loose : (c : tie.After-enum-told3) → Made (c .before .before) answer.Loose 0 false false
+loose c = made (c .before .before) judged.Loose (c .enum-told3 .given .1) answer.Loose refl false false refl refl
 
 returns : tie.Need-returns
 returns c =
-    let s = c .before .before .before .before .before in
-    rw (c .not-admitted .ensures)
-    (admits-nothing (s .args .fit) (table s) (s .args .summary) (reception s) NotAccepted refl
+    let s = entered (c .before .before) in
+    rw (c .refused .ensures)
+    (admits-nothing (s .args .fit) (table s) (s .args .summary) (reception s) NotAccepted
     (not-accepted (s .args .fit) (table s) (s .args .summary) (reception s)
     (sym (c .before .before .is-safe .ensures) ∙ not-true _ (c .before .if1 .taken))))
 
@@ -122,62 +132,70 @@ returns-2 : tie.Need-returns-2
 returns-2 c =
     let f = c .before .before .before in
     let s = start f in
-    rw (c .not-admitted2 .ensures)
-    (admits-nothing (s .args .fit) (table s) (s .args .summary) (reception s) Full refl
+    rw (c .refused2 .ensures)
+    (admits-nothing (s .args .fit) (table s) (s .args .summary) (reception s) Full
     (all-full (s .args .fit) (table s) (s .args .summary) (reception s) (fit f) (omega (arith, c .before .if2 .taken))))
 
-classify-requires : tie.Need-classify-requires
-classify-requires c κs =
-    let x = c .before .before .before in
-    let s = looking x in (
-      x .expired .ensures .few,
-      fit (found x) .few,
-      λ e. valid-fits _ (passed-valid (viewIn (table s) (s .args .summary)) (reception s) (sym (checking x .check-reception .ensures) ∙ e)),
-    )
-
-change-requires : tie.Need-change-requires
-change-requires c κs = let d = kept (c .before .before .before .before) in (d .few, d .inside, d .room)
-
-change-requires-2 : tie.Need-change-requires-2
-change-requires-2 c κs = let d = copied (c .before .before .before .before) in (d .few, d .inside, d .room)
-
-change-requires-3 : tie.Need-change-requires-3
-change-requires-3 c κs = let d = loose (c .before .before .before .before) in (d .few, d .inside, d .room)
+-- the reception is refused
+abbrev refusing : tie.After-checked → tie.After-check-reception
+refusing c = c .before .before
 
 returns-3 : tie.Need-returns-3
 returns-3 c =
-    let x = c .before .before .change .ensures in
-    rw (c .now-open .ensures, c .before .counted .ensures)
-    (carried-out (kept (c .before .before .before .before .before .before .before)) (x .0) (x .1) (x .2) (x .3))
+    let k = c .before .before .before in
+    let e = refusing k .before in
+    let s = start (e .before .before) in
+    rw (c .refused3 .ensures, c .before .only-counted .ensures)
+    (admits-refused (s .args .fit) (table s) (s .args .summary) (reception s) (k .checked .given .0 .0)
+    (sym (ap checkedNumber (k .checked .given .1)) ∙ refusing k .check-reception .ensures) (taken e))
+
+classify-requires : tie.Need-classify-requires
+classify-requires c κs =
+    let x = lent c in
+    let s = looking x in
+    let v = passed-valid (viewIn (table s) (s .args .summary)) (reception s) (looked x .passed) in (
+      x .expired .ensures .few,
+      fit (checking (passing x) .before .before .before) .few,
+      valid-fits _ v .0,
+      valid-fits _ v .1,
+    )
+
+-- the arrays are lent
+abbrev keeping : tie.After-change-arg4 → tie.After-enum-told2
+keeping c = c .before .before .before .before
+
+abbrev copying : tie.After-change-arg8 → tie.After-judged
+copying c = c .before .before .before .before .before
+
+abbrev loosing : tie.After-change-arg12 → tie.After-enum-told3
+loosing c = c .before .before .before .before
+
+change-requires : tie.Need-change-requires
+change-requires c κs = let d = kept (keeping c) in (d .few, d .inside, d .room)
+
+change-requires-2 : tie.Need-change-requires-2
+change-requires-2 c κs = let d = copied (copying c) in (d .few, d .inside, d .room)
+
+change-requires-3 : tie.Need-change-requires-3
+change-requires-3 c κs = let d = loose (loosing c) in (d .few, d .inside, d .room)
 
 returns-4 : tie.Need-returns-4
 returns-4 c =
-    let x = c .before .before .change2 .ensures in
-    rw (c .now-open2 .ensures, c .before .counted2 .ensures)
-    (carried-out (copied (c .before .before .before .before .before .before .before)) (x .0) (x .1) (x .2) (x .3))
+    let d = c .before .before in
+    let x = d .change .ensures in
+    rw (c .now-open .ensures, c .before .counted .ensures) (carried-out (kept (keeping (d .before))) (x .0) (x .1) (x .2) (x .3))
 
 returns-5 : tie.Need-returns-5
 returns-5 c =
-    let x = c .before .before .change3 .ensures in
-    rw (c .now-open3 .ensures, c .before .counted3 .ensures)
-    (carried-out (loose (c .before .before .before .before .before .before .before)) (x .0) (x .1) (x .2) (x .3))
-
-refused : (c : tie.After-enum-told4) → Decides (first (c .before .before) .args .fit) (table (first (c .before .before)))
-    (first (c .before .before) .args .summary) (reception (first (c .before .before))) (decided (c .before .before) false false)
-refused c = made (c .before .before) false false (rw (c .enum-told4 .given .1)) (rw (c .enum-told4 .given .1))
-
-change-requires-4 : tie.Need-change-requires-4
-change-requires-4 c κs = let d = refused (c .before .before .before .before) in (d .few, d .inside, d .room)
+    let d = c .before .before in
+    let x = d .change2 .ensures in
+    rw (c .now-open2 .ensures, c .before .counted2 .ensures) (carried-out (copied (copying (d .before))) (x .0) (x .1) (x .2) (x .3))
 
 returns-6 : tie.Need-returns-6
 returns-6 c =
-    let x = c .before .before .change4 .ensures in
-    rw (c .now-open4 .ensures, c .before .counted4 .ensures)
-    (carried-out (refused (c .before .before .before .before .before .before .before)) (x .0) (x .1) (x .2) (x .3))
-
--- no total is at its end
-countable : (c : tie.After-classify) → Countable (first c .args .summary .totals)
-countable c = let e = checking (expiring c) .before in record { summed = fit (e .before .before) .summed; room = spare e }
+    let d = c .before .before in
+    let x = d .change3 .ensures in
+    rw (c .now-open3 .ensures, c .before .counted3 .ensures) (carried-out (loose (loosing (d .before))) (x .0) (x .1) (x .2) (x .3))
 
 pub admit-spec : {M : Type 1} → statement M
 admit-spec =
@@ -189,28 +207,27 @@ admit-spec =
     (λ c κs. search needs)
     returns-2
     (λ c κs. search needs)
+    (λ c. search needs)
+    (λ c κs. countable (refusing (c .before) .before))
     (λ c κs. search needs)
-    (λ c κs. fit (c .before .before .before .before .before) .few)
+    returns-3
+    (λ c. search needs)
+    (λ c κs. fit (checking (c .before) .before .before .before) .few)
+    (λ c. search needs)
     classify-requires
     (λ c. search needs)
-    (λ c. search needs)
     change-requires
-    (λ c. omega (arith, kept (c .before .before .before .before .before) .room refl .0))
-    (λ c κs. countable (c .before .before .before .before .before .before .before))
+    (λ c. omega (arith, kept (keeping (c .before)) .room refl .0))
+    (λ c κs. countable (found (keeping (c .before) .before .before)))
     (λ c κs. search needs)
     (λ c. search needs)
     change-requires-2
-    (λ c κs. countable (c .before .before .before .before .before .before .before))
+    (λ c κs. countable (found (copying (c .before) .before .before)))
     (λ c κs. search needs)
     (λ c. search needs)
     change-requires-3
-    (λ c κs. countable (c .before .before .before .before .before .before .before))
+    (λ c κs. countable (found (loosing (c .before) .before .before)))
     (λ c κs. search needs)
-    (λ c. search needs)
-    change-requires-4
-    (λ c κs. countable (c .before .before .before .before .before .before .before))
-    (λ c κs. search needs)
-    returns-3
     returns-4
     returns-5
     returns-6)
