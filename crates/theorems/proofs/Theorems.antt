@@ -24,6 +24,7 @@ use Rattle.cases.proofs.Proved as cases
 use Rattle.journal_model.proofs.Claims as journal_claims
 use Rattle.journal_model.proofs.Destroyed as journal_destroyed
 use Rattle.journal_model.proofs.Live as journal_live
+use Rattle.journal_model.proofs.Out as journal_out
 use Rattle.journal_model.proofs.Whole as journal_whole
 use Rattle.theorems.specs.Theorems.{Telegrams, SlotPlans, Collector, Archives, Journal, Theorems}
 use Rattle.theorems.proofs.Details.{details}
@@ -80,6 +81,7 @@ journal = record {
   starts-destroy-nothing = journal_destroyed.nothing-destroyed;
   crashes-are-recovered = journal_claims.no-false-alarm;
   printed-is-kept = journal_whole.printed-is-kept;
+  rows-are-in-the-file-once = journal_out.once-in-file;
 }
 
 pub theorems : Theorems

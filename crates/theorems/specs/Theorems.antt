@@ -43,6 +43,7 @@ use Rattle.c_pieces.specs.Claims as c_pieces
 use Rattle.report_model.specs.Claims as report_model
 use Rattle.cases.specs.Cases as cases
 use Rattle.journal_model.specs.Claims as journal_model
+use Rattle.journal_model.specs.Out as journal_out
 use Rattle.theorems.specs.Details.{Details}
 
 -- ---- telegrams, in the radio protocols ERP1 and ERP2
@@ -132,6 +133,8 @@ pub record Journal : Type 0 where
   pub crashes-are-recovered : journal_model.NoFalseAlarm
   -- A row that was printed stays in the archive, in its place.
   pub printed-is-kept : journal_model.PrintedIsKept
+  -- In the file of `--out` each row of the lines that were taken stands once, in their order, after any batches and any crashes.
+  pub rows-are-in-the-file-once : journal_out.OnceInFile
 
 -- ---- all of it
 

@@ -1,0 +1,91 @@
+-- The file of `--out`, which has the rows as text. Its length stands in the state beside the lines that were taken, so
+-- that both are replaced in one step.
+use Prim.Native.Nat.{ℕ, _+_, _≤_}
+use mathlib.Core.Path.{_≡_}
+use mathlib.Core.Logic.{_⊎_}
+use mathlib.Core.Bool.{cond}
+use mathlib.Core.List.{List, [], _∷_, _++_}
+use lib.Dec.{eqb}
+use lib.ListN.{length, take, drop}
+
+-- lines that the state has taken, how much of the file it counts, and the file
+pub record Out : Type 0 where
+  pub lines : ℕ
+  pub size : ℕ
+  pub file : List ℕ
+
+pub data OutEvent : Type 0 where
+  -- a batch of so many lines
+  Print : (count : ℕ) → OutEvent
+  -- a crash that leaves this, and a start
+  Stop : (left : Out) → OutEvent
+
+-- what a line prints behind others, and what stands before the first row, in the format that was asked for; and the
+-- lines of a log
+module _ (text : List (List ℕ) → List ℕ → List ℕ) (heading : List ℕ) (log : List (List ℕ)) where
+  -- what lines print behind others
+  unfoldable pub textOf : List (List ℕ) → List (List ℕ) → List ℕ
+  textOf before [] = []
+  textOf before (l ∷ ls) = text before l ++ textOf (before ++ (l ∷ [])) ls
+
+  -- a batch of so many lines
+  abbrev pub nextOf : Out → ℕ → List (List ℕ)
+  nextOf o count = take count (drop (o .lines) log)
+
+  abbrev pub batchText : Out → ℕ → List ℕ
+  batchText o count = cond (eqb (o .size) 0) heading [] ++ textOf (take (o .lines) log) (nextOf o count)
+
+  -- its rows are written where those end that the state counts; then the state is replaced
+  abbrev pub printed : Out → ℕ → Out
+  printed o count =
+      let new = batchText o count in
+      record {
+        lines = o .lines + length (nextOf o count);
+        size = o .size + length new;
+        file = take (o .size) (o .file) ++ (new ++ drop (o .size + length new) (o .file));
+      }
+
+  -- the tool's start: what the state does not count is cut
+  abbrev pub cutOut : Out → Out
+  cutOut o = record { lines = o .lines; size = o .size; file = take (o .size) (o .file) }
+
+  -- what a crash may leave, and a start that is cut short: the old state, and what it counts is as it was, with
+  -- anything behind; or the new one, before
+  -- which the rows were synced
+  pub data OutLeft (o : Out) : Out → Type 0 where
+    early : (file : List ℕ) → o .size ≤ length file → take (o .size) file ≡ take (o .size) (o .file)
+        → OutLeft o (record { lines = o .lines; size = o .size; file = file })
+    late : (count : ℕ) → OutLeft o (printed o count)
+
+  abbrev pub outNext : Out → OutEvent → Out
+  outNext o (Print count) = printed o count
+  outNext o (Stop left) = cutOut left
+
+  abbrev pub outRun : Out → List OutEvent → Out
+  outRun o [] = o
+  outRun o (e ∷ es) = outRun (outNext o e) es
+
+  abbrev pub OutMay : Out → OutEvent → Type 0
+  OutMay o (Print count) = Unit {0}
+  OutMay o (Stop left) = OutLeft o left
+
+  abbrev pub IsOutRun : Out → List OutEvent → Type 0
+  IsOutRun o [] = Unit {0}
+  IsOutRun o (e ∷ es) = OutMay o e × IsOutRun (outNext o e) es
+
+  -- behind what stood in the file: the heading, where a batch found it empty, and each row of the lines that were
+  -- taken, once and in their order
+  pub record EachOnce (old : List ℕ) (o : Out) : Type 0 where
+    pub top : List ℕ
+    pub isTop : (top ≡ []) ⊎ (top ≡ heading)
+    pub is : o .file ≡ old ++ (top ++ textOf [] (take (o .lines) log))
+    pub counted : o .size ≡ length (o .file)
+
+-- Once in file: batches of any sizes, crashes at any moments with any outcome: each row of the lines that the state
+-- has taken is in the file once.
+abbrev pub OnceInFile : Type 0
+OnceInFile =
+    (text : List (List ℕ) → List ℕ → List ℕ) (heading : List ℕ) (log : List (List ℕ)) (old : List ℕ)
+        (es : List OutEvent)
+    → let o : Out = record { lines = 0; size = length old; file = old } in
+    IsOutRun text heading log o es → EachOnce text heading log old (outRun text heading log o es)
