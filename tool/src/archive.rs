@@ -7,7 +7,7 @@ use crate::args::{parsed, Args};
 use crate::failure::{complain, Failure};
 use crate::files::{self, Pieces, Replacement, PIECE};
 use crate::names::{quoted, Names};
-use crate::rows::Format;
+use crate::rows::{self, Format};
 use crate::streams::{each_line, quietly, Output};
 use crate::text;
 use crate::times;
@@ -205,7 +205,7 @@ pub fn remove(args: &Args) -> Result<(), Failure> {
 }
 
 pub fn sheet(args: &Args) -> Result<(), Failure> {
-    let format = Format::of(args)?;
+    let format = rows::format(args)?;
     if format == Format::Json {
         return Err(Failure::Usage("a sheet is printed as text or csv".into()));
     }

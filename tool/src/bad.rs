@@ -9,20 +9,35 @@ const SHOWN: usize = 80;
 #[derive(Default)]
 pub struct BadLines {
     count: u64,
+    /// Whether a line that ends in CR LF was told.
+    told_cr: bool,
 }
 
 impl BadLines {
-    /// Looks at lines and at their rows, in any format. The first has this number.
-    pub fn look(&mut self, first: u64, lines: &[u8], rows: &[u8]) {
+    /// Takes so many lines with their rows, in any format, of which so many are BAD. The first line has this number. No more of them are looked at than
+    /// have to be told.
+    pub fn take(&mut self, first: u64, (lines, rows): (&[u8], &[u8]), count: u64, bad: u64) {
+        let told = bad.min(MOST.saturating_sub(self.count));
+        self.count += bad;
         let parts = |text| <[u8]>::split(text, |c: &u8| *c == b'\n');
-        for (number, (line, row)) in (first..).zip(parts(lines).zip(parts(rows))) {
-            if is_bad(row) {
-                self.count += 1;
-                if self.count <= MOST {
-                    tell(format!("line {number} is BAD: {}", shown(line)));
-                }
-            }
+        let each = (first..).zip(parts(lines).zip(parts(rows)));
+        for (number, (line, _)) in each.filter(|(_, (_, row))| is_bad(row)).take(told as usize) {
+            tell(format!("line {number} is BAD: {}", shown(line)));
+            self.look_for_cr(number, line);
         }
+        // Where so many are BAD that it is worth a look, all of them may end in CR LF.
+        if told < bad && !self.told_cr && 2 * bad > count {
+            (first..).zip(parts(lines)).take_while(|(number, line)| !self.look_for_cr(*number, line)).for_each(drop);
+        }
+    }
+
+    /// Says once that a line ends in CR LF; whether that was said.
+    pub fn look_for_cr(&mut self, number: u64, line: &[u8]) -> bool {
+        if !self.told_cr && line.ends_with(b"\r") {
+            self.told_cr = true;
+            tell(format!("line {number} ends in CR LF: a carriage return is no hexadecimal digit, so such lines are BAD"));
+        }
+        self.told_cr
     }
 
     /// How many there were, where not all were told.
@@ -35,7 +50,7 @@ impl BadLines {
 
 /// Whether a row, as text, CSV or JSON, is that of a BAD line.
 fn is_bad(row: &[u8]) -> bool {
-    row == b"BAD" || row == b",BAD,,," || row == b"{\"answer\":\"BAD\"}"
+    row == b"BAD" || row == b",BAD,,,,,," || row == b"{\"answer\":\"BAD\"}"
 }
 
 /// The front of a line, with what can't be printed escaped.
@@ -50,10 +65,10 @@ mod tests {
 
     #[test]
     fn rows() {
-        for row in ["BAD", ",BAD,,,", "{\"answer\":\"BAD\"}"] {
+        for row in ["BAD", ",BAD,,,,,,", "{\"answer\":\"BAD\"}"] {
             assert!(is_bad(row.as_bytes()));
         }
-        for row in ["", "1 KEPT", "1,KEPT,,D5,", "BADE"] {
+        for row in ["", "1 KEPT", "1,KEPT,,D5,,,,", "BADE"] {
             assert!(!is_bad(row.as_bytes()));
         }
         assert_eq!(shown(b"a\x1b\r"), "a\\u{1b}\\r");

@@ -51,8 +51,9 @@ impl Options {
     fn of(args: &Args) -> Result<Options, Failure> {
         args.no_rest()?;
         let blocks = args.value("blocks", "a number of blocks, 1 to 2^32", |t| text::number(t).filter(|n| (1..=MAX_BLOCKS).contains(n)))?;
-        let [archive, state, log, out] = [args.path("archive")?, args.path("state")?, args.path("log")?, args.path("out")?];
-        check_together(args, [&archive, &state, &log, &out])?;
+        let [archive, state, log] = [args.path("archive")?, args.path("state")?, args.path("log")?];
+        let [out, heard] = [args.path("out")?, args.path("heard")?];
+        check_together(args, [&archive, &state, &log, &out, &heard])?;
         let batch = args.value("sync", "row or batch", |t| match t {
             "row" => Some(1),
             "batch" => Some(MAX_BATCH),
@@ -62,9 +63,10 @@ impl Options {
             state,
             archive: archive.map(|path| Place::of(&path, blocks)).transpose()?,
             out,
+            heard,
             new_state: args.has("new-state") || args.has("fresh"),
             adopt: args.has("adopt-archive") || args.has("begin"),
-            format: Format::of(args)?,
+            format: rows::format(args)?,
             order: ORDER,
         };
         Ok(Options {
@@ -81,11 +83,11 @@ impl Options {
 }
 
 /// Which options go together.
-fn check_together(args: &Args, paths: [&Option<PathBuf>; 4]) -> Result<(), Failure> {
-    let [archive, state, log, _] = paths;
+fn check_together(args: &Args, paths: [&Option<PathBuf>; 5]) -> Result<(), Failure> {
+    let [archive, state, log, ..] = paths;
     for (at, path) in paths.iter().enumerate() {
         if path.is_some() && paths[..at].contains(path) {
-            return Err(Failure::Usage("state, archive, log and --out are different files".into()));
+            return Err(Failure::Usage("state, archive, log, --out and --heard are different files".into()));
         }
     }
     let needs = [
@@ -96,6 +98,7 @@ fn check_together(args: &Args, paths: [&Option<PathBuf>; 4]) -> Result<(), Failu
         ("adopt-archive", state, "--state"),
         ("begin", state, "--state"),
         ("out", state, "--state"),
+        ("heard", state, "--state"),
         ("follow", log, "--log"),
         ("adopt-log", log, "--log"),
     ];
@@ -163,8 +166,6 @@ struct Run {
     read: u64,
     skipping: Skipping,
     is_settled: bool,
-    /// Whether a line that ends in CR LF was told.
-    told_cr: bool,
     metrics: Metrics,
     progress: Option<Progress>,
     bad: BadLines,
@@ -218,7 +219,6 @@ impl Run {
             read: 0,
             skipping: Skipping { left: skip, is_on: skip > 0, ..Skipping::default() },
             is_settled: false,
-            told_cr: false,
             metrics: Metrics::of(options.metrics.clone()),
             progress,
             bad: BadLines::default(),
@@ -245,9 +245,12 @@ impl Run {
             self.compare_skipped()?;
         }
         self.keeper.settle()?;
+        if self.is_live {
+            self.keeper.interrupt();
+        }
         self.is_settled = true;
         if !self.keeper.has_out() {
-            self.output.write(rows::heading(self.format))?;
+            self.output.write(self.format.heading().as_bytes())?;
         }
         Ok(())
     }
@@ -387,10 +390,10 @@ impl Run {
             if took.lines == 0 {
                 return Ok(used);
             }
-            // Lines that are no receptions are BAD: these are told, and may end in CR LF.
-            if self.keeper.received() - received < took.lines as u64 {
-                self.tell_cr(&text[used..used + took.used]);
-                self.bad.look(self.read + 1, &text[used..used + took.used], self.keeper.printed());
+            // Lines that are no receptions are BAD.
+            let bad = took.lines as u64 - (self.keeper.received() - received);
+            if bad > 0 {
+                self.bad.take(self.read + 1, (&text[used..used + took.used], self.keeper.printed()), took.lines as u64, bad);
             }
             (used, self.read) = (used + took.used, self.read + took.lines as u64);
             self.commit(signals)?;
@@ -435,23 +438,11 @@ impl Run {
                 Ok(used)
             }
             (FirstLine::Bad { used }, None) => {
-                self.tell_cr(&text[..used]);
+                self.bad.look_for_cr(self.read + 1, &text[..used - 1]);
                 Err(Failure::Usage(NO_LEVEL.into()))
             }
             (FirstLine::Unended, None) if !self.is_first => Err(Failure::Usage(NO_LEVEL.into())),
             _ => Ok(0),
-        }
-    }
-
-    /// Says once that a line of a text, behind those that were read, ends in CR LF.
-    fn tell_cr(&mut self, text: &[u8]) {
-        if self.told_cr || !text.contains(&b'\r') {
-            return;
-        }
-        if let Some(at) = text.windows(2).position(|pair| pair == b"\r\n") {
-            self.told_cr = true;
-            let line = self.read + skip_lines(&text[..at], at).1 as u64 + 1;
-            tell(format!("line {line} ends in CR LF: a carriage return is no hexadecimal digit, so such lines are BAD"));
         }
     }
 

@@ -1,5 +1,4 @@
 //! Rows as PostgreSQL's COPY BINARY takes them, and the months in which they are.
-use crate::rows::transmitter;
 use crate::times::Date;
 use mooringeye::Row;
 use std::fmt::{self, Display};
@@ -18,14 +17,13 @@ const END: i128 = 9_223_371_331_200_000_000;
 const INFINITY: i64 = i64::MAX;
 
 pub fn put_row(out: &mut Vec<u8>, number: u64, row: &Row) {
-    let bytes = row.telegram.as_bytes();
     out.extend_from_slice(&COLUMNS.to_be_bytes());
     put(out, &number.to_be_bytes());
     put(out, &timestamp(row.time).to_be_bytes());
     put_numeric(out, row.time);
     put(out, &[row.loose.into()]);
-    put(out, transmitter(bytes));
-    put(out, bytes);
+    put(out, &row.telegram.txid());
+    put(out, row.telegram.as_bytes());
 }
 
 /// A value with its length before it.

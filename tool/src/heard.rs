@@ -1,9 +1,10 @@
 //! `mooringeye heard`: how often the telegrams of each transmitter were heard, by week. One that is often heard once is at the edge of reach.
 use crate::args::Args;
-use crate::failure::Failure;
+use crate::closings;
+use crate::failure::{tell, Failure};
 use crate::names::{quoted, Names};
 use crate::reach;
-use crate::rows::Format;
+use crate::rows::{self, Format};
 use crate::streams::{quietly, Output};
 use crate::text;
 use crate::times;
@@ -14,7 +15,7 @@ use std::io::{BufRead, BufReader};
 use std::path::Path;
 
 pub fn run(args: &Args) -> Result<(), Failure> {
-    let format = Format::of(args)?;
+    let format = rows::format(args)?;
     if format == Format::Json {
         return Err(Failure::Usage("--rows: heard prints text or csv".into()));
     }
@@ -25,6 +26,9 @@ pub fn run(args: &Args) -> Result<(), Failure> {
     let mut heard = Heard::default();
     for name in args.at_least_one()? {
         heard.read(Path::new(name))?;
+    }
+    if heard.interrupted > 0 {
+        tell(format!("{} telegrams are left out: the collector was stopped while they were open", heard.interrupted));
     }
     let text = match args.has("picture") {
         true => reach::html(&heard, &names.unwrap_or_default())?,
@@ -84,6 +88,8 @@ impl Counts {
 
 #[derive(Default)]
 pub struct Heard {
+    /// Telegrams that were left out.
+    interrupted: u64,
     all: BTreeMap<u32, (Counts, BTreeMap<String, Counts>)>,
 }
 
@@ -93,20 +99,28 @@ impl Heard {
         for (number, line) in (1_u64..).zip(BufReader::new(file).lines()) {
             let line = line.map_err(|e| Failure::of(format!("read {}", path.display()), &e))?;
             let line = line.trim_end();
-            if number == 1 && line.ends_with(",txid,level,copies") {
+            if number == 1 && (line == closings::HEADING.trim_end() || line.ends_with(",txid,level,copies")) {
                 continue;
             }
-            let wrong = || Failure::Failed(format!("{}: line {number} is wrong. Write opened,txid,level,copies.", path.display()));
+            let wrong = || Failure::Failed(format!("{}: line {number} is wrong. Write opened,txid,level,copies,interrupted.", path.display()));
             self.take(line).ok_or_else(wrong)?;
         }
         Ok(())
     }
 
-    /// A line `opened,txid,level,copies`.
+    /// A line `opened,txid,level,copies`, and 1 behind it where the collector was stopped while the telegram was open: such a line says nothing sure.
     fn take(&mut self, line: &str) -> Option<()> {
-        let [opened, txid, level, copies] = line.split(',').collect::<Vec<_>>()[..] else { return None };
+        let (opened, txid, level, copies, interrupted) = match line.split(',').collect::<Vec<_>>()[..] {
+            [opened, txid, level, copies] => (opened, txid, level, copies, "0"),
+            [opened, txid, level, copies, interrupted] => (opened, txid, level, copies, interrupted),
+            _ => return None,
+        };
         text::number(level).filter(|level| *level < 16)?;
         let copies = u16::try_from(text::number(copies)?).ok()?;
+        if text::number(interrupted).filter(|n| *n < 2)? == 1 {
+            self.interrupted += 1;
+            return text::identity(txid).and(text::number(opened)).map(|_| ());
+        }
         let (whole, weeks) = self.all.entry(text::identity(txid)?).or_default();
         let week = weeks.entry(times::week(text::number(opened)?)).or_default();
         for counts in [whole, week] {

@@ -1,8 +1,10 @@
-//! What a collector keeps on disk: its state, its archive and the file of `--out`; and the order in which they are written (docs/CRASH.md).
+//! What a collector keeps on disk: its state, its archive and the files of `--out` and `--heard`; and the order in which they are written (docs/CRASH.md).
 //!
-//! A batch is what one read brought, at most so many lines. Its rows go to the archive first, then to the file of `--out`, then the state is replaced,
-//! then the rows are printed: so a row that was printed is counted, and what stands behind the state's counts is at most one batch.
+//! A batch is what one read brought, at most so many lines. Its rows go to the archive first, then to the file of `--out`, what it closes to that of
+//! `--heard`, then the state is replaced, then the rows are printed: so a row that was printed is counted, and what stands behind the state's counts is
+//! at most one batch.
 use crate::batch::Batch;
+use crate::closings::Closings;
 use crate::disk::Shared;
 use crate::failure::Failure;
 use crate::journal::{LogPlace, State, Stored, RECORD};
@@ -37,6 +39,7 @@ pub struct Files {
     pub state: Option<PathBuf>,
     pub archive: Option<Place>,
     pub out: Option<PathBuf>,
+    pub heard: Option<PathBuf>,
     /// Begins with a fresh collector, and keeps the old state aside.
     pub new_state: bool,
     /// Goes on with the archive as it is.
@@ -57,6 +60,7 @@ pub struct Keeper {
     pub is_beside_log: bool,
     store: Option<Store>,
     out: Option<Out>,
+    closings: Option<Closings>,
     new_state: bool,
     format: Format,
     order: [Step; 4],
@@ -79,9 +83,10 @@ impl Keeper {
         let saved = state.clone();
         let store = open_archive(disk, files, &mut state)?;
         let out = files.out.as_deref().map(|path| Out::open(disk, path, state.out)).transpose()?;
+        let closings = files.heard.as_deref().map(|path| Closings::open(disk, path, &state.collector, is_new)).transpose()?;
         let (new_state, format, order) = (files.new_state, files.format, files.order);
-        let (disk, batch) = (disk.clone(), Batch::default());
-        Ok(Keeper { disk, state, saved, file, is_new, is_beside_log: false, store, out, new_state, format, order, batch })
+        let (disk, batch) = (disk.clone(), Batch::new(closings.is_some()));
+        Ok(Keeper { disk, state, saved, file, is_new, is_beside_log: false, store, out, closings, new_state, format, order, batch })
     }
 
     /// Puts in order what a stop left, and writes the state: from now on lines can be taken.
@@ -96,6 +101,9 @@ impl Keeper {
         }
         if let Some(out) = &mut self.out {
             out.settle()?;
+        }
+        if let Some(closings) = &mut self.closings {
+            closings.settle()?;
         }
         self.save()?;
         if let Some(store) = &self.store {
@@ -181,13 +189,7 @@ impl Keeper {
         for step in self.order {
             match (step, &mut self.store, &mut self.out) {
                 (Step::Archive, Some(store), _) => store.put(self.batch.times(), self.batch.records())?,
-                (Step::Out, _, Some(out)) => {
-                    if out.is_empty() {
-                        out.write(rows::heading(self.format))?;
-                    }
-                    out.write(self.batch.printed())?;
-                    out.sync()?;
-                }
+                (Step::Out, ..) => self.put_out()?,
                 (Step::State, ..) => self.save()?,
                 (Step::Print, _, None) => print(self.batch.printed())?,
                 _ => {}
@@ -195,6 +197,28 @@ impl Keeper {
         }
         self.batch.clear();
         Ok(())
+    }
+
+    /// Rows to the file of `--out`, and what closed to that of `--heard`.
+    fn put_out(&mut self) -> Result<(), Failure> {
+        if let Some(out) = &mut self.out {
+            if out.is_empty() {
+                out.write(self.format.heading().as_bytes())?;
+            }
+            out.write(self.batch.printed())?;
+            out.sync()?;
+        }
+        match &mut self.closings {
+            Some(closings) => closings.write(self.batch.closings()),
+            None => Ok(()),
+        }
+    }
+
+    /// The lines come from a feed, and nobody listened to it up to now: telegrams that are open may have been heard more often.
+    pub fn interrupt(&mut self) {
+        if let Some(closings) = &mut self.closings {
+            closings.interrupt(self.state.collector.latest());
+        }
     }
 
     /// Goes on with the file that the path of `--out` names now: the state says so before the first row stands in it.
@@ -216,6 +240,9 @@ impl Keeper {
     /// Hands leftovers to the collector, where there is no log that gives them again. Each is counted where it is answered as it stands there.
     pub fn take_in(&mut self, level: u8, print: Print) -> Result<(), Failure> {
         let counted = self.state.counted();
+        if let Some(closings) = &mut self.closings {
+            closings.interrupt(u64::MAX); // copies of these rows are lost
+        }
         while self.leftovers() > 0 {
             let rows = self.store.as_ref().expect("it has leftovers").leftovers(MAX_BATCH)?;
             let lines: Vec<u8> = rows.iter().flat_map(line_of).collect();
@@ -227,6 +254,7 @@ impl Keeper {
             }
         }
         self.disk.tell(&format!("{} rows that the state did not count were taken in", self.state.counted() - counted));
+        self.interrupt();
         self.log_ended()
     }
 

@@ -9,7 +9,7 @@ use crate::copy;
 use crate::failure::Failure;
 use crate::files::{Pieces, PIECE};
 use crate::journal::ROWS;
-use crate::rows::{self, Format, Style};
+use crate::rows::{Format, Style};
 use crate::streams::{quietly, Output};
 use crate::text::{self, put_hex, put_number};
 use crate::times;
@@ -148,15 +148,15 @@ impl Wanted {
     }
 
     fn has(&self, number: u64, row: &Row) -> bool {
-        number > self.after && (self.from..=self.to).contains(&row.time) && self.has_transmitter(rows::transmitter(row.telegram.as_bytes()))
+        number > self.after && (self.from..=self.to).contains(&row.time) && self.has_transmitter(&row.telegram.txid())
     }
 
     pub fn has_every_transmitter(&self) -> bool {
         self.transmitters.is_empty()
     }
 
-    pub fn has_transmitter(&self, id: &[u8]) -> bool {
-        self.has_every_transmitter() || self.transmitters.iter().any(|listed| listed == id)
+    pub fn has_transmitter(&self, id: &[u8; 4]) -> bool {
+        self.has_every_transmitter() || self.transmitters.contains(id)
     }
 }
 
@@ -247,14 +247,13 @@ impl Sink for Printer {
 }
 
 fn put_tsv(out: &mut Vec<u8>, number: u64, row: &Row) {
-    let bytes = row.telegram.as_bytes();
     put_number(out, number);
     out.push(b'\t');
     put_number(out, row.time);
     out.extend_from_slice(if row.loose { b"\tLOOSE\t" } else { b"\tKEPT\t" });
-    put_hex(out, rows::transmitter(bytes));
+    put_hex(out, &row.telegram.txid());
     out.push(b'\t');
-    put_hex(out, bytes);
+    put_hex(out, row.telegram.as_bytes());
     out.push(b'\n');
 }
 

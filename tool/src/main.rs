@@ -8,6 +8,7 @@ mod archive;
 mod args;
 mod bad;
 mod batch;
+mod closings;
 mod collect;
 mod copy;
 mod disk;

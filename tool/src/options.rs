@@ -102,6 +102,7 @@ pub const COMMANDS: &[Command] = &[
             plain("follow", "with --log: waits for more lines at its end, also after it was rotated by rename"),
             plain("replay", "standard input is the whole log from its first line: lines that the state has taken are skipped"),
             file("out", "rows go to this file, each once, and not to standard output"),
+            file("heard", "a line for each telegram when it closes goes to this file, once: opened,txid,level,copies,interrupted"),
             file("metrics", "totals go to this file in Prometheus' text format; it is replaced in one step after each batch"),
             words("rows", "FORMAT", &["text", "csv", "json"], "text, csv (with a heading) or json (a line each)"),
             words("sync", "WHEN", &["batch", "row"], "batch: state and archive are on disk before what was read at once is printed; row: before each row"),
@@ -236,8 +237,9 @@ pub const COMMANDS: &[Command] = &[
         words: Takes::File,
         brief: "says how often the telegrams of each transmitter were heard",
         about: &[
-            "Reads lines opened,txid,level,copies: the time in ms at which a telegram was opened, its transmitter, the level at which it was first \
-             heard, and how often it was heard again.",
+            "Reads the files of collect --heard, lines opened,txid,level,copies,interrupted: the time in ms at which a telegram was opened, its \
+             transmitter, the level at which it was first heard, and how often it was heard again. Those with 1 as interrupted are left out: the \
+             collector was stopped while they were open, and they may have been heard more often. This column may be missing.",
             "Prints for each transmitter, as a whole and by week: telegrams, those that were heard once, their share rounded down to thousandths, \
              the median and the least number of copies. The greatest share comes first: that transmitter is at the edge of reach.",
         ],

@@ -52,6 +52,39 @@ impl Out {
         OutPlace { length: self.length, device: self.facts.device, inode: self.facts.inode }
     }
 
+    /// How much of it counts.
+    pub fn length(&self) -> u64 {
+        self.length
+    }
+
+    /// Says how much of it counts.
+    pub fn count(&mut self, length: u64) {
+        self.length = length;
+    }
+
+    /// What stands in it behind so many bytes, as it was opened.
+    pub fn read_from(&self, from: u64) -> Result<Vec<u8>, Failure> {
+        let mut bytes = vec![0; self.facts.length.saturating_sub(from) as usize];
+        self.file.read_all_at(&mut bytes, from).map_err(|e| Failure::of(format!("read {}", self.path.display()), &e))?;
+        Ok(bytes)
+    }
+
+    /// Whether it begins so.
+    pub fn starts_with(&self, text: &[u8]) -> Result<bool, Failure> {
+        let mut bytes = vec![0; text.len()];
+        match self.facts.length < text.len() as u64 {
+            true => Ok(false),
+            false => {
+                self.file.read_all_at(&mut bytes, 0).map_err(|e| Failure::of(format!("read {}", self.path.display()), &e))?;
+                Ok(bytes == text)
+            }
+        }
+    }
+
+    pub fn path(&self) -> &Path {
+        &self.path
+    }
+
     pub fn is_empty(&self) -> bool {
         self.length == 0
     }

@@ -41,12 +41,13 @@ fn csv_and_json() {
     let csv = run("collect --rows csv", &dir, log).with(0).out;
     assert_eq!(
         csv,
-        "time,answer,refusal,telegram,send\n1000,KEPT,,D5090102030400E8,D5090102030401E9\n1012,COPY,,D5090102030401E9,\n\
-         1102,REFUSED,2,D5090102030400E7,\n,BAD,,,\n1103,REFUSED,1,,\n"
+        "time,answer,refusal,telegram,send,txid,rorg,level\n1000,KEPT,,D5090102030400E8,D5090102030401E9,01020304,D5,0\n\
+         1012,COPY,,D5090102030401E9,,01020304,D5,1\n1102,REFUSED,2,D5090102030400E7,,,,\n,BAD,,,,,,\n1103,REFUSED,1,,,,,\n"
     );
     let json = run("collect --rows json", &dir, log).with(0).out;
     let lines: Vec<&str> = json.lines().collect();
-    assert_eq!(lines[0], r#"{"time":1000,"answer":"KEPT","telegram":"D5090102030400E8","send":"D5090102030401E9"}"#);
+    let first = r#"{"time":1000,"answer":"KEPT","telegram":"D5090102030400E8","send":"D5090102030401E9","txid":"01020304","rorg":"D5","level":0}"#;
+    assert_eq!(lines[0], first);
     assert_eq!(lines[2], r#"{"time":1102,"answer":"REFUSED","refusal":2,"telegram":"D5090102030400E7"}"#);
     assert_eq!((lines[3], lines.len()), (r#"{"answer":"BAD"}"#, 5));
 }

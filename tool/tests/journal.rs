@@ -353,16 +353,91 @@ fn rows_stand_in_the_out_file_once() {
 }
 
 #[test]
+fn closings_stand_in_the_heard_file_once() {
+    let (dir, log) = (folder("journal_heard"), log(20_000, 53));
+    let whole = folder("journal_heard_whole");
+    let words = "collect --state s --archive a --heard heard.csv --replay";
+    run(words, &whole, log.as_bytes()).with(0);
+    let expected = fs::read_to_string(whole.join("heard.csv")).unwrap();
+    let closed = expected.lines().count() - 1;
+    assert!(expected.starts_with("opened,txid,level,copies,interrupted\n") && closed > 1_000);
+    let mut random = Random(10);
+    loop {
+        let mut running = start(tool(words, &dir));
+        let feeder = feed(&mut running, &log, random.next(), true);
+        sleep(Duration::from_micros(random.below(80_000)));
+        let _ = running.child.kill();
+        let ran = running.end();
+        feeder.join().unwrap();
+        if ran.status == Some(0) {
+            break;
+        }
+    }
+    assert!(fs::read_to_string(dir.join("heard.csv")).unwrap() == expected);
+    // Lines of telegrams that the state has not closed, and a line that was not written whole, are cut.
+    let latest = u64::MAX - 5;
+    for behind in ["1767226157845,010203".to_string(), format!("{latest},01020304,0,0,0\n"), format!("{latest},01020304,0,0,0\n\0\0\0\n17")] {
+        OpenOptions::new().append(true).open(dir.join("heard.csv")).unwrap().write_all(behind.as_bytes()).unwrap();
+        run(words, &dir, log.as_bytes()).with(0);
+        assert!(fs::read_to_string(dir.join("heard.csv")).unwrap() == expected, "{behind:?}");
+    }
+    // Another file is refused, and stays.
+    fs::rename(dir.join("heard.csv"), dir.join("heard.1")).unwrap();
+    let diary = "dear diary\n".repeat(9);
+    fs::write(dir.join("heard.csv"), &diary).unwrap();
+    is_refused(&dir, words, log.as_bytes(), "heard.csv: not the file that this state has written");
+    assert!(fs::read_to_string(dir.join("heard.csv")).unwrap() == diary);
+    // One that was moved away is begun anew, and so is that of another collector, which is kept.
+    fs::remove_file(dir.join("heard.csv")).unwrap();
+    run(words, &dir, log.as_bytes()).with(0);
+    assert_eq!(fs::read(dir.join("heard.csv")).unwrap(), b"opened,txid,level,copies,interrupted\n");
+    fs::write(dir.join("heard.csv"), &expected).unwrap();
+    run(&format!("{words} --new-state --adopt-archive"), &dir, log.as_bytes()).with(0).says("is kept as heard.csv.aside-1");
+    assert!([("heard.csv"), ("heard.csv.aside-1")].iter().all(|name| fs::read_to_string(dir.join(name)).unwrap() == expected));
+}
+
+/// Telegrams that were open while nobody listened to a feed are marked; of a log nothing is missed.
+#[test]
+fn interrupted_telegrams_are_marked() {
+    let dir = folder("journal_interrupted");
+    let feed = "collect --level 0 --state s --heard heard.csv";
+    let heard = || fs::read_to_string(dir.join("heard.csv")).unwrap().lines().skip(1).map(String::from).collect::<Vec<_>>();
+    run(feed, &dir, b"1000 D5090102030400E8\n1012 D5090102030401E9\n1200 D5090102030400E8\n").with(0);
+    assert_eq!(heard(), ["1000,01020304,0,1,0"]);
+    run(feed, &dir, b"1210 D5090102030401E9\n1400 D5090102030400E8\n1600 D5090102030400E8\n").with(0);
+    assert_eq!(heard()[1..], ["1200,01020304,0,1,1", "1400,01020304,0,0,0"]);
+    let log = "level 0\n1000 D5090102030400E8\n1012 D5090102030401E9\n1200 D5090102030400E8\n";
+    let replay = "collect --state t --heard log.csv --replay";
+    run(replay, &dir, log.as_bytes()).with(0);
+    run(replay, &dir, format!("{log}1400 D5090102030400E8\n").as_bytes()).with(0);
+    let closed = fs::read_to_string(dir.join("log.csv")).unwrap();
+    assert!(closed.ends_with("\n1000,01020304,0,1,0\n1200,01020304,0,0,0\n"), "{closed}");
+    // Rows of a batch that did not end are taken in, without their copies.
+    let (dir, lines) = (folder("journal_heard_taken_in"), lines(2_000, 54));
+    let words = format!("{KEPT} --heard heard.csv");
+    run(&words, &dir, lines[..1_000].concat().as_bytes()).with(0);
+    let state = fs::read(dir.join("s")).unwrap();
+    run(&words, &dir, lines[1_000..].concat().as_bytes()).with(0);
+    let before = fs::read_to_string(dir.join("heard.csv")).unwrap();
+    fs::write(dir.join("s"), state).unwrap();
+    run(&words, &dir, b"").with(0).says("were taken in");
+    let after = fs::read_to_string(dir.join("heard.csv")).unwrap();
+    let opened = |text: &str| text.lines().map(|l| l.rsplitn(3, ',').nth(2).unwrap().to_string()).collect::<Vec<_>>();
+    let (before, after) = (opened(&before), opened(&after));
+    assert!(after.len() > 100 && before.starts_with(&after), "the same telegrams close, each once");
+}
+
+#[test]
 fn an_out_file_that_is_rotated() {
     let dir = folder("journal_out_rotated");
     let mut running = start(tool("collect --level 0 --state s --out rows.csv --rows csv", &dir));
     let mut stdin = running.child.stdin.take().unwrap();
     let row = |name: &str, text: &str| wait_for(text, || fs::read_to_string(dir.join(name)).is_ok_and(|t| t.ends_with(text)));
     stdin.write_all(b"1000 D5090102030400E8\n").unwrap();
-    row("rows.csv", "1000,KEPT,,D5090102030400E8,\n");
+    row("rows.csv", "1000,KEPT,,D5090102030400E8,,01020304,D5,0\n");
     fs::rename(dir.join("rows.csv"), dir.join("rows.old")).unwrap();
     stdin.write_all(b"1200 D5090102030400E8\n").unwrap();
-    row("rows.csv", "1200,KEPT,,D5090102030400E8,\n");
+    row("rows.csv", "1200,KEPT,,D5090102030400E8,,01020304,D5,0\n");
     drop(stdin);
     running.end().with(0).says("rows go to a new file");
     assert!(fs::read_to_string(dir.join("rows.csv")).unwrap().starts_with("time,"));

@@ -22,10 +22,16 @@ fn edge_of_reach() {
     assert_eq!(words.join("\n") + "\n", expected);
     assert!(heard("b --names names --rows csv").ends_with(",7,7,Gate\n"));
     assert_eq!(heard("b --names names").lines().filter(|l| l.ends_with(" Gate")).count(), 2);
-    for wrong in ["x", "1,01020304,1", "1,01020304,16,0", "1,0102030,1,0", "1,01020304,1,65536", "1,01020304,1,0,0", ""] {
+    for wrong in
+        ["x", "1,01020304,1", "1,01020304,16,0", "1,0102030,1,0", "1,01020304,1,65536", "1,01020304,1,0,2", "1,01020304,1,0,0,0", "1,0,1,0,1", ""]
+    {
         fs::write(dir.join("c"), format!("1,01020304,1,0\n{wrong}\n")).unwrap();
-        run("heard c", &dir, b"").with(1).says("c: line 2 is wrong. Write opened,txid,level,copies.");
+        run("heard c", &dir, b"").with(1).says("c: line 2 is wrong. Write opened,txid,level,copies,interrupted.");
     }
+    // Of a telegram that was open while the collector was stopped nobody knows how often it was heard.
+    fs::write(dir.join("d"), "opened,txid,level,copies,interrupted\n1,01020304,0,0,1\n2,01020304,0,3,0\n").unwrap();
+    let ran = run("heard d --rows csv", &dir, b"").with(0).says("1 telegrams are left out");
+    assert!(ran.out.contains("\n01020304,all,1,0,0.000,3,3\n"), "{}", ran.out);
     run("heard none", &dir, b"").with(1).says("cannot open none");
     run("heard a --rows json", &dir, b"").with(2);
     run("heard", &dir, b"").with(2).says("Write `mooringeye heard FILE..`.");

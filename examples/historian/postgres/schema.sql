@@ -49,6 +49,8 @@ CREATE TABLE IF NOT EXISTS historian.heard (
     copies integer     NOT NULL,
     PRIMARY KEY (stream, line)
 );
+-- Whether the collector was stopped while it was open, so that it may have been heard more often.
+ALTER TABLE historian.heard ADD COLUMN IF NOT EXISTS interrupted boolean NOT NULL DEFAULT false;
 
 -- The rows as `archive list --rows tsv` has them, with the names of plant and stream.
 CREATE OR REPLACE VIEW historian.rows AS

@@ -97,7 +97,9 @@ impl Plant {
             n => Place::of(Path::new("a-##.arc"), Some(1 + n as u64)).unwrap().growing_by(4),
         };
         let out = (random.below(2) == 0).then(|| "out".into());
-        let files = Files { state: Some("s".into()), archive: Some(place), out, new_state: false, adopt: false, format: Format::Text, order };
+        let heard = (random.below(2) == 0).then(|| "heard".into());
+        let (state, format) = (Some("s".into()), Format::Text);
+        let files = Files { state, archive: Some(place), out, heard, new_state: false, adopt: false, format, order };
         let mut plant = Plant { log, starts, files, kind, fault, moments: Vec::new(), end: Content::default(), start: 0, printed: Vec::new() };
         plant.record(&mut random).map_err(|failure| format!("refused before the power was cut: {}", failure.text()))?;
         Ok(plant)
@@ -131,7 +133,7 @@ impl Plant {
         let lines = random.below(self.starts.len());
         keeper.take(LEVEL, &self.log[..self.starts[lines]], MAX_BATCH).unwrap();
         keeper.commit(print).unwrap();
-        let other = Files { state: Some("t".into()), out: None, ..self.files.clone() };
+        let other = Files { state: Some("t".into()), out: None, heard: None, ..self.files.clone() };
         let mut keeper = Keeper::open(&Sharing::of(&disk), &other).unwrap();
         keeper.settle().unwrap();
         keeper.take(LEVEL, &log(1 + random.below(60), random).0, MAX_BATCH).unwrap();
@@ -233,9 +235,9 @@ impl Plant {
         }
     }
 
-    /// State, archive and `--out` are those of the undisturbed run.
+    /// State, archive, `--out` and `--heard` are those of the undisturbed run.
     fn check_end(&self, content: &Content) -> Result<(), String> {
-        for start in ["s", "out", "a"] {
+        for start in ["s", "out", "heard", "a"] {
             let is_own = |name: &&String| ![".torn-", ".aside-", ".new", ".lock"].iter().any(|part| name.contains(part));
             let (mine, other) = (self.end.files(start), content.files(start));
             let names = |files: &BTreeMap<String, &[u8]>| files.keys().filter(is_own).cloned().collect::<Vec<_>>();
@@ -365,6 +367,7 @@ fn planted_faults_are_found() {
         ("the archive is not synced", Fault::NotSynced("a"), ORDER),
         ("the state is not synced", Fault::NotSynced("s"), ORDER),
         ("--out is not synced", Fault::NotSynced("out"), ORDER),
+        ("--heard is not synced", Fault::NotSynced("heard"), ORDER),
         ("the folder is not synced", Fault::FolderNotSynced, ORDER),
         ("the state before the archive", Fault::None, [State, Archive, Out, Print]),
         ("the state before --out", Fault::None, [Archive, State, Out, Print]),
