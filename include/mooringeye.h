@@ -244,6 +244,17 @@ uint16_t mooringeye_collector_take(uint64_t times[MOORINGEYE_CAPACITY], uint8_t 
                                    uint64_t numbers[MOORINGEYE_COLLECTOR_NUMBERS], const uint8_t *received,
                                    size_t received_length, uint64_t time);
 
+/* The same for a state that is known to be accepted: it is not tested, which takes most of the time of
+ * mooringeye_collector_take. So is every state after mooringeye_collector_fresh, after a call of this header that tests
+ * it and answers anything but 11, and after this call at such a state. Of any other state: 11 for more than 64 open
+ * telegrams or totals that do not add up; beside every refusal nothing changes but `numbers`; a later call may answer
+ * 11. */
+uint16_t mooringeye_collector_take_tested(uint64_t times[MOORINGEYE_CAPACITY], uint8_t lengths[MOORINGEYE_CAPACITY],
+                                          uint8_t bytes[MOORINGEYE_COLLECTOR_BYTES],
+                                          uint16_t copies[MOORINGEYE_CAPACITY],
+                                          uint64_t numbers[MOORINGEYE_COLLECTOR_NUMBERS], const uint8_t *received,
+                                          size_t received_length, uint64_t time);
+
 /* Received, kept, copies, loose, damaged, late. Refused: 11. */
 uint8_t
 mooringeye_collector_totals(const uint64_t times[MOORINGEYE_CAPACITY], const uint8_t lengths[MOORINGEYE_CAPACITY],
@@ -370,17 +381,28 @@ static inline void mooringeye_fresh(mooringeye_collector *c) {
     mooringeye_collector_fresh(c->times, c->lengths, c->bytes, c->copies, c->numbers);
 }
 
+/* Copies the bytes of a reception, of which at most 21 can be a telegram; answers their number, at most 22. */
+static inline size_t mooringeye_own(uint8_t own[MOORINGEYE_MAX_TELEGRAM + 1], const uint8_t *received,
+                                    size_t received_length) {
+    if (received_length > MOORINGEYE_MAX_TELEGRAM) return MOORINGEYE_MAX_TELEGRAM + 1;
+    if (received_length > 0) memcpy(own, received, received_length);
+    return received_length;
+}
+
 /* The bytes may lie anywhere, in the collector too: they are copied first, and of more than 21 bytes only their number
  * counts. */
 static inline uint16_t mooringeye_take(mooringeye_collector *c, const uint8_t *received, size_t received_length,
                                        uint64_t time) {
     uint8_t own[MOORINGEYE_MAX_TELEGRAM + 1] = {0};
-    size_t length = sizeof own;
-    if (received_length < sizeof own) {
-        length = received_length;
-        if (length > 0) memcpy(own, received, length);
-    }
+    size_t length = mooringeye_own(own, received, received_length);
     return mooringeye_collector_take(c->times, c->lengths, c->bytes, c->copies, c->numbers, own, length, time);
+}
+
+static inline uint16_t mooringeye_take_tested(mooringeye_collector *c, const uint8_t *received, size_t received_length,
+                                              uint64_t time) {
+    uint8_t own[MOORINGEYE_MAX_TELEGRAM + 1] = {0};
+    size_t length = mooringeye_own(own, received, received_length);
+    return mooringeye_collector_take_tested(c->times, c->lengths, c->bytes, c->copies, c->numbers, own, length, time);
 }
 
 static inline uint8_t mooringeye_totals(const mooringeye_collector *c, uint64_t totals[MOORINGEYE_TOTALS]) {

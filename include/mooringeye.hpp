@@ -227,8 +227,9 @@ public:
         done(mooringeye_restore(&state_, from.data(), from.size()));
     }
 
+    // The state is not tested again: only calls of the library change it.
     answer take(bytes received, uint64_t time) {
-        uint16_t whole = mooringeye_take(&state_, received.data(), received.size(), time);
+        uint16_t whole = mooringeye_take_tested(&state_, received.data(), received.size(), time);
         if (mooringeye_answer_number(whole) == MOORINGEYE_FULL) throw refused(MOORINGEYE_FULL);
         return answer(whole);
     }

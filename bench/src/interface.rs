@@ -17,6 +17,16 @@ extern "C" {
         received_len: usize,
         time: u64,
     ) -> u16;
+    fn mooringeye_collector_take_tested(
+        times: *mut u64,
+        lengths: *mut u8,
+        bytes: *mut u8,
+        copies: *mut u16,
+        numbers: *mut u64,
+        received: *const u8,
+        received_len: usize,
+        time: u64,
+    ) -> u16;
     fn mooringeye_collector_burst(
         times: *mut u64,
         lengths: *mut u8,
@@ -79,6 +89,22 @@ impl Collector {
         }
     }
 
+    /// As `take`, told that the state is accepted.
+    fn take_tested(&mut self, time: u64, bytes: &[u8]) -> u16 {
+        unsafe {
+            mooringeye_collector_take_tested(
+                self.times.as_mut_ptr(),
+                self.lengths.as_mut_ptr(),
+                self.bytes.as_mut_ptr(),
+                self.copies.as_mut_ptr(),
+                self.numbers.as_mut_ptr(),
+                bytes.as_ptr(),
+                bytes.len(),
+                time,
+            )
+        }
+    }
+
     /// The first `n` receptions at setting 1.
     fn burst(&mut self, records: &Records, n: usize, replies: &mut [u8]) -> u8 {
         unsafe {
@@ -106,10 +132,19 @@ fn weight(kind: u8) -> u64 {
 }
 
 fn takes(cells: &[u8]) -> u64 {
+    figure(cells, Collector::take)
+}
+
+fn takes_tested(cells: &[u8]) -> u64 {
+    figure(cells, Collector::take_tested)
+}
+
+#[inline(always)]
+fn figure(cells: &[u8], take: impl Fn(&mut Collector, u64, &[u8]) -> u16) -> u64 {
     let mut collector = Collector::fresh();
     let mut figure = 0u64;
     for (time, bytes) in receptions(cells) {
-        let [kind, number] = collector.take(time, bytes).to_be_bytes();
+        let [kind, number] = take(&mut collector, time, bytes).to_be_bytes();
         if number == 0 {
             figure = figure.wrapping_add(weight(kind));
         }
@@ -165,6 +200,12 @@ pub fn bench() {
         report(
             &format!("a reception through the C interface, {open} open, half of them copies"),
             proved,
+            by_hand,
+        );
+        assert_eq!(takes_tested(&cells), collector::by_hand_in_place(&cells));
+        report(
+            "  told that the state is accepted",
+            run(takes_tested),
             by_hand,
         );
         let test = test_time(&cells[..2 * open * CELL]);

@@ -16,6 +16,7 @@ EXPORTS = {
     "mooringeye_repeat": "u8 u8 in:u8 size out:u8 size",
     "mooringeye_collector_fresh": "none out:u64 out:u8 out:u8 out:u16 out:u64",
     "mooringeye_collector_take": "u16 out:u64 out:u8 out:u8 out:u16 out:u64 in:u8 size u64",
+    "mooringeye_collector_take_tested": "u16 out:u64 out:u8 out:u8 out:u16 out:u64 in:u8 size u64",
     "mooringeye_collector_totals": "u8 in:u64 in:u8 in:u8 in:u16 in:u64 out:u64",
     "mooringeye_collector_copies": "u8 in:u64 in:u8 in:u8 in:u16 in:u64 size out:u64",
     "mooringeye_collector_checkpoint": "u8 in:u64 in:u8 in:u8 in:u16 in:u64 out:u8 size",

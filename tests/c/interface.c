@@ -96,6 +96,46 @@ static void overlaps(void) {
     }
 }
 
+/* At a state that is accepted the call that does not test it leaves what the one that does leaves, byte for byte. */
+static void tested_states(void) {
+    mooringeye_collector c, same;
+    uint64_t time = 0;
+    mooringeye_fresh(&c);
+    memcpy(&same, &c, sizeof c);
+    for (int i = 0; i < 200000; i++) {
+        uint8_t one[8] = {0xF6, 0x50, 0, 0, 0, (uint8_t)choose(90), (uint8_t)choose(3), 0};
+        for (int k = 0; k < 7; k++) one[7] = (uint8_t)(one[7] + one[k]);
+        if (choose(9) == 0) one[choose(8)] = (uint8_t)choose(256);
+        time = choose(20) == 0 && time > 50 ? time - choose(50) : time + choose(9);
+        size_t length = choose(30) == 0 ? choose(30) : sizeof one;
+        uint8_t heard[30] = {0};
+        memcpy(heard, one, sizeof one);
+        uint16_t answer = mooringeye_take(&c, heard, length, time);
+        SHOULD(mooringeye_take_tested(&same, heard, length, time) == answer);
+        SHOULD(memcmp(&c, &same, sizeof c) == 0);
+    }
+}
+
+/* At a state that is not accepted, here with an entry that is no longer open, a refused reception is counted, and the
+ * entries stay; more entries than there can be are refused with 11. */
+static void untested_states(void) {
+    mooringeye_collector c, before;
+    mooringeye_fresh(&c);
+    SHOULD(mooringeye_take(&c, press, sizeof press, 1000) == MOORINGEYE_KEPT);
+    c.times[0] = 1;
+    memcpy(&before, &c, sizeof c);
+    SHOULD(mooringeye_take(&c, press, sizeof press, 999) == MOORINGEYE_NOT_ACCEPTED);
+    SHOULD(memcmp(&c, &before, sizeof c) == 0);
+    SHOULD(mooringeye_take_tested(&c, press, sizeof press, 999) == MOORINGEYE_LATE);
+    before.numbers[2]++;
+    before.numbers[7]++;
+    SHOULD(memcmp(&c, &before, sizeof c) == 0);
+    c.numbers[0] = 65;
+    memcpy(&before, &c, sizeof c);
+    SHOULD(mooringeye_take_tested(&c, press, sizeof press, 1001) == MOORINGEYE_NOT_ACCEPTED);
+    SHOULD(memcmp(&c, &before, sizeof c) == 0);
+}
+
 /* Length 0 with NULL: as an empty std::vector has it. Long bytes are only counted. */
 static void nothing(void) {
     mooringeye_collector c;
@@ -180,6 +220,8 @@ int main(void) {
     names();
     versions();
     overlaps();
+    tested_states();
+    untested_states();
     nothing();
     structs();
     return EXIT_SUCCESS;

@@ -121,6 +121,12 @@ static void lend_all(const struct export *e) {
     }
 }
 
+/* The calls that take one reception. */
+static bool takes(const struct export *e) {
+    return strcmp(e->name, "mooringeye_collector_take") == 0 ||
+           strcmp(e->name, "mooringeye_collector_take_tested") == 0;
+}
+
 /* What may change beside a refusal: the position that goes with it, the place of a row that the check refuses, and the
  * counters of a collector that takes a damaged or late reception. */
 static bool may_change(const struct export *e, const char *parameter, uint8_t number) {
@@ -128,8 +134,7 @@ static bool may_change(const struct export *e, const char *parameter, uint8_t nu
     if (strcmp(parameter, "position") == 0) {
         return number == 12 || (is_check && strcmp(e->name, "mooringeye_archive_put_rows") == 0);
     }
-    bool takes = strcmp(e->name, "mooringeye_collector_take") == 0;
-    return takes && strcmp(parameter, "numbers") == 0 && (is_check || number == 7);
+    return takes(e) && strcmp(parameter, "numbers") == 0 && (is_check || number == 7);
 }
 
 /* The first parameter of which a byte changed that should not have; NULL for none. */
@@ -149,7 +154,7 @@ static const char *changed(const struct export *e, uint8_t number) {
 
 /* A call that was refused and counted: one more received, and one more damaged or late; nothing else. */
 static bool counted(const struct export *e, uint8_t number) {
-    if (strcmp(e->name, "mooringeye_collector_take") != 0 || number == 0 || number == 8 || number == 11) return true;
+    if (!takes(e) || number == 0 || number == 8 || number == 11) return true;
     const uint64_t *then = (const uint64_t *)(const void *)(before[4] + starts[4]);
     const uint64_t *now = (const uint64_t *)(const void *)(rooms[4] + starts[4]);
     for (size_t i = 0; i < MOORINGEYE_COLLECTOR_NUMBERS; i++) {

@@ -1,7 +1,8 @@
 -- The five arrays of a collector.
 --     numbers-back      eight numbers, read and written again
 --     numbers-counted   the numbers of what a state holds beside its columns are those of the state
---     taken             one reception, admitted as the test of the state says
+--     told              one reception, admitted as was told
+--     taken             told rightly, it is the step
 --     totals-shown, totals-refused     the totals by the test of the state
 --     copies-shown, copies-refused     the copies by what the reference model says of the entry
 use Prim.Native.Nat.{ℕ}
@@ -13,7 +14,7 @@ use lib.ListN.{length}
 use borrow.Author.Tests.{ne-eqb}
 use Rattle.refusal.specs.Number.{numberOf}
 use Rattle.refusal.specs.declared.Refusal.the-variants.{NotAccepted}
-use Rattle.model.specs.Answer.{shownOf}
+use Rattle.model.specs.Answer.{shownOf, isReceived}
 use Rattle.model.specs.View.{Reception, View}
 use Rattle.model.specs.Acceptable.{acceptable}
 use Rattle.model.specs.Step.{Outcome, step}
@@ -25,7 +26,7 @@ use Rattle.collector.specs.Admission.{admittedOf, admission, columnsAdmitted, A
 use Rattle.collector.proofs.Arrays.{entries-length}
 use Rattle.collector.proofs.Stepping.{admission-fit, columns-fit}
 use Rattle.c_collector.specs.State.{Arrays, arrays, columnsAt, summaryIn, stateAt, totalNumbers, numbersOf, numbersIn}
-use Rattle.c_collector.specs.Calls.{answerNumber, Takes, TotalsCall, totalsCall, copiesCall}
+use Rattle.c_collector.specs.Calls.{answerNumber, Takes, TakesTold, ToldTakes, TotalsCall, totalsCall, copiesCall}
 
 pub numbers-back : (l : List ℕ) → length l ≡ 8 → numbersIn (summaryIn l) ≡ l
 numbers-back [] e = absurd (omega arith)
@@ -43,25 +44,41 @@ pub numbers-counted : (a : Columns) (s : Summary) → numbersIn s ≡ numbersOf 
 numbers-counted a s = ap (λ (n : ℕ). n ∷ s .latest ∷ totalNumbers (s .totals)) (sym (entries-length a (s .count)))
 
 module _ (s : Arrays) (r : Reception) (fit : Bool) (old : Summary) (a : Columns) (d : Admitted) where
-  pub taken : length (s .numbers) ≡ 8 → fit ≡ acceptable (stateAt s) → old ≡ summaryIn (s .numbers) → Admits fit (columnsAt s) old r a d
+  pub told : length (s .numbers) ≡ 8 → old ≡ summaryIn (s .numbers) → Admits fit (columnsAt s) old r a d
       → (answer : ℕ) → answer ≡ answerNumber (shownOf (d .answer)) → (numbers : List ℕ) → numbers ≡ numbersIn (d .summary)
-      → Takes s r answer (arrays (a .times) (a .lens) (a .bytes) (a .copies) numbers)
-  taken eight tested read admits answer shown numbers stored = record {
-    answered = shown ∙ ap (λ (o : Outcome). answerNumber (o .answer)) stepped;
+      → TakesTold fit s r answer (arrays (a .times) (a .lens) (a .bytes) (a .copies) numbers)
+  told eight read admits answer shown numbers stored = record {
+    answered = shown ∙ ap (λ (o : Outcome). answerNumber (o .answer)) done;
     next = ap (λ (l : List ℕ). viewIn a (summaryIn l)) stored ∙ next;
     counted = stored ∙ numbers-counted a (d .summary) ∙ ap numbersOf next;
-    elements = admits .elements ∙ ap (λ (x : Summary). columnsAdmitted fit (viewIn (columnsAt s) x) r (columnsAt s)) read ∙ columns-fit _ _ _ _ tested;
+    elements = admits .elements ∙ ap (λ (x : Summary). columnsAdmitted fit (viewIn (columnsAt s) x) r (columnsAt s)) read;
     stays = λ e.
-        let k = admits .stays (rw (← stepped) at e) in
+        let k = admits .stays (rw (← done) at e) in
         let same = stored ∙ ap numbersIn (k .1 ∙ read) ∙ numbers-back (s .numbers) eight in
         λ i. arrays (k .0 i .times) (k .0 i .lens) (k .0 i .bytes) (k .0 i .copies) (same i);
   }
     where
-      stepped : admittedOf a d ≡ step (stateAt s) r
-      stepped = admits .outcome ∙ ap (λ (x : Summary). admission fit (viewIn (columnsAt s) x) r) read ∙ admission-fit _ _ _ tested
+      done : admittedOf a d ≡ admission fit (stateAt s) r
+      done = admits .outcome ∙ ap (λ (x : Summary). admission fit (viewIn (columnsAt s) x) r) read
 
-      next : viewIn a (d .summary) ≡ step (stateAt s) r .next
-      next = ap (λ (o : Outcome). o .next) stepped
+      next : viewIn a (d .summary) ≡ admission fit (stateAt s) r .next
+      next = ap (λ (o : Outcome). o .next) done
+
+-- told rightly, it is the step
+pub taken : (fit : Bool) (s s' : Arrays) (r : Reception) (n : ℕ) → fit ≡ acceptable (stateAt s) → TakesTold fit s r n s' → Takes s r n s'
+taken fit s s' r n tested k =
+    let step-is : admission fit (stateAt s) r ≡ step (stateAt s) r = admission-fit _ _ _ tested in
+    record {
+      answered = k .answered ∙ ap (λ (o : Outcome). answerNumber (o .answer)) step-is;
+      next = k .next ∙ ap (λ (o : Outcome). o .next) step-is;
+      counted = k .counted ∙ ap (λ (o : Outcome). numbersOf (o .next)) step-is;
+      elements = k .elements ∙ columns-fit _ _ _ _ tested;
+      stays = λ e. k .stays (ap (λ (o : Outcome). isReceived (o .answer)) step-is ∙ e);
+    }
+
+pub told-takes : ToldTakes
+unfolding columnsAdmitted
+told-takes = record { isTake = taken; refused = λ fit s s' r n k e. k .elements ∙ rw e }
 
 module _ (v : View) (old : List ℕ) where
   pub totals-refused : acceptable v ≡ false → _≡_ {A = TotalsCall} (record { number = numberOf NotAccepted; values = old }) (totalsCall v old)

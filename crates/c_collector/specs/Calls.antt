@@ -1,19 +1,20 @@
 -- What the calls answer, and what they leave in what they are lent.
 use Prim.Native.Nat.{ℕ, _+_, _*_}
 use mathlib.Core.Path.{_≡_}
-use mathlib.Core.Bool.{false, cond, not}
+use mathlib.Core.Bool.{Bool, false, cond, not}
 use mathlib.Core.List.{List}
 use lib.Dec.{eqb}
 use lib.ListN.{replicate}
 use Rattle.refusal.specs.Number.{numberOf}
 use Rattle.refusal.specs.declared.Refusal.the-variants.{NotAccepted}
 use Rattle.erp1.specs.Subtelegram.{maxLength}
-use Rattle.model.specs.Answer.{Shown, Kept, Copy, Loose, Refused, shownNumber, isReceived}
+use Rattle.model.specs.Answer.{Shown, Kept, Copy, Loose, Refused, shownNumber, isAccepted, isReceived}
 use Rattle.model.specs.View.{Reception, View, capacity, fresh}
 use Rattle.model.specs.Acceptable.{acceptable}
 use Rattle.model.specs.Step.{step}
 use Rattle.model.specs.Heard.{HeardResult, copiesOf}
 use Rattle.collector.specs.Collector.{columnsAfter}
+use Rattle.collector.specs.Admission.{admission, columnsAdmitted}
 use Rattle.c_collector.specs.State.{Arrays, arrays, columnsAt, stateAt, totalNumbers, numbersOf}
 
 -- "KEPT, COPY and LOOSE are three forms" of 0 (document 01, "Numbers a caller sees"): which of them; 0 beside a refusal
@@ -35,6 +36,22 @@ pub record Takes (s : Arrays) (r : Reception) (answer : ℕ) (s' : Arrays) : Typ
   pub elements : columnsAt s' ≡ columnsAfter (stateAt s) r (columnsAt s)
   -- at 8 and 11 every number of the five arrays is as it was
   pub stays : isReceived (step (stateAt s) r .answer) ≡ false → s' ≡ s
+
+-- one reception at a state that was found acceptable or not: what the step makes of any five arrays, in every number
+pub record TakesTold (fit : Bool) (s : Arrays) (r : Reception) (answer : ℕ) (s' : Arrays) : Type 0 where
+  pub answered : answer ≡ answerNumber (admission fit (stateAt s) r .answer)
+  pub next : stateAt s' ≡ admission fit (stateAt s) r .next
+  pub counted : s' .numbers ≡ numbersOf (admission fit (stateAt s) r .next)
+  -- beside every refusal the entries' four arrays are as they were
+  pub elements : columnsAt s' ≡ columnsAdmitted fit (stateAt s) r (columnsAt s)
+  -- at 8 and 11 every number of the five arrays is as it was
+  pub stays : isReceived (admission fit (stateAt s) r .answer) ≡ false → s' ≡ s
+
+-- THE CLAIM: told rightly it is the step of the reference model, and beside every refusal the four arrays stay, whatever was told
+pub record ToldTakes : Type 0 where
+  pub isTake : (fit : Bool) (s s' : Arrays) (r : Reception) (n : ℕ) → fit ≡ acceptable (stateAt s) → TakesTold fit s r n s' → Takes s r n s'
+  pub refused : (fit : Bool) (s s' : Arrays) (r : Reception) (n : ℕ) → TakesTold fit s r n s' → isAccepted (admission fit (stateAt s) r .answer) ≡ false
+      → columnsAt s' ≡ columnsAt s
 
 abbrev pub zeros : ℕ → List ℕ
 zeros n = replicate n 0

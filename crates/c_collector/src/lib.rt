@@ -13,7 +13,7 @@ ghost use lib.ListN.{length};
 ghost use Rattle.model.specs.Answer.{shownOf, shownNumber};
 ghost use Rattle.model.specs.Acceptable.{acceptable};
 ghost use Rattle.c_collector.specs.State.{arrays, summaryIn, stateAt, numbersIn};
-ghost use Rattle.c_collector.specs.Calls.{kindOf, answerNumber, Takes, Fresh, totalsCall, copiesCall};
+ghost use Rattle.c_collector.specs.Calls.{kindOf, answerNumber, Takes, TakesTold, Fresh, totalsCall, copiesCall};
 
 // How many telegrams can be open.
 pub const CAPACITY: usize = Collector::CAPACITY;
@@ -63,8 +63,30 @@ pub fn take<'a>(
         (arrays (now (times .exit)) (now (lengths .exit)) (now (bytes .exit)) (now (copies .exit))
         (now (numbers .exit))) ⌝ }
 {
-    let summary = summary_in(numbers);
     let fit = is_acceptable(times, lengths, bytes, numbers);
+    take_told(fit, times, lengths, bytes, copies, numbers, received, time)
+}
+
+// Takes one reception, told what the test of the state said: a caller that knows it does not pay for it. Told wrongly it makes of the arrays what
+// `admission` says; beside every refusal the entries stay as they were.
+pub fn take_told<'a>(
+    fit: bool,
+    times: &'a mut [u64; CAPACITY],
+    lengths: &'a mut [u8; CAPACITY],
+    bytes: &'a mut [u8; BYTES],
+    copies: &'a mut [u16; CAPACITY],
+    numbers: &'a mut [u64; NUMBERS],
+    received: &'a [u8],
+    time: u64,
+) -> u16
+    ensures { λ r. ⌜ TakesTold fit
+        (arrays (now (times .entry)) (now (lengths .entry)) (now (bytes .entry)) (now (copies .entry))
+        (now (numbers .entry)))
+        (record { bytes = now (received .entry); time = time }) r
+        (arrays (now (times .exit)) (now (lengths .exit)) (now (bytes .exit)) (now (copies .exit))
+        (now (numbers .exit))) ⌝ }
+{
+    let summary = summary_in(numbers);
     let done = merging::admit(fit, times, lengths, bytes, copies, summary, received, time);
     let next = done.summary;
     let answer = done.answer;

@@ -1,6 +1,7 @@
 -- The claims, by the model's theorems on any program's calls.
 use Prim.Native.Nat.{ℕ}
 use mathlib.Core.Path.{_≡_, refl, sym, ap, _∙_}
+use mathlib.Core.Bool.{true}
 use mathlib.Core.List.{List, [], _∷_}
 use Rattle.lists.specs.Lists.{keep}
 use Rattle.model.specs.View.{View, fresh}
@@ -12,6 +13,7 @@ use Rattle.collector.specs.declared.Collector.{Collector}
 use Rattle.collector.specs.Collector.{viewOf, IsFresh}
 use Rattle.c_collector.specs.State.{Arrays, stateAt, arraysOf}
 use Rattle.c_collector.specs.Calls.{Fresh}
+use Rattle.c_collector.proofs.State.{taken}
 use Rattle.histories.specs.Elements.{arraysAfterAll}
 use Rattle.histories.specs.Arrays.{ArraysShow}
 use Rattle.histories.specs.Arrays as lent
@@ -72,6 +74,8 @@ arrays-isolated = isolate stateAt Fresh ArraysShow arrays-start arrays-followed
 lent-elements : {s e : Arrays} {h : List Call} {l : List Seen} → ArraysShow s h l e → e ≡ arraysAfterAll s h
 lent-elements lent.ended = refl
 lent-elements (lent.received {setting = setting} {h = h} k t u) = lent-elements u ∙ ap (λ (s : Arrays). arraysAfterAll s h) (took setting k)
+lent-elements (lent.told {s = s} {s' = s'} {setting = setting} {n = n} {r = r} {h = h} ok k t u) =
+    lent-elements u ∙ ap (λ (x : Arrays). arraysAfterAll x h) (took setting (taken true s s' r n (sym ok) k))
 lent-elements (lent.saved k t u) = lent-elements u
 lent-elements (lent.restored {h = h} k t u) = lent-elements u ∙ ap (λ (s : Arrays). arraysAfterAll s h) (restored k)
 lent-elements (lent.resumed {s = s} {output = output} {h = h} k t z q w u) =

@@ -5,7 +5,7 @@
 use Prim.Native.Nat.{ℕ, _+_, _*_}
 use native.Mathlib.Omega.{arith}
 use mathlib.Core.Path.{_≡_, refl, sym, ap, ap₂, subst, _∙_}
-use mathlib.Core.Bool.{not}
+use mathlib.Core.Bool.{true, not}
 use mathlib.Core.List.{List, [], _∷_}
 use lib.Dec.{eqb, leb}
 use lib.ListN.{length}
@@ -28,6 +28,7 @@ use Rattle.collector.specs.declared.Collector.{Collector}
 use Rattle.collector.specs.Collector.{viewOf}
 use Rattle.c_collector.specs.State.{Arrays, stateAt, summaryIn}
 use Rattle.c_collector.specs.Calls.{answerNumber, Takes, TotalsCall, totalsCall, copiesCall}
+use Rattle.c_collector.proofs.State.{taken}
 use Rattle.c_burst.specs.Bytes.{receptionsIn}
 use Rattle.histories.specs.Answers.{shownIn, repliesIn}
 use Rattle.histories.specs.Arrays.{TotalsSeen, sentAt, ArraysShow}
@@ -85,12 +86,17 @@ heard v k e = e ∙ copies-zero v k
 
 -- ---- one after the other
 
+-- a reception before what follows it
+before : {s s' e : Arrays} {setting n : ℕ} {r : Reception} {t : Totals} {h : List Call} {l : List Seen} → Takes s r n s' → TotalsSeen s' t
+    → Followed stateAt s' h l e → Followed stateAt s (Receive setting r ∷ h) (Answered (shownIn n) (sentAt setting n r) t ∷ l) e
+before {s} {s'} {e} {setting} {n} {r} {t} {h} {l} k seen f =
+    subst (λ (x : Totals). Followed stateAt s (Receive setting r ∷ h) (Answered (shownIn n) (sentAt setting n r) x ∷ l) e) (sym (totals-seen seen))
+    (shows.received (answered k) (sends setting k) (f .0), f .1)
+
 pub arrays-follow : {s e : Arrays} {h : List Call} {l : List Seen} → ArraysShow s h l e → Followed stateAt s h l e
 arrays-follow lent.ended = (shows.ended, refl)
-arrays-follow (lent.received {s = s} {e = e} {setting = setting} {n = n} {r = r} {h = h} {l = l} k t u) =
-    let f = arrays-follow u in
-    subst (λ (x : Totals). Followed stateAt s (Receive setting r ∷ h) (Answered (shownIn n) (sentAt setting n r) x ∷ l) e) (sym (totals-seen t))
-    (shows.received (answered k) (sends setting k) (f .0), f .1)
+arrays-follow (lent.received k t u) = before k t (arrays-follow u)
+arrays-follow (lent.told {s = s} {s' = s'} {n = n} {r = r} ok k t u) = before (taken true s s' r n (sym ok) k) t (arrays-follow u)
 arrays-follow (lent.saved {s = s} {e = e} {output = output} {after = after} {n = n} {h = h} {l = l} k t u) =
     let f = arrays-follow u in
     subst (λ (x : Totals). Followed stateAt s (Checkpoint output ∷ h) (Wrote n after x ∷ l) e) (sym (totals-seen t)) (shows.saved k (f .0), f .1)

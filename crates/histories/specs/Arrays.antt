@@ -1,5 +1,5 @@
 -- What the calls on lent arrays show, one after the other (document 01, "One history, and the clerk who writes it down"). Of each call nothing is
--- known but the record that its contract ensures: `fresh`, `take`, `totals`, `copies_of`, `checkpoint`, `restore`, `burst`, and `repeat`.
+-- known but the record that its contract ensures: `fresh`, `take`, `take_told`, `totals`, `copies_of`, `checkpoint`, `restore`, `burst`, and `repeat`.
 use Prim.Native.Nat.{ℕ}
 use mathlib.Core.Path.{_≡_}
 use mathlib.Core.Bool.{true, cond}
@@ -11,10 +11,11 @@ use Rattle.telegram.specs.Frame.{frameOf}
 use Rattle.telegram.specs.Repeater.{repeatResult}
 use Rattle.model.specs.declared.Totals.{Totals}
 use Rattle.model.specs.View.{Reception}
+use Rattle.model.specs.Acceptable.{acceptable}
 use Rattle.model.specs.Image.{imageLength, checkpointOf}
 use Rattle.model.specs.History.{Call, Receive, Checkpoint, Restore, Cut, Burst, Ask, Look, Seen, Answered, Wrote, Restored, Delivered, Heard, Looked}
 use Rattle.c_collector.specs.State.{Arrays, stateAt, summaryIn}
-use Rattle.c_collector.specs.Calls.{Takes, Fresh, totalsCall, copiesCall}
+use Rattle.c_collector.specs.Calls.{Takes, TakesTold, Fresh, totalsCall, copiesCall}
 use Rattle.c_image.specs.Calls.{Restores}
 use Rattle.c_burst.specs.Bytes.{receptionsIn, isSized}
 use Rattle.c_burst.specs.Calls.{Bursts}
@@ -37,6 +38,10 @@ pub data ArraysShow : Arrays → List Call → List Seen → Arrays → Type 0 w
   ended : {s : Arrays} → ArraysShow s [] [] s
   received : {s s' e : Arrays} {setting n : ℕ} {r : Reception} {t : Totals} {h : List Call} {l : List Seen}
       → Takes s r n s' → TotalsSeen s' t → ArraysShow s' h l e
+      → ArraysShow s (Receive setting r ∷ h) (Answered (shownIn n) (sentAt setting n r) t ∷ l) e
+  -- told that the state is acceptable, which it is
+  told : {s s' e : Arrays} {setting n : ℕ} {r : Reception} {t : Totals} {h : List Call} {l : List Seen}
+      → acceptable (stateAt s) ≡ true → TakesTold true s r n s' → TotalsSeen s' t → ArraysShow s' h l e
       → ArraysShow s (Receive setting r ∷ h) (Answered (shownIn n) (sentAt setting n r) t ∷ l) e
   saved : {s e : Arrays} {output after : List ℕ} {n : ℕ} {t : Totals} {h : List Call} {l : List Seen}
       → record { number = n; output = after } ≡ checkpointOf (stateAt s) output → TotalsSeen s t → ArraysShow s h l e

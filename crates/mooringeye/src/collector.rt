@@ -8,10 +8,11 @@ use c_lines::FIRST;
 use c_lines::SKIPPED;
 use c_lines::formats;
 ghost use mathlib.Core.Path.{_≡_};
+ghost use mathlib.Core.Bool.{true};
 ghost use mathlib.Core.List.{[], _∷_};
 ghost use Rattle.model.specs.Image.{checkpointOf};
 ghost use Rattle.c_collector.specs.State.{arrays, stateAt};
-ghost use Rattle.c_collector.specs.Calls.{Takes, Fresh, totalsCall, copiesCall};
+ghost use Rattle.c_collector.specs.Calls.{Takes, TakesTold, Fresh, totalsCall, copiesCall};
 ghost use Rattle.c_image.specs.Calls.{Restores};
 ghost use Rattle.c_burst.specs.Calls.{Bursts};
 ghost use Rattle.c_lines.specs.Calls.{Lines, firstNumber, firstUsed, Skipped};
@@ -50,6 +51,26 @@ pub extern "C" fn mooringeye_collector_take<'a>(
         (now (numbers .exit))) ⌝ }
 {
     c_collector::take(times, lengths, bytes, copies, numbers, received, time)
+}
+
+// Takes one reception at a state that was tested: it is told that the state is acceptable.
+#[no_mangle]
+pub extern "C" fn mooringeye_collector_take_tested<'a>(
+    times: &'a mut [u64; CAPACITY],
+    lengths: &'a mut [u8; CAPACITY],
+    bytes: &'a mut [u8; BYTES],
+    copies: &'a mut [u16; CAPACITY],
+    numbers: &'a mut [u64; NUMBERS],
+    received: &'a [u8],
+    time: u64,
+) -> u16
+    ensures { λ r. ⌜ TakesTold true (arrays (now (times .entry)) (now (lengths .entry)) (now (bytes .entry))
+        (now (copies .entry)) (now (numbers .entry)))
+        (record { bytes = now (received .entry); time = time }) r
+        (arrays (now (times .exit)) (now (lengths .exit)) (now (bytes .exit)) (now (copies .exit))
+        (now (numbers .exit))) ⌝ }
+{
+    c_collector::take_told(true, times, lengths, bytes, copies, numbers, received, time)
 }
 
 // The six totals.

@@ -19,6 +19,7 @@ use Rattle.histories.proofs.Answers as histories_answers
 use Rattle.histories.proofs.Claims as histories
 use Rattle.collector.proofs.Stepping as collector_stepping
 use Rattle.collector.proofs.Sending as collector_sending
+use Rattle.c_collector.proofs.State as c_collector_state
 use Rattle.replay_model.proofs.Back as replay_model_back
 use Rattle.replay_model.proofs.Wholes as replay_model_wholes
 use Rattle.replay_model.proofs.Sizes as replay_model_sizes
@@ -127,6 +128,7 @@ code = record {
   value-sensors-are-independent = histories.values-isolated;
   value-elements-are-known = histories.values-elements;
   one-test-is-enough = collector_stepping.told-rightly;
+  told-call-takes = c_collector_state.told-takes;
   sent-follows-model = collector_sending.relayed-sent;
 }
 

@@ -18,6 +18,7 @@ use Rattle.model.specs.Division as model_division
 use Rattle.model.specs.Isolation as model_isolation
 use Rattle.model.specs.States as model_states
 use Rattle.collector.specs.Admission as collector
+use Rattle.c_collector.specs.Calls as c_collector
 use Rattle.histories.specs.Answers as histories_answers
 use Rattle.histories.specs.Claims as histories
 use Rattle.replay_model.specs.Claims as replay_model
@@ -151,6 +152,8 @@ pub record Code : Type 1 where
   pub value-elements-are-known : histories.ValuesElements
   -- A run of receptions may test its first state only: the test gives the same result for every later state.
   pub one-test-is-enough : collector.ToldRightly
+  -- The library's call that is told the result of the test is the call that tests, if the result is right; after a refusal no open telegram is changed.
+  pub told-call-takes : c_collector.ToldTakes
   -- After each reception, the telegram that the code sends on is the one that the model says.
   pub sent-follows-model : collector.RelayedSent
 

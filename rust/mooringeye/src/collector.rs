@@ -153,8 +153,10 @@ impl Collector {
     /// Takes a reception, whose last byte was there at a time in milliseconds. What is sent on for one that is kept is [`Telegram::repeat`].
     ///
     /// Refused: [`Refusal::Full`], and nothing is counted; the check's own, which counts as damaged; [`Refusal::Late`].
+    ///
+    /// The state is not tested again: only calls of the library change it, so that it is always one that they accept.
     pub fn take(&mut self, bytes: &[u8], time: u64) -> Result<Answer, Refusal> {
-        let [kind, number] = raw::collector_take(&mut self.arrays_mut(), bytes, time).to_be_bytes();
+        let [kind, number] = raw::collector_take_tested(&mut self.arrays_mut(), bytes, time).to_be_bytes();
         answer(kind, number)
     }
 

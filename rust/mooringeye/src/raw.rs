@@ -105,6 +105,16 @@ mod c {
         pub fn mooringeye_collector_fresh(times: Out64, lens: Out, bytes: Out, copies: Out16, numbers: Out64);
         pub fn mooringeye_collector_take(times: Out64, lens: Out, bytes: Out, copies: Out16, numbers: Out64, heard: In, len: usize, time: u64)
             -> u16;
+        pub fn mooringeye_collector_take_tested(
+            times: Out64,
+            lens: Out,
+            bytes: Out,
+            copies: Out16,
+            numbers: Out64,
+            heard: In,
+            len: usize,
+            time: u64,
+        ) -> u16;
         pub fn mooringeye_collector_totals(times: In64, lens: In, bytes: In, copies: In16, numbers: In64, totals: Out64) -> u8;
         pub fn mooringeye_collector_copies(times: In64, lens: In, bytes: In, copies: In16, numbers: In64, index: usize, heard: Out64) -> u8;
         pub fn mooringeye_collector_checkpoint(times: In64, lens: In, bytes: In, copies: In16, numbers: In64, out: Out, out_size: usize) -> u8;
@@ -392,6 +402,13 @@ pub fn collector_take(state: &mut ArraysMut<'_>, received: &[u8], time: u64) -> 
     let (times, lens, bytes, copies, numbers) = state.pointers();
     // SAFETY: five arrays of the sizes that the header names, all `&mut`, and a slice that is read.
     unsafe { c::mooringeye_collector_take(times, lens, bytes, copies, numbers, received.as_ptr(), received.len(), time) }
+}
+
+/// The same for a state that is known to be accepted, which is not tested.
+pub fn collector_take_tested(state: &mut ArraysMut<'_>, received: &[u8], time: u64) -> u16 {
+    let (times, lens, bytes, copies, numbers) = state.pointers();
+    // SAFETY: five arrays of the sizes that the header names, all `&mut`, and a slice that is read.
+    unsafe { c::mooringeye_collector_take_tested(times, lens, bytes, copies, numbers, received.as_ptr(), received.len(), time) }
 }
 
 /// The totals: received, kept, copies, loose, damaged, late.

@@ -189,6 +189,8 @@ fn collectors() {
         for content in [1, 21, 64, 65, 0xFF] {
             let mut other = arrays(content, end);
             assert_eq!(raw::collector_take(&mut other, guarded(&contents(8)[0], end), 0), 11);
+            // Told that they are accepted, the call stays within them.
+            raw::collector_take_tested(&mut arrays(content, end), guarded(&contents(8)[0], end), 0);
             asked(&mut other, end);
         }
     });
