@@ -1,13 +1,16 @@
 -- What the calls show, and every number and byte that is lent.
 use Prim.Native.Nat.{ℕ}
-use mathlib.Core.Bool.{cond, not, _||_}
+use mathlib.Core.Path.{_≡_}
+use mathlib.Core.Bool.{true, cond, not, _||_}
 use mathlib.Core.List.{List}
 use lib.Dec.{eqb}
 use lib.ListN.{length}
 use Rattle.refusal.specs.Number.{numberOf}
 use Rattle.refusal.specs.declared.Refusal.the-variants.{NotAccepted, Size}
+use Rattle.model.specs.Image.{accepts}
+use Rattle.state_file.specs.declared.Counted.{Counted}
 use Rattle.state_file.specs.State.{Kept, oldLength, stateLength, stateBytes, readState}
-use Rattle.state_file.specs.Lawful.{lawful, acceptsState}
+use Rattle.state_file.specs.Lawful.{imageRows, lawful, acceptsState}
 
 pub record Written : Type 0 where
   pub number : ℕ
@@ -33,3 +36,8 @@ acceptOf k bytes =
     (record { number = numberOf Size; next = k })
     (cond (acceptsState bytes) (record { number = 0; next = readState bytes })
     (record { number = numberOf NotAccepted; next = k }))
+
+-- whether an image is accepted, and the rows that it then counts
+pub record Counts (image : List ℕ) (c : Counted) : Type 0 where
+  pub accepted : c .accepted ≡ accepts image
+  pub rows : c .accepted ≡ true → c .rows ≡ imageRows image

@@ -1,15 +1,12 @@
 -- What private functions say. No public contract cites these.
 use Prim.Native.Nat.{ℕ}
 use mathlib.Core.Path.{_≡_}
-use mathlib.Core.Bool.{true}
 use mathlib.Core.List.{List, [], _∷_, _++_}
 use lib.ListN.{length}
 use Rattle.lists.specs.Lists.{padded}
 use Rattle.layout.specs.Block.{bodyLength, blockLength, sealed}
-use Rattle.model.specs.Image.{imageLength, accepts}
+use Rattle.model.specs.Image.{imageLength}
 use Rattle.state_file.specs.State.{Kept, maxName, maxTail, mark, archiveField, logField, outField}
-use Rattle.state_file.specs.Lawful.{imageRows}
-use Rattle.state_file.specs.declared.Counted.{Counted}
 
 -- lists of the right lengths
 pub record Sized (k : Kept) : Type 0 where
@@ -17,11 +14,6 @@ pub record Sized (k : Kept) : Type 0 where
   pub last : length (k .last) ≡ blockLength
   pub image : length (k .image) ≡ imageLength
   pub tail : length (k .tail) ≡ maxTail
-
--- whether an image is accepted, and the rows that it then counts
-pub record Counts (image : List ℕ) (c : Counted) : Type 0 where
-  pub accepted : c .accepted ≡ accepts image
-  pub rows : c .accepted ≡ true → c .rows ≡ imageRows image
 
 -- the first block, with a CRC of the log's bytes
 unfoldable pub headerWith : Kept → ℕ → ℕ → List ℕ

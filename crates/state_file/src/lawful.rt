@@ -14,7 +14,8 @@ ghost use Prim.Native.Nat.{min};
 ghost use lib.ListN.{length};
 ghost use Rattle.state_file.specs.State.{kept, maxName, maxTail};
 ghost use Rattle.state_file.specs.Lawful.{isLastOf, isFile, isAttached, isPlaced, isPrinted, lawful};
-ghost use Rattle.state_file.specs.Private.{Sized, Counts};
+ghost use Rattle.state_file.specs.Calls.{Counts};
+ghost use Rattle.state_file.specs.Private.{Sized};
 
 // The image is accepted, and numbers and bytes are those of an archive's file, a place in a log and a file for rows, or
 // of none.
@@ -43,7 +44,7 @@ pub(crate) fn is_lawful(
 }
 
 // Whether an image is accepted, and the rows that it counts.
-fn rows_of(image: &[u8]) -> Counted
+pub fn rows_of(image: &[u8]) -> Counted
     ensures { λ r. ⌜ Counts (now (image .entry)) r ⌝ }
 {
     let restored = image::restore(Collector::fresh(), image);

@@ -1,0 +1,4 @@
+pub mod Lost
+pub mod Swept
+pub mod Settled
+pub mod Started
