@@ -1,3 +1,4 @@
 pub mod Given
 pub mod Archived
 pub mod Runs
+pub mod Closed

@@ -33,7 +33,7 @@ use Rattle.archived.specs.Claims.{rowsSaid}
 use Rattle.archived.proofs.Archived.{lines-archived}
 
 -- what stands at the front of an output after lines
-fed-front : {S : Type 0} (p : Program S) (s s' : S) (x out out' : List ℕ) (n : ℕ) → Fed p s x out s' out' n
+pub fed-front : {S : Type 0} (p : Program S) (s s' : S) (x out out' : List ℕ) (n : ℕ) → Fed p s x out s' out' n
     → Drained p lineLimit s x s' (take n out')
 fed-front p s s' x out out' n f =
     let t = feedText p lineLimit (atLineStart s) x in
@@ -85,7 +85,7 @@ columns-fed x d = record {
 }
 
 -- all that a program gives for such a text
-given-whole : (p : Program (Phase Receiver)) → Bounded p lineLimit → {s s' : Phase Receiver} {x t : List ℕ} → Drained p lineLimit s x s' t → t ++ p .end s' ≡ outputOf p s x
+pub given-whole : (p : Program (Phase Receiver)) → Bounded p lineLimit → {s s' : Phase Receiver} {x t : List ℕ} → Drained p lineLimit s x s' t → t ++ p .end s' ≡ outputOf p s x
 unfolding feedAllText feedAll joined lastText
 given-whole p b {s} {s'} {x} {t} d =
     let e = in-pieces p lineLimit (lit< tt) b s (x ∷ []) in

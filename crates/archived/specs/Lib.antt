@@ -1,3 +1,4 @@
 pub mod Archived
 pub mod Claims
 pub mod Runs
+pub mod Closed

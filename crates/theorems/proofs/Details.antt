@@ -33,6 +33,7 @@ use Rattle.collecting.proofs.Printed as collecting_printed
 use Rattle.collecting.proofs.PrintedIn as collecting_formats
 use Rattle.collecting.proofs.Storing as collecting
 use Rattle.archived.proofs.Archived as archived
+use Rattle.archived.proofs.Closed as archived_closed
 use Rattle.whole_log.proofs.Claims as whole_log
 use Rattle.archive_model.proofs.Claims as archive_model_claims
 use Rattle.archive_model.proofs.Identity as archive_model_identity
@@ -159,6 +160,9 @@ lines = record {
   later-rows-follow-model = archived.lines-archived;
   records-are-sized = archived.records-sized;
   rows-are-storable = archived.archived-storable;
+  log-closings-follow-model = archived_closed.log-closed;
+  later-closings-follow-model = archived_closed.lines-closed;
+  lines-close-once = archived_closed.lines-close-once;
   kept-log-reads-back = whole_log.kept-read-back;
 }
 

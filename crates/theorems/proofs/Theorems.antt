@@ -13,6 +13,7 @@ use Rattle.model.proofs.Image as model_image
 use Rattle.printing.proofs.Runs as printing
 use Rattle.archived.proofs.Archived as archived
 use Rattle.archived.proofs.Runs as archived_runs
+use Rattle.archived.proofs.Closed as archived_closed
 use Rattle.whole_log.proofs.Claims as whole_log
 use Rattle.archive_model.proofs.Claims as archive_model
 use Rattle.repack_model.proofs.Salvage as repack_model_salvage
@@ -58,6 +59,7 @@ collector = record {
   output-follows-model = printing.runs-print;
   rows-follow-model = archived.log-archived;
   calls-follow-model = archived_runs.calls-follow;
+  closings-follow-model = archived_closed.calls-close;
   log-is-archived = whole_log.fresh-kept;
 }
 

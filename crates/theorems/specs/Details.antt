@@ -30,6 +30,7 @@ use Rattle.streams.specs.Claims as streams
 use Rattle.collecting.specs.Claims as collecting
 use Rattle.collecting.specs.PrintedIn as collecting_formats
 use Rattle.archived.specs.Claims as archived
+use Rattle.archived.specs.Closed as archived_closed
 use Rattle.whole_log.specs.Claims as whole_log
 use Rattle.archive_model.specs.Claims as archive_model
 use Rattle.archive_model.specs.Identity as archive_identity
@@ -206,6 +207,12 @@ pub record Lines : Type 1 where
   pub records-are-sized : archived.RecordsSized
   -- An archive can hold each of these rows, and the check refuses none of them.
   pub rows-are-storable : archived.ArchivedStorable
+  -- What the lines of a log give as closings is what the log closes, 32 bytes for each telegram.
+  pub log-closings-follow-model : archived_closed.LogClosed
+  -- Further lines too, from any state on.
+  pub later-closings-follow-model : archived_closed.LinesClosed
+  -- What lines close, and what is open behind them, are the kept receptions, in order, each once and with its copies.
+  pub lines-close-once : archived_closed.LinesCloseOnce
   -- A log kept in any archive is read back: the rows that were there, and then the model's, in order.
   pub kept-log-reads-back : whole_log.KeptReadBack
 

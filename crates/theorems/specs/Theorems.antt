@@ -35,6 +35,7 @@ use Rattle.histories.specs.Claims as histories
 use Rattle.printing.specs.Claims as printing
 use Rattle.archived.specs.Claims as archived
 use Rattle.archived.specs.Runs as archived_runs
+use Rattle.archived.specs.Closed as archived_closed
 use Rattle.whole_log.specs.Claims as whole_log
 use Rattle.archive_model.specs.Claims as archive_model
 use Rattle.repack_model.specs.Claims as repack_model
@@ -95,6 +96,8 @@ pub record Collector : Type 0 where
   pub rows-follow-model : archived.LogArchived
   -- However a log is cut into calls of `lines`, text and rows are the model's and each element of the arrays what its lines make of it, by the call's contract alone.
   pub calls-follow-model : archived_runs.CallsFollow
+  -- However a log is cut into calls of `lines_as`, what they close is what the model closes. The proof uses only the contract of the call.
+  pub closings-follow-model : archived_closed.CallsClose
   -- A whole log kept in a fresh archive leaves the archive of the receptions that the model keeps, and of the loose ones, byte by byte.
   pub log-is-archived : whole_log.FreshKept
 
