@@ -27,7 +27,7 @@ install: $(PROGRAM)
 	[ -f $(DESTDIR)$(SYSCONFDIR)/default/mooringeye ] || \
 		install -D -m 644 examples/mooringeye.default $(DESTDIR)$(SYSCONFDIR)/default/mooringeye
 	install -d $(share)/mooringeye/samples $(share)/doc/mooringeye
-	cp -r examples/historian $(share)/mooringeye/
+	cp -r examples/historian examples/sources $(share)/mooringeye/
 	install -m 644 samples/plant.txt samples/plant.expected $(share)/mooringeye/samples
 	install -m 644 README.md LICENCE-NOTE.md docs/GUIDE.md docs/FORMATS.md docs/CRASH.md $(share)/doc/mooringeye
 
