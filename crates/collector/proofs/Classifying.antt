@@ -6,14 +6,12 @@ use mathlib.Core.Bool.{Bool, true, false, false≢true}
 use mathlib.Core.List.{List}
 use lib.Dec.{leb}
 use lib.ListN.{length}
-use borrow.Author.Tests.{lt-ltb, le-ltb, ne-eqb, eqb-true}
+use borrow.Author.Tests.{lt-ltb, le-ltb, eqb-true}
 use Rattle.refusal.specs.Number.{numberOf}
-use Rattle.refusal.specs.declared.Refusal.{Refusal}
 use Rattle.refusal.specs.declared.Refusal.the-variants as refusal
-use Rattle.refusal.proofs.Numbers.{refused-number}
 use Rattle.erp1.specs.Subtelegram.{checkOf, isValid}
 use Rattle.model.specs.declared.Totals.{Totals}
-use Rattle.model.specs.Answer.{Shown, Kept, Copy, Loose, Refused, isCopy}
+use Rattle.model.specs.Answer.{Shown, Kept, Copy, Loose, isCopy}
 use Rattle.model.specs.View.{Reception, Entry, capacity}
 use Rattle.model.specs.Step.{maxCount}
 use Rattle.collector.specs.Admission.{hasCopy, receptionCheck, answerFor}
@@ -36,10 +34,6 @@ module _ (latest : ℕ) (r : Reception) where
     reception-passed h = rw (valid, le-ltb (r .time) latest h)
 
 -- ---- the answer
-
-pub answer-refused : (why : Refusal) (known crowded : Bool) → Refused (numberOf why) ≡ answerFor (numberOf why) known crowded
-unfolding answerFor
-answer-refused why known crowded = rw (ne-eqb (numberOf why) 0 (refused-number why))
 
 module _ (known crowded : Bool) where
   pub answer-copy : known ≡ true → Copy ≡ answerFor 0 known crowded

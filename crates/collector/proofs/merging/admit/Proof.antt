@@ -160,15 +160,24 @@ classify-requires c κs =
       valid-fits _ v .1,
     )
 
--- the arrays are lent
+-- the four arrays are lent
+abbrev two-lent : tie.After-change-arg4 → tie.After-change-arg2
+two-lent c = c .before .before
+
 abbrev keeping : tie.After-change-arg4 → tie.After-enum-told2
-keeping c = c .before .before .before .before
+keeping c = two-lent c .before .before
+
+abbrev two-lent2 : tie.After-change-arg8 → tie.After-change-arg6
+two-lent2 c = c .before .before
 
 abbrev copying : tie.After-change-arg8 → tie.After-judged
-copying c = c .before .before .before .before .before
+copying c = two-lent2 c .before .before .before
 
-abbrev loosing : tie.After-change-arg12 → tie.After-enum-told3
-loosing c = c .before .before .before .before
+abbrev two-lent3 : tie.After-change-arg12 → tie.After-change-arg10
+two-lent3 c = c .before .before
+
+abbrev leaving : tie.After-change-arg12 → tie.After-enum-told3
+leaving c = two-lent3 c .before .before
 
 change-requires : tie.Need-change-requires
 change-requires c κs = let d = kept (keeping c) in (d .few, d .inside, d .room)
@@ -177,7 +186,7 @@ change-requires-2 : tie.Need-change-requires-2
 change-requires-2 c κs = let d = copied (copying c) in (d .few, d .inside, d .room)
 
 change-requires-3 : tie.Need-change-requires-3
-change-requires-3 c κs = let d = loose (loosing c) in (d .few, d .inside, d .room)
+change-requires-3 c κs = let d = loose (leaving c) in (d .few, d .inside, d .room)
 
 returns-4 : tie.Need-returns-4
 returns-4 c =
@@ -195,7 +204,7 @@ returns-6 : tie.Need-returns-6
 returns-6 c =
     let d = c .before .before in
     let x = d .change3 .ensures in
-    rw (c .now-open3 .ensures, c .before .counted3 .ensures) (carried-out (loose (loosing (d .before))) (x .0) (x .1) (x .2) (x .3))
+    rw (c .now-open3 .ensures, c .before .counted3 .ensures) (carried-out (loose (leaving (d .before))) (x .0) (x .1) (x .2) (x .3))
 
 pub admit-spec : {M : Type 1} → statement M
 admit-spec =
@@ -226,7 +235,7 @@ admit-spec =
     (λ c κs. search needs)
     (λ c. search needs)
     change-requires-3
-    (λ c κs. countable (found (loosing (c .before) .before .before)))
+    (λ c κs. countable (found (leaving (c .before) .before .before)))
     (λ c κs. search needs)
     returns-4
     returns-5

@@ -54,8 +54,11 @@ taken c copies =
     is-taken (s .args .fit) (table s copies) (s .args .summary) (reception s) (fit (c .before .before)) (spare c)
 
 -- the tests before the open telegrams are looked at are passed
+abbrev passing : tie.After-enum-told → tie.After-check-reception
+passing c = c .before .before
+
 abbrev checking : tie.After-expired → tie.After-check-reception
-checking c = c .before .before .before
+checking c = passing (c .before)
 
 abbrev looking : tie.After-expired → tie.Start
 looking c = start (checking c .before .before .before)
@@ -149,7 +152,7 @@ decide-spec =
     (λ c κs. search needs)
     returns-3
     (λ c. search needs)
-    (λ c κs. fit (c .before .before .before .before .before) .few)
+    (λ c κs. fit (passing c .before .before .before) .few)
     classify-requires
     (λ c κs. search needs)
     (λ c. search needs)
