@@ -27,8 +27,8 @@ module _ (text : List (List ℕ) → List ℕ → List ℕ) (heading : List ℕ)
   text-append (x ∷ xs) ys before =
       let next = before ++ (x ∷ []) in
       ap (λ (l : List ℕ). text before x ++ l)
-          (text-append xs ys next ∙ ap (λ (b : List (List ℕ)). said next xs ++ said b ys)
-              (append-assoc before (x ∷ []) xs))
+      (text-append xs ys next ∙ ap (λ (b : List (List ℕ)). said next xs ++ said b ys)
+      (append-assoc before (x ∷ []) xs))
       ∙ sym (append-assoc (text before x) (said next xs) (said (before ++ (x ∷ xs)) ys))
 
   module _ (old : List ℕ) (o : Out) (once : EachOnce text heading log old o) where
@@ -65,7 +65,7 @@ module _ (text : List (List ℕ) → List ℕ → List ℕ) (heading : List ℕ)
           (take-add (o .lines) (length lines) log
           ∙ ap (λ (l : List (List ℕ)). take (o .lines) log ++ l)
           (ap (λ (k : ℕ). take k (drop (o .lines) log)) (length-take count (drop (o .lines) log))
-              ∙ take-clamped count (drop (o .lines) log)))
+          ∙ take-clamped count (drop (o .lines) log)))
           ∙ text-append (take (o .lines) log) lines []
 
       file-is : next .file ≡ o .file ++ new
@@ -82,8 +82,14 @@ module _ (text : List (List ℕ) → List ℕ → List ℕ) (heading : List ℕ)
           let z = eqb-true (o .size) 0 t in
           let all : o .file ≡ [] = no-bytes (o .file) (omega (arith, once .counted)) in
           let none : length old + (length (once .top) + length rows) ≡ 0 =
-          omega (arith, ap length (once .is), ap length all, length-append old (once .top ++ rows), length-append
-              (once .top) rows) in
+          omega (
+            arith,
+            ap length (once .is),
+            ap length all,
+            length-append old (once .top ++ rows),
+            length-append
+                (once .top) rows,
+          ) in
           let bare : old ≡ [] = no-bytes old (omega arith) in
           let empty : rows ≡ [] = no-bytes rows (omega arith) in
           record {
@@ -101,7 +107,7 @@ module _ (text : List (List ℕ) → List ℕ → List ℕ) (heading : List ℕ)
         isTop = once .isTop;
         is = file-is ∙ ap₂ (λ (a b : List ℕ). a ++ b) (once .is) (ap (λ (b : Bool). cond b heading [] ++ more) f)
             ∙ append-assoc old (once .top ++ rows) more
-                ∙ ap (λ (l : List ℕ). old ++ l) (append-assoc (once .top) rows more)
+            ∙ ap (λ (l : List ℕ). old ++ l) (append-assoc (once .top) rows more)
             ∙ ap (λ (l : List ℕ). old ++ (once .top ++ l)) (sym rows-next);
         counted = size-is;
       }
@@ -111,7 +117,7 @@ module _ (text : List (List ℕ) → List ℕ → List ℕ) (heading : List ℕ)
 
     early-once : (file : List ℕ) → o .size ≤ length file → take (o .size) file ≡ take (o .size) (o .file)
         → EachOnce text heading log old
-            (cutOut text heading log (record { lines = o .lines; size = o .size; file = file }))
+        (cutOut text heading log (record { lines = o .lines; size = o .size; file = file }))
     early-once file long same = record {
       top = once .top;
       isTop = once .isTop;

@@ -86,6 +86,6 @@ module _ (text : List (List ℕ) → List ℕ → List ℕ) (heading : List ℕ)
 abbrev pub OnceInFile : Type 0
 OnceInFile =
     (text : List (List ℕ) → List ℕ → List ℕ) (heading : List ℕ) (log : List (List ℕ)) (old : List ℕ)
-        (es : List OutEvent)
+    (es : List OutEvent)
     → let o : Out = record { lines = 0; size = length old; file = old } in
     IsOutRun text heading log o es → EachOnce text heading log old (outRun text heading log o es)
