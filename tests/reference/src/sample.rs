@@ -309,10 +309,10 @@ mod tests {
         assert_eq!(rows.lines().count(), text.lines().count());
     }
 
-    /// The figures that README shows: the copies of each open telegram (document 02, A8), asked for
+    /// The figures that docs/API.md shows: the copies of each open telegram (document 02, A8), asked for
     /// after the receptions up to a time.
     #[test]
-    fn copies_of_the_readme() {
+    fn copies_as_documented() {
         let text = plant();
         let asked_after = |end: u64| -> Vec<u16> {
             let mut clerk = Clerk::new();
