@@ -22,7 +22,7 @@ use Rattle.collecting.specs.Session.{Receiver, longestLine, takenAt}
 use Rattle.collecting.specs.Rows.{isStored, timeOfLine, timesIn, rowTimes, rowRecords, lineTicks}
 use Rattle.collecting.specs.Stored.{StoredTo}
 use Rattle.printing.proofs.Turning.{front-there}
-use Rattle.c_collector.specs.State.{Arrays, stateAt}
+use Rattle.c_collector.specs.State.{Arrays, columnsAt, stateAt}
 use Rattle.c_lines.specs.Calls.{Lines}
 use Rattle.whole_log.specs.declared.Turn.{Turn}
 use Rattle.whole_log.specs.Keep.{capacityOf}
@@ -81,8 +81,8 @@ module _ {s : Arrays} {setting : ℕ} {input : List ℕ} {most : ℕ} {out momen
   abbrev text : List ℕ
   text = take used input
 
-  stored : StoredTo (phaseAt setting s) input most out moments rows out' moments' rows' (phaseAt setting s') used
-      (getD done' 1 0) count (getD done' 3 0)
+  stored : StoredTo (phaseAt setting s) (columnsAt s) input most out moments rows out' moments' rows'
+      (phaseAt setting s') (columnsAt s') used (getD done' 1 0) count (getD done' 3 0)
   stored = l .taken (l .answer ∙ rw (
     k .accepted,
     eq-eqb (length rows)
