@@ -67,6 +67,31 @@ fn status_of_the_sample() {
     assert_eq!(fs::read(dir.join("s")).unwrap(), before, "nothing is changed");
 }
 
+/// What stands in quotes before a colon.
+fn members(json: &str) -> Vec<&str> {
+    json.match_indices("\":").map(|(end, _)| &json[json[..end].rfind('"').unwrap() + 1..end]).collect()
+}
+
+#[test]
+fn every_member_and_metric_is_documented() {
+    let dir = folder("status_documented");
+    fs::write(dir.join("log"), sample()).unwrap();
+    run("collect --state s --archive a --out rows --log log --metrics m", &dir, b"").with(0);
+    let formats = fs::read_to_string(root().join("docs/FORMATS.md")).unwrap();
+    let section = formats.split("\n## ").find(|s| s.starts_with("Status, metrics, heard and names")).unwrap();
+    let json = run("status --state s --json", &dir, b"").with(0).out;
+    let metrics = fs::read_to_string(dir.join("m")).unwrap();
+    let names = members(&json).into_iter().chain(metrics.lines().filter_map(|l| l.strip_prefix("# TYPE ")).map(|l| l.split(' ').next().unwrap()));
+    let names: Vec<&str> = names.collect();
+    assert_eq!(names.len(), 20 + 7, "{names:?}");
+    for name in &names {
+        assert!(section.contains(&format!("`{name}`")), "{name}");
+    }
+    for name in section.split('`').filter(|word| word.starts_with("mooringeye_")) {
+        assert!(names.contains(&name), "{name} is documented and not there");
+    }
+}
+
 #[test]
 fn status_tells_open_telegrams_and_ages() {
     let dir = folder("status_open");
