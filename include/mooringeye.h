@@ -299,7 +299,9 @@ enum {
     MOORINGEYE_LINES_DONE = 4,
     MOORINGEYE_LINES_SKIPPED = 2,
     MOORINGEYE_LONGEST_ROW_AS = 333, /* bytes of the longest row of a line in any format */
-    MOORINGEYE_LINES_AS_DONE = 5
+    MOORINGEYE_LINES_AS_DONE = 5,
+    MOORINGEYE_LINE_BYTES = 64, /* the most bytes that a line says */
+    MOORINGEYE_LINE_READ = 3
 };
 
 /* The formats of rows. */
@@ -371,6 +373,12 @@ uint8_t mooringeye_collector_lines_as(uint64_t times[MOORINGEYE_CAPACITY], uint8
 /* The setting that the first line of a text says: 0, 1 or 2 for `level 0`, `level 1` or `level 2`; 3 for any other
  * line; 4 where no newline ends it. `used` gets the bytes of the line with its newline, 0 where there is none. */
 uint8_t mooringeye_first_line(const uint8_t *input, size_t input_length, uint64_t *used);
+
+/* What the line at the start of `input` says, behind the first one: 0 for a reception, 3 for any other line, 4 where no
+ * newline ends it. `done` gets three numbers: the time, how many bytes, and the bytes of the line with its newline, 0
+ * where there is none. `bytes` gets the bytes that the digits say, zero filled. Beside 3 and 4 time and bytes are 0. */
+uint8_t mooringeye_read_line(const uint8_t *input, size_t input_length, uint8_t bytes[MOORINGEYE_LINE_BYTES],
+                             uint64_t done[MOORINGEYE_LINE_READ]);
 
 /* Passes over whole lines at the start of `input`, at most `most`. `done` gets two numbers: their bytes, and how many
  * they are. */

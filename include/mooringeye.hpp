@@ -207,6 +207,16 @@ inline std::pair<uint8_t, size_t> first_line(bytes input) {
     return {setting, static_cast<size_t>(used)};
 }
 
+// The reception that a line says, without its newline: the time and the bytes; none for a line that is BAD.
+inline std::optional<std::pair<uint64_t, std::vector<uint8_t>>> read_line(std::string line) {
+    line += '\n';
+    uint8_t said[MOORINGEYE_LINE_BYTES];
+    uint64_t told[MOORINGEYE_LINE_READ];
+    uint8_t number = mooringeye_read_line(reinterpret_cast<const uint8_t *>(line.data()), line.size(), said, told);
+    if (number != 0 || told[2] != line.size()) return std::nullopt;
+    return std::pair<uint64_t, std::vector<uint8_t>>(told[0], {said, said + told[1]});
+}
+
 // The bytes of whole lines at the start of a text, at most `most`, and how many they are.
 inline std::pair<size_t, size_t> skip_lines(bytes input, size_t most) {
     uint64_t told[MOORINGEYE_LINES_SKIPPED];

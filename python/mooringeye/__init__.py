@@ -40,6 +40,7 @@ from .collector import (
     Taken,
     Totals,
     first_line,
+    read_line,
     skip_lines,
 )
 from .refusals import REFUSALS, Refused
@@ -102,6 +103,7 @@ __all__ = [
     "plan",
     "plan_by",
     "read",
+    "read_line",
     "repeat",
     "salvage",
     "same",

@@ -27,6 +27,7 @@ EXPORTS = {
     "mooringeye_collector_lines_as": "u8 out:u64 out:u8 out:u8 out:u16 out:u64 u8 u8 in:u8 size size out:u8 size "
     "out:u64 size out:u8 size out:u8 size out:u64",
     "mooringeye_first_line": "u8 in:u8 size out:u64",
+    "mooringeye_read_line": "u8 in:u8 size out:u8 out:u64",
     "mooringeye_skip_lines": "none in:u8 size size out:u64",
     "mooringeye_erp2_read": "u8 in:u8 size out:u8 size out:u64 out:u32",
     "mooringeye_erp2_build": "u8 in:u8 size u64 u32 out:u8 size out:size",

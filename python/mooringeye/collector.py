@@ -69,6 +69,18 @@ def first_line(text: Data) -> tuple[Optional[int], int]:
     return setting if setting < 3 else None, used.value
 
 
+def read_line(line: Data) -> Optional[tuple[int, bytes]]:
+    """The reception that a line says, without its newline: the time and the bytes; None for a line that is BAD.
+
+    >>> read_line(b"1000 d509"), read_line(b"1000 d50")
+    ((1000, b'\\xd5\\t'), None)
+    """
+    text, data, told = bytes(line) + b"\n", (ctypes.c_uint8 * 64)(), (ctypes.c_uint64 * 3)()
+    number = calls.read_line(text, len(text), data, told)
+    time, length, used = told
+    return (time, bytes(data[:length])) if number == 0 and used == len(text) else None
+
+
 def skip_lines(text: Data, most: int) -> tuple[int, int]:
     """The bytes of whole lines at the start of a text, at most `most`, and how many they are.
 

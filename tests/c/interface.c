@@ -211,6 +211,11 @@ static void formats(void) {
     SHOULD(mooringeye_lines_as(&c, 0, 3, NULL, 0, 9, out, sizeof out, moments, rows, 4, NULL, 0, done) ==
            MOORINGEYE_ARGUMENT);
     SHOULD(strlen(MOORINGEYE_CSV_HEADING) == 50);
+    uint8_t bytes[MOORINGEYE_LINE_BYTES];
+    SHOULD(mooringeye_read_line((const uint8_t *)"7 D509\nx", 8, bytes, done) == 0);
+    SHOULD(done[0] == 7 && done[1] == 2 && done[2] == 7 && bytes[0] == 0xD5 && bytes[1] == 9 && bytes[63] == 0);
+    SHOULD(mooringeye_read_line((const uint8_t *)"x\n", 2, bytes, done) == 3 && done[2] == 2 && bytes[0] == 0);
+    SHOULD(mooringeye_read_line(NULL, 0, bytes, done) == 4 && done[2] == 0);
 }
 
 int main(void) {

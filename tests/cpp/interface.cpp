@@ -45,6 +45,9 @@ static void collectors() {
     SHOULD(setting == 1 && taken.text == "3000 KEPT SEND D5090102030401E9\nBAD\n" && taken.lines == 2);
     SHOULD(taken.moments == std::vector<uint64_t>{3000} && taken.rows[0].frame.length == 8 && taken.used == 24);
     SHOULD(me::skip_lines(view, 2).first == 30 && me::skip_lines(view, 2).second == 2);
+    SHOULD(me::read_line("7 D509")->first == 7 &&
+           me::read_line("7 D509")->second == std::vector<uint8_t>({0xD5, 0x09}));
+    SHOULD(!me::read_line("7 D50") && !me::read_line("7 D5\n8 D5") && me::read_line("7 ")->second.empty());
     text = "5000 D5090102030400E8\nx\n5100 D5090102030401E9\n5101 D5090102030400E8\n";
     me::bytes more(reinterpret_cast<const uint8_t *>(text.data()), text.size());
     me::taken_lines_as as = c.lines_as(0, MOORINGEYE_FORMAT_CSV, more, 100);

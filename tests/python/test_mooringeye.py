@@ -143,6 +143,12 @@ class Calls(unittest.TestCase):
         self.assertEqual(len(taken.rows), c.totals().kept + c.totals().loose)
         self.assertEqual(c.lines(setting, b"").lines, 0)
 
+    def test_read_line(self):
+        self.assertEqual(mooringeye.read_line(b"18446744073709551615 d509"), (2**64 - 1, b"\xd5\x09"))
+        self.assertEqual(mooringeye.read_line(b"0 "), (0, b""))
+        for line in (b"", b"1", b"01 D5", b"1 D5\n", b"1 D5\n2 D5", b"1 D5\r", b"18446744073709551616 D5"):
+            self.assertIsNone(mooringeye.read_line(line))
+
     def test_sessions(self):
         text = (ROOT / "samples/plant.txt").read_bytes()
         setting, used = mooringeye.first_line(text)

@@ -22,6 +22,13 @@ fn byte(text: &str) -> Option<u8> {
     }
 }
 
+/// A number of up to twelve digits, of which the first may be left out where it is 0.
+fn originator_of(text: &str) -> Option<u64> {
+    let digits = if text.len() % 2 == 1 { format!("0{text}") } else { text.into() };
+    let bytes = text::bytes_of_hex(&digits).filter(|bytes| (1..=6).contains(&bytes.len()))?;
+    Some(bytes.iter().fold(0, |n, byte| n << 8 | u64::from(*byte)))
+}
+
 fn small(text: &str) -> Option<u8> {
     text::number(text).and_then(|n| n.try_into().ok())
 }
@@ -99,7 +106,7 @@ fn build_erp2(args: &Args) -> Result<Vec<u8>, Failure> {
         kind: parsed(kind, "TYPE", "a number", small)?,
         extension: has_extension.then(|| Extension { hops: hops.unwrap_or(0), optional: optional.unwrap_or_default() }),
         subtype: args.value("subtype", BYTE, byte)?,
-        originator: parsed(originator, "ORIGINATOR", "up to twelve hexadecimal digits", |t| u64::from_str_radix(t, 16).ok())?,
+        originator: parsed(originator, "ORIGINATOR", "up to twelve hexadecimal digits", originator_of)?,
         destination: args.value("to", ID, text::identity)?,
         data: parsed(data, "DATA", HEX, text::bytes_of_hex)?,
     };

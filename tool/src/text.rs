@@ -1,20 +1,7 @@
-//! Numbers and bytes as text.
+//! Numbers and bytes as text. The library reads hexadecimal digits.
+pub use mooringeye::bytes_of_hex;
 
 const HEX: &[u8; 16] = b"0123456789ABCDEF";
-
-/// The value of each character as a hexadecimal digit; 0xFF where it is none.
-const NIBBLES: [u8; 256] = nibbles();
-
-const fn nibbles() -> [u8; 256] {
-    let mut table = [0xFF; 256];
-    let mut i = 0;
-    while i < 16 {
-        table[HEX[i] as usize] = i as u8;
-        table[HEX[i].to_ascii_lowercase() as usize] = i as u8;
-        i += 1;
-    }
-    table
-}
 
 /// The two digits of each byte, and of each number below 100.
 const PAIRS: [[u8; 2]; 256] = pairs(16);
@@ -51,13 +38,6 @@ pub fn put_number(out: &mut Vec<u8>, mut value: u64) {
         digits[at] = HEX[value as usize];
     }
     out.extend_from_slice(&digits[at..]);
-}
-
-/// The bytes that two digits each say, in either case.
-pub fn bytes_of_hex(text: &str) -> Option<Vec<u8>> {
-    let nibble = |c: u8| Some(NIBBLES[usize::from(c)]).filter(|n| *n != 0xFF);
-    let pairs = text.as_bytes().chunks(2);
-    pairs.map(|pair| Some(nibble(pair[0])? << 4 | nibble(*pair.get(1)?)?)).collect()
 }
 
 /// An identity: eight hexadecimal digits.

@@ -2,7 +2,7 @@
 use Prim.Native.Nat.{ℕ, _+_, _*_, _≤_, _<_}
 use mathlib.Core.Path.{_≡_}
 use mathlib.Core.Bool.{Bool, true, cond, not}
-use mathlib.Core.List.{List}
+use mathlib.Core.List.{List, [], _∷_}
 use lib.Dec.{eqb, ltb}
 use lib.ListN.{length, getD, take, drop}
 use Rattle.bytes.specs.Bytes.{indexOf}
@@ -13,7 +13,7 @@ use Rattle.c_layout.specs.Frame.{wrongSize}
 use Rattle.c_collector.specs.State.{Arrays, columnsAt, stateAt}
 use Rattle.line_input.specs.Ascii.{newline}
 use Rattle.line_input.specs.declared.Setting.{Setting}
-use Rattle.line_input.specs.Reading.{settingOf, lineLimit}
+use Rattle.line_input.specs.Reading.{settingOf, lineLimit, frontOf, lineOf, bytesIn}
 use Rattle.streams.specs.Chunks.{atLineStart, feed, feedText}
 use Rattle.streams.specs.Collect.{over}
 use Rattle.streams.specs.Buffer.{isUnended}
@@ -62,6 +62,18 @@ abbrev pub firstUsed : List ℕ → ℕ
 firstUsed input =
     let n = indexOf newline input in
     cond (ltb n (length input)) (n + 1) 0
+
+-- ---- a line by itself
+
+-- 0 for a reception, 3 for any other line, 4 where no newline ends it
+abbrev pub lineNumber : Bool → ℕ → ℕ
+lineNumber ok used = cond ok 0 (cond (eqb used 0) 4 3)
+
+-- what the line at the start of a text says (`lineOf`): its bytes zero filled; `done` has the time, the length and the characters with the newline
+pub record ReadLine (input : List ℕ) (number : ℕ) (bytes' done' : List ℕ) : Type 0 where
+  pub answer : number ≡ lineNumber (lineOf (frontOf input) .ok) (lineOf (frontOf input) .used)
+  pub written : bytes' ≡ bytesIn (frontOf input)
+  pub told : done' ≡ lineOf (frontOf input) .time ∷ lineOf (frontOf input) .len ∷ lineOf (frontOf input) .used ∷ []
 
 -- ---- lines that are passed over
 

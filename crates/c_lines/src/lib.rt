@@ -15,12 +15,12 @@ ghost use Prim.Native.Nat.{ℕ};
 ghost use lib.ListN.{length};
 ghost use Rattle.model.specs.Exact.{Fits};
 ghost use Rattle.c_collector.specs.State.{arrays, summaryIn, stateAt};
-ghost use Rattle.c_lines.specs.Calls.{isSized, Lines, levelNumber, firstNumber, firstUsed, Skipped};
+ghost use Rattle.c_lines.specs.Calls.{isSized, Lines, levelNumber, firstNumber, firstUsed, lineNumber, ReadLine, Skipped};
 
 // A row but its time: a byte that is not 0 for LOOSE, its length, and 21 bytes.
 const ROW_LENGTH: usize = 23;
 
-// What a first line is that says no level, and one that has not ended.
+// What a line is that says no level or no reception, and one that has not ended.
 const BAD_LINE: u8 = 3;
 
 const NO_LINE: u8 = 4;
@@ -28,8 +28,13 @@ const NO_LINE: u8 = 4;
 // How many characters were used, how many were written, how many rows, and how many lines.
 pub const DONE: usize = 4;
 
-// The characters of a first line, and those and the number of lines that were skipped.
+// The most bytes that a line says.
+pub const MAX_BYTES: usize = line_input::MAX_BYTES;
+
+// The characters of a first line; time, length and characters of a line; characters and number of lines that were skipped.
 pub const FIRST: usize = 1;
+
+pub const READ: usize = 3;
 
 pub const SKIPPED: usize = 2;
 
@@ -132,6 +137,28 @@ fn level_number(setting: Setting) -> u8
         Setting::Level(n) => n,
         Setting::Bad => BAD_LINE,
     }
+}
+
+// What the line at the start of a text says: 0 for a reception, whose bytes stand at the front of `bytes`, zero filled; 3 for any other line, 4 where
+// no newline ends it, both with zeros for time, length and bytes.
+pub fn read_line(input: &[u8], bytes: &mut [u8; MAX_BYTES], done: &mut [u64; READ]) -> u8
+    ensures { λ r. ⌜ ReadLine (now (input .entry)) r (now (bytes .exit)) (now (done .exit)) ⌝ }
+{
+    let l = line_input::parse(input, bytes);
+    *done = [l.time, l.len as u64, l.used as u64];
+    line_number(l.ok, l.used)
+}
+
+fn line_number(ok: bool, used: usize) -> u8
+    ensures { λ r. ⌜ r ≡ lineNumber ok used ⌝ }
+{
+    if ok {
+        return 0;
+    }
+    if used == 0 {
+        return NO_LINE;
+    }
+    BAD_LINE
 }
 
 // Passes over whole lines at the start of a text, at most `most`: how many characters they are, and how many lines.

@@ -5,6 +5,8 @@ use c_collector::NUMBERS;
 use c_collector::TOTALS;
 use c_lines::DONE;
 use c_lines::FIRST;
+use c_lines::MAX_BYTES;
+use c_lines::READ;
 use c_lines::SKIPPED;
 use c_lines::formats;
 ghost use mathlib.Core.Path.{_≡_};
@@ -15,7 +17,7 @@ ghost use Rattle.c_collector.specs.State.{arrays, stateAt};
 ghost use Rattle.c_collector.specs.Calls.{Takes, TakesTold, Fresh, totalsCall, copiesCall};
 ghost use Rattle.c_image.specs.Calls.{Restores};
 ghost use Rattle.c_burst.specs.Calls.{Bursts};
-ghost use Rattle.c_lines.specs.Calls.{Lines, firstNumber, firstUsed, Skipped};
+ghost use Rattle.c_lines.specs.Calls.{Lines, firstNumber, firstUsed, ReadLine, Skipped};
 ghost use Rattle.c_lines.specs.Formats.{LinesAs};
 
 // A collector with no telegram open and nothing counted.
@@ -267,6 +269,18 @@ pub extern "C" fn mooringeye_first_line(input: &[u8], done: &mut [u64; FIRST]) -
     ensures { λ r. ⌜ (r ≡ firstNumber (now (input .entry))) × (now (done .exit) ≡ firstUsed (now (input .entry)) ∷ []) ⌝ }
 {
     c_lines::first_line(input, done)
+}
+
+// What the line at the start of a text says: its time, its bytes, and its characters.
+#[no_mangle]
+pub extern "C" fn mooringeye_read_line(
+    input: &[u8],
+    bytes: &mut [u8; MAX_BYTES],
+    done: &mut [u64; READ],
+) -> u8
+    ensures { λ r. ⌜ ReadLine (now (input .entry)) r (now (bytes .exit)) (now (done .exit)) ⌝ }
+{
+    c_lines::read_line(input, bytes, done)
 }
 
 // Passes over whole lines at the start of a text.

@@ -24,7 +24,7 @@ mod telegram;
 pub use archive::{Archive, Row, Rows, Salvaged};
 pub use collector::{Answer, Collector, Reception, Reply, Totals};
 pub use erp2::{Erp2, Extension};
-pub use lines::{skip_lines, Closing, FirstLine, Format, Lines, Session, Taken};
+pub use lines::{bytes_of_hex, read_line, skip_lines, Closing, FirstLine, Format, Lines, Session, Taken};
 pub use pieces::{Adding, Block, Packed, Packer, PieceRows, Scan};
 pub use plans::{Assignment, Rule, Site, SlotPlan};
 pub use refusal::{Refusal, Refused};

@@ -298,6 +298,34 @@ impl FirstLine {
     }
 }
 
+/// The reception that a line says, without its newline: the time and the bytes; none for a line that is BAD.
+///
+/// ```
+/// assert_eq!(mooringeye::read_line(b"1000 d509"), Some((1_000, vec![0xD5, 0x09])));
+/// assert_eq!(mooringeye::read_line(b"1000 d50"), None);
+/// ```
+pub fn read_line(line: &[u8]) -> Option<(u64, Vec<u8>)> {
+    let text = [line, b"\n"].concat();
+    let (mut bytes, mut done) = ([0; raw::LINE_BYTES], [0; raw::LINE_READ]);
+    let number = raw::read_line(&text, &mut bytes, &mut done);
+    let [time, length, used] = done;
+    (number == 0 && size(used) == text.len()).then(|| (time, bytes[..size(length)].to_vec()))
+}
+
+/// The bytes that hexadecimal digits say, two each, in either case; none for any other text. The digits are read as those of lines are.
+///
+/// ```
+/// assert_eq!(mooringeye::bytes_of_hex("D5090a"), Some(vec![0xD5, 0x09, 0x0A]));
+/// assert_eq!(mooringeye::bytes_of_hex("D5090"), None);
+/// ```
+pub fn bytes_of_hex(text: &str) -> Option<Vec<u8>> {
+    let mut bytes = Vec::with_capacity(text.len() / 2);
+    for digits in text.as_bytes().chunks(2 * raw::LINE_BYTES) {
+        bytes.extend(read_line(&[b"0 ", digits].concat())?.1);
+    }
+    Some(bytes)
+}
+
 /// The bytes of whole lines at the start of a text, at most `most`, and how many these lines are.
 ///
 /// ```
@@ -420,6 +448,24 @@ mod tests {
         assert_eq!(text_alone.closings().count(), 0);
         let mut again = Session::new(Collector::new(), 0, Format::Text).unwrap();
         assert!(again.feed(text.as_bytes()).text() == text_alone.text());
+    }
+
+    #[test]
+    fn lines_and_digits() {
+        for line in ["", "1", "01 D5", "1 D5\n", "1 D5\n2 D5", "1 D5 ", "18446744073709551616 D5"] {
+            assert_eq!(read_line(line.as_bytes()), None, "{line:?}");
+        }
+        assert_eq!(read_line(b"18446744073709551615 "), Some((u64::MAX, vec![])));
+        let bytes: Vec<u8> = (0..=255).collect();
+        let digits: String = bytes.iter().map(|b| format!("{b:02X}")).collect();
+        for n in 0..=256 {
+            assert_eq!(bytes_of_hex(&digits[..2 * n]).as_deref(), Some(&bytes[..n]));
+            assert_eq!(bytes_of_hex(&digits[..2 * n].to_lowercase()).as_deref(), Some(&bytes[..n]));
+            assert_eq!(bytes_of_hex(&format!("{}G", &digits[..2 * n])), None);
+        }
+        for text in ["0", "0G", "0 ", " 00", "0\n", "00\n", "\n", "+1"] {
+            assert_eq!(bytes_of_hex(text), None, "{text:?}");
+        }
     }
 
     #[test]

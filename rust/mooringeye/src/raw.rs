@@ -30,6 +30,10 @@ pub const LONGEST_ROW: usize = 92;
 pub const LINE_LIMIT: usize = 150;
 /// What lines that were taken are told by: bytes used, bytes of text, rows and lines.
 pub const LINES_DONE: usize = 4;
+/// The most bytes that a line says.
+pub const LINE_BYTES: usize = 64;
+/// What a line is told by: its time, how many bytes it says, and its own bytes.
+pub const LINE_READ: usize = 3;
 /// The bytes of the longest row of a line in any format.
 pub const LONGEST_ROW_AS: usize = 333;
 /// What lines that were taken in a format are told by: bytes used, bytes of rows, rows for an archive, lines and closings.
@@ -173,6 +177,7 @@ mod c {
             done: Out64,
         ) -> u8;
         pub fn mooringeye_first_line(input: In, input_len: usize, used: Out64) -> u8;
+        pub fn mooringeye_read_line(input: In, input_len: usize, bytes: Out, done: Out64) -> u8;
         pub fn mooringeye_skip_lines(input: In, input_len: usize, most: usize, done: Out64);
         pub fn mooringeye_archive_verify(buffer: In, size: usize, rows: Size, position: Size) -> u8;
         pub fn mooringeye_archive_append(buffer: Out, size: usize, bytes: In, len: usize, time: u64, loose: bool, position: Size) -> u8;
@@ -514,6 +519,12 @@ pub fn collector_lines_as(
 pub fn first_line(input: &[u8], used: &mut u64) -> u8 {
     // SAFETY: a slice that is read, and a number that is `&mut`.
     unsafe { c::mooringeye_first_line(input.as_ptr(), input.len(), used) }
+}
+
+/// What the line at the start of a text says: 0 for a reception, 3 for another line, 4 for none that has ended.
+pub fn read_line(input: &[u8], bytes: &mut [u8; LINE_BYTES], done: &mut [u64; LINE_READ]) -> u8 {
+    // SAFETY: a slice that is read, and two arrays of the sizes that the header names, both `&mut`.
+    unsafe { c::mooringeye_read_line(input.as_ptr(), input.len(), bytes.as_mut_ptr(), done.as_mut_ptr()) }
 }
 
 /// Whole lines at the start of a text, at most `most`: their bytes, and how many they are.

@@ -250,6 +250,19 @@ fn first_lines_and_skipped_lines() {
     {
         assert_eq!((raw::first_line(text, &mut used), used), (number, size));
     }
+    let (mut bytes, mut done) = ([0xEE; raw::LINE_BYTES], [77; raw::LINE_READ]);
+    for (text, number, told) in [
+        (&b"7 D509\nx"[..], 0, [7, 2, 7]),
+        (b"7 \n", 0, [7, 0, 3]),
+        (b"7 D5", 4, [0, 0, 0]),
+        (b"", 4, [0, 0, 0]),
+        (b"\n", 3, [0, 0, 1]),
+        (b"7 D\n8 D5\n", 3, [0, 0, 4]),
+    ] {
+        assert_eq!((raw::read_line(text, &mut bytes, &mut done), done), (number, told), "{text:?}");
+        let said: &[u8] = if told[1] == 2 { &[0xD5, 0x09] } else { &[] };
+        assert!(bytes.starts_with(said) && bytes[said.len()..].iter().all(|b| *b == 0));
+    }
     let mut done = [77; 2];
     for (most, expected) in [(0, [0, 0]), (1, [1, 1]), (2, [3, 2]), (3, [4, 3]), (4, [4, 3]), (usize::MAX, [4, 3])] {
         raw::skip_lines(b"\nx\n\nlast", most, &mut done);
