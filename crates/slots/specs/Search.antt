@@ -6,6 +6,7 @@ use Prim.Native.Nat.{ℕ, _+_, _≤_}
 use lib.ListN.{length, getD}
 use lib.Dec.{leb, ltb, eqb}
 use Rattle.lists.specs.Lists.{keep, upFrom}
+use Rattle.slots.specs.declared.SlotRange.{SlotRange}
 use Rattle.slots.specs.declared.Rule.{Rule}
 use Rattle.slots.specs.declared.SlotPlan.{SlotPlan}
 use Rattle.slots.specs.declared.Lookup.{Lookup}
@@ -18,12 +19,16 @@ use Rattle.slots.specs.Plan.{plan, within, noSlot, startOf, endOf, isOfT
 abbrev pub secondFollows : Rule → ℕ → ℕ → ℕ → Bool
 secondFollows r d a b = leb (endOf d a + r .pause) (startOf b)
 
+-- slot c is in a range, starts at `from` or later, and ends by `end`
+abbrev pub fits : SlotRange → ℕ → ℕ → ℕ → ℕ → Bool
+fits s d from end c = within s c && (leb from (startOf c) && leb (endOf d c) end)
+
 -- slot c is in the third range, starts when slot b has ended, and ends in time; where that range is empty, slot b ends in time
 unfoldable pub thirdFollows : Rule → ℕ → ℕ → ℕ → Bool
 thirdFollows r d b c =
     cond (isOfTwo r)
     (eqb c noSlot && leb (endOf d b) (r .end))
-    (within (rangeAt r 2) c && (leb (endOf d b) (startOf c) && leb (endOf d c) (r .end)))
+    (fits (rangeAt r 2) d (endOf d b) (r .end) c)
 
 -- the tests of `lawful` in the order of the slots
 unfoldable pub passes : Rule → ℕ → SlotPlan → Bool
@@ -38,6 +43,11 @@ passes r d p =
 -- the plan at index k of a list, or the length of a list that is too short
 unfoldable pub lookupOf : List SlotPlan → ℕ → Lookup
 lookupOf ps k = cond (ltb k (length ps)) (Found (getD ps k (plan 0 0 0))) (Counted (length ps))
+
+-- the slots of a range that fit are n numbers from a on, all below 256
+pub record IsRow (s : SlotRange) (d from end a n : ℕ) : Type 0 where
+  pub row : keep (fits s d from end) (slotsIn s) ≡ upFrom a n
+  pub small : a + n ≤ 256
 
 -- the third slots that may follow the second slot b are n numbers from a on, all below 256
 pub record IsThirds (r : Rule) (d b a n : ℕ) : Type 0 where

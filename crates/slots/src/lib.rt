@@ -1,9 +1,10 @@
 // Slot plans (document 01, "Slot plan"): which 1 ms slots the transmissions of a telegram use.
 use refusal::Refusal;
 ghost use mathlib.Core.Path.{_≡_};
+ghost use mathlib.Core.Bool.{true};
 ghost use Prim.Native.Nat.{_≤_, min, max};
-ghost use Rattle.slots.specs.Plan.{answerOf, planOf, standardRule, plans, drawn, lawful, within};
-ghost use Rattle.slots.specs.Search.{secondFollows, thirdFollows, IsThirds, lookupOf, plansAfter, plansFrom};
+ghost use Rattle.slots.specs.Plan.{answerOf, planOf, standardRule, plans, drawn, lawful, within, isOfTwo};
+ghost use Rattle.slots.specs.Search.{secondFollows, thirdFollows, IsRow, IsThirds, lookupOf, plansAfter, plansFrom};
 
 // Slots first to last; empty where first is above last.
 pub struct SlotRange {
@@ -198,6 +199,9 @@ fn search(rule: Rule, duration: u32, k: u64) -> Lookup
 fn search_from(rule: Rule, duration: u32, first: u8, k: u64) -> Lookup
     ensures { λ r. ⌜ r ≡ lookupOf (plansFrom rule duration first) k ⌝ }
 {
+    if is_of_two(rule) {
+        return search_pairs(rule, duration, first, k);
+    }
     let range = rule.ranges[1];
     let low = range.first as u32;
     let high = range.last as u32 + 1;
@@ -214,6 +218,37 @@ fn search_from(rule: Rule, duration: u32, first: u8, k: u64) -> Lookup
         }
     }
     Lookup::Counted(passed)
+}
+
+// Whether the rule has no third transmission.
+fn is_of_two(rule: Rule) -> bool
+    ensures { λ r. ⌜ r ≡ isOfTwo rule ⌝ }
+{
+    let range = rule.ranges[2];
+    range.last < range.first
+}
+
+// The same under a rule of two transmissions, without a loop: the second slots that may follow are in a row.
+fn search_pairs(rule: Rule, duration: u32, first: u8, k: u64) -> Lookup
+    requires { ⌜ isOfTwo rule ≡ true ⌝ }
+    ensures { λ r. ⌜ r ≡ lookupOf (plansFrom rule duration first) k ⌝ }
+{
+    let ended = SLOT * first as u64 + duration as u64;
+    let run = row(
+        rule.ranges[1],
+        duration,
+        ended + rule.pause as u64,
+        rule.end,
+    );
+    if run.count <= k {
+        return Lookup::Counted(run.count);
+    }
+    let second = (run.first + k) as u8;
+    Lookup::Found(SlotPlan {
+        first: first,
+        second: second,
+        third: NO_SLOT,
+    })
 }
 
 // The lawful plan at index k among those with these first two slots.
@@ -241,16 +276,13 @@ struct Run {
     count: u64,
 }
 
-// The third slots that may follow a second, without a loop: a start and an end between two bounds leave slots in a row.
+// The third slots that may follow a second.
 fn thirds(rule: Rule, duration: u32, second: u8) -> Run
     ensures { λ r. ⌜ IsThirds rule duration second (r .first) (r .count) ⌝ }
 {
-    let range = rule.ranges[2];
-    let d = duration as u64;
-    let end = rule.end as u64;
-    let ended = SLOT * second as u64 + d;
-    if range.last < range.first {
-        if ended <= end {
+    let ended = SLOT * second as u64 + duration as u64;
+    if is_of_two(rule) {
+        if ended <= rule.end as u64 {
             return Run {
                 first: NO_SLOT as u64,
                 count: 1,
@@ -258,11 +290,21 @@ fn thirds(rule: Rule, duration: u32, second: u8) -> Run
         }
         return Run { first: 0, count: 0 };
     }
-    if end < d {
+    row(rule.ranges[2], duration, ended, rule.end)
+}
+
+// The slots of a range that start at `from` or later and end by `end`, without a loop: a start and an end between two bounds leave slots in a row.
+fn row(range: SlotRange, duration: u32, from: u64, end: u32) -> Run
+    requires { ⌜ from ≤ 10_000_000_000 ⌝ }
+    ensures { λ r. ⌜ IsRow range duration from end (r .first) (r .count) ⌝ }
+{
+    let d = duration as u64;
+    let last = end as u64;
+    if last < d {
         return Run { first: 0, count: 0 };
     }
-    let low = larger(range.first as u64, (ended + 999) / SLOT);
-    let high = smaller(range.last as u64, (end - d) / SLOT);
+    let low = larger(range.first as u64, (from + 999) / SLOT);
+    let high = smaller(range.last as u64, (last - d) / SLOT);
     if high < low {
         return Run { first: 0, count: 0 };
     }

@@ -1,4 +1,4 @@
--- `slots::search_from` meets its contract: the second slots are tried in order. The invariant is `Passed`: how many plans the slots before this
+-- `slots::search_from` meets its contract: of three transmissions the second slots are tried in order. The invariant is `Passed`: how many plans the slots before this
 -- one have, and that index k is not among them; the measure: the slots left.
 use mathlib.Core.Path.{_∙_, sym}
 use Prim.Native.Nat.{_-_}
@@ -15,9 +15,9 @@ Inv-loop duration first k rule low high passed₀ slot₀ passed slot = Passed (
 abbrev μ-loop : tie.MeasureT-loop
 μ-loop duration first k rule low high passed₀ slot₀ passed slot = high - slot
 
-returns : tie.Need-returns Inv-loop μ-loop
+returns-2 : tie.Need-returns-2 Inv-loop μ-loop
 unfolding plansFrom
-returns c =
+returns-2 c =
     let called = c .before .before .before in
     found _ _ _ (called .before .before .loop .inv) (called .before .loop-test .taken)
     (sym (c .before .found .given .1) ∙ called .search-after .ensures)
@@ -28,13 +28,19 @@ loop-again c =
     at-next _ _ _ (called .before .before .loop .inv) (called .before .loop-test .taken)
     (sym (c .before .found2 .given .1) ∙ called .search-after .ensures)
 
+-- where the loop starts
+abbrev entered : tie.At-loop Inv-loop μ-loop → tie.Else1 Inv-loop μ-loop
+entered c = c .before .before .before .before
+
 -- at most k plans are passed, and k fits
 add-passed : tie.Need-add-passed Inv-loop μ-loop
-add-passed c = omega (arith, loop-again c .before, c .before .before .before .before .before .before .before .before .before .fits .k)
+add-passed c =
+    let called = c .before .before .before in
+    omega (arith, loop-again c .before, entered (called .before .before) .before .before .fits .k)
 
-returns-2 : tie.Need-returns-2 Inv-loop μ-loop
+returns-3 : tie.Need-returns-3 Inv-loop μ-loop
 unfolding plansFrom
-returns-2 c = at-end _ _ _ (c .before .loop .inv) (c .loop-test .left)
+returns-3 c = at-end _ _ _ (c .before .loop .inv) (c .loop-test .left)
 
 pub search-from-spec : {M : Type 1} → statement M
 search-from-spec =
@@ -42,6 +48,9 @@ search-from-spec =
     (tie.spec
     Inv-loop
     μ-loop
+    (λ c κs. search needs)
+    (λ c κs. sym (c .before .is-of-two .ensures) ∙ c .if1 .taken)
+    (λ c. c .search-pairs .ensures)
     (λ c. search needs)
     (λ c. search needs)
     (λ c. search needs)
@@ -51,10 +60,10 @@ search-from-spec =
     (λ c. search needs)
     (λ c κs. search needs)
     (λ c. search needs)
-    returns
+    returns-2
     (λ c. search needs)
     add-passed
     (λ c. search needs)
     (λ c. search needs)
     loop-again
-    returns-2)
+    returns-3)
