@@ -98,7 +98,7 @@ pub record Collector : Type 0 where
   pub calls-follow-model : archived_runs.CallsFollow
   -- However a log is cut into calls of `lines_as`, what they close is what the model closes. The proof uses only the contract of the call.
   pub closings-follow-model : archived_closed.CallsClose
-  -- A whole log kept in a fresh archive leaves the archive of the receptions that the model keeps, and of the loose ones, byte by byte.
+  -- A whole log kept in a fresh archive leaves the archive of the receptions that the model keeps, and of the loose ones, and the model's image.
   pub log-is-archived : whole_log.FreshKept
 
 -- ---- archives, and reports of the totals in archives

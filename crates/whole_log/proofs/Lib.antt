@@ -1,4 +1,5 @@
 pub mod Said
+pub mod States
 pub mod Growing
 pub mod Turning
 pub mod Calling

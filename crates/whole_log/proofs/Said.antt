@@ -82,12 +82,13 @@ module _ (p : Program (Phase Receiver)) (b : Bounded p lineLimit) where
       (append-assoc t f (endText p (feed p lineLimit (atLineStart s') y)))
       ∙ ap (λ (l : List ℕ). t ++ l) (all-given s' y)
 
-  out-none : (s : Phase Receiver) → outputOf p s [] ≡ p .end s
+  pub out-none : (s : Phase Receiver) → outputOf p s [] ≡ p .end s
   unfolding outputOf textOf stateAfter linesOf
   out-none s = refl
 
   -- a text without a newline is a last line
-  out-open : (s : Phase Receiver) (y : List ℕ) → isUnended y ≡ true → outputOf p s y ≡ lastText p s (take lineLimit y)
+  pub out-open : (s : Phase Receiver) (y : List ℕ) → isUnended y ≡ true
+      → outputOf p s y ≡ lastText p s (take lineLimit y)
   out-open s y o =
       let l = left p lineLimit (none p lineLimit s) y o in
       sym (all-given s y) ∙ rw (l .0, l .1)
@@ -191,7 +192,7 @@ module _ (p : Program (Phase Receiver)) (s s' : Phase Receiver) where
 
 -- ---- the first line of a log
 
-level-few : (l : List ℕ) (n : ℕ) → settingOf l ≡ Setting.Level n → n ≤ 2
+pub level-few : (l : List ℕ) (n : ℕ) → settingOf l ≡ Setting.Level n → n ≤ 2
 unfolding settingOf
 level-few l n =
     branch (λ (x : Setting). x ≡ Setting.Level n → n ≤ 2) (equal l (levelLine 0))
@@ -224,7 +225,7 @@ module _ (log : List ℕ) where
       ∙ ap (λ (l : List ℕ). l ++ drop (end + 1) log) x)
       ∙ said-more (drop (end + 1) log) d e (omega arith)
 
-  first-level : (x : Setting) (setting : ℕ) → setting ≡ levelNumber x → setting ≤ 2 → x ≡ Setting.Level setting
+  pub first-level : (x : Setting) (setting : ℕ) → setting ≡ levelNumber x → setting ≤ 2 → x ≡ Setting.Level setting
   first-level (Setting.Level n) setting e h = ap Setting.Level (sym e)
   first-level Setting.Bad setting e h = absurd (omega arith)
 

@@ -12,10 +12,12 @@ use Rattle.lists.specs.Lists.{all}
 use Rattle.lists.proofs.Tests.{all-parts, by-test}
 use Rattle.layout.specs.Block.{cellsPerBlock, blockLength}
 use Rattle.model.specs.Exact.{Fits}
-use Rattle.model.proofs.Invariant.{Good, good-acceptable}
+use Rattle.model.specs.Image.{imageOf}
+use Rattle.model.proofs.Invariant.{Good, good-acceptable, good-of}
 use Rattle.line_input.specs.Ascii.{newline}
 use Rattle.line_input.specs.Reading.{lineLimit}
 use Rattle.streams.specs.Buffer.{isUnended}
+use Rattle.streams.specs.Lines.{outputOf}
 use Rattle.streams.specs.Collect.{Phase}
 use Rattle.streams.proofs.Segments.{Drained, open-front}
 use Rattle.archive_model.specs.Row.{Row}
@@ -41,8 +43,11 @@ use Rattle.whole_log.specs.Private.{
   Ready,
   Turned,
   Passed,
+  states,
+  Went,
 }
 use Rattle.whole_log.proofs.Said.{said-more, said-last, no-more, good-fed, all-used}
+use Rattle.whole_log.proofs.States.{state-more, state-last, state-none}
 use Rattle.whole_log.proofs.Growing.{put-grown}
 
 -- of a text that is taken from s₀ on, the first `at` characters were taken, and the archive has n rows with theirs
@@ -51,6 +56,7 @@ pub record Going (write : Bool) (s₀ : Phase Receiver) (input archive₀ : List
   pub inside : at ≤ length input
   pub said : List Row
   pub whole : rowsSaid s₀ input ≡ said ++ rowsSaid s (drop at input)
+  pub left : outputOf states s₀ input ≡ outputOf states s (drop at input)
   pub count : n ≡ n₀ + length said
   pub room : n ≤ capacityOf (length archive₀)
   pub long : length archive ≡ length archive₀
@@ -64,6 +70,7 @@ begins {archive = archive} r = record {
   inside = omega arith;
   said = [];
   whole = refl;
+  left = refl;
   count = omega arith;
   room = r .callable .room;
   long = refl;
@@ -123,6 +130,12 @@ module _ {write : Bool} {s₀ : Phase Receiver} {input archive₀ : List ℕ} {n
             };
       }
 
+-- nothing is left: the state
+pub closes-state : (setting : ℕ) (s : Arrays) {write : Bool} {s₀ : Phase Receiver} {input archive₀ : List ℕ} {n₀ : ℕ}
+    {archive : List ℕ} {at n : ℕ} → Going write s₀ input archive₀ n₀ (phaseAt setting s) archive at n
+    → drop at input ≡ [] → outputOf states s₀ input ≡ imageOf (stateAt s)
+closes-state setting s i e = i .left ∙ rw e (state-none (phaseAt setting s))
+
 -- ---- a turn
 
 module _ {write : Bool} {s₀ : Phase Receiver} {input archive₀ : List ℕ} {n₀ setting : ℕ} {s s' : Arrays}
@@ -158,6 +171,13 @@ module _ {write : Bool} {s₀ : Phase Receiver} {input archive₀ : List ℕ} {n
   whole-then : rowsSaid s₀ input ≡ (i .said ++ given) ++ rest
   whole-then = i .whole ∙ ap (λ (l : List Row). i .said ++ l) said-then ∙ sym (append-assoc (i .said) given rest)
 
+  left-then : outputOf states s₀ input ≡ outputOf states (phaseAt setting s') (drop (at + r .used) input)
+  left-then =
+      let d = drop at input in
+      i .left ∙ ap (outputOf states (phaseAt setting s)) (sym (take-append-drop (r .used) d))
+      ∙ state-more (phaseAt setting s) (phaseAt setting s') text (drop (r .used) d) (t .timed)
+      ∙ ap (outputOf states (phaseAt setting s')) (drop-drop (r .used) at input)
+
   pub too-full : (rows : ℕ) → r .fits ≡ false → Passed write (rowsSaid s₀ input) archive₀ n₀ archive'
       (record { fits = false; rows = rows })
   too-full rows e =
@@ -183,6 +203,7 @@ module _ {write : Bool} {s₀ : Phase Receiver} {input archive₀ : List ℕ} {n
         inside = inside-then;
         said = i .said ++ given;
         whole = whole-then;
+        left = left-then;
         count = omega (arith, length-append (i .said) given, given-count, i .count);
         room = rw (← i .long) room;
         long = long ∙ i .long;
@@ -256,10 +277,21 @@ module _ {write : Bool} {s s' : Arrays} {setting : ℕ} {line archive archive' :
       (open-front lineLimit line o) (t .within) (t .timed) (t .rest) in
       drop-of-length-le ended {i = 0 + r .used} (omega arith)
 
-  pub last-passed : Passed write (rowsSaid (phaseAt setting s) line) archive n archive'
+  last-passed : Passed write (rowsSaid (phaseAt setting s) line) archive n archive'
       (record { fits = r .fits; rows = n + r .rows })
   last-passed =
       rw same-said
       (by-test (r .fits)
       (λ e. rw e (closes (goes-on starts r t (q .holds) fit-ended long e) none-left))
       (λ e. rw e (too-full starts r t (n + r .rows) e)))
+
+  pub last-went : Went write s setting line archive n s' archive' (record { fits = r .fits; rows = n + r .rows })
+  last-went =
+      let g = good-of (stateAt s) (q .callable .accepted) (q .fits) in
+      record {
+        passed = last-passed;
+        left = λ e.
+            state-last (phaseAt setting s) line o some
+            ∙ closes-state setting s' (goes-on starts r t (q .holds) fit-ended long e) none-left;
+        accepted = λ _. good-acceptable (stays-good starts r t g);
+      }

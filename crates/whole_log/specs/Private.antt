@@ -2,16 +2,19 @@
 use Prim.Native.Nat.{ℕ, _+_, _*_, _/_, _%_, _≤_}
 use mathlib.Core.Path.{_≡_}
 use mathlib.Core.Bool.{Bool, true, false, cond, _&&_}
-use mathlib.Core.List.{List, _++_}
+use mathlib.Core.List.{List, [], _++_}
 use lib.Dec.{leb, eqb}
-use lib.ListN.{length, take}
+use lib.ListN.{length, take, drop}
 use Rattle.lists.specs.Lists.{all}
 use Rattle.layout.specs.Block.{cellsPerBlock}
+use Rattle.model.specs.View.{fresh}
+use Rattle.model.specs.Image.{imageLength, imageOf}
 use Rattle.model.specs.Acceptable.{acceptable}
 use Rattle.model.specs.Exact.{Fits}
 use Rattle.line_input.specs.Reading.{lineLimit}
 use Rattle.streams.specs.Chunks.{atLineStart, feed, feedText}
-use Rattle.streams.specs.Collect.{Phase}
+use Rattle.streams.specs.Lines.{Program, outputOf}
+use Rattle.streams.specs.Collect.{Phase, starting, running, over, nextPhase}
 use Rattle.streams.specs.Buffer.{isUnended}
 use Rattle.archive_model.specs.Row.{Row}
 use Rattle.archive_model.specs.Buffer.{rowsIn}
@@ -19,13 +22,14 @@ use Rattle.archive_model.specs.Append.{verdict, blockAt}
 use Rattle.archive_model.specs.Claims.{isFit}
 use Rattle.filling.specs.Fill.{rowLength, rowsGiven, putRowsOf}
 use Rattle.filling.specs.Claims.{withBlock}
-use Rattle.collecting.specs.Session.{Receiver, runningAt}
+use Rattle.collecting.specs.Session.{Receiver, modelCollector, runningAt}
 use Rattle.collecting.specs.Rows.{rowTimes, rowRecords}
+use Rattle.archived.specs.Archived.{archivedOf}
 use Rattle.archived.specs.Claims.{rowsSaid}
 use Rattle.c_collector.specs.State.{Arrays, stateAt}
 use Rattle.whole_log.specs.declared.Pass.{Pass}
 use Rattle.whole_log.specs.declared.Turn.{Turn}
-use Rattle.whole_log.specs.Keep.{capacityOf}
+use Rattle.whole_log.specs.Keep.{stateOf, capacityOf}
 
 -- ---- the archive
 
@@ -101,3 +105,36 @@ pub record Passed (write : Bool) (rows : List Row) (archive : List ℕ) (n : ℕ
   pub count : r .fits ≡ true → r .rows ≡ n + length rows
   pub quiet : write ≡ false → archive' ≡ archive
   pub grown : write ≡ true → r .fits ≡ true → Grown archive rows archive'
+
+-- ---- the state
+
+-- the image of the collector where a run stands
+abbrev pub imageAt : Phase Receiver → List ℕ
+imageAt starting = imageOf fresh
+imageAt (running c) = imageOf (c .view)
+imageAt over = imageOf fresh
+
+-- a program over the same lines that gives it at the end
+abbrev pub states : Program (Phase Receiver)
+states = record { next = nextPhase modelCollector; text = λ s l. []; end = imageAt }
+
+-- the text was gone through, and the collector stands where it leads
+pub record Went (write : Bool) (s : Arrays) (setting : ℕ) (input archive : List ℕ) (n : ℕ) (s' : Arrays)
+    (archive' : List ℕ)
+    (r : Pass) : Type 0 where
+  pub passed : Passed write (rowsSaid (phaseAt setting s) input) archive n archive' r
+  pub left : r .fits ≡ true → outputOf states (phaseAt setting s) input ≡ imageOf (stateAt s')
+  pub accepted : r .fits ≡ true → acceptable (stateAt s') ≡ true
+
+-- a log was gone through by a fresh collector
+pub record Logged (write : Bool) (log archive : List ℕ) (n : ℕ) (s' : Arrays) (archive' : List ℕ)
+    (r : Pass) : Type 0 where
+  pub passed : Passed write (archivedOf log) archive n archive' r
+  pub left : r .fits ≡ true → imageOf (stateAt s') ≡ imageOf (stateOf log)
+  pub accepted : r .fits ≡ true → acceptable (stateAt s') ≡ true
+
+-- a log was gone through, and the image is written where it was to be, and the rows fit
+pub record WentThrough (write : Bool) (log archive : List ℕ) (n : ℕ) (image archive' image' : List ℕ)
+    (r : Pass) : Type 0 where
+  pub passed : Passed write (archivedOf log) archive n archive' r
+  pub parked : image' ≡ cond (write && r .fits) (imageOf (stateOf log) ++ drop imageLength image) image

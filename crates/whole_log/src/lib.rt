@@ -3,6 +3,7 @@ use c_collector::BYTES;
 use c_collector::CAPACITY;
 use c_collector::NUMBERS;
 use filling::ROW_LENGTH;
+use image::IMAGE_LENGTH;
 use layout::BLOCK_LENGTH;
 use layout::CELLS_PER_BLOCK;
 use line_input::LINE_LIMIT;
@@ -11,19 +12,19 @@ use telegram::repeater::MAX_SETTING;
 ghost use mathlib.Core.Path.{_≡_};
 ghost use mathlib.Core.Bool.{true, cond};
 ghost use mathlib.Core.List.{[], _∷_, _++_};
-ghost use Prim.Native.Nat.{_+_, _*_, _/_, _<_, min};
-ghost use lib.ListN.{length, take};
+ghost use Prim.Native.Nat.{_+_, _*_, _/_, _≤_, _<_, min};
+ghost use lib.ListN.{length, take, drop};
 ghost use Rattle.layout.specs.Block.{cellsPerBlock, blockLength};
+ghost use Rattle.model.specs.View.{fresh};
+ghost use Rattle.model.specs.Image.{imageLength, imageOf};
+ghost use Rattle.model.specs.Acceptable.{acceptable};
 ghost use Rattle.filling.specs.Fill.{rowLength, rowsGiven};
 ghost use Rattle.line_input.specs.Ascii.{newline};
 ghost use Rattle.line_input.specs.Reading.{lineLimit};
 ghost use Rattle.streams.specs.Buffer.{isUnended};
-ghost use Rattle.collecting.specs.Session.{runningAt};
-ghost use Rattle.archived.specs.Archived.{archivedOf};
-ghost use Rattle.archived.specs.Claims.{rowsSaid};
 ghost use Rattle.c_collector.specs.State.{arrays, stateAt};
 ghost use Rattle.whole_log.specs.Keep.{keptOf, keepOf};
-ghost use Rattle.whole_log.specs.Private.{textLength, putIn, Holds, Ready, Callable, Turned, Passed};
+ghost use Rattle.whole_log.specs.Private.{textLength, putIn, Holds, Ready, Callable, Turned, Went, Logged, WentThrough};
 
 // Room for the text of 15 lines, which is not used.
 const TEXT: usize = 4096;
@@ -54,9 +55,11 @@ pub(crate) struct Turn {
     pub fits: bool,
 }
 
-// Puts the rows of a log behind those of an archive: 16, 12 with the position; 6 where they do not fit; then the archive is as it was.
-pub fn keep(log: &[u8], archive: &mut [u8]) -> Kept
-    ensures { λ r. ⌜ keptOf r (now (archive .exit)) ≡ keepOf (now (log .entry)) (now (archive .entry)) ⌝ }
+// Puts the rows of a log behind those of an archive, and the image of the collector then into the first 2,560 bytes of `image`: 16, 12 with the
+// position; 6 where one of them has no room; then both are as they were.
+pub fn keep(log: &[u8], archive: &mut [u8], image: &mut [u8]) -> Kept
+    ensures { λ r. ⌜ keptOf r (now (archive .exit)) (now (image .exit))
+        ≡ keepOf (now (log .entry)) (now (archive .entry)) (now (image .entry)) ⌝ }
 {
     let mut rows: usize = 0;
     let mut position: usize = 0;
@@ -68,7 +71,14 @@ pub fn keep(log: &[u8], archive: &mut [u8]) -> Kept
             rows: 0,
         };
     }
-    let p = go_through(false, log, archive, rows);
+    if image.len() < IMAGE_LENGTH {
+        return Kept {
+            number: refusal::number(Refusal::ShortOutput),
+            position: 0,
+            rows: 0,
+        };
+    }
+    let p = go_through(false, log, archive, rows, image);
     if !p.fits {
         return Kept {
             number: refusal::number(Refusal::ShortOutput),
@@ -76,7 +86,7 @@ pub fn keep(log: &[u8], archive: &mut [u8]) -> Kept
             rows: 0,
         };
     }
-    let q = go_through(true, log, archive, rows);
+    let q = go_through(true, log, archive, rows, image);
     Kept {
         number: 0,
         position: 0,
@@ -84,20 +94,12 @@ pub fn keep(log: &[u8], archive: &mut [u8]) -> Kept
     }
 }
 
-// Takes the log from its first line on, and puts its rows behind the `n` of the archive where it is told to.
-fn go_through(write: bool, log: &[u8], archive: &mut [u8], n: usize) -> Pass
-    requires { ⌜ Holds (now archive) n ⌝ }
-    ensures { λ r. ⌜ Passed write (archivedOf (now (log .entry))) (now (archive .entry)) n (now (archive .exit)) r ⌝ }
+// Takes the log by a fresh collector, and puts its rows behind the `n` of the archive, and the image, where it is told to.
+fn go_through(write: bool, log: &[u8], archive: &mut [u8], n: usize, image: &mut [u8]) -> Pass
+    requires { ⌜ Holds (now archive) n × (imageLength ≤ length (now image)) ⌝ }
+    ensures { λ r. ⌜ WentThrough write (now (log .entry)) (now (archive .entry)) n (now (image .entry))
+        (now (archive .exit)) (now (image .exit)) r ⌝ }
 {
-    let mut first = [0u64; c_lines::FIRST];
-    let setting = c_lines::first_line(log, &mut first);
-    if MAX_SETTING < setting {
-        return Pass {
-            fits: true,
-            rows: n,
-        };
-    }
-    let at = first[0] as usize;
     let mut times = [0u64; CAPACITY];
     let mut lengths = [0u8; CAPACITY];
     let mut bytes = [0u8; BYTES];
@@ -110,18 +112,93 @@ fn go_through(write: bool, log: &[u8], archive: &mut [u8], n: usize) -> Pass
         &mut copies,
         &mut numbers,
     );
-    take_lines(
+    let p = take_log(
         write,
         &mut times,
         &mut lengths,
         &mut bytes,
         &mut copies,
         &mut numbers,
+        log,
+        archive,
+        n,
+    );
+    park(
+        write & p.fits,
+        &times,
+        &lengths,
+        &bytes,
+        &copies,
+        &numbers,
+        image,
+    );
+    p
+}
+
+// Takes the log from its first line on.
+fn take_log(
+    write: bool,
+    times: &mut [u64; CAPACITY],
+    lengths: &mut [u8; CAPACITY],
+    bytes: &mut [u8; BYTES],
+    copies: &mut [u16; CAPACITY],
+    numbers: &mut [u64; NUMBERS],
+    log: &[u8],
+    archive: &mut [u8],
+    n: usize,
+) -> Pass
+    requires { ⌜ (stateAt (arrays (now times) (now lengths) (now bytes) (now copies) (now numbers)) ≡ fresh)
+        × Holds (now archive) n ⌝ }
+    ensures { λ r. ⌜ Logged write (now (log .entry)) (now (archive .entry)) n
+        (arrays (now (times .exit)) (now (lengths .exit)) (now (bytes .exit)) (now (copies .exit))
+        (now (numbers .exit)))
+        (now (archive .exit)) r ⌝ }
+{
+    let mut first = [0u64; c_lines::FIRST];
+    let setting = c_lines::first_line(log, &mut first);
+    if MAX_SETTING < setting {
+        return Pass {
+            fits: true,
+            rows: n,
+        };
+    }
+    let at = first[0] as usize;
+    take_lines(
+        write,
+        times,
+        lengths,
+        bytes,
+        copies,
+        numbers,
         setting,
         &log[at..],
         archive,
         n,
     )
+}
+
+// Writes the image, if it is to.
+fn park<'a>(
+    write: bool,
+    times: &'a [u64; CAPACITY],
+    lengths: &'a [u8; CAPACITY],
+    bytes: &'a [u8; BYTES],
+    copies: &'a [u16; CAPACITY],
+    numbers: &'a [u64; NUMBERS],
+    image: &'a mut [u8],
+)
+    requires { ⌜ (imageLength ≤ length (now image))
+        × (write ≡ true → acceptable (stateAt (arrays (now times) (now lengths) (now bytes) (now copies) (now numbers)))
+        ≡ true) ⌝ }
+    ensures { λ _. ⌜ now (image .exit)
+        ≡ cond write (imageOf (stateAt (arrays (now (times .entry)) (now (lengths .entry)) (now (bytes .entry))
+        (now (copies .entry)) (now (numbers .entry)))) ++ drop imageLength (now (image .entry)))
+        (now (image .entry)) ⌝ }
+{
+    if !write {
+        return;
+    }
+    c_image::checkpoint(times, lengths, bytes, copies, numbers, image);
 }
 
 // Takes all whole lines of the input, as often as a call stops, and then what is left of a line.
@@ -139,10 +216,13 @@ fn take_lines(
 ) -> Pass
     requires { ⌜ Ready write (arrays (now times) (now lengths) (now bytes) (now copies) (now numbers)) setting (now input)
         (now archive) n ⌝ }
-    ensures { λ r. ⌜ Passed write
-        (rowsSaid (runningAt setting (stateAt (arrays (now (times .entry)) (now (lengths .entry)) (now (bytes .entry))
-        (now (copies .entry)) (now (numbers .entry))))) (now (input .entry)))
-        (now (archive .entry)) n (now (archive .exit)) r ⌝ }
+    ensures { λ r. ⌜ Went write
+        (arrays (now (times .entry)) (now (lengths .entry)) (now (bytes .entry)) (now (copies .entry))
+        (now (numbers .entry)))
+        setting (now (input .entry)) (now (archive .entry)) n
+        (arrays (now (times .exit)) (now (lengths .exit)) (now (bytes .exit)) (now (copies .exit))
+        (now (numbers .exit)))
+        (now (archive .exit)) r ⌝ }
 {
     let mut at: usize = 0;
     let mut rows = n;
@@ -200,10 +280,13 @@ fn take_last(
 ) -> Pass
     requires { ⌜ Ready write (arrays (now times) (now lengths) (now bytes) (now copies) (now numbers)) setting (now line)
         (now archive) n × (isUnended (now line) ≡ true) ⌝ }
-    ensures { λ r. ⌜ Passed write
-        (rowsSaid (runningAt setting (stateAt (arrays (now (times .entry)) (now (lengths .entry)) (now (bytes .entry))
-        (now (copies .entry)) (now (numbers .entry))))) (now (line .entry)))
-        (now (archive .entry)) n (now (archive .exit)) r ⌝ }
+    ensures { λ r. ⌜ Went write
+        (arrays (now (times .entry)) (now (lengths .entry)) (now (bytes .entry)) (now (copies .entry))
+        (now (numbers .entry)))
+        setting (now (line .entry)) (now (archive .entry)) n
+        (arrays (now (times .exit)) (now (lengths .exit)) (now (bytes .exit)) (now (copies .exit))
+        (now (numbers .exit)))
+        (now (archive .exit)) r ⌝ }
 {
     if line.len() == 0 {
         return Pass {

@@ -1,92 +1,54 @@
--- `whole_log::go_through` meets its contract: no right first line, or the lines behind it on a fresh collector.
-use mathlib.Core.Path.{_≡_, refl, ap, _∙_}
-use mathlib.Core.List.{List, [], _∷_}
-use Prim.Native.Nat.{ℕ, _≤_}
-use native.Mathlib.Omega.{arith}
-use lib.ListN.{length, getD, drop}
+-- `whole_log::go_through` meets its contract: the log on a fresh collector, and the image of where it leads.
+use mathlib.Core.Path.{_≡_, _∙_}
 use borrow.Author.Needs.{needs}
 use denote.Ref.{now}
-use Rattle.buffers.proofs.Stores.{take-rest}
-use Rattle.c_collector.specs.State.{Arrays, arrays}
-use Rattle.c_lines.specs.Calls.{firstUsed}
-use Rattle.whole_log.specs.Private.{Ready}
-use Rattle.whole_log.proofs.Said.{first-within}
-use Rattle.whole_log.proofs.Keeping.{none-passed, first-ready, first-passed}
+use Rattle.lists.proofs.Choice.{both}
+use Rattle.whole_log.proofs.Keeping.{parked-log}
 use Rattle.whole_log.proofs.go_through.Statement.{statement}
 use Rattle.whole_log.proofs.go_through.Tie as tie
 
--- ---- the places
+abbrev made : tie.After-take-log → tie.After-fresh
+made c =
+    let a = c .before .before .before in
+    let b = a .before .before .before in
+    b .before
 
-abbrev start : tie.After-first-line → tie.Start
-start c = let a = c .before .before in a .before .before
+abbrev start : tie.After-fresh → tie.Start
+start c =
+    let a = c .before .before .before in
+    let b = a .before .before .before in
+    b .before .before .before
 
-abbrev level : tie.After-fresh → tie.Else1
-level c = let a = c .before .before .before in a .before .before .before
+abbrev took : tie.After-park-arg → tie.After-take-log
+took c =
+    let a = c .before .before .before in
+    let b = a .before .before .before in
+    b .before .before .before
 
-abbrev made : tie.After-numbers2 → tie.After-fresh
-made c = let a = c .before .before .before in a .before .before
-
-abbrev first : tie.After-numbers2 → tie.After-first-line
-first c = level (made c) .before
-
-abbrev log : tie.After-first-line → List ℕ
-log c = now (start c .args .log)
-
-abbrev fresh : tie.After-fresh → Arrays
-fresh c =
-    let v = c .fresh .last in
-    arrays (v .0) (v .1 .0) (v .1 .1 .0) (v .1 .1 .1 .0) (v .1 .1 .1 .1 .0)
-
--- ---- the rest of the log
-
-used : (c : tie.After-first-line) → getD (c .first-line .last .1 .0) 0 0 ≡ firstUsed (log c)
-used c = ap (λ (l : List ℕ). getD l 0 0) (c .first-line .ensures .1)
-
-within : (c : tie.After-first-line) → getD (c .first-line .last .1 .0) 0 0 ≤ length (log c)
-within c = omega (arith, used c, first-within (log c))
+park-requires : tie.Need-park-requires
+park-requires c κs =
+    let t = took c in
+    let s = start (made t) in
+    (s .pre .1, λ e. t .take-log .ensures .accepted (both (s .args .write) (t .take-log .result .fits) e .1))
 
 returns : tie.Need-returns
 returns c =
-    let f = c .before in
-    let s = start f in
-    none-passed (s .args .write) (log f) (now (s .args .archive)) (s .args .n) (s .pre) (f .first-line .result)
-    (f .first-line .ensures .0) (c .if1 .taken)
-
-take-lines-requires : tie.Need-take-lines-requires
-take-lines-requires c κs =
-    let k = c .before .before in
-    let f = first k in
-    let s = start f in
-    let rest = take-rest (log f) (length (log f)) (getD (f .first-line .last .1 .0) 0 0) refl in
-    rw (rest, used f)
-    (first-ready (s .args .write) (log f) (now (s .args .archive)) (s .args .n) (s .pre) (f .first-line .result)
-    (f .first-line .ensures .0) (level (made k) .if1 .left)
-    (fresh (made k)) (made k .fresh .ensures .state))
-
-returns-2 : tie.Need-returns-2
-returns-2 c =
-    let t = c .before .before in
-    let a = t .before in
-    let k = a .before .before in
-    let f = first k in
-    let s = start f in
-    let rest = take-rest (log f) (length (log f)) (getD (f .first-line .last .1 .0) 0 0) refl in
-    first-passed (s .args .write) (log f) (now (s .args .archive)) (s .args .n) (s .pre) (f .first-line .result)
-    (f .first-line .ensures .0) (level (made k) .if1 .left)
-    (fresh (made k)) (made k .fresh .ensures .state) (t .take-lines .result)
-    (rw (rest, used f) at (t .take-lines .ensures))
+    let p = c .before .before in
+    let t = took (p .before) in
+    let a = start (made t) .args in
+    let l = t .take-log .ensures in
+    record {
+      passed = l .passed;
+      parked = p .park .ensures ∙ parked-log (a .write) (t .take-log .result .fits) (now (a .image)) (l .left);
+    }
 
 pub go-through-spec : {M : Type 1} → statement M
 go-through-spec =
     tie.close
     (tie.spec
     (λ c κs. search needs)
-    returns
-    (λ c. search needs)
     (λ c κs. search needs)
-    (λ c. within (first c))
-    (λ c. within (first c))
+    park-requires
     (λ c. search needs)
-    take-lines-requires
     (λ c. search needs)
-    returns-2)
+    returns)

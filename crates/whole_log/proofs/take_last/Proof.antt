@@ -5,14 +5,22 @@ use native.Mathlib.Omega.{arith}
 use lib.ListN.{length, drop-of-length-le}
 use borrow.Author.Needs.{needs}
 use denote.Ref.{now}
-use Rattle.whole_log.proofs.Turning.{begins, closes, last-passed}
+use Rattle.c_collector.specs.State.{arrays}
+use Rattle.whole_log.proofs.Turning.{begins, closes, closes-state, last-went}
 use Rattle.whole_log.proofs.take_last.Statement.{statement}
 use Rattle.whole_log.proofs.take_last.Tie as tie
 
 returns : tie.Need-returns
 returns c =
     let s = c .before .before .before in
-    closes (begins (s .pre .0)) (drop-of-length-le (now (s .args .line)) {i = 0} (omega (arith, c .if1 .taken)))
+    let a = s .args in
+    let lent = arrays (now (a .times)) (now (a .lengths)) (now (a .bytes)) (now (a .copies)) (now (a .numbers)) in
+    let none = drop-of-length-le (now (a .line)) {i = 0} (omega (arith, c .if1 .taken)) in
+    record {
+      passed = closes (begins (s .pre .0)) none;
+      left = λ _. closes-state (a .setting) lent (begins (s .pre .0)) none;
+      accepted = λ _. s .pre .0 .callable .accepted;
+    }
 
 abbrev line-ended : tie.After-whole3 → tie.After-end-line
 line-ended c =
@@ -53,7 +61,7 @@ returns-2 c =
     let f = full e in
     let s = start f in
     let z : e .end-line .result - 0 ≡ e .end-line .result = omega arith in
-    last-passed (s .pre .0) (s .pre .1) (omega (arith, f .if1 .left)) (t .take-some .result)
+    last-went (s .pre .0) (s .pre .1) (omega (arith, f .if1 .left)) (t .take-some .result)
     (rw (z, e .end-line .ensures .1) at (t .take-some .ensures))
     (t .take-some .kept .1 .1 .1 .1 .1 .1 .1 .1 .0)
 

@@ -1,7 +1,7 @@
 -- `whole_log::take_lines` meets its contract. The invariant: what the input up to `at` says stands in the archive, and the collector's state is good.
 -- The measure is what is left of the input.
 use mathlib.Core.Path.{_≡_, refl, sym, _∙_}
-use mathlib.Core.Bool.{Bool}
+use mathlib.Core.Bool.{Bool, false≢true}
 use mathlib.Core.List.{List}
 use Prim.Native.Nat.{ℕ, _+_, _-_, _^_, _≤_, _<_}
 use native.Mathlib.Omega.{arith}
@@ -134,8 +134,12 @@ returns : tie.Need-returns Inv-loop μ-loop
 returns c =
     let k = c .before in
     let t = k .before .before .before in
-    too-full (turn t .loop .inv .going) (t .take-some .result) (took t) 0
-    (not-true (t .take-some .result .fits) (c .if1 .taken))
+    record {
+      passed = too-full (turn t .loop .inv .going) (t .take-some .result) (took t) 0
+          (not-true (t .take-some .result .fits) (c .if1 .taken));
+      left = λ f. absurd (false≢true f);
+      accepted = λ f. absurd (false≢true f);
+    }
 
 loop-less : tie.Need-loop-less Inv-loop μ-loop
 loop-less c =
@@ -165,7 +169,12 @@ returns-2 c =
     let e = updated (k .before) in
     let l = turn (tested e) in
     let rest = take-rest (input l) (length (input l)) (l .loop .at + tested e .take-some .result .used) refl in
-    ends (goes e) (d .take-last .result) (rw rest at (d .take-last .ensures))
+    let w = rw rest at (d .take-last .ensures) in
+    record {
+      passed = ends (goes e) (d .take-last .result) (w .passed);
+      left = λ f. goes e .left ∙ w .left f;
+      accepted = w .accepted;
+    }
 
 pub take-lines-spec : {M : Type 1} → statement M
 take-lines-spec =
