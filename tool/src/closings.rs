@@ -61,9 +61,9 @@ impl Closings {
         Ok(())
     }
 
-    /// The collector did not listen up to now: telegrams that were opened up to this time may lack copies.
-    pub fn interrupt(&mut self, opened: u64) {
-        self.interrupted = Some(opened);
+    /// The collector did not listen up to now: telegrams that were opened up to this time may lack copies; none where no telegram was open.
+    pub fn interrupt(&mut self, opened: Option<u64>) {
+        self.interrupted = opened;
     }
 
     /// Brings what closed to disk.

@@ -217,7 +217,8 @@ impl Keeper {
     /// The lines come from a feed, and nobody listened to it up to now: telegrams that are open may have been heard more often.
     pub fn interrupt(&mut self) {
         if let Some(closings) = &mut self.closings {
-            closings.interrupt(self.state.collector.latest());
+            let collector = &self.state.collector;
+            closings.interrupt((collector.open() > 0).then(|| collector.latest()));
         }
     }
 
@@ -241,7 +242,7 @@ impl Keeper {
     pub fn take_in(&mut self, level: u8, print: Print) -> Result<(), Failure> {
         let counted = self.state.counted();
         if let Some(closings) = &mut self.closings {
-            closings.interrupt(u64::MAX); // copies of these rows are lost
+            closings.interrupt(Some(u64::MAX)); // copies of these rows are lost
         }
         while self.leftovers() > 0 {
             let rows = self.store.as_ref().expect("it has leftovers").leftovers(MAX_BATCH)?;

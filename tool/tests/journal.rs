@@ -406,6 +406,8 @@ fn interrupted_telegrams_are_marked() {
     assert_eq!(heard(), ["1000,01020304,0,1,0"]);
     run(feed, &dir, b"1210 D5090102030401E9\n1400 D5090102030400E8\n1600 D5090102030400E8\n").with(0);
     assert_eq!(heard()[1..], ["1200,01020304,0,1,1", "1400,01020304,0,0,0"]);
+    run("collect --level 0 --state u --heard first.csv", &dir, b"0 D5090102030400E8\n200 D5090102030400E8\n").with(0);
+    assert!(fs::read_to_string(dir.join("first.csv")).unwrap().ends_with("\n0,01020304,0,0,0\n"));
     let log = "level 0\n1000 D5090102030400E8\n1012 D5090102030401E9\n1200 D5090102030400E8\n";
     let replay = "collect --state t --heard log.csv --replay";
     run(replay, &dir, log.as_bytes()).with(0);
