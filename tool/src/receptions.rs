@@ -78,7 +78,7 @@ struct Fields {
 impl Fields {
     fn of(telegram: &Telegram) -> Fields {
         let fields = telegram.fields();
-        Fields { txid: fields.txid, level: fields.status & 0x0F, rorg: hex(&[fields.rorg]), data: hex(&fields.data) }
+        Fields { txid: fields.txid, level: fields.level(), rorg: hex(&[fields.rorg]), data: hex(&fields.data) }
     }
 
     fn kind(&self) -> String {
