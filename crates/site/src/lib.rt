@@ -83,34 +83,21 @@ fn first_unlawful(repeaters: [Assignment; MAX_REPEATERS], count: usize) -> usize
     count
 }
 
-// The first pair that overlaps, if any.
+// The first pair that overlaps, if any. Both loops stand here: a function for the inner one would be given the array by value at each turn.
 fn first_overlap(repeaters: [Assignment; MAX_REPEATERS], count: usize) -> Verdict
     requires { ⌜ count ≤ 32 ⌝ }
     ensures { λ r. ⌜ verdictOf r ≡ pairOf 0 (take count repeaters) ⌝ }
 {
     for i in 0..count {
-        let j = clash_after(repeaters, i, count);
-        if j < count {
-            return Verdict::Overlap(i, j);
+        let b = repeaters[i];
+        for j in i + 1..count {
+            let c = repeaters[j];
+            if clashes(b, c) {
+                return Verdict::Overlap(i, j);
+            }
         }
     }
     Verdict::Accepted
-}
-
-// The first repeater after repeater `i` that overlaps with it; `count` where none does.
-fn clash_after(repeaters: [Assignment; MAX_REPEATERS], i: usize, count: usize) -> usize
-    requires { ⌜ (i < count) × (count ≤ 32) ⌝ }
-    ensures { λ r. ⌜ r
-        ≡ i + 1 + firstOf (clash (getD repeaters i noAssignment)) (drop (i + 1) (take count repeaters)) ⌝ }
-{
-    let b = repeaters[i];
-    for j in i + 1..count {
-        let c = repeaters[j];
-        if clashes(b, c) {
-            return j;
-        }
-    }
-    count
 }
 
 // Whether a transmission of the one overlaps with one of the other.
