@@ -12,7 +12,8 @@
  * Answers. A call that returns `uint8_t` returns a number: 0 for done, a refusal of mooringeye_refusal, or
  * MOORINGEYE_WRONG_SIZE for a slice that does not have the size that the call asks for. mooringeye_take, the slot plans
  * and the site answer more than a number: constants, accessors and structs stand beside them, so that no program takes
- * their bytes apart. Refusals are tested in the order in which a function lists them.
+ * their bytes apart. mooringeye_first_line, mooringeye_read_line and mooringeye_journal_judge refuse nothing: their
+ * numbers say what a line or a block is. Refusals are tested in the order in which a function lists them.
  *
  * Beside a refusal all memory that was lent is as it was, result pointers included; excepted are the position or place
  * that goes with a refusal where a function says so, and the counters of a collector that takes a DAMAGED or LATE

@@ -1,7 +1,7 @@
 -- What the calls show, and every number and byte that is lent.
 use Prim.Native.Nat.{ℕ}
 use mathlib.Core.Path.{_≡_}
-use mathlib.Core.Bool.{true, cond, not, _||_}
+use mathlib.Core.Bool.{true, false, cond, not, _||_}
 use mathlib.Core.List.{List}
 use lib.Dec.{eqb}
 use lib.ListN.{length}
@@ -37,7 +37,8 @@ acceptOf k bytes =
     (cond (acceptsState bytes) (record { number = 0; next = readState bytes })
     (record { number = numberOf NotAccepted; next = k }))
 
--- whether an image is accepted, and the rows that it then counts
+-- whether an image is accepted, and the rows that it then counts; else none
 pub record Counts (image : List ℕ) (c : Counted) : Type 0 where
   pub accepted : c .accepted ≡ accepts image
   pub rows : c .accepted ≡ true → c .rows ≡ imageRows image
+  pub none : c .accepted ≡ false → c .rows ≡ 0

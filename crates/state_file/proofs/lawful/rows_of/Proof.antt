@@ -1,5 +1,5 @@
 -- `state_file::lawful::rows_of` meets its contract: an image is restored to a fresh collector.
-use mathlib.Core.Path.{_≡_, sym, ap, _∙_}
+use mathlib.Core.Path.{_≡_, refl, sym, ap, _∙_}
 use mathlib.Core.Bool.{false≢true}
 use native.Mathlib.Omega.{arith}
 use borrow.Author.Needs.{needs}
@@ -14,7 +14,7 @@ refused c =
     let f = r .before in
     let no = counts-refused (now (f .before .before .args .image)) (f .fresh .result) (f .fresh .ensures .state)
     (r .restore .result) (r .restore .ensures) _ (c .enum-told .given .1) in
-    record { accepted = no; rows = λ z. absurd (false≢true z) }
+    record { accepted = no; rows = λ z. absurd (false≢true z); none = λ _. refl }
 
 abbrev restored : tie.After-struct-known → tie.After-enum-told2
 restored c = c .before .before .before .before
@@ -42,6 +42,7 @@ counted c =
           (r .restore .ensures) (t .enum-told2 .given .1));
       rows = λ z. rows-counted image (f .fresh .result) (f .fresh .ensures .state) (r .restore .result)
           (r .restore .ensures) (t .enum-told2 .given .1);
+      none = λ z. absurd (false≢true (sym z));
     }
 
 pub rows-of-spec : {M : Type 1} → statement M
