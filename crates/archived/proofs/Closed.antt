@@ -1,10 +1,9 @@
 -- What lines close, as bytes, line by line and call by call.
-use Prim.Native.Nat.{ℕ, _^_, _<_}
+use Prim.Native.Nat.{ℕ, _<_}
 use native.Mathlib.Omega.{arith}
-use mathlib.Core.Path.{_≡_, refl, sym, ap, ap₂, subst, _∙_}
-use mathlib.Core.Bool.{Bool, true, false, not}
+use mathlib.Core.Path.{_≡_, refl, sym, ap, _∙_}
+use mathlib.Core.Bool.{true}
 use mathlib.Core.List.{List, [], _∷_, _++_, map, flatten, append-nil, map-append}
-use lib.Dec.{eqb}
 use lib.ListN.{length}
 use borrow.Author.Tests.{ne-eqb}
 use Rattle.lists.proofs.Parts.{flatten-append}
@@ -13,16 +12,15 @@ use Rattle.model.specs.Step.{step}
 use Rattle.model.specs.Reference.{pastAfter}
 use Rattle.model.specs.History.{Timely}
 use Rattle.model.specs.Image.{entryCell}
-use Rattle.rows_model.specs.Closings.{closedFrom, closingsFrom, EachOnce}
+use Rattle.rows_model.specs.Closings.{closedFrom, closingsFrom}
 use Rattle.rows_model.proofs.Closings.{views-closed-once}
 use Rattle.closings.specs.Cells.{entryCells, closedCells}
 use Rattle.line_input.specs.declared.Setting.{Setting}
 use Rattle.line_input.specs.Reading.{Reading, reception, bad, settingOf, lineReading, lineLimit}
-use Rattle.streams.specs.Lines.{Program, linesOf, textOf, outputOf}
+use Rattle.streams.specs.Lines.{linesOf, textOf, outputOf}
 use Rattle.streams.specs.Chunks.{joined}
-use Rattle.streams.specs.Collect.{Phase, starting, running, over, afterFirst, afterLine}
-use Rattle.streams.specs.Buffer.{Fed}
-use Rattle.streams.proofs.Segments.{Drained, none, both}
+use Rattle.streams.specs.Collect.{starting, running, afterFirst, afterLine}
+use Rattle.streams.proofs.Segments.{Drained}
 use Rattle.collecting.specs.Printed.{receptionAt, pastAfterLine, pastAfterLines}
 use Rattle.collecting.specs.Session.{Receiver, modelCollector, runningAt}
 use Rattle.collecting.specs.Heard.{closedByLine, lineClosings, isAsked}
@@ -38,15 +36,13 @@ use Rattle.archived.specs.Closed.{
   LinesCloseOnce,
   LogClosed,
   LinesClosed,
-  Call,
-  usedBy,
   closedBy,
   Answered,
-  IsRun,
   CallsClose,
 }
+use Rattle.archived.specs.Runs.{Call, usedBy, usedIn}
 use Rattle.archived.proofs.Archived.{over-silent}
-use Rattle.archived.proofs.Runs.{fed-front, given-whole}
+use Rattle.archived.proofs.Runs.{fed-front, chain, given-whole}
 
 -- ---- lines
 
@@ -134,21 +130,9 @@ one-call setting format a c k =
     let f = rw (asks (c .closed) (k .asked)) at (k .lines .taken refl .closes) in
     fed-front (lineClosings true) _ _ _ _ _ _ f
 
-last-of : Arrays → List Call → Arrays
-last-of a [] = a
-last-of a (c ∷ cs) = last-of (c .after) cs
-
-chain : (setting format : ℕ) (cs : List Call) (a : Arrays) → IsRun setting format a cs
-    → Drained (lineClosings true) lineLimit (runningAt setting (stateAt a)) (joined (map usedBy cs))
-    (runningAt setting (stateAt (last-of a cs))) (joined (map closedBy cs))
-unfolding IsRun joined last-of
-chain setting format [] a r = none (lineClosings true) lineLimit (runningAt setting (stateAt a))
-chain setting format (c ∷ cs) a r = both (lineClosings true) lineLimit (one-call setting format a c (r .0))
-    (chain setting format cs (c .after) (r .1))
-
 pub calls-close : CallsClose
 calls-close setting format a cs e r =
-    let d = chain setting format cs a r in
+    let d = chain (Answered setting format) setting (lineClosings true) closedBy (one-call setting format) cs a r in
     sym (append-nil (joined (map closedBy cs))) ∙ given-whole (lineClosings true) (closings-bounded true) d
-    ∙ ap (λ (v : View). outputOf (lineClosings true) (runningAt setting v) (joined (map usedBy cs))) e
-    ∙ lines-closed setting fresh (joined (map usedBy cs))
+    ∙ ap (λ (v : View). outputOf (lineClosings true) (runningAt setting v) (usedIn cs)) e
+    ∙ lines-closed setting fresh (usedIn cs)

@@ -17,7 +17,7 @@ use Rattle.collecting.specs.Printed.{receptionAt, pastAfterLines}
 use Rattle.collecting.specs.Session.{runningAt}
 use Rattle.collecting.specs.Heard.{lineClosings}
 use Rattle.c_collector.specs.State.{Arrays, stateAt}
-use Rattle.c_lines.specs.Formats.{LinesAs}
+use Rattle.archived.specs.Runs.{Call, TakesAs, IsRun, usedIn}
 
 -- ---- by the model
 
@@ -64,43 +64,17 @@ LinesClosed =
 
 -- ---- by calls
 
--- a call of `lines_as` that was answered 0: what was lent to it, and what it left
-pub record Call : Type 0 where
-  pub input : List ℕ
-  pub most : ℕ
-  pub out : List ℕ
-  pub moments : List ℕ
-  pub rows : List ℕ
-  pub closed : List ℕ
-  pub done : List ℕ
-  pub after : Arrays
-  pub out' : List ℕ
-  pub moments' : List ℕ
-  pub rows' : List ℕ
-  pub closed' : List ℕ
-  pub done' : List ℕ
-
--- the characters that it used, and what these close
-abbrev pub usedBy : Call → List ℕ
-usedBy c = take (getD (c .done') 0 0) (c .input)
-
+-- what a call closes
 abbrev pub closedBy : Call → List ℕ
 closedBy c = take (32 * getD (c .done') 4 0) (c .closed')
 
--- the call on these arrays, with room for what closes
+-- a call of `lines_as` with room for that
 pub record Answered (setting format : ℕ) (a : Arrays) (c : Call) : Type 0 where
-  pub lines : LinesAs a setting format (c .input) (c .most) (c .out) (c .moments) (c .rows) (c .closed) (c .done) 0
-      (c .after) (c .out') (c .moments')
-      (c .rows') (c .closed') (c .done')
+  pub lines : TakesAs setting format a c
   pub asked : 0 < length (c .closed)
 
--- calls at one setting and in one format, each on the arrays that the one before left
-unfoldable pub IsRun : (setting format : ℕ) → Arrays → List Call → Type 0
-IsRun setting format a [] = a ≡ a
-IsRun setting format a (c ∷ cs) = Answered setting format a c × IsRun setting format (c .after) cs
-
--- THE CLAIM: from a fresh collector on, however the log is cut into calls, what they close is what the model closes in all that they used
+-- THE CLAIM: from a fresh collector on, however the log is cut into such calls, what they close is what the model closes in all that they used
 abbrev pub CallsClose : Type 0
 CallsClose =
-    (setting format : ℕ) (a : Arrays) (cs : List Call) → stateAt a ≡ fresh → IsRun setting format a cs
-    → joined (map closedBy cs) ≡ entryCells (closingsFrom fresh (handedOver (linesOf (joined (map usedBy cs)))))
+    (setting format : ℕ) (a : Arrays) (cs : List Call) → stateAt a ≡ fresh → IsRun (Answered setting format) a cs
+    → joined (map closedBy cs) ≡ entryCells (closingsFrom fresh (handedOver (linesOf (usedIn cs))))

@@ -59,6 +59,7 @@ collector = record {
   output-follows-model = printing.runs-print;
   rows-follow-model = archived.log-archived;
   calls-follow-model = archived_runs.calls-follow;
+  format-calls-follow-model = archived_runs.calls-follow-as;
   closings-follow-model = archived_closed.calls-close;
   log-is-archived = whole_log.fresh-kept;
 }

@@ -94,8 +94,10 @@ pub record Collector : Type 0 where
   pub output-follows-model : printing.RunsPrint
   -- The rows that a log gives for an archive are the receptions that the model keeps, and the loose ones, in order.
   pub rows-follow-model : archived.LogArchived
-  -- However a log is cut into calls of `lines`, text and rows are the model's and each element of the arrays what its lines make of it, by the call's contract alone.
+  -- However a log is cut into calls of `lines`, text and rows are the model's, the lines are counted rightly, and each element of the arrays is what they make of it.
   pub calls-follow-model : archived_runs.CallsFollow
+  -- Of calls of `lines_as` in one format the same holds, and the text is the model's in that format. Both proofs use only the contract of the call.
+  pub format-calls-follow-model : archived_runs.CallsFollowAs
   -- However a log is cut into calls of `lines_as`, what they close is what the model closes. The proof uses only the contract of the call.
   pub closings-follow-model : archived_closed.CallsClose
   -- A whole log kept in a fresh archive leaves the archive of the receptions that the model keeps, and of the loose ones, and the model's image.
