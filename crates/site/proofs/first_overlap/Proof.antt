@@ -44,13 +44,15 @@ returns c =
     let at = inner (c .before) in
     let outer = turn (at .before) in
     paired-stop _ _ _ (outer .before .loop .inv) (outer .loop-test .taken) _
-    (sought-stop (clash _) _ _ _ _ (at .before .loop2 .inv) (at .loop2-test .taken) (sym (c .before .clashes .ensures) ∙ c .if1 .taken))
+    (sought-stop (clash _) _ _ _ _ (at .before .loop2 .inv) (at .loop2-test .taken)
+    (sym (c .before .clashes .ensures) ∙ c .if1 .taken))
     (at .loop2-test .taken)
 
 loop2-again : tie.Need-loop2-again Inv-loop2 μ-loop2 Inv-loop μ-loop
 loop2-again c =
     let at = inner (c .before) in
-    sought-next (clash _) _ _ _ _ (at .before .loop2 .inv) (at .loop2-test .taken) (sym (c .before .clashes .ensures) ∙ c .if1 .left)
+    sought-next (clash _) _ _ _ _ (at .before .loop2 .inv) (at .loop2-test .taken)
+    (sym (c .before .clashes .ensures) ∙ c .if1 .left)
 
 loop-again : tie.Need-loop-again Inv-loop2 μ-loop2 Inv-loop μ-loop
 loop-again c =
