@@ -143,6 +143,11 @@ impl<'a> Reader<'a> {
         loop {
             let read = file.read(&mut buffer[carried..]).map_err(|e| Failure::of(format!("read {}", path.display()), &e))?;
             let filled = carried + read;
+            // A pipe may give the first line in pieces.
+            if is_first && read > 0 && filled < LINE_LIMIT && FirstLine::of(&buffer[..filled]) == FirstLine::Unended {
+                carried = filled;
+                continue;
+            }
             let mut used = 0;
             if std::mem::take(&mut is_first) {
                 used = self.begin(path, &buffer[..filled])?;

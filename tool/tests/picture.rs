@@ -3,7 +3,10 @@ mod common;
 use common::*;
 use std::collections::HashMap;
 use std::fs;
+use std::io::Write;
 use std::path::{Path, PathBuf};
+use std::thread::sleep;
+use std::time::Duration;
 
 /// A folder with the archive of the sample, and names of two of its transmitters.
 fn plant(name: &str) -> PathBuf {
@@ -197,6 +200,30 @@ fn lanes_by_repeater_level() {
     fs::write(dir.join("many"), log(30_000, 72)).unwrap();
     run("picture many", &dir, b"").with(1).says("more than 20000 receptions are too many for a picture. Choose fewer by --from, --to or --txid.");
     assert!(run("picture many --to 1010000", &dir, b"").with(0).out.contains("class=\"reception kept\""));
+}
+
+/// The first line of a pipe may come in pieces, with `--level` and without; the last one has no end.
+#[test]
+fn a_log_from_a_slow_pipe() {
+    let dir = folder("picture_pipe");
+    let parts = ["l", "evel 1", "\n15", "00 F650FEF1B2C330DA\n1512 F650FEF1B2C331DB\n1524 F6"];
+    fs::write(dir.join("log"), parts.concat()).unwrap();
+    for words in ["", "--level 1"] {
+        let mut running = start(tool(&format!("picture /dev/stdin {words}"), &dir));
+        let mut stdin = running.child.stdin.take().unwrap();
+        for part in parts {
+            stdin.write_all(part.as_bytes()).unwrap();
+            sleep(Duration::from_millis(200)); // by then it was read
+        }
+        drop(stdin);
+        let page = running.end().with(0).out;
+        assert!(page.contains("BAD lines of the whole log: 0.") && page.contains("class=\"reception copy\""), "{words}");
+        assert!(page == run(&format!("picture log {words}"), &dir, b"").with(0).out, "{words}");
+    }
+    // A line that is longer than the longest is not waited for, and one that never ends says no level.
+    run("picture /dev/stdin", &dir, "x".repeat(1_000).as_bytes()).with(2).says("without --level the first line is");
+    run("picture /dev/stdin", &dir, b"level 1").with(2).says("without --level the first line is");
+    assert!(run("picture /dev/stdin --level 1", &dir, b"level 1").with(0).out.contains("BAD lines of the whole log: 0."));
 }
 
 #[test]
