@@ -419,11 +419,14 @@ fn interrupted_telegrams_are_marked() {
     let words = format!("{KEPT} --heard heard.csv");
     run(&words, &dir, lines[..1_000].concat().as_bytes()).with(0);
     let state = fs::read(dir.join("s")).unwrap();
+    let first = fs::read_to_string(dir.join("heard.csv")).unwrap();
     run(&words, &dir, lines[1_000..].concat().as_bytes()).with(0);
     let before = fs::read_to_string(dir.join("heard.csv")).unwrap();
     fs::write(dir.join("s"), state).unwrap();
     run(&words, &dir, b"").with(0).says("were taken in");
     let after = fs::read_to_string(dir.join("heard.csv")).unwrap();
+    let taken_in = after.strip_prefix(&first).expect("lines that count stay");
+    assert!(taken_in.lines().count() > 100 && taken_in.lines().all(|l| l.ends_with(",1")), "{taken_in}");
     let opened = |text: &str| text.lines().map(|l| l.rsplitn(3, ',').nth(2).unwrap().to_string()).collect::<Vec<_>>();
     let (before, after) = (opened(&before), opened(&after));
     assert!(after.len() > 100 && before.starts_with(&after), "the same telegrams close, each once");
