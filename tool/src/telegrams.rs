@@ -51,7 +51,7 @@ fn fields_text(fields: &Fields) -> String {
         out += &format!("DESTID {}\n", hex_of(destid));
     }
     let hash = if status & 0x80 == 0 { "sum" } else { "CRC" };
-    out + &format!("TXID   {}\nSTATUS {status:02X} (level {}, flags {}, {hash})\n", hex_of(txid), status & 15, status >> 4 & 7)
+    out + &format!("TXID   {}\nSTATUS {status:02X} (level {}, flags {}, {hash})\n", hex_of(txid), fields.level(), status >> 4 & 7)
 }
 
 fn erp2_text(telegram: &Erp2) -> String {
