@@ -173,14 +173,32 @@ pub fn watch(watcher: &File, path: &CStr, events: u32) -> io::Result<()> {
 }
 
 const SEEK_DATA: i32 = 3;
-/// No data from there on.
+/// No data from there on, or the file ends before.
 const ENXIO: i32 = 6;
 
-/// Whether a file may have data from a byte on; what is no data reads as zeros. Where the system does not know, it may. This moves the file's own offset,
-/// which nobody uses who reads and writes at offsets.
+/// Whether a file may have data from a byte on; what is no data reads as zeros. Where the system does not know, it may, and where the file ends there or
+/// before, so that a read fails. This moves the file's own offset, which nobody uses who reads and writes at offsets.
 pub fn has_data_from(file: &File, at: u64) -> bool {
-    let Ok(at) = i64::try_from(at) else { return true };
+    let Ok(offset) = i64::try_from(at) else { return true };
     // SAFETY: numbers alone, of a descriptor that is open.
-    let found = unsafe { c::lseek(file.as_raw_fd(), at, SEEK_DATA) };
-    found != -1 || io::Error::last_os_error().raw_os_error() != Some(ENXIO)
+    let found = unsafe { c::lseek(file.as_raw_fd(), offset, SEEK_DATA) };
+    found != -1 || io::Error::last_os_error().raw_os_error() != Some(ENXIO) || file.metadata().map_or(true, |m| m.len() <= at)
+}
+
+#[cfg(test)]
+mod tests {
+    use super::*;
+
+    /// A hole at the end has no data. A file that became shorter than its reader believes has no hole there: the read has to fail.
+    #[test]
+    fn data_in_a_file_that_ends() {
+        let path = std::env::temp_dir().join(format!("mooringeye-data-{}", std::process::id()));
+        let file = File::options().create(true).truncate(true).read(true).write(true).open(&path).unwrap();
+        std::fs::remove_file(&path).unwrap();
+        file.set_len(1 << 20).unwrap();
+        assert!(!has_data_from(&file, 0) && !has_data_from(&file, (1 << 20) - 1));
+        assert!(has_data_from(&file, 1 << 20) && has_data_from(&file, 1 << 21));
+        file.set_len(512).unwrap();
+        assert!(!has_data_from(&file, 0) && has_data_from(&file, 512) && has_data_from(&file, 4_096));
+    }
 }
