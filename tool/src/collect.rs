@@ -133,13 +133,13 @@ impl Source {
     }
 
     /// How far a log is that is read again, for a terminal on which no rows are printed; none of lines that are still to come.
-    fn progress(&self, is_replayed: bool) -> Option<Progress> {
+    fn progress(&self, is_replayed: bool, has_out: bool) -> Option<Progress> {
         let total = match self {
             Source::Standard(input) => input.length(),
             Source::Log(log) => log.left(),
         };
         let has_end = total.is_some() || is_replayed;
-        (has_end && !io::stdout().is_terminal()).then(|| Progress::of(self.name(), total))
+        (has_end && (has_out || !io::stdout().is_terminal())).then(|| Progress::of(self.name(), total))
     }
 
     fn name(&self) -> String {
@@ -206,7 +206,7 @@ impl Run {
         let is_first = keeper.state.log.as_ref().is_none_or(|log| log.offset == 0) || matches!(source, Source::Standard(_));
         let is_live = matches!(source, Source::Standard(_)) && !options.replay;
         keeper.is_beside_log = is_live && keeper.state.log.as_ref().is_some_and(|log| log.inode != 0);
-        let progress = source.progress(options.replay);
+        let progress = source.progress(options.replay, keeper.has_out());
         let mut run = Run {
             keeper,
             source,

@@ -109,6 +109,13 @@ fn progress_on_a_terminal() {
         assert!(line.contains(" of 2 MB, ") && line.contains(" rows, ") && line.contains(" s left"), "{words}: {line:?}");
         assert!(shown.contains("\r\x1b[Kmooringeye: ") || shown.contains("\x1b[K\r\x1b[K"), "messages stand on lines of their own: {shown:?}");
     }
+    // Rows that go to a file are not on the terminal.
+    let fed = "(head -n 100 log; sleep 1.2; tail -n +101 log)";
+    let mut shell = Command::new("script");
+    let command = format!("{fed} | {program} collect --level 1 --state t --out rows.txt --replay");
+    shell.args(["--quiet", "--flush", "--command", &command, "/dev/null"]).current_dir(&dir);
+    let shown = run_command(shell, b"").out;
+    assert!(shown.split('\r').any(|l| l.starts_with("the input: ") && l.contains(" rows, ") && l.contains(" MB/s")), "{shown:?}");
     // Where the rows are printed on the terminal there is none.
     assert!(!on_terminal(&format!("exec {program} collect --level 1 --log log"), &dir).contains("MB/s"));
 }
