@@ -6,7 +6,7 @@ use crate::disk::Shared;
 use crate::failure::Failure;
 use crate::files;
 use crate::keeper::MAX_BATCH;
-use crate::out::Out;
+use crate::out::{Named, Out};
 use crate::text::{self, put_hex, put_number};
 use mooringeye::{Closing, Collector};
 use std::path::Path;
@@ -30,7 +30,7 @@ pub struct Closings {
 impl Closings {
     /// Opens the file, makes it where it is missing, and finds how much of it counts. Nothing of it is changed yet.
     pub fn open(disk: &Shared, path: &Path, collector: &Collector, is_new: bool) -> Result<Closings, Failure> {
-        let mut out = Out::open(disk, path, None)?;
+        let mut out = Out::open(disk, Named::Heard, path, None)?;
         let goes_aside = is_new || out.length() <= HEADING.len() as u64;
         if !goes_aside {
             let counted = counted(&out, collector.latest())?;
@@ -46,7 +46,7 @@ impl Closings {
             let path = self.out.path().to_path_buf();
             let aside = files::put_aside(&self.disk, &path)?;
             self.disk.tell(&format!("{} is not of this collector: it is kept as {}", path.display(), aside.display()));
-            self.out = Out::open(&self.disk, &path, None)?;
+            self.out = Out::open(&self.disk, Named::Heard, &path, None)?;
         }
         self.out.settle()?;
         self.begin()

@@ -8,7 +8,7 @@ use crate::closings::Closings;
 use crate::disk::Shared;
 use crate::failure::Failure;
 use crate::journal::{LogPlace, State, Stored, RECORD};
-use crate::out::Out;
+use crate::out::{Named, Out};
 use crate::rows::{self, Format};
 use crate::state::StateFile;
 use crate::store::{Place, Store};
@@ -82,7 +82,7 @@ impl Keeper {
         let mut state = read.unwrap_or_else(State::fresh);
         let saved = state.clone();
         let store = open_archive(disk, files, &mut state)?;
-        let out = files.out.as_deref().map(|path| Out::open(disk, path, state.out)).transpose()?;
+        let out = files.out.as_deref().map(|path| Out::open(disk, Named::Out, path, state.out)).transpose()?;
         let closings = files.heard.as_deref().map(|path| Closings::open(disk, path, &state.collector, is_new)).transpose()?;
         let (new_state, format, order) = (files.new_state, files.format, files.order);
         let (disk, batch) = (disk.clone(), Batch::new(closings.is_some()));

@@ -1,5 +1,5 @@
 //! The file of `--out`: each row stands in it once. Its length stands in the state, and at a start it is cut to that length: what stands behind are rows
-//! of a batch that did not end, which comes again.
+//! of a batch that did not end, which comes again. The file of `--heard` (`closings`) is such a file too, whose length does not stand in the state.
 use crate::disk::{Facts, Handle, Shared};
 use crate::failure::Failure;
 use crate::files;
@@ -7,8 +7,34 @@ use crate::journal::OutPlace;
 use std::io;
 use std::path::{Path, PathBuf};
 
+/// The option that names a file.
+#[derive(Clone, Copy, Debug, PartialEq, Eq)]
+pub enum Named {
+    Out,
+    Heard,
+}
+
+impl Named {
+    fn not_a_file(self, path: &Path) -> Failure {
+        let shown = path.display();
+        Failure::Usage(match self {
+            Named::Out => format!("--out {shown}: not a regular file; rows for a pipe go to standard output"),
+            Named::Heard => format!("--heard {shown}: not a regular file"),
+        })
+    }
+
+    /// What stands in it.
+    fn content(self) -> &'static str {
+        match self {
+            Named::Out => "rows",
+            Named::Heard => "lines of --heard",
+        }
+    }
+}
+
 pub struct Out {
     disk: Shared,
+    named: Named,
     path: PathBuf,
     file: Box<dyn Handle>,
     facts: Facts,
@@ -19,13 +45,13 @@ pub struct Out {
 
 impl Out {
     /// Opens the file, makes it where it is missing, and finds how much of it the state counts. Nothing of it is changed yet.
-    pub fn open(disk: &Shared, path: &Path, kept: Option<OutPlace>) -> Result<Out, Failure> {
+    pub fn open(disk: &Shared, named: Named, path: &Path, kept: Option<OutPlace>) -> Result<Out, Failure> {
         let file = files::open_kept(&**disk, path)?;
         let facts = file.facts().map_err(|e| cannot(path, &e))?;
         if !facts.is_file {
-            return Err(Failure::Usage(format!("--out {}: not a regular file; rows for a pipe go to standard output", path.display())));
+            return Err(named.not_a_file(path));
         }
-        let mut out = Out { disk: disk.clone(), path: path.into(), file, facts, length: facts.length, is_unsynced: false };
+        let mut out = Out { disk: disk.clone(), named, path: path.into(), file, facts, length: facts.length, is_unsynced: false };
         let Some(kept) = kept else { return Ok(out) };
         if kept.inode != facts.inode {
             return Ok(out); // another file: the old one was renamed or removed
@@ -39,9 +65,11 @@ impl Out {
         Ok(out)
     }
 
-    /// Cuts what the state does not count.
+    /// Cuts what the state does not count, and says so before.
     pub fn settle(&mut self) -> Result<(), Failure> {
         if self.facts.length > self.length {
+            let (shown, cut) = (self.path.display(), self.facts.length - self.length);
+            self.disk.tell(&format!("{shown}: the last {cut} bytes are cut: the state does not count them"));
             self.file.set_length(self.length).map_err(|e| cannot(&self.path, &e))?;
             self.file.sync().map_err(|e| cannot(&self.path, &e))?;
         }
@@ -114,8 +142,8 @@ impl Out {
 
     /// The file that the path names now.
     pub fn again(&self) -> Result<Out, Failure> {
-        self.disk.tell(&format!("{} was renamed or removed: rows go to a new file of that name", self.path.display()));
-        Out::open(&self.disk, &self.path, None)
+        self.disk.tell(&format!("{} was renamed or removed: {} go to a new file of that name", self.path.display(), self.named.content()));
+        Out::open(&self.disk, self.named, &self.path, None)
     }
 }
 

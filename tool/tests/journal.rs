@@ -342,7 +342,8 @@ fn rows_stand_in_the_out_file_once() {
     assert!(fs::read_to_string(dir.join("rows.txt")).unwrap() == expected);
     // Rows that the state does not count are cut; a file that is too short is refused.
     OpenOptions::new().append(true).open(dir.join("rows.txt")).unwrap().write_all(b"1767226157845 KEP").unwrap();
-    run(words, &dir, log.as_bytes()).with(0);
+    run(words, &dir, log.as_bytes()).with(0).says("rows.txt: the last 17 bytes are cut: the state does not count them");
+    assert!(!run(words, &dir, log.as_bytes()).with(0).err.contains("are cut"));
     assert!(fs::read_to_string(dir.join("rows.txt")).unwrap() == expected);
     OpenOptions::new().write(true).open(dir.join("rows.txt")).unwrap().set_len(10).unwrap();
     is_refused(&dir, words, log.as_bytes(), "rows.txt has 10 bytes, and the state has written");
@@ -378,7 +379,8 @@ fn closings_stand_in_the_heard_file_once() {
     let latest = u64::MAX - 5;
     for behind in ["1767226157845,010203".to_string(), format!("{latest},01020304,0,0,0\n"), format!("{latest},01020304,0,0,0\n\0\0\0\n17")] {
         OpenOptions::new().append(true).open(dir.join("heard.csv")).unwrap().write_all(behind.as_bytes()).unwrap();
-        run(words, &dir, log.as_bytes()).with(0);
+        let says = format!("heard.csv: the last {} bytes are cut: the state does not count them", behind.len());
+        run(words, &dir, log.as_bytes()).with(0).says(&says);
         assert!(fs::read_to_string(dir.join("heard.csv")).unwrap() == expected, "{behind:?}");
     }
     // Another file is refused, and stays.
@@ -447,6 +449,24 @@ fn an_out_file_that_is_rotated() {
     running.end().with(0).says("rows go to a new file");
     assert!(fs::read_to_string(dir.join("rows.csv")).unwrap().starts_with("time,"));
     assert_eq!(fs::read_to_string(dir.join("rows.old")).unwrap().lines().count(), 2);
+}
+
+/// Of the file of `--heard` no message speaks of rows or of `--out`.
+#[test]
+fn words_for_the_heard_file() {
+    let dir = folder("journal_heard_words");
+    assert!(Command::new("mkfifo").arg(dir.join("pipe")).status().unwrap().success());
+    run("collect --level 0 --state s --heard pipe", &dir, b"").with(2).says("--heard pipe: not a regular file\n");
+    run("collect --level 0 --state s --out pipe", &dir, b"").with(2).says("--out pipe: not a regular file; rows for a pipe go to standard output");
+    let mut running = start(tool("collect --level 0 --state s --heard heard.csv", &dir));
+    let mut stdin = running.child.stdin.take().unwrap();
+    stdin.write_all(b"1000 D5090102030400E8\n1200 D5090102030400E8\n").unwrap();
+    wait_for("a line", || fs::read_to_string(dir.join("heard.csv")).is_ok_and(|t| t.ends_with("\n1000,01020304,0,0,0\n")));
+    fs::rename(dir.join("heard.csv"), dir.join("heard.old")).unwrap();
+    stdin.write_all(b"1400 D5090102030400E8\n").unwrap();
+    drop(stdin);
+    running.end().with(0).says("heard.csv was renamed or removed: lines of --heard go to a new file of that name");
+    assert_eq!(fs::read_to_string(dir.join("heard.csv")).unwrap(), "opened,txid,level,copies,interrupted\n1200,01020304,0,0,0\n");
 }
 
 /// A collector that has taken a line, with its input.
