@@ -120,6 +120,18 @@ BEGIN
     END IF;
 END $$;
 
+-- Refuses a file of `--heard` that does not have a loaded line as it was loaded.
+CREATE OR REPLACE FUNCTION historian.compare_heard(stream integer, number bigint, stored text) RETURNS void LANGUAGE plpgsql AS $$
+DECLARE loaded text;
+BEGIN
+    SELECT concat_ws(',', h.time, upper(encode(h.txid, 'hex')), h.level, h.copies, h.interrupted::integer) INTO loaded
+        FROM historian.heard h WHERE h.stream = $1 AND h.line = $2;
+    IF loaded <> stored THEN
+        RAISE EXCEPTION 'line % behind the heading is not in the file as it was loaded', $2 USING DETAIL = format('loaded: %s, file: %s', loaded, stored),
+            HINT = 'A file that begins anew, after a rotation or with --new-state, is a new stream.';
+    END IF;
+END $$;
+
 -- Makes the partitions of months that have none, `2026-11` each. What is there stays.
 CREATE OR REPLACE FUNCTION historian.make_months(months text[]) RETURNS void LANGUAGE plpgsql AS $$
 DECLARE month text; first timestamptz; part text;
