@@ -29,7 +29,8 @@ install: $(PROGRAM)
 	install -d $(share)/mooringeye/samples $(share)/doc/mooringeye
 	cp -r examples/historian examples/sources $(share)/mooringeye/
 	install -m 644 samples/plant.txt samples/plant.expected $(share)/mooringeye/samples
-	install -m 644 README.md LICENCE-NOTE.md docs/GUIDE.md docs/FORMATS.md docs/CRASH.md $(share)/doc/mooringeye
+	install -m 644 README.md CONTRIBUTING.md CHANGELOG.md LICENCE-NOTE.md $(share)/doc/mooringeye
+	cp -r docs $(share)/doc/mooringeye/
 
 package:
 	bin/package
