@@ -21,7 +21,7 @@ use std::path::Path;
 const CHUNK: usize = 1 << 20;
 const LINES: usize = 4_096;
 /// How long a telegram is open after its opening, and how long its sender may still send it, in ms: the second is `txMaturity` of
-/// crates/model/specs/View.antt.
+/// crates/collector_model/specs/View.antt.
 const OPEN: u64 = Collector::OPEN_FOR;
 const SENT: u64 = 40;
 /// Heights in pixels: of a transmitter's heading and of a lane.

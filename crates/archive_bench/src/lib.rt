@@ -1,21 +1,21 @@
 // Archives for C and Rust, on plain numbers and bytes: for the benchmark, and for a buffer of more addresses than any test program holds.
-use archive::Opened;
-use archive::Outcome;
+use archive_file::Opened;
+use archive_file::Outcome;
 
 // The CRC over long inputs.
 #[no_mangle]
 pub extern "C" fn archive_bench_crc(bytes: &[u8]) -> u8 {
-    crc8_long::crc8_long(bytes)
+    base_crc8_long::crc8_long(bytes)
 }
 
 // The number of the answer in the highest byte, and below it the rows, or the position beside 12.
 #[no_mangle]
 pub extern "C" fn archive_bench_open(buffer: &[u8]) -> u64 {
-    let answer = archive::open(buffer);
+    let answer = archive_file::open(buffer);
     match answer {
         Opened::Rows(n) => packed(0, n),
         Opened::Damaged(k) => packed(12, k),
-        Opened::Refused(why) => packed(refusal::number(why), 0),
+        Opened::Refused(why) => packed(base_refusal::number(why), 0),
     }
 }
 
@@ -28,11 +28,11 @@ pub extern "C" fn archive_bench_append_at(
     time: u64,
     loose: u8,
 ) -> u64 {
-    let answer = archive::append_at(buffer, n as usize, bytes, time, loose != 0);
+    let answer = archive_file::append_at(buffer, n as usize, bytes, time, loose != 0);
     match answer {
         Outcome::Done => 0,
         Outcome::Damaged(k) => packed(12, k),
-        Outcome::Refused(why) => packed(refusal::number(why), 0),
+        Outcome::Refused(why) => packed(base_refusal::number(why), 0),
     }
 }
 

@@ -14,20 +14,20 @@ use lib.ListN.{length, getD, replicate, length-append, length-map, List·getD-ap
 use lib.Seq.{ext-getD, getD-at}
 use lib.Dec.{eqb}
 use borrow.Author.Tests.{le-leb, eqb-true}
-use Rattle.lists.specs.Lists.{equal, all, upFrom}
-use Rattle.lists.proofs.Equal.{equal-refl}
-use Rattle.lists.proofs.Tests.{and-true, getD-map}
-use Rattle.lists.proofs.UpFrom.{length-upFrom, getD-upFrom}
-use Rattle.erp1.specs.Subtelegram.{maxLength, checkOf}
-use Rattle.erp1.proofs.Checks.{check-facts}
-use Rattle.buffers.specs.Buffer.{part}
-use Rattle.layout.specs.BigEndian.{be, unbe}
-use Rattle.layout.specs.Cell.{cellLength}
-use Rattle.layout.specs.Block.{headerLength, cellsPerBlock, blockLength, blockHeader, blockCell}
-use Rattle.buffers.proofs.Segments.{part-at, part-take, left, whole, Each}
-use Rattle.layout.proofs.BigEndian.{be-length, unbe-be}
-use Rattle.layout.proofs.Cell.{cell-length, cell-time, cell-bytes, cell-last}
-use Rattle.layout.proofs.Block.{block-length, block-header, block-cell}
+use Rattle.base_lists.specs.Lists.{equal, all, upFrom}
+use Rattle.base_lists.proofs.Equal.{equal-refl}
+use Rattle.base_lists.proofs.Tests.{and-true, getD-map}
+use Rattle.base_lists.proofs.UpFrom.{length-upFrom, getD-upFrom}
+use Rattle.radio_erp1.specs.Subtelegram.{maxLength, checkOf}
+use Rattle.radio_erp1.proofs.Checks.{check-facts}
+use Rattle.base_buffers.specs.Buffer.{part}
+use Rattle.block_layout.specs.BigEndian.{be, unbe}
+use Rattle.block_layout.specs.Cell.{cellLength}
+use Rattle.block_layout.specs.Block.{headerLength, cellsPerBlock, blockLength, blockHeader, blockCell}
+use Rattle.base_buffers.proofs.Segments.{part-at, part-take, left, whole, Each}
+use Rattle.block_layout.proofs.BigEndian.{be-length, unbe-be}
+use Rattle.block_layout.proofs.Cell.{cell-length, cell-time, cell-bytes, cell-last}
+use Rattle.block_layout.proofs.Block.{block-length, block-header, block-cell}
 use Rattle.archive_model.specs.Row.{Row, rowLast, rowCell, rowsHeader, rowsBlock, blockNumber, rowCount, rowIn, rowsOf, isRow, isSound}
 
 -- a row that a cell holds: a valid subtelegram, and a time of 64 bits

@@ -14,14 +14,14 @@ use lib.ListN.{length, getD, take, drop, replicate, length-map, length-take, len
 use lib.Seq.{take-all, take-add, drop-drop}
 use lib.Dec.{eqb}
 use borrow.Author.Tests.{eqb-true, eq-eqb, le-ltb}
-use Rattle.lists.specs.Lists.{upFrom}
-use Rattle.lists.proofs.Tests.{by-test, all-getD}
-use Rattle.lists.proofs.UpFrom.{length-upFrom, getD-upFrom, upFrom-add, map-same}
-use Rattle.lists.proofs.Parts.{flatten-append}
-use Rattle.buffers.specs.Buffer.{part}
-use Rattle.layout.specs.Block.{cellsPerBlock, blockLength}
-use Rattle.buffers.proofs.Segments.{part-at, left, right, part-replicate, Each, flatten-length, flatten-part}
-use Rattle.buffers.proofs.Buffer.{padded-length}
+use Rattle.base_lists.specs.Lists.{upFrom}
+use Rattle.base_lists.proofs.Tests.{by-test, all-getD}
+use Rattle.base_lists.proofs.UpFrom.{length-upFrom, getD-upFrom, upFrom-add, map-same}
+use Rattle.base_lists.proofs.Parts.{flatten-append}
+use Rattle.base_buffers.specs.Buffer.{part}
+use Rattle.block_layout.specs.Block.{cellsPerBlock, blockLength}
+use Rattle.base_buffers.proofs.Segments.{part-at, left, right, part-replicate, Each, flatten-length, flatten-part}
+use Rattle.base_buffers.proofs.Buffer.{padded-length}
 use Rattle.archive_model.specs.Row.{Row, rowsBlock, blockNumber, rowCount, rowsOf, isSound, isBlank}
 use Rattle.archive_model.specs.Buffer.{None, blocksFor, rowsAt, archiveOf, bufferOf, maxBlocks, blocksIn, rowsIn, nonZero, isShort, isFollowed, mismatchFrom, mismatch}
 use Rattle.archive_model.proofs.Blocks.{Fits, rows-block-length, number-back, count-back, rows-back, block-sound}

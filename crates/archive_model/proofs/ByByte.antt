@@ -8,15 +8,15 @@ use mathlib.Core.Bool.{Bool, true, false, cond}
 use mathlib.Core.List.{List, [], _∷_, _++_, map, flatten}
 use lib.ListN.{length, getD, take, length-append, length-map, List·getD-append, List·getD-eq-default}
 use lib.Seq.{getD-at, getD-append-add}
-use Rattle.lists.specs.Lists.{padded}
-use Rattle.crc8.specs.Crc8.{crcOf}
-use Rattle.layout.specs.BigEndian.{be}
-use Rattle.layout.specs.Cell.{cellLength, cellCapacity, cellOf}
-use Rattle.layout.specs.Block.{headerLength, cellsPerBlock, bodyLength, sealed, blockOf}
-use Rattle.buffers.proofs.Segments.{part-at, flatten-length}
-use Rattle.layout.proofs.BigEndian.{be-length, be-at}
-use Rattle.buffers.proofs.Buffer.{padded-length, padded-at, zeros-after}
-use Rattle.layout.proofs.Block.{block-crc}
+use Rattle.base_lists.specs.Lists.{padded}
+use Rattle.base_crc8.specs.Crc8.{crcOf}
+use Rattle.block_layout.specs.BigEndian.{be}
+use Rattle.block_layout.specs.Cell.{cellLength, cellCapacity, cellOf}
+use Rattle.block_layout.specs.Block.{headerLength, cellsPerBlock, bodyLength, sealed, blockOf}
+use Rattle.base_buffers.proofs.Segments.{part-at, flatten-length}
+use Rattle.block_layout.proofs.BigEndian.{be-length, be-at}
+use Rattle.base_buffers.proofs.Buffer.{padded-length, padded-at, zeros-after}
+use Rattle.block_layout.proofs.Block.{block-crc}
 use Rattle.archive_model.specs.Row.{Row, rowLast, rowCell, rowsHeader, rowsBlock}
 use Rattle.archive_model.specs.Claims.{digit, LaidRow, Laid}
 use Rattle.archive_model.proofs.Blocks.{Shorts, noRow, header-length, each, written-length, written-count, written-cell}

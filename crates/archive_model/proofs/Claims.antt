@@ -7,12 +7,12 @@ use mathlib.Core.List.{List, [], _∷_, _++_, append-assoc, append-nil, flatten}
 use lib.Dec.{eqb, ltb}
 use lib.ListN.{length, getD, replicate, length-append}
 use borrow.Author.Tests.{eqb-true, eqb-false, ltb-true, lt-ltb}
-use Rattle.lists.specs.Lists.{all, upFrom}
-use Rattle.lists.proofs.Choice.{both}
-use Rattle.lists.proofs.Tests.{and-true, by-test, all-getD}
-use Rattle.erp1.specs.Subtelegram.{checkOf}
-use Rattle.erp1.proofs.Checks.{check-facts}
-use Rattle.layout.specs.Block.{blockLength}
+use Rattle.base_lists.specs.Lists.{all, upFrom}
+use Rattle.base_lists.proofs.Choice.{both}
+use Rattle.base_lists.proofs.Tests.{and-true, by-test, all-getD}
+use Rattle.radio_erp1.specs.Subtelegram.{checkOf}
+use Rattle.radio_erp1.proofs.Checks.{check-facts}
+use Rattle.block_layout.specs.Block.{blockLength}
 use Rattle.archive_model.specs.Row.{Row, isRow}
 use Rattle.archive_model.specs.Buffer.{archiveOf, bufferOf, isWhole, rowsIn}
 use Rattle.archive_model.specs.Append.{verdict, appendOf}

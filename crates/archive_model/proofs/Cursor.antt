@@ -13,21 +13,21 @@ use lib.Dec.{eqb, leb}
 use lib.ListN.{length, take, drop, replicate, length-append, length-map, length-drop, take-append-drop}
 use lib.Seq.{take-all, drop-drop, drop-append-le}
 use borrow.Author.Tests.{eqb-true, eqb-false, leb-true, eq-eqb, ne-eqb, lt-ltb, le-ltb, le-leb, lt-leb}
-use Rattle.lists.specs.Lists.{padded, upFrom}
-use Rattle.lists.proofs.Choice.{both}
-use Rattle.lists.proofs.Tests.{by-test, and-true}
-use Rattle.lists.proofs.UpFrom.{map-same}
-use Rattle.lists.proofs.Parts.{flatten-append}
-use Rattle.refusal.specs.Number.{numberOf}
-use Rattle.refusal.specs.declared.Refusal.the-variants.{ShortOutput, Size}
-use Rattle.erp1.specs.Subtelegram.{checkOf, isValid}
-use Rattle.crc8.specs.Crc8.{crcOf}
-use Rattle.buffers.specs.Buffer.{part}
-use Rattle.layout.specs.Cell.{cellLength}
-use Rattle.layout.specs.Block.{headerLength, cellsPerBlock, bodyLength, blockLength, sealed, blockOf}
-use Rattle.buffers.proofs.Segments.{left, right, last, part-replicate, flatten-length}
-use Rattle.buffers.proofs.Buffer.{padded-length}
-use Rattle.layout.proofs.Cell.{cell-length}
+use Rattle.base_lists.specs.Lists.{padded, upFrom}
+use Rattle.base_lists.proofs.Choice.{both}
+use Rattle.base_lists.proofs.Tests.{by-test, and-true}
+use Rattle.base_lists.proofs.UpFrom.{map-same}
+use Rattle.base_lists.proofs.Parts.{flatten-append}
+use Rattle.base_refusal.specs.Number.{numberOf}
+use Rattle.base_refusal.specs.declared.Refusal.the-variants.{ShortOutput, Size}
+use Rattle.radio_erp1.specs.Subtelegram.{checkOf, isValid}
+use Rattle.base_crc8.specs.Crc8.{crcOf}
+use Rattle.base_buffers.specs.Buffer.{part}
+use Rattle.block_layout.specs.Cell.{cellLength}
+use Rattle.block_layout.specs.Block.{headerLength, cellsPerBlock, bodyLength, blockLength, sealed, blockOf}
+use Rattle.base_buffers.proofs.Segments.{left, right, last, part-replicate, flatten-length}
+use Rattle.base_buffers.proofs.Buffer.{padded-length}
+use Rattle.block_layout.proofs.Cell.{cell-length}
 use Rattle.archive_model.specs.Row.{Row, rowLast, rowCell, rowsHeader, rowsBlock, blockNumber, rowCount, isBlank}
 use Rattle.archive_model.specs.Buffer.{Found, At, None, rowsAt, bufferOf, maxBlocks, isWhole, rowsIn, mismatch}
 use Rattle.archive_model.specs.Append.{Appended, refusedAppend, stored, found, verdict, rowNumber, appendOf, blockAt, putRow, isNext, appendAtOf}

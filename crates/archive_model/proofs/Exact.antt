@@ -14,18 +14,18 @@ use lib.Dec.{eqb, leb}
 use lib.ListN.{length, getD, replicate, length-append, length-map, length-replicate, replicate-append-replicate, List·getD-append}
 use lib.Seq.{take-all, take-at, getD-append-add}
 use borrow.Author.Tests.{eqb-true, leb-true, ltb-false, not-false}
-use Rattle.lists.specs.Lists.{all, equal, padded, upFrom}
-use Rattle.lists.proofs.Choice.{both}
-use Rattle.lists.proofs.Equal.{equal-eq}
-use Rattle.lists.proofs.Tests.{by-test, all-getD}
-use Rattle.lists.proofs.UpFrom.{length-upFrom, getD-upFrom, map-same}
-use Rattle.erp1.specs.Subtelegram.{checkOf}
-use Rattle.erp1.proofs.Checks.{check-facts}
-use Rattle.buffers.specs.Buffer.{part}
-use Rattle.layout.specs.Cell.{cellTime}
-use Rattle.layout.specs.Block.{cellsPerBlock, blockLength, blockCell}
-use Rattle.buffers.proofs.Segments.{part-length, right, Each}
-use Rattle.layout.proofs.Cell.{cell-time-lt}
+use Rattle.base_lists.specs.Lists.{all, equal, padded, upFrom}
+use Rattle.base_lists.proofs.Choice.{both}
+use Rattle.base_lists.proofs.Equal.{equal-eq}
+use Rattle.base_lists.proofs.Tests.{by-test, all-getD}
+use Rattle.base_lists.proofs.UpFrom.{length-upFrom, getD-upFrom, map-same}
+use Rattle.radio_erp1.specs.Subtelegram.{checkOf}
+use Rattle.radio_erp1.proofs.Checks.{check-facts}
+use Rattle.base_buffers.specs.Buffer.{part}
+use Rattle.block_layout.specs.Cell.{cellTime}
+use Rattle.block_layout.specs.Block.{cellsPerBlock, blockLength, blockCell}
+use Rattle.base_buffers.proofs.Segments.{part-length, right, Each}
+use Rattle.block_layout.proofs.Cell.{cell-time-lt}
 use Rattle.archive_model.specs.Row.{Row, rowLast, rowCell, rowsBlock, blockNumber, rowCount, rowIn, rowsOf, isRow, isSound, isBlank}
 use Rattle.archive_model.specs.Buffer.{At, None, blocksFor, rowsAt, archiveOf, bufferOf, blocksIn, rowsIn, nonZero, isShort, isFollowed, mismatchFrom, mismatch}
 use Rattle.archive_model.proofs.Blocks.{Fits, Shorts, noRow, written-length, written-cell}

@@ -6,11 +6,11 @@ use mathlib.Core.Bool.{Bool, true, false, cond}
 use mathlib.Core.List.{List}
 use lib.ListN.{length, take, drop}
 use borrow.Author.Tests.{eqb-true}
-use Rattle.erp1.specs.Subtelegram.{isAddressed, checkOf}
-use Rattle.erp1.proofs.Checks.{check-facts}
-use Rattle.layout.specs.BigEndian.{unbe}
-use Rattle.telegram.specs.declared.fields.Telegram.{Telegram}
-use Rattle.telegram.specs.Fields.{fieldsOf, plainFields, addressedFields}
+use Rattle.radio_erp1.specs.Subtelegram.{isAddressed, checkOf}
+use Rattle.radio_erp1.proofs.Checks.{check-facts}
+use Rattle.block_layout.specs.BigEndian.{unbe}
+use Rattle.radio_telegram.specs.declared.fields.Telegram.{Telegram}
+use Rattle.radio_telegram.specs.Fields.{fieldsOf, plainFields, addressedFields}
 use Rattle.archive_model.specs.Row.{Row}
 use Rattle.archive_model.specs.Identity.{Transmitter}
 

@@ -12,12 +12,12 @@ use mathlib.Core.Bool.{Bool, true, false, cond, _&&_}
 use mathlib.Core.List.{List, [], _∷_, _++_, map, flatten, map-append}
 use lib.Dec.{eqb}
 use lib.ListN.{length, length-append, length-map}
-use Rattle.lists.specs.Lists.{upFrom}
-use Rattle.lists.proofs.Tests.{by-test}
-use Rattle.lists.proofs.UpFrom.{upFrom-add, length-upFrom, map-shift, map-same}
-use Rattle.buffers.specs.Buffer.{part}
-use Rattle.buffers.proofs.Segments.{left, right}
-use Rattle.layout.specs.Block.{blockLength, blockCell}
+use Rattle.base_lists.specs.Lists.{upFrom}
+use Rattle.base_lists.proofs.Tests.{by-test}
+use Rattle.base_lists.proofs.UpFrom.{upFrom-add, length-upFrom, map-shift, map-same}
+use Rattle.base_buffers.specs.Buffer.{part}
+use Rattle.base_buffers.proofs.Segments.{left, right}
+use Rattle.block_layout.specs.Block.{blockLength, blockCell}
 use Rattle.archive_model.specs.Row.{blockNumber, rowCount, rowIn, rowsOf, isSound, isBlank}
 use Rattle.archive_model.specs.Buffer.{At, None, blocksIn, rowsIn, nonZero, isShort, isFollowed, mismatchFrom, mismatch, Stage, Filling, Short, Ended, Wrong, Scan, startScan, stageAfter, stageBlank, scanBlock, scanBlocks, stageFound}
 use Rattle.archive_model.proofs.Buffers.{blank-count}

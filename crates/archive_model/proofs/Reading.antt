@@ -12,13 +12,13 @@ use mathlib.Core.List.{List}
 use lib.Dec.{ltb, leb}
 use lib.ListN.{length, getD, take}
 use borrow.Author.Tests.{lt-ltb, le-ltb, le-leb, lt-leb, leb-true, ltb-true}
-use Rattle.refusal.specs.Number.{numberOf}
-use Rattle.refusal.specs.declared.Refusal.the-variants.{Argument, Mismatch, Size}
-use Rattle.layout.specs.Cell.{cellLength, cellCapacity, cellUsed, cellField, cellBytes}
-use Rattle.layout.specs.Block.{headerLength, cellsPerBlock, blockLength, blockCell}
-use Rattle.lists.proofs.Tests.{by-test}
-use Rattle.buffers.proofs.Buffer.{resized-length, resized-cut}
-use Rattle.buffers.proofs.Segments.{part-at, part-length}
+use Rattle.base_refusal.specs.Number.{numberOf}
+use Rattle.base_refusal.specs.declared.Refusal.the-variants.{Argument, Mismatch, Size}
+use Rattle.block_layout.specs.Cell.{cellLength, cellCapacity, cellUsed, cellField, cellBytes}
+use Rattle.block_layout.specs.Block.{headerLength, cellsPerBlock, blockLength, blockCell}
+use Rattle.base_lists.proofs.Tests.{by-test}
+use Rattle.base_buffers.proofs.Buffer.{resized-length, resized-cut}
+use Rattle.base_buffers.proofs.Segments.{part-at, part-length}
 use Rattle.archive_model.specs.Row.{Row, rowsBlock, rowCount, rowIn}
 use Rattle.archive_model.specs.Buffer.{blocksFor, rowsAt, bufferOf, maxBlocks, isWhole}
 use Rattle.archive_model.specs.Append.{ReadRow, blockAt, isInside, cellRow, cellAt, rowAtOf}

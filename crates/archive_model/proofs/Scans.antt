@@ -9,9 +9,9 @@ use mathlib.Core.Bool.{Bool, true, false, cond, _&&_}
 use mathlib.Core.List.{List}
 use lib.Dec.{ltb, leb, eqb}
 use borrow.Author.Tests.{le-leb, leb-true, lt-ltb, ltb-true, ltb-false, eq-eqb, eqb-true}
-use Rattle.lists.proofs.Choice.{both}
-use Rattle.lists.proofs.Tests.{and-true, by-test}
-use Rattle.layout.specs.Block.{cellsPerBlock}
+use Rattle.base_lists.proofs.Choice.{both}
+use Rattle.base_lists.proofs.Tests.{and-true, by-test}
+use Rattle.block_layout.specs.Block.{cellsPerBlock}
 use Rattle.archive_model.specs.Row.{blockNumber, rowCount, isSound, isBlank}
 use Rattle.archive_model.specs.Buffer.{maxBlocks, isShort, Stage, Filling, Short, Ended, Wrong, Scan, stageAfter, stageBlank, scanBlock}
 use Rattle.archive_model.specs.Append.{isStage, isScan}

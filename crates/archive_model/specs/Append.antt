@@ -4,12 +4,12 @@ use mathlib.Core.Bool.{Bool, false, cond, not, _&&_}
 use mathlib.Core.List.{List, [], _∷_, _++_}
 use lib.Dec.{ltb, leb, eqb}
 use lib.ListN.{length, take, drop}
-use Rattle.refusal.specs.Number.{numberOf}
-use Rattle.refusal.specs.declared.Refusal.the-variants.{ShortOutput, Argument, NotAccepted, Mismatch, Size}
-use Rattle.buffers.specs.Buffer.{part}
-use Rattle.layout.specs.Cell.{cellLength, cellCapacity, cellUsed}
-use Rattle.layout.specs.Block.{headerLength, cellsPerBlock, bodyLength, blockLength, sealed, blockCell}
-use Rattle.erp1.specs.Subtelegram.{checkOf, isValid}
+use Rattle.base_refusal.specs.Number.{numberOf}
+use Rattle.base_refusal.specs.declared.Refusal.the-variants.{ShortOutput, Argument, NotAccepted, Mismatch, Size}
+use Rattle.base_buffers.specs.Buffer.{part}
+use Rattle.block_layout.specs.Cell.{cellLength, cellCapacity, cellUsed}
+use Rattle.block_layout.specs.Block.{headerLength, cellsPerBlock, bodyLength, blockLength, sealed, blockCell}
+use Rattle.radio_erp1.specs.Subtelegram.{checkOf, isValid}
 use Rattle.archive_model.specs.Row.{Row, rowCell, rowsHeader, blockNumber, rowCount, rowIn, isBlank}
 use Rattle.archive_model.specs.Buffer.{Found, At, None, maxBlocks, maxRows, isWhole, blocksIn, mismatch, rowsIn, bufferOf, Stage, Filling, Short, Ended, Wrong, Scan, scanBlocks}
 

@@ -4,9 +4,9 @@ use mathlib.Core.Bool.{Bool, false, cond, not, _&&_}
 use mathlib.Core.List.{List, [], _∷_, map, flatten}
 use lib.Dec.{ltb, leb, eqb}
 use lib.ListN.{length}
-use Rattle.lists.specs.Lists.{padded, upFrom}
-use Rattle.buffers.specs.Buffer.{part}
-use Rattle.layout.specs.Block.{cellsPerBlock, blockLength}
+use Rattle.base_lists.specs.Lists.{padded, upFrom}
+use Rattle.base_buffers.specs.Buffer.{part}
+use Rattle.block_layout.specs.Block.{cellsPerBlock, blockLength}
 use Rattle.archive_model.specs.Row.{Row, rowsBlock, blockNumber, rowCount, rowsOf, isSound, isBlank}
 
 -- ---- writing

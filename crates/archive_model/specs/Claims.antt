@@ -5,10 +5,10 @@ use mathlib.Core.Bool.{Bool, true, false, cond, _&&_}
 use mathlib.Core.List.{List, [], _∷_, _++_, map}
 use lib.Dec.{ltb, eqb}
 use lib.ListN.{length, getD, take, replicate}
-use Rattle.lists.specs.Lists.{all}
-use Rattle.refusal.specs.Number.{numberOf}
-use Rattle.refusal.specs.declared.Refusal.the-variants.{Argument}
-use Rattle.crc8.specs.Crc8.{crcOf}
+use Rattle.base_lists.specs.Lists.{all}
+use Rattle.base_refusal.specs.Number.{numberOf}
+use Rattle.base_refusal.specs.declared.Refusal.the-variants.{Argument}
+use Rattle.base_crc8.specs.Crc8.{crcOf}
 use Rattle.archive_model.specs.Row.{Row, rowsBlock, isRow}
 use Rattle.archive_model.specs.Buffer.{None, bufferOf, isWhole, blocksIn, rowsIn, mismatch, Scan, startScan, scanBlocks, stageFound}
 use Rattle.archive_model.specs.Append.{verdict, appendOf, appendAtOf, noRow, rowAtOf}

@@ -3,9 +3,9 @@ use Prim.Native.Nat.{ℕ, _-_}
 use mathlib.Core.Path.{_≡_}
 use mathlib.Core.Bool.{true}
 use lib.ListN.{length}
-use Rattle.buffers.specs.Buffer.{part}
-use Rattle.layout.specs.BigEndian.{unbe}
-use Rattle.telegram.specs.Fields.{fieldsOf}
+use Rattle.base_buffers.specs.Buffer.{part}
+use Rattle.block_layout.specs.BigEndian.{unbe}
+use Rattle.radio_telegram.specs.Fields.{fieldsOf}
 use Rattle.archive_model.specs.Row.{Row, isRow}
 
 -- the transmitter: the four bytes before STATUS and HASH, in a plain and in an addressed subtelegram

@@ -4,12 +4,12 @@ use mathlib.Core.Bool.{Bool, true, cond, _&&_}
 use mathlib.Core.List.{List, [], _∷_, _++_, map}
 use lib.Dec.{leb, eqb}
 use lib.ListN.{length, getD, replicate}
-use Rattle.lists.specs.Lists.{equal, all, upFrom}
-use Rattle.buffers.specs.Buffer.{part}
-use Rattle.layout.specs.BigEndian.{be, unbe}
-use Rattle.layout.specs.Cell.{cellOf, cellTime, cellBytes, cellLast}
-use Rattle.layout.specs.Block.{cellsPerBlock, blockOf, blockCell}
-use Rattle.erp1.specs.Subtelegram.{isValid}
+use Rattle.base_lists.specs.Lists.{equal, all, upFrom}
+use Rattle.base_buffers.specs.Buffer.{part}
+use Rattle.block_layout.specs.BigEndian.{be, unbe}
+use Rattle.block_layout.specs.Cell.{cellOf, cellTime, cellBytes, cellLast}
+use Rattle.block_layout.specs.Block.{cellsPerBlock, blockOf, blockCell}
+use Rattle.radio_erp1.specs.Subtelegram.{isValid}
 
 -- a reception that was KEPT or LOOSE
 pub record Row : Type 0 where

@@ -2,15 +2,15 @@
 // program says (tests/reference/README.md has the format).
 mod reports;
 
-use archive::Found;
-use archive::Opened;
-use archive::Outcome;
-use archive::RowAt;
-use archive::Scan;
-use archive::Stage;
-use archive::Taken;
-use repack::Removed;
-use report::Report;
+use archive_file::Found;
+use archive_file::Opened;
+use archive_file::Outcome;
+use archive_file::RowAt;
+use archive_file::Scan;
+use archive_file::Stage;
+use archive_file::Taken;
+use archive_repack::Removed;
+use archive_report::Report;
 ghost use mathlib.Core.Path.{_≡_};
 ghost use Prim.Native.Nat.{_≤_, _<_, min};
 ghost use lib.ListN.{length};
@@ -18,7 +18,7 @@ ghost use lib.ListN.{length};
 // The most bytes of the buffer that holds the archive.
 const CAPACITY: usize = 24576;
 
-const BLOCK: usize = layout::BLOCK_LENGTH;
+const BLOCK: usize = block_layout::BLOCK_LENGTH;
 
 // The most positions of the list that salvage writes.
 const POSITIONS: usize = 64;
@@ -113,14 +113,14 @@ fn made(buffer: &mut [u8], n: usize, out: &mut [u8], list: &mut [u64], r: &[u8])
     ensures { λ k. ⌜ k ≤ 24576 ⌝ }
 {
     if r[0] == 1 {
-        return fresh(buffer, layout::read_number(&r[1..5]));
+        return fresh(buffer, block_layout::read_number(&r[1..5]));
     }
     if r[0] == 9 {
         salvage(&buffer[0..n], out, list, r);
         return n;
     }
     if r[0] == 10 {
-        out_block(out, layout::read_number(&r[1..5]));
+        out_block(out, block_layout::read_number(&r[1..5]));
         return n;
     }
     if r[0] == 11 {
@@ -140,9 +140,9 @@ fn call(buffer: &mut [u8], r: &[u8])
         3 => append(buffer, r),
         4 => append_at(buffer, r),
         5 => open(buffer),
-        6 => row(buffer, layout::read_number(&r[1..9])),
-        7 => block(buffer, layout::read_number(&r[1..5])),
-        8 => scan(buffer, layout::read_number(&r[1..5])),
+        6 => row(buffer, block_layout::read_number(&r[1..9])),
+        7 => block(buffer, block_layout::read_number(&r[1..5])),
+        8 => scan(buffer, block_layout::read_number(&r[1..5])),
         12 => remove(buffer, r),
         18 => cut(buffer, r),
         _ => test_io::text(b"?\n"),
@@ -157,7 +157,7 @@ fn fresh(buffer: &mut [u8], number: u64) -> usize
     ensures { λ k. ⌜ k ≤ 24576 ⌝ }
 {
     let n = least(number, CAPACITY);
-    layout::clear(&mut buffer[0..n]);
+    block_layout::clear(&mut buffer[0..n]);
     test_io::text(b"NEW ");
     test_io::decimal(n as u64);
     test_io::text(b"\n");
@@ -168,8 +168,8 @@ fn fresh(buffer: &mut [u8], number: u64) -> usize
 fn put(buffer: &mut [u8], r: &[u8])
     requires { ⌜ length (now r) ≡ 320 ⌝ }
 {
-    let place = least(layout::read_number(&r[1..5]), CAPACITY);
-    let count = least(layout::read_number(&r[5..7]), 300);
+    let place = least(block_layout::read_number(&r[1..5]), CAPACITY);
+    let count = least(block_layout::read_number(&r[5..7]), 300);
     store(buffer, place, &r[8..8 + count]);
     test_io::text(b"PUT\n");
 }
@@ -192,8 +192,8 @@ fn append(buffer: &mut [u8], r: &[u8])
     requires { ⌜ length (now r) ≡ 320 ⌝ }
 {
     let len = least(wide(r[10]), 64);
-    let time = layout::read_number(&r[1..9]);
-    let answer = archive::append(buffer, &r[11..11 + len], time, r[9] != 0);
+    let time = block_layout::read_number(&r[1..9]);
+    let answer = archive_file::append(buffer, &r[11..11 + len], time, r[9] != 0);
     test_io::text(b"APPEND ");
     put_outcome(answer);
     test_io::text(b"\n");
@@ -203,31 +203,31 @@ fn append_at(buffer: &mut [u8], r: &[u8])
     requires { ⌜ length (now r) ≡ 320 ⌝ }
 {
     let len = least(wide(r[10]), 64);
-    let time = layout::read_number(&r[1..9]);
-    let rows = layout::read_number(&r[80..88]) as usize;
-    let answer = archive::append_at(buffer, rows, &r[11..11 + len], time, r[9] != 0);
+    let time = block_layout::read_number(&r[1..9]);
+    let rows = block_layout::read_number(&r[80..88]) as usize;
+    let answer = archive_file::append_at(buffer, rows, &r[11..11 + len], time, r[9] != 0);
     test_io::text(b"APPENDAT ");
     put_outcome(answer);
     test_io::text(b"\n");
 }
 
 fn open(buffer: &[u8]) {
-    let answer = archive::open(buffer);
+    let answer = archive_file::open(buffer);
     test_io::text(b"OPEN ");
     match answer {
         Opened::Rows(n) => put_three(0, 0, n),
         Opened::Damaged(k) => put_three(12, k, 0),
-        Opened::Refused(why) => put_three(refusal::number(why), 0, 0),
+        Opened::Refused(why) => put_three(base_refusal::number(why), 0, 0),
     }
 }
 
 fn row(buffer: &[u8], index: u64) {
-    let found = archive::row_at(buffer, index as usize);
+    let found = archive_file::row_at(buffer, index as usize);
     let answer = found.answer;
     test_io::text(b"ROW ");
     match answer {
         Found::Row => test_io::text(b"0"),
-        Found::Refused(why) => test_io::decimal(refusal::number(why) as u64),
+        Found::Refused(why) => test_io::decimal(base_refusal::number(why) as u64),
     }
     put_row(found);
 }
@@ -275,7 +275,7 @@ fn scan(buffer: &[u8], blocks: u64)
         let fed = s.feed(&buffer[at..end]);
         let answer = fed.answer;
         if let Taken::Refused(why) = answer {
-            put_three(refusal::number(why), 0, 0);
+            put_three(base_refusal::number(why), 0, 0);
             return;
         }
         s = fed.next;
@@ -303,9 +303,9 @@ fn salvage(buffer: &[u8], out: &mut [u8], list: &mut [u64], r: &[u8])
 {
     fill(out);
     fill_list(list);
-    let end = least(layout::read_number(&r[1..5]), CAPACITY);
-    let len = least(layout::read_number(&r[5..9]), POSITIONS);
-    let done = repack::salvage(buffer, &mut out[0..end], &mut list[0..len]);
+    let end = least(block_layout::read_number(&r[1..5]), CAPACITY);
+    let len = least(block_layout::read_number(&r[5..9]), POSITIONS);
+    let done = archive_repack::salvage(buffer, &mut out[0..end], &mut list[0..len]);
     let answer = done.answer;
     test_io::text(b"SALVAGE ");
     put_three(taken_number(answer), done.dropped, done.rows);
@@ -314,7 +314,7 @@ fn salvage(buffer: &[u8], out: &mut [u8], list: &mut [u64], r: &[u8])
 fn taken_number(answer: Taken) -> u8 {
     match answer {
         Taken::Done => 0,
-        Taken::Refused(why) => refusal::number(why),
+        Taken::Refused(why) => base_refusal::number(why),
     }
 }
 
@@ -354,12 +354,12 @@ fn remove(buffer: &mut [u8], r: &[u8])
     let mut identities = [0u32; IDENTITIES];
     read_identities(&mut identities, r);
     let count = least(wide(r[1]), IDENTITIES);
-    let answer = repack::remove(buffer, &identities[0..count]);
+    let answer = archive_repack::remove(buffer, &identities[0..count]);
     test_io::text(b"REMOVE ");
     match answer {
         Removed::Done(freed) => put_three(0, 0, freed),
         Removed::Damaged(k) => put_three(12, k, 0),
-        Removed::Refused(why) => put_three(refusal::number(why), 0, 0),
+        Removed::Refused(why) => put_three(base_refusal::number(why), 0, 0),
     }
 }
 
@@ -367,7 +367,7 @@ fn read_identities(identities: &mut [u32], r: &[u8])
     requires { ⌜ (length (now identities) ≡ 70) × (length (now r) ≡ 320) ⌝ }
 {
     for i in 0..identities.len() {
-        identities[i] = four_bytes(layout::read_number(&r[4 + 4 * i..4 + 4 * i + 4]));
+        identities[i] = four_bytes(block_layout::read_number(&r[4 + 4 * i..4 + 4 * i + 4]));
     }
 }
 
@@ -381,13 +381,13 @@ fn four_bytes(n: u64) -> u32 {
 fn cut(buffer: &mut [u8], r: &[u8])
     requires { ⌜ length (now r) ≡ 320 ⌝ }
 {
-    let rows = layout::read_number(&r[1..9]) as usize;
-    let answer = cutting::cut(buffer, rows);
+    let rows = block_layout::read_number(&r[1..9]) as usize;
+    let answer = archive_cut::cut(buffer, rows);
     test_io::text(b"CUT ");
     match answer {
         Outcome::Done => put_three(0, 0, rows),
         Outcome::Damaged(k) => put_three(12, k, 0),
-        Outcome::Refused(why) => put_three(refusal::number(why), 0, 0),
+        Outcome::Refused(why) => put_three(base_refusal::number(why), 0, 0),
     }
 }
 
@@ -397,7 +397,7 @@ pub(crate) fn put_outcome(answer: Outcome) {
     match answer {
         Outcome::Done => test_io::text(b"0 0"),
         Outcome::Damaged(k) => put_two(12, k),
-        Outcome::Refused(why) => put_two(refusal::number(why), 0),
+        Outcome::Refused(why) => put_two(base_refusal::number(why), 0),
     }
 }
 

@@ -1,8 +1,8 @@
 // Puts a report through its calls: operations 13 to 17.
-use report::LineAt;
-use report::Looked;
-use report::Report;
-use report::Share;
+use archive_report::LineAt;
+use archive_report::Looked;
+use archive_report::Report;
+use archive_report::Share;
 ghost use mathlib.Core.Path.{_≡_};
 ghost use Prim.Native.Nat.{_≤_};
 ghost use lib.ListN.{length};
@@ -22,8 +22,8 @@ pub(crate) fn call(buffer: &[u8], report: Report, r: &[u8]) -> Report
     match operation {
         13 => emptied(),
         14 => added(buffer, report),
-        15 => line(report, layout::read_number(&r[1..9])),
-        16 => share(report, layout::read_number(&r[1..9])),
+        15 => line(report, block_layout::read_number(&r[1..9])),
+        16 => share(report, block_layout::read_number(&r[1..9])),
         _ => spoiled(report, r),
     }
 }
@@ -53,7 +53,7 @@ fn line(report: Report, index: u64) -> Report {
     test_io::text(b"LINE ");
     match answer {
         Looked::Line => test_io::text(b"0"),
-        Looked::Refused(why) => test_io::decimal(refusal::number(why) as u64),
+        Looked::Refused(why) => test_io::decimal(base_refusal::number(why) as u64),
     }
     put_line(found);
     report
@@ -73,7 +73,7 @@ fn share(report: Report, received: u64) -> Report {
     test_io::text(b"SHARE ");
     match answer {
         Share::PerMille(t) => put_pair(0, t),
-        Share::Refused(why) => put_pair(refusal::number(why), 0),
+        Share::Refused(why) => put_pair(base_refusal::number(why), 0),
     }
     test_io::text(b"\n");
     report
@@ -84,8 +84,8 @@ fn spoiled(report: Report, r: &[u8]) -> Report
     requires { ⌜ length (now r) ≡ 320 ⌝ }
 {
     let field = r[1];
-    let index = crate::least(layout::read_number(&r[2..4]), LAST);
-    let value = layout::read_number(&r[8..16]);
+    let index = crate::least(block_layout::read_number(&r[2..4]), LAST);
+    let value = block_layout::read_number(&r[8..16]);
     test_io::text(b"SPOIL\n");
     match field {
         0 => with_archives(report, value as usize),

@@ -1,9 +1,9 @@
 // Receptions handed over in bursts, for the benchmark.
-use burst::Reception;
-use burst::Reply;
-use collector::Collector;
-use model::Answer;
-use telegram::frame::Frame;
+use collector_burst::Reception;
+use collector_burst::Reply;
+use collector_model::Answer;
+use collector_state::Collector;
+use radio_telegram::frame::Frame;
 ghost use mathlib.Core.Path.{_≡_};
 ghost use Prim.Native.Nat.{_≤_};
 ghost use lib.ListN.{length};
@@ -15,19 +15,19 @@ const CELL: usize = 32;
 #[no_mangle]
 pub extern "C" fn bench_burst(setting: u8, cells: &[u8], size: usize, rounds: u64) -> u64 {
     let fresh = Collector::fresh();
-    let first = burst::burst_within(
+    let first = collector_burst::burst_within(
         fresh,
         setting,
         records_from(cells, 0),
-        burst::MAX_BURST,
+        collector_burst::MAX_BURST,
         places(),
-        burst::MAX_BURST,
+        collector_burst::MAX_BURST,
     );
     let done = first.bursted;
     bursts_from(
         done.next,
         setting,
-        records_from(cells, burst::MAX_BURST),
+        records_from(cells, collector_burst::MAX_BURST),
         size,
         rounds,
     )
@@ -36,14 +36,14 @@ pub extern "C" fn bench_burst(setting: u8, cells: &[u8], size: usize, rounds: u6
 fn bursts_from(
     c: Collector,
     setting: u8,
-    records: [Reception; burst::LISTED],
+    records: [Reception; collector_burst::LISTED],
     size: usize,
     rounds: u64,
 ) -> u64 {
     let none = places();
     let mut figure: u64 = 0;
     for i in 0..rounds {
-        let lists = burst::burst_within(c, setting, records, size, none, size);
+        let lists = collector_burst::burst_within(c, setting, records, size, none, size);
         let done = lists.bursted;
         let next = done.next;
         let totals = next.summary.totals;
@@ -63,7 +63,7 @@ fn place_of(i: u64) -> usize
 }
 
 // 256 records, from the k-th cell on.
-fn records_from(cells: &[u8], k: usize) -> [Reception; burst::LISTED]
+fn records_from(cells: &[u8], k: usize) -> [Reception; collector_burst::LISTED]
     requires { ⌜ k ≤ 256 ⌝ }
 {
     let mut all = no_records();
@@ -73,9 +73,9 @@ fn records_from(cells: &[u8], k: usize) -> [Reception; burst::LISTED]
     all
 }
 
-fn no_records() -> [Reception; burst::LISTED] {
+fn no_records() -> [Reception; collector_burst::LISTED] {
     let none = no_record();
-    [none; burst::LISTED]
+    [none; collector_burst::LISTED]
 }
 
 fn no_record() -> Reception {
@@ -99,8 +99,8 @@ fn record_in(cell: &[u8]) -> Reception
     requires { ⌜ length (now cell) ≡ 32 ⌝ }
 {
     let mut bytes = [0u8; Collector::MAX_LEN];
-    layout::put_bytes(&mut bytes, &cell[9..30]);
-    let time = layout::cell_time(cell);
+    block_layout::put_bytes(&mut bytes, &cell[9..30]);
+    let time = block_layout::cell_time(cell);
     Reception {
         bytes: bytes,
         len: cell[8],
@@ -108,13 +108,13 @@ fn record_in(cell: &[u8]) -> Reception
     }
 }
 
-fn places() -> [Reply; burst::LISTED] {
+fn places() -> [Reply; collector_burst::LISTED] {
     let sent = Frame::empty();
     let none = Reply {
         answer: Answer::Loose,
         sent: sent,
     };
-    [none; burst::LISTED]
+    [none; collector_burst::LISTED]
 }
 
 fn weight(reply: Reply) -> u64 {

@@ -5,18 +5,18 @@ use mathlib.Core.List.{List, [], _∷_, _++_}
 use Prim.Native.Nat.{ℕ}
 use lib.ListN.{length, take}
 use borrow.Author.Tests.{eq-eqb, ne-eqb}
-use Rattle.refusal.specs.Number.{numberOf}
-use Rattle.refusal.specs.declared.Refusal.{Refusal}
-use Rattle.refusal.proofs.Numbers.{refused-number}
-use Rattle.buffers.specs.Buffer.{resized}
-use Rattle.layout.specs.Cell.{cellCapacity, cellField}
+use Rattle.base_refusal.specs.Number.{numberOf}
+use Rattle.base_refusal.specs.declared.Refusal.{Refusal}
+use Rattle.base_refusal.proofs.Numbers.{refused-number}
+use Rattle.base_buffers.specs.Buffer.{resized}
+use Rattle.block_layout.specs.Cell.{cellCapacity, cellField}
 use Rattle.archive_model.specs.Append.{Opening, Appended, refusedAppend, cellAt, rowAtOf}
 use Rattle.archive_model.proofs.Reading.{row-field}
-use Rattle.archive.specs.Archive.{Shown, rowShown}
-use Rattle.repack_model.specs.Repack.{Salvaged, Removed}
+use Rattle.archive_file.specs.Archive.{Shown, rowShown}
+use Rattle.archive_repack_model.specs.Repack.{Salvaged, Removed}
 use Rattle.c_layout.specs.Frame.{wrongSize, frameBytes, flagByte}
 use Rattle.c_layout.specs.Lent.{ifMismatch}
-use Rattle.filling.specs.Fill.{rowLength}
+use Rattle.archive_fill.specs.Fill.{rowLength}
 use Rattle.c_archive.specs.Calls.{openCall, appendCall, hasPlace, putRowsCall, salvageCall, removeCall, rowBytes, rowAnswer, rowCall}
 
 -- ---- a refusal, and the position that goes with it

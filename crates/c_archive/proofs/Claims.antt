@@ -4,10 +4,10 @@ use mathlib.Core.Bool.{Bool, true, false, not}
 use lib.Dec.{eqb}
 use lib.ListN.{length}
 use borrow.Author.Tests.{eqb-true}
-use Rattle.erp1.specs.Subtelegram.{maxLength, checkOf}
-use Rattle.erp1.proofs.Checks.{check-facts}
-use Rattle.buffers.specs.Buffer.{resized}
-use Rattle.buffers.proofs.Buffer.{resized-padded, resized-back}
+use Rattle.radio_erp1.specs.Subtelegram.{maxLength, checkOf}
+use Rattle.radio_erp1.proofs.Checks.{check-facts}
+use Rattle.base_buffers.specs.Buffer.{resized}
+use Rattle.base_buffers.proofs.Buffer.{resized-padded, resized-back}
 use Rattle.c_layout.specs.Frame.{frameBytes, flagByte}
 use Rattle.c_archive.specs.Calls.{rowBytes}
 use Rattle.c_archive.specs.Claims.{GivenAgain}

@@ -4,12 +4,12 @@ use mathlib.Core.Bool.{Bool, cond, not, _||_}
 use mathlib.Core.List.{List, [], _∷_, _++_}
 use lib.Dec.{eqb}
 use lib.ListN.{length}
-use Rattle.refusal.specs.Number.{numberOf}
-use Rattle.refusal.specs.declared.Refusal.the-variants.{Length, Sum, Nested, Crc, Mismatch}
+use Rattle.base_refusal.specs.Number.{numberOf}
+use Rattle.base_refusal.specs.declared.Refusal.the-variants.{Length, Sum, Nested, Crc, Mismatch}
 use Rattle.archive_model.specs.Row.{Row}
 use Rattle.archive_model.specs.Append.{Opening, Appended, rowAtOf}
-use Rattle.repack_model.specs.Repack.{Salvaged, Removed}
-use Rattle.filling.specs.Fill.{rowLength}
+use Rattle.archive_repack_model.specs.Repack.{Salvaged, Removed}
+use Rattle.archive_fill.specs.Fill.{rowLength}
 use Rattle.c_layout.specs.Frame.{wrongSize, frameBytes, flagByte}
 use Rattle.c_layout.specs.Lent.{ifDone, ifMismatch}
 

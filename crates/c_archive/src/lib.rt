@@ -1,27 +1,27 @@
 // Archives on plain numbers and bytes, as other languages call them.
-use archive::Found;
-use archive::Opened;
-use archive::Outcome;
-use archive::Taken;
+use archive_file::Found;
+use archive_file::Opened;
+use archive_file::Outcome;
+use archive_file::Taken;
+use archive_fill::ROW_LENGTH;
+use archive_repack::Removed;
+use base_refusal::Refusal;
+use block_layout::CELL_CAPACITY;
 use c_layout::WRONG_SIZE;
-use filling::ROW_LENGTH;
-use layout::CELL_CAPACITY;
-use refusal::Refusal;
-use repack::Removed;
 ghost use mathlib.Core.Path.{_≡_};
 ghost use mathlib.Core.Bool.{cond};
 ghost use mathlib.Core.List.{List};
 ghost use Prim.Native.Nat.{ℕ};
 ghost use lib.Dec.{ltb};
 ghost use lib.ListN.{length, take};
-ghost use Rattle.buffers.specs.Buffer.{resized};
-ghost use Rattle.layout.specs.Cell.{cellCapacity};
+ghost use Rattle.base_buffers.specs.Buffer.{resized};
+ghost use Rattle.block_layout.specs.Cell.{cellCapacity};
 ghost use Rattle.archive_model.specs.Append as calls;
-ghost use Rattle.archive.specs.Archive.{appendResult, rowOf, foundNumber, takenNumber};
-ghost use Rattle.repack_model.specs.Repack as repack;
-ghost use Rattle.repack.specs.Calls.{removeResult};
-ghost use Rattle.cutting.specs.Cut.{cutOf, cutBlockOf};
-ghost use Rattle.filling.specs.Fill.{putRowsGiven};
+ghost use Rattle.archive_file.specs.Archive.{appendResult, rowOf, foundNumber, takenNumber};
+ghost use Rattle.archive_repack_model.specs.Repack as repack;
+ghost use Rattle.archive_repack.specs.Calls.{removeResult};
+ghost use Rattle.archive_cut.specs.Cut.{cutOf, cutBlockOf};
+ghost use Rattle.archive_fill.specs.Fill.{putRowsGiven};
 ghost use Rattle.c_archive.specs.Calls.{openCall, appendCall, hasPlace, putRowsCall, rowCall, salvageCall, removeCall};
 
 // How many rows an archive has: 16, 12 with the position.
@@ -29,7 +29,7 @@ pub fn verify(buffer: &[u8], rows: &mut usize, position: &mut usize) -> u8
     ensures { λ r. ⌜ record { number = r; position = now (position .exit); rows = now (rows .exit) }
         ≡ openCall (calls.openOf (now (buffer .entry))) (now (rows .entry)) (now (position .entry)) ⌝ }
 {
-    let opened = archive::open(buffer);
+    let opened = archive_file::open(buffer);
     match opened {
         Opened::Rows(n) => {
             *rows = n;
@@ -46,7 +46,7 @@ pub fn append(buffer: &mut [u8], bytes: &[u8], time: u64, loose: bool, position:
         ≡ appendCall (calls.appendOf (now (buffer .entry)) (rowOf (now (bytes .entry)) time loose))
         (now (position .entry)) ⌝ }
 {
-    settle(archive::append(buffer, bytes, time, loose), position)
+    settle(archive_file::append(buffer, bytes, time, loose), position)
 }
 
 // The same for an archive of `n` rows, which looks at one block.
@@ -62,7 +62,10 @@ pub fn append_at(
         ≡ appendCall (calls.appendAtOf (now (buffer .entry)) n (rowOf (now (bytes .entry)) time loose))
         (now (position .entry)) ⌝ }
 {
-    settle(archive::append_at(buffer, n, bytes, time, loose), position)
+    settle(
+        archive_file::append_at(buffer, n, bytes, time, loose),
+        position,
+    )
 }
 
 // The same in the 512 bytes of its block.
@@ -78,7 +81,10 @@ pub fn put_row(
         ≡ appendCall (calls.putRowOf (now (block .entry)) n (rowOf (now (bytes .entry)) time loose))
         (now (position .entry)) ⌝ }
 {
-    settle(archive::put_row(block, n, bytes, time, loose), position)
+    settle(
+        archive_file::put_row(block, n, bytes, time, loose),
+        position,
+    )
 }
 
 // Rows from row `n` on, each a time and a record of 23 bytes, into the 512 bytes of their block, all or none: 16, 12 with the position, the check's with
@@ -88,7 +94,7 @@ pub fn put_rows(block: &mut [u8], n: usize, times: &[u64], rows: &[u8], position
         ≡ putRowsCall (putRowsGiven (now (block .entry)) n (now (times .entry)) (now (rows .entry)))
         (now (position .entry)) ⌝ }
 {
-    let filled = filling::put_rows(block, n, times, rows);
+    let filled = archive_fill::put_rows(block, n, times, rows);
     let answer = filled.answer;
     let number = taken_number(answer);
     if !has_place(number) {
@@ -106,7 +112,7 @@ pub fn row_at(buffer: &[u8], i: usize, row: &mut [u8], time: &mut u64) -> u8
     if row.len() != ROW_LENGTH {
         return WRONG_SIZE;
     }
-    let found = archive::row_at(buffer, i);
+    let found = archive_file::row_at(buffer, i);
     let answer = found.answer;
     let number = found_number(answer);
     if number != 0 {
@@ -158,7 +164,7 @@ pub fn salvage(
         ≡ salvageCall (repack.salvageOf (now (buffer .entry)) (now (out .entry)) (now (positions .entry)))
         (now (dropped .entry)) (now (rows .entry)) ⌝ }
 {
-    let done = repack::salvage(buffer, out, positions);
+    let done = archive_repack::salvage(buffer, out, positions);
     let answer = done.answer;
     let taken = taken_number(answer);
     if taken != 0 {
@@ -180,7 +186,7 @@ pub fn remove(buffer: &mut [u8], identities: &[u32], freed: &mut usize, position
         ≡ removeCall (repack.removeOf (now (buffer .entry)) (now (identities .entry))) (now (freed .entry))
         (now (position .entry)) ⌝ }
 {
-    settle_removed(repack::remove(buffer, identities), freed, position)
+    settle_removed(archive_repack::remove(buffer, identities), freed, position)
 }
 
 // Leaves the first `rows` rows: 16, 12 with the position, 10.
@@ -188,14 +194,14 @@ pub fn cut(buffer: &mut [u8], rows: usize, position: &mut usize) -> u8
     ensures { λ r. ⌜ record { number = r; position = now (position .exit); buffer = now (buffer .exit) }
         ≡ appendCall (cutOf rows (now (buffer .entry))) (now (position .entry)) ⌝ }
 {
-    settle(cutting::cut(buffer, rows), position)
+    settle(archive_cut::cut(buffer, rows), position)
 }
 
 // The same of one block: 16, 12.
 pub fn cut_block(block: &mut [u8], rows: usize) -> u8
     ensures { λ r. ⌜ record { number = r; block = now (block .exit) } ≡ cutBlockOf rows (now (block .entry)) ⌝ }
 {
-    taken_number(cutting::cut_block(block, rows))
+    taken_number(archive_cut::cut_block(block, rows))
 }
 
 // The number of a removal, the blocks freed, and the position beside 12.
@@ -239,7 +245,7 @@ fn found_number(found: Found) -> u8
 {
     match found {
         Found::Row => 0,
-        Found::Refused(why) => refusal::number(why),
+        Found::Refused(why) => base_refusal::number(why),
     }
 }
 
@@ -249,6 +255,6 @@ pub fn taken_number(taken: Taken) -> u8
 {
     match taken {
         Taken::Done => 0,
-        Taken::Refused(why) => refusal::number(why),
+        Taken::Refused(why) => base_refusal::number(why),
     }
 }

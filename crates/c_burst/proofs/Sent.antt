@@ -7,23 +7,23 @@ use mathlib.Core.List.{List}
 use Prim.Native.Nat.{ℕ, _≤_}
 use native.Mathlib.Omega.{arith}
 use lib.ListN.{length, getD, drop, replicate, length-drop}
-use Rattle.erp1.specs.Subtelegram.{maxLength}
-use Rattle.buffers.specs.Buffer.{part}
-use Rattle.telegram.specs.Output.{Result, written}
-use Rattle.telegram.proofs.Frames.{frame-written}
-use Rattle.model.specs.Answer.{Shown}
-use Rattle.model.specs.View.{Reception, View}
-use Rattle.model.specs.Acceptable.{acceptable}
-use Rattle.model.specs.Step.{Outcome, step}
-use Rattle.model.specs.Burst.{replyWith}
-use Rattle.collector.specs.Collector.{Columns}
-use Rattle.burst.specs.declared.Reception as burst
-use Rattle.collector.specs.Admission.{relayedFor, admission, columnsAdmitted}
-use Rattle.collector.proofs.Stepping.{admission-fit, columns-fit}
-use Rattle.collector.proofs.Sending.{relayed-fits}
-use Rattle.burst.specs.Records.{sizeOf}
-use Rattle.burst.specs.Private.{StepResult, admittedWith}
-use Rattle.burst.proofs.Records.{sent-with, handed, handed-columns}
+use Rattle.radio_erp1.specs.Subtelegram.{maxLength}
+use Rattle.base_buffers.specs.Buffer.{part}
+use Rattle.radio_telegram.specs.Output.{Result, written}
+use Rattle.radio_telegram.proofs.Frames.{frame-written}
+use Rattle.collector_model.specs.Answer.{Shown}
+use Rattle.collector_model.specs.View.{Reception, View}
+use Rattle.collector_model.specs.Acceptable.{acceptable}
+use Rattle.collector_model.specs.Step.{Outcome, step}
+use Rattle.collector_model.specs.Burst.{replyWith}
+use Rattle.collector_state.specs.Collector.{Columns}
+use Rattle.collector_burst.specs.declared.Reception as burst
+use Rattle.collector_state.specs.Admission.{relayedFor, admission, columnsAdmitted}
+use Rattle.collector_state.proofs.Stepping.{admission-fit, columns-fit}
+use Rattle.collector_state.proofs.Sending.{relayed-fits}
+use Rattle.collector_burst.specs.Records.{sizeOf}
+use Rattle.collector_burst.specs.Private.{StepResult, admittedWith}
+use Rattle.collector_burst.proofs.Records.{sent-with, handed, handed-columns}
 use Rattle.c_layout.specs.Frame.{frameLength}
 use Rattle.c_burst.specs.Bytes.{receptionIn, replyBytes}
 use Rattle.c_burst.specs.Private.{Answered}

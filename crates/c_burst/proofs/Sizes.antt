@@ -9,12 +9,12 @@ use mathlib.Core.Path.{_≡_, refl, sym, ap, _∙_}
 use mathlib.Core.Bool.{true, false}
 use lib.Dec.{eqb}
 use borrow.Author.Tests.{eq-eqb, ne-eqb, eqb-true, eqb-false, lt-ltb, le-ltb}
-use Rattle.lists.proofs.Tests.{by-test}
-use Rattle.refusal.specs.Number.{numberOf}
-use Rattle.refusal.specs.declared.Refusal.the-variants.{ShortOutput, Argument}
-use Rattle.refusal.proofs.Numbers.{refused-number}
-use Rattle.telegram.specs.Repeater.{maxSetting}
-use Rattle.model.specs.Burst.{maxBurst, callNumber}
+use Rattle.base_lists.proofs.Tests.{by-test}
+use Rattle.base_refusal.specs.Number.{numberOf}
+use Rattle.base_refusal.specs.declared.Refusal.the-variants.{ShortOutput, Argument}
+use Rattle.base_refusal.proofs.Numbers.{refused-number}
+use Rattle.radio_telegram.specs.Repeater.{maxSetting}
+use Rattle.collector_model.specs.Burst.{maxBurst, callNumber}
 use Rattle.c_layout.specs.Frame.{frameLength}
 use Rattle.c_burst.specs.Bytes.{isSized}
 

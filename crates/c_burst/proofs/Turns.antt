@@ -11,17 +11,17 @@ use native.Mathlib.Numerals.{add-one}
 use native.Mathlib.Omega.{arith}
 use lib.ListN.{length, getD, take, drop, length-map, drop-of-length-le}
 use lib.Seq.{drop-cons}
-use Rattle.lists.specs.Lists.{upFrom}
-use Rattle.lists.proofs.UpFrom.{length-upFrom, getD-upFrom}
-use Rattle.buffers.specs.Buffer.{part}
-use Rattle.buffers.proofs.Segments.{Begun, begin, lend}
-use Rattle.model.specs.View.{Reception, View}
-use Rattle.model.specs.Step.{step}
-use Rattle.model.specs.Burst.{Replied, replyWith, afterAll, repliesTo}
-use Rattle.collector.specs.Collector.{Columns}
-use Rattle.collector.specs.Admission.{Tested}
-use Rattle.collector.proofs.Stepping.{tested-next}
-use Rattle.burst.specs.Records.{columnsAfterAll}
+use Rattle.base_lists.specs.Lists.{upFrom}
+use Rattle.base_lists.proofs.UpFrom.{length-upFrom, getD-upFrom}
+use Rattle.base_buffers.specs.Buffer.{part}
+use Rattle.base_buffers.proofs.Segments.{Begun, begin, lend}
+use Rattle.collector_model.specs.View.{Reception, View}
+use Rattle.collector_model.specs.Step.{step}
+use Rattle.collector_model.specs.Burst.{Replied, replyWith, afterAll, repliesTo}
+use Rattle.collector_state.specs.Collector.{Columns}
+use Rattle.collector_state.specs.Admission.{Tested}
+use Rattle.collector_state.proofs.Stepping.{tested-next}
+use Rattle.collector_burst.specs.Records.{columnsAfterAll}
 use Rattle.c_layout.specs.Frame.{frameLength}
 use Rattle.c_burst.specs.Bytes.{receptionIn, receptionsIn, replyLength, replyBytes}
 use Rattle.c_burst.specs.Private.{Answered, Delivered}

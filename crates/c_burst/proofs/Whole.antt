@@ -7,16 +7,16 @@ use mathlib.Core.List.{List, _++_, map, flatten}
 use lib.ListN.{length, take, drop, replicate, length-replicate}
 use lib.Seq.{take-at}
 use borrow.Author.Tests.{ne-eqb}
-use Rattle.refusal.specs.Number.{numberOf}
-use Rattle.refusal.specs.declared.Refusal.the-variants.{NotAccepted}
-use Rattle.refusal.proofs.Numbers.{refused-number}
-use Rattle.model.specs.View.{Reception, View}
-use Rattle.model.specs.Acceptable.{acceptable}
-use Rattle.model.proofs.Returns.{replies-to-length}
-use Rattle.model.specs.Burst.{Replied, afterAll, repliesTo, callNumber, burstNumber, taken}
-use Rattle.collector.specs.declared.Summary.{Summary}
-use Rattle.collector.specs.Collector.{Columns, viewIn}
-use Rattle.burst.specs.Records.{columnsAfterAll}
+use Rattle.base_refusal.specs.Number.{numberOf}
+use Rattle.base_refusal.specs.declared.Refusal.the-variants.{NotAccepted}
+use Rattle.base_refusal.proofs.Numbers.{refused-number}
+use Rattle.collector_model.specs.View.{Reception, View}
+use Rattle.collector_model.specs.Acceptable.{acceptable}
+use Rattle.collector_model.proofs.Returns.{replies-to-length}
+use Rattle.collector_model.specs.Burst.{Replied, afterAll, repliesTo, callNumber, burstNumber, taken}
+use Rattle.collector_state.specs.declared.Summary.{Summary}
+use Rattle.collector_state.specs.Collector.{Columns, viewIn}
+use Rattle.collector_burst.specs.Records.{columnsAfterAll}
 use Rattle.c_layout.specs.Frame.{wrongSize}
 use Rattle.c_collector.specs.State.{Arrays, arrays, columnsAt, stateAt, summaryIn, numbersOf, numbersIn}
 use Rattle.c_collector.proofs.State.{numbers-counted}

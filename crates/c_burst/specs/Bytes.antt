@@ -4,11 +4,11 @@ use mathlib.Core.Bool.{Bool}
 use mathlib.Core.List.{List, [], _∷_, _++_, map}
 use lib.Dec.{eqb}
 use lib.ListN.{length, getD, drop}
-use Rattle.lists.specs.Lists.{upFrom}
-use Rattle.buffers.specs.Buffer.{part, resized}
-use Rattle.model.specs.Answer.{shownNumber}
-use Rattle.model.specs.View.{Reception}
-use Rattle.model.specs.Burst.{Replied}
+use Rattle.base_lists.specs.Lists.{upFrom}
+use Rattle.base_buffers.specs.Buffer.{part, resized}
+use Rattle.collector_model.specs.Answer.{shownNumber}
+use Rattle.collector_model.specs.View.{Reception}
+use Rattle.collector_model.specs.Burst.{Replied}
 use Rattle.c_layout.specs.Frame.{frameLength, frameBytes}
 use Rattle.c_collector.specs.Calls.{kindOf}
 

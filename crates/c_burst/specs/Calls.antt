@@ -4,12 +4,12 @@ use mathlib.Core.Path.{_≡_}
 use mathlib.Core.Bool.{cond, not, _&&_}
 use mathlib.Core.List.{List, [], _++_, map, flatten}
 use lib.ListN.{length, take, drop, replicate}
-use Rattle.telegram.specs.Frame.{frameOf}
-use Rattle.model.specs.Answer.{Kept}
-use Rattle.model.specs.View.{View}
-use Rattle.model.specs.Acceptable.{acceptable}
-use Rattle.model.specs.Burst.{Replied, taken, burstOf}
-use Rattle.burst.specs.Records.{columnsAfterAll}
+use Rattle.radio_telegram.specs.Frame.{frameOf}
+use Rattle.collector_model.specs.Answer.{Kept}
+use Rattle.collector_model.specs.View.{View}
+use Rattle.collector_model.specs.Acceptable.{acceptable}
+use Rattle.collector_model.specs.Burst.{Replied, taken, burstOf}
+use Rattle.collector_burst.specs.Records.{columnsAfterAll}
 use Rattle.c_layout.specs.Frame.{wrongSize}
 use Rattle.c_collector.specs.State.{Arrays, columnsAt, stateAt, numbersOf}
 use Rattle.c_burst.specs.Bytes.{receptionsIn, replyLength, replyBytes, isSized}

@@ -3,11 +3,11 @@ use Prim.Native.Nat.{ℕ, _*_}
 use mathlib.Core.Path.{_≡_}
 use mathlib.Core.List.{List, _++_, map, flatten}
 use lib.ListN.{length, drop}
-use Rattle.model.specs.View.{Reception, View}
-use Rattle.model.specs.Step.{step}
-use Rattle.model.specs.Burst.{replyWith, afterAll, repliesTo}
-use Rattle.collector.specs.Collector.{Columns, columnsAfter}
-use Rattle.burst.specs.Records.{columnsAfterAll}
+use Rattle.collector_model.specs.View.{Reception, View}
+use Rattle.collector_model.specs.Step.{step}
+use Rattle.collector_model.specs.Burst.{replyWith, afterAll, repliesTo}
+use Rattle.collector_state.specs.Collector.{Columns, columnsAfter}
+use Rattle.collector_burst.specs.Records.{columnsAfterAll}
 use Rattle.c_burst.specs.Bytes.{replyLength, replyBytes}
 
 -- one reception at a state and its columns: the bytes of the reply, the next state, and every element of the columns

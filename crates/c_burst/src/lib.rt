@@ -1,30 +1,30 @@
 // A burst of receptions at a collector in five lent arrays, as other languages call it.
-use burst::MAX_BURST;
+use base_refusal::Refusal;
 use c_collector::BYTES;
 use c_collector::CAPACITY;
 use c_collector::NUMBERS;
 use c_layout::FRAME_LENGTH;
 use c_layout::WRONG_SIZE;
-use collector::Collector;
-use collector::Summary;
-use collector::merging;
-use model::Answer;
-use refusal::Refusal;
-use telegram::repeater::MAX_SETTING;
+use collector_burst::MAX_BURST;
+use collector_model::Answer;
+use collector_state::Collector;
+use collector_state::Summary;
+use collector_state::merging;
+use radio_telegram::repeater::MAX_SETTING;
 ghost use mathlib.Core.Path.{_≡_};
 ghost use mathlib.Core.Bool.{true};
 ghost use mathlib.Core.List.{List};
 ghost use Prim.Native.Nat.{ℕ, _*_, _≤_, _<_};
 ghost use lib.ListN.{length, getD, drop};
-ghost use Rattle.erp1.specs.Subtelegram.{maxLength};
-ghost use Rattle.buffers.specs.Buffer.{part};
-ghost use Rattle.model.specs.Answer.{shownOf};
-ghost use Rattle.model.specs.Acceptable.{acceptable};
-ghost use Rattle.model.specs.Exact.{Fits};
-ghost use Rattle.model.specs.Burst.{maxBurst, callNumber};
-ghost use Rattle.collector.specs.Collector.{columns, viewIn};
-ghost use Rattle.collector.specs.Admission.{Tested};
-ghost use Rattle.burst.specs.Records.{sizeOf};
+ghost use Rattle.radio_erp1.specs.Subtelegram.{maxLength};
+ghost use Rattle.base_buffers.specs.Buffer.{part};
+ghost use Rattle.collector_model.specs.Answer.{shownOf};
+ghost use Rattle.collector_model.specs.Acceptable.{acceptable};
+ghost use Rattle.collector_model.specs.Exact.{Fits};
+ghost use Rattle.collector_model.specs.Burst.{maxBurst, callNumber};
+ghost use Rattle.collector_state.specs.Collector.{columns, viewIn};
+ghost use Rattle.collector_state.specs.Admission.{Tested};
+ghost use Rattle.collector_burst.specs.Records.{sizeOf};
 ghost use Rattle.c_layout.specs.Frame.{frameLength};
 ghost use Rattle.c_collector.specs.State.{arrays, summaryIn, stateAt};
 ghost use Rattle.c_burst.specs.Bytes.{receptionIn, receptionsIn, replyLength, replyBytes, isSized};
@@ -55,7 +55,7 @@ pub fn burst(
         (now (replies .exit)) ⌝ }
 {
     if !c_collector::is_acceptable(times, lengths, bytes, numbers) {
-        return refusal::number(Refusal::NotAccepted);
+        return base_refusal::number(Refusal::NotAccepted);
     }
     let n = moments.len();
     if !is_sized(n, records.len()) {
@@ -96,13 +96,13 @@ fn call_number(setting: u8, receptions: usize, places: usize) -> u8
     ensures { λ r. ⌜ r ≡ callNumber setting receptions places ⌝ }
 {
     if places < receptions {
-        return refusal::number(Refusal::ShortOutput);
+        return base_refusal::number(Refusal::ShortOutput);
     }
     if MAX_BURST < receptions {
-        return refusal::number(Refusal::Argument);
+        return base_refusal::number(Refusal::Argument);
     }
     if MAX_SETTING < setting {
-        return refusal::number(Refusal::Argument);
+        return base_refusal::number(Refusal::Argument);
     }
     0
 }

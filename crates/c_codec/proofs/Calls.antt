@@ -5,18 +5,18 @@ use Prim.Native.Nat.{ℕ, _-_, _≤_, zero-le}
 use native.Mathlib.Omega.{arith}
 use lib.ListN.{length}
 use borrow.Author.Tests.{eq-eqb, ne-eqb, eqb-true}
-use Rattle.lists.proofs.Tests.{branch}
-use Rattle.erp1.specs.Subtelegram.{maxLength, checkOf, isValid, isAddressed}
-use Rattle.erp1.proofs.Checks.{check-facts}
-use Rattle.buffers.specs.Buffer.{resized}
-use Rattle.buffers.proofs.Buffer.{resized-whole}
-use Rattle.telegram.specs.declared.fields.Telegram.{Telegram}
-use Rattle.telegram.specs.Frame.{frameOf}
-use Rattle.telegram.specs.Fields.{readOf, fieldsOf, maxData, buildOf, Shaped}
-use Rattle.telegram.specs.Repeater.{repeatOf, repeatResult}
-use Rattle.telegram.proofs.Frames.{frame-len}
-use Rattle.telegram.proofs.Laws.{repeat-sent}
-use Rattle.telegram.proofs.Repeating.{relay-fits}
+use Rattle.base_lists.proofs.Tests.{branch}
+use Rattle.radio_erp1.specs.Subtelegram.{maxLength, checkOf, isValid, isAddressed}
+use Rattle.radio_erp1.proofs.Checks.{check-facts}
+use Rattle.base_buffers.specs.Buffer.{resized}
+use Rattle.base_buffers.proofs.Buffer.{resized-whole}
+use Rattle.radio_telegram.specs.declared.fields.Telegram.{Telegram}
+use Rattle.radio_telegram.specs.Frame.{frameOf}
+use Rattle.radio_telegram.specs.Fields.{readOf, fieldsOf, maxData, buildOf, Shaped}
+use Rattle.radio_telegram.specs.Repeater.{repeatOf, repeatResult}
+use Rattle.radio_telegram.proofs.Frames.{frame-len}
+use Rattle.radio_telegram.proofs.Laws.{repeat-sent}
+use Rattle.radio_telegram.proofs.Repeating.{relay-fits}
 use Rattle.c_layout.specs.Frame.{wrongSize, frameLength, flagByte}
 use Rattle.c_codec.specs.Fields.{fieldsLength, fieldsBytes, telegramIn}
 use Rattle.c_layout.specs.Lent.{settled}

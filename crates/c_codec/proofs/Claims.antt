@@ -6,8 +6,8 @@ use Prim.Native.Nat.{ℕ}
 use native.Mathlib.Omega.{arith}
 use lib.Dec.{eqb}
 use lib.ListN.{length, length-append}
-use Rattle.buffers.specs.Buffer.{part}
-use Rattle.buffers.proofs.Segments.{left, last, whole}
+use Rattle.base_buffers.specs.Buffer.{part}
+use Rattle.base_buffers.proofs.Segments.{left, last, whole}
 use Rattle.c_layout.specs.Frame.{flagByte}
 use Rattle.c_codec.specs.Fields.{fieldsBytes, telegramIn}
 use Rattle.c_codec.specs.Claims.{SaidAgain}

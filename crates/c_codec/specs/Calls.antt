@@ -4,10 +4,10 @@ use mathlib.Core.Bool.{cond, not}
 use mathlib.Core.List.{List}
 use lib.Dec.{eqb}
 use lib.ListN.{length}
-use Rattle.telegram.specs.declared.frame.Frame.{Frame}
-use Rattle.telegram.specs.Output.{Result}
-use Rattle.telegram.specs.Fields.{readOf, buildOf}
-use Rattle.telegram.specs.Repeater.{repeatResult}
+use Rattle.radio_telegram.specs.declared.frame.Frame.{Frame}
+use Rattle.radio_telegram.specs.Output.{Result}
+use Rattle.radio_telegram.specs.Fields.{readOf, buildOf}
+use Rattle.radio_telegram.specs.Repeater.{repeatResult}
 use Rattle.c_layout.specs.Frame.{wrongSize, frameLength, frameBytes}
 use Rattle.c_layout.specs.Lent.{ifDone, settled}
 use Rattle.c_codec.specs.Fields.{fieldsLength, fieldsBytes, telegramIn}

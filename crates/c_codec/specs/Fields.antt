@@ -4,8 +4,8 @@ use mathlib.Core.Bool.{not}
 use mathlib.Core.List.{List, [], _∷_, _++_}
 use lib.Dec.{eqb}
 use lib.ListN.{getD}
-use Rattle.buffers.specs.Buffer.{part}
-use Rattle.telegram.specs.declared.fields.Telegram.{Telegram}
+use Rattle.base_buffers.specs.Buffer.{part}
+use Rattle.radio_telegram.specs.declared.fields.Telegram.{Telegram}
 use Rattle.c_layout.specs.Frame.{flagByte}
 
 abbrev pub fieldsLength : ℕ

@@ -1,17 +1,17 @@
 // The codec on plain numbers and bytes, as other languages call it: each call answers a number, and hands values back through what it is lent.
 use c_layout::FRAME_LENGTH;
 use c_layout::WRONG_SIZE;
-use telegram::addressing;
-use telegram::fields;
-use telegram::fields::MAX_DATA;
-use telegram::fields::Telegram;
-use telegram::repeater;
+use radio_telegram::addressing;
+use radio_telegram::fields;
+use radio_telegram::fields::MAX_DATA;
+use radio_telegram::fields::Telegram;
+use radio_telegram::repeater;
 ghost use mathlib.Core.Path.{_≡_};
 ghost use Prim.Native.Nat.{_<_};
 ghost use lib.ListN.{length};
-ghost use Rattle.layout.specs.BigEndian.{be};
-ghost use Rattle.telegram.specs.Fields.{maxData};
-ghost use Rattle.telegram.specs.Addressing.{encapsulateOf, decapsulateOf};
+ghost use Rattle.block_layout.specs.BigEndian.{be};
+ghost use Rattle.radio_telegram.specs.Fields.{maxData};
+ghost use Rattle.radio_telegram.specs.Addressing.{encapsulateOf, decapsulateOf};
 ghost use Rattle.c_layout.specs.Lent.{settled};
 ghost use Rattle.c_codec.specs.Fields.{fieldsLength, fieldsBytes, telegramIn};
 ghost use Rattle.c_codec.specs.Calls.{readCall, buildCall, repeatCall};
@@ -102,9 +102,9 @@ fn put_fields(out: &mut [u8], t: Telegram)
     out[1] = t.len as u8;
     out[2] = c_layout::flag_byte(t.addressed);
     out[3] = t.status;
-    layout::put_bytes(&mut out[4..8], &destid);
-    layout::put_bytes(&mut out[8..12], &txid);
-    layout::put_bytes(&mut out[12..FIELDS_LENGTH], &payload);
+    block_layout::put_bytes(&mut out[4..8], &destid);
+    block_layout::put_bytes(&mut out[8..12], &txid);
+    block_layout::put_bytes(&mut out[12..FIELDS_LENGTH], &payload);
 }
 
 fn telegram_in(fields: &[u8]) -> Telegram
@@ -147,6 +147,6 @@ fn id_bytes(id: u32) -> [u8; 4]
     ensures { λ r. ⌜ r ≡ be 4 id ⌝ }
 {
     let mut bytes = [0u8; 4];
-    layout::put_number(&mut bytes, id as u64);
+    block_layout::put_number(&mut bytes, id as u64);
     bytes
 }

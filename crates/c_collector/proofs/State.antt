@@ -12,19 +12,19 @@ use mathlib.Core.Bool.{Bool, true, false}
 use mathlib.Core.List.{List, [], _∷_}
 use lib.ListN.{length}
 use borrow.Author.Tests.{ne-eqb}
-use Rattle.refusal.specs.Number.{numberOf}
-use Rattle.refusal.specs.declared.Refusal.the-variants.{NotAccepted}
-use Rattle.model.specs.Answer.{shownOf, isReceived}
-use Rattle.model.specs.View.{Reception, View}
-use Rattle.model.specs.Acceptable.{acceptable}
-use Rattle.model.specs.Step.{Outcome, step}
-use Rattle.model.specs.Heard.{HeardResult, copiesOf}
-use Rattle.collector.specs.declared.Summary.{Summary}
-use Rattle.collector.specs.declared.merging.Admitted.{Admitted}
-use Rattle.collector.specs.Collector.{Columns, viewIn}
-use Rattle.collector.specs.Admission.{admittedOf, admission, columnsAdmitted, Admits}
-use Rattle.collector.proofs.Arrays.{entries-length}
-use Rattle.collector.proofs.Stepping.{admission-fit, columns-fit}
+use Rattle.base_refusal.specs.Number.{numberOf}
+use Rattle.base_refusal.specs.declared.Refusal.the-variants.{NotAccepted}
+use Rattle.collector_model.specs.Answer.{shownOf, isReceived}
+use Rattle.collector_model.specs.View.{Reception, View}
+use Rattle.collector_model.specs.Acceptable.{acceptable}
+use Rattle.collector_model.specs.Step.{Outcome, step}
+use Rattle.collector_model.specs.Heard.{HeardResult, copiesOf}
+use Rattle.collector_state.specs.declared.Summary.{Summary}
+use Rattle.collector_state.specs.declared.merging.Admitted.{Admitted}
+use Rattle.collector_state.specs.Collector.{Columns, viewIn}
+use Rattle.collector_state.specs.Admission.{admittedOf, admission, columnsAdmitted, Admits}
+use Rattle.collector_state.proofs.Arrays.{entries-length}
+use Rattle.collector_state.proofs.Stepping.{admission-fit, columns-fit}
 use Rattle.c_collector.specs.State.{Arrays, arrays, columnsAt, summaryIn, stateAt, totalNumbers, numbersOf, numbersIn}
 use Rattle.c_collector.specs.Calls.{answerNumber, Takes, TakesTold, ToldTakes, TotalsCall, totalsCall, copiesCall}
 

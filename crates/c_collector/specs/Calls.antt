@@ -5,16 +5,16 @@ use mathlib.Core.Bool.{Bool, false, cond, not}
 use mathlib.Core.List.{List}
 use lib.Dec.{eqb}
 use lib.ListN.{replicate}
-use Rattle.refusal.specs.Number.{numberOf}
-use Rattle.refusal.specs.declared.Refusal.the-variants.{NotAccepted}
-use Rattle.erp1.specs.Subtelegram.{maxLength}
-use Rattle.model.specs.Answer.{Shown, Kept, Copy, Loose, Refused, shownNumber, isAccepted, isReceived}
-use Rattle.model.specs.View.{Reception, View, capacity, fresh}
-use Rattle.model.specs.Acceptable.{acceptable}
-use Rattle.model.specs.Step.{step}
-use Rattle.model.specs.Heard.{HeardResult, copiesOf}
-use Rattle.collector.specs.Collector.{columnsAfter}
-use Rattle.collector.specs.Admission.{admission, columnsAdmitted}
+use Rattle.base_refusal.specs.Number.{numberOf}
+use Rattle.base_refusal.specs.declared.Refusal.the-variants.{NotAccepted}
+use Rattle.radio_erp1.specs.Subtelegram.{maxLength}
+use Rattle.collector_model.specs.Answer.{Shown, Kept, Copy, Loose, Refused, shownNumber, isAccepted, isReceived}
+use Rattle.collector_model.specs.View.{Reception, View, capacity, fresh}
+use Rattle.collector_model.specs.Acceptable.{acceptable}
+use Rattle.collector_model.specs.Step.{step}
+use Rattle.collector_model.specs.Heard.{HeardResult, copiesOf}
+use Rattle.collector_state.specs.Collector.{columnsAfter}
+use Rattle.collector_state.specs.Admission.{admission, columnsAdmitted}
 use Rattle.c_collector.specs.State.{Arrays, arrays, columnsAt, stateAt, totalNumbers, numbersOf}
 
 -- "KEPT, COPY and LOOSE are three forms" of 0 (document 01, "Numbers a caller sees"): which of them; 0 beside a refusal

@@ -2,11 +2,11 @@
 use Prim.Native.Nat.{ℕ}
 use mathlib.Core.List.{List, [], _∷_}
 use lib.ListN.{length, getD}
-use Rattle.model.specs.declared.Totals.{Totals}
-use Rattle.model.specs.View.{View}
-use Rattle.collector.specs.declared.Collector.{Collector}
-use Rattle.collector.specs.declared.Summary.{Summary}
-use Rattle.collector.specs.Collector.{Columns, columns, viewIn}
+use Rattle.collector_model.specs.declared.Totals.{Totals}
+use Rattle.collector_model.specs.View.{View}
+use Rattle.collector_state.specs.declared.Collector.{Collector}
+use Rattle.collector_state.specs.declared.Summary.{Summary}
+use Rattle.collector_state.specs.Collector.{Columns, columns, viewIn}
 
 -- what a caller lends: of each open telegram when it was opened, its length, its 21 bytes and its number of copies; and eight numbers
 pub record Arrays : Type 0 where

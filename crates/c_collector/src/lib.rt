@@ -1,17 +1,17 @@
 // The collector in five lent arrays, as other languages call it: the entries' four, and its eight numbers. It is changed where it lies.
-use collector::Collector;
-use collector::Summary;
-use collector::acceptable;
-use collector::merging;
-use model::Answer;
-use model::Totals;
-use refusal::Refusal;
+use base_refusal::Refusal;
+use collector_model::Answer;
+use collector_model::Totals;
+use collector_state::Collector;
+use collector_state::Summary;
+use collector_state::acceptable;
+use collector_state::merging;
 ghost use mathlib.Core.Path.{_≡_};
 ghost use mathlib.Core.List.{List};
 ghost use Prim.Native.Nat.{ℕ};
 ghost use lib.ListN.{length};
-ghost use Rattle.model.specs.Answer.{shownOf, shownNumber};
-ghost use Rattle.model.specs.Acceptable.{acceptable};
+ghost use Rattle.collector_model.specs.Answer.{shownOf, shownNumber};
+ghost use Rattle.collector_model.specs.Acceptable.{acceptable};
 ghost use Rattle.c_collector.specs.State.{arrays, summaryIn, stateAt, numbersIn};
 ghost use Rattle.c_collector.specs.Calls.{kindOf, answerNumber, Takes, TakesTold, Fresh, totalsCall, copiesCall};
 
@@ -110,7 +110,7 @@ pub fn totals<'a>(
         (now (totals .entry)) ⌝ }
 {
     if !is_acceptable(times, lengths, bytes, numbers) {
-        return refusal::number(Refusal::NotAccepted);
+        return base_refusal::number(Refusal::NotAccepted);
     }
     *totals = [
         numbers[2],
@@ -140,10 +140,10 @@ pub fn copies_of<'a>(
         entry (now (heard .entry)) ⌝ }
 {
     if !is_acceptable(times, lengths, bytes, numbers) {
-        return refusal::number(Refusal::NotAccepted);
+        return base_refusal::number(Refusal::NotAccepted);
     }
     if numbers[0] as usize <= entry {
-        return refusal::number(Refusal::Argument);
+        return base_refusal::number(Refusal::Argument);
     }
     *heard = wide(copies[entry]);
     0
@@ -233,7 +233,7 @@ pub fn number_of(answer: Answer) -> u8
         Answer::Kept => 0,
         Answer::Copy => 0,
         Answer::Loose => 0,
-        Answer::Refused(why) => refusal::number(why),
+        Answer::Refused(why) => base_refusal::number(why),
     }
 }
 

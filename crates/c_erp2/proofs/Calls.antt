@@ -6,10 +6,10 @@ use native.Mathlib.Omega.{arith}
 use lib.Dec.{eqb}
 use lib.ListN.{length}
 use borrow.Author.Tests.{eq-eqb, ne-eqb, eqb-true}
-use Rattle.lists.proofs.Tests.{branch}
-use Rattle.erp2_model.specs.declared.Telegram.{Telegram}
-use Rattle.erp2_model.specs.Reading.{readOf, fieldsOf, checkOf, lengthByte}
-use Rattle.erp2_model.specs.Building.{buildOf}
+use Rattle.base_lists.proofs.Tests.{branch}
+use Rattle.radio_erp2_model.specs.declared.Telegram.{Telegram}
+use Rattle.radio_erp2_model.specs.Reading.{readOf, fieldsOf, checkOf, lengthByte}
+use Rattle.radio_erp2_model.specs.Building.{buildOf}
 use Rattle.c_layout.specs.Frame.{wrongSize, flagByte}
 use Rattle.c_layout.specs.Lent.{settled}
 use Rattle.c_erp2.specs.Fields.{fieldsLength, headBytes, fieldsBytes, telegramIn}

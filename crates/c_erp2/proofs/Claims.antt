@@ -6,10 +6,10 @@ use Prim.Native.Nat.{ℕ}
 use native.Mathlib.Omega.{arith}
 use lib.Dec.{eqb}
 use lib.ListN.{length}
-use Rattle.buffers.specs.Buffer.{part, resized}
-use Rattle.buffers.proofs.Buffer.{resized-length, resized-whole}
-use Rattle.buffers.proofs.Segments.{left, last, whole}
-use Rattle.erp2_model.specs.Reading.{maxData, maxOptional}
+use Rattle.base_buffers.specs.Buffer.{part, resized}
+use Rattle.base_buffers.proofs.Buffer.{resized-length, resized-whole}
+use Rattle.base_buffers.proofs.Segments.{left, last, whole}
+use Rattle.radio_erp2_model.specs.Reading.{maxData, maxOptional}
 use Rattle.c_layout.specs.Frame.{flagByte}
 use Rattle.c_erp2.specs.Fields.{headBytes, fieldsBytes, telegramIn}
 use Rattle.c_erp2.specs.Claims.{SaidAgain}

@@ -4,9 +4,9 @@ use mathlib.Core.Bool.{cond, not}
 use mathlib.Core.List.{List}
 use lib.Dec.{eqb}
 use lib.ListN.{length}
-use Rattle.telegram.specs.Output.{Result}
-use Rattle.erp2_model.specs.Reading.{readOf}
-use Rattle.erp2_model.specs.Building.{buildOf}
+use Rattle.radio_telegram.specs.Output.{Result}
+use Rattle.radio_erp2_model.specs.Reading.{readOf}
+use Rattle.radio_erp2_model.specs.Building.{buildOf}
 use Rattle.c_layout.specs.Frame.{wrongSize}
 use Rattle.c_layout.specs.Lent.{ifDone, settled}
 use Rattle.c_erp2.specs.Fields.{fieldsLength, fieldsBytes, telegramIn}

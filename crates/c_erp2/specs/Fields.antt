@@ -4,9 +4,9 @@ use mathlib.Core.Bool.{Bool, not}
 use mathlib.Core.List.{List, [], _∷_, _++_}
 use lib.Dec.{eqb}
 use lib.ListN.{getD}
-use Rattle.buffers.specs.Buffer.{part, resized}
-use Rattle.erp2_model.specs.declared.Telegram.{Telegram}
-use Rattle.erp2_model.specs.Reading.{maxData, maxOptional}
+use Rattle.base_buffers.specs.Buffer.{part, resized}
+use Rattle.radio_erp2_model.specs.declared.Telegram.{Telegram}
+use Rattle.radio_erp2_model.specs.Reading.{maxData, maxOptional}
 use Rattle.c_layout.specs.Frame.{flagByte}
 
 abbrev pub headLength : ℕ

@@ -1,12 +1,12 @@
 // ERP2 telegrams on plain numbers and bytes, as other languages call them.
 use c_layout::WRONG_SIZE;
-use erp2_model::Destination;
-use erp2_model::Extension;
-use erp2_model::Header;
-use erp2_model::MAX_DATA;
-use erp2_model::MAX_OPTIONAL;
-use erp2_model::Subtype;
-use erp2_model::Telegram;
+use radio_erp2_model::Destination;
+use radio_erp2_model::Extension;
+use radio_erp2_model::Header;
+use radio_erp2_model::MAX_DATA;
+use radio_erp2_model::MAX_OPTIONAL;
+use radio_erp2_model::Subtype;
+use radio_erp2_model::Telegram;
 ghost use mathlib.Core.Path.{_≡_};
 ghost use Prim.Native.Nat.{_<_};
 ghost use lib.ListN.{length};
@@ -33,7 +33,7 @@ pub fn read(bytes: &[u8], fields: &mut [u8], originator: &mut u64, destination: 
     if fields.len() != FIELDS_LENGTH {
         return WRONG_SIZE;
     }
-    let reading = erp2::read(bytes);
+    let reading = radio_erp2::read(bytes);
     let checked = reading.checked;
     let number = c_layout::checked_number(checked);
     if number != 0 {
@@ -61,7 +61,7 @@ pub fn build(
         return WRONG_SIZE;
     }
     c_layout::settle(
-        erp2::build(telegram_in(fields, originator, destination), out),
+        radio_erp2::build(telegram_in(fields, originator, destination), out),
         length,
     )
 }
@@ -73,8 +73,8 @@ fn put_fields(out: &mut [u8], t: Telegram)
     let payload = t.payload;
     let optional = t.optional;
     put_head(&mut out[0..HEAD_LENGTH], t);
-    layout::put_bytes(&mut out[HEAD_LENGTH..OPTIONAL], &payload);
-    layout::put_bytes(&mut out[OPTIONAL..FIELDS_LENGTH], &optional);
+    block_layout::put_bytes(&mut out[HEAD_LENGTH..OPTIONAL], &payload);
+    block_layout::put_bytes(&mut out[OPTIONAL..FIELDS_LENGTH], &optional);
 }
 
 fn put_head(out: &mut [u8], t: Telegram)

@@ -2,8 +2,8 @@
 use Prim.Native.Nat.{ℕ}
 use mathlib.Core.Bool.{Bool, cond}
 use mathlib.Core.List.{List, [], _∷_, _++_}
-use Rattle.erp1.specs.Subtelegram.{maxLength}
-use Rattle.buffers.specs.Buffer.{resized}
+use Rattle.radio_erp1.specs.Subtelegram.{maxLength}
+use Rattle.base_buffers.specs.Buffer.{resized}
 
 -- the number of a lent slice of another size than its call asks for; no paper uses it
 abbrev pub wrongSize : ℕ

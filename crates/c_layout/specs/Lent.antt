@@ -2,9 +2,9 @@
 use Prim.Native.Nat.{ℕ}
 use mathlib.Core.Bool.{cond}
 use lib.Dec.{eqb}
-use Rattle.refusal.specs.Number.{numberOf}
-use Rattle.refusal.specs.declared.Refusal.the-variants.{Mismatch}
-use Rattle.telegram.specs.Output.{Result}
+use Rattle.base_refusal.specs.Number.{numberOf}
+use Rattle.base_refusal.specs.declared.Refusal.the-variants.{Mismatch}
+use Rattle.radio_telegram.specs.Output.{Result}
 
 -- what a call hands back where it is done; beside any other number lent memory is as it was
 abbrev pub ifDone : {A : Type 0} → ℕ → A → A → A

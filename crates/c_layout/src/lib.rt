@@ -1,14 +1,14 @@
 // What the calls for other languages share: the number of a wrong size, and the bytes of a telegram with its length.
-use erp1::Checked;
-use refusal::Refusal;
-use telegram::frame::Built;
+use base_refusal::Refusal;
+use radio_erp1::Checked;
+use radio_telegram::frame::Built;
 ghost use mathlib.Core.Path.{_≡_};
 ghost use mathlib.Core.List.{List};
 ghost use Prim.Native.Nat.{ℕ};
-ghost use Rattle.refusal.specs.Number.{numberOf};
-ghost use Rattle.erp1.specs.Subtelegram.{checkedNumber};
-ghost use Rattle.telegram.specs.Output.{resultOf};
-ghost use Rattle.buffers.specs.Buffer.{overwritten};
+ghost use Rattle.base_refusal.specs.Number.{numberOf};
+ghost use Rattle.radio_erp1.specs.Subtelegram.{checkedNumber};
+ghost use Rattle.radio_telegram.specs.Output.{resultOf};
+ghost use Rattle.base_buffers.specs.Buffer.{overwritten};
 ghost use Rattle.c_layout.specs.Frame.{frameLength, frameBytes, flagByte};
 ghost use Rattle.c_layout.specs.Lent.{ifMismatch, settled};
 
@@ -27,7 +27,7 @@ pub fn put_frame(out: &mut [u8], len: u8, bytes: &[u8])
         return;
     }
     out[0] = len;
-    layout::put_bytes(&mut out[1..22], bytes);
+    block_layout::put_bytes(&mut out[1..22], bytes);
 }
 
 // A flag as a byte.
@@ -46,7 +46,7 @@ pub fn checked_number(checked: Checked) -> u8
 {
     match checked {
         Checked::Valid => 0,
-        Checked::Refused(why) => refusal::number(why),
+        Checked::Refused(why) => base_refusal::number(why),
     }
 }
 
@@ -55,8 +55,8 @@ pub fn refuse(why: Refusal, at: usize, position: &mut usize) -> u8
     ensures { λ r. ⌜ (r ≡ numberOf why)
         × (now (position .exit) ≡ ifMismatch (numberOf why) at (now (position .entry))) ⌝ }
 {
-    let number = refusal::number(why);
-    if number == refusal::number(Refusal::Mismatch) {
+    let number = base_refusal::number(why);
+    if number == base_refusal::number(Refusal::Mismatch) {
         *position = at;
         return number;
     }
@@ -73,6 +73,6 @@ pub fn settle(built: Built, length: &mut usize) -> u8
             *length = n;
             0
         }
-        Built::Refused(why) => refusal::number(why),
+        Built::Refused(why) => base_refusal::number(why),
     }
 }

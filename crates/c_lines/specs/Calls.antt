@@ -6,20 +6,20 @@ use mathlib.Core.List.{List, [], _∷_}
 use lib.Dec.{eqb, ltb}
 use lib.ListN.{length, getD, take, drop}
 use Rattle.bytes.specs.Bytes.{indexOf}
-use Rattle.refusal.specs.Number.{numberOf}
-use Rattle.refusal.specs.declared.Refusal.the-variants.{NotAccepted, Argument}
-use Rattle.model.specs.Acceptable.{acceptable}
+use Rattle.base_refusal.specs.Number.{numberOf}
+use Rattle.base_refusal.specs.declared.Refusal.the-variants.{NotAccepted, Argument}
+use Rattle.collector_model.specs.Acceptable.{acceptable}
 use Rattle.c_layout.specs.Frame.{wrongSize}
 use Rattle.c_collector.specs.State.{Arrays, columnsAt, stateAt}
-use Rattle.line_input.specs.Ascii.{newline}
-use Rattle.line_input.specs.declared.Setting.{Setting}
-use Rattle.line_input.specs.Reading.{settingOf, lineLimit, frontOf, lineOf, bytesIn}
-use Rattle.streams.specs.Chunks.{atLineStart, feed, feedText}
-use Rattle.streams.specs.Collect.{over}
-use Rattle.streams.specs.Buffer.{isUnended}
-use Rattle.collecting.specs.Rows.{lineTicks}
-use Rattle.collecting.specs.Session.{runningAt}
-use Rattle.collecting.specs.Stored.{StoredTo}
+use Rattle.text_lines.specs.Ascii.{newline}
+use Rattle.text_lines.specs.declared.Setting.{Setting}
+use Rattle.text_lines.specs.Reading.{settingOf, lineLimit, frontOf, lineOf, bytesIn}
+use Rattle.text_program.specs.Chunks.{atLineStart, feed, feedText}
+use Rattle.text_program.specs.Collect.{over}
+use Rattle.text_program.specs.Buffer.{isUnended}
+use Rattle.text_collect.specs.Rows.{lineTicks}
+use Rattle.text_collect.specs.Session.{runningAt}
+use Rattle.text_collect.specs.Stored.{StoredTo}
 
 -- a record of 23 bytes for each time
 abbrev pub isSized : ℕ → ℕ → Bool

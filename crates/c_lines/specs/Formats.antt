@@ -6,14 +6,14 @@ use mathlib.Core.Bool.{cond, not, _||_}
 use mathlib.Core.List.{List}
 use lib.Dec.{eqb, ltb}
 use lib.ListN.{length, getD}
-use Rattle.refusal.specs.Number.{numberOf}
-use Rattle.refusal.specs.declared.Refusal.the-variants.{NotAccepted, Argument}
-use Rattle.model.specs.Acceptable.{acceptable}
-use Rattle.line_output.specs.declared.formats.Format.{Format}
+use Rattle.base_refusal.specs.Number.{numberOf}
+use Rattle.base_refusal.specs.declared.Refusal.the-variants.{NotAccepted, Argument}
+use Rattle.collector_model.specs.Acceptable.{acceptable}
+use Rattle.text_rows.specs.declared.formats.Format.{Format}
 use Rattle.c_layout.specs.Frame.{wrongSize}
 use Rattle.c_collector.specs.State.{Arrays, columnsAt, stateAt}
-use Rattle.collecting.specs.Session.{runningAt}
-use Rattle.collecting.specs.Heard.{HeardIn}
+use Rattle.text_collect.specs.Session.{runningAt}
+use Rattle.text_collect.specs.Heard.{HeardIn}
 use Rattle.c_lines.specs.Calls.{isSized}
 
 -- a format by its number: 0 text, 1 comma-separated, 2 JSON

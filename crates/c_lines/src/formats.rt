@@ -1,13 +1,13 @@
 // Lines of text taken by a collector in five lent arrays, with their rows in a format and what they close, as other languages
 // call it.
+use base_refusal::Refusal;
 use c_collector::BYTES;
 use c_collector::CAPACITY;
 use c_collector::NUMBERS;
 use c_layout::WRONG_SIZE;
-use collecting::formats;
-use line_output::formats::Format;
-use refusal::Refusal;
-use telegram::repeater::MAX_SETTING;
+use radio_telegram::repeater::MAX_SETTING;
+use text_collect::formats;
+use text_rows::formats::Format;
 ghost use mathlib.Core.Path.{_≡_};
 ghost use Rattle.c_collector.specs.State.{arrays};
 ghost use Rattle.c_lines.specs.Formats.{formatOf, LinesAs};
@@ -47,13 +47,13 @@ pub fn lines_as(
         (now (out .exit)) (now (moments .exit)) (now (rows .exit)) (now (closed .exit)) (now (done .exit)) ⌝ }
 {
     if !c_collector::is_acceptable(times, lengths, bytes, numbers) {
-        return refusal::number(Refusal::NotAccepted);
+        return base_refusal::number(Refusal::NotAccepted);
     }
     if !crate::is_sized(moments.len(), rows.len()) {
         return WRONG_SIZE;
     }
     if (MAX_SETTING < setting) | (MAX_FORMAT < format) {
-        return refusal::number(Refusal::Argument);
+        return base_refusal::number(Refusal::Argument);
     }
     let summary = crate::summary_of(copies, numbers);
     let taken = formats::take_rows_as(

@@ -1,19 +1,19 @@
 // Lines of text taken by a collector in five lent arrays, with their rows as text and as an archive keeps them, as other languages call it.
 pub mod formats;
 
+use base_refusal::Refusal;
 use c_collector::BYTES;
 use c_collector::CAPACITY;
 use c_collector::NUMBERS;
 use c_layout::WRONG_SIZE;
-use collector::Summary;
-use line_input::Setting;
-use refusal::Refusal;
-use telegram::repeater::MAX_SETTING;
+use collector_state::Summary;
+use radio_telegram::repeater::MAX_SETTING;
+use text_lines::Setting;
 ghost use mathlib.Core.Path.{_≡_};
 ghost use mathlib.Core.List.{List, [], _∷_};
 ghost use Prim.Native.Nat.{ℕ};
 ghost use lib.ListN.{length};
-ghost use Rattle.model.specs.Exact.{Fits};
+ghost use Rattle.collector_model.specs.Exact.{Fits};
 ghost use Rattle.c_collector.specs.State.{arrays, summaryIn, stateAt};
 ghost use Rattle.c_lines.specs.Calls.{isSized, Lines, levelNumber, firstNumber, firstUsed, lineNumber, ReadLine, Skipped};
 
@@ -29,7 +29,7 @@ const NO_LINE: u8 = 4;
 pub const DONE: usize = 4;
 
 // The most bytes that a line says.
-pub const MAX_BYTES: usize = line_input::MAX_BYTES;
+pub const MAX_BYTES: usize = text_lines::MAX_BYTES;
 
 // The characters of a first line; time, length and characters of a line; characters and number of lines that were skipped.
 pub const FIRST: usize = 1;
@@ -63,16 +63,16 @@ pub fn lines(
         (now (out .exit)) (now (moments .exit)) (now (rows .exit)) (now (done .exit)) ⌝ }
 {
     if !c_collector::is_acceptable(times, lengths, bytes, numbers) {
-        return refusal::number(Refusal::NotAccepted);
+        return base_refusal::number(Refusal::NotAccepted);
     }
     if !is_sized(moments.len(), rows.len()) {
         return WRONG_SIZE;
     }
     if MAX_SETTING < setting {
-        return refusal::number(Refusal::Argument);
+        return base_refusal::number(Refusal::Argument);
     }
     let summary = summary_of(copies, numbers);
-    let taken = collecting::take_rows(
+    let taken = text_collect::take_rows(
         true,
         setting,
         times,
@@ -127,7 +127,7 @@ pub fn first_line(input: &[u8], done: &mut [u64; FIRST]) -> u8
         return NO_LINE;
     }
     *done = [n as u64 + 1];
-    level_number(line_input::parse_setting(&input[0..n]))
+    level_number(text_lines::parse_setting(&input[0..n]))
 }
 
 fn level_number(setting: Setting) -> u8
@@ -144,7 +144,7 @@ fn level_number(setting: Setting) -> u8
 pub fn read_line(input: &[u8], bytes: &mut [u8; MAX_BYTES], done: &mut [u64; READ]) -> u8
     ensures { λ r. ⌜ ReadLine (now (input .entry)) r (now (bytes .exit)) (now (done .exit)) ⌝ }
 {
-    let l = line_input::parse(input, bytes);
+    let l = text_lines::parse(input, bytes);
     *done = [l.time, l.len as u64, l.used as u64];
     line_number(l.ok, l.used)
 }

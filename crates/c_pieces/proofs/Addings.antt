@@ -5,13 +5,13 @@ use Prim.Native.Nat.{ℕ}
 use mathlib.Core.Path.{_≡_, refl}
 use mathlib.Core.Bool.{Bool, true, false, cond, not}
 use mathlib.Core.List.{List}
-use Rattle.refusal.specs.Number.{numberOf}
-use Rattle.refusal.specs.declared.Refusal.the-variants.{NotAccepted, Size}
+use Rattle.base_refusal.specs.Number.{numberOf}
+use Rattle.base_refusal.specs.declared.Refusal.the-variants.{NotAccepted, Size}
 use lib.Dec.{leb}
-use Rattle.lists.proofs.Tests.{by-test}
+use Rattle.base_lists.proofs.Tests.{by-test}
 use Rattle.archive_model.specs.Buffer.{Found, At, None, blocksIn, stageFound}
-use Rattle.report_model.specs.Report.{maxArchives}
-use Rattle.report_model.specs.Pieces.{Adding, adding, addBlocks, closed, closing, isAdding, isPiece, fed, feedOf, endedOf}
+use Rattle.archive_report_model.specs.Report.{maxArchives}
+use Rattle.archive_report_model.specs.Pieces.{Adding, adding, addBlocks, closed, closing, isAdding, isPiece, fed, feedOf, endedOf}
 
 pub feed-report : (a : Adding) (piece : List ℕ) → feedOf a piece .next .report ≡ a .report
 unfolding feedOf

@@ -3,7 +3,7 @@ use Prim.Native.Nat.{ℕ}
 use mathlib.Core.Path.{_≡_}
 use mathlib.Core.List.{List}
 use borrow.Author.Tests.{eq-eqb, ne-eqb}
-use Rattle.repack_model.specs.Packer.{Packed, Finished}
+use Rattle.archive_repack_model.specs.Packer.{Packed, Finished}
 use Rattle.c_pieces.specs.Packer.{packShown, endShown}
 
 abbrev pub packed : ℕ → ℕ → ℕ → ℕ → List ℕ → List ℕ → List ℕ → Packed

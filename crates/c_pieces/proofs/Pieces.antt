@@ -11,21 +11,21 @@ use lib.Dec.{leb, eqb}
 use lib.ListN.{length, length-append}
 use lib.Seq.{take-all}
 use borrow.Author.Tests.{eqb-true, leb-true, eq-eqb, le-leb}
-use Rattle.lists.specs.Lists.{all, upFrom}
-use Rattle.lists.proofs.Choice.{both}
-use Rattle.lists.proofs.Members.{all-of, all-at}
-use Rattle.lists.proofs.Tests.{by-test, and-true}
-use Rattle.refusal.specs.Number.{numberOf}
-use Rattle.refusal.specs.declared.Refusal.the-variants.{Size}
-use Rattle.layout.specs.Block.{blockLength}
+use Rattle.base_lists.specs.Lists.{all, upFrom}
+use Rattle.base_lists.proofs.Choice.{both}
+use Rattle.base_lists.proofs.Members.{all-of, all-at}
+use Rattle.base_lists.proofs.Tests.{by-test, and-true}
+use Rattle.base_refusal.specs.Number.{numberOf}
+use Rattle.base_refusal.specs.declared.Refusal.the-variants.{Size}
+use Rattle.block_layout.specs.Block.{blockLength}
 use Rattle.archive_model.specs.Buffer.{Found, Stage, maxBlocks, isWhole, blocksIn, Scan, startScan, scanBlock, scanBlocks, stageFound}
 use Rattle.archive_model.specs.Append.{isScan, feedOf, openOf}
 use Rattle.archive_model.proofs.Pieces.{blocks-count, pieces-blocks, scan-append, scan-found, scan-rows}
-use Rattle.archive.specs.Archive.{openFound}
-use Rattle.archive.proofs.Calls.{open-whole}
+use Rattle.archive_file.specs.Archive.{openFound}
+use Rattle.archive_file.proofs.Calls.{open-whole}
 use Rattle.archive_model.proofs.Scans.{scan-facts, scanned-next, blocks-after}
-use Rattle.report_model.specs.Claims.{areBytes}
-use Rattle.report_model.proofs.Given.{isBlock, scan-given}
+use Rattle.archive_report_model.specs.Claims.{areBytes}
+use Rattle.archive_report_model.proofs.Given.{isBlock, scan-given}
 use Rattle.c_pieces.specs.Scan.{stageAt, scanAt, scanNumbers, noBlocks, scanEnd}
 use Rattle.c_pieces.specs.Claims.{ScanBack, scanAll, scanned, PiecesVerified, NumbersAccepted, NumbersGiven}
 use Rattle.c_pieces.proofs.Scans.{stage-back}

@@ -10,11 +10,11 @@ use mathlib.Core.Bool.{true, false}
 use mathlib.Core.List.{List}
 use lib.ListN.{getD}
 use borrow.Author.Tests.{ne-eqb}
-use Rattle.refusal.specs.Number.{numberOf}
-use Rattle.refusal.specs.declared.Refusal.the-variants.{Mismatch, NotAccepted}
+use Rattle.base_refusal.specs.Number.{numberOf}
+use Rattle.base_refusal.specs.declared.Refusal.the-variants.{Mismatch, NotAccepted}
 use Rattle.archive_model.specs.Buffer.{Found, None, Stage, Filling, Short, Ended, Wrong, stageFound}
 use Rattle.archive_model.specs.Append.{isScan, Feeding}
-use Rattle.archive.specs.Archive.{openFound}
+use Rattle.archive_file.specs.Archive.{openFound}
 use Rattle.c_pieces.specs.Scan.{stageAt, stageNumber, stagePosition, scanAt, scanNumbers, ScanCall, scanShown, scanEnd}
 
 module _ (s p : ℕ) where

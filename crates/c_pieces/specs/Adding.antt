@@ -5,9 +5,9 @@ use mathlib.Core.Bool.{cond, not}
 use mathlib.Core.List.{List, [], _∷_, _++_}
 use lib.Dec.{eqb}
 use lib.ListN.{length, getD}
-use Rattle.report_model.specs.Pieces.{Tally, Adding, adding, Feeding, fed}
-use Rattle.report.specs.Lines.{linesAt}
-use Rattle.report.specs.Report.{linesFed}
+use Rattle.archive_report_model.specs.Pieces.{Tally, Adding, adding, Feeding, fed}
+use Rattle.archive_report.specs.Lines.{linesAt}
+use Rattle.archive_report.specs.Report.{linesFed}
 use Rattle.c_report.specs.Calls.{reportAt}
 use Rattle.c_pieces.specs.Scan.{scanAt, scanNumbers}
 

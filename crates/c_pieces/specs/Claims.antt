@@ -1,14 +1,14 @@
--- What is proved of an archive that is verified in pieces. (Of pieces that are added to a report `PiecesAreWhole` of report_model says it, and of
--- pieces that are packed `PiecesPacked` of repack_model: the arrays hold what those definitions name.)
+-- What is proved of an archive that is verified in pieces. (Of pieces that are added to a report `PiecesAreWhole` of archive_report_model says it, and of
+-- pieces that are packed `PiecesPacked` of archive_repack_model: the arrays hold what those definitions name.)
 use Prim.Native.Nat.{ℕ}
 use mathlib.Core.Path.{_≡_}
 use mathlib.Core.Bool.{true, cond}
 use mathlib.Core.List.{List, [], _∷_, flatten}
 use lib.Dec.{eqb}
-use Rattle.lists.specs.Lists.{all}
+use Rattle.base_lists.specs.Lists.{all}
 use Rattle.archive_model.specs.Buffer.{Scan}
 use Rattle.archive_model.specs.Append.{openOf, isScan}
-use Rattle.report_model.specs.Claims.{areBytes}
+use Rattle.archive_report_model.specs.Claims.{areBytes}
 use Rattle.c_pieces.specs.Scan.{scanAt, scanNumbers, noBlocks, scanCall, scanEnd}
 
 -- Read back: four numbers hold any scan.

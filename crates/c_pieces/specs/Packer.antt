@@ -2,7 +2,7 @@
 use Prim.Native.Nat.{ℕ}
 use mathlib.Core.List.{List}
 use lib.ListN.{getD}
-use Rattle.repack_model.specs.Packer.{Packed, packOf, Finished, finishOf}
+use Rattle.archive_repack_model.specs.Packer.{Packed, packOf, Finished, finishOf}
 use Rattle.c_layout.specs.Lent.{ifDone}
 
 -- how many blocks of a piece were dropped is handed back beside 0

@@ -4,11 +4,11 @@ use mathlib.Core.Bool.{cond, not}
 use mathlib.Core.List.{List, [], _∷_}
 use lib.Dec.{eqb}
 use lib.ListN.{getD}
-use Rattle.refusal.specs.Number.{numberOf}
-use Rattle.refusal.specs.declared.Refusal.the-variants.{NotAccepted}
+use Rattle.base_refusal.specs.Number.{numberOf}
+use Rattle.base_refusal.specs.declared.Refusal.the-variants.{NotAccepted}
 use Rattle.archive_model.specs.Buffer.{Stage, Filling, Short, Ended, Wrong, Scan, stageFound}
 use Rattle.archive_model.specs.Append.{Opening, isScan, Feeding, feedOf}
-use Rattle.archive.specs.Archive.{openFound}
+use Rattle.archive_file.specs.Archive.{openFound}
 
 -- ---- the numbers: blocks passed, their rows, the stage, and the position of the block that does not match
 

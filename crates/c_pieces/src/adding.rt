@@ -1,12 +1,12 @@
 // An archive added to a report in pieces: the report stays as it is until the end.
 use crate::scan;
-use report::Adding;
+use archive_report::Adding;
 ghost use mathlib.Core.Path.{_≡_};
 ghost use mathlib.Core.Bool.{cond, not};
 ghost use lib.Dec.{eqb};
-ghost use Rattle.report_model.specs.Report as model;
-ghost use Rattle.report_model.specs.Pieces as pieces;
-ghost use Rattle.report.specs.Report.{addingOf};
+ghost use Rattle.archive_report_model.specs.Report as model;
+ghost use Rattle.archive_report_model.specs.Pieces as pieces;
+ghost use Rattle.archive_report.specs.Report.{addingOf};
 ghost use Rattle.c_report.specs.Calls.{reportAt, Adds};
 ghost use Rattle.c_pieces.specs.Adding.{tallyAt, tallyNumbers, addingAt, Feeds};
 

@@ -6,7 +6,7 @@ ghost use Rattle.c_pieces.specs.Packer.{packCall, packEnd};
 // Rows that wait, and blocks written.
 pub const NUMBERS: usize = 2;
 
-pub const WAITING: usize = repack::PENDING_LENGTH;
+pub const WAITING: usize = archive_repack::PENDING_LENGTH;
 
 // The sound blocks of a piece: 11, 16, 10, 6; then all are as they were. Else zeros stand behind the rows that wait.
 pub fn feed(
@@ -30,7 +30,7 @@ pub fn feed(
         ≡ packCall (now (numbers .entry)) (now (waiting .entry)) (now (piece .entry)) (now (identities .entry))
         (now (out .entry)) (now (positions .entry)) (now (dropped .entry)) ⌝ }
 {
-    let done = repack::pack(
+    let done = archive_repack::pack(
         waiting,
         numbers[0] as usize,
         numbers[1] as usize,
@@ -59,7 +59,7 @@ pub fn end(
     ensures { λ r. ⌜ record { number = r; length = now (length .exit); output = now (out .exit) }
         ≡ packEnd (now (numbers .entry)) (now (waiting .entry)) (now (out .entry)) (now (length .entry)) ⌝ }
 {
-    let done = repack::finish(waiting, numbers[0] as usize, numbers[1] as usize, out);
+    let done = archive_repack::finish(waiting, numbers[0] as usize, numbers[1] as usize, out);
     let answer = done.answer;
     let number = c_archive::taken_number(answer);
     if number != 0 {

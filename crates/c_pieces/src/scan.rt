@@ -1,9 +1,9 @@
 // An archive verified in pieces.
-use archive::Scan;
-use archive::Stage;
-use refusal::Refusal;
+use archive_file::Scan;
+use archive_file::Stage;
+use base_refusal::Refusal;
 ghost use mathlib.Core.Path.{_≡_};
-ghost use Rattle.archive.specs.Archive.{stageOf, scanOf};
+ghost use Rattle.archive_file.specs.Archive.{stageOf, scanOf};
 ghost use Rattle.c_archive.specs.Calls.{openCall};
 ghost use Rattle.c_pieces.specs.Scan.{stageAt, stageNumber, stagePosition, scanAt, scanCall, scanEnd};
 
@@ -39,12 +39,12 @@ pub fn end(numbers: &[u64; NUMBERS], rows: &mut usize, position: &mut usize) -> 
         ≡ openCall (scanEnd (scanAt (now (numbers .entry)))) (now (rows .entry)) (now (position .entry)) ⌝ }
 {
     let s = scan_of(numbers[0], numbers[1], numbers[2], numbers[3]);
-    if !archive::is_scan(s) {
-        return refusal::number(Refusal::NotAccepted);
+    if !archive_file::is_scan(s) {
+        return base_refusal::number(Refusal::NotAccepted);
     }
     if 2 < numbers[2] {
         *position = numbers[3] as usize;
-        return refusal::number(Refusal::Mismatch);
+        return base_refusal::number(Refusal::Mismatch);
     }
     *rows = numbers[1] as usize;
     0

@@ -3,11 +3,11 @@ use mathlib.Core.Path.{_≡_, sym, _∙_}
 use mathlib.Core.List.{List}
 use Prim.Native.Nat.{ℕ}
 use borrow.Author.Tests.{ne-eqb}
-use Rattle.refusal.specs.Number.{numberOf}
-use Rattle.refusal.specs.declared.Refusal.{Refusal}
-use Rattle.refusal.proofs.Numbers.{refused-number}
-use Rattle.report_model.specs.Report as model
-use Rattle.report.specs.Lines.{lineNumbers}
+use Rattle.base_refusal.specs.Number.{numberOf}
+use Rattle.base_refusal.specs.declared.Refusal.{Refusal}
+use Rattle.base_refusal.proofs.Numbers.{refused-number}
+use Rattle.archive_report_model.specs.Report as model
+use Rattle.archive_report.specs.Lines.{lineNumbers}
 use Rattle.c_report.specs.Calls.{LineCall, answeredLine, shareCall}
 
 abbrev pub looked : ℕ → List ℕ → LineCall

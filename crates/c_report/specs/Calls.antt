@@ -3,9 +3,9 @@ use Prim.Native.Nat.{ℕ}
 use mathlib.Core.Path.{_≡_}
 use mathlib.Core.List.{List, [], _∷_}
 use lib.ListN.{length, getD, replicate}
-use Rattle.report_model.specs.Report as model
-use Rattle.report.specs.Lines.{linesLength, linesAt, lineNumbers}
-use Rattle.report.specs.Report.{linesAdded}
+use Rattle.archive_report_model.specs.Report as model
+use Rattle.archive_report.specs.Lines.{linesLength, linesAt, lineNumbers}
+use Rattle.archive_report.specs.Report.{linesAdded}
 use Rattle.c_layout.specs.Lent.{ifDone, ifMismatch}
 
 -- archives added, lines, KEPT rows and LOOSE rows; five numbers for each line

@@ -1,13 +1,13 @@
 // Reports on plain numbers and bytes, as other languages call them: a report is two lent arrays, its numbers and its lines.
-use archive::Outcome;
-use refusal::Refusal;
-use report::LineAt;
-use report::Looked;
-use report::Report;
-use report::Share;
+use archive_file::Outcome;
+use archive_report::LineAt;
+use archive_report::Looked;
+use archive_report::Report;
+use archive_report::Share;
+use base_refusal::Refusal;
 ghost use mathlib.Core.Path.{_≡_};
-ghost use Rattle.report_model.specs.Report as model;
-ghost use Rattle.report.specs.Report.{reportOf, outcomeNumber, outcomePosition, lookedNumber};
+ghost use Rattle.archive_report_model.specs.Report as model;
+ghost use Rattle.archive_report.specs.Report.{reportOf, outcomeNumber, outcomePosition, lookedNumber};
 ghost use Rattle.c_layout.specs.Lent.{ifMismatch};
 ghost use Rattle.c_report.specs.Calls.{reportAt, reportNumbers, emptyLines, linesWith, Adds, lineCall, shareCall};
 
@@ -93,7 +93,7 @@ pub fn share(
             *thousandths = t;
             0
         }
-        Share::Refused(why) => refusal::number(why),
+        Share::Refused(why) => base_refusal::number(why),
     }
 }
 
@@ -138,6 +138,6 @@ fn looked_number(looked: Looked) -> u8
 {
     match looked {
         Looked::Line => 0,
-        Looked::Refused(why) => refusal::number(why),
+        Looked::Refused(why) => base_refusal::number(why),
     }
 }

@@ -5,19 +5,19 @@ use mathlib.Core.Path.{_≡_}
 use mathlib.Core.List.{List, [], _∷_, _++_}
 use mathlib.Core.Bool.{cond}
 use lib.ListN.{length, take, replicate, getD}
-use Rattle.crc8.specs.Crc8.{crcOf}
-use Rattle.erp1.specs.Subtelegram.{hashOf, checkOf}
-use Rattle.telegram.specs.Addressing.{encapsulated}
-use Rattle.telegram.specs.Repeater.{repeatOf}
-use Rattle.telegram.specs.Output.{resultBytes}
-use Rattle.erp2_model.specs.declared.Telegram.{Telegram}
-use Rattle.erp2_model.specs.Reading.{Read, readOf}
-use Rattle.erp2_model.specs.Building.{buildOf}
-use Rattle.slots.specs.Plan.{plans, standardRule}
-use Rattle.timing.specs.Rules.{ruleOf}
-use Rattle.model.specs.Answer.{Shown, Kept, Copy, Loose, Refused}
-use Rattle.model.specs.View.{fresh}
-use Rattle.model.specs.History.{Call, Receive, Seen, Answered, Wrote, Restored, Delivered, Heard, Looked, run}
+use Rattle.base_crc8.specs.Crc8.{crcOf}
+use Rattle.radio_erp1.specs.Subtelegram.{hashOf, checkOf}
+use Rattle.radio_telegram.specs.Addressing.{encapsulated}
+use Rattle.radio_telegram.specs.Repeater.{repeatOf}
+use Rattle.radio_telegram.specs.Output.{resultBytes}
+use Rattle.radio_erp2_model.specs.declared.Telegram.{Telegram}
+use Rattle.radio_erp2_model.specs.Reading.{Read, readOf}
+use Rattle.radio_erp2_model.specs.Building.{buildOf}
+use Rattle.plan_slots.specs.Plan.{plans, standardRule}
+use Rattle.plan_rules.specs.Rules.{ruleOf}
+use Rattle.collector_model.specs.Answer.{Shown, Kept, Copy, Loose, Refused}
+use Rattle.collector_model.specs.View.{fresh}
+use Rattle.collector_model.specs.History.{Call, Receive, Seen, Answered, Wrote, Restored, Delivered, Heard, Looked, run}
 
 pub record Case : Type 0 where
   pub got : List ℕ

@@ -1,8 +1,8 @@
 // Runs the codec on the records of standard input, a line of 128 hexadecimal digits each, and prints a line for each: stdout is what the
 // second program says (tests/reference/README.md has the format).
-use erp1::Checked;
-use telegram::fields::Telegram;
-use telegram::frame::Built;
+use radio_erp1::Checked;
+use radio_telegram::fields::Telegram;
+use radio_telegram::frame::Built;
 ghost use mathlib.Core.Path.{_≡_};
 ghost use Prim.Native.Nat.{_≤_};
 ghost use lib.ListN.{length};
@@ -61,7 +61,7 @@ fn crc(r: &[u8])
     let n = least(wide(r[1]) * 256 + wide(r[2]), LONGEST);
     let input = repeated(r, n, pattern_length(wide(r[3])));
     test_io::text(b"CRC ");
-    test_io::byte(crc8::crc8(&input[0..n]));
+    test_io::byte(base_crc8::crc8(&input[0..n]));
 }
 
 // The pattern of length p at 8, over and over, n bytes of it.
@@ -92,7 +92,7 @@ fn read(r: &[u8])
     requires { ⌜ length (now r) ≡ 64 ⌝ }
 {
     let n = least(wide(r[2]), MOST);
-    let reading = telegram::fields::read(&r[8..8 + n]);
+    let reading = radio_telegram::fields::read(&r[8..8 + n]);
     let t = reading.telegram;
     let checked = reading.checked;
     let destid = t.destid;
@@ -136,7 +136,7 @@ fn build(r: &[u8], out: &mut [u8])
         txid: [r[12], r[13], r[14], r[15]],
         status: r[5],
     };
-    let built = telegram::fields::build(t, out);
+    let built = radio_telegram::fields::build(t, out);
     test_io::text(b"BUILD ");
     written(built, out);
 }
@@ -146,7 +146,7 @@ fn encapsulate(r: &[u8], out: &mut [u8])
 {
     let n = least(wide(r[2]), MOST);
     let destid = [r[4], r[5], r[6], r[7]];
-    let built = telegram::addressing::encapsulate(&r[8..8 + n], destid, out);
+    let built = radio_telegram::addressing::encapsulate(&r[8..8 + n], destid, out);
     test_io::text(b"ENCAPSULATE ");
     written(built, out);
 }
@@ -155,7 +155,7 @@ fn decapsulate(r: &[u8], out: &mut [u8])
     requires { ⌜ length (now r) ≡ 64 ⌝ }
 {
     let n = least(wide(r[2]), MOST);
-    let built = telegram::addressing::decapsulate(&r[8..8 + n], out);
+    let built = radio_telegram::addressing::decapsulate(&r[8..8 + n], out);
     test_io::text(b"DECAPSULATE ");
     written(built, out);
 }
@@ -164,7 +164,7 @@ fn repeat(r: &[u8])
     requires { ⌜ length (now r) ≡ 64 ⌝ }
 {
     let n = least(wide(r[2]), MOST);
-    let repeated = telegram::repeater::repeat(r[1], &r[8..8 + n]);
+    let repeated = radio_telegram::repeater::repeat(r[1], &r[8..8 + n]);
     let answer = repeated.answer;
     let sent = repeated.sent;
     let bytes = sent.bytes;
@@ -182,7 +182,7 @@ fn same(r: &[u8])
     let n = least(wide(r[2]), MOST);
     let m = least(wide(r[3]), MOST);
     test_io::text(b"SAME");
-    flag(erp1::same(&r[8..8 + n], &r[36..36 + m]));
+    flag(radio_erp1::same(&r[8..8 + n], &r[36..36 + m]));
 }
 
 // ---- what is printed of an answer
@@ -195,7 +195,7 @@ fn written(built: Built, out: &[u8]) {
             test_io::decimal(n as u64);
         }
         Built::Refused(why) => {
-            test_io::decimal(refusal::number(why) as u64);
+            test_io::decimal(base_refusal::number(why) as u64);
             test_io::text(b" 0");
         }
     }
@@ -206,7 +206,7 @@ fn written(built: Built, out: &[u8]) {
 fn checked_number(checked: Checked) -> u64 {
     match checked {
         Checked::Valid => 0,
-        Checked::Refused(why) => refusal::number(why) as u64,
+        Checked::Refused(why) => base_refusal::number(why) as u64,
     }
 }
 

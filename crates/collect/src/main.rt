@@ -1,4 +1,4 @@
 // The program `collect` (document 01, "Cases"): reads receptions from standard input, and prints their rows and the totals.
 fn main() {
-    driver::run();
+    text_driver::run();
 }

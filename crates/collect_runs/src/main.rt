@@ -18,6 +18,6 @@ fn run_file(i: usize) {
         os::fail(&name[..n]);
         return;
     }
-    driver::run_on(input);
+    text_driver::run_on(input);
     libc::close(input);
 }

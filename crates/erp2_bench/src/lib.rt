@@ -1,12 +1,12 @@
 // ERP2 telegrams read, and read and built again, for the benchmark.
-use erp1::Checked;
-use erp2_model::Telegram;
-use telegram::frame::Built;
+use radio_erp1::Checked;
+use radio_erp2_model::Telegram;
+use radio_telegram::frame::Built;
 
 // Reads a telegram, and answers a figure of its fields; 0 for a refusal.
 #[no_mangle]
 pub extern "C" fn bench_erp2_read(bytes: &[u8]) -> u64 {
-    let reading = erp2::read(bytes);
+    let reading = radio_erp2::read(bytes);
     let checked = reading.checked;
     match checked {
         Checked::Valid => figure(reading.telegram),
@@ -17,9 +17,9 @@ pub extern "C" fn bench_erp2_read(bytes: &[u8]) -> u64 {
 // Reads a telegram and builds it again, and answers the length written; 0 for a refusal.
 #[no_mangle]
 pub extern "C" fn bench_erp2_again(bytes: &[u8], out: &mut [u8]) -> usize {
-    let reading = erp2::read(bytes);
+    let reading = radio_erp2::read(bytes);
     let t = reading.telegram;
-    match erp2::build(t, out) {
+    match radio_erp2::build(t, out) {
         Built::Done(n) => n,
         Built::Refused(_) => 0,
     }

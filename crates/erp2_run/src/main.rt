@@ -1,14 +1,14 @@
 // Runs the ERP2 codec on the records of standard input, a line of 640 hexadecimal digits each, and prints a line for each: stdout is what the
 // second program says (tests/reference/README.md has the format).
-use erp1::Checked;
-use erp2_model::Destination;
-use erp2_model::Extension;
-use erp2_model::Header;
-use erp2_model::MAX_DATA;
-use erp2_model::MAX_OPTIONAL;
-use erp2_model::Subtype;
-use erp2_model::Telegram;
-use telegram::frame::Built;
+use radio_erp1::Checked;
+use radio_erp2_model::Destination;
+use radio_erp2_model::Extension;
+use radio_erp2_model::Header;
+use radio_erp2_model::MAX_DATA;
+use radio_erp2_model::MAX_OPTIONAL;
+use radio_erp2_model::Subtype;
+use radio_erp2_model::Telegram;
+use radio_telegram::frame::Built;
 ghost use mathlib.Core.Path.{_≡_};
 ghost use Prim.Native.Nat.{_≤_};
 ghost use lib.ListN.{length};
@@ -72,7 +72,7 @@ fn read(r: &[u8])
     requires { ⌜ length (now r) ≡ 320 ⌝ }
 {
     let n = least(pair(r[1], r[2]), MOST);
-    let reading = erp2::read(&r[8..8 + n]);
+    let reading = radio_erp2::read(&r[8..8 + n]);
     let t = reading.telegram;
     let checked = reading.checked;
     test_io::text(b"READ ");
@@ -91,7 +91,7 @@ fn build(r: &[u8])
 
 // Prints the answer, and all of the output.
 fn build_into(t: Telegram, out: &mut [u8]) {
-    let built = erp2::build(t, out);
+    let built = radio_erp2::build(t, out);
     test_io::text(b"BUILD ");
     written(built, out);
 }
@@ -102,7 +102,7 @@ fn ordered(r: &[u8]) -> Telegram
 {
     let payload = payload_of(&r[42..292]);
     let optional = optional_of(&r[27..42]);
-    let originator = layout::read_number(&r[12..20]);
+    let originator = block_layout::read_number(&r[12..20]);
     Telegram {
         short: r[3],
         header: Header {
@@ -156,7 +156,7 @@ fn optional_of(part: &[u8]) -> [u8; MAX_OPTIONAL]
 fn checked_number(checked: Checked) -> u64 {
     match checked {
         Checked::Valid => 0,
-        Checked::Refused(why) => refusal::number(why) as u64,
+        Checked::Refused(why) => base_refusal::number(why) as u64,
     }
 }
 
@@ -168,7 +168,7 @@ fn written(built: Built, out: &[u8]) {
             test_io::decimal(n as u64);
         }
         Built::Refused(why) => {
-            test_io::decimal(refusal::number(why) as u64);
+            test_io::decimal(base_refusal::number(why) as u64);
             test_io::text(b" 0");
         }
     }
@@ -214,7 +214,7 @@ fn flag(set: bool) {
 // An Originator-ID in 12 digits.
 fn identity(id: u64) {
     let mut bytes = [0u8; 6];
-    layout::put_number(&mut bytes, id);
+    block_layout::put_number(&mut bytes, id);
     test_io::text(b" ");
     test_io::hex(&bytes);
 }
@@ -222,7 +222,7 @@ fn identity(id: u64) {
 // A Destination-ID in 8.
 fn destination(id: u64) {
     let mut bytes = [0u8; 4];
-    layout::put_number(&mut bytes, id);
+    block_layout::put_number(&mut bytes, id);
     test_io::text(b" ");
     test_io::hex(&bytes);
 }

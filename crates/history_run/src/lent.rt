@@ -31,7 +31,7 @@ pub(crate) fn next_bytes(n: usize) -> [u8; BUFFER]
 fn put_part<'a>(out: &'a mut [u8], at: usize, r: &'a [u8])
     requires { ⌜ (length (now out) ≡ 3054) × (at ≤ 3000) × (length (now r) ≡ 64) ⌝ }
 {
-    layout::put_bytes(&mut out[at..at + PART], &r[10..64]);
+    block_layout::put_bytes(&mut out[at..at + PART], &r[10..64]);
 }
 
 // ---- the receptions of a burst, which are lent as they stand
@@ -57,6 +57,6 @@ pub(crate) fn next_records(n: usize) -> [u8; RECEPTIONS]
 fn put_record<'a>(out: &'a mut [u8], i: usize, r: &'a [u8])
     requires { ⌜ (length (now out) ≡ 16576) × (i ≤ 258) ⌝ }
 {
-    let at = replay::CALL_LENGTH * i;
-    layout::put_bytes(&mut out[at..at + replay::CALL_LENGTH], r);
+    let at = history_replay::CALL_LENGTH * i;
+    block_layout::put_bytes(&mut out[at..at + history_replay::CALL_LENGTH], r);
 }

@@ -1,4 +1,4 @@
-// Puts a collector through the histories of standard input, each record by `replay::resume`, and prints what that wrote: stdout is what the
+// Puts a collector through the histories of standard input, each record by `history_replay::resume`, and prints what that wrote: stdout is what the
 // second program says (tests/reference/README.md has the format). The collector lies in five arrays, which each call is lent.
 pub(crate) mod lent;
 pub(crate) mod records;
@@ -7,8 +7,8 @@ pub(crate) mod shown;
 use c_collector::BYTES;
 use c_collector::CAPACITY;
 use c_collector::NUMBERS;
-use replay::Ran;
-use replay::Replayed;
+use history_replay::Ran;
+use history_replay::Replayed;
 ghost use mathlib.Core.Path.{_≡_};
 ghost use Prim.Native.Nat.{_≤_};
 ghost use lib.ListN.{length};
@@ -66,7 +66,7 @@ fn called(
 ) -> Session
     requires { ⌜ length (now r) ≡ 64 ⌝ }
 {
-    let number = layout::read_number(&r[1..9]);
+    let number = block_layout::read_number(&r[1..9]);
     let operation = r[0];
     match operation {
         1 => started(times, lengths, bytes, copies, numbers, (number % 256) as u8),
@@ -161,7 +161,7 @@ fn saved(
 ) -> Session
     requires { ⌜ n ≤ 3000 ⌝ }
 {
-    let call = records::checkpoint(replay::SAVING, n);
+    let call = records::checkpoint(history_replay::SAVING, n);
     let mut out = [0u8; shown::WROTE];
     let ran = made(times, lengths, bytes, copies, numbers, &call, &mut out);
     if is_refused(ran) {
@@ -180,7 +180,7 @@ fn cut(
     numbers: &mut [u64; NUMBERS],
     session: Session,
 ) -> Session {
-    let call = records::checkpoint(replay::CUTTING, IMAGE);
+    let call = records::checkpoint(history_replay::CUTTING, IMAGE);
     let mut out = [0u8; shown::CUT];
     let ran = made(times, lengths, bytes, copies, numbers, &call, &mut out);
     if is_refused(ran) {
@@ -202,7 +202,7 @@ fn spoiled(
 ) -> Session
     requires { ⌜ k ≤ 2560 ⌝ }
 {
-    let call = records::checkpoint(replay::SAVING, IMAGE);
+    let call = records::checkpoint(history_replay::SAVING, IMAGE);
     let mut out = [0u8; shown::BODY + IMAGE];
     let ran = made(times, lengths, bytes, copies, numbers, &call, &mut out);
     if is_refused(ran) {
@@ -297,7 +297,7 @@ fn restored<'a>(
 ) -> Session {
     let call = records::restore(image.len());
     let mut out = [0u8; shown::HEAD];
-    let ran = replay::resume(
+    let ran = history_replay::resume(
         times,
         lengths,
         bytes,
@@ -331,7 +331,7 @@ fn delivered(
     let call = records::burst(r, n, m);
     let records = lent::next_records(n);
     let mut out = [0u8; shown::DELIVERED];
-    let ran = replay::resume(
+    let ran = history_replay::resume(
         times,
         lengths,
         bytes,
@@ -378,7 +378,7 @@ fn made<'a>(
     call: &'a [u8],
     out: &'a mut [u8],
 ) -> Replayed {
-    replay::resume(
+    history_replay::resume(
         times,
         lengths,
         bytes,

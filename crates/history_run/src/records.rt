@@ -8,11 +8,11 @@ ghost use lib.ListN.{length};
 const FILL: u8 = 0xEE;
 
 // A reception: the record itself, with at most 28 bytes, and the setting that the caller keeps.
-pub(crate) fn reception(r: &[u8], setting: u8) -> [u8; replay::CALL_LENGTH]
+pub(crate) fn reception(r: &[u8], setting: u8) -> [u8; history_replay::CALL_LENGTH]
     requires { ⌜ length (now r) ≡ 64 ⌝ }
 {
-    let mut call = [0u8; replay::CALL_LENGTH];
-    layout::put_bytes(&mut call, r);
+    let mut call = [0u8; history_replay::CALL_LENGTH];
+    block_layout::put_bytes(&mut call, r);
     call[9] = at_most_28(r[9]);
     call[63] = setting;
     call
@@ -26,28 +26,28 @@ fn at_most_28(n: u8) -> u8 {
 }
 
 // A checkpoint into n bytes, or a cut by one.
-pub(crate) fn checkpoint(operation: u8, n: usize) -> [u8; replay::CALL_LENGTH] {
-    let mut call = [0u8; replay::CALL_LENGTH];
+pub(crate) fn checkpoint(operation: u8, n: usize) -> [u8; history_replay::CALL_LENGTH] {
+    let mut call = [0u8; history_replay::CALL_LENGTH];
     call[0] = operation;
-    layout::put_number(&mut call[1..9], n as u64);
+    block_layout::put_number(&mut call[1..9], n as u64);
     call[9] = FILL;
     call
 }
 
 // A restore of the n bytes that are lent.
-pub(crate) fn restore(n: usize) -> [u8; replay::CALL_LENGTH] {
-    let mut call = [0u8; replay::CALL_LENGTH];
-    call[0] = replay::RESTORING;
-    layout::put_number(&mut call[9..17], n as u64);
+pub(crate) fn restore(n: usize) -> [u8; history_replay::CALL_LENGTH] {
+    let mut call = [0u8; history_replay::CALL_LENGTH];
+    call[0] = history_replay::RESTORING;
+    block_layout::put_number(&mut call[9..17], n as u64);
     call
 }
 
 // A burst of the n records that are lent, with m places, which hold LOOSE with 21 bytes to send; byte 12 of its record is the setting.
-pub(crate) fn burst(r: &[u8], n: usize, m: usize) -> [u8; replay::CALL_LENGTH]
+pub(crate) fn burst(r: &[u8], n: usize, m: usize) -> [u8; history_replay::CALL_LENGTH]
     requires { ⌜ (length (now r) ≡ 64) × (n ≤ 259) ⌝ }
 {
-    let mut call = [FILL; replay::CALL_LENGTH];
-    call[0] = replay::DELIVERING;
+    let mut call = [FILL; history_replay::CALL_LENGTH];
+    call[0] = history_replay::DELIVERING;
     put_lists(&mut call, n, m);
     call[25] = 2;
     call[26] = 21;
@@ -59,9 +59,9 @@ pub(crate) fn burst(r: &[u8], n: usize, m: usize) -> [u8; replay::CALL_LENGTH]
 fn put_lists(call: &mut [u8], n: usize, m: usize)
     requires { ⌜ (length (now call) ≡ 64) × (n ≤ 259) ⌝ }
 {
-    layout::put_number(&mut call[1..9], 0);
-    layout::put_number(&mut call[9..17], (replay::CALL_LENGTH * n) as u64);
-    layout::put_number(&mut call[17..25], m as u64);
+    block_layout::put_number(&mut call[1..9], 0);
+    block_layout::put_number(&mut call[9..17], (history_replay::CALL_LENGTH * n) as u64);
+    block_layout::put_number(&mut call[17..25], m as u64);
 }
 
 // How many places bytes 10 and 11 say, at most those of a list.
@@ -69,13 +69,13 @@ pub(crate) fn places_in(r: &[u8]) -> usize
     requires { ⌜ length (now r) ≡ 64 ⌝ }
     ensures { λ m. ⌜ m ≤ 259 ⌝ }
 {
-    least(layout::read_number(&r[10..12]), crate::lent::LISTED)
+    least(block_layout::read_number(&r[10..12]), crate::lent::LISTED)
 }
 
 // An ask for the copies of an entry.
-pub(crate) fn ask(entry: u64) -> [u8; replay::CALL_LENGTH] {
-    let mut call = [0u8; replay::CALL_LENGTH];
-    call[0] = replay::ASKING;
-    layout::put_number(&mut call[1..9], entry);
+pub(crate) fn ask(entry: u64) -> [u8; history_replay::CALL_LENGTH] {
+    let mut call = [0u8; history_replay::CALL_LENGTH];
+    call[0] = history_replay::ASKING;
+    block_layout::put_number(&mut call[1..9], entry);
     call
 }

@@ -110,14 +110,14 @@ fn put_totals(cell: &[u8])
 
 fn put_total(s: &[u8]) {
     test_io::text(b" ");
-    test_io::decimal(layout::read_number(s));
+    test_io::decimal(block_layout::read_number(s));
 }
 
 fn put_reply(reply: &[u8])
     requires { ⌜ length (now reply) ≡ 31 ⌝ }
 {
     put_answer(reply[0], reply[1]);
-    let n = least(layout::read_number(&reply[2..10]), 21);
+    let n = least(block_layout::read_number(&reply[2..10]), 21);
     test_io::text(b" ");
     test_io::hex(&reply[10..10 + n]);
 }
@@ -148,7 +148,7 @@ fn mixed(figure: u64, byte: u8) -> u64 {
 // The low 32 bits, in eight digits.
 fn put_word(n: u64) {
     let mut word = [0u8; 4];
-    layout::put_number(&mut word, n);
+    block_layout::put_number(&mut word, n);
     test_io::hex(&word);
 }
 

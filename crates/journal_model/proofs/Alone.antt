@@ -1,4 +1,4 @@
--- The rows that lines give, handed over by themselves after the same lines, are given again: `rows_model` says it of receptions, and the line of a row
+-- The rows that lines give, handed over by themselves after the same lines, are given again: `history_rows` says it of receptions, and the line of a row
 -- says the row's reception.
 use Prim.Native.Nat.{ℕ, zero, suc, _+_, _*_, _%_, _<_, _^_}
 use native.Mathlib.Omega.{arith}
@@ -8,24 +8,24 @@ use mathlib.Core.List.{List, [], _∷_, _++_, map}
 use lib.Dec.{ltb, leb, eqb}
 use lib.ListN.{length, take}
 use borrow.Author.Tests.{ltb-true, lt-ltb}
-use Rattle.lists.specs.Lists.{all}
-use Rattle.lists.proofs.Choice.{both}
-use Rattle.lists.proofs.Tests.{and-true}
-use Rattle.model.specs.Answer.{Shown, Kept, Copy, Loose, Refused}
-use Rattle.model.specs.View.{Reception}
-use Rattle.model.specs.Reference.{answerTo, logOf}
-use Rattle.rows_model.specs.Rows.{isRow}
-use Rattle.rows_model.proofs.Thinned.{Thinned, thinned-same, thinned-answer, thinned-row, thinned-other}
-use Rattle.line_input.specs.Hex.{maxBytes, nibbleOf, isHexDigit, isHex, hexBytes}
-use Rattle.line_input.specs.Reading.{Reading, reception, bad, lineReading}
-use Rattle.line_input.proofs.Whole.{said}
-use Rattle.line_output.specs.Claims.{areBytes}
-use Rattle.line_output.proofs.ReadBack.{lines-back}
+use Rattle.base_lists.specs.Lists.{all}
+use Rattle.base_lists.proofs.Choice.{both}
+use Rattle.base_lists.proofs.Tests.{and-true}
+use Rattle.collector_model.specs.Answer.{Shown, Kept, Copy, Loose, Refused}
+use Rattle.collector_model.specs.View.{Reception}
+use Rattle.collector_model.specs.Reference.{answerTo, logOf}
+use Rattle.history_rows.specs.Rows.{isRow}
+use Rattle.history_rows.proofs.Thinned.{Thinned, thinned-same, thinned-answer, thinned-row, thinned-other}
+use Rattle.text_lines.specs.Hex.{maxBytes, nibbleOf, isHexDigit, isHex, hexBytes}
+use Rattle.text_lines.specs.Reading.{Reading, reception, bad, lineReading}
+use Rattle.text_lines.proofs.Whole.{said}
+use Rattle.text_rows.specs.Claims.{areBytes}
+use Rattle.text_rows.proofs.ReadBack.{lines-back}
 use Rattle.archive_model.specs.Row.{Row}
 use Rattle.archive_model.specs.Row as row
 use Rattle.archive_model.specs.Claims.{isFit}
 use Rattle.archive_model.proofs.Blocks.{short}
-use Rattle.collecting.specs.Printed.{receptionAt, pastAfterLine, pastAfterLines}
+use Rattle.text_collect.specs.Printed.{receptionAt, pastAfterLine, pastAfterLines}
 use Rattle.journal_model.specs.Rows.{rowFor, rowsBy, modelRows}
 use Rattle.journal_model.specs.Disk.{rowLine}
 use Rattle.journal_model.specs.Claims.{HandedOver, RowsAlone}

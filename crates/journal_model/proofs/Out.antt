@@ -9,8 +9,8 @@ use lib.Dec.{eqb}
 use lib.ListN.{length, take, drop, length-append, length-take, drop-of-length-le}
 use lib.Seq.{take-add, take-all}
 use borrow.Author.Tests.{eqb-true}
-use Rattle.lists.proofs.Tests.{by-test}
-use Rattle.buffers.proofs.Segments.{take-clamped}
+use Rattle.base_lists.proofs.Tests.{by-test}
+use Rattle.base_buffers.proofs.Segments.{take-clamped}
 use Rattle.journal_model.specs.Out.{Out, OutEvent, Print, Stop, OutLeft, early, late, textOf, nextOf, batchText, printed, cutOut, outRun, IsOutRun, EachOnce, OnceInFile}
 
 no-bytes : (xs : List ℕ) → length xs ≡ 0 → xs ≡ []

@@ -1,8 +1,8 @@
 -- Answers as one number.
 use Prim.Native.Nat.{ℕ, _+_, _*_}
-use Rattle.slots.specs.declared.SlotPlan.{SlotPlan}
-use Rattle.slots.specs.Plan.{Answer}
-use Rattle.site.specs.Site as site
+use Rattle.plan_slots.specs.declared.SlotPlan.{SlotPlan}
+use Rattle.plan_slots.specs.Plan.{Answer}
+use Rattle.plan_site.specs.Site as site
 
 abbrev pub answer : ℕ → SlotPlan → Answer
 answer n p = record { number = n; slots = p }

@@ -1,9 +1,9 @@
 // Subtelegrams: the check, fields read and built, encapsulation and its removal, the repeater step, sameness.
 ghost use mathlib.Core.Path.{_≡_};
-ghost use Rattle.layout.specs.BigEndian.{be};
-ghost use Rattle.erp1.specs.Subtelegram.{checkOf};
-ghost use Rattle.erp1.specs.Same.{isSame};
-ghost use Rattle.telegram.specs.Addressing.{encapsulateOf, decapsulateOf};
+ghost use Rattle.block_layout.specs.BigEndian.{be};
+ghost use Rattle.radio_erp1.specs.Subtelegram.{checkOf};
+ghost use Rattle.radio_erp1.specs.Same.{isSame};
+ghost use Rattle.radio_telegram.specs.Addressing.{encapsulateOf, decapsulateOf};
 ghost use Rattle.c_layout.specs.Lent.{settled};
 ghost use Rattle.c_codec.specs.Calls.{readCall, buildCall, repeatCall};
 
@@ -12,7 +12,7 @@ ghost use Rattle.c_codec.specs.Calls.{readCall, buildCall, repeatCall};
 pub extern "C" fn mooringeye_check(bytes: &[u8]) -> u8
     ensures { λ r. ⌜ r ≡ checkOf (now (bytes .entry)) ⌝ }
 {
-    c_layout::checked_number(erp1::check(bytes))
+    c_layout::checked_number(radio_erp1::check(bytes))
 }
 
 // Whether two subtelegrams are the same telegram.
@@ -20,7 +20,7 @@ pub extern "C" fn mooringeye_check(bytes: &[u8]) -> u8
 pub extern "C" fn mooringeye_same(a: &[u8], b: &[u8]) -> bool
     ensures { λ r. ⌜ r ≡ isSame (now (a .entry)) (now (b .entry)) ⌝ }
 {
-    erp1::same(a, b)
+    radio_erp1::same(a, b)
 }
 
 // Reads a subtelegram into the 26 bytes of its fields.

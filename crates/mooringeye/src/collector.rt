@@ -12,10 +12,10 @@ use c_lines::formats;
 ghost use mathlib.Core.Path.{_≡_};
 ghost use mathlib.Core.Bool.{true};
 ghost use mathlib.Core.List.{[], _∷_};
-ghost use Rattle.model.specs.Image.{checkpointOf};
+ghost use Rattle.collector_model.specs.Image.{checkpointOf};
 ghost use Rattle.c_collector.specs.State.{arrays, stateAt};
 ghost use Rattle.c_collector.specs.Calls.{Takes, TakesTold, Fresh, totalsCall, copiesCall};
-ghost use Rattle.c_image.specs.Calls.{Restores};
+ghost use Rattle.c_checkpoint.specs.Calls.{Restores};
 ghost use Rattle.c_burst.specs.Calls.{Bursts};
 ghost use Rattle.c_lines.specs.Calls.{Lines, firstNumber, firstUsed, ReadLine, Skipped};
 ghost use Rattle.c_lines.specs.Formats.{LinesAs};
@@ -126,7 +126,7 @@ pub extern "C" fn mooringeye_collector_checkpoint<'a>(
         (arrays (now (times .entry)) (now (lengths .entry)) (now (bytes .entry)) (now (copies .entry))
         (now (numbers .entry)))) (now (out .entry)) ⌝ }
 {
-    c_image::checkpoint(times, lengths, bytes, copies, numbers, out)
+    c_checkpoint::checkpoint(times, lengths, bytes, copies, numbers, out)
 }
 
 // The state that an image holds.
@@ -144,7 +144,7 @@ pub extern "C" fn mooringeye_collector_restore(
         (arrays (now (times .exit)) (now (lengths .exit)) (now (bytes .exit)) (now (copies .exit))
         (now (numbers .exit))) ⌝ }
 {
-    c_image::restore(times, lengths, bytes, copies, numbers, image)
+    c_checkpoint::restore(times, lengths, bytes, copies, numbers, image)
 }
 
 // Takes receptions that are handed over in one list, and replies in a second.

@@ -8,15 +8,15 @@ pub mod plans;
 pub mod plant;
 pub mod report;
 
-use refusal::Refusal;
-use site::Verdict;
-use slots::Planned;
-use slots::SlotPlan;
+use base_refusal::Refusal;
+use plan_site::Verdict;
+use plan_slots::Planned;
+use plan_slots::SlotPlan;
 ghost use mathlib.Core.Path.{_≡_};
-ghost use Rattle.crc8.specs.Crc8.{crcOf};
-ghost use Rattle.slots.specs.Plan.{answerOf, planOf};
-ghost use Rattle.timing.specs.Rules.{planBy};
-ghost use Rattle.site.specs.Bytes.{siteIn};
+ghost use Rattle.base_crc8.specs.Crc8.{crcOf};
+ghost use Rattle.plan_slots.specs.Plan.{answerOf, planOf};
+ghost use Rattle.plan_rules.specs.Rules.{planBy};
+ghost use Rattle.plan_site.specs.Bytes.{siteIn};
 ghost use Rattle.mooringeye.specs.Packed.{answer, packed, packedSite, interfaceVersion};
 
 // The version of the library, which is that of the header: major x 65,536 + minor x 256 + patch.
@@ -32,7 +32,7 @@ pub extern "C" fn mooringeye_version() -> u32
 pub extern "C" fn mooringeye_crc8(bytes: &[u8]) -> u8
     ensures { λ r. ⌜ r ≡ crcOf (now (bytes .entry)) ⌝ }
 {
-    crc8::crc8(bytes)
+    base_crc8::crc8(bytes)
 }
 
 // A slot plan under the standard rule: the number of the answer and the first, second and third slot, a byte each from the highest.
@@ -40,7 +40,7 @@ pub extern "C" fn mooringeye_crc8(bytes: &[u8]) -> u8
 pub extern "C" fn mooringeye_plan(level: u8, duration: u32, draw: u64) -> u32
     ensures { λ r. ⌜ r ≡ packed (planOf level duration draw) ⌝ }
 {
-    pack_planned(slots::plan(level, duration, draw))
+    pack_planned(plan_slots::plan(level, duration, draw))
 }
 
 // The same under a named rule, for so many transmissions.
@@ -54,7 +54,7 @@ pub extern "C" fn mooringeye_plan_by(
 ) -> u32
     ensures { λ r. ⌜ r ≡ packed (planBy rule level transmissions duration draw) ⌝ }
 {
-    pack_planned(timing::plan_by(rule, level, transmissions, duration, draw))
+    pack_planned(plan_rules::plan_by(rule, level, transmissions, duration, draw))
 }
 
 // The check of a site, nine bytes for each repeater: number x 65,536 + repeater x 256 + other.
@@ -62,14 +62,14 @@ pub extern "C" fn mooringeye_plan_by(
 pub extern "C" fn mooringeye_site(repeaters: &[u8]) -> u32
     ensures { λ r. ⌜ r ≡ packedSite (siteIn (now (repeaters .entry))) ⌝ }
 {
-    match site::check_bytes(repeaters) {
+    match plan_site::check_bytes(repeaters) {
         Verdict::Accepted => 0,
-        Verdict::OutOfRange => refusal::number(Refusal::Argument) as u32 * 65_536,
+        Verdict::OutOfRange => base_refusal::number(Refusal::Argument) as u32 * 65_536,
         Verdict::Unlawful(i) => {
-            refusal::number(Refusal::Unlawful) as u32 * 65_536 + i as u32 * 256
+            base_refusal::number(Refusal::Unlawful) as u32 * 65_536 + i as u32 * 256
         }
         Verdict::Overlap(i, j) => {
-            refusal::number(Refusal::Overlap) as u32 * 65_536 + i as u32 * 256 + j as u32
+            base_refusal::number(Refusal::Overlap) as u32 * 65_536 + i as u32 * 256 + j as u32
         }
     }
 }
@@ -85,7 +85,7 @@ fn pack_planned(planned: Planned) -> u32
                 second: 0,
                 third: 0,
             };
-            pack(refusal::number(e), none)
+            pack(base_refusal::number(e), none)
         }
     }
 }

@@ -1,7 +1,7 @@
 // Slot plans: whether one is lawful under a named rule. Plans are drawn, and a site is checked, by the functions beside the modules.
-use slots::SlotPlan;
+use plan_slots::SlotPlan;
 ghost use mathlib.Core.Path.{_≡_};
-ghost use Rattle.timing.specs.Rules.{isLawfulBy};
+ghost use Rattle.plan_rules.specs.Rules.{isLawfulBy};
 
 // Whether a plan is lawful under a rule that has so many transmissions at this level: two where the third slot reads 255, else three.
 #[no_mangle]
@@ -15,7 +15,7 @@ pub extern "C" fn mooringeye_is_lawful(
 ) -> bool
     ensures { λ r. ⌜ r ≡ isLawfulBy rule level duration (record { first = first; second = second; third = third }) ⌝ }
 {
-    timing::is_lawful_by(
+    plan_rules::is_lawful_by(
         rule,
         level,
         duration,

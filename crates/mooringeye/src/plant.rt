@@ -1,39 +1,39 @@
 // The journal of the plant's tool: its state file, and what a start and a batch decide.
-use image::IMAGE_LENGTH;
-use layout::BLOCK_LENGTH;
+use block_layout::BLOCK_LENGTH;
+use collector_checkpoint::IMAGE_LENGTH;
 ghost use mathlib.Core.Path.{_≡_};
-ghost use Rattle.journal.specs.Block.{judgementOf, judgementNumber};
-ghost use Rattle.journal.specs.Rows.{compareCall};
-ghost use Rattle.journal.specs.Run.{scanCall};
-ghost use Rattle.state_file.specs.State.{kept};
-ghost use Rattle.state_file.specs.Calls.{writeOf, acceptOf};
+ghost use Rattle.journal_calls.specs.Block.{judgementOf, judgementNumber};
+ghost use Rattle.journal_calls.specs.Rows.{compareCall};
+ghost use Rattle.journal_calls.specs.Run.{scanCall};
+ghost use Rattle.journal_state.specs.State.{kept};
+ghost use Rattle.journal_state.specs.Calls.{writeOf, acceptOf};
 
 // Writes a state.
 #[no_mangle]
 pub extern "C" fn mooringeye_state_write(
-    numbers: &[u64; state_file::NUMBERS],
-    name: &[u8; state_file::NAME_LENGTH],
+    numbers: &[u64; journal_state::NUMBERS],
+    name: &[u8; journal_state::NAME_LENGTH],
     last: &[u8; BLOCK_LENGTH],
     image: &[u8; IMAGE_LENGTH],
-    tail: &[u8; state_file::TAIL_LENGTH],
-    out: &mut [u8; state_file::LENGTH],
+    tail: &[u8; journal_state::TAIL_LENGTH],
+    out: &mut [u8; journal_state::LENGTH],
 ) -> u8
     ensures { λ r. ⌜ record { number = r; output = now (out .exit) }
         ≡ writeOf (kept (now (numbers .entry)) (now (name .entry)) (now (last .entry)) (now (image .entry))
         (now (tail .entry))) (now (out .entry)) ⌝ }
 {
-    state_file::write(numbers, name, last, image, tail, out)
+    journal_state::write(numbers, name, last, image, tail, out)
 }
 
 // The state of a file.
 #[no_mangle]
 pub extern "C" fn mooringeye_state_accept(
     bytes: &[u8],
-    numbers: &mut [u64; state_file::NUMBERS],
-    name: &mut [u8; state_file::NAME_LENGTH],
+    numbers: &mut [u64; journal_state::NUMBERS],
+    name: &mut [u8; journal_state::NAME_LENGTH],
     last: &mut [u8; BLOCK_LENGTH],
     image: &mut [u8; IMAGE_LENGTH],
-    tail: &mut [u8; state_file::TAIL_LENGTH],
+    tail: &mut [u8; journal_state::TAIL_LENGTH],
 ) -> u8
     ensures { λ r. ⌜ record {
       number = r;
@@ -42,7 +42,7 @@ pub extern "C" fn mooringeye_state_accept(
         ≡ acceptOf (kept (now (numbers .entry)) (now (name .entry)) (now (last .entry)) (now (image .entry))
         (now (tail .entry))) (now (bytes .entry)) ⌝ }
 {
-    state_file::accept(bytes, numbers, name, last, image, tail)
+    journal_state::accept(bytes, numbers, name, last, image, tail)
 }
 
 // What stands in the block with the last row that a state counts.
@@ -50,7 +50,7 @@ pub extern "C" fn mooringeye_state_accept(
 pub extern "C" fn mooringeye_journal_judge(last: &[u8], rows: usize, block: &[u8]) -> u8
     ensures { λ r. ⌜ r ≡ judgementNumber (judgementOf (now (last .entry)) rows (now (block .entry))) ⌝ }
 {
-    journal::block::number(journal::block::judge(last, rows, block))
+    journal_calls::block::number(journal_calls::block::judge(last, rows, block))
 }
 
 // How far rows agree with leftovers, and how many of those are put aside.
@@ -67,17 +67,17 @@ pub extern "C" fn mooringeye_journal_compare(
         ≡ compareCall (now (times .entry)) (now (rows .entry)) (now (moments .entry)) (now (left .entry))
         (now (agreed .entry)) (now (going .entry)) ⌝ }
 {
-    journal::rows::compare(times, rows, moments, left, agreed, going)
+    journal_calls::rows::compare(times, rows, moments, left, agreed, going)
 }
 
 // How far the blocks of a piece read as an archive.
 #[no_mangle]
 pub extern "C" fn mooringeye_journal_scan(
-    numbers: &mut [u64; journal::scan::NUMBERS],
+    numbers: &mut [u64; journal_calls::scan::NUMBERS],
     piece: &[u8],
 ) -> u8
     ensures { λ r. ⌜ record { number = r; numbers = now (numbers .exit) }
         ≡ scanCall (now (numbers .entry)) (now (piece .entry)) ⌝ }
 {
-    journal::scan::feed(numbers, piece)
+    journal_calls::scan::feed(numbers, piece)
 }

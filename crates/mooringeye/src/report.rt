@@ -4,8 +4,8 @@ use c_report::LINE_NUMBERS;
 use c_report::LINES;
 use c_report::NUMBERS;
 ghost use mathlib.Core.Path.{_≡_};
-ghost use Rattle.report_model.specs.Report as model;
-ghost use Rattle.report_model.specs.Pieces as pieces;
+ghost use Rattle.archive_report_model.specs.Report as model;
+ghost use Rattle.archive_report_model.specs.Pieces as pieces;
 ghost use Rattle.c_report.specs.Calls.{reportAt, reportNumbers, emptyLines, linesWith, Adds, lineCall, shareCall};
 ghost use Rattle.c_pieces.specs.Adding.{addingAt, tallyNumbers, Feeds};
 

@@ -1,5 +1,5 @@
 // Salvage and removal for Rust, on plain numbers and bytes, for the benchmark.
-use repack::Removed;
+use archive_repack::Removed;
 
 // How many rows remain.
 #[no_mangle]
@@ -8,14 +8,14 @@ pub extern "C" fn repack_bench_salvage(
     out: &mut [u8],
     positions: &mut [u64],
 ) -> u64 {
-    let done = repack::salvage(buffer, out, positions);
+    let done = archive_repack::salvage(buffer, out, positions);
     done.rows as u64
 }
 
 // How many blocks are freed; 2^64 - 1 beside a refusal.
 #[no_mangle]
 pub extern "C" fn repack_bench_remove(buffer: &mut [u8], identities: &[u32]) -> u64 {
-    let answer = repack::remove(buffer, identities);
+    let answer = archive_repack::remove(buffer, identities);
     match answer {
         Removed::Done(freed) => freed as u64,
         Removed::Damaged(_) => 18_446_744_073_709_551_615,

@@ -1,8 +1,8 @@
 // Reports for C and Rust, on plain numbers and bytes: for the benchmark.
-use archive::Outcome;
-use report::Added;
-use report::Adding;
-use report::Report;
+use archive_file::Outcome;
+use archive_report::Added;
+use archive_report::Adding;
+use archive_report::Report;
 
 // An archive added to an empty report: the number of the answer in the highest byte, then the lines in two bytes, and the rows below.
 #[no_mangle]
@@ -27,7 +27,7 @@ fn packed_of(r: Added) -> u64 {
     match answer {
         Outcome::Done => packed(0, next.count, next.kept, next.loose),
         Outcome::Damaged(_) => packed(12, 0, 0, 0),
-        Outcome::Refused(why) => packed(refusal::number(why), 0, 0, 0),
+        Outcome::Refused(why) => packed(base_refusal::number(why), 0, 0, 0),
     }
 }
 

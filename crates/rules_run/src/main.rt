@@ -1,7 +1,7 @@
 // Prints how many plans are lawful under each timing rule, at each level and many durations, and what some draws pick: stdout is what a
 // second program lists by plain enumeration.
-use slots::Planned;
-use slots::SlotPlan;
+use plan_slots::Planned;
+use plan_slots::SlotPlan;
 use test_io::field;
 use test_io::last_field;
 use test_io::one_if;
@@ -63,16 +63,16 @@ const DRAWS: [u64; 9] = [
 ];
 
 fn main() {
-    durations(timing::STANDARD, 0, 3);
-    durations(timing::STANDARD, 1, 2);
-    durations(timing::STANDARD, 2, 2);
-    durations(timing::COMPRESSED, 0, 3);
-    durations(timing::COMPRESSED, 1, 3);
-    durations(timing::COMPRESSED, 2, 2);
-    durations(timing::PAUSED, 0, 2);
-    durations(timing::PAUSED, 0, 3);
-    durations(timing::PAUSED, 1, 2);
-    durations(timing::PAUSED, 2, 2);
+    durations(plan_rules::STANDARD, 0, 3);
+    durations(plan_rules::STANDARD, 1, 2);
+    durations(plan_rules::STANDARD, 2, 2);
+    durations(plan_rules::COMPRESSED, 0, 3);
+    durations(plan_rules::COMPRESSED, 1, 3);
+    durations(plan_rules::COMPRESSED, 2, 2);
+    durations(plan_rules::PAUSED, 0, 2);
+    durations(plan_rules::PAUSED, 0, 3);
+    durations(plan_rules::PAUSED, 1, 2);
+    durations(plan_rules::PAUSED, 2, 2);
     refused();
 }
 
@@ -126,7 +126,7 @@ fn count(rule: u8, level: u8, number: u8, duration: u32) -> u64 {
     let tried = candidates(number);
     let mut n: u64 = 0;
     for i in 0..tried {
-        n += one_if(timing::is_lawful_by(rule, level, duration, candidate(number, i)));
+        n += one_if(plan_rules::is_lawful_by(rule, level, duration, candidate(number, i)));
     }
     n
 }
@@ -144,7 +144,7 @@ fn candidate(number: u8, i: u32) -> SlotPlan {
         return SlotPlan {
             first: (i / 40 % 40) as u8,
             second: (i % 40) as u8,
-            third: slots::NO_SLOT,
+            third: plan_slots::NO_SLOT,
         };
     }
     SlotPlan {
@@ -158,7 +158,7 @@ fn candidate(number: u8, i: u32) -> SlotPlan {
 fn drawn(rule: u8, level: u8, number: u8, duration: u32, draw: u64) {
     asked(rule, level, number, duration);
     field(draw);
-    match timing::plan_by(rule, level, number, duration, draw) {
+    match plan_rules::plan_by(rule, level, number, duration, draw) {
         Planned::Slots(p) => answer(0, p),
         Planned::Refused(e) => {
             let none = SlotPlan {
@@ -166,7 +166,7 @@ fn drawn(rule: u8, level: u8, number: u8, duration: u32, draw: u64) {
                 second: 0,
                 third: 0,
             };
-            answer(refusal::number(e), none)
+            answer(base_refusal::number(e), none)
         }
     }
 }

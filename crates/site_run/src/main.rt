@@ -1,6 +1,6 @@
 // Runs the check of a site on the long records of standard input, and prints a line for each: stdout is what the second program says
 // (tests/reference/README.md has the format).
-use site::Verdict;
+use plan_site::Verdict;
 use test_io::LONG;
 use test_io::field;
 use test_io::last_field;
@@ -33,8 +33,8 @@ fn record() -> bool {
 // The first 32 repeaters of the record, whatever its count is.
 fn answer(r: &[u8; LONG]) {
     let whole = &r[..];
-    let repeaters = site::decode(&whole[8..296]);
-    show(site::check(repeaters, whole[0] as usize));
+    let repeaters = plan_site::decode(&whole[8..296]);
+    show(plan_site::check(repeaters, whole[0] as usize));
 }
 
 fn show(verdict: Verdict) {

@@ -1,8 +1,8 @@
 // Prints how many plans are lawful at each level and many durations, and what some draws pick: stdout is what a second program lists
 // by plain enumeration.
-use slots::Planned;
-use slots::Rule;
-use slots::SlotPlan;
+use plan_slots::Planned;
+use plan_slots::Rule;
+use plan_slots::SlotPlan;
 use test_io::field;
 use test_io::last_field;
 use test_io::one_if;
@@ -64,15 +64,15 @@ fn count(level: u8, duration: u32) -> u64 {
     if 2 < level {
         return 0;
     }
-    let ranges = slots::RANGES[level as usize];
+    let ranges = plan_slots::RANGES[level as usize];
     let rule = Rule {
         ranges: ranges,
         pause: 0,
-        end: slots::LAST_END,
+        end: plan_slots::LAST_END,
     };
     let mut n: u64 = 0;
     for i in 0..65_600 {
-        n += one_if(slots::is_lawful(rule, duration, candidate(i)));
+        n += one_if(plan_slots::is_lawful(rule, duration, candidate(i)));
     }
     n
 }
@@ -92,7 +92,7 @@ fn drawn(level: u8, duration: u32, draw: u64) {
     field(level as u64);
     field(duration as u64);
     field(draw);
-    match slots::plan(level, duration, draw) {
+    match plan_slots::plan(level, duration, draw) {
         Planned::Slots(p) => answer(0, p),
         Planned::Refused(e) => {
             let none = SlotPlan {
@@ -100,7 +100,7 @@ fn drawn(level: u8, duration: u32, draw: u64) {
                 second: 0,
                 third: 0,
             };
-            answer(refusal::number(e), none)
+            answer(base_refusal::number(e), none)
         }
     }
 }

@@ -1,8 +1,8 @@
 // Receptions taken one after the other, for the benchmark.
-use collector::Collector;
-use collector::acceptable;
-use collector::merging;
-use model::Answer;
+use collector_model::Answer;
+use collector_state::Collector;
+use collector_state::acceptable;
+use collector_state::merging;
 ghost use mathlib.Core.Path.{_≡_};
 ghost use Prim.Native.Nat.{_*_, _≤_};
 ghost use lib.ListN.{length};
@@ -50,7 +50,7 @@ pub extern "C" fn bench_admit(cells: &[u8]) -> u64 {
     for i in 0..cells.len() / CELL {
         let cell = &cells[CELL * i..CELL * i + CELL];
         let bytes = received(cell);
-        let time = layout::cell_time(cell);
+        let time = block_layout::cell_time(cell);
         let done = merging::admit(
             true,
             &mut times,
@@ -95,10 +95,10 @@ fn fewer(count: usize, less: u64) -> usize {
     count - 1
 }
 
-fn take_cell(c: Collector, cell: &[u8]) -> collector::Taken
+fn take_cell(c: Collector, cell: &[u8]) -> collector_state::Taken
     requires { ⌜ length (now cell) ≡ 32 ⌝ }
 {
-    let time = layout::cell_time(cell);
+    let time = block_layout::cell_time(cell);
     c.take(received(cell), time)
 }
 

@@ -1,76 +1,76 @@
 -- The further statements that are proved: steps between those of Theorems.antt, and what they leave open. The words are explained there.
 use Prim.Native.Nat.{ℕ}
 use mathlib.Core.List.{List}
-use Rattle.refusal.specs.Claims as refusal
-use Rattle.crc8.specs.Division as crc8
-use Rattle.erp1.specs.Claims as erp1
-use Rattle.telegram.specs.Claims as telegram
-use Rattle.erp2_model.specs.Claims as erp2_model
-use Rattle.slots.specs.Claims as slots
-use Rattle.timing.specs.Claims as timing
-use Rattle.site.specs.declared.Assignment.{Assignment}
-use Rattle.site.specs.Claims as site
-use Rattle.model.specs.View.{View}
-use Rattle.model.specs.Latest as model_latest
-use Rattle.model.specs.Several as model_several
-use Rattle.model.specs.Copies as model_copies
-use Rattle.model.specs.Division as model_division
-use Rattle.model.specs.Isolation as model_isolation
-use Rattle.model.specs.States as model_states
-use Rattle.collector.specs.Admission as collector
+use Rattle.base_refusal.specs.Claims as base_refusal
+use Rattle.base_crc8.specs.Division as base_crc8
+use Rattle.radio_erp1.specs.Claims as radio_erp1
+use Rattle.radio_telegram.specs.Claims as radio_telegram
+use Rattle.radio_erp2_model.specs.Claims as radio_erp2_model
+use Rattle.plan_slots.specs.Claims as plan_slots
+use Rattle.plan_rules.specs.Claims as plan_rules
+use Rattle.plan_site.specs.declared.Assignment.{Assignment}
+use Rattle.plan_site.specs.Claims as plan_site
+use Rattle.collector_model.specs.View.{View}
+use Rattle.collector_model.specs.Latest as collector_model_latest
+use Rattle.collector_model.specs.Several as collector_model_several
+use Rattle.collector_model.specs.Copies as collector_model_copies
+use Rattle.collector_model.specs.Division as collector_model_division
+use Rattle.collector_model.specs.Isolation as collector_model_isolation
+use Rattle.collector_model.specs.States as collector_model_states
+use Rattle.collector_state.specs.Admission as collector_state
 use Rattle.c_collector.specs.Calls as c_collector
-use Rattle.histories.specs.Answers as histories_answers
-use Rattle.histories.specs.Claims as histories
-use Rattle.replay_model.specs.Claims as replay_model
-use Rattle.line_input.specs.Claims as line_input
-use Rattle.line_output.specs.Claims as line_output
-use Rattle.streams.specs.Lines.{Program}
-use Rattle.streams.specs.Collect.{Collector}
-use Rattle.streams.specs.Claims as streams
-use Rattle.collecting.specs.Claims as collecting
-use Rattle.collecting.specs.PrintedIn as collecting_formats
-use Rattle.archived.specs.Claims as archived
-use Rattle.archived.specs.Closed as archived_closed
-use Rattle.whole_log.specs.Claims as whole_log
-use Rattle.archive_model.specs.Claims as archive_model
-use Rattle.archive_model.specs.Identity as archive_identity
-use Rattle.repack_model.specs.Claims as repack_model
-use Rattle.cutting.specs.Claims as cutting
-use Rattle.filling.specs.Claims as filling
+use Rattle.history_calls.specs.Answers as history_calls_answers
+use Rattle.history_calls.specs.Claims as history_calls
+use Rattle.history_replay_model.specs.Claims as history_replay_model
+use Rattle.text_lines.specs.Claims as text_lines
+use Rattle.text_rows.specs.Claims as text_rows
+use Rattle.text_program.specs.Lines.{Program}
+use Rattle.text_program.specs.Collect.{Collector}
+use Rattle.text_program.specs.Claims as text_program
+use Rattle.text_collect.specs.Claims as text_collect
+use Rattle.text_collect.specs.PrintedIn as text_collect_formats
+use Rattle.history_archived.specs.Claims as history_archived
+use Rattle.history_archived.specs.Closed as history_archived_closed
+use Rattle.history_log.specs.Claims as history_log
+use Rattle.archive_model.specs.Claims as archive_file_model
+use Rattle.archive_model.specs.Identity as archive_file_identity
+use Rattle.archive_repack_model.specs.Claims as archive_repack_model
+use Rattle.archive_cut.specs.Claims as archive_cut
+use Rattle.archive_fill.specs.Claims as archive_fill
 use Rattle.c_codec.specs.Claims as c_codec
 use Rattle.c_erp2.specs.Claims as c_erp2
 use Rattle.c_archive.specs.Claims as c_archive
 use Rattle.c_pieces.specs.Claims as c_pieces
-use Rattle.report_model.specs.Claims as report_model
-use Rattle.rows_model.specs.Rows as rows_alone
-use Rattle.rows_model.specs.States as rows_states
-use Rattle.rows_model.specs.Again as rows_again
-use Rattle.rows_model.specs.Recovered as rows_recovered
-use Rattle.rows_model.specs.Closings as rows_closings
-use Rattle.rows_model.specs.Example as rows_example
-use Rattle.journal_model.specs.Claims as journal_model
-use Rattle.journal.specs.Claims as journal_calls
-use Rattle.state_file.specs.Claims as state_file
+use Rattle.archive_report_model.specs.Claims as archive_report_model
+use Rattle.history_rows.specs.Rows as rows_alone
+use Rattle.history_rows.specs.States as rows_states
+use Rattle.history_rows.specs.Again as rows_again
+use Rattle.history_rows.specs.Recovered as rows_recovered
+use Rattle.history_rows.specs.Closings as rows_closings
+use Rattle.history_rows.specs.Example as rows_example
+use Rattle.journal_model.specs.Claims as journal_calls_model
+use Rattle.journal_calls.specs.Claims as journal_calls_calls
+use Rattle.journal_state.specs.Claims as journal_state
 
 -- ---- telegrams
 
 pub record Telegrams : Type 0 where
   -- No refusal has the number 0, which means that the call was done.
-  pub zero-means-done : refusal.NoneIsDone
+  pub zero-means-done : base_refusal.NoneIsDone
   -- The check value (CRC) of each byte is the remainder of a polynomial division.
-  pub crc-is-remainder : crc8.LongDivision
+  pub crc-is-remainder : base_crc8.LongDivision
   -- The status byte consists of its three parts: joined, they give the byte.
-  pub status-has-three-parts : erp1.JoinSplit
+  pub status-has-three-parts : radio_erp1.JoinSplit
   -- If a receiver's address is added to a telegram and removed again, the bytes are the same.
-  pub address-is-removed : telegram.DecapsulateEncapsulated
+  pub address-is-removed : radio_telegram.DecapsulateEncapsulated
   -- If a receiver's address is removed from a telegram and added again, the bytes are the same.
-  pub address-is-added : telegram.EncapsulateDecapsulated
+  pub address-is-added : radio_telegram.EncapsulateDecapsulated
   -- The function `repeat` returns what the formula for repeaters gives, for every repeater setting and all bytes.
-  pub repeat-follows-formula : telegram.CallSends
+  pub repeat-follows-formula : radio_telegram.CallSends
   -- What is read from ERP2 bytes has zeros wherever the bytes carry nothing.
-  pub erp2-rest-is-zero : erp2_model.NormalRead
+  pub erp2-rest-is-zero : radio_erp2_model.NormalRead
   -- The sizes of ERP2 fields are those in the tables of document 004.
-  pub erp2-tables-hold : erp2_model.Figures
+  pub erp2-tables-hold : radio_erp2_model.Figures
   -- The fields that another language gets for a telegram say that telegram again.
   pub fields-for-c-come-back : c_codec.SaidAgain
   -- So do the fields that it gets for an ERP2 telegram.
@@ -80,141 +80,141 @@ pub record Telegrams : Type 0 where
 
 pub record SlotPlans : Type 0 where
   -- Each draw picks a lawful plan, or is answered 9, and then no plan is lawful.
-  pub draws-are-lawful : slots.DrawnChosen
+  pub draws-are-lawful : plan_slots.DrawnChosen
   -- Each lawful plan is picked by some draw.
-  pub lawful-plans-are-drawn : slots.LawfulDrawn
+  pub lawful-plans-are-drawn : plan_slots.LawfulDrawn
   -- A request under the standard rule gets a lawful plan, 9 if no plan is lawful, or 10 if an argument is out of range.
-  pub requests-are-answered : slots.PlanChosen
+  pub requests-are-answered : plan_slots.PlanChosen
   -- Under each of the three timing rules, the plan that a request gets is lawful.
-  pub requested-plans-are-lawful : timing.PlanByLawful
+  pub requested-plans-are-lawful : plan_rules.PlanByLawful
   -- It has as many transmissions as were requested.
-  pub plans-have-requested-size : timing.PlanByAsked
+  pub plans-have-requested-size : plan_rules.PlanByAsked
   -- Each lawful plan is the answer to some request.
-  pub lawful-plans-are-requested : timing.LawfulPicked
+  pub lawful-plans-are-requested : plan_rules.LawfulPicked
   -- A request that names no rule is a request under the standard rule, with its largest number of transmissions.
-  pub standard-is-default : timing.StandardSame
+  pub standard-is-default : plan_rules.StandardSame
   -- Under the compressed rule no plan is lawful at level 2, and the answer is 9.
-  pub compressed-has-no-level-2 : timing.CompressedLevel2
+  pub compressed-has-no-level-2 : plan_rules.CompressedLevel2
   -- If the plans of several repeaters are not accepted, the answer names the first unlawful plan, or else the first two plans that overlap.
-  pub first-is-named : (count : ℕ) (repeaters : List Assignment) → site.NamesTheFirst count repeaters
+  pub first-is-named : (count : ℕ) (repeaters : List Assignment) → plan_site.NamesTheFirst count repeaters
   -- One repeater with a plan that was drawn is accepted.
-  pub drawn-plans-are-accepted : site.DrawnAccepted
+  pub drawn-plans-are-accepted : plan_site.DrawnAccepted
 
 -- ---- the collector: the model
 
 pub record Model : Type 0 where
   -- A copy is counted for the latest open telegram that is the same, and for no other.
-  pub latest-is-credited : model_latest.LatestCredited
+  pub latest-is-credited : collector_model_latest.LatestCredited
   -- A restore accepts several entries of one telegram just where each was opened more than 40 ms after the one before and has level 0.
-  pub several-entries-are-apart : model_several.SeveralEntries
+  pub several-entries-are-apart : collector_model_several.SeveralEntries
   -- Each copy is counted for one telegram: the numbers of copies sum to the total of copies.
-  pub copies-count-once : model_copies.EachCountedOnce
+  pub copies-count-once : collector_model_copies.EachCountedOnce
   -- Asked for the copies of an open telegram, the model answers how many copies of it were received, and at most 65,535.
-  pub asked-copies-are-answers : model_copies.HeardIsAnswers
+  pub asked-copies-are-answers : collector_model_copies.HeardIsAnswers
   -- Below that limit no number of copies is cut off.
-  pub below-limit-is-exact : model_copies.BelowCeiling
+  pub below-limit-is-exact : collector_model_copies.BelowCeiling
   -- Whether a state is accepted does not depend on its numbers of copies.
-  pub any-number-is-accepted : model_copies.AnyNumber
+  pub any-number-is-accepted : collector_model_copies.AnyNumber
   -- In the model, the same receptions get the same answers, one by one or in groups of any size.
-  pub model-groups-change-nothing : model_division.AnyDivision
+  pub model-groups-change-nothing : collector_model_division.AnyDivision
   -- In the model, other sensors do not change a sensor's answers, as long as none is loose and time does not go back.
-  pub model-sensors-are-independent : model_isolation.AnswersIsolated
+  pub model-sensors-are-independent : collector_model_isolation.AnswersIsolated
   -- Nor do they change its open telegrams and their numbers of copies, directly after one of its receptions.
-  pub model-copies-are-independent : model_isolation.EntriesIsolated
+  pub model-copies-are-independent : collector_model_isolation.EntriesIsolated
 
 -- ---- the collector: any program whose calls meet the contracts, and the code
 
 pub record Code : Type 1 where
   -- All that such a program answers equals the model's answers, and those of a run without restarts.
-  pub contracts-give-histories : {State : Type 0} (view : State → View) → model_states.StatesAgree view
+  pub contracts-give-histories : {State : Type 0} (view : State → View) → collector_model_states.StatesAgree view
   -- It gives the same answers to the same receptions, one by one or in groups of any size.
-  pub contracts-give-divisions : {State : Type 0} (view : State → View) → model_states.StatesDivide view
+  pub contracts-give-divisions : {State : Type 0} (view : State → View) → collector_model_states.StatesDivide view
   -- Its state after the calls is the model's.
-  pub contracts-give-state : {State : Type 0} (view : State → View) → model_states.StatesLeft view
+  pub contracts-give-state : {State : Type 0} (view : State → View) → collector_model_states.StatesLeft view
   -- Its answers to one sensor do not depend on other sensors, as long as none is loose and time does not go back.
-  pub contracts-give-independence : {State : Type 0} (view : State → View) → model_isolation.StatesIsolated view
+  pub contracts-give-independence : {State : Type 0} (view : State → View) → collector_model_isolation.StatesIsolated view
   -- The number that `take` returns tells which answer it is.
-  pub numbers-tell-answers : histories_answers.AnswersBack
+  pub numbers-tell-answers : history_calls_answers.AnswersBack
   -- The 24 bytes that a burst, a call with several receptions, writes for a reception tell its answer and what to send.
-  pub bytes-tell-replies : histories_answers.RepliesBack
+  pub bytes-tell-replies : history_calls_answers.RepliesBack
   -- After any calls of the library, the collector's state is the model's.
-  pub code-state-follows-model : histories.ArraysLeft
+  pub code-state-follows-model : history_calls.ArraysLeft
   -- After any calls, each element of the collector's arrays is known, also those behind the open telegrams, and also beside a refusal.
-  pub every-element-is-known : histories.ArraysElements
+  pub every-element-is-known : history_calls.ArraysElements
   -- There is a second set of calls, which take the state and return the next one. It follows the model too,
-  pub value-calls-follow-model : histories.ValuesAgree
+  pub value-calls-follow-model : history_calls.ValuesAgree
   -- gives the same answers to the same receptions, one by one or in groups,
-  pub value-groups-change-nothing : histories.ValuesDivide
+  pub value-groups-change-nothing : history_calls.ValuesDivide
   -- leaves the model's state,
-  pub value-state-follows-model : histories.ValuesLeft
+  pub value-state-follows-model : history_calls.ValuesLeft
   -- answers one sensor without regard to others,
-  pub value-sensors-are-independent : histories.ValuesIsolated
+  pub value-sensors-are-independent : history_calls.ValuesIsolated
   -- and leaves each element of the arrays as the library's calls do.
-  pub value-elements-are-known : histories.ValuesElements
+  pub value-elements-are-known : history_calls.ValuesElements
   -- A run of receptions may test its first state only: the test gives the same result for every later state.
-  pub one-test-is-enough : collector.ToldRightly
+  pub one-test-is-enough : collector_state.ToldRightly
   -- The library's call that is told the result of the test is the call that tests, if the result is right; after a refusal no open telegram is changed.
   pub told-call-takes : c_collector.ToldTakes
   -- After each reception, the telegram that the code sends on is the one that the model says.
-  pub sent-follows-model : collector.RelayedSent
+  pub sent-follows-model : collector_state.RelayedSent
 
 -- ---- the record that a test run of calls writes
 
 pub record Records : Type 0 where
   -- Two runs with the same record showed the same.
-  pub records-tell-all : replay_model.ReadsBack
+  pub records-tell-all : history_replay_model.ReadsBack
   -- No number of the model is too large for its place in the record.
-  pub records-hold-model : replay_model.ReferenceWhole
+  pub records-hold-model : history_replay_model.ReferenceWhole
   -- The length of a record depends on the calls alone.
-  pub record-length-is-known : replay_model.Sized
+  pub record-length-is-known : history_replay_model.Sized
   -- If calls are made in two parts, the second record continues the first.
-  pub records-join : replay_model.InParts
+  pub records-join : history_replay_model.InParts
 
 -- ---- the program `collect`
 
 pub record Lines : Type 1 where
   -- A line of 150 characters or more is a bad line.
-  pub long-lines-are-bad : line_input.LongLines
+  pub long-lines-are-bad : text_lines.LongLines
   -- The first 150 characters of a line decide what it says.
-  pub fronts-decide : line_input.FrontsTell
+  pub fronts-decide : text_lines.FrontsTell
   -- A number that is printed reads back as that number.
-  pub numbers-come-back : line_output.NumbersBack
+  pub numbers-come-back : text_rows.NumbersBack
   -- A time that is read is printed as it was written.
-  pub times-come-back : line_output.TimesBack
+  pub times-come-back : text_rows.TimesBack
   -- Bytes that are printed read back as those bytes.
-  pub bytes-come-back : line_output.BytesBack
+  pub bytes-come-back : text_rows.BytesBack
   -- A line that is printed with a time and bytes reads back as these.
-  pub lines-come-back : line_output.LinesBack
+  pub lines-come-back : text_rows.LinesBack
   -- A program over lines gives the same output however its input is cut, if the front of each line decides what the line says.
-  pub cuts-change-nothing : {S : Type 0} (p : Program S) (limit : ℕ) → streams.InPieces p limit
+  pub cuts-change-nothing : {S : Type 0} (p : Program S) (limit : ℕ) → text_program.InPieces p limit
   -- `collect` is such a program.
-  pub collect-cuts-change-nothing : {C : Type 0} (m : Collector C) → streams.CollectedInPieces m
+  pub collect-cuts-change-nothing : {C : Type 0} (m : Collector C) → text_program.CollectedInPieces m
   -- After a wrong first line `collect` writes nothing more.
-  pub wrong-start-is-silent : {C : Type 0} (m : Collector C) → streams.StaysEnded m
+  pub wrong-start-is-silent : {C : Type 0} (m : Collector C) → text_program.StaysEnded m
   -- The text that is defined as the output of `collect` has the model's answers and totals, however the input is cut into pieces.
-  pub text-follows-model : collecting.CollectPrints
+  pub text-follows-model : text_collect.CollectPrints
   -- As CSV and as JSON too, the rows and totals are the model's, however the input is cut.
-  pub formats-follow-model : collecting_formats.FormatsPrint
+  pub formats-follow-model : text_collect_formats.FormatsPrint
   -- A run in any format that goes on from any state gives the same, however the input is cut.
-  pub format-cuts-change-nothing : collecting_formats.FormatsInPieces
+  pub format-cuts-change-nothing : text_collect_formats.FormatsInPieces
   -- In the format text it is what `collect` prints.
-  pub text-is-printed : collecting_formats.TextAsPrinted
+  pub text-is-printed : text_collect_formats.TextAsPrinted
   -- The rows for an archive and the count of lines are the same however the input is cut.
-  pub row-cuts-change-nothing : collecting.RowsInPieces
+  pub row-cuts-change-nothing : text_collect.RowsInPieces
   -- Lines that come after other lines give the model's rows too.
-  pub later-rows-follow-model : archived.LinesArchived
+  pub later-rows-follow-model : history_archived.LinesArchived
   -- For each time of a row there is a record of 23 bytes.
-  pub records-are-sized : archived.RecordsSized
+  pub records-are-sized : history_archived.RecordsSized
   -- An archive can hold each of these rows, and the check refuses none of them.
-  pub rows-are-storable : archived.ArchivedStorable
+  pub rows-are-storable : history_archived.ArchivedStorable
   -- What the lines of a log give as closings is what the log closes, 32 bytes for each telegram.
-  pub log-closings-follow-model : archived_closed.LogClosed
+  pub log-closings-follow-model : history_archived_closed.LogClosed
   -- Further lines too, from any state on.
-  pub later-closings-follow-model : archived_closed.LinesClosed
+  pub later-closings-follow-model : history_archived_closed.LinesClosed
   -- What lines close, and what is open behind them, are the kept receptions, in order, each once and with its copies.
-  pub lines-close-once : archived_closed.LinesCloseOnce
+  pub lines-close-once : history_archived_closed.LinesCloseOnce
   -- A log kept in any archive is read back: the rows that were there, and then the model's, in order.
-  pub kept-log-reads-back : whole_log.KeptReadBack
+  pub kept-log-reads-back : history_log.KeptReadBack
 
 -- ---- the rows of a history, and the telegrams that close in it
 
@@ -250,107 +250,107 @@ pub record Rows : Type 1 where
 
 pub record Journal : Type 0 where
   -- A run can begin with an empty archive.
-  pub begins-with-nothing : journal_model.FromNothing
+  pub begins-with-nothing : journal_calls_model.FromNothing
   -- A first line that says a level gives no row.
-  pub first-line-gives-no-row : journal_model.FirstLines
+  pub first-line-gives-no-row : journal_calls_model.FirstLines
   -- After a crash, a start brings the archive to what the model says for the state that is on disk.
-  pub start-recovers : journal_model.Recovers
+  pub start-recovers : journal_calls_model.Recovers
   -- When all lines of the log are taken, state and archive are those of a run without crashes.
-  pub whole-log-is-undisturbed : journal_model.WholeLog
+  pub whole-log-is-undisturbed : journal_calls_model.WholeLog
   -- From every disk that a run can leave, the log can be taken to its end.
-  pub runs-can-finish : journal_model.Finishes
+  pub runs-can-finish : journal_calls_model.Finishes
   -- If the front of a file is an archive, all its rows are found.
-  pub whole-front-is-found : journal_model.FoundLongest
+  pub whole-front-is-found : journal_calls_model.FoundLongest
   -- A start changes no block with rows, except a torn one, which it mends.
-  pub sound-blocks-stay : journal_model.Untouched
+  pub sound-blocks-stay : journal_calls_model.Untouched
   -- After a start that is not refused, the archive has the counted rows, and leftovers behind them.
-  pub leftovers-are-rows : journal_model.StartCounts
+  pub leftovers-are-rows : journal_calls_model.StartCounts
   -- A start changes no byte of such an archive.
-  pub start-keeps-leftovers : journal_model.StartKeeps
+  pub start-keeps-leftovers : journal_calls_model.StartKeeps
   -- If the leftovers begin with the rows that come, nothing is written and nothing is put aside.
-  pub equal-rows-write-nothing : journal_model.EqualRowsWriteNothing
+  pub equal-rows-write-nothing : journal_calls_model.EqualRowsWriteNothing
   -- A batch destroys no row: each stays in the archive or is put aside.
-  pub batch-destroys-nothing : journal_model.BatchDestroysNothing
+  pub batch-destroys-nothing : journal_calls_model.BatchDestroysNothing
   -- Nor does the end of the log.
-  pub end-destroys-nothing : journal_model.EndDestroysNothing
+  pub end-destroys-nothing : journal_calls_model.EndDestroysNothing
   -- Nor does a crash within a batch: the log gives the row again, or the row is put aside before.
-  pub crash-destroys-nothing : journal_model.CrashDestroysNothing
+  pub crash-destroys-nothing : journal_calls_model.CrashDestroysNothing
   -- The line of a row gives the collector the reception that the row was.
-  pub row-is-handed-over : journal_model.HandedOver
+  pub row-is-handed-over : journal_calls_model.HandedOver
   -- With a live feed, the rows that are counted at any moment stay in their places.
-  pub live-rows-stay : journal_model.LiveKept
+  pub live-rows-stay : journal_calls_model.LiveKept
   -- If the collector answers the leftovers as they stand, nothing is written and every row is counted.
-  pub leftovers-are-counted : journal_model.LeftoversTakenIn
+  pub leftovers-are-counted : journal_calls_model.LeftoversTakenIn
   -- Whatever it answers, each row stays in the archive or is put aside.
-  pub live-destroys-nothing : journal_model.LiveDestroysNothing
+  pub live-destroys-nothing : journal_calls_model.LiveDestroysNothing
   -- The rows that lines gave, handed over again after the same lines, are given again.
-  pub rows-are-given-again : journal_model.RowsAlone
+  pub rows-are-given-again : journal_calls_model.RowsAlone
   -- So leftovers of lines that were on their way are all taken in.
-  pub leftovers-are-taken-in : journal_model.AllTakenIn
+  pub leftovers-are-taken-in : journal_calls_model.AllTakenIn
   -- The judgement on the last counted block refuses what the model refuses, and else leaves the block that the model goes on from.
-  pub blocks-are-judged : journal_calls.Judged
+  pub blocks-are-judged : journal_calls_calls.Judged
   -- A scan counts the rows and blocks that the model finds from a block on.
-  pub scans-count-the-run : journal_calls.RunCounts
+  pub scans-count-the-run : journal_calls_calls.RunCounts
   -- Blocks that are scanned in two pieces leave what they leave in one.
-  pub scans-go-by-pieces : journal_calls.RunJoins
+  pub scans-go-by-pieces : journal_calls_calls.RunJoins
   -- The five numbers of a scan hold it.
-  pub scans-are-held : journal_calls.RunBack
+  pub scans-are-held : journal_calls_calls.RunBack
   -- A lawful state that is written is accepted, and reads back as it was.
-  pub states-read-back : state_file.StateRead
+  pub states-read-back : journal_state.StateRead
   -- An accepted state file is lawful, and is byte for byte what is written of it.
-  pub states-are-exact : state_file.StateWritten
+  pub states-are-exact : journal_state.StateWritten
   -- A lawful state with one archive file is a state of the model: its copy of the last block is one that the tool writes.
-  pub states-are-modelled : state_file.StateModelled
+  pub states-are-modelled : journal_state.StateModelled
 
 -- ---- archives
 
 pub record Archives : Type 0 where
   -- An archive has 0 to 2^32 blocks of 512 bytes and no part of a block: six lengths at these limits are computed.
-  pub sizes-are-limited : archive_model.Sizes
+  pub sizes-are-limited : archive_file_model.Sizes
   -- Rows that are written are read back, and the archive is accepted.
-  pub written-rows-come-back : archive_model.ReadBack
+  pub written-rows-come-back : archive_file_model.ReadBack
   -- An append that looks at the last block alone does the same as one that looks at the whole archive.
-  pub last-block-is-enough : archive_model.AtCursor
+  pub last-block-is-enough : archive_file_model.AtCursor
   -- Row i of an archive is returned, or the answer is 10 if there are fewer rows.
-  pub rows-are-returned : archive_model.Rows
+  pub rows-are-returned : archive_file_model.Rows
   -- A row that is returned has at most 21 bytes, whatever the buffer holds.
-  pub rows-are-short : archive_model.RowShort
+  pub rows-are-short : archive_file_model.RowShort
   -- A check of an archive's blocks in two parts is one check, and finds the first wrong block or the number of rows.
-  pub parts-are-checked : archive_model.Pieces
+  pub parts-are-checked : archive_file_model.Pieces
   -- The sensor of a row is the sender that its telegram names, also if it names a receiver.
-  pub sensor-is-sender : archive_identity.Transmitter
+  pub sensor-is-sender : archive_file_identity.Transmitter
   -- Salvage counts each block as kept, empty or dropped, and lists exactly the dropped ones.
-  pub blocks-are-accounted : (buffer : List ℕ) → repack_model.Accounted buffer
+  pub blocks-are-accounted : (buffer : List ℕ) → archive_repack_model.Accounted buffer
   -- Salvage returns an undamaged archive unchanged.
-  pub undamaged-is-unchanged : repack_model.Intact
+  pub undamaged-is-unchanged : archive_repack_model.Intact
   -- A second salvage changes nothing.
-  pub second-salvage-is-same : repack_model.SalvagedAgain
+  pub second-salvage-is-same : archive_repack_model.SalvagedAgain
   -- Salvage writes no byte behind its result, and none at all if it is refused.
-  pub rest-is-untouched : (buffer output positions : List ℕ) → repack_model.Untouched buffer output positions
+  pub rest-is-untouched : (buffer output positions : List ℕ) → archive_repack_model.Untouched buffer output positions
   -- A second removal of the same sensors changes nothing.
-  pub second-removal-is-same : repack_model.RemovedAgain
+  pub second-removal-is-same : archive_repack_model.RemovedAgain
   -- A removal reports how many blocks it emptied, and these are zero.
-  pub emptied-blocks-are-counted : repack_model.Freed
+  pub emptied-blocks-are-counted : archive_repack_model.Freed
   -- After a removal, an append uses the free space.
-  pub freed-space-is-used : repack_model.ThenAppend
+  pub freed-space-is-used : archive_repack_model.ThenAppend
   -- Two removals, one after the other, are one removal of the sensors of both.
-  pub removals-join : repack_model.BothLists
+  pub removals-join : archive_repack_model.BothLists
   -- Calls that pack pieces, refused ones anywhere between, write the archive of the rows that remain and name the dropped blocks.
-  pub pieces-are-packed : repack_model.PiecesPacked
+  pub pieces-are-packed : archive_repack_model.PiecesPacked
   -- What is lent to a packer between two pieces is all that the next piece needs.
-  pub packer-is-held : repack_model.Held
+  pub packer-is-held : archive_repack_model.Held
   -- A second cut at the same row changes nothing.
-  pub second-cut-is-same : cutting.CutAgain
+  pub second-cut-is-same : archive_cut.CutAgain
   -- If the rows that were cut off are appended again, the bytes are the old ones.
-  pub cut-is-undone : cutting.Undone
+  pub cut-is-undone : archive_cut.Undone
   -- A cut changes one block, keeps those before it and clears those behind it.
-  pub cut-changes-one-block : cutting.AtOneBlock
+  pub cut-changes-one-block : archive_cut.AtOneBlock
   -- If whole blocks are cleared from some block on, what is left is the archive cut there.
-  pub cleared-end-is-cut : cutting.ZerosBehind
+  pub cleared-end-is-cut : archive_cut.ZerosBehind
   -- Rows that are put into a block together give the block that they give one by one.
-  pub together-is-one-by-one : filling.OneByOne
+  pub together-is-one-by-one : archive_fill.OneByOne
   -- Rows that are put into the last block together are added to the archive's rows.
-  pub together-is-appended : filling.InArchive
+  pub together-is-appended : archive_fill.InArchive
   -- A row that another language reads from an archive can be put into an archive as it is.
   pub rows-are-put-again : c_archive.GivenAgain
   -- Four numbers hold all that is known between two pieces of a verification.
@@ -364,13 +364,13 @@ pub record Archives : Type 0 where
 
 pub record Reports : Type 0 where
   -- Whatever archives are added, no later call refuses the report as invalid.
-  pub reports-are-valid : report_model.Sound
+  pub reports-are-valid : archive_report_model.Sound
   -- Each report that is not refused as invalid is the report of some archives.
-  pub valid-reports-exist : report_model.Complete
+  pub valid-reports-exist : archive_report_model.Complete
   -- The share of a report's rows in a number of receptions is in thousandths, rounded down.
-  pub share-is-rounded-down : report_model.ShareRoundedDown
+  pub share-is-rounded-down : archive_report_model.ShareRoundedDown
   -- An archive that is added piece by piece gives what the whole archive gives.
-  pub pieces-are-whole : report_model.PiecesAreWhole
+  pub pieces-are-whole : archive_report_model.PiecesAreWhole
 
 -- ---- all of them
 

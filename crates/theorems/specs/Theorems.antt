@@ -20,126 +20,126 @@
 --   papers       the customer's documents 01 (scope) and 02 (changes), and the radio documents 000 to 004.
 use Prim.Native.Nat.{ℕ}
 use mathlib.Core.List.{List}
-use Rattle.telegram.specs.Claims as telegram
-use Rattle.sameness.specs.Sameness as sameness
-use Rattle.erp2_model.specs.Claims as erp2_model
-use Rattle.slots.specs.Claims as slots
-use Rattle.timing.specs.Claims as timing
-use Rattle.site.specs.declared.Assignment.{Assignment}
-use Rattle.site.specs.Claims as site
-use Rattle.model.specs.Exact as model_exact
-use Rattle.model.specs.History as model_history
-use Rattle.model.specs.Latest as model_latest
-use Rattle.model.specs.Copies as model_copies
-use Rattle.histories.specs.Claims as histories
-use Rattle.printing.specs.Claims as printing
-use Rattle.archived.specs.Claims as archived
-use Rattle.archived.specs.Runs as archived_runs
-use Rattle.archived.specs.Closed as archived_closed
-use Rattle.whole_log.specs.Claims as whole_log
-use Rattle.archive_model.specs.Claims as archive_model
-use Rattle.repack_model.specs.Claims as repack_model
-use Rattle.cutting.specs.Claims as cutting
+use Rattle.radio_telegram.specs.Claims as radio_telegram
+use Rattle.radio_sameness.specs.Sameness as radio_sameness
+use Rattle.radio_erp2_model.specs.Claims as radio_erp2_model
+use Rattle.plan_slots.specs.Claims as plan_slots
+use Rattle.plan_rules.specs.Claims as plan_rules
+use Rattle.plan_site.specs.declared.Assignment.{Assignment}
+use Rattle.plan_site.specs.Claims as plan_site
+use Rattle.collector_model.specs.Exact as collector_model_exact
+use Rattle.collector_model.specs.History as collector_model_history
+use Rattle.collector_model.specs.Latest as collector_model_latest
+use Rattle.collector_model.specs.Copies as collector_model_copies
+use Rattle.history_calls.specs.Claims as history_calls
+use Rattle.text_print.specs.Claims as text_print
+use Rattle.history_archived.specs.Claims as history_archived
+use Rattle.history_archived.specs.Runs as history_archived_runs
+use Rattle.history_archived.specs.Closed as history_archived_closed
+use Rattle.history_log.specs.Claims as history_log
+use Rattle.archive_model.specs.Claims as archive_file_model
+use Rattle.archive_repack_model.specs.Claims as archive_repack_model
+use Rattle.archive_cut.specs.Claims as archive_cut
 use Rattle.c_pieces.specs.Claims as c_pieces
-use Rattle.report_model.specs.Claims as report_model
+use Rattle.archive_report_model.specs.Claims as archive_report_model
 use Rattle.cases.specs.Cases as cases
-use Rattle.journal_model.specs.Claims as journal_model
-use Rattle.journal_model.specs.Out as journal_out
+use Rattle.journal_model.specs.Claims as journal_calls_model
+use Rattle.journal_model.specs.Out as journal_calls_out
 use Rattle.theorems.specs.Details.{Details}
 
 -- ---- telegrams, in the radio protocols ERP1 and ERP2
 
 pub record Telegrams : Type 0 where
   -- If the bytes of a telegram are read, and a telegram is built from its fields, the bytes are the same.
-  pub bytes-come-back : telegram.BuildRead
+  pub bytes-come-back : radio_telegram.BuildRead
   -- If a telegram is built from fields, and its bytes are read, the fields are the same.
-  pub fields-come-back : telegram.ReadBuilt
+  pub fields-come-back : radio_telegram.ReadBuilt
   -- In ERP2 too, the bytes are the same.
-  pub erp2-bytes-come-back : erp2_model.BuildRead
+  pub erp2-bytes-come-back : radio_erp2_model.BuildRead
   -- In ERP2 too, the fields are the same, also those that say which optional fields are present.
-  pub erp2-fields-come-back : erp2_model.ReadBuilt
+  pub erp2-fields-come-back : radio_erp2_model.ReadBuilt
   -- A repeater sends the telegram that it received, with the level one higher and a new check byte. Nothing else changes.
-  pub repeater-raises-level : telegram.SentRaised
+  pub repeater-raises-level : radio_telegram.SentRaised
   -- Two telegrams count as the same exactly if sender, type, receiver, data and the upper bits of the status byte are equal.
-  pub same-by-fields : sameness.SameByFields
+  pub same-by-fields : radio_sameness.SameByFields
 
 -- ---- slot plans
 
 pub record SlotPlans : Type 0 where
   -- The list of slot plans contains every lawful plan once, in order, and no other plan.
-  pub lawful-plans-are-listed : slots.PlansListed
+  pub lawful-plans-are-listed : plan_slots.PlansListed
   -- A request for a plan gets a lawful plan. It is refused only if an argument is out of range or no plan is lawful.
-  pub requests-get-lawful-plans : timing.PlanByChosen
+  pub requests-get-lawful-plans : plan_rules.PlanByChosen
   -- The plans of several repeaters are accepted exactly if each plan is lawful and no two transmissions overlap.
-  pub sites-accepted-exactly : (count : ℕ) (repeaters : List Assignment) → site.AcceptsExactly count repeaters
+  pub sites-accepted-exactly : (count : ℕ) (repeaters : List Assignment) → plan_site.AcceptsExactly count repeaters
 
 -- ---- the collector
 
 pub record Collector : Type 0 where
   -- All answers and outputs of any calls, with restarts anywhere, equal those of a model that stores every reception, and of a run without restarts.
-  pub histories-follow-model : model_history.WholeHistory
+  pub histories-follow-model : collector_model_history.WholeHistory
   -- The same holds for the calls of the library. The proof uses only their contracts.
-  pub code-follows-model : histories.ArraysAgree
+  pub code-follows-model : history_calls.ArraysAgree
   -- The same receptions get the same answers, whether they are handed over one by one or in groups of any size.
-  pub groups-change-nothing : histories.ArraysDivide
+  pub groups-change-nothing : history_calls.ArraysDivide
   -- Of the open telegrams that are the same as a reception, only the latest decides whether the reception is a copy.
-  pub latest-decides : model_latest.LatestDecides
+  pub latest-decides : collector_model_latest.LatestDecides
   -- The number of copies of a telegram is the number of receptions that were answered as copies of it.
-  pub copies-are-counted : model_copies.NumbersAreAnswers
+  pub copies-are-counted : collector_model_copies.NumbersAreAnswers
   -- A restore accepts exactly the bytes that a checkpoint writes, now or in the format before, and gives the state that was written.
-  pub restore-is-exact : model_exact.Exact
+  pub restore-is-exact : collector_model_exact.Exact
   -- In fewer than 2^64 receptions, none loose and none earlier than the one before, a sensor's answers do not depend on the other sensors.
-  pub sensors-are-independent : histories.ArraysIsolated
+  pub sensors-are-independent : history_calls.ArraysIsolated
   -- Whatever pieces its reads give, `collect` writes what the model says of all that was read. The proof uses only the contract of its step.
-  pub output-follows-model : printing.RunsPrint
+  pub output-follows-model : text_print.RunsPrint
   -- The rows that a log gives for an archive are the receptions that the model keeps, and the loose ones, in order.
-  pub rows-follow-model : archived.LogArchived
+  pub rows-follow-model : history_archived.LogArchived
   -- However a log is cut into calls of `lines`, text and rows are the model's, the lines are counted rightly, and each element of the arrays is what they make of it.
-  pub calls-follow-model : archived_runs.CallsFollow
+  pub calls-follow-model : history_archived_runs.CallsFollow
   -- Of calls of `lines_as` in one format the same holds, and the text is the model's in that format. Both proofs use only the contract of the call.
-  pub format-calls-follow-model : archived_runs.CallsFollowAs
+  pub format-calls-follow-model : history_archived_runs.CallsFollowAs
   -- However a log is cut into calls of `lines_as`, what they close is what the model closes. The proof uses only the contract of the call.
-  pub closings-follow-model : archived_closed.CallsClose
+  pub closings-follow-model : history_archived_closed.CallsClose
   -- A whole log kept in a fresh archive leaves the archive of the receptions that the model keeps, and of the loose ones, and the model's image.
-  pub log-is-archived : whole_log.FreshKept
+  pub log-is-archived : history_log.FreshKept
 
 -- ---- archives, and reports of the totals in archives
 
 pub record Archives : Type 0 where
   -- Each field of an archive block is at the bytes that the papers say.
-  pub blocks-are-laid-out : archive_model.Layout
+  pub blocks-are-laid-out : archive_file_model.Layout
   -- After any appends, reading an archive gives exactly the rows whose append was not refused, in order.
-  pub rows-come-back : archive_model.Run
+  pub rows-come-back : archive_file_model.Run
   -- An archive that is accepted is byte for byte what is written for its rows.
-  pub archives-are-exact : archive_model.Exact
+  pub archives-are-exact : archive_file_model.Exact
   -- If some blocks are damaged, salvage keeps all rows of the other blocks, in order, and changes none.
-  pub salvage-keeps-rows : repack_model.Kept
+  pub salvage-keeps-rows : archive_repack_model.Kept
   -- If sensors are removed from an archive, exactly the rows of the other sensors remain, in order.
-  pub others-remain : repack_model.Remains
+  pub others-remain : archive_repack_model.Remains
   -- If an archive is cut back to m rows, exactly its first m rows remain.
-  pub first-rows-remain : cutting.Remains
+  pub first-rows-remain : archive_cut.Remains
   -- An archive that is verified piece by piece gets the answer that the whole archive gets.
   pub pieces-are-verified : c_pieces.PiecesVerified
   -- The totals of a report are the sums over the rows of all archives that were added.
-  pub totals-are-sums : report_model.TotalsAreSums
+  pub totals-are-sums : archive_report_model.TotalsAreSums
   -- If no archive is refused, the order in which they are added does not change the report.
-  pub order-changes-nothing : report_model.AnyOrder
+  pub order-changes-nothing : archive_report_model.AnyOrder
 
 -- ---- the journal: the state file and the archive that the plant's tool keeps
 
 pub record Journal : Type 0 where
   -- After any batches and any crashes, also during a recovery, the archive has the model's rows and the state is the model's.
-  pub crashes-lose-nothing : journal_model.CrashSafe
+  pub crashes-lose-nothing : journal_calls_model.CrashSafe
   -- With a live feed, of which there is no log, the same holds for the lines that were taken and the rows that a crash left.
-  pub live-crashes-lose-nothing : journal_model.LiveSafe
+  pub live-crashes-lose-nothing : journal_calls_model.LiveSafe
   -- At a start, no row that is found is destroyed, whoever wrote it.
-  pub starts-destroy-nothing : journal_model.NothingDestroyed
+  pub starts-destroy-nothing : journal_calls_model.NothingDestroyed
   -- What a crash can leave is never refused.
-  pub crashes-are-recovered : journal_model.NoFalseAlarm
+  pub crashes-are-recovered : journal_calls_model.NoFalseAlarm
   -- A row that was printed stays in the archive, in its place.
-  pub printed-is-kept : journal_model.PrintedIsKept
+  pub printed-is-kept : journal_calls_model.PrintedIsKept
   -- In the file of `--out` each row of the lines that were taken stands once, in their order, after any batches and any crashes.
-  pub rows-are-in-the-file-once : journal_out.OnceInFile
+  pub rows-are-in-the-file-once : journal_calls_out.OnceInFile
 
 -- ---- all of it
 

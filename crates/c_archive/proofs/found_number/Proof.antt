@@ -1,7 +1,7 @@
 -- `c_archive::found_number` meets its contract: each arm is what `foundNumber` says of it.
 use mathlib.Core.Path.{_∙_, ap, sym}
 use borrow.Author.Needs.{needs}
-use Rattle.archive.specs.Archive.{foundNumber}
+use Rattle.archive_file.specs.Archive.{foundNumber}
 use Rattle.c_archive.proofs.found_number.Statement.{statement}
 use Rattle.c_archive.proofs.found_number.Tie as tie
 

@@ -12,10 +12,10 @@ use denote.Ref.{now}
 use lib.Dec.{ltb}
 use native.Mathlib.Nat.{zero-add}
 use lib.ListN.{length, getD, take, length-take, List·getD-eq-default}
-use Rattle.buffers.specs.Buffer.{resized}
-use Rattle.buffers.proofs.Buffer.{resized-more}
-use Rattle.buffers.proofs.Segments.{Begun, begin, begun-length, named, store, done, part-at}
-use Rattle.layout.specs.Cell.{cellCapacity}
+use Rattle.base_buffers.specs.Buffer.{resized}
+use Rattle.base_buffers.proofs.Buffer.{resized-more}
+use Rattle.base_buffers.proofs.Segments.{Begun, begin, begun-length, named, store, done, part-at}
+use Rattle.block_layout.specs.Cell.{cellCapacity}
 use Rattle.c_archive.proofs.put_filled.Statement.{statement}
 use Rattle.c_archive.proofs.put_filled.Tie as tie
 

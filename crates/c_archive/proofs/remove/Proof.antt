@@ -2,7 +2,7 @@
 use mathlib.Core.Path.{_∙_, ap}
 use borrow.Author.Needs.{needs}
 use denote.Ref.{now}
-use Rattle.repack_model.specs.Repack.{Removed}
+use Rattle.archive_repack_model.specs.Repack.{Removed}
 use Rattle.c_archive.specs.Calls.{removeCall}
 use Rattle.c_archive.proofs.remove.Statement.{statement}
 use Rattle.c_archive.proofs.remove.Tie as tie

@@ -4,12 +4,12 @@ use native.Mathlib.Omega.{arith}
 use borrow.Author.Needs.{needs}
 use denote.Ref.{now}
 use lib.ListN.{length, take}
-use Rattle.buffers.proofs.Segments.{Writing, packed, begin, begun-length, within, store, lend, done}
-use Rattle.buffers.specs.Buffer.{resized}
-use Rattle.layout.specs.Cell.{cellCapacity}
+use Rattle.base_buffers.proofs.Segments.{Writing, packed, begin, begun-length, within, store, lend, done}
+use Rattle.base_buffers.specs.Buffer.{resized}
+use Rattle.block_layout.specs.Cell.{cellCapacity}
 use Rattle.archive_model.specs.Append.{ReadRow, rowAtOf}
-use Rattle.archive.specs.Archive.{foundNumber, Shown}
-use Rattle.filling.specs.Fill.{rowLength}
+use Rattle.archive_file.specs.Archive.{foundNumber, Shown}
+use Rattle.archive_fill.specs.Fill.{rowLength}
 use Rattle.c_archive.proofs.Calls.{row-other, row-not, row-done, row-are}
 use Rattle.c_archive.proofs.row_at.Statement.{statement}
 use Rattle.c_archive.proofs.row_at.Tie as tie

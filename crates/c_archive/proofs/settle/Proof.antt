@@ -4,9 +4,9 @@ use mathlib.Core.List.{List}
 use Prim.Native.Nat.{ℕ}
 use borrow.Author.Needs.{needs}
 use denote.Ref.{now}
-use Rattle.refusal.specs.declared.Refusal.the-variants.{Mismatch}
-use Rattle.archive.specs.declared.Outcome.{Outcome}
-use Rattle.archive.specs.Archive.{appendResult}
+use Rattle.base_refusal.specs.declared.Refusal.the-variants.{Mismatch}
+use Rattle.archive_file.specs.declared.Outcome.{Outcome}
+use Rattle.archive_file.specs.Archive.{appendResult}
 use Rattle.c_archive.specs.Calls.{appendCall}
 use Rattle.c_archive.proofs.Calls.{append-not}
 use Rattle.c_archive.proofs.settle.Statement.{statement}

@@ -4,10 +4,10 @@ use mathlib.Core.List.{List}
 use Prim.Native.Nat.{ℕ}
 use borrow.Author.Needs.{needs}
 use denote.Ref.{now}
-use Rattle.refusal.specs.declared.Refusal.the-variants.{Mismatch}
-use Rattle.repack.specs.declared.Removed.{Removed}
-use Rattle.repack.specs.Calls.{removeResult}
-use Rattle.repack_model.specs.Repack as model
+use Rattle.base_refusal.specs.declared.Refusal.the-variants.{Mismatch}
+use Rattle.archive_repack.specs.declared.Removed.{Removed}
+use Rattle.archive_repack.specs.Calls.{removeResult}
+use Rattle.archive_repack_model.specs.Repack as model
 use Rattle.c_archive.specs.Calls.{removeCall}
 use Rattle.c_archive.proofs.Calls.{remove-not}
 use Rattle.c_archive.proofs.settle_removed.Statement.{statement}

@@ -1,7 +1,7 @@
 -- `c_archive::taken_number` meets its contract: each arm is what `takenNumber` says of it.
 use mathlib.Core.Path.{_∙_, ap, sym}
 use borrow.Author.Needs.{needs}
-use Rattle.archive.specs.Archive.{takenNumber}
+use Rattle.archive_file.specs.Archive.{takenNumber}
 use Rattle.c_archive.proofs.taken_number.Statement.{statement}
 use Rattle.c_archive.proofs.taken_number.Tie as tie
 

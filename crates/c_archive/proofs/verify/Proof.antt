@@ -2,10 +2,10 @@
 use mathlib.Core.Path.{_≡_, _∙_, ap, sym}
 use borrow.Author.Needs.{needs}
 use denote.Ref.{now}
-use Rattle.refusal.specs.declared.Refusal.the-variants.{Mismatch}
+use Rattle.base_refusal.specs.declared.Refusal.the-variants.{Mismatch}
 use Rattle.archive_model.specs.Append.{Opening, openOf}
-use Rattle.archive.specs.declared.Opened.{Opened}
-use Rattle.archive.specs.Archive.{openResult}
+use Rattle.archive_file.specs.declared.Opened.{Opened}
+use Rattle.archive_file.specs.Archive.{openResult}
 use Rattle.c_archive.specs.Calls.{openCall}
 use Rattle.c_archive.proofs.Calls.{open-not}
 use Rattle.c_archive.proofs.verify.Statement.{statement}

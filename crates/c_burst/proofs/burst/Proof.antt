@@ -7,11 +7,11 @@ use borrow.Author.Needs.{needs}
 use borrow.Author.Tests.{not-true, not-false}
 use denote.Ref.{now}
 use lib.ListN.{length}
-use Rattle.model.specs.Acceptable.{acceptable}
-use Rattle.model.specs.Burst.{callNumber}
-use Rattle.collector.specs.declared.Summary.{Summary}
-use Rattle.collector.specs.Collector.{viewIn}
-use Rattle.collector.specs.Admission.{Tested}
+use Rattle.collector_model.specs.Acceptable.{acceptable}
+use Rattle.collector_model.specs.Burst.{callNumber}
+use Rattle.collector_state.specs.declared.Summary.{Summary}
+use Rattle.collector_state.specs.Collector.{viewIn}
+use Rattle.collector_state.specs.Admission.{Tested}
 use Rattle.c_collector.specs.State.{Arrays, arrays, columnsAt, stateAt}
 use Rattle.c_burst.specs.Bytes.{replyLength, isSized}
 use Rattle.c_burst.proofs.Sizes.{called, records-are}

@@ -5,10 +5,10 @@ use mathlib.Core.List.{List}
 use Prim.Native.Nat.{ℕ, _-_, _*_, _≤_}
 use native.Mathlib.Omega.{arith}
 use lib.ListN.{length, getD}
-use Rattle.buffers.proofs.Segments.{begun-length, within, lent, part-length, part-ends}
-use Rattle.model.specs.View.{View}
-use Rattle.model.specs.Burst.{maxBurst}
-use Rattle.collector.specs.Collector.{Columns, columns, viewIn}
+use Rattle.base_buffers.proofs.Segments.{begun-length, within, lent, part-length, part-ends}
+use Rattle.collector_model.specs.View.{View}
+use Rattle.collector_model.specs.Burst.{maxBurst}
+use Rattle.collector_state.specs.Collector.{Columns, columns, viewIn}
 use Rattle.c_layout.specs.Frame.{frameLength}
 use Rattle.c_burst.specs.Bytes.{receptionIn, receptionsIn, replyLength}
 use Rattle.c_burst.proofs.Turns.{Going, starts, turns, ends, receptions-count, reception-get}

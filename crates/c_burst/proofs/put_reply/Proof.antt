@@ -4,9 +4,9 @@ use native.Mathlib.Omega.{arith}
 use borrow.Author.Needs.{needs}
 use denote.Ref.{now}
 use lib.ListN.{length}
-use Rattle.erp1.specs.Subtelegram.{maxLength}
-use Rattle.buffers.proofs.Segments.{Writing, packed, begin, begun-length, within, lent, store, lend, done}
-use Rattle.buffers.proofs.Buffer.{resized-whole, copied}
+use Rattle.radio_erp1.specs.Subtelegram.{maxLength}
+use Rattle.base_buffers.proofs.Segments.{Writing, packed, begin, begun-length, within, lent, store, lend, done}
+use Rattle.base_buffers.proofs.Buffer.{resized-whole, copied}
 use Rattle.c_layout.specs.Frame.{frameBytes}
 use Rattle.c_burst.specs.Bytes.{replyBytes}
 use Rattle.c_burst.proofs.put_reply.Statement.{statement}

@@ -2,9 +2,9 @@
 use mathlib.Core.Path.{_∙_, ap}
 use borrow.Author.Needs.{needs}
 use denote.Ref.{now}
-use Rattle.telegram.specs.declared.fields.Telegram.{Telegram}
-use Rattle.telegram.specs.Output.{Result}
-use Rattle.telegram.specs.Fields.{buildOf}
+use Rattle.radio_telegram.specs.declared.fields.Telegram.{Telegram}
+use Rattle.radio_telegram.specs.Output.{Result}
+use Rattle.radio_telegram.specs.Fields.{buildOf}
 use Rattle.c_layout.specs.Lent.{settled}
 use Rattle.c_codec.proofs.Calls.{build-other, build-done}
 use Rattle.c_codec.proofs.build.Statement.{statement}

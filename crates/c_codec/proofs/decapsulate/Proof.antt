@@ -2,7 +2,7 @@
 use mathlib.Core.Path.{_∙_, ap}
 use borrow.Author.Needs.{needs}
 use denote.Ref.{now}
-use Rattle.telegram.specs.Output.{Result}
+use Rattle.radio_telegram.specs.Output.{Result}
 use Rattle.c_layout.specs.Lent.{settled}
 use Rattle.c_codec.proofs.decapsulate.Statement.{statement}
 use Rattle.c_codec.proofs.decapsulate.Tie as tie

@@ -4,8 +4,8 @@ use mathlib.Core.List.{List}
 use Prim.Native.Nat.{ℕ}
 use borrow.Author.Needs.{needs}
 use denote.Ref.{now}
-use Rattle.telegram.specs.Addressing.{encapsulateOf}
-use Rattle.telegram.specs.Output.{Result}
+use Rattle.radio_telegram.specs.Addressing.{encapsulateOf}
+use Rattle.radio_telegram.specs.Output.{Result}
 use Rattle.c_layout.specs.Lent.{settled}
 use Rattle.c_codec.proofs.encapsulate.Statement.{statement}
 use Rattle.c_codec.proofs.encapsulate.Tie as tie

@@ -4,8 +4,8 @@ use native.Mathlib.Omega.{arith}
 use borrow.Author.Needs.{needs}
 use denote.Ref.{now}
 use lib.ListN.{length}
-use Rattle.buffers.specs.Buffer.{resized}
-use Rattle.buffers.proofs.Segments.{Writing, packed, begin, begun-length, within, store, lend-sized, done}
+use Rattle.base_buffers.specs.Buffer.{resized}
+use Rattle.base_buffers.proofs.Segments.{Writing, packed, begin, begun-length, within, store, lend-sized, done}
 use Rattle.c_codec.proofs.Calls.{fields-are}
 use Rattle.c_codec.proofs.put_fields.Statement.{statement}
 use Rattle.c_codec.proofs.put_fields.Tie as tie

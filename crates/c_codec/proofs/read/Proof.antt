@@ -4,7 +4,7 @@ use mathlib.Core.List.{[]}
 use native.Mathlib.Omega.{arith}
 use borrow.Author.Needs.{needs}
 use denote.Ref.{now}
-use Rattle.telegram.specs.Fields.{Read, readOf}
+use Rattle.radio_telegram.specs.Fields.{Read, readOf}
 use Rattle.c_codec.specs.Fields.{fieldsBytes}
 use Rattle.c_codec.proofs.Calls.{read-other, read-done, read-len, answered-not, answered-is}
 use Rattle.c_codec.proofs.read.Statement.{statement}

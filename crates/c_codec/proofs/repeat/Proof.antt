@@ -4,8 +4,8 @@ use mathlib.Core.List.{[]}
 use native.Mathlib.Omega.{arith}
 use borrow.Author.Needs.{needs}
 use denote.Ref.{now}
-use Rattle.buffers.proofs.Buffer.{overwritten-fits}
-use Rattle.telegram.specs.Repeater.{RepeatResult, repeatResult}
+use Rattle.base_buffers.proofs.Buffer.{overwritten-fits}
+use Rattle.radio_telegram.specs.Repeater.{RepeatResult, repeatResult}
 use Rattle.c_layout.specs.Frame.{frameLength}
 use Rattle.c_codec.specs.Calls.{sentBytes}
 use Rattle.c_codec.proofs.Calls.{repeat-other, repeat-done, sent-len, answered-not, answered-is}

@@ -7,15 +7,15 @@ use borrow.Author.Needs.{needs}
 use borrow.Author.Tests.{not-true, not-false}
 use denote.Ref.{now}
 use lib.ListN.{getD}
-use Rattle.refusal.specs.Number.{numberOf}
-use Rattle.refusal.specs.declared.Refusal.the-variants.{Argument, NotAccepted}
-use Rattle.refusal.proofs.Numbers.{refused-number}
-use Rattle.model.specs.View.{capacity}
-use Rattle.model.specs.Acceptable.{acceptable}
-use Rattle.collector.specs.declared.Collector.{Collector}
-use Rattle.collector.specs.Collector.{columns, viewOf}
-use Rattle.collector.specs.Admission.{collectorOf}
-use Rattle.collector.proofs.Hearing.{heard-unacceptable, heard-few, heard-closed, heard-open}
+use Rattle.base_refusal.specs.Number.{numberOf}
+use Rattle.base_refusal.specs.declared.Refusal.the-variants.{Argument, NotAccepted}
+use Rattle.base_refusal.proofs.Numbers.{refused-number}
+use Rattle.collector_model.specs.View.{capacity}
+use Rattle.collector_model.specs.Acceptable.{acceptable}
+use Rattle.collector_state.specs.declared.Collector.{Collector}
+use Rattle.collector_state.specs.Collector.{columns, viewOf}
+use Rattle.collector_state.specs.Admission.{collectorOf}
+use Rattle.collector_state.proofs.Hearing.{heard-unacceptable, heard-few, heard-closed, heard-open}
 use Rattle.c_collector.specs.State.{summaryIn}
 use Rattle.c_collector.proofs.State.{copies-refused, copies-shown}
 use Rattle.c_collector.proofs.copies_of.Statement.{statement}

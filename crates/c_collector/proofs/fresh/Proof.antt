@@ -1,8 +1,8 @@
 -- `c_collector::fresh` meets its contract: by computation.
 use mathlib.Core.Path.{refl}
-use Rattle.model.specs.View.{fresh}
-use Rattle.collector.specs.Collector.{entriesAt}
-use Rattle.lists.specs.Lists.{upFrom}
+use Rattle.collector_model.specs.View.{fresh}
+use Rattle.collector_state.specs.Collector.{entriesAt}
+use Rattle.base_lists.specs.Lists.{upFrom}
 use Rattle.c_collector.proofs.fresh.Statement.{statement}
 use Rattle.c_collector.proofs.fresh.Tie as tie
 

@@ -2,9 +2,9 @@
 use mathlib.Core.Path.{ap, _∙_}
 use borrow.Author.Needs.{needs}
 use denote.Ref.{now}
-use Rattle.model.specs.Acceptable.{acceptable}
-use Rattle.collector.specs.declared.Summary.{Summary}
-use Rattle.collector.specs.Collector.{columns, viewIn}
+use Rattle.collector_model.specs.Acceptable.{acceptable}
+use Rattle.collector_state.specs.declared.Summary.{Summary}
+use Rattle.collector_state.specs.Collector.{columns, viewIn}
 use Rattle.c_collector.proofs.is_acceptable.Statement.{statement}
 use Rattle.c_collector.proofs.is_acceptable.Tie as tie
 

@@ -1,8 +1,8 @@
 -- `c_collector::number_of` meets its contract: each arm is what `shownNumber` says of it.
 use mathlib.Core.Path.{sym, ap, _∙_}
 use borrow.Author.Needs.{needs}
-use Rattle.model.specs.Answer.{shownOf, shownNumber}
-use Rattle.model.specs.declared.Answer.{Answer}
+use Rattle.collector_model.specs.Answer.{shownOf, shownNumber}
+use Rattle.collector_model.specs.declared.Answer.{Answer}
 use Rattle.c_collector.proofs.number_of.Statement.{statement}
 use Rattle.c_collector.proofs.number_of.Tie as tie
 

@@ -2,9 +2,9 @@
 use mathlib.Core.Path.{_∙_, ap}
 use borrow.Author.Needs.{needs}
 use denote.Ref.{now}
-use Rattle.erp2_model.specs.declared.Telegram.{Telegram}
-use Rattle.erp2_model.specs.Building.{buildOf}
-use Rattle.telegram.specs.Output.{Result}
+use Rattle.radio_erp2_model.specs.declared.Telegram.{Telegram}
+use Rattle.radio_erp2_model.specs.Building.{buildOf}
+use Rattle.radio_telegram.specs.Output.{Result}
 use Rattle.c_layout.specs.Lent.{settled}
 use Rattle.c_erp2.proofs.Calls.{build-other, build-done}
 use Rattle.c_erp2.proofs.build.Statement.{statement}

@@ -3,8 +3,8 @@ use mathlib.Core.Path.{_≡_, _∙_}
 use native.Mathlib.Omega.{arith}
 use borrow.Author.Needs.{needs}
 use denote.Ref.{now}
-use Rattle.buffers.specs.Buffer.{resized}
-use Rattle.buffers.proofs.Segments.{Writing, packed, begin, begun-length, within, lend, lend-sized, done}
+use Rattle.base_buffers.specs.Buffer.{resized}
+use Rattle.base_buffers.proofs.Segments.{Writing, packed, begin, begun-length, within, lend, lend-sized, done}
 use Rattle.c_erp2.specs.Fields.{headBytes, fieldsBytes}
 use Rattle.c_erp2.proofs.put_fields.Statement.{statement}
 use Rattle.c_erp2.proofs.put_fields.Tie as tie

@@ -4,7 +4,7 @@ use native.Mathlib.Omega.{arith}
 use borrow.Author.Needs.{needs}
 use denote.Ref.{now}
 use lib.ListN.{length-set}
-use Rattle.buffers.proofs.Segments.{Writing, packed, begin, begun-length, store, done}
+use Rattle.base_buffers.proofs.Segments.{Writing, packed, begin, begun-length, store, done}
 use Rattle.c_erp2.proofs.Calls.{head-are}
 use Rattle.c_erp2.proofs.put_head.Statement.{statement}
 use Rattle.c_erp2.proofs.put_head.Tie as tie

@@ -4,7 +4,7 @@ use Prim.Native.Nat.{_<_}
 use native.Mathlib.Omega.{arith}
 use borrow.Author.Needs.{needs}
 use denote.Ref.{now}
-use Rattle.erp2_model.specs.Reading.{Read, readOf, lengthByte}
+use Rattle.radio_erp2_model.specs.Reading.{Read, readOf, lengthByte}
 use Rattle.c_erp2.specs.Fields.{fieldsBytes}
 use Rattle.c_erp2.specs.Calls.{reading}
 use Rattle.c_erp2.proofs.Calls.{read-other, read-not, read-done, read-len}

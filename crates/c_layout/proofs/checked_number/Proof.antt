@@ -1,7 +1,7 @@
 -- `c_layout::checked_number` meets its contract: each arm is what `checkedNumber` says of it.
 use mathlib.Core.Path.{_∙_, ap, sym}
 use borrow.Author.Needs.{needs}
-use Rattle.erp1.specs.Subtelegram.{checkedNumber}
+use Rattle.radio_erp1.specs.Subtelegram.{checkedNumber}
 use Rattle.c_layout.proofs.checked_number.Statement.{statement}
 use Rattle.c_layout.proofs.checked_number.Tie as tie
 

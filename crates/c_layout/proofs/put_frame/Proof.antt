@@ -3,9 +3,9 @@ use mathlib.Core.Path.{sym, _∙_}
 use native.Mathlib.Omega.{arith}
 use borrow.Author.Needs.{needs}
 use denote.Ref.{now}
-use Rattle.buffers.specs.Buffer.{resized}
-use Rattle.buffers.proofs.Segments.{Writing, packed, begin, begun-length, within, store, lend-sized, done}
-use Rattle.buffers.proofs.Buffer.{overwritten-fits, overwritten-not}
+use Rattle.base_buffers.specs.Buffer.{resized}
+use Rattle.base_buffers.proofs.Segments.{Writing, packed, begin, begun-length, within, store, lend-sized, done}
+use Rattle.base_buffers.proofs.Buffer.{overwritten-fits, overwritten-not}
 use Rattle.c_layout.specs.Frame.{frameLength, frameBytes}
 use Rattle.c_layout.proofs.put_frame.Statement.{statement}
 use Rattle.c_layout.proofs.put_frame.Tie as tie

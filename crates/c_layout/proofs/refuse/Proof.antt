@@ -2,8 +2,8 @@
 use mathlib.Core.Path.{_≡_, sym, _∙_}
 use borrow.Author.Needs.{needs}
 use denote.Ref.{now}
-use Rattle.refusal.specs.Number.{numberOf}
-use Rattle.refusal.specs.declared.Refusal.the-variants.{Mismatch}
+use Rattle.base_refusal.specs.Number.{numberOf}
+use Rattle.base_refusal.specs.declared.Refusal.the-variants.{Mismatch}
 use Rattle.c_layout.proofs.Lent.{mismatch-is, mismatch-not}
 use Rattle.c_layout.proofs.refuse.Statement.{statement}
 use Rattle.c_layout.proofs.refuse.Tie as tie

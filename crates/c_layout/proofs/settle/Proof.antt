@@ -4,10 +4,10 @@ use mathlib.Core.List.{List}
 use Prim.Native.Nat.{ℕ}
 use borrow.Author.Needs.{needs}
 use denote.Ref.{now}
-use Rattle.refusal.specs.Number.{numberOf}
-use Rattle.refusal.proofs.Numbers.{refused-number}
-use Rattle.telegram.specs.declared.frame.Built.{Built}
-use Rattle.telegram.specs.Output.{Result, resultOf}
+use Rattle.base_refusal.specs.Number.{numberOf}
+use Rattle.base_refusal.proofs.Numbers.{refused-number}
+use Rattle.radio_telegram.specs.declared.frame.Built.{Built}
+use Rattle.radio_telegram.specs.Output.{Result, resultOf}
 use Rattle.c_layout.specs.Lent.{settled}
 use Rattle.c_layout.proofs.Lent.{done-not}
 use Rattle.c_layout.proofs.settle.Statement.{statement}

@@ -7,8 +7,8 @@ use borrow.Author.Needs.{needs}
 use borrow.Author.Tests.{lt-ltb, le-ltb}
 use denote.Ref.{now}
 use Rattle.bytes.specs.Bytes.{indexOf}
-use Rattle.line_input.specs.Ascii.{newline}
-use Rattle.streams.proofs.Takes.{found}
+use Rattle.text_lines.specs.Ascii.{newline}
+use Rattle.text_program.proofs.Takes.{found}
 use Rattle.c_lines.proofs.first_line.Statement.{statement}
 use Rattle.c_lines.proofs.first_line.Tie as tie
 

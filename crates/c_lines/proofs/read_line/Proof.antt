@@ -2,7 +2,7 @@
 use mathlib.Core.Path.{ap, _∙_}
 use mathlib.Core.List.{[], _∷_}
 use borrow.Author.Needs.{needs}
-use Rattle.line_input.specs.declared.Line.{Line}
+use Rattle.text_lines.specs.declared.Line.{Line}
 use Rattle.c_lines.specs.Calls.{lineNumber}
 use Rattle.c_lines.proofs.read_line.Statement.{statement}
 use Rattle.c_lines.proofs.read_line.Tie as tie

@@ -10,12 +10,12 @@ use native.Mathlib.Nat.{sub-self, zero-add}
 use lib.ListN.{length, take, drop, replicate, length-drop, length-replicate}
 use borrow.Author.Needs.{needs}
 use denote.Ref.{now}
-use Rattle.streams.specs.Collect.{over}
-use Rattle.streams.specs.Buffer.{isUnended, Fed}
-use Rattle.streams.proofs.Segments.{open-whole}
-use Rattle.streams.proofs.Takes.{found, fed-none, fed-next}
-use Rattle.collecting.specs.Rows.{lineTicks}
-use Rattle.collecting.proofs.Storing.{ticks-bounded, tick}
+use Rattle.text_program.specs.Collect.{over}
+use Rattle.text_program.specs.Buffer.{isUnended, Fed}
+use Rattle.text_program.proofs.Segments.{open-whole}
+use Rattle.text_program.proofs.Takes.{found, fed-none, fed-next}
+use Rattle.text_collect.specs.Rows.{lineTicks}
+use Rattle.text_collect.proofs.Storing.{ticks-bounded, tick}
 use Rattle.c_lines.proofs.skip_lines.Statement.{statement}
 use Rattle.c_lines.proofs.skip_lines.Tie as tie
 

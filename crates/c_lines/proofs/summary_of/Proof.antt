@@ -4,11 +4,11 @@ use Prim.Native.Nat.{_^_, _<_}
 use native.Mathlib.Omega.{arith}
 use borrow.Author.Needs.{needs}
 use denote.Ref.{now}
-use Rattle.model.specs.Exact.{Fits}
-use Rattle.collector.specs.declared.Summary.{Summary}
-use Rattle.collector.specs.Collector.{columns, viewIn, viewOf}
-use Rattle.collector.specs.Admission.{collectorOf}
-use Rattle.collector.proofs.Counts.{state-fits}
+use Rattle.collector_model.specs.Exact.{Fits}
+use Rattle.collector_state.specs.declared.Summary.{Summary}
+use Rattle.collector_state.specs.Collector.{columns, viewIn, viewOf}
+use Rattle.collector_state.specs.Admission.{collectorOf}
+use Rattle.collector_state.proofs.Counts.{state-fits}
 use Rattle.c_lines.proofs.summary_of.Statement.{statement}
 use Rattle.c_lines.proofs.summary_of.Tie as tie
 

@@ -4,9 +4,9 @@ use mathlib.Core.List.{List}
 use Prim.Native.Nat.{ℕ}
 use borrow.Author.Needs.{needs}
 use denote.Ref.{now}
-use Rattle.report_model.specs.Report as model
-use Rattle.report_model.proofs.Additions.{refused-kept}
-use Rattle.report.specs.Report.{addedResult, linesAdded}
+use Rattle.archive_report_model.specs.Report as model
+use Rattle.archive_report_model.proofs.Additions.{refused-kept}
+use Rattle.archive_report.specs.Report.{addedResult, linesAdded}
 use Rattle.c_layout.specs.Lent.{ifMismatch}
 use Rattle.c_report.specs.Calls.{reportAt, reportNumbers}
 use Rattle.c_report.proofs.add.Statement.{statement}

@@ -2,9 +2,9 @@
 use mathlib.Core.Path.{_≡_, _∙_, ap}
 use borrow.Author.Needs.{needs}
 use denote.Ref.{now}
-use Rattle.report_model.specs.Report as model
-use Rattle.report.specs.Lines.{lineNumbers}
-use Rattle.report.specs.Report.{lineResult}
+use Rattle.archive_report_model.specs.Report as model
+use Rattle.archive_report.specs.Lines.{lineNumbers}
+use Rattle.archive_report.specs.Report.{lineResult}
 use Rattle.c_report.specs.Calls.{reportAt}
 use Rattle.c_report.proofs.Calls.{line-not, line-done}
 use Rattle.c_report.proofs.line.Statement.{statement}

@@ -1,7 +1,7 @@
 -- `c_report::looked_number` meets its contract: each arm is what `lookedNumber` says of it.
 use mathlib.Core.Path.{_∙_, ap, sym}
 use borrow.Author.Needs.{needs}
-use Rattle.report.specs.Report.{lookedNumber}
+use Rattle.archive_report.specs.Report.{lookedNumber}
 use Rattle.c_report.proofs.looked_number.Statement.{statement}
 use Rattle.c_report.proofs.looked_number.Tie as tie
 

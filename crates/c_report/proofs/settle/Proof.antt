@@ -3,8 +3,8 @@ use mathlib.Core.Path.{_≡_, _∙_, ap, sym}
 use Prim.Native.Nat.{ℕ}
 use borrow.Author.Needs.{needs}
 use denote.Ref.{now}
-use Rattle.archive.specs.declared.Outcome.{Outcome}
-use Rattle.report.specs.Report.{outcomeNumber, outcomePosition}
+use Rattle.archive_file.specs.declared.Outcome.{Outcome}
+use Rattle.archive_report.specs.Report.{outcomeNumber, outcomePosition}
 use Rattle.c_layout.specs.Lent.{ifMismatch}
 use Rattle.c_report.proofs.settle.Statement.{statement}
 use Rattle.c_report.proofs.settle.Tie as tie

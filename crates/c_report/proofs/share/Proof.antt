@@ -2,9 +2,9 @@
 use mathlib.Core.Path.{_≡_, _∙_, ap, sym}
 use borrow.Author.Needs.{needs}
 use denote.Ref.{now}
-use Rattle.report_model.specs.Report as model
-use Rattle.report.specs.declared.Share.{Share}
-use Rattle.report.specs.Report.{shareResult}
+use Rattle.archive_report_model.specs.Report as model
+use Rattle.archive_report.specs.declared.Share.{Share}
+use Rattle.archive_report.specs.Report.{shareResult}
 use Rattle.c_report.specs.Calls.{reportAt, shareCall}
 use Rattle.c_report.proofs.Calls.{share-not}
 use Rattle.c_report.proofs.share.Statement.{statement}

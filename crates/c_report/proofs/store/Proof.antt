@@ -2,7 +2,7 @@
 use mathlib.Core.Path.{refl, sym, ap}
 use mathlib.Core.List.{[], _∷_}
 use Prim.Native.Nat.{ℕ}
-use Rattle.report.proofs.Windows.{lines-count}
+use Rattle.archive_report.proofs.Windows.{lines-count}
 use Rattle.c_report.proofs.store.Statement.{statement}
 use Rattle.c_report.proofs.store.Tie as tie
 

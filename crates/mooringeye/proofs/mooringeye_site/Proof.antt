@@ -6,12 +6,12 @@ use native.Mathlib.Omega.{arith}
 use borrow.Author.Needs.{needs}
 use lib.Dec.{eqb}
 use lib.ListN.{length}
-use Rattle.lists.proofs.Tests.{branch}
-use Rattle.refusal.specs.Number.{numberOf}
-use Rattle.refusal.specs.declared.Refusal.the-variants as refusal
-use Rattle.site.specs.Site.{Answer, answer, verdictOf}
-use Rattle.site.specs.Bytes.{size, assignmentsIn, siteIn}
-use Rattle.site.proofs.Named.{Small, site-small}
+use Rattle.base_lists.proofs.Tests.{branch}
+use Rattle.base_refusal.specs.Number.{numberOf}
+use Rattle.base_refusal.specs.declared.Refusal.the-variants as refusal
+use Rattle.plan_site.specs.Site.{Answer, answer, verdictOf}
+use Rattle.plan_site.specs.Bytes.{size, assignmentsIn, siteIn}
+use Rattle.plan_site.proofs.Named.{Small, site-small}
 use Rattle.mooringeye.specs.Packed.{packedSite}
 use Rattle.mooringeye.proofs.mooringeye_site.Statement.{statement}
 use Rattle.mooringeye.proofs.mooringeye_site.Tie as tie

@@ -2,7 +2,7 @@
 use mathlib.Core.Path.{_∙_, ap, sym}
 use Prim.Native.Nat.{ℕ}
 use borrow.Author.Needs.{needs}
-use Rattle.slots.specs.Plan.{plan, answerOf}
+use Rattle.plan_slots.specs.Plan.{plan, answerOf}
 use Rattle.mooringeye.specs.Packed.{answer, packed}
 use Rattle.mooringeye.proofs.pack_planned.Statement.{statement}
 use Rattle.mooringeye.proofs.pack_planned.Tie as tie

@@ -4,9 +4,9 @@ use Prim.Native.Nat.{ℕ}
 use borrow.Author.Needs.{needs}
 use borrow.Author.Tests.{eq-eqb}
 use denote.Ref.{now}
-use Rattle.report_model.specs.Report.{Addition}
-use Rattle.report_model.specs.Pieces.{Adding, endedOf}
-use Rattle.report.specs.Report.{addedResult, addingOf}
+use Rattle.archive_report_model.specs.Report.{Addition}
+use Rattle.archive_report_model.specs.Pieces.{Adding, endedOf}
+use Rattle.archive_report.specs.Report.{addedResult, addingOf}
 use Rattle.c_layout.specs.Lent.{ifMismatch}
 use Rattle.c_report.specs.Calls.{reportNumbers}
 use Rattle.c_pieces.specs.Adding.{addingAt}

@@ -4,8 +4,8 @@ use Prim.Native.Nat.{ℕ}
 use mathlib.Core.List.{List}
 use borrow.Author.Needs.{needs}
 use denote.Ref.{now}
-use Rattle.report_model.specs.Pieces.{Tally, Adding, adding, fed, Feeding, feedOf}
-use Rattle.report.specs.Report.{feedResult, linesFed}
+use Rattle.archive_report_model.specs.Pieces.{Tally, Adding, adding, fed, Feeding, feedOf}
+use Rattle.archive_report.specs.Report.{feedResult, linesFed}
 use Rattle.c_report.specs.Calls.{reportAt}
 use Rattle.c_pieces.specs.Adding.{addingAt, tallyNumbers}
 use Rattle.c_pieces.proofs.Addings.{feed-report, feed-kept}

@@ -2,8 +2,8 @@
 use mathlib.Core.Path.{ap, _∙_}
 use borrow.Author.Needs.{needs}
 use denote.Ref.{now}
-use Rattle.report_model.specs.Report.{Report}
-use Rattle.report_model.specs.Pieces.{Tally, Adding, adding, startAdding}
+use Rattle.archive_report_model.specs.Report.{Report}
+use Rattle.archive_report_model.specs.Pieces.{Tally, Adding, adding, startAdding}
 use Rattle.c_report.specs.Calls.{reportAt}
 use Rattle.c_pieces.specs.Adding.{tallyNumbers}
 use Rattle.c_pieces.proofs.adding.start.Statement.{statement}

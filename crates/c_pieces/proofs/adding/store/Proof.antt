@@ -1,8 +1,8 @@
 -- `c_pieces::adding::store` meets its contract.
 use mathlib.Core.Path.{refl}
 use borrow.Author.Needs.{needs}
-use Rattle.archive.specs.Archive.{stageOf}
-use Rattle.report.proofs.Windows.{lines-count}
+use Rattle.archive_file.specs.Archive.{stageOf}
+use Rattle.archive_report.proofs.Windows.{lines-count}
 use Rattle.c_pieces.proofs.Scans.{stage-back}
 use Rattle.c_pieces.proofs.adding.store.Statement.{statement}
 use Rattle.c_pieces.proofs.adding.store.Tie as tie

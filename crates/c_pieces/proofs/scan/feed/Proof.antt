@@ -4,7 +4,7 @@ use borrow.Author.Needs.{needs}
 use denote.Ref.{now}
 use Rattle.archive_model.specs.Buffer.{Scan}
 use Rattle.archive_model.specs.Append.{Feeding, feedOf}
-use Rattle.archive.specs.Archive.{feedResult}
+use Rattle.archive_file.specs.Archive.{feedResult}
 use Rattle.c_pieces.specs.Scan.{ScanCall, scanAt, scanNumbers, scanShown}
 use Rattle.c_pieces.proofs.Scans.{shown-kept, shown-taken}
 use Rattle.c_pieces.proofs.scan.feed.Statement.{statement}

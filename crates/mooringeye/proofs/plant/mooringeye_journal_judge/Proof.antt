@@ -1,7 +1,7 @@
 -- `mooringeye::plant::mooringeye_journal_judge` meets its contract: the number of the judgement.
 use mathlib.Core.Path.{ap, _∙_}
 use borrow.Author.Needs.{needs}
-use Rattle.journal.specs.Block.{judgementNumber}
+use Rattle.journal_calls.specs.Block.{judgementNumber}
 use Rattle.mooringeye.proofs.plant.mooringeye_journal_judge.Statement.{statement}
 use Rattle.mooringeye.proofs.plant.mooringeye_journal_judge.Tie as tie
 

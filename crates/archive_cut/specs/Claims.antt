@@ -1,0 +1,47 @@
+-- What is proved of rows taken back.
+use Prim.Native.Nat.{ℕ, _+_, _-_, _*_, _/_, _%_, _<_}
+use mathlib.Core.Path.{_≡_}
+use mathlib.Core.List.{List, _++_}
+use lib.ListN.{length, take, drop, replicate}
+use Rattle.block_layout.specs.Block.{cellsPerBlock, blockLength}
+use Rattle.archive_model.specs.Buffer.{rowsIn}
+use Rattle.archive_model.specs.Append.{verdict, stored, blockAt}
+use Rattle.archive_model.specs.Claims.{afterAppends}
+use Rattle.archive_cut.specs.Cut.{cutOf, cutBlockOf}
+
+-- Remains: an archive of the same length, of exactly the first m rows.
+abbrev pub Remains : Type 0
+Remains =
+    (m : ℕ) (buffer : List ℕ) → cutOf m buffer .number ≡ 0
+    → (verdict (cutOf m buffer .buffer) .number ≡ 0) × (rowsIn (cutOf m buffer .buffer) ≡ take m (rowsIn buffer))
+    × (length (cutOf m buffer .buffer) ≡ length buffer)
+
+-- Again: a second cut at the same row changes nothing.
+abbrev pub CutAgain : Type 0
+CutAgain =
+    (m : ℕ) (buffer : List ℕ) → cutOf m buffer .number ≡ 0
+    → cutOf m (cutOf m buffer .buffer) ≡ stored (cutOf m buffer .buffer)
+
+-- Undone: the rows that were taken back, appended again in their order, give the old buffer.
+abbrev pub Undone : Type 0
+Undone =
+    (m : ℕ) (buffer : List ℕ) → cutOf m buffer .number ≡ 0
+    → afterAppends (cutOf m buffer .buffer) (drop m (rowsIn buffer)) ≡ buffer
+
+-- One block: where rows are taken back, the blocks before block m / 15 stay, that block is cut by itself, and zeros stand behind it.
+abbrev pub AtOneBlock : Type 0
+AtOneBlock =
+    (m : ℕ) (buffer : List ℕ) → verdict buffer .number ≡ 0 → m < length (rowsIn buffer)
+    → (cutBlockOf (m % cellsPerBlock) (blockAt (m / cellsPerBlock) buffer) .number ≡ 0)
+    × (cutOf m buffer
+    ≡ stored
+    (take (blockLength * (m / cellsPerBlock)) buffer
+    ++ cutBlockOf (m % cellsPerBlock) (blockAt (m / cellsPerBlock) buffer) .block
+    ++ replicate (length buffer - (blockLength * (m / cellsPerBlock) + blockLength)) 0))
+
+-- From the end: zeros from block k on cut an archive at that block, so that a file whose blocks are cleared from the last one on stays an archive.
+abbrev pub ZerosBehind : Type 0
+ZerosBehind =
+    (k : ℕ) (buffer : List ℕ) → verdict buffer .number ≡ 0 → cellsPerBlock * k < length (rowsIn buffer)
+    → cutOf (cellsPerBlock * k) buffer
+    ≡ stored (take (blockLength * k) buffer ++ replicate (length buffer - blockLength * k) 0)

@@ -1,0 +1,39 @@
+-- Rows taken back: an archive cut after its first rows, whole in its buffer or at one block, in the layout of document 02, A2.
+use Prim.Native.Nat.{ℕ}
+use mathlib.Core.Bool.{cond, not, _&&_}
+use mathlib.Core.List.{List}
+use lib.Dec.{ltb, leb, eqb}
+use lib.ListN.{length, take, replicate}
+use Rattle.base_refusal.specs.Number.{numberOf}
+use Rattle.base_refusal.specs.declared.Refusal.the-variants.{Argument, Mismatch, Size}
+use Rattle.block_layout.specs.Block.{blockLength}
+use Rattle.archive_model.specs.Row.{rowsBlock, blockNumber, rowCount, rowsOf, isSound}
+use Rattle.archive_model.specs.Buffer.{rowsIn, bufferOf}
+use Rattle.archive_model.specs.Append.{verdict, Appended, refusedAppend, stored}
+
+-- ---- an archive
+
+-- 16, 12 with its position, 10 for more rows than it has; else its first m rows in the same buffer
+unfoldable pub cutOf : ℕ → List ℕ → Appended
+cutOf m buffer =
+    cond (not (eqb (verdict buffer .number) 0))
+    (refusedAppend (verdict buffer .number) (verdict buffer .position) buffer)
+    (cond (ltb (length (rowsIn buffer)) m) (refusedAppend (numberOf Argument) 0 buffer)
+    (stored (bufferOf (length buffer) (take m (rowsIn buffer)))))
+
+-- ---- one block
+
+-- the block of its first m rows; all zero, as the end of an archive is, where they are none
+unfoldable pub firstRows : ℕ → List ℕ → List ℕ
+firstRows m block = cond (eqb m 0) (replicate blockLength 0) (rowsBlock (blockNumber block) (take m (rowsOf block)))
+
+pub record CutBlock : Type 0 where
+  pub number : ℕ
+  pub block : List ℕ
+
+-- 16 for another length, 12 for a block that isn't sound or has fewer rows
+unfoldable pub cutBlockOf : ℕ → List ℕ → CutBlock
+cutBlockOf m block =
+    cond (not (eqb (length block) blockLength)) (record { number = numberOf Size; block = block })
+    (cond (not (isSound block && leb m (rowCount block))) (record { number = numberOf Mismatch; block = block })
+    (record { number = 0; block = firstRows m block }))

@@ -1,0 +1,106 @@
+// Rows taken back: an archive is cut after its first rows, whole in its buffer or at one block.
+use archive_file::Opened;
+use archive_file::Outcome;
+use archive_file::Taken;
+use base_refusal::Refusal;
+use block_layout::BLOCK_LENGTH;
+use block_layout::CELL_LENGTH;
+use block_layout::CELLS_PER_BLOCK;
+use block_layout::HEADER_LENGTH;
+ghost use mathlib.Core.Path.{_≡_};
+ghost use mathlib.Core.Bool.{true};
+ghost use Prim.Native.Nat.{_≤_, _<_};
+ghost use lib.ListN.{length, take};
+ghost use Rattle.block_layout.specs.Block.{cellsPerBlock, blockLength};
+ghost use Rattle.archive_model.specs.Row.{rowCount, isSound};
+ghost use Rattle.archive_model.specs.Buffer.{bufferOf, rowsIn};
+ghost use Rattle.archive_model.specs.Append.{verdict};
+ghost use Rattle.archive_file.specs.Archive.{appendResult};
+ghost use Rattle.archive_cut.specs.Cut.{firstRows, cutBlockOf, cutOf};
+ghost use Rattle.archive_cut.specs.Calls.{cutBlockResult};
+ghost use Rattle.archive_cut.specs.Private.{keptRows};
+
+// The bytes of a block before its CRC.
+const BODY_LENGTH: usize = BLOCK_LENGTH - 1;
+
+// The first `rows` rows of a block: their count, zeros behind them, and the CRC.
+fn keep_rows(block: &mut [u8], rows: usize)
+    requires { ⌜ (length (now block) ≡ blockLength) × (rows ≤ cellsPerBlock) ⌝ }
+    ensures { λ _. ⌜ now (block .exit) ≡ keptRows rows (now (block .entry)) ⌝ }
+{
+    let end = HEADER_LENGTH + CELL_LENGTH * rows;
+    block[4] = rows as u8;
+    block_layout::clear(&mut block[end..BODY_LENGTH]);
+    block_layout::seal(block);
+}
+
+// A sound block of at least `rows` rows becomes that of the first of them; all zero for none.
+fn shorten(block: &mut [u8], rows: usize)
+    requires { ⌜ (isSound (now block) ≡ true) × (rows ≤ rowCount (now block)) ⌝ }
+    ensures { λ _. ⌜ now (block .exit) ≡ firstRows rows (now (block .entry)) ⌝ }
+{
+    if rows == 0 {
+        block_layout::clear(block);
+        return;
+    }
+    keep_rows(block, rows);
+}
+
+// One block becomes that of its first `rows` rows, and all zero for none. Refused: 16 for another length, 12 for a block that isn't sound or has
+// fewer rows; then it is as it was.
+pub fn cut_block(block: &mut [u8], rows: usize) -> Taken
+    ensures { λ r. ⌜ cutBlockResult r (now (block .exit)) ≡ cutBlockOf rows (now (block .entry)) ⌝ }
+{
+    if block.len() != BLOCK_LENGTH {
+        return Taken::Refused(Refusal::Size);
+    }
+    let used = archive_file::sound(block);
+    if used == 0 {
+        return Taken::Refused(Refusal::Mismatch);
+    }
+    if used < rows {
+        return Taken::Refused(Refusal::Mismatch);
+    }
+    shorten(block, rows);
+    Taken::Done
+}
+
+// Leaves the first `rows` rows of an archive. Refused: 16, 12 with the position, 10 where it has fewer; then the buffer is as it was.
+pub fn cut(buffer: &mut [u8], rows: usize) -> Outcome
+    ensures { λ r. ⌜ appendResult r (now (buffer .exit)) ≡ cutOf rows (now (buffer .entry)) ⌝ }
+{
+    let opened = archive_file::open(buffer);
+    match opened {
+        Opened::Rows(n) => cut_from(buffer, n, rows),
+        Opened::Damaged(k) => Outcome::Damaged(k),
+        Opened::Refused(why) => Outcome::Refused(why),
+    }
+}
+
+// The same of an archive of `n` rows.
+fn cut_from(buffer: &mut [u8], n: usize, rows: usize) -> Outcome
+    requires { ⌜ (verdict (now buffer) .number ≡ 0) × (n ≡ length (rowsIn (now buffer))) ⌝ }
+    ensures { λ r. ⌜ appendResult r (now (buffer .exit)) ≡ cutOf rows (now (buffer .entry)) ⌝ }
+{
+    if n < rows {
+        return Outcome::Refused(Refusal::Argument);
+    }
+    if n == rows {
+        return Outcome::Done;
+    }
+    take_back(buffer, rows);
+    Outcome::Done
+}
+
+// Where it has more: the block in which the first `rows` rows end is cut, and zeros stand behind it.
+fn take_back(buffer: &mut [u8], rows: usize)
+    requires { ⌜ (verdict (now buffer) .number ≡ 0) × (rows < length (rowsIn (now buffer))) ⌝ }
+    ensures { λ _. ⌜ now (buffer .exit)
+        ≡ bufferOf (length (now (buffer .entry))) (take rows (rowsIn (now (buffer .entry)))) ⌝ }
+{
+    let at = BLOCK_LENGTH * (rows / CELLS_PER_BLOCK);
+    let next = at + BLOCK_LENGTH;
+    let end = buffer.len();
+    shorten(&mut buffer[at..next], rows % CELLS_PER_BLOCK);
+    block_layout::clear(&mut buffer[next..end]);
+}

@@ -1,0 +1,149 @@
+-- What is proved of salvage and of removal (document 02, A9 and A11).
+use Prim.Native.Nat.{ℕ, _+_, _*_, _/_, _%_, _≤_, _<_}
+use mathlib.Core.Path.{_≡_}
+use mathlib.Core.Bool.{true}
+use mathlib.Core.List.{List, [], _∷_, _++_, flatten, List·Memᴰ}
+use lib.Dec.{ltb, eqb}
+use lib.ListN.{length, take, drop}
+use Rattle.base_lists.specs.Lists.{all, count, pairwise}
+use Rattle.block_layout.specs.Cell.{cellLength}
+use Rattle.block_layout.specs.Block.{cellsPerBlock, blockLength}
+use Rattle.archive_model.specs.Row.{Row, isRow, isSound, isBlank}
+use Rattle.archive_model.specs.Buffer.{maxRows, blocksFor, blocksIn, rowsIn, archiveOf, bufferOf}
+use Rattle.archive_model.specs.Append.{verdict, appendOf, blockAt}
+use Rattle.archive_repack_model.specs.Repack.{soundRows, isDropped, dropped, salvageOf, maxIdentities, others, removeOf}
+use Rattle.archive_repack_model.specs.Packer.{Packing, packing, pendingLength, packedAs, Call, Run, startRun, packAll, endOf}
+
+-- ---- salvage
+
+-- what it wrote: the output up to the buffer's length
+abbrev pub salvagedFront : List ℕ → List ℕ → List ℕ → List ℕ
+salvagedFront buffer output positions = take (length buffer) (salvageOf buffer output positions .output)
+
+-- Kept: "Rows are kept in order, none altered, none made up", in an archive.
+abbrev pub Kept : Type 0
+Kept =
+    (buffer output positions : List ℕ) → salvageOf buffer output positions .number ≡ 0
+    → (verdict (salvagedFront buffer output positions) .number ≡ 0)
+    × (rowsIn (salvagedFront buffer output positions) ≡ soundRows buffer)
+
+-- Accounted: every block is kept, dropped or all zero, and no two of them; the list rises, and has a position just where its block is dropped.
+pub record Accounted (buffer : List ℕ) : Type 0 where
+  pub blocks :
+      count isSound (blocksIn buffer) + length (dropped buffer) + count isBlank (blocksIn buffer)
+      ≡ length buffer / blockLength
+  pub rising : pairwise ltb (dropped buffer) ≡ true
+  pub listed : (k : ℕ) → List·Memᴰ k (dropped buffer)
+      → (k < length buffer / blockLength) × (isDropped (blockAt k buffer) ≡ true)
+  pub every : (k : ℕ) → k < length buffer / blockLength → isDropped (blockAt k buffer) ≡ true
+      → List·Memᴰ k (dropped buffer)
+
+-- Intact: "an intact archive comes back unchanged, with 0 dropped", whatever the list's length is.
+abbrev pub Intact : Type 0
+Intact =
+    (buffer output positions : List ℕ) → verdict buffer .number ≡ 0 → length buffer ≤ length output
+    → salvageOf buffer output positions
+    ≡ record {
+      number = 0;
+      count = 0;
+      rows = length (rowsIn buffer);
+      output = buffer ++ drop (length buffer) output;
+      positions = positions;
+    }
+
+-- Again: salvage of what salvage wrote is just that, with 0 dropped.
+abbrev pub SalvagedAgain : Type 0
+SalvagedAgain =
+    (buffer output positions output2 positions2 : List ℕ) → salvageOf buffer output positions .number ≡ 0
+    → length buffer ≤ length output2
+    → salvageOf (salvagedFront buffer output positions) output2 positions2
+    ≡ record {
+      number = 0;
+      count = 0;
+      rows = salvageOf buffer output positions .rows;
+      output = salvagedFront buffer output positions ++ drop (length buffer) output2;
+      positions = positions2;
+    }
+
+-- Untouched: the output and the list keep their lengths, and what stands behind what was written; beside a refusal all of them.
+pub record Untouched (buffer output positions : List ℕ) : Type 0 where
+  pub outputLength : length (salvageOf buffer output positions .output) ≡ length output
+  pub listLength : length (salvageOf buffer output positions .positions) ≡ length positions
+  pub outputPast : drop (length buffer) (salvageOf buffer output positions .output) ≡ drop (length buffer) output
+  pub listPast :
+      drop (salvageOf buffer output positions .count) (salvageOf buffer output positions .positions)
+      ≡ drop (salvageOf buffer output positions .count) positions
+  pub refused :
+      (salvageOf buffer output positions .number ≡ 0 → ⊥)
+      → (salvageOf buffer output positions .output ≡ output)
+      × (salvageOf buffer output positions .positions ≡ positions)
+
+-- ---- removal
+
+-- Remains: the other rows in order, in an archive of the same length.
+abbrev pub Remains : Type 0
+Remains =
+    (buffer identities : List ℕ) → removeOf buffer identities .number ≡ 0
+    → (verdict (removeOf buffer identities .buffer) .number ≡ 0)
+    × (rowsIn (removeOf buffer identities .buffer) ≡ others identities (rowsIn buffer))
+    × (length (removeOf buffer identities .buffer) ≡ length buffer)
+
+-- Again: "A second run with the same list changes nothing", and frees nothing.
+abbrev pub RemovedAgain : Type 0
+RemovedAgain =
+    (buffer identities : List ℕ) → removeOf buffer identities .number ≡ 0
+    → removeOf (removeOf buffer identities .buffer) identities
+    ≡ record { number = 0; position = 0; freed = 0; buffer = removeOf buffer identities .buffer }
+
+-- Freed: "Blocks no longer needed are zero filled and their number reported": those that are all zero now and were not before.
+abbrev pub Freed : Type 0
+Freed =
+    (buffer identities : List ℕ) → removeOf buffer identities .number ≡ 0
+    → (removeOf buffer identities .freed + count isBlank (blocksIn buffer)
+    ≡ count isBlank (blocksIn (removeOf buffer identities .buffer)))
+    × ((k : ℕ) → blocksFor (length (others identities (rowsIn buffer))) ≤ k → k < length buffer / blockLength
+    → isBlank (blockAt k (removeOf buffer identities .buffer)) ≡ true)
+
+-- Then append: "later appends use them once the last block is full", until every block is.
+abbrev pub ThenAppend : Type 0
+ThenAppend =
+    (buffer identities : List ℕ) (r : Row) → removeOf buffer identities .number ≡ 0 → isRow r ≡ true
+    → length (others identities (rowsIn buffer)) < cellsPerBlock * (length buffer / blockLength)
+    → appendOf (removeOf buffer identities .buffer) r
+    ≡ record {
+      number = 0;
+      position = 0;
+      buffer = bufferOf (length buffer) (others identities (rowsIn buffer) ++ (r ∷ []));
+    }
+
+-- Both lists: removal by one list and then by another is removal by both.
+abbrev pub BothLists : Type 0
+BothLists =
+    (buffer xs ys : List ℕ) → verdict buffer .number ≡ 0 → length (xs ++ ys) ≤ maxIdentities
+    → removeOf (removeOf buffer xs .buffer) ys .buffer ≡ removeOf buffer (xs ++ ys) .buffer
+
+-- ---- the packer
+
+-- after calls, and the end: it is answered 0, all blocks written are the archive of the rows that stay of the pieces that were taken, no more than
+-- 2^32 blocks hold, and the positions are those of their dropped blocks
+pub record PackedWhole (identities : List ℕ) (r : Run) (output : List ℕ) : Type 0 where
+  pub ended : endOf r output .number ≡ 0
+  pub blocks :
+      r .written ++ take (endOf r output .length) (endOf r output .output)
+      ≡ archiveOf (others identities (soundRows (r .taken)))
+  pub few : length (others identities (soundRows (r .taken))) ≤ maxRows
+  pub positions : r .dropped ≡ dropped (r .taken)
+
+-- Pieces are the whole: of calls with pieces one after the other, refused ones anywhere between.
+abbrev pub PiecesPacked : Type 0
+PiecesPacked =
+    (identities pending output : List ℕ) (calls : List Call) → length pending ≡ pendingLength
+    → blockLength ≤ length output → PackedWhole identities (packAll identities (startRun pending) calls) output
+
+-- Held: what a packer is lent after a piece holds its packing, which the next piece reads.
+abbrev pub Held : Type 0
+Held =
+    (count : ℕ) (p : Packing) (output positions : List ℕ) → length (p .waiting) % cellLength ≡ 0
+    → packing (packedAs count p output positions .next) (packedAs count p output positions .used)
+    (packedAs count p output positions .pending)
+    ≡ p

@@ -1,0 +1,190 @@
+-- The packer of salvage and removal: rows that stay are packed "so that only the last block is short" and renumbered from 0, the whole at once
+-- or in pieces (document 02, A9 and A11).
+use Prim.Native.Nat.{ℕ, _+_, _-_, _*_, _/_, _%_}
+use mathlib.Core.Bool.{Bool, cond, not, _&&_, _||_}
+use mathlib.Core.List.{List, [], _∷_, _++_, map, flatten}
+use lib.Dec.{ltb, leb, eqb}
+use lib.ListN.{length, take, drop}
+use Rattle.base_lists.specs.Lists.{padded, upFrom}
+use Rattle.base_refusal.specs.Number.{numberOf}
+use Rattle.base_refusal.specs.declared.Refusal.the-variants.{ShortOutput, Argument, NotAccepted, Size}
+use Rattle.base_buffers.specs.Buffer.{part}
+use Rattle.block_layout.specs.Cell.{cellLength}
+use Rattle.block_layout.specs.Block.{cellsPerBlock, bodyLength, blockLength, sealed}
+use Rattle.archive_model.specs.Row.{Row, rowCell, rowsHeader}
+use Rattle.archive_model.specs.Buffer.{maxRows}
+use Rattle.archive_repack_model.specs.Repack.{soundRows, dropped, fronted, maxIdentities, others}
+
+-- what was packed: how many blocks, and the cells that wait for the next one, as bytes
+pub record Packing : Type 0 where
+  pub next : ℕ
+  pub waiting : List ℕ
+
+abbrev pub startPacking : Packing
+startPacking = record { next = 0; waiting = [] }
+
+-- the bytes of 15 cells
+abbrev pub fullLength : ℕ
+fullLength = cellLength * cellsPerBlock
+
+-- block k with these cells
+unfoldable pub cellsBlock : ℕ → List ℕ → List ℕ
+cellsBlock k cells = sealed (padded bodyLength (rowsHeader k (length cells / cellLength) ++ cells))
+
+-- the blocks that cells fill, the first of them block k
+unfoldable pub fullBlocks : ℕ → List ℕ → List ℕ
+fullBlocks k cells =
+    flatten
+    (map (λ j. cellsBlock (k + j) (part (fullLength * j) fullLength cells)) (upFrom 0 (length cells / fullLength)))
+
+-- cells behind those that wait: the blocks that they fill together, and what is packed then
+abbrev pub pushedBlocks : Packing → List ℕ → List ℕ
+pushedBlocks p cells = fullBlocks (p .next) (p .waiting ++ cells)
+
+unfoldable pub pushed : Packing → List ℕ → Packing
+pushed p cells = record {
+  next = p .next + length (p .waiting ++ cells) / fullLength;
+  waiting = drop (fullLength * (length (p .waiting ++ cells) / fullLength)) (p .waiting ++ cells);
+}
+
+-- the last block, where cells wait
+unfoldable pub lastBlock : Packing → List ℕ
+lastBlock p = cond (eqb (length (p .waiting)) 0) [] (cellsBlock (p .next) (p .waiting))
+
+abbrev pub cellsOf : List Row → List ℕ
+cellsOf rows = flatten (map rowCell rows)
+
+-- the cells of the rows of a piece that stay
+unfoldable pub keptCells : List ℕ → List ℕ → List ℕ
+keptCells identities piece = cellsOf (others identities (soundRows piece))
+
+-- ---- the calls in pieces
+
+-- the bytes that a packer is lent: for the cells that wait, and for those of one block more
+abbrev pub pendingLength : ℕ
+pendingLength = fullLength + fullLength
+
+-- the packing that they hold: the first `used` cells wait
+abbrev pub packing : ℕ → ℕ → List ℕ → Packing
+packing next used pending = record { next = next; waiting = take (cellLength * used) pending }
+
+-- so many full blocks, and cells that wait, have no more rows than an archive of 2^32 blocks
+abbrev pub hasBlocks : ℕ → ℕ → Bool
+hasBlocks full used = leb (cellsPerBlock * full + used) maxRows
+
+-- fewer than 15 cells wait, and there is a block number for them
+unfoldable pub isPacking : ℕ → ℕ → List ℕ → Bool
+isPacking next used pending =
+    eqb (length pending) pendingLength && (ltb used cellsPerBlock && hasBlocks next used)
+
+-- the number, and how many blocks of the piece were dropped; how many cells wait then, how many blocks were packed, and every byte that the packer
+-- is lent; every byte and element of the output and of the list
+pub record Packed : Type 0 where
+  pub number : ℕ
+  pub count : ℕ
+  pub used : ℕ
+  pub next : ℕ
+  pub pending : List ℕ
+  pub output : List ℕ
+  pub positions : List ℕ
+
+-- a refusal, beside which all is as it was
+abbrev pub keptAs : ℕ → ℕ → ℕ → List ℕ → List ℕ → List ℕ → Packed
+keptAs number next used pending output positions = record {
+  number = number;
+  count = 0;
+  used = used;
+  next = next;
+  pending = pending;
+  output = output;
+  positions = positions;
+}
+
+-- a packing as it is lent: zeros stand behind the cells that wait
+abbrev pub packedAs : ℕ → Packing → List ℕ → List ℕ → Packed
+packedAs count p output positions = record {
+  number = 0;
+  count = count;
+  used = length (p .waiting) / cellLength;
+  next = p .next;
+  pending = padded pendingLength (p .waiting);
+  output = output;
+  positions = positions;
+}
+
+-- a piece: 11; 16 for one that isn't whole blocks, or whose rows could need more than 2^32 blocks with those before; 10 for more than 32 identities;
+-- 6 for an output shorter than the piece or a list too short. Positions count from the first block of the piece.
+unfoldable pub packOf : ℕ → ℕ → List ℕ → List ℕ → List ℕ → List ℕ → List ℕ → Packed
+packOf next used pending piece identities output positions =
+    cond (not (isPacking next used pending))
+    (keptAs (numberOf NotAccepted) next used pending output positions)
+    (cond (not (eqb (length piece % blockLength) 0 && hasBlocks (next + length piece / blockLength) used))
+    (keptAs (numberOf Size) next used pending output positions)
+    (cond (ltb maxIdentities (length identities))
+    (keptAs (numberOf Argument) next used pending output positions)
+    (cond (ltb (length output) (length piece) || ltb (length positions) (length (dropped piece)))
+    (keptAs (numberOf ShortOutput) next used pending output positions)
+    (packedAs (length (dropped piece)) (pushed (packing next used pending) (keptCells identities piece))
+    (fronted (pushedBlocks (packing next used pending) (keptCells identities piece)) output)
+    (fronted (dropped piece) positions)))))
+
+pub record Finished : Type 0 where
+  pub number : ℕ
+  pub length : ℕ
+  pub output : List ℕ
+
+-- the end: 11; 6 for an output too short for the last block; else its length, 512 or 0
+unfoldable pub finishOf : ℕ → ℕ → List ℕ → List ℕ → Finished
+finishOf next used pending output =
+    cond (not (isPacking next used pending)) (record { number = numberOf NotAccepted; length = 0; output = output })
+    (cond (ltb (length output) (length (lastBlock (packing next used pending))))
+    (record { number = numberOf ShortOutput; length = 0; output = output })
+    (record {
+      number = 0;
+      length = length (lastBlock (packing next used pending));
+      output = fronted (lastBlock (packing next used pending)) output;
+    }))
+
+-- ---- what calls give together
+
+-- what a call is lent beside the packer
+pub record Call : Type 0 where
+  pub piece : List ℕ
+  pub output : List ℕ
+  pub positions : List ℕ
+
+-- after some calls: the packer; the blocks written, the positions of dropped blocks from the first piece on, and the pieces that were taken, each put
+-- together
+pub record Run : Type 0 where
+  pub next : ℕ
+  pub used : ℕ
+  pub pending : List ℕ
+  pub written : List ℕ
+  pub dropped : List ℕ
+  pub taken : List ℕ
+
+abbrev pub startRun : List ℕ → Run
+startRun pending = record { next = 0; used = 0; pending = pending; written = []; dropped = []; taken = [] }
+
+-- a call for a piece that was answered a: beside 0 it wrote the blocks by which their number rose
+abbrev pub ran : Run → List ℕ → Packed → Run
+ran r piece a = record {
+  next = a .next;
+  used = a .used;
+  pending = a .pending;
+  written = r .written ++ cond (eqb (a .number) 0) (take (blockLength * (a .next - r .next)) (a .output)) [];
+  dropped = r .dropped ++ cond (eqb (a .number) 0)
+      (map (λ k. length (r .taken) / blockLength + k) (take (a .count) (a .positions))) [];
+  taken = r .taken ++ cond (eqb (a .number) 0) piece [];
+}
+
+abbrev pub packAll : List ℕ → Run → List Call → Run
+packAll identities r [] = r
+packAll identities r (c ∷ cs) =
+    packAll identities
+    (ran r (c .piece)
+    (packOf (r .next) (r .used) (r .pending) (c .piece) identities (c .output) (c .positions))) cs
+
+-- the end
+abbrev pub endOf : Run → List ℕ → Finished
+endOf r output = finishOf (r .next) (r .used) (r .pending) output

@@ -1,0 +1,91 @@
+-- What the calls over a report show (document 02, A12).
+use Prim.Native.Nat.{ℕ}
+use mathlib.Core.Bool.{cond}
+use mathlib.Core.List.{List}
+use lib.Dec.{eqb}
+use Rattle.base_refusal.specs.Number.{numberOf}
+use Rattle.base_refusal.specs.declared.Refusal.the-variants.{Mismatch}
+use Rattle.archive_file.specs.declared.Outcome.{Outcome}
+use Rattle.archive_file.specs.declared.Outcome.the-variants as outcome
+use Rattle.archive_file.specs.Archive.{scanOf, takenNumber}
+use Rattle.archive_report_model.specs.Report as model
+use Rattle.archive_report_model.specs.Pieces as pieces
+use Rattle.archive_report.specs.declared.Report.{Report}
+use Rattle.archive_report.specs.declared.Added.{Added}
+use Rattle.archive_report.specs.declared.Adding.{Adding}
+use Rattle.archive_report.specs.declared.Fed.{Fed}
+use Rattle.archive_report.specs.declared.Share.{Share}
+use Rattle.archive_report.specs.declared.Share.the-variants as share
+use Rattle.archive_report.specs.declared.Looked.{Looked}
+use Rattle.archive_report.specs.declared.Looked.the-variants as looked
+use Rattle.archive_report.specs.declared.LineAt.{LineAt}
+use Rattle.archive_report.specs.Lines.{linesAt, written}
+
+-- ---- what a report says: its lines are the first `count`
+
+abbrev pub reportOf : Report → model.Report
+reportOf s = record { archives = s .archives; lines = linesAt (s .lines) (s .count); kept = s .kept; loose = s .loose }
+
+-- ---- the number of each answer, the position beside 12, and what else is handed back
+
+abbrev pub outcomeNumber : Outcome → ℕ
+outcomeNumber outcome.Done = 0
+outcomeNumber (outcome.Damaged k) = numberOf Mismatch
+outcomeNumber (outcome.Refused why) = numberOf why
+
+abbrev pub outcomePosition : Outcome → ℕ
+outcomePosition outcome.Done = 0
+outcomePosition (outcome.Damaged k) = k
+outcomePosition (outcome.Refused why) = 0
+
+abbrev pub addedResult : Added → model.Addition
+addedResult r = model.answer (outcomeNumber (r .answer)) (outcomePosition (r .answer)) (reportOf (r .next))
+
+abbrev pub shareResult : Share → model.Share
+shareResult (share.PerMille t) = record { number = 0; thousandths = t }
+shareResult (share.Refused why) = record { number = numberOf why; thousandths = 0 }
+
+abbrev pub lookedNumber : Looked → ℕ
+lookedNumber looked.Line = 0
+lookedNumber (looked.Refused why) = numberOf why
+
+abbrev pub lineResult : LineAt → model.LineAnswer
+lineResult r = record {
+  number = lookedNumber (r .answer);
+  line = record {
+    identity = r .identity;
+    kept = r .kept;
+    loose = r .loose;
+    earliest = r .earliest;
+    latest = r .latest;
+  };
+}
+
+-- ---- an archive in pieces
+
+abbrev pub addingOf : Adding → pieces.Adding
+addingOf a = record {
+  report = reportOf (a .before);
+  tally = record {
+    lines = linesAt (a .lines) (a .count);
+    kept = a .kept;
+    loose = a .loose;
+    over = a .over;
+    scan = scanOf (a .scan);
+  };
+}
+
+abbrev pub feedResult : Fed → pieces.Feeding
+feedResult r = pieces.fed (takenNumber (r .answer)) (addingOf (r .next))
+
+-- ---- every number of the lines' array: the lines, and what stood behind them; beside a refusal all as it was
+
+abbrev pub linesAdded : model.Addition → List ℕ → List ℕ
+linesAdded a old = cond (eqb (a .number) 0) (written (a .next .lines) old) old
+
+abbrev pub linesFed : pieces.Feeding → List ℕ → List ℕ
+linesFed a old = cond (eqb (a .number) 0) (written (a .next .tally .lines) old) old
+
+-- at the end those that were added to are the report's
+abbrev pub linesEnded : model.Addition → List ℕ → List ℕ → List ℕ
+linesEnded a new old = cond (eqb (a .number) 0) new old

@@ -1,0 +1,107 @@
+-- An archive that is added block by block, so that it is read once: what is known after some blocks.
+use Prim.Native.Nat.{ℕ, _+_, _*_}
+use mathlib.Core.Bool.{Bool, true, false, cond, not, _&&_, _||_}
+use mathlib.Core.List.{List, [], _∷_}
+use lib.Dec.{ltb, leb, eqb}
+use lib.ListN.{length}
+use Rattle.base_refusal.specs.Number.{numberOf}
+use Rattle.base_refusal.specs.declared.Refusal.the-variants.{Argument, NotAccepted, Mismatch, Size, Transmitters}
+use Rattle.archive_model.specs.Row.{Row, rowsOf, isSound}
+use Rattle.block_layout.specs.Block.{blockLength}
+use Rattle.archive_model.specs.Buffer.{Found, At, None, isWhole, blocksIn, Scan, startScan, scanBlock, stageFound}
+use Rattle.archive_model.specs.Append.{isScan}
+use Rattle.archive_report_model.specs.Report.{Line, Report, maxArchives, maxLines, addRows, keptIn, looseIn, isTally, isReport, Addition, answer}
+
+-- the lines and the totals so far, whether a transmitter was one too many (then no line is left), and the scan of the blocks
+pub record Tally : Type 0 where
+  pub lines : List Line
+  pub kept : ℕ
+  pub loose : ℕ
+  pub over : Bool
+  pub scan : Scan
+
+abbrev pub startTally : Report → Tally
+startTally s = record { lines = s .lines; kept = s .kept; loose = s .loose; over = false; scan = startScan }
+
+-- the rows that a block adds: those of a sound one
+abbrev pub countedRows : List ℕ → List Row
+countedRows block = cond (isSound block) (rowsOf block) []
+
+-- after rows more
+abbrev pub counted : Tally → List Row → Scan → Tally
+counted t rows scan =
+    cond (t .over || ltb maxLines (length (addRows rows (t .lines))))
+    (record { lines = []; kept = 0; loose = 0; over = true; scan = scan })
+    (record {
+      lines = addRows rows (t .lines);
+      kept = t .kept + keptIn rows;
+      loose = t .loose + looseIn rows;
+      over = false;
+      scan = scan;
+    })
+
+unfoldable pub addBlock : Tally → List ℕ → Tally
+addBlock t block = counted t (countedRows block) (scanBlock (t .scan) block)
+
+unfoldable pub addBlocks : Tally → List (List ℕ) → Tally
+addBlocks t [] = t
+addBlocks t (b ∷ bs) = addBlocks (addBlock t b) bs
+
+-- the answer after all blocks: 12, 10, 17, or the report
+abbrev pub closed : Report → Tally → Found → Addition
+closed s t (At k) = answer (numberOf Mismatch) k s
+closed s t None =
+    cond (leb maxArchives (s .archives)) (answer (numberOf Argument) 0 s)
+    (cond (t .over) (answer (numberOf Transmitters) 0 s)
+    (answer 0 0 (record { archives = s .archives + 1; lines = t .lines; kept = t .kept; loose = t .loose })))
+
+unfoldable pub closing : Report → Tally → Addition
+closing s t = closed s t (stageFound (t .scan .stage))
+
+-- ---- the calls in pieces
+
+-- an archive that is being added: the report as handed in, and what is known so far
+pub record Adding : Type 0 where
+  pub report : Report
+  pub tally : Tally
+
+abbrev pub adding : Report → Tally → Adding
+adding s t = record { report = s; tally = t }
+
+abbrev pub startAdding : Report → Adding
+startAdding s = adding s (startTally s)
+
+-- the rows of its lines: those of the report and of the blocks, and none where a transmitter was one too many
+abbrev pub rowsSoFar : Adding → ℕ
+rowsSoFar a = cond (a .tally .over) 0 (a .report .kept + a .report .loose + a .tally .scan .rows)
+
+-- what some pieces give, as far as its numbers tell: 11 for any other
+unfoldable pub isAdding : Adding → Bool
+isAdding a =
+    isReport (a .report)
+    && (isScan (a .tally .scan)
+    && (leb (length (a .tally .lines)) maxLines
+    && (eqb (a .tally .kept + a .tally .loose) (rowsSoFar a)
+    && isTally (a .tally .lines) (a .tally .kept) (a .tally .loose))))
+
+-- the archive so far and this piece are whole blocks, at most 2^32 of them
+abbrev pub isPiece : Scan → List ℕ → Bool
+isPiece scan piece = isWhole (blockLength * scan .blocks + length piece)
+
+pub record Feeding : Type 0 where
+  pub number : ℕ
+  pub next : Adding
+
+abbrev pub fed : ℕ → Adding → Feeding
+fed number next = record { number = number; next = next }
+
+-- 11, then 16 for a piece that isn't whole blocks, or brings more than 2^32 of them in all
+unfoldable pub feedOf : Adding → List ℕ → Feeding
+feedOf a piece =
+    cond (not (isAdding a)) (fed (numberOf NotAccepted) a)
+    (cond (not (isPiece (a .tally .scan) piece)) (fed (numberOf Size) a)
+    (fed 0 (adding (a .report) (addBlocks (a .tally) (blocksIn piece)))))
+
+-- 11, then as `addOf` answers: 12, 10, 17, or the report
+unfoldable pub endedOf : Adding → Addition
+endedOf a = cond (not (isAdding a)) (answer (numberOf NotAccepted) 0 (a .report)) (closing (a .report) (a .tally))

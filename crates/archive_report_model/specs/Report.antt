@@ -1,0 +1,170 @@
+-- The yearly sheet (document 02, A12), here a report: what it says, adding an archive, and its share of receptions.
+use Prim.Native.Nat.{ℕ, _+_, _*_, _/_, _^_, min, max}
+use mathlib.Core.Bool.{Bool, cond, not, _&&_, _||_}
+use mathlib.Core.List.{List, [], _∷_}
+use lib.Dec.{ltb, leb, eqb}
+use lib.ListN.{length, getD}
+use Rattle.base_lists.specs.Lists.{all, pairwise, count}
+use Rattle.base_refusal.specs.Number.{numberOf}
+use Rattle.base_refusal.specs.declared.Refusal.the-variants.{Argument, NotAccepted, Transmitters}
+use Rattle.archive_model.specs.Row.{Row}
+use Rattle.archive_model.specs.Buffer.{maxRows, rowsIn}
+use Rattle.archive_model.specs.Append.{verdict}
+use Rattle.archive_model.specs.Identity.{identityOf}
+
+-- "for each of at most 256 transmitters the KEPT and LOOSE rows and the earliest and latest time"
+pub record Line : Type 0 where
+  pub identity : ℕ
+  pub kept : ℕ
+  pub loose : ℕ
+  pub earliest : ℕ
+  pub latest : ℕ
+
+-- how many archives were added, the lines, and the grand totals
+pub record Report : Type 0 where
+  pub archives : ℕ
+  pub lines : List Line
+  pub kept : ℕ
+  pub loose : ℕ
+
+-- "over up to 64 archives", "at most 256 transmitters"
+abbrev pub maxArchives : ℕ
+maxArchives = 64
+
+abbrev pub maxLines : ℕ
+maxLines = 256
+
+abbrev pub emptyReport : Report
+emptyReport = record { archives = 0; lines = []; kept = 0; loose = 0 }
+
+-- ---- one row more
+
+-- what one row gives
+abbrev pub lineOf : Row → Line
+lineOf r = record {
+  identity = identityOf r;
+  kept = cond (r .loose) 0 1;
+  loose = cond (r .loose) 1 0;
+  earliest = r .time;
+  latest = r .time;
+}
+
+-- two lines of one transmitter
+abbrev pub joined : Line → Line → Line
+joined a b = record {
+  identity = a .identity;
+  kept = a .kept + b .kept;
+  loose = a .loose + b .loose;
+  earliest = min (a .earliest) (b .earliest);
+  latest = max (a .latest) (b .latest);
+}
+
+-- "ordered by identity", a line of the same identity joined
+unfoldable pub insert : Line → List Line → List Line
+insert a [] = a ∷ []
+insert a (b ∷ lines) =
+    cond (ltb (a .identity) (b .identity)) (a ∷ b ∷ lines)
+    (cond (eqb (a .identity) (b .identity)) (joined a b ∷ lines)
+    (b ∷ insert a lines))
+
+unfoldable pub addRows : List Row → List Line → List Line
+addRows [] lines = lines
+addRows (r ∷ rows) lines = addRows rows (insert (lineOf r) lines)
+
+-- "the KEPT and LOOSE rows"
+abbrev pub looseIn : List Row → ℕ
+looseIn rows = count (λ r. r .loose) rows
+
+abbrev pub keptIn : List Row → ℕ
+keptIn rows = count (λ r. not (r .loose)) rows
+
+-- ---- what some archives give: 11 for any other (that it is just this is `Sound` and `Complete` of Claims.antt)
+
+abbrev pub rowsOfLine : Line → ℕ
+rowsOfLine a = a .kept + a .loose
+
+-- a transmitter has a row, and one row has one time
+abbrev pub isLine : Line → Bool
+isLine a =
+    ltb (a .identity) (2 ^ 32)
+    && (leb 1 (rowsOfLine a)
+    && (leb (a .earliest) (a .latest)
+    && (ltb (a .latest) (2 ^ 64)
+    && (ltb 1 (rowsOfLine a) || eqb (a .earliest) (a .latest)))))
+
+abbrev pub isRising : List Line → Bool
+isRising lines = pairwise (λ a b. ltb (a .identity) (b .identity)) lines
+
+abbrev pub sumBy : (Line → ℕ) → List Line → ℕ
+sumBy f [] = 0
+sumBy f (a ∷ lines) = f a + sumBy f lines
+
+-- lines in order, and their sums
+unfoldable pub isTally : List Line → ℕ → ℕ → Bool
+isTally lines kept loose =
+    all isLine lines
+    && (isRising lines
+    && (eqb kept (sumBy (λ a. a .kept) lines)
+    && eqb loose (sumBy (λ a. a .loose) lines)))
+
+-- few archives hold few rows
+unfoldable pub isReport : Report → Bool
+isReport s =
+    leb (s .archives) maxArchives
+    && (leb (length (s .lines)) maxLines
+    && (leb (s .kept + s .loose) (maxRows * s .archives)
+    && isTally (s .lines) (s .kept) (s .loose)))
+
+-- ---- the calls
+
+-- the number, the position beside 12, and the report afterwards
+pub record Addition : Type 0 where
+  pub number : ℕ
+  pub position : ℕ
+  pub next : Report
+
+abbrev pub answer : ℕ → ℕ → Report → Addition
+answer number position next = record { number = number; position = position; next = next }
+
+-- a report with the rows of one archive more
+unfoldable pub added : Report → List Row → Report
+added s rows = record {
+  archives = s .archives + 1;
+  lines = addRows rows (s .lines);
+  kept = s .kept + keptIn rows;
+  loose = s .loose + looseIn rows;
+}
+
+-- 11, 16, 12, 10 for a 65th archive, 17 for a 257th transmitter; "a refused archive adds nothing"
+unfoldable pub addOf : Report → List ℕ → Addition
+addOf s buffer =
+    cond (not (isReport s)) (answer (numberOf NotAccepted) 0 s)
+    (cond (not (eqb (verdict buffer .number) 0)) (answer (verdict buffer .number) (verdict buffer .position) s)
+    (cond (leb maxArchives (s .archives)) (answer (numberOf Argument) 0 s)
+    (cond (ltb maxLines (length (addRows (rowsIn buffer) (s .lines)))) (answer (numberOf Transmitters) 0 s)
+    (answer 0 0 (added s (rowsIn buffer))))))
+
+pub record Share : Type 0 where
+  pub number : ℕ
+  pub thousandths : ℕ
+
+-- "the share of its rows in receptions, in whole thousandths rounded down": 11, then 10 for a received figure of 0 or less than the rows
+unfoldable pub shareOf : Report → ℕ → Share
+shareOf s received =
+    cond (not (isReport s)) (record { number = numberOf NotAccepted; thousandths = 0 })
+    (cond (eqb received 0 || ltb received (s .kept + s .loose)) (record { number = numberOf Argument; thousandths = 0 })
+    (record { number = 0; thousandths = 1000 * (s .kept + s .loose) / received }))
+
+-- line i, from 0: 11, then 10 where there is none
+pub record LineAnswer : Type 0 where
+  pub number : ℕ
+  pub line : Line
+
+abbrev pub noLine : Line
+noLine = record { identity = 0; kept = 0; loose = 0; earliest = 0; latest = 0 }
+
+unfoldable pub lineOfReport : Report → ℕ → LineAnswer
+lineOfReport s i =
+    cond (not (isReport s)) (record { number = numberOf NotAccepted; line = noLine })
+    (cond (leb (length (s .lines)) i) (record { number = numberOf Argument; line = noLine })
+    (record { number = 0; line = getD (s .lines) i noLine }))

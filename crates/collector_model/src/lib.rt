@@ -1,0 +1,24 @@
+// The types that the collector shows to its callers; what it does is in specs/, and what holds of every history in specs/History.antt.
+use base_refusal::Refusal;
+
+// Each equals the number of such answers in the history; received counts all but 8 (document 01, "Merging").
+pub struct Totals {
+    pub received: u64,
+    pub kept: u64,
+    pub copies: u64,
+    pub loose: u64,
+    pub damaged: u64,
+    pub late: u64,
+}
+
+// The answer to a reception.
+pub enum Answer {
+    // The reception opens a telegram.
+    Kept,
+    // The same telegram is open.
+    Copy,
+    // 64 telegrams are open: the reception is handed out, but opens nothing.
+    Loose,
+    // Damaged, late, or not taken.
+    Refused(Refusal),
+}

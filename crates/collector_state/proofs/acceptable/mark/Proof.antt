@@ -1,0 +1,42 @@
+-- `collector_state::acceptable::mark` meets its contract: three bytes, weighted, are far below the range.
+use Prim.Native.Nat.{_-_, _<_}
+use native.Mathlib.Omega.{arith}
+use borrow.Author.Needs.{needs}
+use denote.Ref.{now}
+use lib.ListN.{length}
+use Rattle.collector_state.specs.Private.{markOf}
+use Rattle.collector_state.proofs.acceptable.mark.Statement.{statement}
+use Rattle.collector_state.proofs.acceptable.mark.Tie as tie
+
+-- the three bytes are below 256
+abbrev known : tie.After-wide3 → tie.After-shared-slice-known
+known c = c .before .before .before .before .before .before
+
+small : (c : tie.After-wide3) → (c .before .before .before .before .wide .result < 256) × (c .before .before .wide2 .result < 256) × (c .wide3 .result < 256)
+small c =
+    let k = known c in
+    let n = length (now (k .before .args .telegram)) in
+    (omega (arith, k .shared-slice-known .given (n - 3)), omega (arith, k .shared-slice-known .given (n - 4)), omega (arith, k .shared-slice-known .given 1))
+
+returns : tie.Need-returns
+unfolding markOf
+returns c = (rw (c .before .before .before .before .wide .ensures, c .before .before .wide2 .ensures, c .wide3 .ensures), omega arith)
+
+pub mark-spec : {M : Type 1} → statement M
+mark-spec =
+    tie.close
+    (tie.spec
+    (λ c. search needs)
+    (λ c. search needs)
+    (λ c κs. search needs)
+    (λ c. search needs)
+    (λ c. search needs)
+    (λ c κs. search needs)
+    (λ c. search needs)
+    (λ c κs. search needs)
+    (λ c. omega (arith, small c))
+    (λ c. omega (arith, small c))
+    (λ c. omega (arith, small c))
+    (λ c. omega (arith, small c))
+    (λ c. omega (arith, small c))
+    returns)

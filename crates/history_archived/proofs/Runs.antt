@@ -1,0 +1,277 @@
+-- Calls of `lines`, and calls of `lines_as`, one after the other, follow the reference model.
+use mathlib.Core.Path.{_≡_, refl, sym, ap, ap₂, subst, _∙_}
+use mathlib.Core.List.{List, [], _∷_, _++_, map, append-assoc, append-nil}
+use Prim.Native.Nat.{ℕ, zero, suc, _+_, _≤_}
+use native.Mathlib.Omega.{arith}
+use native.Mathlib.Nat.{zero-add}
+use lib.Dec.{lit<}
+use lib.ListN.{length, take, length-append}
+use Rattle.collector_model.specs.View.{View, fresh}
+use Rattle.collector_model.proofs.Theorem.{fresh-model}
+use Rattle.text_lines.specs.Ascii.{newline}
+use Rattle.text_lines.specs.declared.Setting.{Setting}
+use Rattle.text_lines.specs.Reading.{levelLine, settingOf, lineLimit}
+use Rattle.text_rows.specs.declared.formats.Format.{Format}
+use Rattle.text_rows.specs.Formats.{headingIn}
+use Rattle.text_program.specs.Lines.{Program, linesOf, textOf, outputOf}
+use Rattle.text_program.specs.Chunks.{Position, Bounded, atLineStart, fed, feed, feedText}
+use Rattle.text_program.specs.Chunks.{feedAll, feedAllText, lastText, joined}
+use Rattle.text_program.specs.Collect.{Phase, starting, collect}
+use Rattle.text_program.specs.Buffer.{Fed}
+use Rattle.text_program.proofs.Pieces.{text-append, in-pieces}
+use Rattle.text_program.proofs.Segments.{Drained, none, both}
+use Rattle.archive_fill.specs.Fill.{rowsGiven}
+use Rattle.text_collect.specs.Printed.{pastAfterLines, totalsLine, printedWith, printedOf}
+use Rattle.text_collect.specs.PrintedIn.{printedWithIn, printedIn}
+use Rattle.text_collect.specs.Session.{Receiver, modelCollector, runningAt}
+use Rattle.text_collect.specs.Rows.{rowTimes, rowRecords, lineTicks}
+use Rattle.text_collect.specs.Elements.{Held, held, lineColumns, ElementsAfter}
+use Rattle.text_collect.specs.Formats.{totalsIn, collectIn}
+use Rattle.text_collect.proofs.Storing.{times-bounded, records-bounded, ticks-bounded}
+use Rattle.text_collect.proofs.Formatting.{format-bounded}
+use Rattle.text_collect.proofs.PrintedIn.{formats-in-pieces, formats-print}
+use Rattle.text_print.proofs.Whole.{printed-whole}
+use Rattle.text_print.proofs.Turning.{front-there}
+use Rattle.journal_model.specs.Rows.{modelRows}
+use Rattle.c_collector.specs.State.{Arrays, columnsAt, stateAt}
+use Rattle.c_lines.specs.Formats.{formatOf}
+use Rattle.history_archived.specs.Runs.{Call, usedBy, textBy, timesBy, recordsBy, linesBy, Takes, TakesAs, IsRun}
+use Rattle.history_archived.specs.Runs.{leftBy, usedIn, linesIn, Agrees, CallsFollow, CallsFollowAs}
+use Rattle.history_archived.specs.Claims.{rowsSaid}
+use Rattle.history_archived.proofs.Archived.{lines-archived}
+
+-- what stands at the front of an output after lines
+pub fed-front : {S : Type 0} (p : Program S) (s s' : S) (x out out' : List ℕ) (n : ℕ) → Fed p s x out s' out' n
+    → Drained p lineLimit s x s' (take n out')
+fed-front p s s' x out out' n f =
+    let t = feedText p lineLimit (atLineStart s) x in
+    let n = f .output .next ∙ zero-add (length t) in
+    record { state = f .state; text = sym (front-there out t n (omega (arith, f .output .short)) (f .output .bytes)) }
+
+-- ---- calls, one after the other
+
+abbrev phase : ℕ → Arrays → Phase Receiver
+phase setting a = runningAt setting (stateAt a)
+
+pub chain : (Is : Arrays → Call → Type 0) (setting : ℕ) (p : Program (Phase Receiver)) (given : Call → List ℕ)
+    → ((a : Arrays) (c : Call) → Is a c
+    → Drained p lineLimit (phase setting a) (usedBy c) (phase setting (c .after)) (given c))
+    → (cs : List Call) (a : Arrays) → IsRun Is a cs
+    → Drained p lineLimit (phase setting a) (usedIn cs) (phase setting (leftBy a cs)) (joined (map given cs))
+unfolding IsRun leftBy joined
+chain Is setting p given one [] a r = none p lineLimit (phase setting a)
+chain Is setting p given one (c ∷ cs) a r =
+    both p lineLimit (one a c (r .0)) (chain Is setting p given one cs (c .after) (r .1))
+
+abbrev laid : ℕ → Arrays → Held
+laid setting a = held (phase setting a) (columnsAt a)
+
+-- what a call gave, where its text is that of a program
+record Gave (p : Program (Phase Receiver)) (setting : ℕ) (a : Arrays) (c : Call) : Type 0 where
+  text : Drained p lineLimit (phase setting a) (usedBy c) (phase setting (c .after)) (textBy c)
+  times : Drained rowTimes lineLimit (phase setting a) (usedBy c) (phase setting (c .after)) (timesBy c)
+  records : Drained rowRecords lineLimit (phase setting a) (usedBy c) (phase setting (c .after)) (recordsBy c)
+  elements : Drained lineColumns lineLimit (laid setting a) (usedBy c) (laid setting (c .after)) []
+  ticks : linesBy c ≡ length (feedText lineTicks lineLimit (atLineStart (phase setting a)) (usedBy c))
+
+gave : (setting : ℕ) (a : Arrays) (c : Call) → Takes setting a c → Gave (collect modelCollector) setting a c
+gave setting a c k =
+    let t = k .taken refl in
+    record {
+      text = fed-front _ _ _ _ _ _ _ (t .text);
+      times = fed-front _ _ _ _ _ _ _ (t .times);
+      records = fed-front _ _ _ _ _ _ _ (t .records);
+      elements = fed-front _ _ _ _ [] [] 0 (t .elements);
+      ticks = t .ticks;
+    }
+
+gave-as : (setting format : ℕ) (a : Arrays) (c : Call) → TakesAs setting format a c
+    → Gave (collectIn (formatOf format)) setting a c
+gave-as setting format a c k =
+    let t = k .taken refl in
+    record {
+      text = fed-front _ _ _ _ _ _ _ (t .text);
+      times = fed-front _ _ _ _ _ _ _ (t .times);
+      records = fed-front _ _ _ _ _ _ _ (t .records);
+      elements = fed-front _ _ _ _ [] [] 0 (t .elements);
+      ticks = t .ticks;
+    }
+
+-- all that a program gives for such a text
+pub given-whole : (p : Program (Phase Receiver)) → Bounded p lineLimit
+    → {s s' : Phase Receiver} {x t : List ℕ} → Drained p lineLimit s x s' t → t ++ p .end s' ≡ outputOf p s x
+unfolding feedAllText feedAll joined lastText
+given-whole p b {s} {s'} {x} {t} d =
+    let e = in-pieces p lineLimit (lit< tt) b s (x ∷ []) in
+    rw (append-nil x, append-nil (feedText p lineLimit (atLineStart s) x), d .text, d .state) at e
+
+columns-fed : {h h' : Held} (x : List ℕ) → Drained lineColumns lineLimit h x h' [] → Fed lineColumns h x [] h' [] 0
+columns-fed x d = record {
+  state = d .state;
+  output = rw (d .text) (record { bytes = refl; next = refl; short = omega arith });
+}
+
+-- ---- lines, counted
+
+-- the count goes through the same states as the times
+ticks-state : (x : List ℕ) (b : Position (Phase Receiver)) → feed lineTicks lineLimit b x ≡ feed rowTimes lineLimit b x
+unfolding feed
+ticks-state [] b = refl
+ticks-state (c ∷ x) b = ticks-state x (fed rowTimes lineLimit b c)
+
+ticks-of : (ls : List (List ℕ)) (s : Phase Receiver) → length (textOf lineTicks s ls) ≡ length ls
+unfolding textOf
+ticks-of [] s = refl
+ticks-of (l ∷ ls) s = omega (arith, ticks-of ls (lineTicks .next s l))
+
+ticks-whole : (s s' : Phase Receiver) (x t : List ℕ) → Drained rowTimes lineLimit s x s' t
+    → length (feedText lineTicks lineLimit (atLineStart s) x) ≡ length (linesOf x)
+unfolding outputOf
+ticks-whole s s' x t d =
+    let n = feedText lineTicks lineLimit (atLineStart s) x in
+    let e : Drained lineTicks lineLimit s x s' n =
+    record { state = ticks-state x (atLineStart s) ∙ d .state; text = refl }
+    in
+    ap length (sym (append-nil n) ∙ given-whole lineTicks ticks-bounded e ∙ append-nil (textOf lineTicks s (linesOf x)))
+    ∙ ticks-of (linesOf x) s
+
+-- ---- a run of calls
+
+module _ (Is : Arrays → Call → Type 0) (setting : ℕ) (p : Program (Phase Receiver))
+    (one : (a : Arrays) (c : Call) → Is a c → Gave p setting a c) where
+  columns-run : (cs : List Call) (a : Arrays) → IsRun Is a cs
+      → Drained lineColumns lineLimit (laid setting a) (usedIn cs) (laid setting (leftBy a cs)) []
+  unfolding IsRun leftBy joined
+  columns-run [] a r = none lineColumns lineLimit (laid setting a)
+  columns-run (c ∷ cs) a r =
+      both lineColumns lineLimit (one a c (r .0) .elements) (columns-run cs (c .after) (r .1))
+
+  counted : (cs : List Call) (a : Arrays) → IsRun Is a cs
+      → linesIn cs ≡ length (feedText lineTicks lineLimit (atLineStart (phase setting a)) (usedIn cs))
+  unfolding IsRun linesIn joined feedText
+  counted [] a r = refl
+  counted (c ∷ cs) a r =
+      let g = one a c (r .0) in
+      let b = atLineStart (phase setting a) in
+      let front = feedText lineTicks lineLimit b (usedBy c) in
+      let rest = feedText lineTicks lineLimit (atLineStart (phase setting (c .after))) (usedIn cs) in
+      let e : feedText lineTicks lineLimit b (usedBy c ++ usedIn cs) ≡ front ++ rest =
+      rw (text-append lineTicks lineLimit (usedBy c) (usedIn cs) b, ticks-state (usedBy c) b, g .times .state)
+      in
+      ap₂ _+_ (g .ticks) (counted cs (c .after) (r .1)) ∙ sym (length-append front rest) ∙ ap length (sym e)
+
+  module _ (a : Arrays) (cs : List Call) (e : stateAt a ≡ fresh) (r : IsRun Is a cs) where
+    abbrev last : Phase Receiver
+    last = phase setting (leftBy a cs)
+
+    texts : Drained p lineLimit (runningAt setting fresh) (usedIn cs) last (joined (map textBy cs))
+    texts =
+        subst (λ (v : View). Drained p lineLimit (runningAt setting v) (usedIn cs) last (joined (map textBy cs))) e
+        (chain Is setting p textBy (λ b c k. one b c k .text) cs a r)
+
+    times : Drained rowTimes lineLimit (phase setting a) (usedIn cs) last (joined (map timesBy cs))
+    times = chain Is setting rowTimes timesBy (λ b c k. one b c k .times) cs a r
+
+    records : Drained rowRecords lineLimit (phase setting a) (usedIn cs) last (joined (map recordsBy cs))
+    records = chain Is setting rowRecords recordsBy (λ b c k. one b c k .records) cs a r
+
+    same-rows : rowsGiven (joined (map timesBy cs)) (joined (map recordsBy cs)) ≡ modelRows [] (linesOf (usedIn cs))
+    unfolding pastAfterLines
+    same-rows =
+        let t = sym (append-nil (joined (map timesBy cs))) ∙ given-whole rowTimes times-bounded times in
+        let b = sym (append-nil (joined (map recordsBy cs))) ∙ given-whole rowRecords records-bounded records in
+        ap₂ rowsGiven t b ∙ ap (λ (v : View). rowsSaid (runningAt setting v) (usedIn cs)) (e ∙ fresh-model)
+        ∙ lines-archived setting [] (usedIn cs)
+
+    same-elements : ElementsAfter (runningAt setting fresh) (columnsAt a) (usedIn cs) last (columnsAt (leftBy a cs))
+    same-elements =
+        subst
+        (λ (v : View). ElementsAfter (runningAt setting v) (columnsAt a) (usedIn cs) last (columnsAt (leftBy a cs))) e
+        (columns-fed (usedIn cs) (columns-run cs a r))
+
+    agree : Agrees setting a cs
+    agree = record {
+      rows = same-rows;
+      elements = same-elements;
+      lines = counted cs a r ∙ ticks-whole (phase setting a) last (usedIn cs) (joined (map timesBy cs)) times;
+    }
+
+-- ---- the first line
+
+abbrev levelText : ℕ → List ℕ
+levelText setting = levelLine setting ++ (newline ∷ [])
+
+first : (setting : ℕ) → setting ≤ 2
+    → Drained (collect modelCollector) lineLimit starting (levelText setting) (runningAt setting fresh) []
+unfolding feed feedText settingOf
+first zero h = record { state = refl; text = refl }
+first (suc zero) h = record { state = refl; text = refl }
+first (suc (suc zero)) h = record { state = refl; text = refl }
+first (suc (suc (suc n))) h = absurd (omega arith)
+
+first-in : (f : Format) (setting : ℕ) → setting ≤ 2
+    → Drained (collectIn f) lineLimit starting (levelText setting) (runningAt setting fresh) (headingIn f)
+unfolding feed feedText settingOf
+first-in f zero h = record { state = refl; text = append-nil (headingIn f) }
+first-in f (suc zero) h = record { state = refl; text = append-nil (headingIn f) }
+first-in f (suc (suc zero)) h = record { state = refl; text = append-nil (headingIn f) }
+first-in f (suc (suc (suc n))) h = absurd (omega arith)
+
+-- what is printed for it and lines behind it
+level-printed : (setting : ℕ) → setting ≤ 2 → (x : List ℕ)
+    → printedOf (levelText setting ++ x) ≡ printedWith (Setting.Level setting) (linesOf x)
+unfolding printedOf linesOf settingOf
+level-printed zero h x = refl
+level-printed (suc zero) h x = refl
+level-printed (suc (suc zero)) h x = refl
+level-printed (suc (suc (suc n))) h x = absurd (omega arith)
+
+level-printed-in : (f : Format) (setting : ℕ) → setting ≤ 2 → (x : List ℕ)
+    → printedIn f (levelText setting ++ x) ≡ printedWithIn f (Setting.Level setting) (linesOf x)
+unfolding printedIn linesOf settingOf
+level-printed-in f zero h x = refl
+level-printed-in f (suc zero) h x = refl
+level-printed-in f (suc (suc zero)) h x = refl
+level-printed-in f (suc (suc (suc n))) h x = absurd (omega arith)
+
+-- ---- the claims
+
+follows-text : (setting : ℕ) → setting ≤ 2 → (v : View) (x t : List ℕ)
+    → Drained (collect modelCollector) lineLimit (runningAt setting fresh) x (runningAt setting v) t
+    → t ++ totalsLine (v .totals) ≡ printedWith (Setting.Level setting) (linesOf x)
+unfolding lastText
+follows-text setting few v x t d =
+    let w = both (collect modelCollector) lineLimit (first setting few) d in
+    sym (rw (w .text, w .state) at (printed-whole (levelText setting ++ x))) ∙ level-printed setting few x
+
+-- by pieces, of which there is one
+output-printed : (f : Format) (y : List ℕ) → outputOf (collectIn f) starting y ≡ printedIn f y
+unfolding joined
+output-printed f y =
+    rw (append-nil y) at (sym (formats-in-pieces f starting (y ∷ [])) ∙ formats-print f (y ∷ []))
+
+follows-in : (f : Format) (setting : ℕ) → setting ≤ 2 → (v : View) (x t : List ℕ)
+    → Drained (collectIn f) lineLimit (runningAt setting fresh) x (runningAt setting v) t
+    → headingIn f ++ (t ++ totalsIn f (v .totals)) ≡ printedWithIn f (Setting.Level setting) (linesOf x)
+follows-in f setting few v x t d =
+    let w = both (collectIn f) lineLimit (first-in f setting few) d in
+    let y = levelText setting ++ x in
+    sym (append-assoc (headingIn f) t (totalsIn f (v .totals)))
+    ∙ given-whole (collectIn f) (format-bounded f) w ∙ output-printed f y ∙ level-printed-in f setting few x
+
+pub calls-follow : CallsFollow
+calls-follow setting a cs few e r =
+    let t = texts (Takes setting) setting (collect modelCollector) (gave setting) a cs e r in
+    record {
+      text = follows-text setting few (stateAt (leftBy a cs)) (usedIn cs) (joined (map textBy cs)) t;
+      agrees = agree (Takes setting) setting (collect modelCollector) (gave setting) a cs e r;
+    }
+
+pub calls-follow-as : CallsFollowAs
+calls-follow-as setting format a cs few e r =
+    let f = formatOf format in
+    let t = texts (TakesAs setting format) setting (collectIn f) (gave-as setting format) a cs e r in
+    record {
+      text = follows-in f setting few (stateAt (leftBy a cs)) (usedIn cs) (joined (map textBy cs)) t;
+      agrees = agree (TakesAs setting format) setting (collectIn f) (gave-as setting format) a cs e r;
+    }

@@ -1,0 +1,80 @@
+-- What a log closes: each telegram that is no longer open at the next reception that is accepted, once, with its number of copies (document 02, A8).
+use Prim.Native.Nat.{ℕ, _*_, _<_}
+use mathlib.Core.Path.{_≡_}
+use mathlib.Core.Bool.{true}
+use mathlib.Core.List.{List, [], _∷_, _++_, map}
+use lib.ListN.{length, getD, take}
+use Rattle.collector_model.specs.View.{Reception, Entry, View, fresh}
+use Rattle.collector_model.specs.Burst.{afterAll}
+use Rattle.history_rows.specs.Closings.{closingsFrom, EachOnce}
+use Rattle.collector_closings.specs.Cells.{entryCells}
+use Rattle.text_lines.specs.declared.Setting.{Setting}
+use Rattle.text_lines.specs.Reading.{Reading, reception, bad, settingOf, lineReading}
+use Rattle.text_program.specs.Lines.{linesOf, outputOf}
+use Rattle.text_program.specs.Chunks.{joined}
+use Rattle.text_program.specs.Collect.{starting}
+use Rattle.text_collect.specs.Printed.{receptionAt, pastAfterLines}
+use Rattle.text_collect.specs.Session.{runningAt}
+use Rattle.text_collect.specs.Heard.{lineClosings}
+use Rattle.c_collector.specs.State.{Arrays, stateAt}
+use Rattle.history_archived.specs.Runs.{Call, TakesAs, IsRun, usedIn}
+
+-- ---- by the model
+
+-- the receptions that lines hand over, in order
+abbrev pub handedBy : Reading → List Reception
+handedBy (reception time bytes) = receptionAt time bytes ∷ []
+handedBy bad = []
+
+unfoldable pub handedOver : List (List ℕ) → List Reception
+handedOver [] = []
+handedOver (l ∷ ls) = handedBy (lineReading l) ++ handedOver ls
+
+-- what closes in the lines behind a first line `level N`; any other first line ends the run
+abbrev pub closedWith : Setting → List (List ℕ) → List Entry
+closedWith (Setting.Level n) ls = closingsFrom fresh (handedOver ls)
+closedWith Setting.Bad ls = []
+
+-- the same for a first line that is missing
+abbrev pub closedFor : List (List ℕ) → List Entry
+closedFor [] = []
+closedFor (l ∷ ls) = closedWith (settingOf l) ls
+
+unfoldable pub closedOf : List ℕ → List Entry
+closedOf input = closedFor (linesOf input)
+
+-- Each once: what closes in lines and what is open behind them are the receptions answered KEPT, in order, each once and with its copies
+abbrev pub LinesCloseOnce : Type 0
+LinesCloseOnce =
+    (ls : List (List ℕ))
+    → EachOnce (closingsFrom fresh (handedOver ls) ++ afterAll fresh (handedOver ls) .entries) (pastAfterLines [] ls)
+
+-- ---- as bytes
+
+-- A log: what its lines give is what it closes, 32 bytes for each telegram
+abbrev pub LogClosed : Type 0
+LogClosed = (input : List ℕ) → outputOf (lineClosings true) starting input ≡ entryCells (closedOf input)
+
+-- Further lines: the same from any state on
+abbrev pub LinesClosed : Type 0
+LinesClosed =
+    (setting : ℕ) (v : View) (input : List ℕ)
+    → outputOf (lineClosings true) (runningAt setting v) input
+    ≡ entryCells (closingsFrom v (handedOver (linesOf input)))
+
+-- ---- by calls
+
+-- what a call closes
+abbrev pub closedBy : Call → List ℕ
+closedBy c = take (32 * getD (c .done') 4 0) (c .closed')
+
+-- a call of `lines_as` with room for that
+pub record Answered (setting format : ℕ) (a : Arrays) (c : Call) : Type 0 where
+  pub lines : TakesAs setting format a c
+  pub asked : 0 < length (c .closed)
+
+-- THE CLAIM: from a fresh collector on, however the log is cut into such calls, what they close is what the model closes in all that they used
+abbrev pub CallsClose : Type 0
+CallsClose =
+    (setting format : ℕ) (a : Arrays) (cs : List Call) → stateAt a ≡ fresh → IsRun (Answered setting format) a cs
+    → joined (map closedBy cs) ≡ entryCells (closingsFrom fresh (handedOver (linesOf (usedIn cs))))

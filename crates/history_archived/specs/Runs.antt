@@ -1,0 +1,115 @@
+-- What is claimed of the calls `lines` and `lines_as` on a collector in arrays, as other languages make them: proofs/Runs.antt has the theorems. They use
+-- of the code what the contracts of the calls say, and nothing else. Closed.antt has what `lines_as` closes.
+use Prim.Native.Nat.{ℕ, _+_, _*_, _≤_}
+use mathlib.Core.Path.{_≡_}
+use mathlib.Core.List.{List, [], _∷_, _++_, map}
+use lib.ListN.{length, getD, take}
+use Rattle.collector_model.specs.View.{fresh}
+use Rattle.text_lines.specs.declared.Setting.{Setting}
+use Rattle.text_rows.specs.Formats.{headingIn}
+use Rattle.text_program.specs.Lines.{linesOf}
+use Rattle.text_program.specs.Chunks.{joined}
+use Rattle.archive_fill.specs.Fill.{rowLength, rowsGiven}
+use Rattle.text_collect.specs.Printed.{totalsLine, printedWith}
+use Rattle.text_collect.specs.Session.{runningAt}
+use Rattle.text_collect.specs.Elements.{ElementsAfter}
+use Rattle.text_collect.specs.Formats.{totalsIn}
+use Rattle.text_collect.specs.PrintedIn.{printedWithIn}
+use Rattle.c_collector.specs.State.{Arrays, columnsAt, stateAt}
+use Rattle.c_lines.specs.Calls.{Lines}
+use Rattle.c_lines.specs.Formats.{formatOf, LinesAs}
+use Rattle.journal_model.specs.Rows.{modelRows}
+
+-- a call that was answered 0: what was lent to it, and what it left; `lines` is lent no `closed`
+pub record Call : Type 0 where
+  pub input : List ℕ
+  pub most : ℕ
+  pub out : List ℕ
+  pub moments : List ℕ
+  pub rows : List ℕ
+  pub closed : List ℕ
+  pub done : List ℕ
+  pub after : Arrays
+  pub out' : List ℕ
+  pub moments' : List ℕ
+  pub rows' : List ℕ
+  pub closed' : List ℕ
+  pub done' : List ℕ
+
+-- the characters that it used, the text that it wrote, the times and the records of its rows, and how many lines it took
+abbrev pub usedBy : Call → List ℕ
+usedBy c = take (getD (c .done') 0 0) (c .input)
+
+abbrev pub textBy : Call → List ℕ
+textBy c = take (getD (c .done') 1 0) (c .out')
+
+abbrev pub timesBy : Call → List ℕ
+timesBy c = take (getD (c .done') 2 0) (c .moments')
+
+abbrev pub recordsBy : Call → List ℕ
+recordsBy c = take (rowLength * getD (c .done') 2 0) (c .rows')
+
+abbrev pub linesBy : Call → ℕ
+linesBy c = getD (c .done') 3 0
+
+-- it is a call of `lines` at a setting on these arrays, or one of `lines_as`, in a format too
+abbrev pub Takes : ℕ → Arrays → Call → Type 0
+Takes setting a c =
+    Lines a setting (c .input) (c .most) (c .out) (c .moments) (c .rows) (c .done) 0
+    (c .after) (c .out') (c .moments') (c .rows') (c .done')
+
+abbrev pub TakesAs : (setting format : ℕ) → Arrays → Call → Type 0
+TakesAs setting format a c =
+    LinesAs a setting format (c .input) (c .most) (c .out) (c .moments) (c .rows) (c .closed) (c .done) 0
+    (c .after) (c .out') (c .moments') (c .rows') (c .closed') (c .done')
+
+-- such calls, each on the arrays that the one before left
+unfoldable pub IsRun : (Arrays → Call → Type 0) → Arrays → List Call → Type 0
+IsRun Is a [] = a ≡ a
+IsRun Is a (c ∷ cs) = Is a c × IsRun Is (c .after) cs
+
+-- the arrays after them
+unfoldable pub leftBy : Arrays → List Call → Arrays
+leftBy a [] = a
+leftBy a (c ∷ cs) = leftBy (c .after) cs
+
+-- all that they used, and the lines that they took
+abbrev pub usedIn : List Call → List ℕ
+usedIn cs = joined (map usedBy cs)
+
+unfoldable pub linesIn : List Call → ℕ
+linesIn [] = 0
+linesIn (c ∷ cs) = linesBy c + linesIn cs
+
+-- What holds of both: their rows are the reference model's, every element of the arrays is what the lines of the whole log make of it, and the lines
+-- that they counted are those of the log
+pub record Agrees (setting : ℕ) (a : Arrays) (cs : List Call) : Type 0 where
+  pub rows : rowsGiven (joined (map timesBy cs)) (joined (map recordsBy cs)) ≡ modelRows [] (linesOf (usedIn cs))
+  pub elements : ElementsAfter (runningAt setting fresh) (columnsAt a) (usedIn cs)
+      (runningAt setting (stateAt (leftBy a cs))) (columnsAt (leftBy a cs))
+  pub lines : linesIn cs ≡ length (linesOf (usedIn cs))
+
+-- THE CLAIM of `lines`: from a fresh collector on, however the log is cut into calls, that holds, and their texts with the totals are what `collect`
+-- prints behind its first line
+pub record Follows (setting : ℕ) (a : Arrays) (cs : List Call) : Type 0 where
+  pub text : joined (map textBy cs) ++ totalsLine (stateAt (leftBy a cs) .totals)
+      ≡ printedWith (Setting.Level setting) (linesOf (usedIn cs))
+  pub agrees : Agrees setting a cs
+
+abbrev pub CallsFollow : Type 0
+CallsFollow =
+    (setting : ℕ) (a : Arrays) (cs : List Call) → setting ≤ 2 → stateAt a ≡ fresh → IsRun (Takes setting) a cs
+    → Follows setting a cs
+
+-- THE CLAIM of `lines_as`: the same in a format: behind its heading, which no call writes, their texts are what the model prints in that format, with the
+-- totals where it prints them
+pub record FollowsAs (setting format : ℕ) (a : Arrays) (cs : List Call) : Type 0 where
+  pub text : headingIn (formatOf format)
+      ++ (joined (map textBy cs) ++ totalsIn (formatOf format) (stateAt (leftBy a cs) .totals))
+      ≡ printedWithIn (formatOf format) (Setting.Level setting) (linesOf (usedIn cs))
+  pub agrees : Agrees setting a cs
+
+abbrev pub CallsFollowAs : Type 0
+CallsFollowAs =
+    (setting format : ℕ) (a : Arrays) (cs : List Call) → setting ≤ 2 → stateAt a ≡ fresh
+    → IsRun (TakesAs setting format) a cs → FollowsAs setting format a cs

@@ -1,0 +1,279 @@
+-- What a text gives in parts: whole lines first, a last line without a newline, the first line of a log.
+--     out-more, out-last            a program over whole lines and what is behind them; over a last line
+--     said-more, said-last, no-more the same of the rows
+--     good-fed                      every state on the way is good, so that no call is refused
+--     all-used                      a line with its newline is taken whole
+--     first-said, none-said         a log behind its first line; one that has no right first line
+use mathlib.Core.Path.{_≡_, refl, sym, ap, ap₂, subst, _∙_}
+use mathlib.Core.Bool.{Bool, true, false, cond}
+use mathlib.Core.List.{List, [], _∷_, _++_, append-assoc, append-nil}
+use Prim.Native.Nat.{ℕ, suc, _+_, _*_, _≤_, _<_}
+use native.Mathlib.Omega.{arith}
+use native.Mathlib.Nat.{zero-add}
+use lib.Dec.{lit<, eqb, ltb, leb}
+use lib.ListN.{length, take, drop, length-take, length-append, take-append-drop}
+use lib.Seq.{take-nil, take-all, take-append-le, length-take-le}
+use borrow.Author.Tests.{leb-true, leb-false, ltb-true, ltb-false}
+use Rattle.bytes.specs.Bytes.{indexOf}
+use Rattle.base_lists.specs.Lists.{equal, upFrom}
+use Rattle.base_lists.proofs.Tests.{branch, by-test}
+use Rattle.collector_model.specs.View.{fresh}
+use Rattle.collector_model.specs.Step.{step}
+use Rattle.collector_model.proofs.Invariant.{Good, classified, good-advance}
+use Rattle.text_lines.specs.Ascii.{newline}
+use Rattle.text_lines.specs.declared.Setting.{Setting}
+use Rattle.text_lines.specs.Reading.{Reading, reception, bad, levelLine, settingOf, lineReading, lineLimit}
+use Rattle.text_program.specs.Lines.{Program, linesOf, stateAfter, textOf, outputOf}
+use Rattle.text_program.specs.Chunks.{
+  Position,
+  Bounded,
+  inLine,
+  atLineStart,
+  feed,
+  feedText,
+  feedAll,
+  feedAllText,
+  lastText,
+  endText,
+  joined,
+}
+use Rattle.text_program.specs.Collect.{Phase, starting, running, over, afterFirst, afterLine}
+use Rattle.text_program.specs.Buffer.{isUnended}
+use Rattle.text_program.proofs.Pieces.{in-pieces, feed-append, text-append}
+use Rattle.text_program.proofs.Segments.{
+  Drained,
+  none,
+  more,
+  left,
+  feed-open,
+  open-front,
+  open-before,
+  open-whole,
+  up-to-newline,
+}
+use Rattle.archive_fill.specs.Fill.{rowLength, rowsGiven}
+use Rattle.text_collect.specs.Printed.{receptionAt}
+use Rattle.text_collect.specs.Session.{Receiver, modelCollector, runningAt}
+use Rattle.text_collect.specs.Rows.{rowTimes, rowRecords}
+use Rattle.text_collect.proofs.Storing.{times-bounded, records-bounded}
+use Rattle.journal_model.proofs.Rows.{said-small}
+use Rattle.archive_model.specs.Row.{Row}
+use Rattle.c_lines.specs.Calls.{levelNumber, firstNumber, firstUsed}
+use Rattle.history_archived.specs.Archived.{archivedOf}
+use Rattle.history_archived.specs.Claims.{rowsSaid}
+use Rattle.history_archived.proofs.Given.{given-append}
+use Rattle.history_archived.proofs.Archived.{over-silent, log-archived}
+
+-- ---- a program over a text in parts
+
+module _ (p : Program (Phase Receiver)) (b : Bounded p lineLimit) where
+  all-given : (s : Phase Receiver) (x : List ℕ) → feedText p lineLimit (atLineStart s) x ++ endText p
+      (feed p lineLimit (atLineStart s) x) ≡ outputOf p s x
+  unfolding feedAllText feedAll joined
+  all-given s x = rw (append-nil x, append-nil (feedText p lineLimit (atLineStart s) x)) at
+      (in-pieces p lineLimit (lit< tt) b s (x ∷ []))
+
+  pub out-more : {s s' : Phase Receiver} {x t : List ℕ} (y : List ℕ) → Drained p lineLimit s x s' t
+      → outputOf p s (x ++ y) ≡ t ++ outputOf p s' y
+  out-more {s} {s'} {x} {t} y d =
+      let f = feedText p lineLimit (atLineStart s') y in
+      sym (all-given s (x ++ y))
+      ∙ rw (text-append p lineLimit x y (atLineStart s), feed-append p lineLimit x y (atLineStart s), d .state, d .text)
+      (append-assoc t f (endText p (feed p lineLimit (atLineStart s') y)))
+      ∙ ap (λ (l : List ℕ). t ++ l) (all-given s' y)
+
+  pub out-none : (s : Phase Receiver) → outputOf p s [] ≡ p .end s
+  unfolding outputOf textOf stateAfter linesOf
+  out-none s = refl
+
+  -- a text without a newline is a last line
+  pub out-open : (s : Phase Receiver) (y : List ℕ) → isUnended y ≡ true
+      → outputOf p s y ≡ lastText p s (take lineLimit y)
+  out-open s y o =
+      let l = left p lineLimit (none p lineLimit s) y o in
+      sym (all-given s y) ∙ rw (l .0, l .1)
+
+  last-full : (s : Phase Receiver) (l : List ℕ) → 0 < length l → lastText p s l ≡ p .text s l ++ p .end (p .next s l)
+  unfolding lastText
+  last-full s [] h = absurd (omega arith)
+  last-full s (c ∷ l) h = refl
+
+  -- and gives what it gives with a newline
+  pub out-last : (s : Phase Receiver) (y : List ℕ) → isUnended y ≡ true → 0 < length y
+      → outputOf p s y ≡ outputOf p s (take lineLimit y ++ (newline ∷ []))
+  out-last s y o some =
+      let l = take lineLimit y in
+      let d = more p lineLimit b (none p lineLimit s) l (open-front lineLimit y o) in
+      let e = out-more [] d ∙ ap (λ (r : List ℕ). p .text s l ++ r) (out-none (p .next s l)) in
+      let f = rw (append-nil (l ++ (newline ∷ []))) at e in
+      out-open s y o ∙ last-full s l (omega (arith, length-take lineLimit y)) ∙ sym f
+
+-- ---- rows
+
+module _ {s s' : Phase Receiver} {x t r : List ℕ} where
+  pub said-more : (y : List ℕ) → Drained rowTimes lineLimit s x s' t → Drained rowRecords lineLimit s x s' r
+      → length r ≡ rowLength * length t
+      → rowsSaid s (x ++ y) ≡ rowsGiven t r ++ rowsSaid s' y
+  said-more y d e sized =
+      ap₂ rowsGiven (out-more rowTimes times-bounded y d) (out-more rowRecords records-bounded y e)
+      ∙ given-append t r (outputOf rowTimes s' y) (outputOf rowRecords s' y) sized
+
+pub said-last : (s : Phase Receiver) (y : List ℕ) → isUnended y ≡ true → 0 < length y
+    → rowsSaid s y ≡ rowsSaid s (take lineLimit y ++ (newline ∷ []))
+said-last s y o some = ap₂ rowsGiven (out-last rowTimes times-bounded s y o some)
+    (out-last rowRecords records-bounded s y o some)
+
+pub no-more : (s : Phase Receiver) → rowsSaid s [] ≡ []
+unfolding rowsGiven upFrom
+no-more s = ap₂ rowsGiven (out-none rowTimes times-bounded s) (out-none rowRecords records-bounded s)
+
+-- ---- states on the way
+
+good-line : (c : Receiver) (l : List ℕ) → Good (c .view) → (a : Reading) → lineReading l ≡ a
+    → Good (afterLine modelCollector c a .view)
+unfolding step
+good-line c l g (reception t bs) e = let r = receptionAt t bs in good-advance (c .view) r g (said-small l e)
+    (classified (c .view) r)
+good-line c l g bad e = g
+
+good-from : (x : List ℕ) (c c' : Receiver) (l : List ℕ)
+    → feed rowTimes lineLimit (inLine (running c) l) x ≡ atLineStart (running c') → Good (c .view) → Good (c' .view)
+unfolding feed
+good-from [] c c' l e g = let q : running c ≡ running c' = ap
+    (λ (a : Position (Phase Receiver)). a .state) e in let same : c ≡ c' = cc in rw same at g
+good-from (k ∷ x) c c' l e g = go (eqb k newline) (λ d m f h. good-from x d c' m f h) e
+  where
+    go : (t : Bool) → ((d : Receiver) (m : List ℕ) → feed rowTimes lineLimit (inLine (running d) m) x
+        ≡ atLineStart (running c') → Good (d .view) → Good (c' .view))
+        → feed rowTimes lineLimit (cond t (atLineStart (rowTimes .next (running c) l))
+        (inLine (running c) (take lineLimit (l ++ (k ∷ []))))) x ≡ atLineStart (running c')
+        → Good (c' .view)
+    go true ih f = ih (afterLine modelCollector c (lineReading l)) [] f (good-line c l g (lineReading l) refl)
+    go false ih f = ih c (take lineLimit (l ++ (k ∷ []))) f g
+
+pub good-fed : (c c' : Receiver) (x : List ℕ) → feed rowTimes lineLimit (atLineStart (running c)) x
+    ≡ atLineStart (running c') → Good (c .view) → Good (c' .view)
+good-fed c c' x = good-from x c c' []
+
+-- ---- a line with its newline
+
+not-open : (l : List ℕ) → isUnended (l ++ (newline ∷ [])) ≡ false
+unfolding isUnended
+not-open [] = refl
+not-open (c ∷ l) = go (eqb c newline) (not-open l)
+  where
+    go : (t : Bool) → isUnended (l ++ (newline ∷ [])) ≡ false → cond t false (isUnended (l ++ (newline ∷ []))) ≡ false
+    go true e = refl
+    go false e = e
+
+module _ (p : Program (Phase Receiver)) (s s' : Phase Receiver) where
+  part-is-none : (l : List ℕ) → isUnended l ≡ true → feed p lineLimit (atLineStart s) l ≡ atLineStart s' → length l ≡ 0
+  part-is-none l o e =
+      let f = rw (take-nil {A = ℕ} lineLimit) at (feed-open p lineLimit l [] s o) in
+      let k : take lineLimit l ≡ [] = ap (λ (a : Position (Phase Receiver)). a .line) (sym f ∙ e) in
+      let n = ap length k in
+      omega (arith, length-take lineLimit l)
+
+  pub all-used : (l : List ℕ) (used : ℕ) → isUnended l ≡ true → used ≤ length (l ++ (newline ∷ []))
+      → feed p lineLimit (atLineStart s) (take used (l ++ (newline ∷ []))) ≡ atLineStart s'
+      → (used ≡ 0 → isUnended (l ++ (newline ∷ [])) ≡ true)
+      → used ≡ length (l ++ (newline ∷ []))
+  all-used l used o within d rest = go (leb used (length l)) refl
+    where
+      go : (t : Bool) → leb used (length l) ≡ t → used ≡ length (l ++ (newline ∷ []))
+      go true e =
+          let h = leb-true used (length l) e in
+          let n = part-is-none (take used l) (open-front used l o) (rw (take-append-le used l (newline ∷ []) h) at d) in
+          let u : used ≡ 0 = omega (arith, length-take-le used l h) in
+          let z : _≡_ {A = Bool} true false = sym (rest u) ∙ not-open l in
+          let y : _≡_ {A = ℕ} 0 1 = cc in
+          absurd (omega arith)
+      go false e = let h = leb-false used (length l) e in omega (arith, within, length-append l (newline ∷ []))
+
+-- ---- the first line of a log
+
+pub level-few : (l : List ℕ) (n : ℕ) → settingOf l ≡ Setting.Level n → n ≤ 2
+unfolding settingOf
+level-few l n =
+    branch (λ (x : Setting). x ≡ Setting.Level n → n ≤ 2) (equal l (levelLine 0))
+    (λ _ e. let z : n ≡ 0 = cc in omega arith)
+    λ _. branch (λ (x : Setting). x ≡ Setting.Level n → n ≤ 2) (equal l (levelLine 1))
+    (λ _ e. let z : n ≡ 1 = cc in omega arith)
+    λ _. branch (λ (x : Setting). x ≡ Setting.Level n → n ≤ 2) (equal l (levelLine 2))
+    (λ _ e. let z : n ≡ 2 = cc in omega arith)
+    λ _ e. let z : _≡_ {A = ℕ} 0 1 = cc in absurd (omega arith)
+
+module _ (log : List ℕ) where
+  abbrev end : ℕ
+  end = indexOf newline log
+
+  abbrev line : List ℕ
+  line = take end log
+
+  -- a line ends, and the rest of the log is taken from where it leads
+  behind : end < length log → archivedOf log ≡ rowsSaid (afterFirst modelCollector (settingOf line))
+      (drop (end + 1) log)
+  unfolding rowsGiven upFrom
+  behind h =
+      let o = open-before log in
+      let d = more rowTimes lineLimit times-bounded (none rowTimes lineLimit starting) line o in
+      let e = more rowRecords lineLimit records-bounded (none rowRecords lineLimit starting) line o in
+      let up = up-to-newline log 0 end refl h in
+      let n : 0 + end + 1 ≡ end + 1 = omega arith in
+      let x : take (end + 1) log ≡ line ++ (newline ∷ []) = rw n at up in
+      sym (log-archived log) ∙ ap (rowsSaid starting) (sym (take-append-drop (end + 1) log)
+      ∙ ap (λ (l : List ℕ). l ++ drop (end + 1) log) x)
+      ∙ said-more (drop (end + 1) log) d e (omega arith)
+
+  pub first-level : (x : Setting) (setting : ℕ) → setting ≡ levelNumber x → setting ≤ 2 → x ≡ Setting.Level setting
+  first-level (Setting.Level n) setting e h = ap Setting.Level (sym e)
+  first-level Setting.Bad setting e h = absurd (omega arith)
+
+  pub first-said : (setting : ℕ) → setting ≡ firstNumber log → setting ≤ 2
+      → archivedOf log ≡ rowsSaid (runningAt setting fresh) (drop (firstUsed log) log)
+  first-said setting e h =
+      by-test (ltb end (length log))
+      (λ t.
+      let l = first-level (settingOf line) setting (rw t at e) h in
+      rw t (behind (ltb-true end (length log) t) ∙ rw l))
+      (λ f. absurd (let q : setting ≡ 4 = rw f at e in omega arith))
+
+  over-said : (y : List ℕ) → rowsSaid over y ≡ []
+  unfolding outputOf rowsGiven upFrom
+  over-said y =
+      ap₂ (λ (x y : List ℕ). rowsGiven (x ++ []) (y ++ [])) (over-silent rowTimes (λ l. refl) (λ l. refl) (linesOf y))
+      (over-silent rowRecords (λ l. refl) (λ l. refl) (linesOf y))
+
+  -- a log of one line without a newline
+  silent : (p : Program (Phase Receiver)) → ((l : List ℕ) → p .text starting l ≡ [])
+      → ((s : Phase Receiver) → p .end s ≡ []) → (l : List ℕ) → lastText p starting l ≡ []
+  unfolding lastText
+  silent p t e [] = e starting
+  silent p t e (c ∷ l) = rw (t (c ∷ l), e (p .next starting (c ∷ l)))
+
+  alone : length log ≤ end → archivedOf log ≡ []
+  unfolding rowsGiven upFrom
+  alone h =
+      let o = open-whole log h in
+      sym (log-archived log)
+      ∙ ap₂ rowsGiven (out-open rowTimes times-bounded starting log o
+      ∙ silent rowTimes (λ l. refl) (λ s. refl) (take lineLimit log))
+      (out-open rowRecords records-bounded starting log o
+      ∙ silent rowRecords (λ l. refl) (λ s. refl) (take lineLimit log))
+
+  pub none-said : 2 < firstNumber log → archivedOf log ≡ []
+  none-said h =
+      by-test (ltb end (length log))
+      (λ t. behind (ltb-true end (length log) t) ∙ go (settingOf line) refl (rw t at h))
+      (λ f. alone (ltb-false end (length log) f))
+    where
+      go : (x : Setting) → settingOf line ≡ x → 2 < levelNumber x
+          → rowsSaid (afterFirst modelCollector x) (drop (end + 1) log) ≡ []
+      go (Setting.Level n) e k = absurd (omega (arith, level-few line n e))
+      go Setting.Bad e k = over-said (drop (end + 1) log)
+
+  pub first-within : firstUsed log ≤ length log
+  first-within =
+      by-test (ltb end (length log))
+      (λ t. rw t (omega (arith, ltb-true end (length log) t)))
+      (λ f. rw f (omega arith))

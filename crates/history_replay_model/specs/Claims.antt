@@ -1,0 +1,75 @@
+-- What is claimed of a record: it reads back, and the reference model's is never cut; its length is told by the calls alone; and calls made in parts
+-- are one run.
+use Prim.Native.Nat.{_^_, _<_}
+use mathlib.Core.Path.{_≡_}
+use mathlib.Core.List.{List, [], _∷_, _++_}
+use lib.ListN.{length}
+use Rattle.radio_erp1.specs.Subtelegram.{maxLength}
+use Rattle.radio_telegram.specs.declared.frame.Frame.{Frame}
+use Rattle.collector_model.specs.declared.Totals.{Totals}
+use Rattle.collector_model.specs.View.{View}
+use Rattle.collector_model.specs.Burst.{Replied}
+use Rattle.collector_model.specs.History.{Call, Receive, Checkpoint, Restore, Cut, Burst, Ask, Look, IsHistory, run, expected}
+use Rattle.collector_model.specs.History.{Seen, Answered, Wrote, Restored, Delivered, Heard, Looked}
+use Rattle.history_replay_model.specs.Record.{recordOf}
+use Rattle.history_replay_model.specs.Replay.{afterCalls, sizeOfAll}
+
+-- ---- what the types of the code say of each thing seen: numbers of 64 bits, and telegrams in 21 bytes
+
+pub record WholeTotals (n : Totals) : Type 0 where
+  pub received : n .received < 2 ^ 64
+  pub kept : n .kept < 2 ^ 64
+  pub copies : n .copies < 2 ^ 64
+  pub loose : n .loose < 2 ^ 64
+  pub damaged : n .damaged < 2 ^ 64
+  pub late : n .late < 2 ^ 64
+
+pub record WholeFrame (f : Frame) : Type 0 where
+  pub len : f .len < 2 ^ 64
+  pub bytes : length (f .bytes) ≡ maxLength
+
+abbrev pub WholeReplies : List Replied → Type 0
+WholeReplies [] = Unit {0}
+WholeReplies (r ∷ l) = WholeFrame (r .sent) × WholeReplies l
+
+abbrev pub Whole : Seen → Type 0
+Whole (Answered a sent n) = WholeFrame sent × WholeTotals n
+Whole (Wrote number output n) = (length output < 2 ^ 64) × WholeTotals n
+Whole (Restored number n) = WholeTotals n
+Whole (Delivered number replies n) = (length replies < 2 ^ 64) × WholeReplies replies × WholeTotals n
+Whole (Heard number copies n) = (copies < 2 ^ 64) × WholeTotals n
+Whole (Looked n) = WholeTotals n
+
+abbrev pub AllWhole : List Seen → Type 0
+AllWhole [] = Unit {0}
+AllWhole (s ∷ l) = Whole s × AllWhole l
+
+-- a record reads back: things seen that differ have different bytes
+abbrev pub ReadsBack : Type 0
+ReadsBack = (l m : List Seen) → AllWhole l → AllWhole m → recordOf l ≡ recordOf m → l ≡ m
+
+-- ---- and of each call: outputs and lists shorter than 2^64, and telegrams in 21 bytes in the places of a burst
+
+abbrev pub Held : List Call → Type 0
+Held [] = Unit {0}
+Held (Receive setting r ∷ h) = Held h
+Held (Checkpoint output ∷ h) = (length output < 2 ^ 64) × Held h
+Held (Restore image ∷ h) = Held h
+Held (Cut output ∷ h) = (length output < 2 ^ 64) × Held h
+Held (Burst setting rs places ∷ h) = (length places < 2 ^ 64) × WholeReplies places × Held h
+Held (Ask k ∷ h) = Held h
+Held (Look ∷ h) = Held h
+
+-- so what the reference model says of a history is never cut, and its record tells all of it
+abbrev pub ReferenceWhole : Type 0
+ReferenceWhole = (h : List Call) → IsHistory h → Held h → AllWhole (expected [] h)
+
+-- how long the record is, whatever the state at its start
+abbrev pub Sized : Type 0
+Sized = (v : View) (h : List Call) → length (recordOf (run v h)) ≡ sizeOfAll h
+
+-- calls in two parts: the record of the second stands behind that of the first, and goes on from the state after it
+abbrev pub InParts : Type 0
+InParts =
+    (v : View) (h g : List Call)
+    → recordOf (run v (h ++ g)) ≡ recordOf (run v h) ++ recordOf (run (afterCalls v h) g)

@@ -1,0 +1,33 @@
+-- One history, worked out: a telegram, its copy by a repeater, another's telegram that closes it, a damaged one, a late one, and the first again.
+use Prim.Native.Nat.{ℕ}
+use mathlib.Core.Path.{_≡_}
+use mathlib.Core.List.{List, [], _∷_, map}
+use Rattle.collector_model.specs.Answer.{Kept, Copy, Refused}
+use Rattle.collector_model.specs.View.{Reception}
+use Rattle.collector_model.specs.Reference.{openAt, latestOf, logOf}
+use Rattle.history_rows.specs.Rows.{alone}
+use Rattle.history_rows.specs.Closings.{closings}
+
+abbrev pub original : List ℕ
+original = 246 ∷ 48 ∷ 0 ∷ 18 ∷ 52 ∷ 86 ∷ 32 ∷ 226 ∷ []
+
+abbrev pub repeated : List ℕ
+repeated = 246 ∷ 48 ∷ 0 ∷ 18 ∷ 52 ∷ 86 ∷ 33 ∷ 227 ∷ []
+
+abbrev pub another : List ℕ
+another = 246 ∷ 48 ∷ 0 ∷ 18 ∷ 52 ∷ 87 ∷ 32 ∷ 227 ∷ []
+
+abbrev pub heard : List ℕ → ℕ → Reception
+heard bytes time = record { bytes = bytes; time = time }
+
+-- newest first
+abbrev pub sample : List Reception
+sample =
+    heard original 1160 ∷ heard another 1149 ∷ heard (246 ∷ []) 1151 ∷ heard another 1150 ∷ heard repeated 1100 ∷ heard original 1000 ∷ []
+
+pub record Worked : Type 0 where
+  pub answers : map (λ e. e .answer) (logOf sample) ≡ (Kept ∷ Refused 7 ∷ Refused 1 ∷ Kept ∷ Copy ∷ Kept ∷ [])
+  pub rows : alone (logOf sample) ≡ (heard original 1160 ∷ heard another 1150 ∷ heard original 1000 ∷ [])
+  pub closed : closings sample ≡ (record { bytes = original; time = 1000; copies = 1 } ∷ [])
+  pub left : openAt (latestOf (logOf sample)) (logOf sample)
+      ≡ (record { bytes = another; time = 1150; copies = 0 } ∷ record { bytes = original; time = 1160; copies = 0 } ∷ [])

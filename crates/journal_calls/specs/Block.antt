@@ -1,0 +1,27 @@
+-- What stands in the block with the last row that a state counts.
+use Prim.Native.Nat.{ℕ}
+use mathlib.Core.Bool.{Bool, cond, _&&_, _||_}
+use mathlib.Core.List.{List}
+use lib.Dec.{eqb}
+use Rattle.base_lists.specs.Lists.{equal}
+use Rattle.archive_model.specs.Row.{isSound, isBlank}
+use Rattle.archive_cut.specs.Cut.{cutBlockOf}
+use Rattle.journal_calls.specs.declared.Judgement.{Judgement}
+use Rattle.journal_calls.specs.declared.Judgement.the-variants.{Same, Longer, Torn, Other}
+
+-- cut to its first rows, those that are counted, it is the state's copy
+unfoldable pub isCopyOf : List ℕ → ℕ → List ℕ → Bool
+isCopyOf last rows block = let cut = cutBlockOf rows block in eqb (cut .number) 0 && equal (cut .block) last
+
+-- the copy, or that with more rows behind; where it is neither, a block that is sound or all zero is another archive's,
+-- and any other was torn
+unfoldable pub judgementOf : List ℕ → ℕ → List ℕ → Judgement
+judgementOf last rows block =
+    cond (isCopyOf last rows block) (cond (equal block last) Same Longer)
+    (cond (isSound block || isBlank block) Other Torn)
+
+abbrev pub judgementNumber : Judgement → ℕ
+judgementNumber Same = 0
+judgementNumber Longer = 1
+judgementNumber Torn = 2
+judgementNumber Other = 3

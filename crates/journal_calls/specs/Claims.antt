@@ -1,0 +1,50 @@
+-- What is proved of the journal's decisions: they are those of the model of the disk.
+use Prim.Native.Nat.{ℕ, _-_, _*_}
+use mathlib.Core.Path.{_≡_}
+use mathlib.Core.Bool.{false}
+use mathlib.Core.List.{List, _++_}
+use lib.Dec.{eqb}
+use lib.ListN.{length}
+use Rattle.block_layout.specs.Block.{cellsPerBlock}
+use Rattle.archive_model.specs.Buffer.{blocksFor}
+use Rattle.archive_model.specs.Append.{blockAt}
+use Rattle.journal_model.specs.Disk.{State, counted, lastUsed, isOther, mended, runFrom}
+use Rattle.journal_calls.specs.declared.Judgement.{Judgement}
+use Rattle.journal_calls.specs.declared.Judgement.the-variants.{Same, Longer, Torn, Other}
+use Rattle.journal_calls.specs.Block.{judgementOf, judgementNumber}
+use Rattle.journal_calls.specs.Run.{Run, startRun, runBlocks, runAt, runNumbers}
+
+-- the block that a judgement leaves: a torn one is replaced by the copy
+abbrev pub mendedBy : Judgement → List ℕ → List ℕ → List ℕ
+mendedBy Same last block = block
+mendedBy Longer last block = block
+mendedBy Torn last block = last
+mendedBy Other last block = block
+
+-- the judgement on the block with the last row that a state counts
+abbrev pub judged : State → List ℕ → Judgement
+judged s file = judgementOf (s .last) (counted s - cellsPerBlock * lastUsed s) (blockAt (lastUsed s) file)
+
+-- Judged: it is another archive's just where the model refuses it, and else it leaves the block that the model goes on
+-- from.
+abbrev pub Judged : Type 0
+Judged =
+    (s : State) (file : List ℕ)
+    → (eqb (judgementNumber (judged s file)) 3 ≡ isOther s file)
+    × (isOther s file ≡ false → mendedBy (judged s file) (s .last) (blockAt (lastUsed s) file) ≡ mended s file)
+
+-- Run counts: after all blocks a run counts the rows that the model finds from block k on, and the blocks that they
+-- take.
+abbrev pub RunCounts : Type 0
+RunCounts =
+    (limit k : ℕ) (blocks : List (List ℕ))
+    → (runBlocks (startRun limit k) blocks .rows ≡ length (runFrom limit k blocks))
+    × (runBlocks (startRun limit k) blocks .blocks ≡ blocksFor (length (runFrom limit k blocks)))
+
+-- Run joins: blocks that come in two pieces leave what they leave in one.
+abbrev pub RunJoins : Type 0
+RunJoins = (r : Run) (xs ys : List (List ℕ)) → runBlocks r (xs ++ ys) ≡ runBlocks (runBlocks r xs) ys
+
+-- Run back: five numbers hold any run.
+abbrev pub RunBack : Type 0
+RunBack = (r : Run) → runAt (runNumbers r) ≡ r

@@ -1,0 +1,86 @@
+-- How far blocks read as an archive, in pieces: what is known after some of them.
+use Prim.Native.Nat.{ℕ, _+_, _*_, _/_, _%_}
+use mathlib.Core.Bool.{Bool, true, false, cond, not, _&&_}
+use mathlib.Core.List.{List, [], _∷_}
+use lib.Dec.{leb, ltb, eqb}
+use lib.ListN.{length, getD}
+use Rattle.base_refusal.specs.Number.{numberOf}
+use Rattle.base_refusal.specs.declared.Refusal.the-variants.{NotAccepted, Size}
+use Rattle.block_layout.specs.Block.{cellsPerBlock, blockLength}
+use Rattle.archive_model.specs.Row.{blockNumber, rowCount, isSound}
+use Rattle.archive_model.specs.Buffer.{maxBlocks, blocksIn, isShort}
+use Rattle.journal_calls.specs.declared.Run as declared
+
+-- files of so many blocks; the number of the block that comes next; blocks passed and their rows; no block behind these
+-- belongs to them
+pub record Run : Type 0 where
+  pub limit : ℕ
+  pub place : ℕ
+  pub blocks : ℕ
+  pub rows : ℕ
+  pub ended : Bool
+
+abbrev pub runOf : declared.Run → Run
+runOf r = record { limit = r .limit; place = r .place; blocks = r .blocks; rows = r .rows; ended = r .ended }
+
+-- before block k
+abbrev pub startRun : (limit k : ℕ) → Run
+startRun limit k = record { limit = limit; place = k % limit; blocks = 0; rows = 0; ended = false }
+
+abbrev pub stopped : Run → Run
+stopped r = record { limit = r .limit; place = r .place; blocks = r .blocks; rows = r .rows; ended = true }
+
+-- with one block more, which is sound and rightly numbered
+abbrev pub passed : Run → List ℕ → Run
+passed r b = record {
+  limit = r .limit;
+  place = (r .place + 1) % r .limit;
+  blocks = r .blocks + 1;
+  rows = r .rows + rowCount b;
+  ended = isShort b;
+}
+
+unfoldable pub runBlock : Run → List ℕ → Run
+runBlock r b =
+    cond (r .ended) r (cond (isSound b && eqb (blockNumber b) (r .place)) (passed r b) (stopped r))
+
+unfoldable pub runBlocks : Run → List (List ℕ) → Run
+runBlocks r [] = r
+runBlocks r (b ∷ bs) = runBlocks (runBlock r b) bs
+
+-- ---- the call, on five numbers
+
+-- numbers that some blocks give: at most 2^32 blocks in a file, in which the next one stands, and passed, and at most
+-- 15 rows a block
+unfoldable pub isRun : Run → Bool
+isRun r =
+    leb (r .limit) maxBlocks
+    && (ltb (r .place) (r .limit)
+    && (leb (r .blocks) maxBlocks
+    && leb (r .rows) (cellsPerBlock * r .blocks)))
+
+abbrev pub runAt : List ℕ → Run
+runAt numbers = record {
+  limit = getD numbers 0 0;
+  place = getD numbers 1 0;
+  blocks = getD numbers 2 0;
+  rows = getD numbers 3 0;
+  ended = not (eqb (getD numbers 4 0) 0);
+}
+
+abbrev pub runNumbers : Run → List ℕ
+runNumbers r = r .limit ∷ r .place ∷ r .blocks ∷ r .rows ∷ cond (r .ended) 1 0 ∷ []
+
+-- the number, and every lent number at exit
+pub record ScanCall : Type 0 where
+  pub number : ℕ
+  pub numbers : List ℕ
+
+-- 11, 16
+unfoldable pub scanCall : List ℕ → List ℕ → ScanCall
+scanCall numbers piece =
+    let r = runAt numbers in
+    cond (not (isRun r)) (record { number = numberOf NotAccepted; numbers = numbers })
+    (cond (not (eqb (length piece % blockLength) 0 && leb (r .blocks + length piece / blockLength) maxBlocks))
+    (record { number = numberOf Size; numbers = numbers })
+    (record { number = 0; numbers = runNumbers (runBlocks r (blocksIn piece)) }))

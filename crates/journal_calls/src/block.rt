@@ -1,0 +1,64 @@
+// The judgement on the block with the last row that a state counts.
+use crate::Judgement;
+use archive_file::Taken;
+use block_layout::BLOCK_LENGTH;
+ghost use mathlib.Core.Path.{_≡_};
+ghost use Rattle.archive_model.specs.Row.{blockNumber};
+ghost use Rattle.journal_calls.specs.Block.{isCopyOf, judgementOf, judgementNumber};
+
+// What stands there, where the state has a copy of the block and counts its first `rows` rows.
+pub fn judge(last: &[u8], rows: usize, block: &[u8]) -> Judgement
+    ensures { λ r. ⌜ r ≡ judgementOf (now (last .entry)) rows (now (block .entry)) ⌝ }
+{
+    if is_copy(last, rows, block) {
+        if block_layout::equal(block, last) {
+            return Judgement::Same;
+        }
+        return Judgement::Longer;
+    }
+    if archive_file::sound(block) != 0 {
+        return Judgement::Other;
+    }
+    if block_layout::is_blank(block) {
+        return Judgement::Other;
+    }
+    Judgement::Torn
+}
+
+// The number of a judgement for other languages.
+pub fn number(j: Judgement) -> u8
+    ensures { λ r. ⌜ r ≡ judgementNumber j ⌝ }
+{
+    match j {
+        Judgement::Same => 0,
+        Judgement::Longer => 1,
+        Judgement::Torn => 2,
+        Judgement::Other => 3,
+    }
+}
+
+// The number that the first four bytes of a block say.
+pub fn number_of(block: &[u8]) -> u64
+    ensures { λ r. ⌜ r ≡ blockNumber (now (block .entry)) ⌝ }
+{
+    if block.len() < 4 {
+        return block_layout::read_number(block);
+    }
+    block_layout::read_number(&block[0..4])
+}
+
+// Whether a block, cut to its first rows, is the copy.
+fn is_copy(last: &[u8], rows: usize, block: &[u8]) -> bool
+    ensures { λ r. ⌜ r ≡ isCopyOf (now (last .entry)) rows (now (block .entry)) ⌝ }
+{
+    if block.len() != BLOCK_LENGTH {
+        return false;
+    }
+    let mut cut = [0u8; BLOCK_LENGTH];
+    block_layout::put_bytes(&mut cut, block);
+    let answer = archive_cut::cut_block(&mut cut, rows);
+    match answer {
+        Taken::Done => block_layout::equal(&cut, last),
+        Taken::Refused(_) => false,
+    }
+}

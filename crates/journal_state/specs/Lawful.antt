@@ -1,0 +1,67 @@
+-- What a state must fulfil, so that it is written and accepted.
+use Prim.Native.Nat.{ℕ, _+_, _-_, _/_, _%_, min}
+use mathlib.Core.Bool.{Bool, true, cond, _&&_}
+use mathlib.Core.List.{List}
+use lib.Dec.{leb, eqb}
+use lib.ListN.{length, take, drop}
+use Rattle.base_lists.specs.Lists.{equal}
+use Rattle.block_layout.specs.Block.{cellsPerBlock}
+use Rattle.collector_model.specs.Image.{totalsIn, accepts}
+use Rattle.archive_model.specs.Row.{blockNumber, rowCount, isSound, isBlank}
+use Rattle.archive_model.specs.Buffer.{maxRows}
+use Rattle.journal_state.specs.State.{Kept, nth, began, had, fileNumber, nameLength, logged, offset, tailLength, printed, maxName, maxTail, oldLength, versionOf, stateBytes, readState}
+
+-- rows that an image counts, KEPT and LOOSE
+unfoldable pub imageRows : List ℕ → ℕ
+imageRows image = totalsIn image .kept + totalsIn image .loose
+
+-- the block with the last of so many rows of a file
+unfoldable pub isLastOf : ℕ → List ℕ → Bool
+isLastOf rows block =
+    cond (eqb rows 0) (isBlank block)
+    (isSound block
+    && (eqb (blockNumber block) ((rows - 1) / cellsPerBlock) && eqb (rowCount block) ((rows - 1) % cellsPerBlock + 1)))
+
+-- a file of the archive, of whose rows the collector, which counts so many, gave those since it began
+unfoldable pub isFile : Kept → ℕ → Bool
+isFile k counted =
+    leb (began k) counted
+    && (leb (had k + (counted - began k)) maxRows && isLastOf (had k + (counted - began k)) (k .last))
+
+-- its name, with zeros behind; without one there is no archive
+unfoldable pub isAttached : Kept → ℕ → Bool
+isAttached k counted =
+    leb (nameLength k) maxName
+    && (isBlank (drop (nameLength k) (k .name))
+    && cond (eqb (nameLength k) 0)
+    (eqb (began k) 0 && eqb (had k) 0 && eqb (fileNumber k) 0 && isBlank (k .last))
+    (isFile k counted))
+
+-- the log's last bytes: as many as there are before the offset, and at most 512
+unfoldable pub isPlaced : Kept → Bool
+isPlaced k =
+    leb (tailLength k) maxTail
+    && (isBlank (drop (tailLength k) (k .tail))
+    && cond (eqb (logged k) 0) (eqb (nth k 6) 0 && eqb (nth k 7) 0 && eqb (nth k 8) 0 && eqb (nth k 9) 0)
+    (eqb (logged k) 1 && eqb (tailLength k) (min (offset k) maxTail)))
+
+unfoldable pub isPrinted : Kept → Bool
+isPrinted k =
+    cond (eqb (printed k) 0) (eqb (nth k 11) 0 && eqb (nth k 12) 0 && eqb (nth k 13) 0) (eqb (printed k) 1)
+
+unfoldable pub lawful : Kept → Bool
+lawful k = accepts (k .image) && (isAttached k (imageRows (k .image)) && (isPlaced k && isPrinted k))
+
+-- what version 1 can say: nothing of the log's place and of a file for rows
+unfoldable pub isPlain : Kept → Bool
+isPlain k =
+    eqb (nth k 5) 0 && eqb (nth k 6) 0 && eqb (nth k 7) 0 && eqb (nth k 8) 0 && eqb (nth k 9) 0 && eqb (nth k 10) 0
+    && eqb (nth k 11) 0 && eqb (nth k 12) 0
+    && eqb (nth k 13) 0
+
+-- accepted is a file of either length that is byte for byte what is written of the lawful state that it says
+unfoldable pub acceptsState : List ℕ → Bool
+acceptsState bytes =
+    let k = readState bytes in
+    cond (eqb (length bytes) oldLength) (isPlain k) true
+    && (lawful k && equal (take (length bytes) (stateBytes k (versionOf (length bytes)))) bytes)

@@ -1,0 +1,100 @@
+-- The three timing rules (document 02, A10; source documents 000 and 004, 5.1): their ranges, pauses, last ends and numbers of
+-- transmissions, and the plan that a draw picks.
+use mathlib.Core.Bool.{Bool, cond, not, _&&_}
+use mathlib.Core.List.{List, [], _∷_}
+use Prim.Native.Nat.{ℕ, _≤_}
+use lib.ListN.{getD}
+use lib.Dec.{leb, eqb}
+use Rattle.base_refusal.specs.declared.Refusal.the-variants.{Argument}
+use Rattle.plan_slots.specs.declared.SlotRange.{SlotRange}
+use Rattle.plan_slots.specs.declared.Rule.{Rule}
+use Rattle.plan_slots.specs.declared.SlotPlan.{SlotPlan}
+use Rattle.plan_slots.specs.Plan.{range, none, noSlot, standardRanges, isLevel, isDuration, lawful, plans, Answer, noPlan, drawn}
+use Rattle.plan_rules.specs.declared.Offer.{Offer}
+
+-- ---- the rules, by number: 0 standard, 1 compressed, 2 with a pause
+
+-- "slots 0 to 1, 4 to 12 and 14 to 22 at levels 0 and 1 .. level 2 not used"
+abbrev pub compressedRow : List SlotRange
+compressedRow = range 0 1 ∷ range 4 12 ∷ range 14 22 ∷ []
+
+abbrev pub compressedRanges : List (List SlotRange)
+compressedRanges = compressedRow ∷ compressedRow ∷ (none ∷ none ∷ none ∷ []) ∷ []
+
+-- "at level 0, the first is in slot 0 .. slots run to 39; levels 1 and 2 keep the standard ranges"
+abbrev pub pausedRanges : List (List SlotRange)
+pausedRanges = (range 0 0 ∷ range 0 39 ∷ range 0 39 ∷ []) ∷ getD standardRanges 1 [] ∷ getD standardRanges 2 [] ∷ []
+
+-- the ranges of a rule at a level sent
+abbrev pub rangesOf : ℕ → ℕ → List SlotRange
+rangesOf rule level = getD (getD (standardRanges ∷ compressedRanges ∷ pausedRanges ∷ []) rule []) level []
+
+-- "the second starts at least 12 ms after the first ends", at level 0 alone
+abbrev pub pauseOf : ℕ → ℕ → ℕ
+pauseOf rule level = getD (getD ((0 ∷ 0 ∷ 0 ∷ []) ∷ (0 ∷ 0 ∷ 0 ∷ []) ∷ (12_000 ∷ 0 ∷ 0 ∷ []) ∷ []) rule []) level 0
+
+-- "ended by 50,000 microseconds"; "with ends by 40,000"
+abbrev pub lastEndOf : ℕ → ℕ
+lastEndOf rule = getD (40_000 ∷ 50_000 ∷ 40_000 ∷ []) rule 0
+
+-- ---- how many transmissions
+
+-- from so many to so many may be asked for
+abbrev pub offer : ℕ → ℕ → Offer
+offer a b = record { fewest = a; most = b }
+
+-- "the caller asks for two or three"; "elsewhere the number asked for must be the rule's own, and two for compressed level 2"
+abbrev pub offers : List (List Offer)
+offers =
+    (offer 3 3 ∷ offer 2 2 ∷ offer 2 2 ∷ [])
+    ∷ (offer 3 3 ∷ offer 3 3 ∷ offer 2 2 ∷ [])
+    ∷ (offer 2 3 ∷ offer 2 2 ∷ offer 2 2 ∷ [])
+    ∷ []
+
+abbrev pub offerOf : ℕ → ℕ → Offer
+offerOf rule level = getD (getD offers rule []) level (offer 0 0)
+
+-- a rule 0 to 2, and a level 0 to 2
+abbrev pub isKnown : ℕ → ℕ → Bool
+isKnown rule level = leb rule 2 && isLevel level
+
+-- the same, as what the lookups ask for
+pub record IsKnown (rule level : ℕ) : Type 0 where
+  pub rule-known : rule ≤ 2
+  pub level-known : level ≤ 2
+
+-- so many transmissions may be asked for
+abbrev pub isOffered : ℕ → ℕ → ℕ → Bool
+isOffered rule level n = leb (offerOf rule level .fewest) n && leb n (offerOf rule level .most)
+
+-- ---- plans
+
+-- the rule for so many transmissions: with two there is no third
+abbrev pub ruleOf : ℕ → ℕ → ℕ → Rule
+ruleOf rule level n =
+    let rs = rangesOf rule level in
+    record {
+      ranges = getD rs 0 (range 0 0) ∷ getD rs 1 (range 0 0) ∷ cond (eqb n 2) none (getD rs 2 (range 0 0)) ∷ [];
+      pause = pauseOf rule level;
+      end = lastEndOf rule;
+    }
+
+-- a duration 1 to 65,535, and a rule, a level and a number of transmissions that there is
+abbrev pub isAllowed : ℕ → ℕ → ℕ → ℕ → Bool
+isAllowed rule level n d = isDuration d && (isKnown rule level && isOffered rule level n)
+
+-- "refusals: 10 .., then 9"
+unfoldable pub planBy : ℕ → ℕ → ℕ → ℕ → ℕ → Answer
+planBy rule level n d draw =
+    cond (not (isAllowed rule level n d)) (noPlan Argument)
+    (drawn (plans (ruleOf rule level n) d) draw)
+
+-- two where the third slot reads 255
+abbrev pub transmissionsOf : SlotPlan → ℕ
+transmissionsOf p = cond (eqb (p .third) noSlot) 2 3
+
+-- lawful under a rule that has so many transmissions at this level, for a duration 1 to 65,535
+unfoldable pub isLawfulBy : ℕ → ℕ → ℕ → SlotPlan → Bool
+isLawfulBy rule level d p =
+    let n = transmissionsOf p in
+    isDuration d && (isKnown rule level && (isOffered rule level n && lawful (ruleOf rule level n) d p))

@@ -1,0 +1,159 @@
+// Slot plans under three timing rules (document 02, A10): the standard one, the compressed one of source document 000, and the one with a
+// pause of source document 004, 5.1. The search and its theorems are those of `plan_slots`, for any rule.
+use base_refusal::Refusal;
+use plan_slots::Planned;
+use plan_slots::Rule;
+use plan_slots::SlotPlan;
+use plan_slots::SlotRange;
+ghost use mathlib.Core.Path.{_≡_};
+ghost use Rattle.plan_slots.specs.Plan.{answerOf};
+ghost use Rattle.plan_rules.specs.Rules.{IsKnown, isKnown, isOffered, ruleOf, planBy, transmissionsOf, isLawfulBy};
+
+// The rules, by number; PAUSED is the last.
+pub const STANDARD: u8 = 0;
+
+pub const COMPRESSED: u8 = 1;
+
+pub const PAUSED: u8 = 2;
+
+// The ranges of the compressed rule at levels 0 and 1, by transmission.
+const COMPRESSED_ROW: [SlotRange; 3] = [
+    SlotRange { first: 0, last: 1 },
+    SlotRange { first: 4, last: 12 },
+    SlotRange {
+        first: 14,
+        last: 22,
+    },
+];
+
+// The ranges of a level that is not used.
+const UNUSED_ROW: [SlotRange; 3] = [plan_slots::EMPTY, plan_slots::EMPTY, plan_slots::EMPTY];
+
+// The ranges of the rule with a pause at level 0, by transmission.
+const PAUSED_ROW: [SlotRange; 3] = [
+    SlotRange { first: 0, last: 0 },
+    SlotRange { first: 0, last: 39 },
+    SlotRange { first: 0, last: 39 },
+];
+
+// The ranges of the compressed rule, by level sent, then transmission.
+pub const COMPRESSED_RANGES: [[SlotRange; 3]; 3] = [COMPRESSED_ROW, COMPRESSED_ROW, UNUSED_ROW];
+
+// The ranges of the rule with a pause, by level sent, then transmission: at levels 1 and 2 the standard ones.
+pub const PAUSED_RANGES: [[SlotRange; 3]; 3] = [
+    PAUSED_ROW,
+    plan_slots::LEVEL_1,
+    plan_slots::LEVEL_2,
+];
+
+// By rule, then level sent, then transmission.
+const RANGES: [[[SlotRange; 3]; 3]; 3] = [plan_slots::RANGES, COMPRESSED_RANGES, PAUSED_RANGES];
+
+// The smallest pause between the first transmission's end and the second's start, in microseconds: by rule, then level sent.
+const PAUSES: [[u32; 3]; 3] = [[0, 0, 0], [0, 0, 0], [12_000, 0, 0]];
+
+// The last end, in microseconds: by rule.
+const LAST_ENDS: [u32; 3] = [plan_slots::LAST_END, 50_000, 40_000];
+
+// How many transmissions may be asked for.
+pub struct Offer {
+    pub fewest: u8,
+    pub most: u8,
+}
+
+const TWO: Offer = Offer { fewest: 2, most: 2 };
+
+const THREE: Offer = Offer { fewest: 3, most: 3 };
+
+const TWO_OR_THREE: Offer = Offer { fewest: 2, most: 3 };
+
+// By rule, then level sent.
+const OFFERS: [[Offer; 3]; 3] = [
+    [THREE, TWO, TWO],
+    [THREE, THREE, TWO],
+    [TWO_OR_THREE, TWO, TWO],
+];
+
+// The plan that a draw picks among the lawful ones under a rule, for so many transmissions. Refused: 10, then 9.
+pub fn plan_by(rule: u8, level: u8, transmissions: u8, duration: u32, draw: u64) -> Planned
+    ensures { λ r. ⌜ answerOf r ≡ planBy rule level transmissions duration draw ⌝ }
+{
+    let in_range = (1 <= duration) & (duration <= plan_slots::MAX_DURATION);
+    if !in_range {
+        return Planned::Refused(Refusal::Argument);
+    }
+    if !is_known(rule, level) {
+        return Planned::Refused(Refusal::Argument);
+    }
+    if !offers(rule, level, transmissions) {
+        return Planned::Refused(Refusal::Argument);
+    }
+    plan_slots::choose(rule_of(rule, level, transmissions), duration, draw)
+}
+
+// Whether a plan is lawful under a rule that has so many transmissions at this level: two where the third slot reads 255, else three. Of a duration
+// that is not 1 to 65,535 none is.
+pub fn is_lawful_by(rule: u8, level: u8, duration: u32, plan: SlotPlan) -> bool
+    ensures { λ r. ⌜ r ≡ isLawfulBy rule level duration plan ⌝ }
+{
+    let timed = (1 <= duration) & (duration <= plan_slots::MAX_DURATION);
+    if !timed {
+        return false;
+    }
+    let n = transmissions_of(plan);
+    if !is_known(rule, level) {
+        return false;
+    }
+    if !offers(rule, level, n) {
+        return false;
+    }
+    plan_slots::is_lawful(rule_of(rule, level, n), duration, plan)
+}
+
+// Whether there is such a rule, and such a level.
+pub fn is_known(rule: u8, level: u8) -> bool
+    ensures { λ r. ⌜ r ≡ isKnown rule level ⌝ }
+{
+    (rule <= PAUSED) & (level <= plan_slots::MAX_LEVEL)
+}
+
+// Whether so many transmissions may be asked for.
+fn offers(rule: u8, level: u8, transmissions: u8) -> bool
+    requires { ⌜ IsKnown rule level ⌝ }
+    ensures { λ r. ⌜ r ≡ isOffered rule level transmissions ⌝ }
+{
+    let offer = OFFERS[rule as usize][level as usize];
+    (offer.fewest <= transmissions) & (transmissions <= offer.most)
+}
+
+// The rule for so many transmissions: with two there is no third.
+fn rule_of(rule: u8, level: u8, transmissions: u8) -> Rule
+    requires { ⌜ IsKnown rule level ⌝ }
+    ensures { λ r. ⌜ r ≡ ruleOf rule level transmissions ⌝ }
+{
+    let row = RANGES[rule as usize][level as usize];
+    let pause = PAUSES[rule as usize][level as usize];
+    let end = LAST_ENDS[rule as usize];
+    if transmissions == 2 {
+        return Rule {
+            ranges: [row[0], row[1], plan_slots::EMPTY],
+            pause: pause,
+            end: end,
+        };
+    }
+    Rule {
+        ranges: [row[0], row[1], row[2]],
+        pause: pause,
+        end: end,
+    }
+}
+
+// Two where the third slot reads 255, else three.
+fn transmissions_of(plan: SlotPlan) -> u8
+    ensures { λ r. ⌜ r ≡ transmissionsOf plan ⌝ }
+{
+    if plan.third == plan_slots::NO_SLOT {
+        return 2;
+    }
+    3
+}

@@ -1,0 +1,44 @@
+-- The repeaters of a site as bytes, nine for each: rule, level, duration in four from the highest, first, second and third slot. A layout of
+-- this house, for callers in C.
+use mathlib.Core.Bool.{cond}
+use mathlib.Core.List.{List, map, _++_}
+use Prim.Native.Nat.{ℕ, _+_, _-_, _*_, _/_, _%_, min}
+use lib.Dec.{eqb}
+use lib.ListN.{length, getD, take, drop, replicate}
+use Rattle.base_lists.specs.Lists.{upFrom}
+use Rattle.base_refusal.specs.Number.{numberOf}
+use Rattle.base_refusal.specs.declared.Refusal.the-variants.{Argument}
+use Rattle.plan_slots.specs.Plan.{plan}
+use Rattle.plan_site.specs.declared.Assignment.{Assignment}
+use Rattle.plan_site.specs.Site.{maxRepeaters, noAssignment, Answer, answer, siteOf}
+
+-- the bytes of one repeater
+abbrev pub size : ℕ
+size = 9
+
+abbrev pub assignmentOf : List ℕ → Assignment
+assignmentOf b = record {
+  rule = getD b 0 0;
+  level = getD b 1 0;
+  duration = getD b 2 0 * 16_777_216 + getD b 3 0 * 65_536 + getD b 4 0 * 256 + getD b 5 0;
+  slots = plan (getD b 6 0) (getD b 7 0) (getD b 8 0);
+}
+
+-- repeater i has the bytes from 9 i on
+abbrev pub assignmentAt : List ℕ → ℕ → Assignment
+assignmentAt s i = assignmentOf (take size (drop (size * i) s))
+
+-- as many as are whole, and at most 32
+abbrev pub countIn : List ℕ → ℕ
+countIn s = min (length s / size) maxRepeaters
+
+abbrev pub assignmentsIn : List ℕ → List Assignment
+assignmentsIn s = map (assignmentAt s) (upFrom 0 (countIn s))
+
+-- the same in an array for 32, all zero behind them
+abbrev pub repeatersIn : List ℕ → List Assignment
+repeatersIn s = assignmentsIn s ++ replicate (maxRepeaters - countIn s) noAssignment
+
+-- 10 also where the bytes are no whole repeaters
+abbrev pub siteIn : List ℕ → Answer
+siteIn s = cond (eqb (length s % size) 0) (siteOf (length s / size) (assignmentsIn s)) (answer (numberOf Argument) 0 0)

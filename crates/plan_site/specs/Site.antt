@@ -1,0 +1,97 @@
+-- The slot plans of a whole site (document 02, A14): what each repeater sends, when two of them clash, and the answer of the check.
+use mathlib.Core.Bool.{Bool, cond, not, _&&_, _||_}
+use mathlib.Core.List.{List, [], _∷_}
+use Prim.Native.Nat.{ℕ, suc, _+_}
+use lib.ListN.{take}
+use lib.Dec.{ltb, eqb}
+use Rattle.base_lists.specs.Lists.{any, all, firstOf}
+use Rattle.base_refusal.specs.Number.{numberOf}
+use Rattle.base_refusal.specs.declared.Refusal.the-variants as refusal
+use Rattle.plan_slots.specs.declared.SlotPlan.{SlotPlan}
+use Rattle.plan_slots.specs.Plan.{plan, noSlot, startOf, endOf, isDuration}
+use Rattle.plan_rules.specs.Rules.{isKnown, isLawfulBy}
+use Rattle.plan_site.specs.declared.Assignment.{Assignment}
+use Rattle.plan_site.specs.declared.Verdict.{Verdict}
+use Rattle.plan_site.specs.declared.Verdict.the-variants.{Accepted, OutOfRange, Unlawful, Overlap}
+
+-- "up to 32 repeaters"
+abbrev pub maxRepeaters : ℕ
+maxRepeaters = 32
+
+-- ---- one repeater
+
+-- rule and level 0 to 2, duration 1 to 65,535
+abbrev pub isInRange : Assignment → Bool
+isInRange a = isKnown (a .rule) (a .level) && isDuration (a .duration)
+
+-- "lawful under its named rule", any slot number included
+abbrev pub hasLawfulPlan : Assignment → Bool
+hasLawfulPlan a = isLawfulBy (a .rule) (a .level) (a .duration) (a .slots)
+
+-- ---- transmissions
+
+-- on the air from the start of its slot for its duration
+pub record Transmission : Type 0 where
+  pub slot : ℕ
+  pub duration : ℕ
+
+abbrev pub transmission : ℕ → ℕ → Transmission
+transmission d n = record { slot = n; duration = d }
+
+-- "three slots of each (255 as third: none)"
+abbrev pub slotsOf : SlotPlan → List ℕ
+slotsOf p = p .first ∷ p .second ∷ cond (eqb (p .third) noSlot) [] (p .third ∷ [])
+
+-- one transmission for each slot
+abbrev pub sentIn : ℕ → List ℕ → List Transmission
+sentIn d [] = []
+sentIn d (n ∷ l) = transmission d n ∷ sentIn d l
+
+abbrev pub sentBy : Assignment → List Transmission
+sentBy a = sentIn (a .duration) (slotsOf (a .slots))
+
+-- each starts before the other ends: "touching ends are fine"
+abbrev pub overlap : Transmission → Transmission → Bool
+overlap t u =
+    ltb (startOf (t .slot)) (endOf (u .duration) (u .slot))
+    && ltb (startOf (u .slot)) (endOf (t .duration) (t .slot))
+
+-- a transmission of the one overlaps with one of the other
+unfoldable pub clash : Assignment → Assignment → Bool
+clash a b = any (λ t. any (overlap t) (sentBy b)) (sentBy a)
+
+-- ---- the answer
+
+-- what a caller sees: the number, and the repeaters that it names, counted from 0; zero where it names none
+pub record Answer : Type 0 where
+  pub number : ℕ
+  pub repeater : ℕ
+  pub other : ℕ
+
+abbrev pub answer : ℕ → ℕ → ℕ → Answer
+answer n i j = record { number = n; repeater = i; other = j }
+
+abbrev pub verdictOf : Verdict → Answer
+verdictOf Accepted = answer 0 0 0
+verdictOf OutOfRange = answer (numberOf refusal.Argument) 0 0
+verdictOf (Unlawful i) = answer (numberOf refusal.Unlawful) i 0
+verdictOf (Overlap i j) = answer (numberOf refusal.Overlap) i j
+
+-- "the overlapping pair with the smallest first .., then the smallest second"; i is the index of the first of these repeaters
+abbrev pub pairOf : ℕ → List Assignment → Answer
+pairOf i [] = answer 0 0 0
+pairOf i (a ∷ l) =
+    cond (any (clash a) l) (answer (numberOf refusal.Overlap) i (suc i + firstOf (clash a) l))
+    (pairOf (suc i) l)
+
+-- so many repeaters: "10 .. for more than 32 .. or a rule, level or duration out of range; then 18 ..; then 19"
+unfoldable pub siteOf : ℕ → List Assignment → Answer
+siteOf count repeaters =
+    let l = take count repeaters in
+    cond (ltb maxRepeaters count || not (all isInRange l)) (answer (numberOf refusal.Argument) 0 0)
+    (cond (not (all hasLawfulPlan l)) (answer (numberOf refusal.Unlawful) (firstOf (λ a. not (hasLawfulPlan a)) l) 0)
+    (pairOf 0 l))
+
+-- all zero: what stands for a repeater past the end of a list
+abbrev pub noAssignment : Assignment
+noAssignment = record { rule = 0; level = 0; duration = 0; slots = plan 0 0 0 }

@@ -1,0 +1,209 @@
+// The slot plans of a whole site (document 02, A14): whether every repeater's plan is lawful and no two transmissions overlap.
+use plan_slots::SlotPlan;
+ghost use mathlib.Core.Path.{_≡_};
+ghost use mathlib.Core.Bool.{not};
+ghost use Prim.Native.Nat.{_+_, _≤_, _<_, min};
+ghost use lib.ListN.{length, getD, take, drop, replicate};
+ghost use Rattle.base_lists.specs.Lists.{all, any, firstOf};
+ghost use Rattle.plan_site.specs.Bytes.{assignmentOf, repeatersIn, siteIn};
+ghost use Rattle.plan_site.specs.Site.{isInRange, hasLawfulPlan, transmission, sentBy, overlap, clash, noAssignment, verdictOf, pairOf, siteOf};
+
+// The most repeaters of a site.
+pub const MAX_REPEATERS: usize = 32;
+
+// What a repeater sends: under which rule, at which level, for how long, and in which slots.
+pub struct Assignment {
+    pub rule: u8,
+    pub level: u8,
+    pub duration: u32,
+    pub slots: SlotPlan,
+}
+
+// What the check says, with the repeaters that it names, counted from 0.
+pub enum Verdict {
+    Accepted,
+    // 10.
+    OutOfRange,
+    // 18.
+    Unlawful(usize),
+    // 19.
+    Overlap(usize, usize),
+}
+
+// Whether the first `count` repeaters fit together. Refused, in this order: more than 32 repeaters, or a rule, level or duration out of range
+// (10); the first unlawful plan (18); the first pair that overlaps (19). What stands past `count` is not looked at.
+pub fn check(repeaters: [Assignment; MAX_REPEATERS], count: usize) -> Verdict
+    ensures { λ r. ⌜ verdictOf r ≡ siteOf count repeaters ⌝ }
+{
+    if MAX_REPEATERS < count {
+        return Verdict::OutOfRange;
+    }
+    if !all_in_range(repeaters, count) {
+        return Verdict::OutOfRange;
+    }
+    let i = first_unlawful(repeaters, count);
+    if i < count {
+        return Verdict::Unlawful(i);
+    }
+    first_overlap(repeaters, count)
+}
+
+// Whether rule, level and duration of every one are in range.
+fn all_in_range(repeaters: [Assignment; MAX_REPEATERS], count: usize) -> bool
+    requires { ⌜ count ≤ 32 ⌝ }
+    ensures { λ r. ⌜ r ≡ all isInRange (take count repeaters) ⌝ }
+{
+    for i in 0..count {
+        let b = repeaters[i];
+        if !is_in_range(b) {
+            return false;
+        }
+    }
+    true
+}
+
+fn is_in_range(b: Assignment) -> bool
+    ensures { λ r. ⌜ r ≡ isInRange b ⌝ }
+{
+    plan_rules::is_known(b.rule, b.level)
+        & ((1 <= b.duration) & (b.duration <= plan_slots::MAX_DURATION))
+}
+
+// The first repeater whose plan is not lawful; `count` where all are.
+fn first_unlawful(repeaters: [Assignment; MAX_REPEATERS], count: usize) -> usize
+    requires { ⌜ count ≤ 32 ⌝ }
+    ensures { λ r. ⌜ r ≡ firstOf (λ b. not (hasLawfulPlan b)) (take count repeaters) ⌝ }
+{
+    for i in 0..count {
+        let b = repeaters[i];
+        let plan = b.slots;
+        if !plan_rules::is_lawful_by(b.rule, b.level, b.duration, plan) {
+            return i;
+        }
+    }
+    count
+}
+
+// The first pair that overlaps, if any. Both loops stand here: a function for the inner one would be given the array by value at each turn.
+fn first_overlap(repeaters: [Assignment; MAX_REPEATERS], count: usize) -> Verdict
+    requires { ⌜ count ≤ 32 ⌝ }
+    ensures { λ r. ⌜ verdictOf r ≡ pairOf 0 (take count repeaters) ⌝ }
+{
+    for i in 0..count {
+        let b = repeaters[i];
+        for j in i + 1..count {
+            let c = repeaters[j];
+            if clashes(b, c) {
+                return Verdict::Overlap(i, j);
+            }
+        }
+    }
+    Verdict::Accepted
+}
+
+// Whether a transmission of the one overlaps with one of the other.
+fn clashes(b: Assignment, c: Assignment) -> bool
+    ensures { λ r. ⌜ r ≡ clash b c ⌝ }
+{
+    let p = b.slots;
+    let d = b.duration;
+    let first = hits(p.first, d, c);
+    let second = hits(p.second, d, c);
+    if p.third == plan_slots::NO_SLOT {
+        return first | second;
+    }
+    first | (second | hits(p.third, d, c))
+}
+
+// Whether a transmission overlaps with one of a repeater.
+fn hits(slot: u8, duration: u32, c: Assignment) -> bool
+    ensures { λ r. ⌜ r ≡ any (overlap (transmission duration slot)) (sentBy c) ⌝ }
+{
+    let p = c.slots;
+    let d = c.duration;
+    let first = overlaps(slot, duration, p.first, d);
+    let second = overlaps(slot, duration, p.second, d);
+    if p.third == plan_slots::NO_SLOT {
+        return first | second;
+    }
+    first | (second | overlaps(slot, duration, p.third, d))
+}
+
+// Whether each of two transmissions starts before the other ends.
+fn overlaps(slot: u8, duration: u32, other: u8, length: u32) -> bool
+    ensures { λ r. ⌜ r ≡ overlap (transmission duration slot) (transmission length other) ⌝ }
+{
+    let start = plan_slots::SLOT * slot as u64;
+    let begin = plan_slots::SLOT * other as u64;
+    (start < begin + length as u64) & (begin < start + duration as u64)
+}
+
+// The bytes of one repeater.
+pub const SIZE: usize = 9;
+
+// The check of a site in bytes. Refused with 10 also where they are no whole repeaters.
+pub fn check_bytes(bytes: &[u8]) -> Verdict
+    ensures { λ r. ⌜ verdictOf r ≡ siteIn (now (bytes .entry)) ⌝ }
+{
+    if bytes.len() % SIZE != 0 {
+        return Verdict::OutOfRange;
+    }
+    check(decode(bytes), bytes.len() / SIZE)
+}
+
+// The repeaters that bytes say, nine bytes each: at most 32. What stands past them is all zero.
+pub fn decode(bytes: &[u8]) -> [Assignment; MAX_REPEATERS]
+    ensures { λ r. ⌜ r ≡ repeatersIn (now (bytes .entry)) ⌝ }
+{
+    let count = smaller(bytes.len() / SIZE, MAX_REPEATERS);
+    let mut all = nothing();
+    for i in 0..count {
+        all[i] = read_one(&bytes[SIZE * i..SIZE * i + SIZE]);
+    }
+    all
+}
+
+fn smaller(x: usize, y: usize) -> usize
+    ensures { λ r. ⌜ r ≡ min x y ⌝ }
+{
+    if x < y { x } else { y }
+}
+
+fn nothing() -> [Assignment; MAX_REPEATERS]
+    ensures { λ r. ⌜ r ≡ replicate 32 noAssignment ⌝ }
+{
+    [Assignment {
+        rule: 0,
+        level: 0,
+        duration: 0,
+        slots: SlotPlan {
+            first: 0,
+            second: 0,
+            third: 0,
+        },
+    }; MAX_REPEATERS]
+}
+
+// Rule, level, duration in four bytes from the highest, first, second and third slot.
+fn read_one(b: &[u8]) -> Assignment
+    requires { ⌜ length (now b) ≡ 9 ⌝ }
+    ensures { λ r. ⌜ r ≡ assignmentOf (now (b .entry)) ⌝ }
+{
+    let high = wide(b[2]) * 16_777_216 + wide(b[3]) * 65_536;
+    Assignment {
+        rule: b[0],
+        level: b[1],
+        duration: high + wide(b[4]) * 256 + wide(b[5]),
+        slots: SlotPlan {
+            first: b[6],
+            second: b[7],
+            third: b[8],
+        },
+    }
+}
+
+fn wide(b: u8) -> u32
+    ensures { λ r. ⌜ (r ≡ b) × (r < 256) ⌝ }
+{
+    b as u32
+}

@@ -1,0 +1,13 @@
+-- `radio_erp2::is_against_header` meets its contract.
+use Rattle.radio_erp2_model.specs.Building.{isAgainstHeader}
+use borrow.Author.Needs.{needs}
+use Rattle.radio_erp2.proofs.is_against_header.Statement.{statement}
+use Rattle.radio_erp2.proofs.is_against_header.Tie as tie
+
+returns : tie.Need-returns
+unfolding isAgainstHeader
+returns c = rw (c .before .before .before .before .differ .ensures, c .before .before .differ2 .ensures, c .differ3 .ensures)
+
+pub is-against-header-spec : {M : Type 1} → statement M
+is-against-header-spec =
+    tie.close (tie.spec (λ c κs. search needs) (λ c κs. search needs) (λ c κs. search needs) returns)

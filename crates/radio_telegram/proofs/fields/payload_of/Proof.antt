@@ -1,0 +1,12 @@
+-- `radio_telegram::fields::payload_of` meets its contract.
+use borrow.Author.Needs.{needs}
+use denote.Ref.{now}
+use Rattle.radio_telegram.proofs.Reading.{padded-copy}
+use Rattle.radio_telegram.proofs.fields.payload_of.Statement.{statement}
+use Rattle.radio_telegram.proofs.fields.payload_of.Tie as tie
+
+returns : tie.Need-returns
+returns c = padded-copy 14 (now (c .before .before .before .before .args .part)) _ (c .before .copy .ensures .1)
+
+pub payload-of-spec : {M : Type 1} → statement M
+payload-of-spec = tie.close (tie.spec (λ c. search needs) (λ c κs. search needs) returns)

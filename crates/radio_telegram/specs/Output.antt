@@ -1,0 +1,41 @@
+-- What a call answers that writes a subtelegram into a lent output, and what the output then holds (document 01, "Numbers a caller sees").
+use Prim.Native.Nat.{ℕ}
+use mathlib.Core.Bool.{cond}
+use mathlib.Core.List.{List, _++_}
+use lib.Dec.{ltb}
+use lib.ListN.{length, take, drop}
+use Rattle.base_refusal.specs.Number.{numberOf}
+use Rattle.base_refusal.specs.declared.Refusal.the-variants.{TooLong, ShortOutput}
+use Rattle.radio_erp1.specs.Subtelegram.{maxLength}
+use Rattle.radio_telegram.specs.declared.frame.Built.{Built}
+use Rattle.radio_telegram.specs.declared.frame.Built.the-variants.{Done, Refused}
+
+-- the number, the length written, and every byte of the output at exit
+pub record Result : Type 0 where
+  pub number : ℕ
+  pub len : ℕ
+  pub output : List ℕ
+
+-- the number and the length of each answer: the length is 0 beside a refusal
+abbrev pub resultOf : Built → List ℕ → Result
+resultOf (Done n) output = record { number = 0; len = n; output = output }
+resultOf (Refused why) output = record { number = numberOf why; len = 0; output = output }
+
+-- a refusal leaves nothing behind
+abbrev pub refused : ℕ → List ℕ → Result
+refused n output = record { number = n; len = 0; output = output }
+
+-- "bytes of an output past the result are untouched"
+abbrev pub written : List ℕ → List ℕ → Result
+written xs output = record { number = 0; len = length xs; output = xs ++ drop (length xs) output }
+
+-- a subtelegram is put into an output: over 21 bytes (5), an output that is shorter (6)
+unfoldable pub putOf : List ℕ → List ℕ → Result
+putOf xs output =
+    cond (ltb maxLength (length xs)) (refused (numberOf TooLong) output)
+    (cond (ltb (length output) (length xs)) (refused (numberOf ShortOutput) output)
+    (written xs output))
+
+-- the bytes that were written
+abbrev pub resultBytes : Result → List ℕ
+resultBytes r = take (r .len) (r .output)

@@ -1,8 +1,0 @@
--- `telegram::frame::Frame::push` meets its contract.
-use borrow.Author.Needs.{needs}
-use Rattle.telegram.proofs.Frames.{frame-push}
-use Rattle.telegram.proofs.frame.Frame.push.Statement.{statement}
-use Rattle.telegram.proofs.frame.Frame.push.Tie as tie
-
-pub push-spec : {M : Type 1} → statement M
-push-spec = tie.close (tie.spec (λ c. search needs) (λ c. search needs) (λ c. frame-push _ _ (c .before .pre)))

@@ -1,0 +1,35 @@
+-- `text_collect::Session::put_end` meets its contract, stage by stage.
+use Prim.Native.Nat.{_+_}
+use lib.Dec.{leb}
+use lib.ListN.{length}
+use borrow.Author.Needs.{needs}
+use denote.Ref.{now}
+use Rattle.collector_state.specs.Collector.{viewOf}
+use Rattle.text_collect.proofs.Taking.{silent}
+use Rattle.text_collect.proofs.Session.put_end.Statement.{statement}
+use Rattle.text_collect.proofs.Session.put_end.Tie as tie
+
+returns : tie.Need-returns
+returns c = rw (c .before .before .before .before .enum-told .given .1) (c .before .before .put-bad .ensures)
+
+returns-2 : tie.Need-returns-2
+unfolding viewOf
+returns-2 c = rw (c .before .before .before .before .enum-told2 .given .1) (c .before .before .put-totals .ensures)
+
+returns-3 : tie.Need-returns-3
+returns-3 c = rw (c .enum-told3 .given .1) (silent (leb (c .before .before .before .before .before .args .at + 0) (length (now (c .before .before .before .before .before .args .out)))) _ _)
+
+pub put-end-spec : {M : Type 1} → statement M
+put-end-spec =
+    tie.close
+    (tie.spec
+    (λ c. search needs)
+    (λ c κs. search needs)
+    (λ c. search needs)
+    (λ c κs. search needs)
+    (λ c. search needs)
+    (λ c. search needs)
+    returns
+    (λ c. search needs)
+    returns-2
+    returns-3)

@@ -1,0 +1,63 @@
+-- What the lines of a run close (`closings`), and lines taken with all that they give.
+use mathlib.Core.Path.{_≡_}
+use mathlib.Core.Bool.{Bool, true, cond, not, _||_}
+use mathlib.Core.List.{List, []}
+use Prim.Native.Nat.{ℕ, _+_, _*_, _≤_, _<_}
+use lib.Dec.{eqb, leb}
+use lib.ListN.{length, take, drop}
+use Rattle.collector_closings.specs.Cells.{closedCells}
+use Rattle.collector_state.specs.Collector.{Columns}
+use Rattle.text_lines.specs.Reading.{lineLimit, Reading, reception, bad, lineReading}
+use Rattle.text_rows.specs.declared.formats.Format.{Format}
+use Rattle.text_program.specs.Lines.{Program}
+use Rattle.text_program.specs.Chunks.{atLineStart, feedText}
+use Rattle.text_program.specs.Collect.{Phase, starting, running, over, nextPhase}
+use Rattle.text_program.specs.Buffer.{isUnended, Fed}
+use Rattle.text_collect.specs.Printed.{receptionAt}
+use Rattle.text_collect.specs.Session.{Receiver, modelCollector}
+use Rattle.text_collect.specs.Rows.{rowTimes, rowRecords, lineTicks}
+use Rattle.text_collect.specs.Elements.{ElementsAfter}
+use Rattle.text_collect.specs.Formats.{collectIn, longestLineIn}
+
+-- ---- what lines close, 32 bytes for each telegram
+
+abbrev pub closedByLine : Receiver → Reading → List ℕ
+closedByLine c (reception time bytes) = closedCells (c .view) (receptionAt time bytes)
+closedByLine c bad = []
+
+abbrev pub closedIn : Phase Receiver → List ℕ → List ℕ
+closedIn starting l = []
+closedIn (running c) l = closedByLine c (lineReading l)
+closedIn over l = []
+
+-- a program over the same lines as `collect`, where it is asked for; else it writes nothing
+abbrev pub lineClosings : Bool → Program (Phase Receiver)
+lineClosings asked = record { next = nextPhase modelCollector; text = λ s l. cond asked (closedIn s l) []; end = λ s. [] }
+
+-- ---- lines taken
+
+-- a buffer that has any length asks for closings
+abbrev pub isAsked : List ℕ → Bool
+isAsked closed = not (eqb (length closed) 0)
+
+-- what one line more may close fits behind those that are there: 64 telegrams
+abbrev pub hasRoom : (long count : ℕ) → Bool
+hasRoom long count = eqb long 0 || leb (32 * count + 2048) long
+
+-- Whole lines of the input, of `used` characters, were taken from phase s on to s', and from the collector's columns a on to
+-- a'. Their rows in the format stand at the front of the output, the times of the rows that an archive keeps, their records
+-- and what the lines close at the front of the three other buffers; where fewer were taken than may be, though what a
+-- further one gives would fit, no further line has ended.
+pub record HeardIn (f : Format) (s : Phase Receiver) (a : Columns) (input : List ℕ) (most : ℕ)
+    (out moments rows closed out' moments' rows' closed' : List ℕ) (s' : Phase Receiver) (a' : Columns)
+    (used written count lines closings : ℕ) : Type 0 where
+  pub within : used ≤ length input
+  pub elements : ElementsAfter s a (take used input) s' a'
+  pub text : Fed (collectIn f) s (take used input) out s' out' written
+  pub times : Fed rowTimes s (take used input) moments s' moments' count
+  pub records : Fed rowRecords s (take used input) rows s' rows' (23 * count)
+  pub closes : Fed (lineClosings (isAsked closed)) s (take used input) closed s' closed' (32 * closings)
+  pub ticks : lines ≡ length (feedText lineTicks lineLimit (atLineStart s) (take used input))
+  pub few : lines ≤ most
+  pub rest : lines < most → count < length moments → written + longestLineIn ≤ length out
+      → hasRoom (length closed) closings ≡ true → isUnended (drop used input) ≡ true

@@ -1,0 +1,23 @@
+-- What is claimed of long lines: proofs/Long.antt has the theorems.
+use mathlib.Core.Path.{_≡_}
+use mathlib.Core.List.{List}
+use Prim.Native.Nat.{ℕ, _≤_}
+use lib.ListN.{length, take}
+use Rattle.text_lines.specs.declared.Setting.{Setting}
+use Rattle.text_lines.specs.Reading.{bad, settingOf, lineReading, lineLimit}
+
+-- a line of 150 characters or more says nothing, neither as the first line nor later
+pub record SaysNothing (l : List ℕ) : Type 0 where
+  pub reading : lineReading l ≡ bad
+  pub setting : settingOf l ≡ Setting.Bad
+
+abbrev pub LongLines : Type 0
+LongLines = (l : List ℕ) → lineLimit ≤ length l → SaysNothing l
+
+-- so that the first 150 characters of a line tell what it says
+pub record ToldByFront (l : List ℕ) : Type 0 where
+  pub reading : lineReading (take lineLimit l) ≡ lineReading l
+  pub setting : settingOf (take lineLimit l) ≡ settingOf l
+
+abbrev pub FrontsTell : Type 0
+FrontsTell = (l : List ℕ) → ToldByFront l

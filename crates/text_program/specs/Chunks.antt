@@ -1,0 +1,67 @@
+-- The same program on a text that comes in pieces, with a part of a line kept between them.
+use mathlib.Core.Path.{_≡_}
+use Prim.Native.Nat.{ℕ}
+use mathlib.Core.Bool.{cond}
+use mathlib.Core.List.{List, [], _∷_, _++_}
+use lib.Dec.{eqb}
+use lib.ListN.{take}
+use Rattle.text_lines.specs.Ascii.{newline}
+use Rattle.text_program.specs.Lines.{Program}
+
+-- where a run stands: the state, and what is kept of the line that has not ended yet
+pub record Position (S : Type 0) : Type 0 where
+  pub state : S
+  pub line : List ℕ
+
+-- the program can tell a line by its first `limit` characters
+pub record Bounded {S : Type 0} (p : Program S) (limit : ℕ) : Type 0 where
+  pub next : (s : S) (l : List ℕ) → p .next s (take limit l) ≡ p .next s l
+  pub text : (s : S) (l : List ℕ) → p .text s (take limit l) ≡ p .text s l
+
+-- with a part of a line, and at the start of one
+abbrev pub inLine : {S : Type 0} → S → List ℕ → Position S
+inLine s l = record { state = s; line = l }
+
+abbrev pub atLineStart : {S : Type 0} → S → Position S
+atLineStart s = inLine s []
+
+module _ {S : Type 0} (p : Program S) (limit : ℕ) where
+  -- one character: a newline ends the line, any other is kept, up to `limit` of a line
+  abbrev pub fed : Position S → ℕ → Position S
+  fed a c =
+      cond (eqb c newline) (atLineStart (p .next (a .state) (a .line)))
+      (inLine (a .state) (take limit (a .line ++ (c ∷ []))))
+
+  abbrev pub fedText : Position S → ℕ → List ℕ
+  fedText a c = cond (eqb c newline) (p .text (a .state) (a .line)) []
+
+  -- a piece of text
+  unfoldable pub feed : Position S → List ℕ → Position S
+  feed a [] = a
+  feed a (c ∷ s) = feed (fed a c) s
+
+  unfoldable pub feedText : Position S → List ℕ → List ℕ
+  feedText a [] = []
+  feedText a (c ∷ s) = fedText a c ++ feedText (fed a c) s
+
+  -- pieces, one after the other
+  unfoldable pub feedAll : Position S → List (List ℕ) → Position S
+  feedAll a [] = a
+  feedAll a (x ∷ xs) = feedAll (feed a x) xs
+
+  unfoldable pub feedAllText : Position S → List (List ℕ) → List ℕ
+  feedAllText a [] = []
+  feedAllText a (x ∷ xs) = feedText a x ++ feedAllText (feed a x) xs
+
+-- what is written at the end, after a last line without a newline, where there is one
+unfoldable pub lastText : {S : Type 0} → Program S → S → List ℕ → List ℕ
+lastText p s [] = p .end s
+lastText p s (c ∷ l) = p .text s (c ∷ l) ++ p .end (p .next s (c ∷ l))
+
+abbrev pub endText : {S : Type 0} → Program S → Position S → List ℕ
+endText p a = lastText p (a .state) (a .line)
+
+-- pieces as one text
+unfoldable pub joined : List (List ℕ) → List ℕ
+joined [] = []
+joined (x ∷ xs) = x ++ joined xs

@@ -1,0 +1,31 @@
+-- `text_rows::put_totals` meets its contract: the text where the longest would fit.
+use mathlib.Core.Path.{_≡_, sym, _∙_}
+use mathlib.Core.Bool.{true}
+use Prim.Native.Nat.{_+_}
+use borrow.Author.Needs.{needs}
+use borrow.Author.Tests.{not-true, not-false, leb-true}
+use denote.Ref.{now}
+use lib.Dec.{leb}
+use lib.ListN.{length}
+use Rattle.text_rows.specs.Text.{totalsText}
+use Rattle.text_rows.specs.Longest.{longestTotals}
+use Rattle.base_buffers.proofs.Stores.{not-fitting, fitting}
+use Rattle.text_rows.proofs.put_totals.Statement.{statement}
+use Rattle.text_rows.proofs.put_totals.Tie as tie
+
+too-small : tie.Need-returns
+too-small c =
+    let a = c .before .before .before .args in
+    not-fitting (totalsText (a .received) (a .kept) (a .copies) (a .loose) (a .damaged) (a .late)) (sym (c .before .has-capacity .ensures) ∙ not-true _ (c .if1 .taken))
+
+fits : (c : tie.Else1) → let a = c .before .before .before .args in leb (a .at + longestTotals) (length (now (a .out))) ≡ true
+fits c = sym (c .before .has-capacity .ensures) ∙ not-false _ (c .if1 .left)
+
+write-requires : tie.Need-write-totals-requires
+write-requires c κs = leb-true _ _ (fits (c .before))
+
+returns : tie.Need-returns-2
+returns c = fitting (fits (c .before .before .before .before)) (c .before .before .write-totals .ensures)
+
+pub put-totals-spec : {M : Type 1} → statement M
+put-totals-spec = tie.close (tie.spec (λ c κs. search needs) too-small write-requires (λ c. search needs) returns)

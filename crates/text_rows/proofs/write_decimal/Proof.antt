@@ -1,0 +1,27 @@
+-- `text_rows::write_decimal` meets its contract: the digits stand at the end of their array.
+use mathlib.Core.Path.{sym, _∙_}
+use native.Mathlib.Omega.{arith}
+use borrow.Author.Needs.{needs}
+use lib.ListN.{length-take}
+use Rattle.base_buffers.proofs.Stores.{loosened, take-rest}
+use Rattle.text_rows.proofs.write_decimal.Statement.{statement}
+use Rattle.text_rows.proofs.write_decimal.Tie as tie
+
+returns : tie.Need-returns
+returns c =
+    let s = c .before .before .before .before .before .before .before .spell in
+    let e = take-rest (s .last .1 .0) 20 (s .result) (omega (arith, s .kept .1 .0)) ∙ s .ensures .1 in
+    rw (sym e) (loosened (c .before .before .write .ensures) (simp length-take (omega arith)))
+
+pub write-decimal-spec : {M : Type 1} → statement M
+write-decimal-spec =
+    tie.close
+    (tie.spec
+    (λ c. search needs)
+    (λ c κs. omega arith)
+    (λ c. search needs)
+    (λ c. search needs)
+    (λ c. search needs)
+    (λ c κs. omega arith)
+    (λ c. search needs)
+    returns)

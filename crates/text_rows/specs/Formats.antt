@@ -1,0 +1,90 @@
+-- The rows of a run in three formats (docs/FORMATS.md, "Rows"): as `collect` prints them, comma-separated, and as
+-- JSON, an object on each line.
+use Prim.Native.Nat.{ℕ, _+_, _*_}
+use mathlib.Core.Bool.{cond}
+use mathlib.Core.List.{List, [], _∷_, _++_}
+use Rattle.text_rows.specs.Codes.{codes}
+use Rattle.text_rows.specs.Text.{decimalText, hexText, rowBehind, badText, counted}
+use Rattle.text_rows.specs.declared.Row.{Row}
+use Rattle.text_rows.specs.declared.formats.Format.{Format}
+use Rattle.text_rows.specs.declared.formats.Source.{Source}
+
+-- bytes in hexadecimal after a name
+abbrev pub hexAfter : List ℕ → List ℕ → List ℕ
+hexAfter name bytes = name ++ hexText bytes
+
+-- where a telegram came from: its TXID, its RORG and its level, each after its name
+unfoldable pub sourceAfter : (txid rorg level : List ℕ) → Source → List ℕ
+sourceAfter txid rorg level s = hexAfter txid (s .txid) ++ hexAfter rorg (s .rorg ∷ []) ++ counted level (s .level)
+
+-- ---- comma-separated: what is not there is empty
+
+unfoldable pub csvAnswer : Row → List ℕ
+csvAnswer Row.Kept = codes ",KEPT,"
+csvAnswer Row.Copy = codes ",COPY,"
+csvAnswer Row.Loose = codes ",LOOSE,"
+csvAnswer (Row.Refused n) = counted (codes ",REFUSED,") n
+
+unfoldable pub csvSource : Source → List ℕ
+csvSource s = cond (s .known) (sourceAfter (codes ",") (codes ",") (codes ",") s) (codes ",,,")
+
+-- time, answer, refusal, telegram, send, txid, rorg, level
+unfoldable pub csvRow : (time : List ℕ) → Row → (heard sent : List ℕ) → Source → List ℕ
+csvRow time row heard sent source =
+    time ++ csvAnswer row ++ hexAfter (codes ",") heard ++ hexAfter (codes ",") sent ++ csvSource source ++ codes "\n"
+
+-- ---- JSON: what is not there is left out
+
+unfoldable pub jsonAnswer : Row → List ℕ
+jsonAnswer Row.Kept = codes ",\"answer\":\"KEPT\""
+jsonAnswer Row.Copy = codes ",\"answer\":\"COPY\""
+jsonAnswer Row.Loose = codes ",\"answer\":\"LOOSE\""
+jsonAnswer (Row.Refused n) = counted (codes ",\"answer\":\"REFUSED\",\"refusal\":") n
+
+-- the end of the text before it, and what is sent
+unfoldable pub jsonSend : List ℕ → List ℕ
+jsonSend [] = codes "\""
+jsonSend (b ∷ bs) = hexAfter (codes "\",\"send\":\"") (b ∷ bs) ++ codes "\""
+
+unfoldable pub jsonSource : Source → List ℕ
+jsonSource s =
+    cond (s .known) (sourceAfter (codes ",\"txid\":\"") (codes "\",\"rorg\":\"") (codes "\",\"level\":") s) []
+
+unfoldable pub jsonRow : (time : List ℕ) → Row → (heard sent : List ℕ) → Source → List ℕ
+jsonRow time row heard sent source =
+    codes "{\"time\":" ++ time ++ jsonAnswer row ++ hexAfter (codes ",\"telegram\":\"") heard ++ jsonSend sent
+    ++ jsonSource source ++ codes "}\n"
+
+-- ---- in a format
+
+-- the row of a reception behind the text of its time: its answer, what was heard, what is sent for it, and where it
+-- came from
+unfoldable pub rowIn : Format → (time : List ℕ) → Row → (heard sent : List ℕ) → Source → List ℕ
+rowIn Format.Text time row heard sent source = rowBehind time row sent
+rowIn Format.Csv time row heard sent source = csvRow time row heard sent source
+rowIn Format.Json time row heard sent source = jsonRow time row heard sent source
+
+-- the row of a line that is BAD
+unfoldable pub badIn : Format → List ℕ
+badIn Format.Text = badText
+badIn Format.Csv = codes ",BAD,,,,,,\n"
+badIn Format.Json = codes "{\"answer\":\"BAD\"}\n"
+
+-- what stands before the rows
+unfoldable pub headingIn : Format → List ℕ
+headingIn Format.Text = []
+headingIn Format.Csv = codes "time,answer,refusal,telegram,send,txid,rorg,level\n"
+headingIn Format.Json = []
+
+-- ---- how long they are
+
+-- no row with a time of k characters, n bytes heard and m to send is longer: JSON has 143 characters more, if its two
+-- numbers have 20 digits
+abbrev pub longestRowIn : ℕ → ℕ → ℕ → ℕ
+longestRowIn k n m = k + 143 + 2 * (n + m)
+
+abbrev pub longestBadIn : ℕ
+longestBadIn = 17
+
+abbrev pub longestHeading : ℕ
+longestHeading = 50
