@@ -340,5 +340,5 @@ burst-fronts-spec 𝓤 H 𝓜 𝓖 𝓡 =
     entered 𝓤 H (tripleOf 𝓤 H (𝓖 .A) f.signature (f.spec 𝓤 H (𝓖 .A) (𝓜 .mem) (𝓡 .run)))
     (tables 𝓤 H 𝓜 𝓡 code.env .C) (tables 𝓤 H 𝓜 𝓡 code.env .Λ) #burst-fronts code.function (code.unfolded 𝓤 H 𝓜 𝓡)
     (burst-fronts-meets 𝓤 H (𝓖 .A) (givenOf 𝓤 H 𝓜 𝓖) (𝓜 .mem) (𝓡 .run) (tablesOf 𝓤 H 𝓜 (tables 𝓤 H 𝓜 𝓡 code.env))
-    (cited 𝓤 H (ToBurst 𝓤 H (𝓖 .A) (𝓜 .mem) (𝓡 .run)) 𝓜 𝓡 code.env #burst burst-def.routine code.calls-burst·burst (burst-thm.met 𝓤 H 𝓜 𝓖 𝓡))
-    (cited 𝓤 H (ToGive 𝓤 H (𝓖 .A) (𝓜 .mem) (𝓡 .run)) 𝓜 𝓡 code.env #both give-def.routine code.calls-burst·both (give-thm.met 𝓤 H 𝓜 𝓖 𝓡)))
+    (cited 𝓤 H (ToBurst 𝓤 H (𝓖 .A) (𝓜 .mem) (𝓡 .run)) 𝓜 𝓡 code.env #burst burst-def.routine code.calls-collector-burst·burst (burst-thm.met 𝓤 H 𝓜 𝓖 𝓡))
+    (cited 𝓤 H (ToGive 𝓤 H (𝓖 .A) (𝓜 .mem) (𝓡 .run)) 𝓜 𝓡 code.env #both give-def.routine code.calls-collector-burst·both (give-thm.met 𝓤 H 𝓜 𝓖 𝓡)))
