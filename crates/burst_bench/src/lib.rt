@@ -67,7 +67,7 @@ fn records_from(cells: &[u8], k: usize) -> [Reception; collector_burst::LISTED]
     requires { ⌜ k ≤ 256 ⌝ }
 {
     let mut all = no_records();
-    for i in 0..burst::MAX_BURST {
+    for i in 0..collector_burst::MAX_BURST {
         all[i] = record_at(cells, CELL * (k + i));
     }
     all
