@@ -1,24 +1,24 @@
 /* Mooringeye 1.0.0: a proved EnOcean collector, for C11 and C++17.
  *
  * What the caller guarantees, of every call:
- *   - a pointer is valid for its length (of elements, not of bytes) or its fixed size; beside length 0 it may be NULL;
- *   - a pointer is aligned as its type asks. Bytes, and structs of bytes alone, need no alignment;
+ *   - a pointer is valid for its length (of elements, not of bytes) or its fixed size; with length 0 it may be NULL;
+ *   - a pointer is aligned as its type requires. Bytes, and structs of bytes alone, need no alignment;
  *   - memory that a call changes overlaps nothing else that is lent to the same call;
  *   - one thread at a time uses one collector, report, scan, packer or buffer. No call allocates or has other state;
  *   - a `bool` is 0 or 1;
- *   - the stack has room: 96 KiB for a call on reports, 32 KiB for every other call.
+ *   - enough stack is left: 96 KiB for a call on reports, 32 KiB for every other call.
  * No other precondition: every call returns for any memory contents.
  *
  * Answers. A call that returns `uint8_t` returns a number: 0 for done, a refusal of mooringeye_refusal, or
  * MOORINGEYE_WRONG_SIZE for a slice that does not have the size that the call asks for. mooringeye_take, the slot plans
- * and the site answer more than a number: constants, accessors and structs stand beside them, so that no program takes
- * their bytes apart. mooringeye_first_line, mooringeye_read_line and mooringeye_journal_judge refuse nothing: their
- * numbers say what a line or a block is. Refusals are tested in the order in which a function lists them.
+ * and the site answer more than a number: use their constants, accessors and structs, and do not take their bytes
+ * apart. mooringeye_first_line, mooringeye_read_line and mooringeye_journal_judge refuse nothing: their numbers say
+ * what a line or a block is. Refusals are tested in the order in which a function lists them.
  *
- * Beside a refusal all memory that was lent is as it was, result pointers included; excepted are the position or place
- * that goes with a refusal where a function says so, and the counters of a collector that takes a DAMAGED or LATE
- * reception. `position` is written beside such a refusal alone, and not beside 0. Beside success, what stands in an
- * output behind the result is as it was. Positions, places and indices count from 0. Times are in milliseconds.
+ * After a refusal all lent memory is as it was, result pointers included. There are two exceptions: the position that
+ * goes with a refusal where a function says so, and the counters of a collector that takes a DAMAGED or LATE reception.
+ * `position` is written only with such a refusal, and not with 0. After success, the bytes of an output after the
+ * result are as they were. Positions and indices count from 0. Times are in milliseconds.
  *
  * Versions. The library has the version MAJOR.MINOR.PATCH of this header, and so have the tool, the Rust crate and the
  * Python module. MAJOR, which is also that of the shared object's name, rises when a function, a struct or a constant
@@ -119,7 +119,7 @@ enum {
     MOORINGEYE_MAX_DATA = 14
 };
 
-/* The fields of a subtelegram. RORG is the inner one where it is addressed; IDs stand in the order of transmission. Any
+/* The fields of a subtelegram. RORG is the inner one where it is addressed; IDs are in the order of transmission. Any
  * other number than 0 in `addressed` says yes; reading gives 1. A plain telegram's DESTID reads zero. */
 typedef struct mooringeye_fields {
     uint8_t rorg;
@@ -200,15 +200,15 @@ static inline uint8_t mooringeye_answer_number(uint16_t answer) {
     return (uint8_t)(answer % 256u);
 }
 
-/* Its kind, of mooringeye_kind; KEPT beside a refusal. */
+/* Its kind, of mooringeye_kind; KEPT with a refusal. */
 static inline uint8_t mooringeye_answer_kind(uint16_t answer) {
     return (uint8_t)(answer / 256u);
 }
 
-/* A collector, changed where it lies. Of each open telegram, in opening order: when it was opened, how often it was
- * heard again, its length, and its bytes, 21 each; what stands behind the open ones says nothing. The numbers:
- * telegrams open, latest time, received, kept, copies, loose, damaged, late. A state that no receptions and no accepted
- * image give is answered with 11 by every call, and stays. It may be copied as any struct is. */
+/* A collector, changed in place. Of each open telegram, in opening order: when it was opened, how often it was heard
+ * again, its length, and its bytes, 21 each; elements after the open ones mean nothing. The numbers: telegrams open,
+ * latest time, received, kept, copies, loose, damaged, late. Every call answers 11 to a state that no receptions and no
+ * accepted image give, and does not change it. The struct may be copied. */
 typedef struct mooringeye_collector {
     uint64_t times[MOORINGEYE_CAPACITY];
     uint64_t numbers[MOORINGEYE_COLLECTOR_NUMBERS];
@@ -217,7 +217,7 @@ typedef struct mooringeye_collector {
     uint8_t bytes[MOORINGEYE_COLLECTOR_BYTES];
 } mooringeye_collector;
 
-/* The reply to a reception of a burst: the kind (0 beside a refusal), the number, and what a repeater at the burst's
+/* The reply to a reception of a burst: the kind (0 with a refusal), the number, and what a repeater at the burst's
  * setting sends, of length 0 for nothing. */
 typedef struct mooringeye_reply {
     uint8_t kind;
@@ -245,11 +245,10 @@ uint16_t mooringeye_collector_take(uint64_t times[MOORINGEYE_CAPACITY], uint8_t 
                                    uint64_t numbers[MOORINGEYE_COLLECTOR_NUMBERS], const uint8_t *received,
                                    size_t received_length, uint64_t time);
 
-/* The same for a state that is known to be accepted: it is not tested, which takes most of the time of
- * mooringeye_collector_take. So is every state after mooringeye_collector_fresh, after a call of this header that tests
- * it and answers anything but 11, and after this call at such a state. Of any other state: 11 for more than 64 open
- * telegrams or totals that do not add up; beside every refusal nothing changes but `numbers`; a later call may answer
- * 11. */
+/* The same for a state that is known to be accepted: it is not tested. The test takes most of the time of
+ * mooringeye_collector_take. A state is accepted after mooringeye_collector_fresh, after a call of this header that
+ * tests it and does not answer 11, and after this call at such a state. For any other state: 11 for more than 64 open
+ * telegrams or totals that do not add up; a refusal changes only `numbers`; a later call may answer 11. */
 uint16_t mooringeye_collector_take_tested(uint64_t times[MOORINGEYE_CAPACITY], uint8_t lengths[MOORINGEYE_CAPACITY],
                                           uint8_t bytes[MOORINGEYE_COLLECTOR_BYTES],
                                           uint16_t copies[MOORINGEYE_CAPACITY],
@@ -282,10 +281,10 @@ uint8_t mooringeye_collector_restore(uint64_t times[MOORINGEYE_CAPACITY], uint8_
                                      uint64_t numbers[MOORINGEYE_COLLECTOR_NUMBERS], const uint8_t *image,
                                      size_t image_size);
 
-/* Takes up to 256 receptions, one by one: of each its moment and a record of 22 bytes, whose length is answered with 1
- * where it is over 21. The reply to each stands at its place; what is behind them is untouched. A part of a place is
- * none. Refused: 11, 255 where `records_size` is not 22 bytes for each moment, 6 fewer places than moments, 10 more
- * than 256 moments or a setting over 2. */
+/* Takes up to 256 receptions, one by one: each has its moment and a record of 22 bytes; a length over 21 is answered
+ * with 1. Reply i is the answer to reception i; replies after them are untouched, and a part of a reply is not used.
+ * Refused: 11, 255 where `records_size` is not 22 bytes for each moment, 6 fewer replies than moments, 10 more than 256
+ * moments or a setting over 2. */
 uint8_t mooringeye_collector_burst(uint64_t times[MOORINGEYE_CAPACITY], uint8_t lengths[MOORINGEYE_CAPACITY],
                                    uint8_t bytes[MOORINGEYE_COLLECTOR_BYTES], uint16_t copies[MOORINGEYE_CAPACITY],
                                    uint64_t numbers[MOORINGEYE_COLLECTOR_NUMBERS], uint8_t setting,
@@ -296,7 +295,7 @@ uint8_t mooringeye_collector_burst(uint64_t times[MOORINGEYE_CAPACITY], uint8_t 
 
 enum {
     MOORINGEYE_LONGEST_ROW = 92, /* bytes of the longest text of a line */
-    MOORINGEYE_LINE_LIMIT = 150, /* a line this long is BAD, so that no more of it need be kept */
+    MOORINGEYE_LINE_LIMIT = 150, /* a line this long is BAD, so no more of it need be kept */
     MOORINGEYE_LINES_DONE = 4,
     MOORINGEYE_LINES_SKIPPED = 2,
     MOORINGEYE_LONGEST_ROW_AS = 333, /* bytes of the longest row of a line in any format */
@@ -321,12 +320,12 @@ typedef struct mooringeye_row {
     mooringeye_frame frame;
 } mooringeye_row;
 
-/* Takes whole lines from the start of `input`, which starts at a line behind the first: each the time, a space and the
- * bytes in hexadecimal, and a newline. Into the front of `out` goes what `collect` prints for them at the setting. Into
- * the fronts of `moments` and `rows` go the rows of what is KEPT or LOOSE, as mooringeye_archive_put_rows takes them.
- * `done` gets four numbers: the bytes of `input` that were used, the bytes of text, the rows, and the lines. It stops
- * after `most` lines, where no place for a row is left, where less than 92 bytes of `out` are left, or where no further
- * line has ended: then hand over the rest, 150 bytes of it at most, in front of what comes next. Refused: 11, 255 where
+/* Takes whole lines from the start of `input`, which starts with a line after the first: each is the time, a space, the
+ * bytes in hexadecimal, and a newline. The front of `out` gets what `collect` prints for them at the setting. The
+ * fronts of `moments` and `rows` get the rows that are KEPT or LOOSE, as mooringeye_archive_put_rows takes them. `done`
+ * gets four numbers: the bytes of `input` that were used, the bytes of text, the rows, and the lines. The call stops
+ * after `most` lines, where no further row fits, where less than 92 bytes of `out` are left, or where no further line
+ * has ended: then hand over the rest, at most 150 bytes of it, before the bytes that come next. Refused: 11, 255 where
  * `rows_size` is not 23 bytes for each moment, 10 a setting over 2. */
 uint8_t mooringeye_collector_lines(uint64_t times[MOORINGEYE_CAPACITY], uint8_t lengths[MOORINGEYE_CAPACITY],
                                    uint8_t bytes[MOORINGEYE_COLLECTOR_BYTES], uint16_t copies[MOORINGEYE_CAPACITY],
@@ -335,8 +334,8 @@ uint8_t mooringeye_collector_lines(uint64_t times[MOORINGEYE_CAPACITY], uint8_t 
                                    size_t out_size, uint64_t *moments, size_t moments_length, mooringeye_row *rows,
                                    size_t rows_size, uint64_t done[MOORINGEYE_LINES_DONE]);
 
-/* What a telegram was heard when it closed, as an entry of a checkpoint has it: when it was opened and how often it was
- * heard again, both big-endian, and its bytes as first received, zero filled, with their length. */
+/* A telegram that closed, as an entry of a checkpoint: when it was opened and how often it was heard again, both
+ * big-endian, and its bytes as first received, zero filled, with their length. */
 typedef struct mooringeye_closing {
     uint8_t opened[8];
     mooringeye_frame frame;
@@ -355,14 +354,14 @@ static inline uint16_t mooringeye_closing_copies(const mooringeye_closing *closi
     return (uint16_t)(closing->copies[0] * 256 + closing->copies[1]);
 }
 
-/* Takes lines as mooringeye_collector_lines does, and writes their rows in a format of mooringeye_format; no heading
- * stands before them. Where `closed_size` is not 0, into the front of `closed` goes what each telegram was heard that
- * closes with these lines, in the order of their openings: it closes with the first KEPT, COPY or LOOSE reception more
- * than 100 ms after its opening. What is still open at the end of a log has not closed. `done` gets five numbers: the
- * bytes of `input` that were used, the bytes of rows, the rows for an archive, the lines, and the closings. It stops
- * where mooringeye_collector_lines stops, but with less than 333 bytes of `out` left; and where `closed_size` is not 0
- * and less than 64 places, 2,048 bytes, are left there. Refused: 11, 255 where `rows_size` is not 23 bytes for each
- * moment, 10 a setting or a format over 2. */
+/* Takes lines as mooringeye_collector_lines does, and writes their rows in a format of mooringeye_format, without a
+ * heading. If `closed_size` is not 0, the front of `closed` gets each telegram that closes with these lines, in the
+ * order of their openings: a telegram closes with the first KEPT, COPY or LOOSE reception more than 100 ms after its
+ * opening. A telegram that is still open at the end of a log has not closed. `done` gets five numbers: the bytes of
+ * `input` that were used, the bytes of rows, the rows for an archive, the lines, and the closings. The call stops where
+ * mooringeye_collector_lines stops, but with less than 333 bytes of `out` left; and, if `closed_size` is not 0, with
+ * less than 64 closings, 2,048 bytes, left. Refused: 11, 255 where `rows_size` is not 23 bytes for each moment, 10 a
+ * setting or a format over 2. */
 uint8_t mooringeye_collector_lines_as(uint64_t times[MOORINGEYE_CAPACITY], uint8_t lengths[MOORINGEYE_CAPACITY],
                                       uint8_t bytes[MOORINGEYE_COLLECTOR_BYTES], uint16_t copies[MOORINGEYE_CAPACITY],
                                       uint64_t numbers[MOORINGEYE_COLLECTOR_NUMBERS], uint8_t setting, uint8_t format,
@@ -375,9 +374,10 @@ uint8_t mooringeye_collector_lines_as(uint64_t times[MOORINGEYE_CAPACITY], uint8
  * line; 4 where no newline ends it. `used` gets the bytes of the line with its newline, 0 where there is none. */
 uint8_t mooringeye_first_line(const uint8_t *input, size_t input_length, uint64_t *used);
 
-/* What the line at the start of `input` says, behind the first one: 0 for a reception, 3 for any other line, 4 where no
- * newline ends it. `done` gets three numbers: the time, how many bytes, and the bytes of the line with its newline, 0
- * where there is none. `bytes` gets the bytes that the digits say, zero filled. Beside 3 and 4 time and bytes are 0. */
+/* What the line at the start of `input` says, if it is not the first of its text: 0 for a reception, 3 for any other
+ * line, 4 where no newline ends it. `done` gets three numbers: the time, how many bytes, and the bytes of the line with
+ * its newline, 0 where there is none. `bytes` gets the bytes that the digits say, zero filled. With 3 and 4, time and
+ * bytes are 0. */
 uint8_t mooringeye_read_line(const uint8_t *input, size_t input_length, uint8_t bytes[MOORINGEYE_LINE_BYTES],
                              uint64_t done[MOORINGEYE_LINE_READ]);
 
@@ -430,7 +430,7 @@ static inline uint8_t mooringeye_restore(mooringeye_collector *c, const uint8_t 
     return mooringeye_collector_restore(c->times, c->lengths, c->bytes, c->copies, c->numbers, image, image_size);
 }
 
-/* `n` moments with their records, and so many places for replies. */
+/* `n` moments with their records; `places` is how many replies fit. */
 static inline uint8_t mooringeye_burst(mooringeye_collector *c, uint8_t setting, const uint64_t *moments,
                                        const mooringeye_frame *records, size_t n, mooringeye_reply *replies,
                                        size_t places) {
@@ -438,7 +438,7 @@ static inline uint8_t mooringeye_burst(mooringeye_collector *c, uint8_t setting,
                                       records, n * sizeof *records, replies, places * sizeof *replies);
 }
 
-/* `places` is how many moments and rows there are. */
+/* `places` is how many moments and rows fit. */
 static inline uint8_t mooringeye_lines(mooringeye_collector *c, uint8_t setting, const uint8_t *input,
                                        size_t input_length, size_t most, uint8_t *out, size_t out_size,
                                        uint64_t *moments, mooringeye_row *rows, size_t places,
@@ -448,7 +448,7 @@ static inline uint8_t mooringeye_lines(mooringeye_collector *c, uint8_t setting,
                                       done);
 }
 
-/* `places` is how many moments and rows there are, `closings` how many places `closed` has: 0, or 64 and more. */
+/* `places` is how many moments and rows fit, `closings` how many closings fit into `closed`: 0, or 64 and more. */
 static inline uint8_t mooringeye_lines_as(mooringeye_collector *c, uint8_t setting, uint8_t format,
                                           const uint8_t *input, size_t input_length, size_t most, uint8_t *out,
                                           size_t out_size, uint64_t *moments, mooringeye_row *rows, size_t places,
@@ -461,8 +461,8 @@ static inline uint8_t mooringeye_lines_as(mooringeye_collector *c, uint8_t setti
 
 /* ---- ERP2 telegrams */
 
-/* The fields of an ERP2 telegram but its IDs. A flag that is not set makes the values beside it mean nothing, and a
- * short form its header: reading gives zeros there. */
+/* The fields of an ERP2 telegram except its IDs. Where a flag is not set its values mean nothing, and the header of a
+ * short form means nothing: reading gives zeros there. */
 typedef struct mooringeye_erp2 {
     uint8_t form;     /* the Length of a short form, 1 to 6; 0 for a long form */
     uint8_t control;  /* address control */
@@ -498,7 +498,7 @@ uint32_t mooringeye_plan(uint8_t level, uint32_t duration, uint64_t draw);
 /* The same under a named rule, for two or three transmissions. */
 uint32_t mooringeye_plan_by(uint8_t rule, uint8_t level, uint8_t transmissions, uint32_t duration, uint64_t draw);
 
-/* A plan by its parts. Beside a refusal the slots are 0. */
+/* A plan by its parts. With a refusal the slots are 0. */
 typedef struct mooringeye_slots {
     uint8_t number; /* MOORINGEYE_DONE or a refusal */
     uint8_t first;
@@ -515,8 +515,8 @@ static inline mooringeye_slots mooringeye_draw_slots(uint8_t rule, uint8_t level
     return slots;
 }
 
-/* Whether a plan is lawful under a rule that has so many transmissions at this level: two where the third slot is 255,
- * else three. */
+/* Whether a plan is lawful under a rule. The plan has two transmissions where the third slot is 255, else three; the
+ * rule must have that number at this level. */
 bool mooringeye_is_lawful(uint8_t rule, uint8_t level, uint32_t duration, uint8_t first, uint8_t second, uint8_t third);
 
 /* What one repeater of a site sends. */
@@ -539,7 +539,7 @@ typedef struct mooringeye_site_check {
     uint8_t other;
 } mooringeye_site_check;
 
-/* What mooringeye_site answers for so many repeaters, by its parts. */
+/* What mooringeye_site answers for `count` repeaters, by its parts. */
 static inline mooringeye_site_check mooringeye_check_site(const mooringeye_repeater *repeaters, size_t count) {
     uint32_t answer = mooringeye_site(repeaters, count * sizeof *repeaters);
     mooringeye_site_check check = {(uint8_t)(answer >> 16), (uint8_t)(answer >> 8), (uint8_t)answer};
@@ -560,17 +560,18 @@ enum {
 /* How many rows an archive has. Refused: 16, 12 with the position of the first block that does not match. */
 uint8_t mooringeye_archive_verify(const uint8_t *buffer, size_t size, size_t *rows, size_t *position);
 
-/* Appends a row, KEPT or LOOSE; every block is looked at. Refused: 16, 12 with the position, the check's for the row, 6
- * no room for another block. */
+/* Appends a row, KEPT or LOOSE, and looks at every block. Refused: 16, 12 with the position, the check's for the row, 6
+ * the buffer has no further block. */
 uint8_t mooringeye_archive_append(uint8_t *buffer, size_t size, const uint8_t *bytes, size_t length, uint64_t time,
                                   bool loose, size_t *position);
 
-/* The same for an archive of `rows` rows, as mooringeye_archive_verify said and the caller counts on: one block is
- * looked at. Refused: 16, 12 with the position of the block that does not say that this row is next, the check's, 6. */
+/* The same for an archive of `rows` rows, as mooringeye_archive_verify said and the caller has counted since: it looks
+ * at one block. Refused: 16, 12 with the position of the block that does not say that this row is next, the check's, 6.
+ */
 uint8_t mooringeye_archive_append_at(uint8_t *buffer, size_t size, size_t rows, const uint8_t *bytes, size_t length,
                                      uint64_t time, bool loose, size_t *position);
 
-/* The same where the caller holds the 512 bytes of that block alone. Refused: 16 another size or a row that no archive
+/* The same where the caller holds only the 512 bytes of that block. Refused: 16 another size or a row that no archive
  * has, 12 with the position, the check's. */
 uint8_t mooringeye_archive_put_row(uint8_t *block, size_t size, size_t rows, const uint8_t *bytes, size_t length,
                                    uint64_t time, bool loose, size_t *position);
@@ -579,19 +580,19 @@ uint8_t mooringeye_archive_put_row(uint8_t *block, size_t size, size_t rows, con
  * what mooringeye_archive_put_row makes of it for one row after the other. Each row has its time and a record, which is
  * LOOSE where `loose` is not 0, and whose length is answered with 1 where it is over 21. `records_size` is 23 for each
  * time, in bytes. Refused: 16 another size or a row that no archive has, 12 with the position, the check's with the
- * place of the first such row among these, 6 where the block has no room for all of them. */
+ * index of the first such row among these as position, 6 where the block cannot take all of them. */
 uint8_t mooringeye_archive_put_rows(uint8_t *block, size_t size, size_t rows, const uint64_t *times,
                                     size_t times_length, const mooringeye_row *records, size_t records_size,
                                     size_t *position);
 
-/* Row `index` as it stands. `row_size` is sizeof(mooringeye_row). Refused: 255, 16, 10 no such row, 12 a row whose
+/* Row `index` as it is. `row_size` is sizeof(mooringeye_row). Refused: 255, 16, 10 no such row, 12 a row whose
  * length is over 21, as in no archive; its block is index / 15. */
 uint8_t mooringeye_archive_row(const uint8_t *buffer, size_t size, size_t index, mooringeye_row *row, size_t row_size,
                                uint64_t *time);
 
-/* Packs what is right of a damaged archive into `out`, zeros behind it up to the buffer's size, and the positions of
- * the blocks that were dropped into the front of `positions`. Refused: 16, 6 an output shorter than the buffer or a
- * list shorter than the positions. */
+/* Packs the sound blocks of a damaged archive into `out`, with zeros after them up to the buffer's size, and writes the
+ * positions of the blocks that were dropped into the front of `positions`. Refused: 16, 6 an output shorter than the
+ * buffer or a list shorter than the positions. */
 uint8_t mooringeye_archive_salvage(const uint8_t *buffer, size_t size, uint8_t *out, size_t out_size,
                                    uint64_t *positions, size_t positions_length, size_t *dropped, size_t *rows);
 
@@ -601,19 +602,19 @@ uint8_t mooringeye_archive_salvage(const uint8_t *buffer, size_t size, uint8_t *
 uint8_t mooringeye_archive_remove(uint8_t *buffer, size_t size, const uint32_t *identities, size_t identities_length,
                                   size_t *freed, size_t *position);
 
-/* Takes rows back: the first `rows` rows stay, in the archive's own buffer. The block where they end is written anew,
- * and zeros behind it; no block before it is touched. Refused: 16, 12 with the position, 10 where the archive has fewer
+/* Takes rows back: the first `rows` rows stay, in the archive's own buffer. The block where they end is rewritten, with
+ * zeros after it; no block before it is touched. Refused: 16, 12 with the position, 10 where the archive has fewer
  * rows. */
 uint8_t mooringeye_archive_cut(uint8_t *buffer, size_t size, size_t rows, size_t *position);
 
-/* The same of one block, which becomes that of its first `rows` rows, all zero for none. The rows of an archive in a
- * file end after row m where zeros were written behind block m / 15, from the end on, and that block was then cut at m
- * % 15. Refused: 16 another size, 12 a block that isn't sound or has fewer rows. */
+/* The same of one block, which becomes that of its first `rows` rows, all zero for none. To cut an archive in a file at
+ * m rows, write zeros over the blocks after block m / 15, from the last one on, then cut that block at m % 15.
+ * Refused: 16 another size, 12 a block that isn't sound or has fewer rows. */
 uint8_t mooringeye_archive_cut_block(uint8_t *block, size_t size, size_t rows);
 
-/* ---- archives in pieces: whole blocks in the order of the file, as many in a piece as the caller likes. However an
- * archive is divided, the pieces answer together what it answers as a whole. What is known between two pieces stands in
- * lent arrays; the functions on structs after them answer the same. */
+/* ---- archives in pieces: whole blocks in the order of the file, any number in a piece. However an archive is divided,
+ * the answer for all pieces is that for the whole archive. What is known between two pieces is in lent arrays; the
+ * functions on structs after them answer the same. */
 
 /* The next piece of an archive that is verified. `numbers` are the blocks passed, their rows, the stage (0 every block
  * is full, 1 the last one is short, 2 an all-zero one was passed, any other: a block does not match), and the position
@@ -624,8 +625,8 @@ uint8_t mooringeye_scan_feed(uint64_t numbers[MOORINGEYE_SCAN_NUMBERS], const ui
 /* What mooringeye_archive_verify answers for all pieces together. Refused: 11, 12 with the position. */
 uint8_t mooringeye_scan_end(const uint64_t numbers[MOORINGEYE_SCAN_NUMBERS], size_t *rows, size_t *position);
 
-/* The next piece of an archive that is packed anew: rows of sound blocks stay, but those of up to 32 transmitters. Rows
- * that wait for a full block lie in `waiting`, 960 bytes; `numbers` are how many wait, and how many blocks were
+/* The next piece of an archive that is packed again: rows of sound blocks stay, except those of up to 32 transmitters.
+ * Rows that wait for a full block lie in `waiting`, 960 bytes; `numbers` are how many wait, and how many blocks were
  * written; two zeros before the first piece. Blocks go into the front of `out`, 512 bytes for each by which the second
  * number rises, and the positions of dropped blocks, from the first block of the piece, into the front of `positions`.
  * Refused: 11 numbers that no pieces give, 16 a piece that isn't whole blocks or whose rows could need more than 2^32
@@ -693,9 +694,9 @@ enum {
 };
 
 /* Writes a state file. `numbers` are lines taken; rows that were counted when the archive's file began, rows that it
- * had then, its number; the length of its name; 1 where the place in the log is known, its offset, device, inode, and
- * how many bytes are kept of it; 1 where rows go to a file too, its length, device, inode. `last` is a copy of the block
- * with the last row that is counted. Refused: 11 a state that is not lawful (docs/FORMATS.md). */
+ * had then, its number; the length of its name; 1 where the position in the log is known, its offset, device, inode,
+ * and how many bytes are kept of it; 1 where rows go to a file too, its length, device, inode. `last` is a copy of the
+ * block with the last row that is counted. Refused: 11 a state that is not lawful (docs/FORMATS.md). */
 uint8_t mooringeye_state_write(const uint64_t numbers[MOORINGEYE_STATE_NUMBERS],
                                const uint8_t name[MOORINGEYE_STATE_NAME], const uint8_t last[MOORINGEYE_BLOCK],
                                const uint8_t image[MOORINGEYE_IMAGE], const uint8_t tail[MOORINGEYE_STATE_TAIL],
@@ -707,8 +708,8 @@ uint8_t mooringeye_state_accept(const uint8_t *bytes, size_t size, uint64_t numb
                                 uint8_t name[MOORINGEYE_STATE_NAME], uint8_t last[MOORINGEYE_BLOCK],
                                 uint8_t image[MOORINGEYE_IMAGE], uint8_t tail[MOORINGEYE_STATE_TAIL]);
 
-/* What stands in the block with the last row that a state counts: 0 the state's copy `last`, of which `rows` rows are
- * counted; 1 that with more rows behind; 2 a write that was torn: put `last` there; 3 another archive's block. */
+/* What the block with the last row that a state counts is: 0 the state's copy `last`, of which `rows` rows are counted;
+ * 1 the copy with more rows after it; 2 a torn write: put `last` there; 3 another archive's block. */
 uint8_t mooringeye_journal_judge(const uint8_t *last, size_t last_size, size_t rows, const uint8_t *block,
                                  size_t block_size);
 
@@ -719,9 +720,10 @@ uint8_t mooringeye_journal_compare(const uint64_t *times, size_t times_length, c
                                    const uint64_t *moments, size_t moments_length, const uint8_t *left,
                                    size_t left_size, size_t *agreed, size_t *going);
 
-/* The next piece of the blocks from the one with the last counted row on. `numbers` are the blocks of a file, the number
- * that the next block must have, the blocks that belong to the archive so far, their rows, and 1 where a block does not
- * belong to it. Refused: 11 numbers that no blocks give, 16 a piece that isn't whole blocks or more than 2^32 of them. */
+/* The next piece of the blocks from the one with the last counted row on. `numbers` are the blocks of a file, the
+ * number that the next block must have, the blocks that belong to the archive so far, their rows, and 1 where a block
+ * does not belong to it. Refused: 11 numbers that no blocks give, 16 a piece that isn't whole blocks or more than 2^32
+ * of them. */
 uint8_t mooringeye_journal_scan(uint64_t numbers[MOORINGEYE_RUN_NUMBERS], const uint8_t *piece, size_t size);
 
 /* ---- reports over archives */
@@ -768,8 +770,8 @@ void mooringeye_report_start(const uint64_t numbers[MOORINGEYE_REPORT_NUMBERS],
                              const uint64_t lines[MOORINGEYE_REPORT_LINES], uint64_t adding[MOORINGEYE_ADDING_NUMBERS],
                              uint64_t tally[MOORINGEYE_REPORT_LINES]);
 
-/* The next piece. Refused: 11 a report that no archives give, or numbers that no pieces give beside it, as far as they
- * tell; 16 as of a scan. */
+/* The next piece. Refused: 11 a report that no archives give, or numbers that no pieces give with it, as far as they
+ * tell; 16 as in a scan. */
 uint8_t mooringeye_report_feed(const uint64_t numbers[MOORINGEYE_REPORT_NUMBERS],
                                const uint64_t lines[MOORINGEYE_REPORT_LINES],
                                uint64_t adding[MOORINGEYE_ADDING_NUMBERS], uint64_t tally[MOORINGEYE_REPORT_LINES],
