@@ -302,7 +302,7 @@ public:
         return {t[0], t[1], t[2], t[3], t[4], t[5]};
     }
 
-    // How often an open telegram was heard again; none behind the last.
+    // How often an open telegram was heard again; none after the last.
     std::optional<uint64_t> copies(size_t index) const {
         uint64_t heard = 0;
         if (mooringeye_copies(&state_, index, &heard) != MOORINGEYE_DONE) return std::nullopt;
@@ -441,14 +441,14 @@ private:
     mooringeye_scan state_;
 };
 
-// An archive that is packed anew in pieces, without the rows of some transmitters.
+// An archive that is packed again in pieces, without the rows of some transmitters.
 class packer {
 public:
     explicit packer(std::vector<uint32_t> identities = {}) : identities_(std::move(identities)) {
         mooringeye_start_packer(&state_);
     }
 
-    // The blocks that are full after this piece; the positions in it of those that are not sound go behind `dropped`.
+    // The blocks that are full after this piece; the positions in it of unsound blocks are appended to `dropped`.
     std::vector<uint8_t> feed(bytes piece, std::vector<uint64_t> *dropped = nullptr) {
         std::vector<uint8_t> out(piece.size());
         std::vector<uint64_t> positions(piece.size() / MOORINGEYE_BLOCK);

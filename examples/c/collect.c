@@ -100,7 +100,7 @@ static bool write_all(int file, const uint8_t *bytes, size_t size)
     return fsync(file) == 0;
 }
 
-/* Into a file beside it, which then takes its name: at any moment the old state or the new one is there, whole. */
+/* Into another file, which is then renamed: at any moment the old state or the new one is there, complete. */
 static bool store(const mooringeye_collector *c, const char *path)
 {
     uint8_t image[MOORINGEYE_IMAGE];

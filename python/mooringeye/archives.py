@@ -57,7 +57,7 @@ def append(archive: Buffer, time: int, loose: bool, data: Data) -> None:
 
 
 def salvage(damaged: Data) -> Salvaged:
-    """What is right of a damaged archive, packed anew. Refused: 16."""
+    """The rows of the sound blocks of a damaged archive, packed again. Refused: 16."""
     lent, size = lend(damaged)
     out, most = bytearray(size), size // BLOCK
     positions, dropped, rows = (ctypes.c_uint64 * most)(), _size(), _size()
@@ -73,7 +73,7 @@ def _row(lent, size: int, index: int) -> Row:
 
 
 class Archive:
-    """An archive in a bytearray of whole blocks, which is changed where it lies and cannot be resized meanwhile.
+    """An archive in a bytearray of whole blocks, which is changed in place and cannot be resized meanwhile.
 
     >>> archive = Archive(bytearray(1024))
     >>> archive.append(1000, False, bytes.fromhex("D5090102030400E8"))
@@ -106,7 +106,7 @@ class Archive:
         return (self[i] for i in range(len(self)))
 
     def append(self, time: int, loose: bool, data: Data) -> None:
-        """Puts a row behind the others; one block is looked at. Refused: the check's, 6 no room."""
+        """Appends a row; only one block is read. Refused: the check's, 6 no further block."""
         position = _size()
         lent, length = lend(data)
         with self._lock:
@@ -217,7 +217,7 @@ class Packed(NamedTuple):
 
 
 class Packer:
-    """Packs the rows of sound blocks anew, without those of up to 32 transmitters: salvage and removal in pieces.
+    """Packs the rows of sound blocks again, without those of up to 32 transmitters: salvage and removal in pieces.
 
     >>> packer = Packer()
     >>> packer.feed(bytes(1024))

@@ -211,7 +211,7 @@ class Collector:
         return Totals(*totals)
 
     def copies(self, entry: int) -> int:
-        """How often an open telegram, from 0 in opening order, was heard again. Refused: 10 behind the last."""
+        """How often an open telegram, from 0 in opening order, was heard again. Refused: 10 after the last."""
         heard = ctypes.c_uint64()
         with self._lock:
             done(calls.collector_copies(*self._state, entry, ctypes.byref(heard)))
@@ -228,7 +228,7 @@ class Collector:
 class Session:
     """A collector that is fed the bytes of a log in pieces, cut anywhere, and yields rows.
 
-    The log's first line says the setting, which `first_line` reads; the session is fed what stands behind it.
+    The log's first line says the setting, which `first_line` reads; the session is fed what follows it.
 
     >>> session = Session(1, "csv")
     >>> session.feed(b"1000 D509010203").lines

@@ -63,7 +63,7 @@ class State(NamedTuple):
 
 
 def judge(last: Data, rows: int, block: Data) -> str:
-    """Of the block with the last counted row, beside the state's copy: SAME, LONGER, TORN or OTHER.
+    """Compares the block with the last counted row with the state's copy: SAME, LONGER, TORN or OTHER.
 
     >>> judge(bytes(512), 1, bytes(512))
     'OTHER'
@@ -87,7 +87,7 @@ def compare(rows: Sequence[Row], leftovers: Sequence[Row]) -> tuple[int, int]:
 
 
 class Run:
-    """The blocks behind the counted rows, in pieces, as long as they belong to the archive.
+    """The blocks after the counted rows, in pieces, as long as they belong to the archive.
 
     >>> run = Run(limit=2**32)
     >>> run.feed(bytes(1024))

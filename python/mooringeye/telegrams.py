@@ -34,7 +34,7 @@ def same(a: Data, b: Data) -> bool:
 
 @dataclass(frozen=True)
 class Fields:
-    """The fields of a subtelegram; destid is None for a plain one. IDs stand in the order of transmission."""
+    """The fields of a subtelegram; destid is None for a plain one. IDs are in the order of transmission."""
 
     rorg: int
     data: bytes
@@ -62,7 +62,7 @@ def read(data: Data) -> Fields:
 
 
 def _written(size: int, call, *before) -> bytes:
-    """What a call writes into the front of an output of so many bytes."""
+    """What a call writes into the front of an output of `size` bytes."""
     out, length = (ctypes.c_uint8 * size)(), ctypes.c_size_t()
     done(call(*before, out, size, ctypes.byref(length)))
     return bytes(out[: length.value])

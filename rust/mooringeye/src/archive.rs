@@ -72,7 +72,7 @@ impl<'a> Archive<'a> {
         self.buffer
     }
 
-    /// Puts a row behind the others; one block is looked at. Refused: [`Refusal::ShortOutput`] where there is no room for another block.
+    /// Appends a row; only one block is read. Refused: [`Refusal::ShortOutput`] where the buffer has no further block.
     pub fn append(&mut self, row: &Row) -> Result<(), Refusal> {
         let mut position = 0;
         let bytes = row.telegram.as_bytes();
@@ -118,7 +118,7 @@ impl<'a> Archive<'a> {
         Ok(freed)
     }
 
-    /// What is right of a damaged archive, packed anew. Refused: [`Refusal::Size`].
+    /// The rows of the sound blocks of a damaged archive, packed again. Refused: [`Refusal::Size`].
     pub fn salvage(damaged: &[u8]) -> Result<Salvaged, Refusal> {
         let mut buffer = vec![0; damaged.len()];
         let mut dropped = vec![0; damaged.len() / Archive::BLOCK];

@@ -97,7 +97,7 @@ impl Reply {
     }
 }
 
-/// A collector. It holds what is open, the totals and nothing else, and is changed where it lies.
+/// A collector. It holds the open telegrams, the totals and nothing else, and is changed in place.
 ///
 /// ```
 /// use mooringeye::{Answer, Collector, Refusal};
@@ -134,7 +134,7 @@ impl Collector {
     pub const IMAGE: usize = raw::IMAGE;
     /// The most receptions of a burst.
     pub const MAX_BURST: usize = 256;
-    /// For so many milliseconds after its opening a telegram is open.
+    /// The number of milliseconds after its opening in which a telegram is open.
     pub const OPEN_FOR: u64 = 100;
 
     /// A collector with nothing open and nothing counted.
@@ -183,7 +183,7 @@ impl Collector {
     }
 
     /// [`Collector::burst`] in buffers that the caller keeps. `records` has a frame of 22 bytes for each moment: the length of a reception and its first
-    /// 21 bytes; what stands behind them is not looked at. `replies` gets 24 bytes for each: 0, 1 or 2 for KEPT, COPY or LOOSE, the number of a refusal or 0, and a frame of what is
+    /// 21 bytes; bytes after them are not looked at. `replies` gets 24 bytes for each: 0, 1 or 2 for KEPT, COPY or LOOSE, the number of a refusal or 0, and a frame of what is
     /// sent, length 0 for nothing.
     ///
     /// Refused, and nothing taken: [`Refusal::WrongSize`] for records that are not as many as the moments, [`Refusal::ShortOutput`] for fewer replies, and as
@@ -274,7 +274,7 @@ impl Collector {
         Totals { received, kept, copies, loose, damaged, late }
     }
 
-    /// How often the open telegram at this place, from 0 in opening order, was heard again, up to 65,535; `None` behind the last.
+    /// How often the open telegram with this index, from 0 in opening order, was heard again, up to 65,535; `None` after the last.
     pub fn copies(&self, entry: usize) -> Option<u16> {
         let mut heard = 0;
         done(raw::collector_copies(&self.arrays(), entry, &mut heard)).ok()?;
@@ -331,7 +331,7 @@ impl Default for Collector {
     }
 }
 
-/// Equal where the checkpoints are: what lies behind the open telegrams is no part of a state.
+/// Equal where the checkpoints are: elements after the open telegrams are not part of a state.
 impl PartialEq for Collector {
     fn eq(&self, other: &Collector) -> bool {
         self.checkpoint() == other.checkpoint()

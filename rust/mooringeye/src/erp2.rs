@@ -47,18 +47,18 @@ pub enum Erp2 {
         kind: u8,
         /// The extended header, where there is one.
         extension: Option<Extension>,
-        /// The extended telegram type, there just where `kind` is 15.
+        /// The extended telegram type, present exactly if `kind` is 15.
         subtype: Option<u8>,
         /// The Originator-ID.
         originator: u64,
-        /// The Destination-ID, there just where `control` is 2.
+        /// The Destination-ID, present exactly if `control` is 2.
         destination: Option<u32>,
         /// Data, which may be empty.
         data: Vec<u8>,
     },
 }
 
-// Where data and optional data stand among the fields.
+// Where data and optional data are among the fields.
 const DATA: usize = 11;
 const OPTIONAL: usize = DATA + 250;
 

@@ -7,7 +7,7 @@
 //!
 //! The library is found by `MOORINGEYE_LIB_DIR`, by pkg-config, or in the repository; README.md of the crate says how.
 //!
-//! `unsafe` stands in one module, [`raw`], which has every call of the library on plain slices.
+//! Only one module has `unsafe`, [`raw`], which has every call of the library on plain slices.
 #![deny(missing_docs, unsafe_code)]
 
 mod archive;

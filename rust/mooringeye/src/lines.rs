@@ -38,7 +38,7 @@ pub enum Format {
 }
 
 impl Format {
-    /// What stands before the first row: of CSV the names of its columns.
+    /// The text before the first row: for CSV the names of its columns.
     pub fn heading(self) -> &'static str {
         match self {
             Format::Csv => "time,answer,refusal,telegram,send,txid,rorg,level\n",
@@ -154,7 +154,7 @@ impl Taken {
         self.asks_closings
     }
 
-    /// Makes room for what so many lines may give, each a row of at most so many bytes.
+    /// Reserves memory for the rows of `lines` lines, each of at most `longest` bytes.
     pub(crate) fn lend(&mut self, lines: usize, longest: usize) -> raw::RowsAsMut<'_> {
         let grow = |have: usize, need: usize| need.max(have);
         self.text.resize(grow(self.text.len(), longest * lines), 0);
@@ -173,7 +173,7 @@ impl Taken {
         self.done
     }
 
-    /// Puts what other lines gave behind it.
+    /// Appends what other lines gave.
     fn append(&mut self, other: &Taken) {
         self.text.truncate(self.done.written);
         self.text.extend_from_slice(other.text());

@@ -28,7 +28,7 @@ impl Scan {
         Scan::default()
     }
 
-    /// Behind so many full blocks, which are not looked at: for one who read them before.
+    /// A scan after `blocks` full blocks, which are not looked at: for a caller that read them before.
     ///
     /// ```
     /// let mut scan = mooringeye::Scan::behind(7);
@@ -103,14 +103,14 @@ impl Block {
         self.bytes.iter().fold(0, |any, b| any | b) == 0
     }
 
-    /// Puts row `n` of an archive, counted from 0, behind the others of its block. Refused: [`Refusal::Size`] for an `n` that no archive has,
+    /// Puts row `n` of an archive, counted from 0, after the others of its block. Refused: [`Refusal::Size`] for an `n` that no archive has,
     /// [`Refusal::Mismatch`] where the block does not say that row `n` is next, and the check's own.
     pub fn put(&mut self, n: usize, telegram: &[u8], time: u64, loose: bool) -> Result<(), Refused> {
         let mut position = 0;
         done_at(raw::archive_put_row(&mut self.bytes, n, telegram, time, loose, &mut position), position)
     }
 
-    /// Puts rows `first`, first + 1 and so on of an archive behind the others of their block, all or none, with one CRC: as [`Block::put`] one after the
+    /// Puts rows `first`, first + 1 and so on of an archive after the others of their block, all or none, with one CRC: as [`Block::put`] one after the
     /// other. `rows` has for each of `times` a record of [`raw::ROW`] bytes: 1 for LOOSE and else 0, a length, and 21 bytes, zero filled. Refused:
     /// [`Refusal::Size`] for a row that no archive has or another number of bytes, [`Refusal::Mismatch`] where the block does not say that row
     /// `first` is next, the check's own with the place of the first such row among these, and [`Refusal::ShortOutput`] where there is no room for all.
@@ -231,7 +231,7 @@ impl<'a> Adding<'a> {
     }
 }
 
-/// Packs the rows of sound blocks anew, without those of some transmitters: salvage and removal in pieces.
+/// Packs the rows of sound blocks again, without those of some transmitters: salvage and removal in pieces.
 ///
 /// ```
 /// use mooringeye::{Archive, Block, Packer};
@@ -261,7 +261,7 @@ pub struct Packer {
 pub struct Packed {
     /// How many bytes of the output are blocks now, from its front on.
     pub written: usize,
-    /// How many blocks of the piece were not sound: their positions in it stand in the front of the list.
+    /// How many blocks of the piece were not sound: their positions in it are in the front of the list.
     pub dropped: usize,
 }
 

@@ -40,7 +40,7 @@ pub struct SlotPlan {
     pub first: u8,
     /// The slot of the second.
     pub second: u8,
-    /// The slot of the third, where there is one; `Some(255)` stands for none too.
+    /// The slot of the third, where there is one; `Some(255)` means none too.
     pub third: Option<u8>,
 }
 
@@ -48,7 +48,7 @@ pub struct SlotPlan {
 const NONE: u8 = 255;
 
 impl SlotPlan {
-    /// The plan that a draw picks among the lawful ones, for a level sent, so many transmissions and a duration in microseconds. Refused:
+    /// The plan that a draw picks among the lawful ones, for a level sent, a number of transmissions and a duration in microseconds. Refused:
     /// [`Refusal::Argument`], [`Refusal::NoPlan`].
     pub fn draw(rule: Rule, level: u8, transmissions: u8, duration: u32, draw: u64) -> Result<SlotPlan, Refusal> {
         let [number, first, second, third] = raw::plan_by(rule as u8, level, transmissions, duration, draw).to_be_bytes();

@@ -16,7 +16,7 @@ pub const ROW: usize = 23;
 pub const CAPACITY: usize = 64;
 /// The bytes of those telegrams.
 pub const ENTRY_BYTES: usize = CAPACITY * 21;
-/// The numbers of a collector beside its open telegrams: how many they are, the latest time, and the totals.
+/// The numbers of a collector besides its open telegrams: how many they are, the latest time, and the totals.
 pub const COLLECTOR_NUMBERS: usize = 8;
 /// The totals of a collector.
 pub const TOTALS: usize = 6;
@@ -26,7 +26,7 @@ pub const IMAGE: usize = 2_560;
 pub const REPLY: usize = 24;
 /// The bytes of the longest text of a line.
 pub const LONGEST_ROW: usize = 92;
-/// A line of so many bytes is BAD, whatever else it has.
+/// A line of this many bytes is BAD, whatever it has.
 pub const LINE_LIMIT: usize = 150;
 /// What lines that were taken are told by: bytes used, bytes of text, rows and lines.
 pub const LINES_DONE: usize = 4;
@@ -52,7 +52,7 @@ pub const STATE_TAIL: usize = 512;
 pub const STATE: usize = 4_096;
 /// The numbers of a run of blocks.
 pub const RUN_NUMBERS: usize = 5;
-/// The numbers of a report beside its lines.
+/// The numbers of a report besides its lines.
 pub const REPORT_NUMBERS: usize = 4;
 /// The numbers of a line of a report.
 pub const LINE_NUMBERS: usize = 5;
@@ -547,7 +547,7 @@ pub fn archive_append(buffer: &mut [u8], bytes: &[u8], time: u64, loose: bool, p
     unsafe { c::mooringeye_archive_append(buffer.as_mut_ptr(), buffer.len(), bytes.as_ptr(), bytes.len(), time, loose, position) }
 }
 
-/// Appending to an archive of so many rows.
+/// Appends to an archive of a known number of rows.
 pub fn archive_append_at(buffer: &mut [u8], rows: usize, bytes: &[u8], time: u64, loose: bool, position: &mut usize) -> u8 {
     // SAFETY: a slice that is read, and a slice and a number that are `&mut`.
     unsafe { c::mooringeye_archive_append_at(buffer.as_mut_ptr(), buffer.len(), rows, bytes.as_ptr(), bytes.len(), time, loose, position) }
@@ -612,7 +612,7 @@ pub fn scan_end(numbers: &[u64; SCAN_NUMBERS], rows: &mut usize, position: &mut 
     unsafe { c::mooringeye_scan_end(numbers.as_ptr(), rows, position) }
 }
 
-/// The next piece of an archive that is packed anew.
+/// The next piece of an archive that is packed again.
 pub fn pack_feed(
     numbers: &mut [u64; PACKER_NUMBERS],
     waiting: &mut [u8; PACKER_BYTES],
@@ -630,7 +630,7 @@ pub fn pack_feed(
     unsafe { c::mooringeye_pack_feed(state, rows, from, size, listed, count, out.as_mut_ptr(), out.len(), list, most, dropped) }
 }
 
-/// The last block of an archive that is packed anew.
+/// The last block of an archive that is packed again.
 pub fn pack_end(numbers: &[u64; PACKER_NUMBERS], waiting: &[u8; PACKER_BYTES], out: &mut [u8], length: &mut usize) -> u8 {
     // SAFETY: two arrays of the sizes that the header names, which are read, and a slice and a number that are `&mut`.
     unsafe { c::mooringeye_pack_end(numbers.as_ptr(), waiting.as_ptr(), out.as_mut_ptr(), out.len(), length) }
@@ -666,7 +666,7 @@ pub fn state_accept(
     unsafe { c::mooringeye_state_accept(from, size, numbers.as_mut_ptr(), text, block, image.as_mut_ptr(), tail.as_mut_ptr()) }
 }
 
-/// What stands in the block with the last row that a state counts.
+/// What the block with the last row that a state counts is.
 pub fn journal_judge(last: &[u8], rows: usize, block: &[u8]) -> u8 {
     // SAFETY: two slices that are read.
     unsafe { c::mooringeye_journal_judge(last.as_ptr(), last.len(), rows, block.as_ptr(), block.len()) }

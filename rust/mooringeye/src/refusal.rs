@@ -79,7 +79,7 @@ impl fmt::Display for Refusal {
 
 impl Error for Refusal {}
 
-/// A refusal of a call on an archive, with the position of the block that does not match beside [`Refusal::Mismatch`]; of
+/// A refusal of a call on an archive, with the position of the block that does not match for [`Refusal::Mismatch`]; of
 /// [`Block::put_rows`](crate::Block::put_rows) with the place of the row that the check refuses; else 0.
 ///
 /// ```

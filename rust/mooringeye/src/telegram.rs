@@ -212,7 +212,7 @@ impl Fields {
         bytes
     }
 
-    /// Where an ID stands in them.
+    /// Where an ID is in them.
     const DESTID: usize = 4;
     const TXID: usize = 8;
 
