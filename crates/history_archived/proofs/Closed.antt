@@ -12,6 +12,7 @@ use Rattle.collector_model.specs.Step.{step}
 use Rattle.collector_model.specs.Reference.{pastAfter}
 use Rattle.collector_model.specs.History.{Timely}
 use Rattle.collector_model.specs.Image.{entryCell}
+use Rattle.collector_model.proofs.Invariant.{Good, good-fresh}
 use Rattle.history_rows.specs.Closings.{closedFrom, closingsFrom}
 use Rattle.history_rows.proofs.Closings.{views-closed-once}
 use Rattle.collector_closings.specs.Cells.{entryCells, closedCells}
@@ -26,7 +27,7 @@ use Rattle.text_collect.specs.Session.{Receiver, modelCollector, runningAt}
 use Rattle.text_collect.specs.Heard.{closedByLine, lineClosings, isAsked}
 use Rattle.text_collect.proofs.Turns.{closings-bounded}
 use Rattle.journal_model.proofs.Rows.{said-small}
-use Rattle.c_collector.specs.State.{Arrays, stateAt}
+use Rattle.c_collector.specs.State.{stateAt}
 use Rattle.history_archived.specs.Closed.{
   handedBy,
   handedOver,
@@ -42,7 +43,7 @@ use Rattle.history_archived.specs.Closed.{
 }
 use Rattle.history_archived.specs.Runs.{Call, usedBy, usedIn}
 use Rattle.history_archived.proofs.Archived.{over-silent}
-use Rattle.history_archived.proofs.Runs.{fed-front, chain, given-whole}
+use Rattle.history_archived.proofs.Runs.{gave-as, stays-good, fed-front, chain, given-whole}
 
 -- ---- lines
 
@@ -123,16 +124,21 @@ lines-close-once ls = rw (past-lines ls []) at (views-closed-once (handedOver ls
 asks : (closed : List ℕ) → 0 < length closed → isAsked closed ≡ true
 asks closed h = rw (ne-eqb (length closed) 0 (λ z. omega arith))
 
-one-call : (setting format : ℕ) (a : Arrays) (c : Call) → Answered setting format a c
-    → Drained (lineClosings true) lineLimit (runningAt setting (stateAt a)) (usedBy c)
+one-call : (setting format : ℕ) (c : Call) → Answered setting format c
+    → Drained (lineClosings true) lineLimit (runningAt setting (stateAt (c .before))) (usedBy c)
     (runningAt setting (stateAt (c .after))) (closedBy c)
-one-call setting format a c k =
+one-call setting format c k =
     let f = rw (asks (c .closed) (k .asked)) at (k .lines .taken refl .closes) in
     fed-front (lineClosings true) _ _ _ _ _ _ f
 
 pub calls-close : CallsClose
 calls-close setting format a cs e r =
-    let d = chain (Answered setting format) setting (lineClosings true) closedBy (one-call setting format) cs a r in
+    let good : (c : Call) → Answered setting format c → Good (stateAt (c .before)) → Good (stateAt (c .after)) =
+    λ c k. stays-good _ setting c (gave-as setting format c (k .lines))
+    in
+    let g : Good (stateAt a) = rw e good-fresh in
+    let one = one-call setting format in
+    let d = chain (Answered setting format) setting good (lineClosings true) closedBy one cs a g r in
     sym (append-nil (joined (map closedBy cs))) ∙ given-whole (lineClosings true) (closings-bounded true) d
     ∙ ap (λ (v : View). outputOf (lineClosings true) (runningAt setting v) (usedIn cs)) e
     ∙ lines-closed setting fresh (usedIn cs)

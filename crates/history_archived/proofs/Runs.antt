@@ -1,12 +1,14 @@
--- Calls of `lines`, and calls of `lines_as`, one after the other, follow the reference model.
+-- Calls of `lines`, and calls of `lines_as`, one after the other and with restarts between them, follow the reference
+-- model.
 use mathlib.Core.Path.{_≡_, refl, sym, ap, ap₂, subst, _∙_}
 use mathlib.Core.List.{List, [], _∷_, _++_, map, append-assoc, append-nil}
 use Prim.Native.Nat.{ℕ, zero, suc, _+_, _≤_}
 use native.Mathlib.Omega.{arith}
 use native.Mathlib.Nat.{zero-add}
 use lib.Dec.{lit<}
-use lib.ListN.{length, take, length-append}
+use lib.ListN.{length, take}
 use Rattle.collector_model.specs.View.{View, fresh}
+use Rattle.collector_model.proofs.Invariant.{Good, good-fresh}
 use Rattle.collector_model.proofs.Theorem.{fresh-model}
 use Rattle.text_lines.specs.Ascii.{newline}
 use Rattle.text_lines.specs.declared.Setting.{Setting}
@@ -18,14 +20,14 @@ use Rattle.text_program.specs.Chunks.{Position, Bounded, atLineStart, fed, feed
 use Rattle.text_program.specs.Chunks.{feedAll, feedAllText, lastText, joined}
 use Rattle.text_program.specs.Collect.{Phase, starting, collect}
 use Rattle.text_program.specs.Buffer.{Fed}
-use Rattle.text_program.proofs.Pieces.{text-append, in-pieces}
+use Rattle.text_program.proofs.Pieces.{in-pieces}
 use Rattle.text_program.proofs.Segments.{Drained, none, both}
 use Rattle.archive_fill.specs.Fill.{rowsGiven}
 use Rattle.text_collect.specs.Printed.{pastAfterLines, totalsLine, printedWith, printedOf}
 use Rattle.text_collect.specs.PrintedIn.{printedWithIn, printedIn}
 use Rattle.text_collect.specs.Session.{Receiver, modelCollector, runningAt}
 use Rattle.text_collect.specs.Rows.{rowTimes, rowRecords, lineTicks}
-use Rattle.text_collect.specs.Elements.{Held, held, lineColumns, ElementsAfter}
+use Rattle.text_collect.specs.Elements.{Held, held, lineColumns}
 use Rattle.text_collect.specs.Formats.{totalsIn, collectIn}
 use Rattle.text_collect.proofs.Storing.{times-bounded, records-bounded, ticks-bounded}
 use Rattle.text_collect.proofs.Formatting.{format-bounded}
@@ -35,10 +37,13 @@ use Rattle.text_print.proofs.Turning.{front-there}
 use Rattle.journal_model.specs.Rows.{modelRows}
 use Rattle.c_collector.specs.State.{Arrays, columnsAt, stateAt}
 use Rattle.c_lines.specs.Formats.{formatOf}
-use Rattle.history_archived.specs.Runs.{Call, usedBy, textBy, timesBy, recordsBy, linesBy, Takes, TakesAs, IsRun}
-use Rattle.history_archived.specs.Runs.{leftBy, usedIn, linesIn, Agrees, CallsFollow, CallsFollowAs}
+use Rattle.history_archived.specs.Runs.{Call, usedBy, textBy, timesBy, recordsBy, linesBy, Takes, TakesAs}
+use Rattle.history_archived.specs.Runs.{GoesOn, IsRun, leftBy, usedIn, linesIn, Agrees, CallsFollow, CallsFollowAs}
+use Rattle.history_archived.specs.Runs.{Lays, CallsLay, CallsLayAs}
 use Rattle.history_archived.specs.Claims.{rowsSaid}
 use Rattle.history_archived.proofs.Archived.{lines-archived}
+use Rattle.history_archived.proofs.Newlines.{newlines, newlines-append, ticks-count}
+use Rattle.history_archived.proofs.Restarts.{good-fed, goes-on}
 
 -- what stands at the front of an output after lines
 pub fed-front : {S : Type 0} (p : Program S) (s s' : S) (x out out' : List ℕ) (n : ℕ) → Fed p s x out s' out' n
@@ -50,32 +55,23 @@ fed-front p s s' x out out' n f =
 
 -- ---- calls, one after the other
 
-abbrev phase : ℕ → Arrays → Phase Receiver
+abbrev pub phase : ℕ → Arrays → Phase Receiver
 phase setting a = runningAt setting (stateAt a)
 
-pub chain : (Is : Arrays → Call → Type 0) (setting : ℕ) (p : Program (Phase Receiver)) (given : Call → List ℕ)
-    → ((a : Arrays) (c : Call) → Is a c
-    → Drained p lineLimit (phase setting a) (usedBy c) (phase setting (c .after)) (given c))
-    → (cs : List Call) (a : Arrays) → IsRun Is a cs
-    → Drained p lineLimit (phase setting a) (usedIn cs) (phase setting (leftBy a cs)) (joined (map given cs))
-unfolding IsRun leftBy joined
-chain Is setting p given one [] a r = none p lineLimit (phase setting a)
-chain Is setting p given one (c ∷ cs) a r =
-    both p lineLimit (one a c (r .0)) (chain Is setting p given one cs (c .after) (r .1))
-
-abbrev laid : ℕ → Arrays → Held
+abbrev pub laid : ℕ → Arrays → Held
 laid setting a = held (phase setting a) (columnsAt a)
 
 -- what a call gave, where its text is that of a program
-record Gave (p : Program (Phase Receiver)) (setting : ℕ) (a : Arrays) (c : Call) : Type 0 where
-  text : Drained p lineLimit (phase setting a) (usedBy c) (phase setting (c .after)) (textBy c)
-  times : Drained rowTimes lineLimit (phase setting a) (usedBy c) (phase setting (c .after)) (timesBy c)
-  records : Drained rowRecords lineLimit (phase setting a) (usedBy c) (phase setting (c .after)) (recordsBy c)
-  elements : Drained lineColumns lineLimit (laid setting a) (usedBy c) (laid setting (c .after)) []
-  ticks : linesBy c ≡ length (feedText lineTicks lineLimit (atLineStart (phase setting a)) (usedBy c))
+pub record Gave (p : Program (Phase Receiver)) (setting : ℕ) (c : Call) : Type 0 where
+  pub text : Drained p lineLimit (phase setting (c .before)) (usedBy c) (phase setting (c .after)) (textBy c)
+  pub times : Drained rowTimes lineLimit (phase setting (c .before)) (usedBy c) (phase setting (c .after)) (timesBy c)
+  pub records : Drained rowRecords lineLimit (phase setting (c .before)) (usedBy c) (phase setting (c .after))
+      (recordsBy c)
+  pub elements : Drained lineColumns lineLimit (laid setting (c .before)) (usedBy c) (laid setting (c .after)) []
+  pub ticks : linesBy c ≡ length (feedText lineTicks lineLimit (atLineStart (phase setting (c .before))) (usedBy c))
 
-gave : (setting : ℕ) (a : Arrays) (c : Call) → Takes setting a c → Gave (collect modelCollector) setting a c
-gave setting a c k =
+pub gave : (setting : ℕ) (c : Call) → Takes setting c → Gave (collect modelCollector) setting c
+gave setting c k =
     let t = k .taken refl in
     record {
       text = fed-front _ _ _ _ _ _ _ (t .text);
@@ -85,9 +81,8 @@ gave setting a c k =
       ticks = t .ticks;
     }
 
-gave-as : (setting format : ℕ) (a : Arrays) (c : Call) → TakesAs setting format a c
-    → Gave (collectIn (formatOf format)) setting a c
-gave-as setting format a c k =
+pub gave-as : (setting format : ℕ) (c : Call) → TakesAs setting format c → Gave (collectIn (formatOf format)) setting c
+gave-as setting format c k =
     let t = k .taken refl in
     record {
       text = fed-front _ _ _ _ _ _ _ (t .text);
@@ -96,6 +91,32 @@ gave-as setting format a c k =
       elements = fed-front _ _ _ _ [] [] 0 (t .elements);
       ticks = t .ticks;
     }
+
+-- a state that is good stays so
+pub stays-good : (p : Program (Phase Receiver)) (setting : ℕ) (c : Call) → Gave p setting c → Good (stateAt (c .before))
+    → Good (stateAt (c .after))
+stays-good p setting c g =
+    good-fed (record { setting = setting; view = stateAt (c .before) })
+    (record { setting = setting; view = stateAt (c .after) }) (usedBy c) (g .times .state)
+
+-- what calls give from a good state on, whenever they are restarted
+module _ (Is : Call → Type 0) (setting : ℕ)
+    (good : (c : Call) → Is c → Good (stateAt (c .before)) → Good (stateAt (c .after))) where
+  pub chain : (p : Program (Phase Receiver)) (given : Call → List ℕ)
+      → ((c : Call) → Is c
+      → Drained p lineLimit (phase setting (c .before)) (usedBy c) (phase setting (c .after)) (given c))
+      → (cs : List Call) (a : Arrays) → Good (stateAt a) → IsRun GoesOn Is a cs
+      → Drained p lineLimit (phase setting a) (usedIn cs) (phase setting (leftBy a cs)) (joined (map given cs))
+  unfolding IsRun leftBy joined
+  chain p given one [] a g r = none p lineLimit (phase setting a)
+  chain p given one (c ∷ cs) a g r =
+      let e = goes-on (r .0) g in
+      let h : Good (stateAt (c .before)) = rw e g in
+      let d = subst
+      (λ (v : View). Drained p lineLimit (runningAt setting v) (usedBy c) (phase setting (c .after)) (given c)) e
+      (one c (r .1))
+      in
+      both p lineLimit d (chain p given one cs (c .after) (good c (r .1) h) (r .2))
 
 -- all that a program gives for such a text
 pub given-whole : (p : Program (Phase Receiver)) → Bounded p lineLimit
@@ -137,43 +158,50 @@ ticks-whole s s' x t d =
 
 -- ---- a run of calls
 
-module _ (Is : Arrays → Call → Type 0) (setting : ℕ) (p : Program (Phase Receiver))
-    (one : (a : Arrays) (c : Call) → Is a c → Gave p setting a c) where
-  columns-run : (cs : List Call) (a : Arrays) → IsRun Is a cs
+module _ (Is : Call → Type 0) (setting : ℕ) (p : Program (Phase Receiver))
+    (one : (c : Call) → Is c → Gave p setting c) where
+  columns-run : (cs : List Call) (a : Arrays) → IsRun _≡_ Is a cs
       → Drained lineColumns lineLimit (laid setting a) (usedIn cs) (laid setting (leftBy a cs)) []
   unfolding IsRun leftBy joined
   columns-run [] a r = none lineColumns lineLimit (laid setting a)
   columns-run (c ∷ cs) a r =
-      both lineColumns lineLimit (one a c (r .0) .elements) (columns-run cs (c .after) (r .1))
+      let d = subst
+      (λ (b : Arrays). Drained lineColumns lineLimit (laid setting b) (usedBy c) (laid setting (c .after)) [])
+      (sym (r .0)) (one c (r .1) .elements)
+      in
+      both lineColumns lineLimit d (columns-run cs (c .after) (r .2))
 
-  counted : (cs : List Call) (a : Arrays) → IsRun Is a cs
-      → linesIn cs ≡ length (feedText lineTicks lineLimit (atLineStart (phase setting a)) (usedIn cs))
-  unfolding IsRun linesIn joined feedText
+  lays : (a : Arrays) (cs : List Call) → IsRun _≡_ Is a cs → Lays setting a cs
+  lays a cs r = columns-fed (usedIn cs) (columns-run cs a r)
+
+  pub counted : (cs : List Call) (a : Arrays) → IsRun GoesOn Is a cs → linesIn cs ≡ newlines (usedIn cs)
+  unfolding IsRun linesIn joined newlines
   counted [] a r = refl
   counted (c ∷ cs) a r =
-      let g = one a c (r .0) in
-      let b = atLineStart (phase setting a) in
-      let front = feedText lineTicks lineLimit b (usedBy c) in
-      let rest = feedText lineTicks lineLimit (atLineStart (phase setting (c .after))) (usedIn cs) in
-      let e : feedText lineTicks lineLimit b (usedBy c ++ usedIn cs) ≡ front ++ rest =
-      rw (text-append lineTicks lineLimit (usedBy c) (usedIn cs) b, ticks-state (usedBy c) b, g .times .state)
-      in
-      ap₂ _+_ (g .ticks) (counted cs (c .after) (r .1)) ∙ sym (length-append front rest) ∙ ap length (sym e)
+      let g = one c (r .1) in
+      let n = ticks-count (usedBy c) (atLineStart (phase setting (c .before))) in
+      ap₂ _+_ (g .ticks ∙ n) (counted cs (c .after) (r .2)) ∙ sym (newlines-append (usedBy c) (usedIn cs))
 
-  module _ (a : Arrays) (cs : List Call) (e : stateAt a ≡ fresh) (r : IsRun Is a cs) where
+  good : (c : Call) → Is c → Good (stateAt (c .before)) → Good (stateAt (c .after))
+  good c k = stays-good p setting c (one c k)
+
+  module _ (a : Arrays) (cs : List Call) (e : stateAt a ≡ fresh) (r : IsRun GoesOn Is a cs) where
     abbrev last : Phase Receiver
     last = phase setting (leftBy a cs)
+
+    begins-good : Good (stateAt a)
+    begins-good = rw e good-fresh
 
     texts : Drained p lineLimit (runningAt setting fresh) (usedIn cs) last (joined (map textBy cs))
     texts =
         subst (λ (v : View). Drained p lineLimit (runningAt setting v) (usedIn cs) last (joined (map textBy cs))) e
-        (chain Is setting p textBy (λ b c k. one b c k .text) cs a r)
+        (chain Is setting good p textBy (λ c k. one c k .text) cs a begins-good r)
 
     times : Drained rowTimes lineLimit (phase setting a) (usedIn cs) last (joined (map timesBy cs))
-    times = chain Is setting rowTimes timesBy (λ b c k. one b c k .times) cs a r
+    times = chain Is setting good rowTimes timesBy (λ c k. one c k .times) cs a begins-good r
 
     records : Drained rowRecords lineLimit (phase setting a) (usedIn cs) last (joined (map recordsBy cs))
-    records = chain Is setting rowRecords recordsBy (λ b c k. one b c k .records) cs a r
+    records = chain Is setting good rowRecords recordsBy (λ c k. one c k .records) cs a begins-good r
 
     same-rows : rowsGiven (joined (map timesBy cs)) (joined (map recordsBy cs)) ≡ modelRows [] (linesOf (usedIn cs))
     unfolding pastAfterLines
@@ -183,17 +211,12 @@ module _ (Is : Arrays → Call → Type 0) (setting : ℕ) (p : Program (Phase R
         ap₂ rowsGiven t b ∙ ap (λ (v : View). rowsSaid (runningAt setting v) (usedIn cs)) (e ∙ fresh-model)
         ∙ lines-archived setting [] (usedIn cs)
 
-    same-elements : ElementsAfter (runningAt setting fresh) (columnsAt a) (usedIn cs) last (columnsAt (leftBy a cs))
-    same-elements =
-        subst
-        (λ (v : View). ElementsAfter (runningAt setting v) (columnsAt a) (usedIn cs) last (columnsAt (leftBy a cs))) e
-        (columns-fed (usedIn cs) (columns-run cs a r))
-
-    agree : Agrees setting a cs
+    agree : Agrees cs
     agree = record {
       rows = same-rows;
-      elements = same-elements;
-      lines = counted cs a r ∙ ticks-whole (phase setting a) last (usedIn cs) (joined (map timesBy cs)) times;
+      lines =
+          counted cs a r ∙ sym (ticks-count (usedIn cs) (atLineStart (phase setting a)))
+          ∙ ticks-whole (phase setting a) last (usedIn cs) (joined (map timesBy cs)) times;
     }
 
 -- ---- the first line
@@ -275,3 +298,10 @@ calls-follow-as setting format a cs few e r =
       text = follows-in f setting few (stateAt (leftBy a cs)) (usedIn cs) (joined (map textBy cs)) t;
       agrees = agree (TakesAs setting format) setting (collectIn f) (gave-as setting format) a cs e r;
     }
+
+pub calls-lay : CallsLay
+calls-lay setting a cs r = lays (Takes setting) setting (collect modelCollector) (gave setting) a cs r
+
+pub calls-lay-as : CallsLayAs
+calls-lay-as setting format a cs r =
+    lays (TakesAs setting format) setting (collectIn (formatOf format)) (gave-as setting format) a cs r

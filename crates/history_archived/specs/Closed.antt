@@ -17,7 +17,7 @@ use Rattle.text_collect.specs.Printed.{receptionAt, pastAfterLines}
 use Rattle.text_collect.specs.Session.{runningAt}
 use Rattle.text_collect.specs.Heard.{lineClosings}
 use Rattle.c_collector.specs.State.{Arrays, stateAt}
-use Rattle.history_archived.specs.Runs.{Call, TakesAs, IsRun, usedIn}
+use Rattle.history_archived.specs.Runs.{Call, TakesAs, GoesOn, IsRun, usedIn}
 
 -- ---- by the model
 
@@ -69,12 +69,13 @@ abbrev pub closedBy : Call → List ℕ
 closedBy c = take (32 * getD (c .done') 4 0) (c .closed')
 
 -- a call of `lines_as` with room for that
-pub record Answered (setting format : ℕ) (a : Arrays) (c : Call) : Type 0 where
-  pub lines : TakesAs setting format a c
+pub record Answered (setting format : ℕ) (c : Call) : Type 0 where
+  pub lines : TakesAs setting format c
   pub asked : 0 < length (c .closed)
 
--- THE CLAIM: from a fresh collector on, however the log is cut into such calls, what they close is what the model closes in all that they used
+-- THE CLAIM: from a fresh collector on, however the log is cut into such calls and whenever it is restarted, what they close is what the model closes in
+-- all that they used
 abbrev pub CallsClose : Type 0
 CallsClose =
-    (setting format : ℕ) (a : Arrays) (cs : List Call) → stateAt a ≡ fresh → IsRun (Answered setting format) a cs
+    (setting format : ℕ) (a : Arrays) (cs : List Call) → stateAt a ≡ fresh → IsRun GoesOn (Answered setting format) a cs
     → joined (map closedBy cs) ≡ entryCells (closingsFrom fresh (handedOver (linesOf (usedIn cs))))

@@ -1,10 +1,11 @@
--- What is claimed of the calls `lines` and `lines_as` on a collector in arrays, as other languages make them: proofs/Runs.antt has the theorems. They use
--- of the code what the contracts of the calls say, and nothing else. Closed.antt has what `lines_as` closes.
+-- What is claimed of the calls `lines` and `lines_as` on a collector in arrays, as other languages make them, with restarts between them: proofs/Runs.antt
+-- has the theorems. They use of the code what the contracts of the calls say, and nothing else. Closed.antt has what `lines_as` closes.
 use Prim.Native.Nat.{ℕ, _+_, _*_, _≤_}
 use mathlib.Core.Path.{_≡_}
 use mathlib.Core.List.{List, [], _∷_, _++_, map}
 use lib.ListN.{length, getD, take}
 use Rattle.collector_model.specs.View.{fresh}
+use Rattle.collector_model.specs.Image.{imageLength, checkpointOf}
 use Rattle.text_lines.specs.declared.Setting.{Setting}
 use Rattle.text_rows.specs.Formats.{headingIn}
 use Rattle.text_program.specs.Lines.{linesOf}
@@ -16,12 +17,14 @@ use Rattle.text_collect.specs.Elements.{ElementsAfter}
 use Rattle.text_collect.specs.Formats.{totalsIn}
 use Rattle.text_collect.specs.PrintedIn.{printedWithIn}
 use Rattle.c_collector.specs.State.{Arrays, columnsAt, stateAt}
+use Rattle.c_checkpoint.specs.Calls.{Restores}
 use Rattle.c_lines.specs.Calls.{Lines}
 use Rattle.c_lines.specs.Formats.{formatOf, LinesAs}
 use Rattle.journal_model.specs.Rows.{modelRows}
 
--- a call that was answered 0: what was lent to it, and what it left; `lines` is lent no `closed`
+-- a call that was answered 0: the collector and what else was lent to it, and what it left; `lines` is lent no `closed`
 pub record Call : Type 0 where
+  pub before : Arrays
   pub input : List ℕ
   pub most : ℕ
   pub out : List ℕ
@@ -52,21 +55,34 @@ recordsBy c = take (rowLength * getD (c .done') 2 0) (c .rows')
 abbrev pub linesBy : Call → ℕ
 linesBy c = getD (c .done') 3 0
 
--- it is a call of `lines` at a setting on these arrays, or one of `lines_as`, in a format too
-abbrev pub Takes : ℕ → Arrays → Call → Type 0
-Takes setting a c =
-    Lines a setting (c .input) (c .most) (c .out) (c .moments) (c .rows) (c .done) 0
+-- it is a call of `lines` at a setting, or one of `lines_as`, in a format too
+abbrev pub Takes : ℕ → Call → Type 0
+Takes setting c =
+    Lines (c .before) setting (c .input) (c .most) (c .out) (c .moments) (c .rows) (c .done) 0
     (c .after) (c .out') (c .moments') (c .rows') (c .done')
 
-abbrev pub TakesAs : (setting format : ℕ) → Arrays → Call → Type 0
-TakesAs setting format a c =
-    LinesAs a setting format (c .input) (c .most) (c .out) (c .moments) (c .rows) (c .closed) (c .done) 0
+abbrev pub TakesAs : (setting format : ℕ) → Call → Type 0
+TakesAs setting format c =
+    LinesAs (c .before) setting format (c .input) (c .most) (c .out) (c .moments) (c .rows) (c .closed) (c .done) 0
     (c .after) (c .out') (c .moments') (c .rows') (c .closed') (c .done')
 
--- such calls, each on the arrays that the one before left
-unfoldable pub IsRun : (Arrays → Call → Type 0) → Arrays → List Call → Type 0
-IsRun Is a [] = a ≡ a
-IsRun Is a (c ∷ cs) = Is a c × IsRun Is (c .after) cs
+-- a claim of calls that holds of those of `lines` and of those of `lines_as`
+pub record OfBoth (Claim : (Call → Type 0) → Type 0) : Type 0 where
+  pub lines : (setting : ℕ) → Claim (Takes setting)
+  pub linesAs : (setting format : ℕ) → Claim (TakesAs setting format)
+
+-- the second arrays go on where the first stopped: they are the same, or a checkpoint was written and restored, into arrays that held anything, and this
+-- any number of times (document 01, "Parked collector")
+pub data GoesOn : Arrays → Arrays → Type 0 where
+  same : {a : Arrays} → GoesOn a a
+  restarted : {a b c d : Arrays} (out : List ℕ) {out' : List ℕ}
+      → GoesOn a b → record { number = 0; output = out' } ≡ checkpointOf (stateAt b) out
+      → Restores c (take imageLength out') 0 d → GoesOn a d
+
+-- such calls, each on arrays that follow those that the one before left
+unfoldable pub IsRun : (Arrays → Arrays → Type 0) → (Call → Type 0) → Arrays → List Call → Type 0
+IsRun Follow Is a [] = a ≡ a
+IsRun Follow Is a (c ∷ cs) = Follow a (c .before) × Is c × IsRun Follow Is (c .after) cs
 
 -- the arrays after them
 unfoldable pub leftBy : Arrays → List Call → Arrays
@@ -81,24 +97,21 @@ unfoldable pub linesIn : List Call → ℕ
 linesIn [] = 0
 linesIn (c ∷ cs) = linesBy c + linesIn cs
 
--- What holds of both: their rows are the reference model's, every element of the arrays is what the lines of the whole log make of it, and the lines
--- that they counted are those of the log
-pub record Agrees (setting : ℕ) (a : Arrays) (cs : List Call) : Type 0 where
+-- What holds of both: their rows are the reference model's, and the lines that they counted are those of the log
+pub record Agrees (cs : List Call) : Type 0 where
   pub rows : rowsGiven (joined (map timesBy cs)) (joined (map recordsBy cs)) ≡ modelRows [] (linesOf (usedIn cs))
-  pub elements : ElementsAfter (runningAt setting fresh) (columnsAt a) (usedIn cs)
-      (runningAt setting (stateAt (leftBy a cs))) (columnsAt (leftBy a cs))
   pub lines : linesIn cs ≡ length (linesOf (usedIn cs))
 
--- THE CLAIM of `lines`: from a fresh collector on, however the log is cut into calls, that holds, and their texts with the totals are what `collect`
--- prints behind its first line
+-- THE CLAIM of `lines`: from a fresh collector on, however the log is cut into calls and whenever it is restarted, that holds, and their texts with the
+-- totals are what `collect` prints behind its first line
 pub record Follows (setting : ℕ) (a : Arrays) (cs : List Call) : Type 0 where
   pub text : joined (map textBy cs) ++ totalsLine (stateAt (leftBy a cs) .totals)
       ≡ printedWith (Setting.Level setting) (linesOf (usedIn cs))
-  pub agrees : Agrees setting a cs
+  pub agrees : Agrees cs
 
 abbrev pub CallsFollow : Type 0
 CallsFollow =
-    (setting : ℕ) (a : Arrays) (cs : List Call) → setting ≤ 2 → stateAt a ≡ fresh → IsRun (Takes setting) a cs
+    (setting : ℕ) (a : Arrays) (cs : List Call) → setting ≤ 2 → stateAt a ≡ fresh → IsRun GoesOn (Takes setting) a cs
     → Follows setting a cs
 
 -- THE CLAIM of `lines_as`: the same in a format: behind its heading, which no call writes, their texts are what the model prints in that format, with the
@@ -107,9 +120,22 @@ pub record FollowsAs (setting format : ℕ) (a : Arrays) (cs : List Call) : Type
   pub text : headingIn (formatOf format)
       ++ (joined (map textBy cs) ++ totalsIn (formatOf format) (stateAt (leftBy a cs) .totals))
       ≡ printedWithIn (formatOf format) (Setting.Level setting) (linesOf (usedIn cs))
-  pub agrees : Agrees setting a cs
+  pub agrees : Agrees cs
 
 abbrev pub CallsFollowAs : Type 0
 CallsFollowAs =
     (setting format : ℕ) (a : Arrays) (cs : List Call) → setting ≤ 2 → stateAt a ≡ fresh
-    → IsRun (TakesAs setting format) a cs → FollowsAs setting format a cs
+    → IsRun GoesOn (TakesAs setting format) a cs → FollowsAs setting format a cs
+
+-- Without a restart, from any arrays on: every element of the arrays is what the lines make of it
+abbrev pub Lays : ℕ → Arrays → List Call → Type 0
+Lays setting a cs =
+    ElementsAfter (runningAt setting (stateAt a)) (columnsAt a) (usedIn cs)
+    (runningAt setting (stateAt (leftBy a cs))) (columnsAt (leftBy a cs))
+
+abbrev pub CallsLay : Type 0
+CallsLay = (setting : ℕ) (a : Arrays) (cs : List Call) → IsRun _≡_ (Takes setting) a cs → Lays setting a cs
+
+abbrev pub CallsLayAs : Type 0
+CallsLayAs =
+    (setting format : ℕ) (a : Arrays) (cs : List Call) → IsRun _≡_ (TakesAs setting format) a cs → Lays setting a cs

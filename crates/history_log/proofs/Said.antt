@@ -1,33 +1,28 @@
 -- What a text gives in parts: whole lines first, a last line without a newline, the first line of a log.
 --     out-more, out-last            a program over whole lines and what is behind them; over a last line
 --     said-more, said-last, no-more the same of the rows
---     good-fed                      every state on the way is good, so that no call is refused
 --     all-used                      a line with its newline is taken whole
 --     first-said, none-said         a log behind its first line; one that has no right first line
-use mathlib.Core.Path.{_≡_, refl, sym, ap, ap₂, subst, _∙_}
+use mathlib.Core.Path.{_≡_, refl, sym, ap, ap₂, _∙_}
 use mathlib.Core.Bool.{Bool, true, false, cond}
 use mathlib.Core.List.{List, [], _∷_, _++_, append-assoc, append-nil}
-use Prim.Native.Nat.{ℕ, suc, _+_, _*_, _≤_, _<_}
+use Prim.Native.Nat.{ℕ, _+_, _*_, _≤_, _<_}
 use native.Mathlib.Omega.{arith}
-use native.Mathlib.Nat.{zero-add}
 use lib.Dec.{lit<, eqb, ltb, leb}
 use lib.ListN.{length, take, drop, length-take, length-append, take-append-drop}
-use lib.Seq.{take-nil, take-all, take-append-le, length-take-le}
+use lib.Seq.{take-nil, take-append-le, length-take-le}
 use borrow.Author.Tests.{leb-true, leb-false, ltb-true, ltb-false}
 use Rattle.bytes.specs.Bytes.{indexOf}
 use Rattle.base_lists.specs.Lists.{equal, upFrom}
 use Rattle.base_lists.proofs.Tests.{branch, by-test}
 use Rattle.collector_model.specs.View.{fresh}
-use Rattle.collector_model.specs.Step.{step}
-use Rattle.collector_model.proofs.Invariant.{Good, classified, good-advance}
 use Rattle.text_lines.specs.Ascii.{newline}
 use Rattle.text_lines.specs.declared.Setting.{Setting}
-use Rattle.text_lines.specs.Reading.{Reading, reception, bad, levelLine, settingOf, lineReading, lineLimit}
+use Rattle.text_lines.specs.Reading.{levelLine, settingOf, lineLimit}
 use Rattle.text_program.specs.Lines.{Program, linesOf, stateAfter, textOf, outputOf}
 use Rattle.text_program.specs.Chunks.{
   Position,
   Bounded,
-  inLine,
   atLineStart,
   feed,
   feedText,
@@ -37,7 +32,7 @@ use Rattle.text_program.specs.Chunks.{
   endText,
   joined,
 }
-use Rattle.text_program.specs.Collect.{Phase, starting, running, over, afterFirst, afterLine}
+use Rattle.text_program.specs.Collect.{Phase, starting, over, afterFirst}
 use Rattle.text_program.specs.Buffer.{isUnended}
 use Rattle.text_program.proofs.Pieces.{in-pieces, feed-append, text-append}
 use Rattle.text_program.proofs.Segments.{
@@ -52,12 +47,9 @@ use Rattle.text_program.proofs.Segments.{
   up-to-newline,
 }
 use Rattle.archive_fill.specs.Fill.{rowLength, rowsGiven}
-use Rattle.text_collect.specs.Printed.{receptionAt}
 use Rattle.text_collect.specs.Session.{Receiver, modelCollector, runningAt}
 use Rattle.text_collect.specs.Rows.{rowTimes, rowRecords}
 use Rattle.text_collect.proofs.Storing.{times-bounded, records-bounded}
-use Rattle.journal_model.proofs.Rows.{said-small}
-use Rattle.archive_model.specs.Row.{Row}
 use Rattle.c_lines.specs.Calls.{levelNumber, firstNumber, firstUsed}
 use Rattle.history_archived.specs.Archived.{archivedOf}
 use Rattle.history_archived.specs.Claims.{rowsSaid}
@@ -126,34 +118,6 @@ said-last s y o some = ap₂ rowsGiven (out-last rowTimes times-bounded s y o so
 pub no-more : (s : Phase Receiver) → rowsSaid s [] ≡ []
 unfolding rowsGiven upFrom
 no-more s = ap₂ rowsGiven (out-none rowTimes times-bounded s) (out-none rowRecords records-bounded s)
-
--- ---- states on the way
-
-good-line : (c : Receiver) (l : List ℕ) → Good (c .view) → (a : Reading) → lineReading l ≡ a
-    → Good (afterLine modelCollector c a .view)
-unfolding step
-good-line c l g (reception t bs) e = let r = receptionAt t bs in good-advance (c .view) r g (said-small l e)
-    (classified (c .view) r)
-good-line c l g bad e = g
-
-good-from : (x : List ℕ) (c c' : Receiver) (l : List ℕ)
-    → feed rowTimes lineLimit (inLine (running c) l) x ≡ atLineStart (running c') → Good (c .view) → Good (c' .view)
-unfolding feed
-good-from [] c c' l e g = let q : running c ≡ running c' = ap
-    (λ (a : Position (Phase Receiver)). a .state) e in let same : c ≡ c' = cc in rw same at g
-good-from (k ∷ x) c c' l e g = go (eqb k newline) (λ d m f h. good-from x d c' m f h) e
-  where
-    go : (t : Bool) → ((d : Receiver) (m : List ℕ) → feed rowTimes lineLimit (inLine (running d) m) x
-        ≡ atLineStart (running c') → Good (d .view) → Good (c' .view))
-        → feed rowTimes lineLimit (cond t (atLineStart (rowTimes .next (running c) l))
-        (inLine (running c) (take lineLimit (l ++ (k ∷ []))))) x ≡ atLineStart (running c')
-        → Good (c' .view)
-    go true ih f = ih (afterLine modelCollector c (lineReading l)) [] f (good-line c l g (lineReading l) refl)
-    go false ih f = ih c (take lineLimit (l ++ (k ∷ []))) f g
-
-pub good-fed : (c c' : Receiver) (x : List ℕ) → feed rowTimes lineLimit (atLineStart (running c)) x
-    ≡ atLineStart (running c') → Good (c .view) → Good (c' .view)
-good-fed c c' x = good-from x c c' []
 
 -- ---- a line with its newline
 

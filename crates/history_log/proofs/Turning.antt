@@ -28,6 +28,7 @@ use Rattle.archive_fill.proofs.Records.{rows-count}
 use Rattle.text_collect.specs.Session.{Receiver}
 use Rattle.text_collect.specs.Rows.{rowTimes, rowRecords}
 use Rattle.history_archived.specs.Claims.{rowsSaid}
+use Rattle.history_archived.proofs.Restarts.{good-fed}
 use Rattle.c_collector.specs.State.{Arrays, stateAt}
 use Rattle.history_log.specs.declared.Pass.{Pass}
 use Rattle.history_log.specs.declared.Turn.{Turn}
@@ -46,7 +47,7 @@ use Rattle.history_log.specs.Private.{
   states,
   Went,
 }
-use Rattle.history_log.proofs.Said.{said-more, said-last, no-more, good-fed, all-used}
+use Rattle.history_log.proofs.Said.{said-more, said-last, no-more, all-used}
 use Rattle.history_log.proofs.States.{state-more, state-last, state-none}
 use Rattle.history_log.proofs.Growing.{put-grown}
 

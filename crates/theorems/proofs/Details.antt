@@ -33,7 +33,10 @@ use Rattle.text_collect.proofs.Printed as text_collect_printed
 use Rattle.text_collect.proofs.PrintedIn as text_collect_formats
 use Rattle.text_collect.proofs.Storing as text_collect
 use Rattle.history_archived.proofs.Archived as history_archived
+use Rattle.history_archived.proofs.Runs as history_archived_runs
 use Rattle.history_archived.proofs.Closed as history_archived_closed
+use Rattle.history_archived.proofs.Places as history_archived_places
+use Rattle.history_archived.proofs.Outputs as history_archived_outputs
 use Rattle.history_log.proofs.Claims as history_log
 use Rattle.archive_model.proofs.Claims as archive_file_model_claims
 use Rattle.archive_model.proofs.Identity as archive_file_model_identity
@@ -163,6 +166,13 @@ lines = record {
   log-closings-follow-model = history_archived_closed.log-closed;
   later-closings-follow-model = history_archived_closed.lines-closed;
   lines-close-once = history_archived_closed.lines-close-once;
+  calls-lay-elements = history_archived_runs.calls-lay;
+  format-calls-lay-elements = history_archived_runs.calls-lay-as;
+  skipped-as-taken = history_archived_places.skips-as-taken;
+  read-as-taken = history_archived_places.reads-agree;
+  unended-is-not-read = history_archived_places.none-read;
+  outputs-stay = history_archived_outputs.outputs-stay;
+  closings-stay = history_archived_outputs.closings-stay;
   kept-log-reads-back = history_log.kept-read-back;
 }
 

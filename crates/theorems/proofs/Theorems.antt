@@ -14,6 +14,7 @@ use Rattle.text_print.proofs.Runs as text_print
 use Rattle.history_archived.proofs.Archived as history_archived
 use Rattle.history_archived.proofs.Runs as history_archived_runs
 use Rattle.history_archived.proofs.Closed as history_archived_closed
+use Rattle.history_archived.proofs.Places as history_archived_places
 use Rattle.history_log.proofs.Claims as history_log
 use Rattle.archive_model.proofs.Claims as archive_file_model
 use Rattle.archive_repack_model.proofs.Salvage as archive_repack_model_salvage
@@ -61,6 +62,7 @@ collector = record {
   calls-follow-model = history_archived_runs.calls-follow;
   format-calls-follow-model = history_archived_runs.calls-follow-as;
   closings-follow-model = history_archived_closed.calls-close;
+  restarts-leave-out-no-line = history_archived_places.restarts-cover;
   log-is-archived = history_log.fresh-kept;
 }
 

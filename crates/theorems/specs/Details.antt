@@ -30,7 +30,10 @@ use Rattle.text_program.specs.Claims as text_program
 use Rattle.text_collect.specs.Claims as text_collect
 use Rattle.text_collect.specs.PrintedIn as text_collect_formats
 use Rattle.history_archived.specs.Claims as history_archived
+use Rattle.history_archived.specs.Runs as history_archived_runs
 use Rattle.history_archived.specs.Closed as history_archived_closed
+use Rattle.history_archived.specs.Places as history_archived_places
+use Rattle.history_archived.specs.Outputs as history_archived_outputs
 use Rattle.history_log.specs.Claims as history_log
 use Rattle.archive_model.specs.Claims as archive_file_model
 use Rattle.archive_model.specs.Identity as archive_file_identity
@@ -213,6 +216,20 @@ pub record Lines : Type 1 where
   pub later-closings-follow-model : history_archived_closed.LinesClosed
   -- What lines close, and what is open behind them, are the kept receptions, in order, each once and with its copies.
   pub lines-close-once : history_archived_closed.LinesCloseOnce
+  -- From any arrays on, each element of a collector's arrays after calls of `lines` is what the lines make of it.
+  pub calls-lay-elements : history_archived_runs.CallsLay
+  -- After calls of `lines_as` too.
+  pub format-calls-lay-elements : history_archived_runs.CallsLayAs
+  -- Of the same text, `skip_lines` passes over just the lines that `lines` or `lines_as` takes, if these leave room for a further row.
+  pub skipped-as-taken : history_archived_places.SkipsAsTaken
+  -- Called line by line, `read_line` says of each line what `lines` and `lines_as` took of it.
+  pub read-as-taken : history_archived_places.ReadsAgree
+  -- If `read_line` answers 4, no line has ended.
+  pub unended-is-not-read : history_archived_places.NoneRead
+  -- If calls share their outputs, each is as it was behind all that they wrote.
+  pub outputs-stay : history_archived_outputs.OutputsStay
+  -- Behind closings too.
+  pub closings-stay : history_archived_outputs.ClosingsStay
   -- A log kept in any archive is read back: the rows that were there, and then the model's, in order.
   pub kept-log-reads-back : history_log.KeptReadBack
 

@@ -36,6 +36,7 @@ use Rattle.text_print.specs.Claims as text_print
 use Rattle.history_archived.specs.Claims as history_archived
 use Rattle.history_archived.specs.Runs as history_archived_runs
 use Rattle.history_archived.specs.Closed as history_archived_closed
+use Rattle.history_archived.specs.Places as history_archived_places
 use Rattle.history_log.specs.Claims as history_log
 use Rattle.archive_model.specs.Claims as archive_file_model
 use Rattle.archive_repack_model.specs.Claims as archive_repack_model
@@ -94,12 +95,14 @@ pub record Collector : Type 0 where
   pub output-follows-model : text_print.RunsPrint
   -- The rows that a log gives for an archive are the receptions that the model keeps, and the loose ones, in order.
   pub rows-follow-model : history_archived.LogArchived
-  -- However a log is cut into calls of `lines`, text and rows are the model's, the lines are counted rightly, and each element of the arrays is what they make of it.
+  -- However a log is cut into calls of `lines`, with restarts between them, text and rows are the model's, and the lines are counted rightly.
   pub calls-follow-model : history_archived_runs.CallsFollow
-  -- Of calls of `lines_as` in one format the same holds, and the text is the model's in that format. Both proofs use only the contract of the call.
+  -- Of calls of `lines_as` in one format the same holds, and the text is the model's in that format. Both proofs use only the contracts of the calls.
   pub format-calls-follow-model : history_archived_runs.CallsFollowAs
-  -- However a log is cut into calls of `lines_as`, what they close is what the model closes. The proof uses only the contract of the call.
+  -- However a log is cut into calls of `lines_as`, with restarts between them, what they close is what the model closes.
   pub closings-follow-model : history_archived_closed.CallsClose
+  -- If `skip_lines` passes over the lines that were taken at each restart, no line of a log is taken twice and none is left out.
+  pub restarts-leave-out-no-line : history_archived_places.RestartsCover
   -- A whole log kept in a fresh archive leaves the archive of the receptions that the model keeps, and of the loose ones, and the model's image.
   pub log-is-archived : history_log.FreshKept
 

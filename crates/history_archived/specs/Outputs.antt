@@ -1,0 +1,54 @@
+-- What is claimed of calls that share what is lent to them to be written: proofs/Outputs.antt has the theorems. They use of the code what the contracts of
+-- `lines` and `lines_as` say, and nothing else.
+use Prim.Native.Nat.{ℕ, _*_}
+use mathlib.Core.Path.{_≡_}
+use mathlib.Core.List.{List, [], _∷_, map}
+use lib.ListN.{length, getD, take, drop}
+use Rattle.text_program.specs.Chunks.{joined}
+use Rattle.archive_fill.specs.Fill.{rowLength}
+use Rattle.c_collector.specs.State.{Arrays}
+use Rattle.history_archived.specs.Runs.{Call, TakesAs, GoesOn, IsRun, OfBoth}
+
+-- an output of a call: what is lent for it, what is left in it, and how much is written at its front
+pub record Output : Type 0 where
+  pub lent : Call → List ℕ
+  pub left : Call → List ℕ
+  pub count : Call → ℕ
+
+abbrev pub textOut : Output
+textOut = record { lent = λ c. c .out; left = λ c. c .out'; count = λ c. getD (c .done') 1 0 }
+
+abbrev pub timesOut : Output
+timesOut = record { lent = λ c. c .moments; left = λ c. c .moments'; count = λ c. getD (c .done') 2 0 }
+
+abbrev pub recordsOut : Output
+recordsOut = record { lent = λ c. c .rows; left = λ c. c .rows'; count = λ c. rowLength * getD (c .done') 2 0 }
+
+abbrev pub closingsOut : Output
+closingsOut = record { lent = λ c. c .closed; left = λ c. c .closed'; count = λ c. 32 * getD (c .done') 4 0 }
+
+abbrev pub writtenTo : Output → Call → List ℕ
+writtenTo o c = take (o .count c) (o .left c)
+
+-- calls share a buffer: each is lent what the one before left behind what it wrote
+pub data Shares (o : Output) : (buffer : List ℕ) → List Call → (rest : List ℕ) → Type 0 where
+  last : {buffer : List ℕ} → Shares o buffer [] buffer
+  more : {rest : List ℕ} {c : Call} {cs : List Call}
+      → Shares o (drop (o .count c) (o .left c)) cs rest → Shares o (o .lent c) (c ∷ cs) rest
+
+-- THE CLAIM: behind all that they wrote, the buffer is as it was
+abbrev pub Behind : Output → (Call → Type 0) → Type 0
+Behind o Is =
+    (a : Arrays) (cs : List Call) (buffer rest : List ℕ) → IsRun GoesOn Is a cs → Shares o buffer cs rest
+    → rest ≡ drop (length (joined (map (writtenTo o) cs))) buffer
+
+pub record Stay (Is : Call → Type 0) : Type 0 where
+  pub text : Behind textOut Is
+  pub times : Behind timesOut Is
+  pub records : Behind recordsOut Is
+
+abbrev pub OutputsStay : Type 0
+OutputsStay = OfBoth Stay
+
+abbrev pub ClosingsStay : Type 0
+ClosingsStay = (setting format : ℕ) → Behind closingsOut (TakesAs setting format)
