@@ -54,7 +54,7 @@ fn is_bad(row: &[u8]) -> bool {
 }
 
 /// The front of a line, with what can't be printed escaped.
-fn shown(line: &[u8]) -> String {
+pub fn shown(line: &[u8]) -> String {
     let text: String = String::from_utf8_lossy(&line[..line.len().min(SHOWN)]).escape_default().collect();
     text + if line.len() > SHOWN { ".." } else { "" }
 }

@@ -3,7 +3,7 @@
 //! This module reads the lines, from standard input or from a log, and cuts them into batches; `keeper` brings each to disk.
 use crate::appender::MAX_BLOCKS;
 use crate::args::Args;
-use crate::bad::BadLines;
+use crate::bad::{shown, BadLines};
 use crate::disk::{Real, Shared};
 use crate::failure::{complain, tell, Failure};
 use crate::journal::{keep_last, LogPlace};
@@ -322,9 +322,8 @@ impl Run {
 
     fn tell_unfinished(&self, rest: &[u8], how: &str) {
         if !rest.is_empty() {
-            let shown = String::from_utf8_lossy(&rest[..rest.len().min(LINE_LIMIT - 1)]);
             let text = format!("{} {how} in the middle of line {}, which is not counted", self.source.name(), self.read + 1);
-            tell(format!("{text}: {}", shown.escape_default()));
+            tell(format!("{text}: {}", shown(rest)));
         }
     }
 
@@ -423,6 +422,9 @@ impl Run {
     /// left out.
     fn take_first(&mut self, text: &[u8]) -> Result<usize, Failure> {
         let first = FirstLine::of(text);
+        if self.is_first && text::is_packed(text) {
+            tell(format!("{} looks packed. Unpack it, as in `zcat FILE | mooringeye collect ..`.", self.source.name()));
+        }
         self.is_first = first == FirstLine::Unended && text.len() < LINE_LIMIT;
         match (first, self.level) {
             (FirstLine::Level { setting, .. }, Some(level)) if setting != level => {

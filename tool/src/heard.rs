@@ -96,8 +96,9 @@ pub struct Heard {
 impl Heard {
     fn read(&mut self, path: &Path) -> Result<(), Failure> {
         let file = File::open(path).map_err(|e| Failure::of(format!("open {}", path.display()), &e))?;
-        for (number, line) in (1_u64..).zip(BufReader::new(file).lines()) {
+        for (number, line) in (1_u64..).zip(BufReader::new(file).split(b'\n')) {
             let line = line.map_err(|e| Failure::of(format!("read {}", path.display()), &e))?;
+            let line = String::from_utf8_lossy(&line);
             let line = line.trim_end();
             if number == 1 && (line == closings::HEADING.trim_end() || line.ends_with(",txid,level,copies")) {
                 continue;

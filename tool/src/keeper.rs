@@ -83,6 +83,7 @@ impl Keeper {
         let saved = state.clone();
         let store = open_archive(disk, files, &mut state)?;
         let out = files.out.as_deref().map(|path| Out::open(disk, Named::Out, path, state.out)).transpose()?;
+        out.as_ref().map_or(Ok(()), |out| check_format(out, files.format))?;
         let closings = files.heard.as_deref().map(|path| Closings::open(disk, path, &state.collector, is_new)).transpose()?;
         let (new_state, format, order) = (files.new_state, files.format, files.order);
         let (disk, batch) = (disk.clone(), Batch::new(closings.is_some()));
@@ -262,6 +263,21 @@ impl Keeper {
     /// The state as it stands at the end.
     pub fn end(&mut self) -> Result<(), Failure> {
         self.save()
+    }
+}
+
+/// Refuses to put rows behind those of another format.
+fn check_format(out: &Out, format: Format) -> Result<(), Failure> {
+    let has = match () {
+        () if out.is_empty() => format,
+        () if out.starts_with(b"{")? => Format::Json,
+        () if out.starts_with(Format::Csv.heading().as_bytes())? => Format::Csv,
+        () => Format::Text,
+    };
+    let [has, asked] = [has, format].map(|format| format!("{format:?}").to_lowercase());
+    match has == asked {
+        true => Ok(()),
+        false => Err(Failure::Usage(format!("{} has rows as {has}, and --rows says {asked}. Name another file.", out.path().display()))),
     }
 }
 

@@ -5,8 +5,12 @@ use crate::journal::State;
 use crate::status::archive_rows;
 use mooringeye::Totals;
 use std::fmt::{Display, Write};
-use std::fs;
+use std::fs::{self, Permissions};
+use std::os::unix::fs::PermissionsExt;
 use std::path::PathBuf;
+
+/// Another program reads the file, whatever the umask of this one is.
+const MODE: u32 = 0o644;
 
 /// The file, replaced in one step. It is not synced: after a power cut the next batch writes it.
 pub struct Metrics {
@@ -24,7 +28,8 @@ impl Metrics {
     pub fn write(&mut self, state: &State) {
         let Some(path) = &self.path else { return };
         let beside = with_suffix(path, ".new");
-        let written = fs::write(&beside, text(state)).and_then(|()| fs::rename(&beside, path));
+        let readable = |()| fs::set_permissions(&beside, Permissions::from_mode(MODE));
+        let written = fs::write(&beside, text(state)).and_then(readable).and_then(|()| fs::rename(&beside, path));
         if let (Err(error), false) = (&written, self.told) {
             tell(format!("cannot write the metrics {}: {error}. The collector goes on without them.", path.display()));
         }

@@ -76,7 +76,7 @@ pub const COMMON: &[Opt] = &[
 ];
 
 const TXID: Opt = text("txid", "ID", "only rows of this transmitter, eight hexadecimal digits; may be given several times");
-const FROM: Opt = text("from", "TIME", "no rows before this time: ms, 2026-11-16 or 2026-11-16T08:00:00Z");
+const FROM: Opt = text("from", "TIME", "no rows before this time: ms, 2026-11-16, 2026-11-16T08:00:00Z or 2026-11-16T09:00:00+01:00");
 const TO: Opt = text("to", "TIME", "no rows after this time; a day is taken to its end");
 const TIMES: Opt = words("times", "FORM", &["ms", "iso"], "how times are printed: ms since 1970, or iso as 2026-11-16T08:00:00.000Z");
 const NAMES: Opt = file("names", "the names of transmitters, which are printed too: lines of an ID, a comma and a name");

@@ -15,6 +15,10 @@ pub const WIDTH: f64 = 1_000.0;
 pub const TOP: f64 = 16.0;
 /// What stands below the lanes.
 pub const BOTTOM: f64 = 28.0;
+/// The picture ends so far behind its lanes.
+const MARGIN: f64 = 30.0;
+/// A picture that is higher does not fit a screen: what stands below the lanes stands above them too.
+const TALL: f64 = 600.0;
 
 /// Refuses more marks than a picture has.
 pub fn check_marks(count: usize, what: &str) -> Result<(), Failure> {
@@ -37,7 +41,7 @@ pub fn escaped(text: &str) -> String {
 
 /// A picture by itself.
 pub fn svg(height: f64, label: &str, body: &str) -> String {
-    let width = LEFT + WIDTH + 30.0;
+    let width = LEFT + WIDTH + MARGIN;
     format!(
         "<svg xmlns=\"http://www.w3.org/2000/svg\" viewBox=\"0 0 {width} {height}\" width=\"{width}\" height=\"{height}\" \
          font-family=\"sans-serif\" font-size=\"12\" role=\"img\" aria-label=\"{label}\">\n\
@@ -49,7 +53,7 @@ pub fn svg(height: f64, label: &str, body: &str) -> String {
 pub fn html(heading: &str, body: &str) -> String {
     let mut out = String::from("<!DOCTYPE html>\n<html lang=\"en\">\n<head>\n<meta charset=\"utf-8\">\n<title>Mooringeye</title>\n<style>\n");
     out += "body { font-family: sans-serif; font-size: 14px; margin: 20px; color: #222222 }\nsvg { max-width: 100%; height: auto }\n";
-    out += "td, th { padding: 2px 12px 2px 0; text-align: left } td { font-family: monospace }\n";
+    out += "td, th { padding: 2px 12px 2px 0; text-align: left } td { font-family: monospace; white-space: nowrap }\n";
     out += ".key { display: inline-block; width: 12px; height: 12px; margin: 0 4px 0 14px }\n</style>\n</head>\n<body>\n";
     let _ = writeln!(out, "<h1>{heading}</h1>");
     out + body + "</body>\n</html>\n"
@@ -91,7 +95,7 @@ impl Colours {
 
     /// Which colour is what.
     pub fn put_legend(&self, out: &mut String) {
-        *out += "<p>RORG and data:";
+        *out += if self.kinds.is_empty() { "<p>RORG and data: none" } else { "<p>RORG and data:" };
         for (kind, colour) in self.kinds.iter().zip(COLOURS) {
             let _ = write!(out, "<span class=\"key\" style=\"background:{colour}\"></span>{kind}");
         }
@@ -133,11 +137,20 @@ impl Axis {
             let x = self.x(time);
             let label = label(time, step, self.to);
             let _ = writeln!(out, "<line x1=\"{x:.1}\" y1=\"{TOP}\" x2=\"{x:.1}\" y2=\"{bottom}\" stroke=\"#dddddd\"/>");
-            let _ = writeln!(out, "<text x=\"{x:.1}\" y=\"{:.1}\" text-anchor=\"middle\" fill=\"#555555\">{label}</text>", bottom + 16.0);
+            // A character is some 7 pixels wide: the last label ends with the picture.
+            let x = x.min(LEFT + WIDTH + MARGIN - 3.5 * label.len() as f64);
+            for y in label_heights(height, bottom + 16.0) {
+                let _ = writeln!(out, "<text x=\"{x:.1}\" y=\"{y:.1}\" text-anchor=\"middle\" fill=\"#555555\">{label}</text>");
+            }
             let Some(next) = time.checked_add(step) else { break };
             time = next;
         }
     }
+}
+
+/// Where labels stand that belong below the lanes of a picture: there, and above them where it is tall.
+pub fn label_heights(height: f64, below: f64) -> impl Iterator<Item = f64> {
+    [Some(below), (height > TALL).then_some(TOP - 4.0)].into_iter().flatten()
 }
 
 /// How far lines at round times are apart, so that there are at most ten.

@@ -1,7 +1,7 @@
 //! `mooringeye archive picture`: rows as one HTML page. A lane for each transmitter, a mark for each row, a table below.
 use crate::archive::Source;
 use crate::args::Args;
-use crate::failure::Failure;
+use crate::failure::{tell, Failure};
 use crate::list::{in_order, list_one, Sink, Wanted};
 use crate::names::Names;
 use crate::page::{self, escaped, hex, Axis, Colours, BOTTOM, LEFT, MAX_MARKS, TOP, WIDTH};
@@ -19,6 +19,9 @@ pub fn run(args: &Args) -> Result<(), Failure> {
     let mut rows = Rows::default();
     for name in in_order(args.at_least_one()?) {
         list_one(&Source::open(name)?, 1, &wanted, &mut u64::MAX.clone(), &mut rows)?;
+    }
+    if rows.all.is_empty() {
+        tell("the picture is empty: no row is there, or none that --from, --to and --txid choose");
     }
     let picture = Picture::of(&rows.all, (wanted.from, wanted.to), &names);
     let text = if args.has("svg") { picture.svg() } else { picture.html() };

@@ -66,7 +66,7 @@ impl Picture<'_> {
         for (i, line) in self.lines.iter().enumerate() {
             self.put_line(&mut out, TOP + LINE * i as f64, line);
         }
-        self.put_weeks(&mut out, height - 8.0);
+        page::label_heights(height, height - 8.0).for_each(|y| self.put_weeks(&mut out, y));
         page::svg(height, &format!("How often telegrams of {} transmitters were heard", self.lines.len()), &out)
     }
 

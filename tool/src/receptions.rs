@@ -1,7 +1,7 @@
 //! `mooringeye picture`: every reception of a log as one HTML page. A lane for each transmitter and repeater level, a mark for each reception by its answer,
 //! and the times in which a telegram is open shaded. The log goes through a collector of its own, so that nothing of the plant's is touched.
 use crate::args::Args;
-use crate::failure::Failure;
+use crate::failure::{tell, Failure};
 use crate::journal::RECORD;
 use crate::list::Wanted;
 use crate::names::Names;
@@ -36,6 +36,7 @@ pub fn run(args: &Args) -> Result<(), Failure> {
     for name in args.at_least_one()? {
         reader.read(Path::new(name))?;
     }
+    reader.tell_what_is_missing();
     let picture = Picture::of(&reader, &names);
     let text = if args.has("svg") { picture.svg() } else { picture.html() };
     quietly(Output::standard()?.write(text.as_bytes()))
@@ -128,11 +129,33 @@ struct Reader<'a> {
     receptions: Vec<Reception>,
     openings: Vec<Opening>,
     bad: u64,
+    /// BAD lines that end in CR LF.
+    ended_by_cr: u64,
+    /// The first and the last time of the logs, chosen or not.
+    span: Option<(u64, u64)>,
 }
 
 impl<'a> Reader<'a> {
     fn of(level: Option<u8>, wanted: &'a Wanted) -> Reader<'a> {
-        Reader { wanted, level, collector: Collector::new(), receptions: Vec::new(), openings: Vec::new(), bad: 0 }
+        let (receptions, openings) = (Vec::new(), Vec::new());
+        Reader { wanted, level, collector: Collector::new(), receptions, openings, bad: 0, ended_by_cr: 0, span: None }
+    }
+
+    /// Says which lines are not drawn, and why a picture is empty.
+    fn tell_what_is_missing(&self) {
+        if self.bad > 0 {
+            let cr = format!(". {} of them end in CR LF: `tr -d '\\r'` takes the CR away", self.ended_by_cr);
+            tell(format!("{} BAD lines are not drawn{}", self.bad, if self.ended_by_cr > 0 { &cr } else { "" }));
+        }
+        match self.span {
+            _ if !self.receptions.is_empty() => {}
+            None => tell("the picture is empty: the logs have no reception"),
+            Some((first, last)) => tell(format!(
+                "the picture is empty: the logs have receptions from {first} ({}) to {last} ({}), and --from, --to and --txid choose none",
+                iso(first),
+                iso(last)
+            )),
+        }
     }
 
     /// A log to its end; a last line without a newline does not count.
@@ -165,6 +188,7 @@ impl<'a> Reader<'a> {
     /// The first line of a log, where it says a level: how long it is.
     fn begin(&mut self, path: &Path, text: &[u8]) -> Result<usize, Failure> {
         match (FirstLine::of(text), self.level) {
+            _ if text::is_packed(text) => Err(Failure::Failed(format!("{0}: packed. Write <(zcat {0}).", path.display()))),
             (FirstLine::Level { setting, .. }, Some(level)) if setting != level => {
                 Err(Failure::Usage(format!("the first line of {} says level {setting}, and the level is {level}", path.display())))
             }
@@ -197,9 +221,9 @@ impl<'a> Reader<'a> {
     /// Looks at lines and their rows.
     fn choose(&mut self, lines: &[u8], rows: &[u8]) {
         let each = |text| String::from_utf8_lossy(text).into_owned();
-        for (line, row) in each(lines).lines().zip(each(rows).lines()) {
+        for (line, row) in each(lines).split('\n').zip(each(rows).lines()) {
             match Reception::of(line, row) {
-                None => self.bad += 1,
+                None => (self.bad, self.ended_by_cr) = (self.bad + 1, self.ended_by_cr + u64::from(line.ends_with('\r'))),
                 Some(reception) => self.look(reception),
             }
         }
@@ -207,6 +231,8 @@ impl<'a> Reader<'a> {
 
     fn look(&mut self, reception: Reception) {
         let (time, from, to) = (reception.time, self.wanted.from, self.wanted.to);
+        let (first, last) = self.span.unwrap_or((time, time));
+        self.span = Some((first.min(time), last.max(time)));
         match &reception.fields {
             Some(fields) if !self.wanted.has_transmitter(&fields.txid) => return,
             Some(fields) if reception.answer == Answer::Kept && time <= to && from <= time.saturating_add(OPEN) => {

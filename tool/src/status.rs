@@ -28,8 +28,13 @@ fn read(path: &Path) -> Result<State, Failure> {
     let cannot = |e| Failure::of(format!("read {}", path.display()), &e);
     let mut bytes = Vec::new();
     let file = File::open(path).map_err(cannot)?;
+    let length = file.metadata().map_err(cannot)?.len();
     file.take(LENGTH as u64 + 1).read_to_end(&mut bytes).map_err(cannot)?;
-    State::of_bytes(&bytes).map_err(|why| Failure::Damaged(format!("{}: damaged: {why}. The file was not changed.", path.display())))
+    let damaged = |why| Failure::Damaged(format!("{}: damaged: {why}. The file was not changed.", path.display()));
+    match bytes.len() > LENGTH {
+        true => Err(damaged(format!("{length} bytes, expected {LENGTH}"))),
+        false => State::of_bytes(&bytes).map_err(damaged),
+    }
 }
 
 /// How often each open telegram was heard again.
@@ -46,6 +51,17 @@ pub fn archive_rows(state: &State) -> Option<u64> {
 fn age(state: &State, now: u64) -> Option<u64> {
     let latest = state.collector.latest();
     now.checked_sub(latest).filter(|_| latest >= FIRST_DATE)
+}
+
+/// A duration in ms, in its two largest units.
+fn duration(ms: u64) -> String {
+    let (seconds, minutes, hours) = (ms / 1_000, ms / 60_000, ms / 3_600_000);
+    match (hours / 24, hours, minutes) {
+        (0, 0, 0) => format!("{seconds}.{:03} s", ms % 1_000),
+        (0, 0, _) => format!("{minutes} min {} s", seconds % 60),
+        (0, _, _) => format!("{hours} h {} min", minutes % 60),
+        (days, _, _) => format!("{days} d {} h", hours % 24),
+    }
 }
 
 fn joined(numbers: &[u16], between: &str) -> String {
@@ -79,7 +95,8 @@ fn as_text(state: &State, now: u64) -> String {
     line(
         "latest reception",
         match age(state, now) {
-            Some(age) => format!("{}, {}.{:03} s ago", iso(latest), age / 1_000, age % 1_000),
+            Some(age) => format!("{}, {} ago", iso(latest), duration(age)),
+            None if latest >= FIRST_DATE => format!("{}, {} ahead of this computer's clock", iso(latest), duration(latest - now)),
             None => format!("{latest} ms"),
         },
     );

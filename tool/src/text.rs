@@ -46,6 +46,11 @@ pub fn identity(text: &str) -> Option<u32> {
     Some(u32::from_be_bytes(bytes))
 }
 
+/// Whether a text begins as a file that gzip, bzip2, xz or zstd packed.
+pub fn is_packed(text: &[u8]) -> bool {
+    [&b"\x1F\x8B"[..], b"BZh", b"\xFD7zXZ", b"\x28\xB5\x2F\xFD"].iter().any(|mark| text.starts_with(mark))
+}
+
 /// A decimal number without leading zeros or signs.
 pub fn number(text: &str) -> Option<u64> {
     let is_plain = text.bytes().all(|c| c.is_ascii_digit()) && (text.len() == 1 || !text.starts_with('0'));

@@ -5,7 +5,7 @@ use crate::text;
 
 pub const DAY: u64 = 24 * 60 * 60 * 1000;
 /// What `--from` and `--to` are.
-const KIND: &str = "ms since 1970, a day as 2026-11-16, or a time as 2026-11-16T08:00:00Z";
+const KIND: &str = "ms since 1970, a day as 2026-11-16, or a time as 2026-11-16T08:00:00Z or 2026-11-16T09:00:00+01:00";
 
 /// A day of the calendar.
 #[derive(Clone, Copy, Debug, PartialEq, Eq)]
@@ -82,9 +82,19 @@ fn day(text: &str) -> Option<u64> {
     Date { year, month, day }.start()
 }
 
-/// A time of a day, to the minute, the second or the ms, and `Z` behind it.
+/// How far a clock is ahead of UTC, in ms: `Z`, `+01:00` or `-05:00` at the end of a text. And the text before it.
+fn zone(text: &str) -> Option<(&str, i64)> {
+    if let Some(before) = text.strip_suffix('Z') {
+        return Some((before, 0));
+    }
+    let at = text.rfind(['+', '-'])?;
+    let [hours, minutes] = parts(&text[at + 1..], [2, 2], &[':'])?;
+    let ahead = (hours * 60 + minutes) as i64 * 60_000;
+    (hours < 24 && minutes < 60).then_some((&text[..at], if text[at..].starts_with('-') { -ahead } else { ahead }))
+}
+
+/// A time of a day, to the minute, the second or the ms.
 fn clock(text: &str) -> Option<u64> {
-    let text = text.strip_suffix('Z')?;
     let marks = [':', ':', '.'];
     let [hour, minute, second, ms] = parts(text, [2, 2, 2, 3], &marks)
         .or_else(|| parts(text, [2, 2, 2], &marks).map(|[h, m, s]| [h, m, s, 0]))
@@ -95,7 +105,10 @@ fn clock(text: &str) -> Option<u64> {
 /// A time as a person writes it; a day is its first ms, or its last one.
 fn time(text: &str, of_day: u64) -> Option<u64> {
     match text.split_once('T') {
-        Some((date, of_clock)) => Some(day(date)? + clock(of_clock)?),
+        Some((date, rest)) => {
+            let (of_clock, ahead) = zone(rest)?;
+            (day(date)? + clock(of_clock)?).checked_add_signed(-ahead)
+        }
         None => text::number(text).or_else(|| Some(day(text)? + of_day)),
     }
 }
@@ -104,7 +117,10 @@ fn time(text: &str, of_day: u64) -> Option<u64> {
 pub fn span(args: &Args) -> Result<(u64, u64), Failure> {
     let from = args.value("from", KIND, |text| time(text, 0))?;
     let to = args.value("to", KIND, |text| time(text, DAY - 1))?;
-    Ok((from.unwrap_or(0), to.unwrap_or(u64::MAX)))
+    match (from, to) {
+        (Some(from), Some(to)) if from > to => Err(Failure::Usage(format!("--from {} is after --to {}.", iso(from), iso(to)))),
+        _ => Ok((from.unwrap_or(0), to.unwrap_or(u64::MAX))),
+    }
 }
 
 /// Whether `--times` asks for ISO times.
@@ -141,6 +157,12 @@ mod tests {
         assert_eq!([iso(u64::MAX), iso(0)], ["18446744073709551615", "1970-01-01T00:00:00.000Z"]);
         for text in ["1794816000000", "2026-11-16T08:00Z", "2026-11-16T08:00:00Z", "2026-11-16T08:00:00.000Z"] {
             assert_eq!(time(text, 0), Some(1_794_816_000_000), "{text}");
+        }
+        for text in ["2026-11-16T09:00:00+01:00", "2026-11-16T03:00-05:00", "2026-11-17T07:59:00.000+23:59", "2026-11-16T08:00:00-00:00"] {
+            assert_eq!(time(text, 0), Some(1_794_816_000_000), "{text}");
+        }
+        for text in ["1970-01-01T00:00+00:01", "2026-11-16T09:00+1:00", "2026-11-16T09:00+24:00", "2026-11-16T09:00+01:60", "2026-11-16+01:00"] {
+            assert_eq!(time(text, 0), None, "{text}");
         }
         assert_eq!([time("2026-11-16", 0), time("2026-11-16", DAY - 1)], [Some(1_794_787_200_000), Some(1_794_873_599_999)]);
         for text in

@@ -451,6 +451,22 @@ fn an_out_file_that_is_rotated() {
     assert_eq!(fs::read_to_string(dir.join("rows.old")).unwrap().lines().count(), 2);
 }
 
+/// One file has rows of one format.
+#[test]
+fn an_out_file_of_another_format() {
+    let dir = folder("journal_out_format");
+    for (format, other) in [("text", "csv"), ("csv", "json"), ("json", "text")] {
+        let words = |rows: &str| format!("collect --state {format}.state --out {format}.rows --rows {rows}");
+        run(&words(format), &dir, &sample()).with(0);
+        let before = fs::read(dir.join(format!("{format}.rows"))).unwrap();
+        let text = format!("{format}.rows has rows as {format}, and --rows says {other}. Name another file.");
+        run(&words(other), &dir, b"level 1\n70000 D5080583A1C000C6\n").with(2).says(&text);
+        assert_eq!(fs::read(dir.join(format!("{format}.rows"))).unwrap(), before);
+        run(&words(format), &dir, b"level 1\n70000 D5080583A1C000C6\n").with(0);
+        assert!(fs::read(dir.join(format!("{format}.rows"))).unwrap().len() > before.len());
+    }
+}
+
 /// Of the file of `--heard` no message speaks of rows or of `--out`.
 #[test]
 fn words_for_the_heard_file() {

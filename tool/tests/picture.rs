@@ -28,6 +28,7 @@ fn iso_times() {
     assert!(list("--times iso --rows json").starts_with("{\"time\":\"1970-01-01T00:00:01.000Z\",\"answer\":\"KEPT\",\"txid\":"));
     assert_eq!(list("--from 1970-01-01T00:00:01.060Z --to 1970-01-01T00:00:01.120Z"), list("--from 1060 --to 1120"));
     assert_eq!(list("--from 1060 --to 1120").lines().count(), 2);
+    assert_eq!(list("--from 1970-01-01T01:00:01.060+01:00 --to 1970-01-01T00:00:01.120Z"), list("--from 1060 --to 1120"));
     assert_eq!(list("--to 1970-01-01"), list("--to 86399999"));
     let sheet = run("archive sheet a --times iso", &dir, b"").with(0).out;
     assert!(sheet.lines().nth(1).unwrap().contains("1970-01-01T00:00:"), "{sheet}");
@@ -84,6 +85,54 @@ fn many_rows() {
     let log = log(60_000, 3);
     run("collect --archive a", &dir, log.as_bytes()).with(0);
     run("archive picture a", &dir, b"").with(1).says("more than 20000 rows are too many for a picture. Choose fewer by --from, --to or --txid.");
+}
+
+/// A picture that is higher than a screen has its times above the lanes too, and no label ends behind it.
+#[test]
+fn labels_of_times() {
+    let dir = plant("picture_labels");
+    fs::write(dir.join("log"), sample()).unwrap();
+    for (words, tall) in
+        [("picture log", true), ("picture log --to 1800", false), ("archive picture a", true), ("archive picture a --to 1800", false)]
+    {
+        let svg = run(&format!("{words} --svg"), &dir, b"").with(0).out;
+        let labels: Vec<&str> = svg.lines().filter(|l| l.contains("text-anchor=\"middle\"")).collect();
+        let lines = svg.lines().filter(|l| l.contains("stroke=\"#dddddd\"")).count();
+        assert_eq!(labels.len(), if tall { 2 * lines } else { lines }, "{words}");
+        assert_eq!(labels.iter().filter(|l| attribute(l, "y") < 16.0).count(), if tall { lines } else { 0 }, "{words}");
+    }
+    let day = 1_794_816_000_000_u64;
+    fs::write(dir.join("day"), format!("level 1\n{day} D5080583A1C000C6\n{} D5080583A1C000C6\n", day + 900)).unwrap();
+    let svg = run("picture day --svg", &dir, b"").with(0).out;
+    let last = svg.lines().rfind(|l| l.contains("text-anchor=\"middle\"")).unwrap();
+    assert!(last.contains(">08:00:00.900<") && attribute(last, "x") + 42.0 <= 1_260.0, "{last}");
+    fs::write(dir.join("heard"), (0..40).map(|n| format!("1000,{n:08X},0,1\n")).collect::<String>()).unwrap();
+    assert_eq!(run("heard heard --picture", &dir, b"").with(0).out.matches(">1970-W01</text>").count(), 2);
+}
+
+#[test]
+fn what_is_not_drawn_is_told() {
+    let dir = plant("picture_told");
+    fs::write(dir.join("log"), sample()).unwrap();
+    let says = |words: &str, text: &str| run(words, &dir, b"").with(0).says(text).out;
+    says("picture log", "mooringeye: 10 BAD lines are not drawn. 1 of them end in CR LF: `tr -d '\\r'` takes the CR away\n");
+    assert_eq!(run("picture /dev/stdin --level 1", &dir, b"x\n1000 D5080583A1C000C6\n").with(0).err, "mooringeye: 1 BAD lines are not drawn\n");
+    let span = "the picture is empty: the logs have receptions from 1000 (1970-01-01T00:00:01.000Z) to 60290 (1970-01-01T00:01:00.290Z), and";
+    assert!(says("picture log --from 2026-11-16", span).contains("RORG and data: none."));
+    says("archive picture a --from 2026-11-16", "the picture is empty: no row is there, or none that --from, --to and --txid choose");
+    assert_eq!(run("picture log --from 2026-11-16 --quiet", &dir, b"").with(0).err, "");
+    // A log with CR LF, an empty one, a packed one.
+    fs::write(dir.join("crlf"), String::from_utf8(sample()).unwrap().replace('\n', "\r\n")).unwrap();
+    says("picture crlf --level 1", "mooringeye: 326 BAD lines are not drawn. 326 of them end in CR LF: ");
+    fs::write(dir.join("none"), "").unwrap();
+    says("picture none --level 1", "the picture is empty: the logs have no reception");
+    fs::write(dir.join("log.gz"), b"\x1f\x8b\x08\x00rest\n").unwrap();
+    for level in ["", "--level 1"] {
+        run(&format!("picture log.gz {level}"), &dir, b"").with(1).says("log.gz: packed. Write <(zcat log.gz).");
+    }
+    run("collect --log log.gz", &dir, b"").with(2).says("log.gz looks packed. Unpack it, as in `zcat FILE | mooringeye collect ..`.");
+    run("picture log --from 2000 --to 1000", &dir, b"").with(2).says("--from 1970-01-01T00:00:02.000Z is after --to 1970-01-01T00:00:01.000Z.");
+    run("archive list a --txid 583A1C0", &dir, b"").with(2).says("--txid: 583A1C0 is wrong. Write eight hexadecimal digits.");
 }
 
 /// The answers of a log's lines in a span, as `picture` names them, by `collect`; and its BAD lines.

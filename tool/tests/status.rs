@@ -2,6 +2,7 @@
 mod common;
 use common::*;
 use std::fs;
+use std::os::unix::fs::PermissionsExt;
 
 #[test]
 fn edge_of_reach() {
@@ -33,6 +34,8 @@ fn edge_of_reach() {
     let ran = run("heard d --rows csv", &dir, b"").with(0).says("1 telegrams are left out");
     assert!(ran.out.contains("\n01020304,all,1,0,0.000,3,3\n"), "{}", ran.out);
     run("heard none", &dir, b"").with(1).says("cannot open none");
+    fs::write(dir.join("e"), b"\xff\xfe\n").unwrap();
+    run("heard e", &dir, b"").with(1).says("e: line 1 is wrong.");
     run("heard a --rows json", &dir, b"").with(2);
     run("heard", &dir, b"").with(2).says("Write `mooringeye heard FILE..`.");
 }
@@ -102,6 +105,17 @@ fn status_tells_open_telegrams_and_ages() {
     assert!(text.contains("open telegrams    2, heard again 2, 0 times\n") && text.contains(" s ago\n"), "{text}");
     let json = run("status --state s --json", &dir, b"").with(0).out;
     assert!(json.contains("\"open\":[2,0]") && !json.contains("\"age_ms\":null"), "{json}");
+    // Another file, and a clock that is ahead, as where local times are taken for UTC.
+    fs::write(dir.join("long"), vec![0; 1 << 20]).unwrap();
+    run("status --state long", &dir, b"").with(3).says("long: damaged: 1048576 bytes, expected 4096. The file was not changed.");
+    for (seconds, text) in
+        [(-90, ", 1 min 3"), (-7_260, ", 2 h 1 min ago\n"), (-180_000, ", 2 d 2 h ago\n"), (3_660, " ahead of this computer's clock\n")]
+    {
+        let log = format!("level 1\n{} D5080583A1C000C6\n", now + 60_000 + 1_000 * seconds as u64);
+        run("collect --state t --new-state", &dir, log.as_bytes()).with(0);
+        let text_now = run("status --state t", &dir, b"").with(0).out;
+        assert!(text_now.contains(text), "{text_now}");
+    }
     let mut bytes = fs::read(dir.join("s")).unwrap();
     bytes[20] ^= 1;
     fs::write(dir.join("s"), bytes).unwrap();
@@ -131,6 +145,15 @@ fn metrics() {
         assert!(text.contains(&format!("# TYPE {name} ")) && text.contains(&format!("# HELP {name} ")), "{line}");
     }
     assert!(!dir.join("m.prom.new").exists());
+    // node_exporter is another user.
+    let ran = std::process::Command::new("sh")
+        .args(["-c", "umask 077; \"$0\" collect --metrics n.prom --quiet", env!("CARGO_BIN_EXE_mooringeye")])
+        .current_dir(&dir)
+        .stdin(fs::File::open(root().join("samples/plant.txt")).unwrap())
+        .output()
+        .unwrap();
+    assert!(ran.status.success());
+    assert_eq!(fs::metadata(dir.join("n.prom")).unwrap().permissions().mode() & 0o777, 0o644);
     // A collector goes on where they can't be written, and says so once.
     let ran = run("collect --sync row --metrics none/m", &dir, &sample()).with(0);
     assert_eq!(ran.out, sample_expected());
