@@ -45,11 +45,14 @@ module _ (block : List ℕ) where
       (leb-true (rowCount block) cellsPerBlock (b .0), c .0)
 
   pub counted-length : length (countedRows block) ≡ cond (isSound block) (rowCount block) 0
-  counted-length = by-test {X = length (countedRows block) ≡ cond (isSound block) (rowCount block) 0} (isSound block) (λ t. rw t (rows-count block)) (λ f. rw f)
+  counted-length =
+      by-test {X = length (countedRows block) ≡ cond (isSound block) (rowCount block) 0}
+      (isSound block) (λ t. rw t (rows-count block)) (λ f. rw f)
 
   counted-lines : areBytes block ≡ true → all (λ r. isLine (lineOf r)) (countedRows block) ≡ true
   counted-lines t =
-      by-test {X = all (λ (r : Row). isLine (lineOf r)) (countedRows block) ≡ true} (isSound block) (λ s. rw s (cell-lines block t)) (λ f. rw f)
+      by-test {X = all (λ (r : Row). isLine (lineOf r)) (countedRows block) ≡ true}
+      (isSound block) (λ s. rw s (cell-lines block t)) (λ f. rw f)
 
 pub tally-facts : (lines : List Line) (kept loose : ℕ) → isTally lines kept loose ≡ true
     → (isRising lines ≡ true) × (kept ≡ sumBy (λ l. l .kept) lines) × (loose ≡ sumBy (λ l. l .loose) lines)
@@ -59,15 +62,18 @@ tally-facts lines kept loose t =
     let c = both (eqb kept (sumBy (λ l. l .kept) lines)) _ (b .1) in
     (b .0, eqb-true kept (sumBy (λ l. l .kept) lines) (c .0), eqb-true loose (sumBy (λ l. l .loose) lines) (c .1))
 
-tally-added : (lines : List Line) (kept loose : ℕ) (rows : List Row) → all (λ r. isLine (lineOf r)) rows ≡ true → isTally lines kept loose ≡ true
+tally-added : (lines : List Line) (kept loose : ℕ) (rows : List Row)
+    → all (λ r. isLine (lineOf r)) rows ≡ true → isTally lines kept loose ≡ true
     → isTally (addRows rows lines) (kept + keptIn rows) (loose + looseIn rows) ≡ true
 unfolding isTally
 tally-added lines kept loose rows h t =
     let f = tally-facts lines kept loose t in
     and-true (all-added lines isLine rows h line-joined (both (all isLine lines) _ t .0))
     (and-true (rising-added lines rows (f .0))
-    (and-true (eq-eqb (kept + keptIn rows) (sumBy (λ l. l .kept) (addRows rows lines)) (omega (arith, f .1, kept-added lines rows)))
-    (eq-eqb (loose + looseIn rows) (sumBy (λ l. l .loose) (addRows rows lines)) (omega (arith, f .2, loose-added lines rows)))))
+    (and-true (eq-eqb (kept + keptIn rows) (sumBy (λ l. l .kept) (addRows rows lines))
+    (omega (arith, f .1, kept-added lines rows)))
+    (eq-eqb (loose + looseIn rows) (sumBy (λ l. l .loose) (addRows rows lines))
+    (omega (arith, f .2, loose-added lines rows)))))
 
 -- ---- an adding
 
@@ -102,27 +108,41 @@ is-going a g =
     (and-true (eq-eqb (a .tally .kept + a .tally .loose) (rowsSoFar a) (g .rows)) (g .sums))))
 
 start-going : (s : Report) → isReport s ≡ true → isAdding (startAdding s) ≡ true
-start-going s h = is-going (startAdding s) (record { report = h; scanned = refl; few = facts s h .few; rows = omega arith; sums = report-tally s h })
+start-going s h =
+    is-going (startAdding s)
+    (record { report = h; scanned = refl; few = facts s h .few; rows = omega arith; sums = report-tally s h })
 
 no-tally : isTally [] 0 0 ≡ true
 unfolding isTally
 no-tally = refl
 
-adding-next : (s : Report) (t : Tally) (block : List ℕ) → isAdding (adding s t) ≡ true → t .scan .blocks < maxBlocks → areBytes block ≡ true → isAdding (adding s (addBlock t block)) ≡ true
+adding-next : (s : Report) (t : Tally) (block : List ℕ) → isAdding (adding s t) ≡ true
+    → t .scan .blocks < maxBlocks → areBytes block ≡ true → isAdding (adding s (addBlock t block)) ≡ true
 unfolding addBlock
 adding-next s t block h m bytes =
     let g = going (adding s t) h in
     let rows = countedRows block in
     let next = scanBlock (t .scan) block in
     let scanned = scanned-next block (t .scan) (g .scanned) m in
-    let grown : next .rows ≡ t .scan .rows + length rows = rows-after block (t .scan) ∙ omega (arith, counted-length block) in
-    by-test {X = isAdding (adding s (counted t rows next)) ≡ true} (t .over || ltb maxLines (length (addRows rows (t .lines))))
+    let grown : next .rows ≡ t .scan .rows + length rows =
+    rows-after block (t .scan) ∙ omega (arith, counted-length block) in
+    by-test {X = isAdding (adding s (counted t rows next)) ≡ true}
+    (t .over || ltb maxLines (length (addRows rows (t .lines))))
     (λ o. rw o (is-going (adding s (record { lines = []; kept = 0; loose = 0; over = true; scan = next }))
     (record { report = g .report; scanned = scanned; few = omega arith; rows = refl; sums = no-tally })))
     (λ o.
     let n = neither (t .over) (ltb maxLines (length (addRows rows (t .lines)))) o in
-    let before : t .kept + t .loose ≡ s .kept + s .loose + t .scan .rows = g .rows ∙ ap (λ (b : Bool). cond b 0 (s .kept + s .loose + t .scan .rows)) (n .0) in
-    rw o (is-going (adding s (record { lines = addRows rows (t .lines); kept = t .kept + keptIn rows; loose = t .loose + looseIn rows; over = false; scan = next }))
+    let before : t .kept + t .loose ≡ s .kept + s .loose + t .scan .rows =
+    g .rows ∙ ap (λ (b : Bool). cond b 0 (s .kept + s .loose + t .scan .rows)) (n .0) in
+    rw o
+    (is-going (adding s
+    (record {
+      lines = addRows rows (t .lines);
+      kept = t .kept + keptIn rows;
+      loose = t .loose + looseIn rows;
+      over = false;
+      scan = next;
+    }))
     (record {
       report = g .report;
       scanned = scanned;
@@ -134,17 +154,21 @@ adding-next s t block h m bytes =
 pub blocks-one : (t : Tally) (block : List ℕ) → addBlock t block .scan .blocks ≡ t .scan .blocks + 1
 unfolding addBlock
 blocks-one t block =
-    by-test {X = counted t (countedRows block) (scanBlock (t .scan) block) .scan .blocks ≡ t .scan .blocks + 1} (t .over || ltb maxLines (length (addRows (countedRows block) (t .lines))))
+    by-test {X = counted t (countedRows block) (scanBlock (t .scan) block) .scan .blocks ≡ t .scan .blocks + 1}
+    (t .over || ltb maxLines (length (addRows (countedRows block) (t .lines))))
     (λ h. rw h (blocks-after block (t .scan)))
     (λ h. rw h (blocks-after block (t .scan)))
 
-adding-blocks : (s : Report) (bs : List (List ℕ)) (t : Tally) → isAdding (adding s t) ≡ true → t .scan .blocks + length bs ≤ maxBlocks → all areBytes bs ≡ true
+adding-blocks : (s : Report) (bs : List (List ℕ)) (t : Tally) → isAdding (adding s t) ≡ true
+    → t .scan .blocks + length bs ≤ maxBlocks → all areBytes bs ≡ true
     → (isAdding (adding s (addBlocks t bs)) ≡ true) × (addBlocks t bs .scan .blocks ≡ t .scan .blocks + length bs)
 unfolding addBlocks
 adding-blocks s [] t h m bytes = (h, omega arith)
 adding-blocks s (b ∷ bs) t h m bytes =
     let w = both (areBytes b) (all areBytes bs) bytes in
-    let more = adding-blocks s bs (addBlock t b) (adding-next s t b h (omega arith) (w .0)) (omega (arith, blocks-one t b)) (w .1) in
+    let more =
+    adding-blocks s bs (addBlock t b) (adding-next s t b h (omega arith) (w .0))
+    (omega (arith, blocks-one t b)) (w .1) in
     (more .0, more .1 ∙ omega (arith, blocks-one t b))
 
 blocks-both : (xs ys : List (List ℕ)) (t : Tally) → addBlocks t (xs ++ ys) ≡ addBlocks (addBlocks t xs) ys
@@ -168,10 +192,12 @@ record Reached (s : Report) (done : List ℕ) (a : Adding) : Type 0 where
   blocks : blockLength * a .tally .scan .blocks ≡ length done
 
 -- a piece that is taken, and one that is not
-fed-one : (a b : Adding) (p : List ℕ) (ps : List (List ℕ)) → feedOf a p ≡ fed 0 b → (feedAll a (p ∷ ps) ≡ feedAll b ps) × (fedPieces a (p ∷ ps) ≡ p ∷ fedPieces b ps)
+fed-one : (a b : Adding) (p : List ℕ) (ps : List (List ℕ)) → feedOf a p ≡ fed 0 b
+    → (feedAll a (p ∷ ps) ≡ feedAll b ps) × (fedPieces a (p ∷ ps) ≡ p ∷ fedPieces b ps)
 fed-one a b p ps e = (rw e, rw e)
 
-fed-none : (a : Adding) (why : Refusal) (p : List ℕ) (ps : List (List ℕ)) → feedOf a p ≡ fed (numberOf why) a → (feedAll a (p ∷ ps) ≡ feedAll a ps) × (fedPieces a (p ∷ ps) ≡ fedPieces a ps)
+fed-none : (a : Adding) (why : Refusal) (p : List ℕ) (ps : List (List ℕ)) → feedOf a p ≡ fed (numberOf why) a
+    → (feedAll a (p ∷ ps) ≡ feedAll a ps) × (fedPieces a (p ∷ ps) ≡ fedPieces a ps)
 fed-none a why p ps e = (rw e, rw (e, ne-eqb (numberOf why) 0 (refused-number why)))
 
 module _ (s : Report) (yes : isReport s ≡ true) where
@@ -182,7 +208,8 @@ module _ (s : Report) (yes : isReport s ≡ true) where
   module _ (done : List ℕ) (a : Adding) (r : Reached s done a) where
     reached-end : endedOf a ≡ addOf s done
     unfolding endedOf
-    reached-end = rw (r .goes) (ap (λ (b : Adding). closing (b .report) (b .tally)) (r .is) ∙ closing-is s done yes (r .whole))
+    reached-end =
+        rw (r .goes) (ap (λ (b : Adding). closing (b .report) (b .tally)) (r .is) ∙ closing-is s done yes (r .whole))
 
     module _ (p : List ℕ) where
       abbrev after : Adding
@@ -192,12 +219,17 @@ module _ (s : Report) (yes : isReport s ≡ true) where
       reached-next bytes h =
           let w = whole-blocks (blockLength * a .tally .scan .blocks + length p) h in
           let d = whole-blocks (length done) (r .whole) in
-          let more = adding-blocks (a .report) (blocksIn p) (a .tally) (r .goes) (omega (arith, blocks-count p)) (blocks-bytes p bytes) in
-          let long : length (done ++ p) ≡ blockLength * a .tally .scan .blocks + length p = omega (arith, length-append done p, r .blocks) in
+          let more =
+          adding-blocks (a .report) (blocksIn p) (a .tally) (r .goes)
+          (omega (arith, blocks-count p)) (blocks-bytes p bytes) in
+          let long : length (done ++ p) ≡ blockLength * a .tally .scan .blocks + length p =
+          omega (arith, length-append done p, r .blocks) in
           record {
             is =
                 ap (λ (b : Adding). adding (b .report) (addBlocks (b .tally) (blocksIn p))) (r .is)
-                ∙ ap (adding s) (sym (blocks-both (blocksIn done) (blocksIn p) (startTally s)) ∙ ap (addBlocks (startTally s)) (sym (pieces-blocks done p (d .0))));
+                ∙ ap (adding s)
+                (sym (blocks-both (blocksIn done) (blocksIn p) (startTally s))
+                ∙ ap (addBlocks (startTally s)) (sym (pieces-blocks done p (d .0))));
             goes = more .0;
             whole = ap isWhole long ∙ h;
             blocks = omega (arith, more .1, blocks-count p);
@@ -212,23 +244,29 @@ module _ (s : Report) (yes : isReport s ≡ true) where
       fed-not h = rw (r .goes, h)
 
   pieces-from : (pieces : List (List ℕ)) (done : List ℕ) (a : Adding) → Reached s done a → all areBytes pieces ≡ true
-      → (isAdding (feedAll a pieces) ≡ true) × (endedOf (feedAll a pieces) ≡ addOf s (done ++ flatten (fedPieces a pieces)))
+      → (isAdding (feedAll a pieces) ≡ true)
+      × (endedOf (feedAll a pieces) ≡ addOf s (done ++ flatten (fedPieces a pieces)))
   unfolding flatten
   pieces-from [] done a r bytes = (r .goes, reached-end done a r ∙ ap (addOf s) (sym (append-nil done)))
   pieces-from (p ∷ ps) done a r bytes =
       let w = both (areBytes p) (all areBytes ps) bytes in
-      by-test {X = (isAdding (feedAll a (p ∷ ps)) ≡ true) × (endedOf (feedAll a (p ∷ ps)) ≡ addOf s (done ++ flatten (fedPieces a (p ∷ ps))))} (isPiece (a .tally .scan) p)
+      by-test {X = (isAdding (feedAll a (p ∷ ps)) ≡ true)
+      × (endedOf (feedAll a (p ∷ ps)) ≡ addOf s (done ++ flatten (fedPieces a (p ∷ ps))))}
+      (isPiece (a .tally .scan) p)
       (λ t.
       let b = adding (a .report) (addBlocks (a .tally) (blocksIn p)) in
       let one = fed-one a b p ps (fed-next done a r p t) in
       let more = pieces-from ps (done ++ p) b (reached-next done a r p (w .0) t) (w .1) in (
         ap isAdding (one .0) ∙ more .0,
-        ap endedOf (one .0) ∙ more .1 ∙ ap (addOf s) (append-assoc done p (flatten (fedPieces b ps))) ∙ ap (λ (l : List (List ℕ)). addOf s (done ++ flatten l)) (sym (one .1)),
+        ap endedOf (one .0) ∙ more .1 ∙ ap (addOf s) (append-assoc done p (flatten (fedPieces b ps)))
+            ∙ ap (λ (l : List (List ℕ)). addOf s (done ++ flatten l)) (sym (one .1)),
       ))
       (λ f.
       let none = fed-none a Size p ps (fed-not done a r p f) in
-      let more = pieces-from ps done a r (w .1) in
-      (ap isAdding (none .0) ∙ more .0, ap endedOf (none .0) ∙ more .1 ∙ ap (λ (l : List (List ℕ)). addOf s (done ++ flatten l)) (sym (none .1))))
+      let more = pieces-from ps done a r (w .1) in (
+        ap isAdding (none .0) ∙ more .0,
+        ap endedOf (none .0) ∙ more .1 ∙ ap (λ (l : List (List ℕ)). addOf s (done ++ flatten l)) (sym (none .1)),
+      ))
 
 -- ---- a report that no archives give
 
@@ -250,10 +288,14 @@ end-not s buffer f = rw (start-not s f, f)
 
 pub pieces-are-whole : PiecesAreWhole
 pieces-are-whole s pieces bytes =
-    by-test {X = (isAdding (feedAll (startAdding s) pieces) ≡ isReport s) × (endedOf (feedAll (startAdding s) pieces) ≡ addOf s (flatten (fedPieces (startAdding s) pieces)))} (isReport s)
+    by-test {X = (isAdding (feedAll (startAdding s) pieces) ≡ isReport s)
+    × (endedOf (feedAll (startAdding s) pieces) ≡ addOf s (flatten (fedPieces (startAdding s) pieces)))}
+    (isReport s)
     (λ t.
     let r = pieces-from s t pieces [] (startAdding s) (reached-first s t) bytes in
     (r .0 ∙ sym t, r .1))
     (λ f.
-    let k = stuck pieces (startAdding s) (start-not s f) in
-    (ap isAdding (k .0) ∙ start-not s f ∙ sym f, ap endedOf (k .0) ∙ end-not s (flatten (fedPieces (startAdding s) pieces)) f))
+    let k = stuck pieces (startAdding s) (start-not s f) in (
+      ap isAdding (k .0) ∙ start-not s f ∙ sym f,
+      ap endedOf (k .0) ∙ end-not s (flatten (fedPieces (startAdding s) pieces)) f,
+    ))

@@ -74,7 +74,9 @@ passed s p =
 pub isLineOf : (r : Row) → lineOf r .identity < 2 ^ 32 → r .time < 2 ^ 64 → isLine (lineOf r) ≡ true
 isLineOf r i t =
     and-true (lt-ltb (lineOf r .identity) (2 ^ 32) i)
-    (and-true (one (r .loose)) (and-true (le-leb (r .time) (r .time) (omega arith)) (and-true (lt-ltb (r .time) (2 ^ 64) t) (single (r .loose)))))
+    (and-true (one (r .loose))
+    (and-true (le-leb (r .time) (r .time) (omega arith))
+    (and-true (lt-ltb (r .time) (2 ^ 64) t) (single (r .loose)))))
   where
     one : (b : Bool) → leb 1 (cond b 0 1 + cond b 1 0) ≡ true
     one true = refl
@@ -113,8 +115,10 @@ line-joined a b h k =
     let two : 1 < c .kept + c .loose = omega (arith, f .some, g .some) in
     and-true (lt-ltb (c .identity) (2 ^ 32) (f .identity))
     (and-true (le-leb 1 (c .kept + c .loose) (omega arith))
-    (and-true (le-leb (c .earliest) (c .latest) (between (a .earliest) (b .earliest) (a .latest) (b .latest) (f .ordered)))
-    (and-true (lt-ltb (c .latest) (2 ^ 64) (below (a .latest) (b .latest) (f .times) (g .times))) (ap (λ (t : Bool). t || eqb (c .earliest) (c .latest)) (lt-ltb 1 (c .kept + c .loose) two)))))
+    (and-true (le-leb (c .earliest) (c .latest)
+    (between (a .earliest) (b .earliest) (a .latest) (b .latest) (f .ordered)))
+    (and-true (lt-ltb (c .latest) (2 ^ 64) (below (a .latest) (b .latest) (f .times) (g .times)))
+    (ap (λ (t : Bool). t || eqb (c .earliest) (c .latest)) (lt-ltb 1 (c .kept + c .loose) two)))))
   where
     between : (x y u v : ℕ) → x ≤ u → min x y ≤ max u v
     between x y u v h = omega arith
@@ -185,12 +189,14 @@ pub record Known (buffer : List ℕ) : Type 0 where
   pub lines : all (λ r. isLine (lineOf r)) (rowsIn buffer) ≡ true
   pub few : length (rowsIn buffer) ≤ maxRows
 
-pub added-report : (s : Report) (buffer : List ℕ) → Taken s buffer → Known buffer → isReport (added s (rowsIn buffer)) ≡ true
+pub added-report : (s : Report) (buffer : List ℕ) → Taken s buffer
+    → Known buffer → isReport (added s (rowsIn buffer)) ≡ true
 unfolding added
 added-report s buffer t k =
     let rows = rowsIn buffer in
     let p = facts s (t .report) in
-    let total : s .kept + keptIn rows + (s .loose + looseIn rows) ≤ maxRows * s .archives + maxRows = omega (arith, p .rows, kinds rows, k .few) in
+    let total : s .kept + keptIn rows + (s .loose + looseIn rows) ≤ maxRows * s .archives + maxRows =
+    omega (arith, p .rows, kinds rows, k .few) in
     passed (added s rows) (record {
       archives = omega (arith, t .archives);
       few = t .few;

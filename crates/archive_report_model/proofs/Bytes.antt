@@ -57,7 +57,8 @@ module _ {A : Type 0} (p : A → Bool) where
   all-repeated zero x h = refl
   all-repeated (suc n) x h = and-true h (all-repeated n x h)
 
-  pub all-flat : {B : Type 0} (q : B → Bool) (f : B → List A) → ((b : B) → q b ≡ true → all p (f b) ≡ true) → (bs : List B) → all q bs ≡ true → all p (flatten (map f bs)) ≡ true
+  pub all-flat : {B : Type 0} (q : B → Bool) (f : B → List A) → ((b : B) → q b ≡ true → all p (f b) ≡ true)
+      → (bs : List B) → all q bs ≡ true → all p (flatten (map f bs)) ≡ true
   unfolding flatten
   all-flat q f h [] t = refl
   all-flat q f h (b ∷ bs) t =
@@ -109,7 +110,8 @@ shown-bytes cell t = resized-bytes (cellUsed cell) (cellField cell) (all-part is
 pub narrow-bytes : (r : Row) → areBytes (r .bytes) ≡ true → identityOf r < 2 ^ 32
 narrow-bytes r t =
     let at = length (r .bytes) - 6 in
-    unbe-bytes 4 (part at 4 (r .bytes)) (omega (arith, length-take 4 (drop at (r .bytes)))) (all-part isByte at 4 (r .bytes) t)
+    unbe-bytes 4 (part at 4 (r .bytes)) (omega (arith, length-take 4 (drop at (r .bytes))))
+    (all-part isByte at 4 (r .bytes) t)
 
 narrow : (cell : List ℕ) → areBytes cell ≡ true → isNarrow (rowIn cell) ≡ true
 narrow cell t = lt-ltb (identityOf (rowIn cell)) (2 ^ 32) (narrow-bytes (rowIn cell) (shown-bytes cell t))
@@ -117,23 +119,32 @@ narrow cell t = lt-ltb (identityOf (rowIn cell)) (2 ^ 32) (narrow-bytes (rowIn c
 narrow-block : (block : List ℕ) → areBytes block ≡ true → all isNarrow (rowsOf block) ≡ true
 unfolding rowsOf
 narrow-block block t =
-    all-each isNarrow (λ i. rowIn (blockCell i block)) (λ i. narrow (blockCell i block) (all-part isByte (headerLength + cellLength * i) cellLength block t)) 0 (rowCount block)
+    all-each isNarrow (λ i. rowIn (blockCell i block))
+    (λ i. narrow (blockCell i block) (all-part isByte (headerLength + cellLength * i) cellLength block t)) 0
+    (rowCount block)
 
 narrow-rows : (buffer : List ℕ) → areBytes buffer ≡ true → all isNarrow (rowsIn buffer) ≡ true
 unfolding rowsIn blocksIn
 narrow-rows buffer t =
     let at : ℕ → List ℕ = λ k. part (blockLength * k) blockLength buffer in
     let n = length buffer / blockLength in
-    all-flat isNarrow areBytes rowsOf narrow-block (map at (upFrom 0 n)) (all-each areBytes at (λ k. all-part isByte (blockLength * k) blockLength buffer t) 0 n)
+    all-flat isNarrow areBytes rowsOf narrow-block (map at (upFrom 0 n))
+    (all-each areBytes at (λ k. all-part isByte (blockLength * k) blockLength buffer t) 0 n)
 
 line-of : (r : Row) → isFit r ≡ true → isNarrow r ≡ true → isLine (lineOf r) ≡ true
 line-of r f n = isLineOf r (ltb-true (identityOf r) (2 ^ 32) n) (ltb-true (r .time) (2 ^ 64) (both (isRow r) _ f .1))
 
 pub known : (buffer : List ℕ) → verdict buffer .number ≡ 0 → areBytes buffer ≡ true → Known buffer
 known buffer v t = record {
-  lines = all-both isFit isNarrow (λ r. isLine (lineOf r)) line-of (rowsIn buffer) (exact buffer v .1) (narrow-rows buffer t);
+  lines =
+      all-both isFit isNarrow (λ r. isLine (lineOf r)) line-of
+      (rowsIn buffer) (exact buffer v .1) (narrow-rows buffer t);
   few =
-      omega (arith, exact-few buffer (length buffer / blockLength) (blocks-of buffer v .0) (verdict-facts buffer v .1), blocks-of buffer v .1);
+      omega (
+        arith,
+        exact-few buffer (length buffer / blockLength) (blocks-of buffer v .0) (verdict-facts buffer v .1),
+        blocks-of buffer v .1,
+      );
 }
 
 -- ---- a block of bytes
@@ -141,14 +152,17 @@ known buffer v t = record {
 pub blocks-bytes : (buffer : List ℕ) → areBytes buffer ≡ true → all areBytes (blocksIn buffer) ≡ true
 unfolding blocksIn
 blocks-bytes buffer t =
-    all-each areBytes (λ k. part (blockLength * k) blockLength buffer) (λ k. all-part isByte (blockLength * k) blockLength buffer t) 0 (length buffer / blockLength)
+    all-each areBytes (λ k. part (blockLength * k) blockLength buffer)
+    (λ k. all-part isByte (blockLength * k) blockLength buffer t) 0 (length buffer / blockLength)
 
 line-cell : (cell : List ℕ) → areBytes cell ≡ true → isLine (lineOf (rowIn cell)) ≡ true
 line-cell cell t =
-    isLineOf (rowIn cell) (narrow-bytes (rowIn cell) (shown-bytes cell t)) (unbe-bytes 8 (part 0 8 cell) (omega (arith, length-take 8 cell)) (all-part isByte 0 8 cell t))
+    isLineOf (rowIn cell) (narrow-bytes (rowIn cell) (shown-bytes cell t))
+    (unbe-bytes 8 (part 0 8 cell) (omega (arith, length-take 8 cell)) (all-part isByte 0 8 cell t))
 
 pub cell-lines : (block : List ℕ) → areBytes block ≡ true → all (λ r. isLine (lineOf r)) (rowsOf block) ≡ true
 unfolding rowsOf
 cell-lines block t =
     all-each (λ (r : Row). isLine (lineOf r)) (λ i. rowIn (blockCell i block))
-    (λ i. line-cell (blockCell i block) (all-part isByte (headerLength + cellLength * i) cellLength block t)) 0 (rowCount block)
+    (λ i. line-cell (blockCell i block) (all-part isByte (headerLength + cellLength * i) cellLength block t)) 0
+    (rowCount block)

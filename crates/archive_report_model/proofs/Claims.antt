@@ -32,7 +32,8 @@ module _ (s : Report) (buffer : List ℕ) (t : Taken s buffer) where
   pub number-is : addOf s buffer .number ≡ 0
   number-is = ap (λ (a : Addition). a .number) (taken-next s buffer t)
 
-pub stays : (s : Report) (buffer : List ℕ) → areBytes buffer ≡ true → isReport s ≡ true → isReport (addOf s buffer .next) ≡ true
+pub stays : (s : Report) (buffer : List ℕ) → areBytes buffer ≡ true
+    → isReport s ≡ true → isReport (addOf s buffer .next) ≡ true
 stays s buffer b h =
     by-test {X = isReport (addOf s buffer .next) ≡ true} (eqb (addOf s buffer .number) 0)
     (λ e.
@@ -40,7 +41,8 @@ stays s buffer b h =
     ap isReport (next-is s buffer t) ∙ added-report s buffer t (known buffer (t .matches) b))
     (λ e. ap isReport (refused-kept s buffer (eqb-false (addOf s buffer .number) 0 e)) ∙ h)
 
-sound-from : (s : Report) (buffers : List (List ℕ)) → isReport s ≡ true → all areBytes buffers ≡ true → isReport (addAll s buffers) ≡ true
+sound-from : (s : Report) (buffers : List (List ℕ)) → isReport s ≡ true
+    → all areBytes buffers ≡ true → isReport (addAll s buffers) ≡ true
 sound-from s [] h t = h
 sound-from s (b ∷ bs) h t =
     let w = both (areBytes b) (all areBytes bs) t in
@@ -53,7 +55,8 @@ sound buffers t = sound-from emptyReport buffers refl t
 -- ---- the order
 
 -- two archives in a row, and in the other order
-module _ (s : Report) (x y : List ℕ) (bytes : areBytes y ≡ true) (first : Taken s x) (second : Taken (added s (rowsIn x)) y) where
+module _ (s : Report) (x y : List ℕ) (bytes : areBytes y ≡ true)
+    (first : Taken s x) (second : Taken (added s (rowsIn x)) y) where
   abbrev both-lines : List Line
   both-lines = addRows (rowsIn y) (addRows (rowsIn x) (s .lines))
 
@@ -86,8 +89,10 @@ module _ (s : Report) (x y : List ℕ) (bytes : areBytes y ≡ true) (first : Ta
   pub swapped : added (added s (rowsIn y)) (rowsIn x) ≡ added (added s (rowsIn x)) (rowsIn y)
   unfolding added
   swapped =
-      let k : s .kept + keptIn (rowsIn y) + keptIn (rowsIn x) ≡ s .kept + keptIn (rowsIn x) + keptIn (rowsIn y) = omega arith in
-      let l : s .loose + looseIn (rowsIn y) + looseIn (rowsIn x) ≡ s .loose + looseIn (rowsIn x) + looseIn (rowsIn y) = omega arith in
+      let k : s .kept + keptIn (rowsIn y) + keptIn (rowsIn x) ≡ s .kept + keptIn (rowsIn x) + keptIn (rowsIn y) =
+      omega arith in
+      let l : s .loose + looseIn (rowsIn y) + looseIn (rowsIn x) ≡ s .loose + looseIn (rowsIn x) + looseIn (rowsIn y) =
+      omega arith in
       λ i. record { archives = s .archives + 1 + 1; lines = lines-swapped i; kept = k i; loose = l i }
 
 -- what the first of a list that none is refused of tells
@@ -96,10 +101,14 @@ module _ (s : Report) (b : List ℕ) (bs : List (List ℕ)) where
   head-taken h = is-taken s b (eqb-true (addOf s b .number) 0 (both (eqb (addOf s b .number) 0) _ h .0))
 
   pub tail-none : noneRefused s (b ∷ bs) ≡ true → noneRefused (added s (rowsIn b)) bs ≡ true
-  tail-none h = ap (λ (r : Report). noneRefused r bs) (sym (next-is s b (head-taken h))) ∙ both (eqb (addOf s b .number) 0) _ h .1
+  tail-none h =
+      ap (λ (r : Report). noneRefused r bs) (sym (next-is s b (head-taken h)))
+      ∙ both (eqb (addOf s b .number) 0) _ h .1
 
   pub none-cons : Taken s b → noneRefused (added s (rowsIn b)) bs ≡ true → noneRefused s (b ∷ bs) ≡ true
-  none-cons t h = and-true (eq-eqb (addOf s b .number) 0 (number-is s b t)) (ap (λ (r : Report). noneRefused r bs) (next-is s b t) ∙ h)
+  none-cons t h =
+      and-true (eq-eqb (addOf s b .number) 0 (number-is s b t))
+      (ap (λ (r : Report). noneRefused r bs) (next-is s b t) ∙ h)
 
   pub all-cons : Taken s b → addAll s (b ∷ bs) ≡ addAll (added s (rowsIn b)) bs
   all-cons t = ap (λ (r : Report). addAll r bs) (next-is s b t)
@@ -107,7 +116,8 @@ module _ (s : Report) (b : List ℕ) (bs : List (List ℕ)) where
 abbrev Same : Report → List (List ℕ) → List (List ℕ) → Type 0
 Same s xs ys = (noneRefused s ys ≡ true) × (addAll s ys ≡ addAll s xs)
 
-swap-two : (s : Report) (x y : List ℕ) (l : List (List ℕ)) → areBytes x ≡ true → noneRefused s (y ∷ x ∷ l) ≡ true → Same s (y ∷ x ∷ l) (x ∷ y ∷ l)
+swap-two : (s : Report) (x y : List ℕ) (l : List (List ℕ)) → areBytes x ≡ true
+    → noneRefused s (y ∷ x ∷ l) ≡ true → Same s (y ∷ x ∷ l) (x ∷ y ∷ l)
 swap-two s x y l b h =
     let f = head-taken s y (x ∷ l) h in
     let rest = tail-none s y (x ∷ l) h in
@@ -119,7 +129,8 @@ swap-two s x y l b h =
     let g2 = swapped-second s y x b f g in
     let e : added sx (rowsIn y) ≡ added sy (rowsIn x) = swapped s y x b f g in (
       none-cons s x (y ∷ l) f2 (none-cons sx y l g2 (ap (λ (r : Report). noneRefused r l) e ∙ tail)),
-      all-cons s x (y ∷ l) f2 ∙ all-cons sx y l g2 ∙ ap (λ (r : Report). addAll r l) e ∙ sym (all-cons sy x l g) ∙ sym (all-cons s y (x ∷ l) f),
+      all-cons s x (y ∷ l) f2 ∙ all-cons sx y l g2 ∙ ap (λ (r : Report). addAll r l) e
+          ∙ sym (all-cons sy x l g) ∙ sym (all-cons s y (x ∷ l) f),
     )
 
 perm-bytes : {xs ys : List (List ℕ)} → List·Permᴰ xs ys → all areBytes xs ≡ true → all areBytes ys ≡ true
@@ -136,18 +147,21 @@ perm-bytes (List·Permᴰ·trans p q) t = perm-bytes q (perm-bytes p t)
 pub any-order : AnyOrder
 any-order s xs ys p t h = go p s t h
   where
-    go : {us vs : List (List ℕ)} → List·Permᴰ us vs → (s : Report) → all areBytes us ≡ true → noneRefused s us ≡ true → Same s us vs
+    go : {us vs : List (List ℕ)} → List·Permᴰ us vs → (s : Report)
+        → all areBytes us ≡ true → noneRefused s us ≡ true → Same s us vs
     go List·Permᴰ·nil s t h = (refl, refl)
     go (List·Permᴰ·cons {a = a} {b = b} {l₁ = l₁} {l₂ = l₂} e p) s t h =
         let w = both (areBytes a) (all areBytes l₁) t in
         let f = head-taken s a l₁ h in
         let r = go p (added s (rowsIn a)) (w .1) (tail-none s a l₁ h) in
-        let same : Same s (a ∷ l₁) (a ∷ l₂) = (none-cons s a l₂ f (r .0), all-cons s a l₂ f ∙ r .1 ∙ sym (all-cons s a l₁ f)) in
+        let same : Same s (a ∷ l₁) (a ∷ l₂) =
+        (none-cons s a l₂ f (r .0), all-cons s a l₂ f ∙ r .1 ∙ sym (all-cons s a l₁ f)) in
         subst (λ (c : List ℕ). Same s (a ∷ l₁) (c ∷ l₂)) e same
     go (List·Permᴰ·swap {a = x} {b = y} {a′ = y′} {b′ = x′} {l = l} e f) s t h =
         let w = both (areBytes x) (areBytes y && all areBytes l) t in
         let same : Same s (x ∷ y ∷ l) (y ∷ x ∷ l) = swap-two s y x l (both (areBytes y) (all areBytes l) (w .1) .0) h in
-        subst (λ (c : List ℕ). Same s (x ∷ y ∷ l) (y′ ∷ c ∷ l)) e (subst (λ (c : List ℕ). Same s (x ∷ y ∷ l) (c ∷ x ∷ l)) f same)
+        subst (λ (c : List ℕ). Same s (x ∷ y ∷ l) (y′ ∷ c ∷ l)) e
+        (subst (λ (c : List ℕ). Same s (x ∷ y ∷ l) (c ∷ x ∷ l)) f same)
     go (List·Permᴰ·trans p q) s t h =
         let a = go p s t h in
         let b = go q s (perm-bytes p t) (a .0) in
@@ -160,7 +174,8 @@ rounded n received z h =
     let q = 1000 * n / received in
     let part : q * received + 1000 * n % received ≡ 1000 * n = div-add-mod' (1000 * n) received in
     let rest : 1000 * n % received < received = mod-lt (1000 * n) (omega arith) in
-    let next : (q + 1) * received ≡ q * received + received = add-mul q 1 received ∙ ap (λ (m : ℕ). q * received + m) (one-mul received) in
+    let next : (q + 1) * received ≡ q * received + received =
+    add-mul q 1 received ∙ ap (λ (m : ℕ). q * received + m) (one-mul received) in
     record { most = div-le-of-le-mul received (omega arith); low = omega arith; high = omega arith }
 
 pub share-rounded-down : ShareRoundedDown
@@ -191,16 +206,20 @@ pub record After (s : Report) (buffers : List (List ℕ)) (t : Report) : Type 0 
 
 pub after-none : (s : Report) → After s [] s
 unfolding rowsOfAll flatten
-after-none s = record { archives = omega arith; lines = sym (add-none (s .lines)); kept = omega arith; loose = omega arith }
+after-none s =
+    record { archives = omega arith; lines = sym (add-none (s .lines)); kept = omega arith; loose = omega arith }
 
-pub after-more : (s : Report) (b : List ℕ) (bs : List (List ℕ)) (t : Report) → After (added s (rowsIn b)) bs t → After s (b ∷ bs) t
+pub after-more : (s : Report) (b : List ℕ) (bs : List (List ℕ)) (t : Report)
+    → After (added s (rowsIn b)) bs t → After s (b ∷ bs) t
 unfolding added
 after-more s b bs t a =
     let split : (p : Row → Bool) → count p (rowsOfAll (b ∷ bs)) ≡ count p (rowsIn b) + count p (rowsOfAll bs) =
     λ p. ap (count p) (rows-cons b bs) ∙ count-append p (rowsIn b) (rowsOfAll bs) in
     record {
       archives = omega (arith, a .archives);
-      lines = a .lines ∙ sym (add-append (rowsIn b) (rowsOfAll bs) (s .lines)) ∙ ap (λ (rows : List Row). addRows rows (s .lines)) (sym (rows-cons b bs));
+      lines =
+          a .lines ∙ sym (add-append (rowsIn b) (rowsOfAll bs) (s .lines))
+          ∙ ap (λ (rows : List Row). addRows rows (s .lines)) (sym (rows-cons b bs));
       kept = omega (arith, a .kept, split (λ r. not (r .loose)));
       loose = omega (arith, a .loose, split (λ r. r .loose));
     }
@@ -212,10 +231,13 @@ after-all s (b ∷ bs) =
     (λ t.
     let e = next-is s b (is-taken s b (eqb-true (addOf s b .number) 0 t)) in
     rw t (after-more s b (accepted (addOf s b .next) bs) (addAll s (b ∷ bs))
-    (subst (λ (r : Report). After r (accepted (addOf s b .next) bs) (addAll s (b ∷ bs))) e (after-all (addOf s b .next) bs))))
+    (subst (λ (r : Report). After r (accepted (addOf s b .next) bs) (addAll s (b ∷ bs))) e
+    (after-all (addOf s b .next) bs))))
     (λ f.
     let e = refused-kept s b (eqb-false (addOf s b .number) 0 f) in
-    rw f (subst (λ (r : Report). After r (accepted (addOf s b .next) bs) (addAll s (b ∷ bs))) e (after-all (addOf s b .next) bs)))
+    rw f
+    (subst (λ (r : Report). After r (accepted (addOf s b .next) bs) (addAll s (b ∷ bs))) e
+    (after-all (addOf s b .next) bs)))
 
 pub totals-are-sums : TotalsAreSums
 totals-are-sums buffers =

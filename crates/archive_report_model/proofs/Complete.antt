@@ -50,29 +50,46 @@ module _ (f : ℕ → List ℕ) (fine : (j : ℕ) → Fine (f j)) where
   first-taken : (s : Report) (b : List ℕ) (bs : List (List ℕ)) → Fine b → isReport s ≡ true → s .archives < maxArchives
       → length (addRows (rowsOfAll (b ∷ bs)) (s .lines)) ≤ maxLines → Taken s b
   first-taken s b bs g r a few =
-      let e = ap (λ (rows : List Row). addRows rows (s .lines)) (rows-cons b bs) ∙ add-append (rowsIn b) (rowsOfAll bs) (s .lines) in
-      record { report = r; matches = g .matches; archives = a; few = omega (arith, few, ap length e, more-added (addRows (rowsIn b) (s .lines)) (rowsOfAll bs)) }
+      let e =
+      ap (λ (rows : List Row). addRows rows (s .lines)) (rows-cons b bs)
+      ∙ add-append (rowsIn b) (rowsOfAll bs) (s .lines) in
+      record {
+        report = r;
+        matches = g .matches;
+        archives = a;
+        few = omega (arith, few, ap length e, more-added (addRows (rowsIn b) (s .lines)) (rowsOfAll bs));
+      }
 
-  rest-few : (s : Report) (b : List ℕ) (bs : List (List ℕ)) → length (addRows (rowsOfAll (b ∷ bs)) (s .lines)) ≤ maxLines → length (addRows (rowsOfAll bs) (added s (rowsIn b) .lines)) ≤ maxLines
+  rest-few : (s : Report) (b : List ℕ) (bs : List (List ℕ))
+      → length (addRows (rowsOfAll (b ∷ bs)) (s .lines)) ≤ maxLines
+      → length (addRows (rowsOfAll bs) (added s (rowsIn b) .lines)) ≤ maxLines
   unfolding added
   rest-few s b bs few =
-      let e = ap (λ (rows : List Row). addRows rows (s .lines)) (rows-cons b bs) ∙ add-append (rowsIn b) (rowsOfAll bs) (s .lines) in
+      let e =
+      ap (λ (rows : List Row). addRows rows (s .lines)) (rows-cons b bs)
+      ∙ add-append (rowsIn b) (rowsOfAll bs) (s .lines) in
       omega (arith, few, ap length e)
 
   one-more : (s : Report) (b : List ℕ) → added s (rowsIn b) .archives ≡ s .archives + 1
   unfolding added
   one-more s b = refl
 
-  all-taken : (a n : ℕ) (s : Report) → isReport s ≡ true → s .archives + n ≤ maxArchives → length (addRows (rowsOfAll (list a n)) (s .lines)) ≤ maxLines → AllTaken s (list a n)
+  all-taken : (a n : ℕ) (s : Report) → isReport s ≡ true → s .archives + n ≤ maxArchives
+      → length (addRows (rowsOfAll (list a n)) (s .lines)) ≤ maxLines → AllTaken s (list a n)
   all-taken a zero s r k few = subst (AllTaken s) (sym (list-none a)) (refl, after-none s)
   all-taken a (suc n) s r k few =
       let b = f a in
       let bs = list (suc a) n in
-      let few2 : length (addRows (rowsOfAll (b ∷ bs)) (s .lines)) ≤ maxLines = subst (λ (l : List (List ℕ)). length (addRows (rowsOfAll l) (s .lines)) ≤ maxLines) (list-next a n) few in
+      let few2 : length (addRows (rowsOfAll (b ∷ bs)) (s .lines)) ≤ maxLines =
+      subst (λ (l : List (List ℕ)). length (addRows (rowsOfAll l) (s .lines)) ≤ maxLines) (list-next a n) few in
       let t = first-taken s b bs (fine a) r (omega arith) few2 in
-      let ih = all-taken (suc a) n (added s (rowsIn b)) (added-report s b t (fine a .known)) (omega (arith, one-more s b)) (rest-few s b bs few2) in
-      subst (AllTaken s) (sym (list-next a n))
-      (none-cons s b bs t (ih .0), subst (After s (b ∷ bs)) (sym (all-cons s b bs t)) (after-more s b bs (addAll (added s (rowsIn b)) bs) (ih .1)))
+      let ih =
+      all-taken (suc a) n (added s (rowsIn b)) (added-report s b t (fine a .known))
+      (omega (arith, one-more s b)) (rest-few s b bs few2) in
+      subst (AllTaken s) (sym (list-next a n)) (
+        none-cons s b bs t (ih .0),
+        subst (After s (b ∷ bs)) (sym (all-cons s b bs t)) (after-more s b bs (addAll (added s (rowsIn b)) bs) (ih .1)),
+      )
 
 -- ---- the archives of a report
 
@@ -108,7 +125,9 @@ module _ (s : Report) (h : isReport s ≡ true) where
   archive j = bufferOf (512 * 2 ^ 32) (piece j)
 
   read : (j : ℕ) → (verdict (archive j) .number ≡ 0) × (rowsIn (archive j) ≡ piece j)
-  read j = read-back (2 ^ 32) (piece j) (omega arith) (piece-few j) (all-part isFit (maxRows * j) maxRows rows (all-fit (s .lines) (p .each)))
+  read j =
+      read-back (2 ^ 32) (piece j) (omega arith) (piece-few j)
+      (all-part isFit (maxRows * j) maxRows rows (all-fit (s .lines) (p .each)))
 
   abbrev givesLine : Row → Bool
   givesLine r = isLine (lineOf r)
@@ -116,7 +135,9 @@ module _ (s : Report) (h : isReport s ≡ true) where
   fine : (j : ℕ) → Fine (archive j)
   fine j = record {
     known = record {
-      lines = ap (all givesLine) (read j .1) ∙ all-part givesLine (maxRows * j) maxRows rows (all-lines (s .lines) (p .each));
+      lines =
+          ap (all givesLine) (read j .1)
+          ∙ all-part givesLine (maxRows * j) maxRows rows (all-lines (s .lines) (p .each));
       few = subst (λ (l : List Row). length l ≤ maxRows) (sym (read j .1)) (piece-few j);
     };
     matches = read j .0;
@@ -128,15 +149,20 @@ module _ (s : Report) (h : isReport s ≡ true) where
   are-bytes : all areBytes archives ≡ true
   are-bytes =
       all-each areBytes archive
-      (λ j. buffer-bytes (512 * 2 ^ 32) (piece j) (all-part isPlain (maxRows * j) maxRows rows (all-plain (s .lines) (p .each)))) 0 (s .archives)
+      (λ j. buffer-bytes (512 * 2 ^ 32) (piece j)
+      (all-part isPlain (maxRows * j) maxRows rows (all-plain (s .lines) (p .each))))
+      0
+      (s .archives)
 
   rows-back : rowsOfAll archives ≡ rows
   unfolding rowsOfAll
   rows-back =
       let n = s .archives in
       let z : maxRows * 0 ≡ 0 = omega arith in
-      ap flatten (map-map rowsIn archive (upFrom 0 n) ∙ map-same (λ j. rowsIn (archive j)) piece 0 n (λ j l k. read j .1))
-      ∙ pieces maxRows rows 0 n ∙ ap (λ (a : ℕ). take (maxRows * n) (drop a rows)) z ∙ take-all (maxRows * n) rows rows-few
+      ap flatten
+      (map-map rowsIn archive (upFrom 0 n) ∙ map-same (λ j. rowsIn (archive j)) piece 0 n (λ j l k. read j .1))
+      ∙ pieces maxRows rows 0 n ∙ ap (λ (a : ℕ). take (maxRows * n) (drop a rows)) z
+      ∙ take-all (maxRows * n) rows rows-few
 
   taken : (noneRefused emptyReport archives ≡ true) × After emptyReport archives (addAll emptyReport archives)
   unfolding isReport isTally
@@ -147,10 +173,13 @@ module _ (s : Report) (h : isReport s ≡ true) where
   given : addAll emptyReport archives ≡ s
   given =
       let a = taken .1 in
-      let n : addAll emptyReport archives .archives ≡ s .archives = a .archives ∙ omega (arith, length-map (upFrom 0 (s .archives)) archive, length-upFrom 0 (s .archives)) in
-      let l : addAll emptyReport archives .lines ≡ s .lines = a .lines ∙ ap (λ (r : List Row). addRows r []) rows-back ∙ back in
+      let n : addAll emptyReport archives .archives ≡ s .archives =
+      a .archives ∙ omega (arith, length-map (upFrom 0 (s .archives)) archive, length-upFrom 0 (s .archives)) in
+      let l : addAll emptyReport archives .lines ≡ s .lines =
+      a .lines ∙ ap (λ (r : List Row). addRows r []) rows-back ∙ back in
       let k : addAll emptyReport archives .kept ≡ s .kept = a .kept ∙ omega (arith, ap keptIn rows-back, kept-is) in
-      let o : addAll emptyReport archives .loose ≡ s .loose = a .loose ∙ omega (arith, ap looseIn rows-back, loose-is) in
+      let o : addAll emptyReport archives .loose ≡ s .loose =
+      a .loose ∙ omega (arith, ap looseIn rows-back, loose-is) in
       λ i. record { archives = n i; lines = l i; kept = k i; loose = o i }
 
 pub complete : Complete

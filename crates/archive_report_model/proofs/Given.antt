@@ -68,7 +68,9 @@ is-rowed k n some few low =
     let c = count-back k rows f fit in
     let long = rows-block-length k rows f fit in
     record {
-      block = and-true (eq-eqb (length (rowsBlock k rows)) blockLength long) (block-bytes k rows fit (all-repeated isPlain n row row-plain));
+      block =
+          and-true (eq-eqb (length (rowsBlock k rows)) blockLength long)
+          (block-bytes k rows fit (all-repeated isPlain n row row-plain));
       blank = not-blank (rowsBlock k rows) long (omega (arith, c));
       sound = block-sound k rows f fit (omega arith) low;
       number = number-back k rows f fit low;
@@ -107,7 +109,8 @@ same : {n m rows more : ℕ} {st last : Stage} → n ≡ m → rows ≡ more →
 same a b c = rw (a, b, c)
 
 module _ (n rows : ℕ) (st : Stage) where
-  scan-rowed : (k c : ℕ) (b : List ℕ) → Rowed k c b → scanBlock (scan n rows st) b ≡ scan (n + 1) (rows + c) (stageAfter st n b)
+  scan-rowed : (k c : ℕ) (b : List ℕ) → Rowed k c b
+      → scanBlock (scan n rows st) b ≡ scan (n + 1) (rows + c) (stageAfter st n b)
   unfolding scanBlock
   scan-rowed k c b r = rw (r .blank, r .sound, r .count)
 
@@ -153,9 +156,11 @@ filling zero h = none
 filling (suc n) h =
     let r = is-rowed n cellsPerBlock (omega arith) (omega arith) (omega arith) in
     given-next (filling n (omega arith)) (rowed n cellsPerBlock) (r .block)
-    (scan-rowed n (cellsPerBlock * n) Filling n cellsPerBlock (rowed n cellsPerBlock) r ∙ same (omega arith) (omega arith) (stage-next n cellsPerBlock (rowed n cellsPerBlock) r))
+    (scan-rowed n (cellsPerBlock * n) Filling n cellsPerBlock (rowed n cellsPerBlock) r
+    ∙ same (omega arith) (omega arith) (stage-next n cellsPerBlock (rowed n cellsPerBlock) r))
 
-short : (n rows : ℕ) → n ≤ maxBlocks → rows < cellsPerBlock * n → cellsPerBlock * n < rows + cellsPerBlock → Given (scan n rows Short)
+short : (n rows : ℕ) → n ≤ maxBlocks → rows < cellsPerBlock * n
+    → cellsPerBlock * n < rows + cellsPerBlock → Given (scan n rows Short)
 short zero rows h a b = absurd (omega arith)
 short (suc n) rows h a b =
     let c = rows - cellsPerBlock * n in
@@ -163,7 +168,8 @@ short (suc n) rows h a b =
     let r = is-rowed n c (omega arith) (omega arith) (omega arith) in
     given-next (filling n (omega arith)) (rowed n c) (r .block)
     (scan-rowed n (cellsPerBlock * n) Filling n c (rowed n c) r
-    ∙ same (omega arith) (omega arith) (stage-next n c (rowed n c) r ∙ ap (λ (t : Bool). cond t Short Filling) (lt-ltb c cellsPerBlock few)))
+    ∙ same (omega arith) (omega arith)
+    (stage-next n c (rowed n c) r ∙ ap (λ (t : Bool). cond t Short Filling) (lt-ltb c cellsPerBlock few)))
 
 -- an all-zero block behind them
 blank-next : (n rows : ℕ) (st : Stage) → Given (scan n rows st) → Given (scan (suc n) rows (stageBlank st))
@@ -177,7 +183,8 @@ ended (suc n) rows h a = elim (decLt (cellsPerBlock * n) (rows + cellsPerBlock))
         | yes c ↦ blank-next n rows Short (short n rows (omega arith) c b)
         | no c ↦
             (let e : rows ≡ cellsPerBlock * n = omega arith in
-            subst (λ (m : ℕ). Given (scan (suc n) m Ended)) (sym e) (blank-next n (cellsPerBlock * n) Filling (filling n (omega arith))))
+            subst (λ (m : ℕ). Given (scan (suc n) m Ended)) (sym e)
+            (blank-next n (cellsPerBlock * n) Filling (filling n (omega arith))))
       ]
   | no b ↦ blank-next n rows Ended (ended n rows (omega arith) (omega arith))
 ]
@@ -186,7 +193,8 @@ ended (suc n) rows h a = elim (decLt (cellsPerBlock * n) (rows + cellsPerBlock))
 
 -- block k of c rows, or none
 module _ (n rows c : ℕ) (few : c ≤ cellsPerBlock) where
-  put : (st last : Stage) (k : ℕ) → k < 2 ^ 32 → Given (scan n rows st) → (1 ≤ c → stageAfter st n (rowed k c) ≡ last) → stageAfter st n odd ≡ last
+  put : (st last : Stage) (k : ℕ) → k < 2 ^ 32 → Given (scan n rows st)
+      → (1 ≤ c → stageAfter st n (rowed k c) ≡ last) → stageAfter st n odd ≡ last
       → Given (scan (suc n) (rows + c) last)
   put st last k low g a b = elim (decLt 0 c) [
     | yes h ↦
@@ -198,10 +206,12 @@ module _ (n rows c : ℕ) (few : c ≤ cellsPerBlock) where
 from-ended : (n rows c : ℕ) → c ≤ cellsPerBlock → Given (scan n rows Ended) → Given (scan (suc n) (rows + c) (Wrong n))
 from-ended n rows c few g = put n rows c few Ended (Wrong n) 0 (omega arith) g (λ h. refl) refl
 
-wrong-more : (n rows c j : ℕ) → c ≤ cellsPerBlock → Given (scan n rows (Wrong j)) → Given (scan (suc n) (rows + c) (Wrong j))
+wrong-more : (n rows c j : ℕ) → c ≤ cellsPerBlock
+    → Given (scan n rows (Wrong j)) → Given (scan (suc n) (rows + c) (Wrong j))
 wrong-more n rows c j few g = put n rows c few (Wrong j) (Wrong j) 0 (omega arith) g (λ h. refl) refl
 
-from-filling : (n rows c : ℕ) → c ≤ cellsPerBlock → Given (scan n rows Filling) → Given (scan (suc n) (rows + c) (Wrong n))
+from-filling : (n rows c : ℕ) → c ≤ cellsPerBlock
+    → Given (scan n rows Filling) → Given (scan (suc n) (rows + c) (Wrong n))
 from-filling zero rows c few g =
     put 0 rows c few Filling (Wrong 0) 1 (omega arith) g
     (λ h. stage-other 0 1 c (rowed 1 c) (is-rowed 1 c h few (omega arith)) (λ e. omega arith)) (stage-odd 0)
@@ -214,16 +224,19 @@ last-wrong : (n rows : ℕ) → n ≤ maxBlocks → rows ≤ cellsPerBlock * suc
 last-wrong n rows h a = elim (decLt rows (cellsPerBlock * n)) [
   | no b ↦
       (let e : cellsPerBlock * n + (rows - cellsPerBlock * n) ≡ rows = omega arith in
-      subst (λ (m : ℕ). Given (scan (suc n) m (Wrong n))) e (from-filling n (cellsPerBlock * n) (rows - cellsPerBlock * n) (omega arith) (filling n h)))
+      subst (λ (m : ℕ). Given (scan (suc n) m (Wrong n))) e
+      (from-filling n (cellsPerBlock * n) (rows - cellsPerBlock * n) (omega arith) (filling n h)))
   | yes b ↦
       elim (decLt (cellsPerBlock * n) (rows + cellsPerBlock)) [
         | no c ↦
             (let e : rows + 0 ≡ rows = omega arith in
-            subst (λ (m : ℕ). Given (scan (suc n) m (Wrong n))) e (from-ended n rows 0 (omega arith) (ended n rows h (omega arith))))
+            subst (λ (m : ℕ). Given (scan (suc n) m (Wrong n))) e
+            (from-ended n rows 0 (omega arith) (ended n rows h (omega arith))))
         | yes c ↦
             (let full = cellsPerBlock * n - cellsPerBlock in
             let e : full + (rows - full) ≡ rows = omega arith in
-            subst (λ (m : ℕ). Given (scan (suc n) m (Wrong n))) e (from-ended n full (rows - full) (omega arith) (ended n full h (omega arith))))
+            subst (λ (m : ℕ). Given (scan (suc n) m (Wrong n))) e
+            (from-ended n full (rows - full) (omega arith) (ended n full h (omega arith))))
       ]
 ]
 
@@ -234,22 +247,27 @@ wrong (suc n) rows j h l a = elim (decLt j n) [
       elim (decLt rows (cellsPerBlock * n)) [
         | yes c ↦
             (let e : rows + 0 ≡ rows = omega arith in
-            subst (λ (m : ℕ). Given (scan (suc n) m (Wrong j))) e (wrong-more n rows 0 j (omega arith) (wrong n rows j (omega arith) b (omega arith))))
+            subst (λ (m : ℕ). Given (scan (suc n) m (Wrong j))) e
+            (wrong-more n rows 0 j (omega arith) (wrong n rows j (omega arith) b (omega arith))))
         | no c ↦
             (let e : cellsPerBlock * n + (rows - cellsPerBlock * n) ≡ rows = omega arith in
             subst (λ (m : ℕ). Given (scan (suc n) m (Wrong j))) e
-            (wrong-more n (cellsPerBlock * n) (rows - cellsPerBlock * n) j (omega arith) (wrong n (cellsPerBlock * n) j (omega arith) b (omega arith))))
+            (wrong-more n (cellsPerBlock * n) (rows - cellsPerBlock * n) j (omega arith)
+            (wrong n (cellsPerBlock * n) j (omega arith) b (omega arith))))
       ]
   | no b ↦
       (let e : n ≡ j = omega arith in
       subst (λ (k : ℕ). Given (scan (suc n) rows (Wrong k))) e (last-wrong n rows (omega arith) a))
 ]
 
-by-stage : (st : Stage) (n rows : ℕ) → n ≤ maxBlocks → rows ≤ cellsPerBlock * n → isStage st n rows ≡ true → Given (scan n rows st)
-by-stage Filling n rows h a t = subst (λ (m : ℕ). Given (scan n m Filling)) (sym (eqb-true rows (cellsPerBlock * n) t)) (filling n h)
+by-stage : (st : Stage) (n rows : ℕ) → n ≤ maxBlocks → rows ≤ cellsPerBlock * n
+    → isStage st n rows ≡ true → Given (scan n rows st)
+by-stage Filling n rows h a t =
+    subst (λ (m : ℕ). Given (scan n m Filling)) (sym (eqb-true rows (cellsPerBlock * n) t)) (filling n h)
 by-stage Short n rows h a t =
     let w = both (ltb rows (cellsPerBlock * n)) _ t in
-    short n rows h (ltb-true rows (cellsPerBlock * n) (w .0)) (ltb-true (cellsPerBlock * n) (rows + cellsPerBlock) (w .1))
+    short n rows h (ltb-true rows (cellsPerBlock * n) (w .0))
+    (ltb-true (cellsPerBlock * n) (rows + cellsPerBlock) (w .1))
 by-stage Ended n rows h a t = ended n rows h (leb-true (rows + cellsPerBlock) (cellsPerBlock * n) t)
 by-stage (Wrong j) n rows h a t = wrong n rows j h (ltb-true j n t) a
 

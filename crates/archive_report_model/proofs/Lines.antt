@@ -21,7 +21,8 @@ use Rattle.archive_report_model.proofs.Order.{insert-cases, insert-nil,
 
 -- ---- one line more
 
-pub all-insert : (p : Line → Bool) (a : Line) (l : List Line) → p a ≡ true → ((b : Line) → p b ≡ true → p (joined a b) ≡ true) → all p l ≡ true → all p (insert a l) ≡ true
+pub all-insert : (p : Line → Bool) (a : Line) (l : List Line) → p a ≡ true
+    → ((b : Line) → p b ≡ true → p (joined a b) ≡ true) → all p l ≡ true → all p (insert a l) ≡ true
 all-insert p a [] h j t = ap (all p) (insert-nil a) ∙ and-true h refl
 all-insert p a (c ∷ l) h j t =
     let w = both (p c) (all p l) t in
@@ -34,7 +35,8 @@ abbrev above : Line → Line → Bool
 above a b = ltb (a .identity) (b .identity)
 
 -- what stands before a line stands before all behind it
-pub above-all : (a c : Line) (l : List Line) → a .identity < c .identity → all (above c) l ≡ true → all (above a) (c ∷ l) ≡ true
+pub above-all : (a c : Line) (l : List Line) → a .identity < c .identity
+    → all (above c) l ≡ true → all (above a) (c ∷ l) ≡ true
 above-all a c l h t =
     and-true (lt-ltb (a .identity) (c .identity) h)
     (all-of (above a) l
@@ -52,9 +54,13 @@ rising-insert a (c ∷ l) t =
     insert-cases (λ (m : List Line). isRising m ≡ true) a c l
     (λ k. and-true (above-all a c l k (w .0)) t)
     (λ k. and-true (same-all a c l k (w .0)) (w .1))
-    (λ k. and-true (all-insert (above c) a l (lt-ltb (c .identity) (a .identity) k) (λ b h. lt-ltb (c .identity) (a .identity) k) (w .0)) (rising-insert a l (w .1)))
+    (λ k.
+    and-true (all-insert (above c) a l (lt-ltb (c .identity) (a .identity) k)
+    (λ b h. lt-ltb (c .identity) (a .identity) k) (w .0))
+    (rising-insert a l (w .1)))
 
-pub sum-insert : (f : Line → ℕ) → ((a b : Line) → f (joined a b) ≡ f a + f b) → (a : Line) (l : List Line) → sumBy f (insert a l) ≡ f a + sumBy f l
+pub sum-insert : (f : Line → ℕ) → ((a b : Line) → f (joined a b) ≡ f a + f b)
+    → (a : Line) (l : List Line) → sumBy f (insert a l) ≡ f a + sumBy f l
 sum-insert f j a [] = ap (sumBy f) (insert-nil a)
 sum-insert f j a (c ∷ l) =
     insert-cases (λ (m : List Line). sumBy f m ≡ f a + (f c + sumBy f l)) a c l
@@ -74,21 +80,27 @@ more-insert a (c ∷ l) =
 
 module _ (lines : List Line) where
   pub all-added : (p : Line → Bool) (rows : List Row) → all (λ r. p (lineOf r)) rows ≡ true
-      → ((a b : Line) → p a ≡ true → p b ≡ true → p (joined a b) ≡ true) → all p lines ≡ true → all p (addRows rows lines) ≡ true
+      → ((a b : Line) → p a ≡ true → p b ≡ true → p (joined a b) ≡ true)
+      → all p lines ≡ true → all p (addRows rows lines) ≡ true
   all-added p [] h j t = ap (all p) (add-none lines) ∙ t
   all-added p (r ∷ rows) h j t =
       let w = both (p (lineOf r)) (all (λ s. p (lineOf s)) rows) h in
-      ap (all p) (add-first r rows lines) ∙ all-insert p (lineOf r) (addRows rows lines) (w .0) (λ b k. j (lineOf r) b (w .0) k) (all-added p rows (w .1) j t)
+      ap (all p) (add-first r rows lines)
+      ∙ all-insert p (lineOf r) (addRows rows lines) (w .0)
+      (λ b k. j (lineOf r) b (w .0) k) (all-added p rows (w .1) j t)
 
   pub rising-added : (rows : List Row) → isRising lines ≡ true → isRising (addRows rows lines) ≡ true
   rising-added [] t = ap isRising (add-none lines) ∙ t
-  rising-added (r ∷ rows) t = ap isRising (add-first r rows lines) ∙ rising-insert (lineOf r) (addRows rows lines) (rising-added rows t)
+  rising-added (r ∷ rows) t =
+      ap isRising (add-first r rows lines) ∙ rising-insert (lineOf r) (addRows rows lines) (rising-added rows t)
 
-  pub sum-added : (f : Line → ℕ) (p : Row → Bool) → ((a b : Line) → f (joined a b) ≡ f a + f b) → ((r : Row) → f (lineOf r) ≡ cond (p r) 1 0)
+  pub sum-added : (f : Line → ℕ) (p : Row → Bool) → ((a b : Line) → f (joined a b) ≡ f a + f b)
+      → ((r : Row) → f (lineOf r) ≡ cond (p r) 1 0)
       → (rows : List Row) → sumBy f (addRows rows lines) ≡ sumBy f lines + count p rows
   sum-added f p j o [] = ap (sumBy f) (add-none lines) ∙ (omega arith)
   sum-added f p j o (r ∷ rows) =
-      ap (sumBy f) (add-first r rows lines) ∙ sum-insert f j (lineOf r) (addRows rows lines) ∙ go (p r) (o r) (sum-added f p j o rows)
+      ap (sumBy f) (add-first r rows lines) ∙ sum-insert f j (lineOf r) (addRows rows lines)
+      ∙ go (p r) (o r) (sum-added f p j o rows)
     where
       go : (b : Bool) → f (lineOf r) ≡ cond b 1 0 → sumBy f (addRows rows lines) ≡ sumBy f lines + count p rows
           → f (lineOf r) + sumBy f (addRows rows lines) ≡ sumBy f lines + cond b (count p rows + 1) (count p rows)
@@ -97,7 +109,8 @@ module _ (lines : List Line) where
 
   pub more-added : (rows : List Row) → length lines ≤ length (addRows rows lines)
   more-added [] = omega (arith, ap length (add-none lines))
-  more-added (r ∷ rows) = omega (arith, ap length (add-first r rows lines), more-insert (lineOf r) (addRows rows lines), more-added rows)
+  more-added (r ∷ rows) =
+      omega (arith, ap length (add-first r rows lines), more-insert (lineOf r) (addRows rows lines), more-added rows)
 
 kept-one : (r : Row) → lineOf r .kept ≡ cond (not (r .loose)) 1 0
 kept-one r = go (r .loose)
@@ -106,10 +119,12 @@ kept-one r = go (r .loose)
     go true = refl
     go false = refl
 
-pub kept-added : (lines : List Line) (rows : List Row) → sumBy (λ a. a .kept) (addRows rows lines) ≡ sumBy (λ a. a .kept) lines + keptIn rows
+pub kept-added : (lines : List Line) (rows : List Row)
+    → sumBy (λ a. a .kept) (addRows rows lines) ≡ sumBy (λ a. a .kept) lines + keptIn rows
 kept-added lines rows = sum-added lines (λ a. a .kept) (λ r. not (r .loose)) (λ a b. refl) kept-one rows
 
-pub loose-added : (lines : List Line) (rows : List Row) → sumBy (λ a. a .loose) (addRows rows lines) ≡ sumBy (λ a. a .loose) lines + looseIn rows
+pub loose-added : (lines : List Line) (rows : List Row)
+    → sumBy (λ a. a .loose) (addRows rows lines) ≡ sumBy (λ a. a .loose) lines + looseIn rows
 loose-added lines rows = sum-added lines (λ a. a .loose) (λ r. r .loose) (λ a b. refl) (λ r. refl) rows
 
 -- every row is of one kind
@@ -117,7 +132,8 @@ pub kinds : (rows : List Row) → keptIn rows + looseIn rows ≡ length rows
 kinds [] = refl
 kinds (r ∷ rows) = go (r .loose) (kinds rows)
   where
-    go : (b : Bool) → keptIn rows + looseIn rows ≡ length rows → cond (not b) (keptIn rows + 1) (keptIn rows) + cond b (looseIn rows + 1) (looseIn rows) ≡ suc (length rows)
+    go : (b : Bool) → keptIn rows + looseIn rows ≡ length rows
+        → cond (not b) (keptIn rows + 1) (keptIn rows) + cond b (looseIn rows + 1) (looseIn rows) ≡ suc (length rows)
     go true e = omega arith
     go false e = omega arith
 
@@ -125,6 +141,7 @@ pub count-append : (p : Row → Bool) (xs ys : List Row) → count p (xs ++ ys) 
 count-append p [] ys = omega arith
 count-append p (x ∷ xs) ys = go (p x) (count-append p xs ys)
   where
-    go : (b : Bool) → count p (xs ++ ys) ≡ count p xs + count p ys → cond b (count p (xs ++ ys) + 1) (count p (xs ++ ys)) ≡ cond b (count p xs + 1) (count p xs) + count p ys
+    go : (b : Bool) → count p (xs ++ ys) ≡ count p xs + count p ys
+        → cond b (count p (xs ++ ys) + 1) (count p (xs ++ ys)) ≡ cond b (count p xs + 1) (count p xs) + count p ys
     go true e = omega arith
     go false e = omega arith

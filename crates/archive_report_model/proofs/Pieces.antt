@@ -29,26 +29,40 @@ rowsOfBlocks blocks = flatten (map countedRows blocks)
 
 -- ---- rows in two parts
 
-over-more : (over : Bool) (lines : List Line) (xs ys : List Row) → (over || ltb maxLines (length (addRows xs lines))) ≡ true
+over-more : (over : Bool) (lines : List Line) (xs ys : List Row)
+    → (over || ltb maxLines (length (addRows xs lines))) ≡ true
     → (over || ltb maxLines (length (addRows (xs ++ ys) lines))) ≡ true
 over-more true lines xs ys h = refl
 over-more false lines xs ys h =
     let l : maxLines < length (addRows xs lines) = ltb-true maxLines (length (addRows xs lines)) h in
-    lt-ltb maxLines (length (addRows (xs ++ ys) lines)) (omega (arith, ap length (add-append xs ys lines), more-added (addRows xs lines) ys))
+    lt-ltb maxLines (length (addRows (xs ++ ys) lines))
+    (omega (arith, ap length (add-append xs ys lines), more-added (addRows xs lines) ys))
 
 twice : (t : Tally) (xs ys : List Row) (a b : Scan) → counted (counted t xs a) ys b ≡ counted t (xs ++ ys) b
 twice t xs ys a b =
-    by-test {X = counted (counted t xs a) ys b ≡ counted t (xs ++ ys) b} (t .over || ltb maxLines (length (addRows xs (t .lines))))
+    by-test {X = counted (counted t xs a) ys b ≡ counted t (xs ++ ys) b}
+    (t .over || ltb maxLines (length (addRows xs (t .lines))))
     (λ h. rw (h, over-more (t .over) (t .lines) xs ys h))
     (λ h. rw h (go (t .over) h))
   where
     go : (over : Bool) → (over || ltb maxLines (length (addRows xs (t .lines)))) ≡ false
-        → counted (record { lines = addRows xs (t .lines); kept = t .kept + keptIn xs; loose = t .loose + looseIn xs; over = false; scan = a }) ys b
-        ≡ counted (record { lines = t .lines; kept = t .kept; loose = t .loose; over = over; scan = t .scan }) (xs ++ ys) b
+        → counted
+        (record {
+          lines = addRows xs (t .lines);
+          kept = t .kept + keptIn xs;
+          loose = t .loose + looseIn xs;
+          over = false;
+          scan = a;
+        })
+        ys b
+        ≡ counted (record { lines = t .lines; kept = t .kept; loose = t .loose; over = over; scan = t .scan })
+        (xs ++ ys) b
     go true h = absurd (false≢true (sym h))
     go false h =
-        let k : t .kept + keptIn (xs ++ ys) ≡ t .kept + keptIn xs + keptIn ys = omega (arith, count-append (λ r. not (r .loose)) xs ys) in
-        let l : t .loose + looseIn (xs ++ ys) ≡ t .loose + looseIn xs + looseIn ys = omega (arith, count-append (λ r. r .loose) xs ys) in
+        let k : t .kept + keptIn (xs ++ ys) ≡ t .kept + keptIn xs + keptIn ys =
+        omega (arith, count-append (λ r. not (r .loose)) xs ys) in
+        let l : t .loose + looseIn (xs ++ ys) ≡ t .loose + looseIn xs + looseIn ys =
+        omega (arith, count-append (λ r. r .loose) xs ys) in
         rw (add-append xs ys (t .lines), k, l)
 
 -- a tally that no rows change: one without a line too many, or one that has none left
@@ -63,20 +77,24 @@ start-settled s h =
 
 scan-of : (t : Tally) (rows : List Row) (scan : Scan) → counted t rows scan .scan ≡ scan
 scan-of t rows scan =
-    by-test {X = counted t rows scan .scan ≡ scan} (t .over || ltb maxLines (length (addRows rows (t .lines)))) (λ h. rw h) (λ h. rw h)
+    by-test {X = counted t rows scan .scan ≡ scan}
+    (t .over || ltb maxLines (length (addRows rows (t .lines)))) (λ h. rw h) (λ h. rw h)
 
 counted-settled : (t : Tally) (rows : List Row) (scan : Scan) → Settled (counted t rows scan)
 counted-settled t rows scan =
-    ap (counted (counted t rows scan) []) (scan-of t rows scan) ∙ twice t rows [] scan scan ∙ ap (λ (l : List Row). counted t l scan) (append-nil rows)
+    ap (counted (counted t rows scan) []) (scan-of t rows scan) ∙ twice t rows [] scan scan
+    ∙ ap (λ (l : List Row). counted t l scan) (append-nil rows)
 
-tally-rows : (t : Tally) → Settled t → (blocks : List (List ℕ)) → addBlocks t blocks ≡ counted t (rowsOfBlocks blocks) (scanBlocks (t .scan) blocks)
+tally-rows : (t : Tally) → Settled t → (blocks : List (List ℕ))
+    → addBlocks t blocks ≡ counted t (rowsOfBlocks blocks) (scanBlocks (t .scan) blocks)
 unfolding addBlocks addBlock flatten scanBlocks
 tally-rows t h [] = sym h
 tally-rows t h (b ∷ bs) =
     let next = scanBlock (t .scan) b in
     let rows = rowsOfBlocks bs in
     tally-rows (counted t (countedRows b) next) (counted-settled t (countedRows b) next) bs
-    ∙ ap (λ (a : Scan). counted (counted t (countedRows b) next) rows (scanBlocks a bs)) (scan-of t (countedRows b) next)
+    ∙ ap (λ (a : Scan). counted (counted t (countedRows b) next) rows (scanBlocks a bs))
+    (scan-of t (countedRows b) next)
     ∙ twice t (countedRows b) rows next (scanBlocks next bs)
 
 -- ---- the rows of a buffer that matches
@@ -104,11 +122,16 @@ blanks-counted k (b ∷ bs) e =
 matching-counted : (k : ℕ) (bs : List (List ℕ)) → mismatchFrom k bs ≡ None → rowsOfBlocks bs ≡ flatten (map rowsOf bs)
 unfolding flatten mismatchFrom
 matching-counted k [] e = refl
-matching-counted k (b ∷ bs) e = go (isBlank b) (isSound b) (eqb (blockNumber b) k) (isShort b && isFollowed bs) (blank-counted b) (sound-counted b) (matching-counted (suc k) bs) e
+matching-counted k (b ∷ bs) e =
+    go (isBlank b) (isSound b) (eqb (blockNumber b) k) (isShort b && isFollowed bs)
+    (blank-counted b) (sound-counted b) (matching-counted (suc k) bs) e
   where
-    go : (blank sound number short : Bool) → (blank ≡ true → countedRows b ≡ rowsOf b) → (sound ≡ true → countedRows b ≡ rowsOf b)
+    go : (blank sound number short : Bool) → (blank ≡ true → countedRows b ≡ rowsOf b)
+        → (sound ≡ true → countedRows b ≡ rowsOf b)
         → (mismatchFrom (suc k) bs ≡ None → rowsOfBlocks bs ≡ flatten (map rowsOf bs))
-        → cond blank (nonZero (suc k) bs) (cond (not (sound && number)) (At k) (cond short (At k) (mismatchFrom (suc k) bs))) ≡ None
+        → cond blank (nonZero (suc k) bs)
+        (cond (not (sound && number)) (At k) (cond short (At k) (mismatchFrom (suc k) bs)))
+        ≡ None
         → countedRows b ++ rowsOfBlocks bs ≡ rowsOf b ++ flatten (map rowsOf bs)
     go true sound number short f g ih q = ap₂ _++_ (f refl) (blanks-counted (suc k) bs q)
     go false true true true f g ih q = absurd (at-none k q)
@@ -135,7 +158,8 @@ module _ (s : Report) (buffer : List ℕ) (r : isReport s ≡ true) (w : isWhole
   stage-is : stageFound (tally .scan .stage) ≡ mismatch buffer
   stage-is =
       ap (λ (u : Tally). stageFound (u .scan .stage)) tally-is
-      ∙ ap (λ (a : Scan). stageFound (a .stage)) (scan-of (startTally s) (rowsOfBlocks (blocksIn buffer)) scan) ∙ scan-found buffer
+      ∙ ap (λ (a : Scan). stageFound (a .stage)) (scan-of (startTally s) (rowsOfBlocks (blocksIn buffer)) scan)
+      ∙ scan-found buffer
 
   damaged : (k : ℕ) → mismatch buffer ≡ At k → answer (numberOf Mismatch) k s ≡ addOf s buffer
   unfolding addOf verdict
@@ -144,14 +168,17 @@ module _ (s : Report) (buffer : List ℕ) (r : isReport s ≡ true) (w : isWhole
   matched : mismatch buffer ≡ None → closed s (counted (startTally s) (rowsIn buffer) scan) None ≡ addOf s buffer
   unfolding addOf verdict added
   matched e =
-      by-test {X = closed s (counted (startTally s) (rowsIn buffer) scan) None ≡ addOf s buffer} (ltb maxLines (length (addRows (rowsIn buffer) (s .lines))))
+      by-test {X = closed s (counted (startTally s) (rowsIn buffer) scan) None ≡ addOf s buffer}
+      (ltb maxLines (length (addRows (rowsIn buffer) (s .lines))))
       (λ h. rw (r, w, e, h))
       (λ h. rw (r, w, e, h))
 
   by-found : (f : Found) → mismatch buffer ≡ f → closed s tally f ≡ addOf s buffer
   by-found (At k) e = damaged k e
   by-found None e =
-      ap (λ (t : Tally). closed s t None) (tally-is ∙ ap (λ (rows : List Row). counted (startTally s) rows scan) (rows-counted buffer e)) ∙ matched e
+      ap (λ (t : Tally). closed s t None)
+      (tally-is ∙ ap (λ (rows : List Row). counted (startTally s) rows scan) (rows-counted buffer e))
+      ∙ matched e
 
   pub closing-is : closing s tally ≡ addOf s buffer
   unfolding closing

@@ -44,21 +44,25 @@ module _ (i : ℕ) (a : Line) where
   abbrev after : List Line → List Line
   after l = cond (eqb (a .identity) i) (merged a l) l
 
-  before-at : (m : List Line) → all (λ b. ltb (a .identity) (b .identity)) m ≡ true → linesAt i (a ∷ m) ≡ after (linesAt i m)
+  before-at : (m : List Line) → all (λ b. ltb (a .identity) (b .identity)) m ≡ true
+      → linesAt i (a ∷ m) ≡ after (linesAt i m)
   before-at m h =
       by-test {X = linesAt i (a ∷ m) ≡ after (linesAt i m)} (eqb (a .identity) i)
       (λ t.
-      let e : linesAt i m ≡ [] = ap (λ (j : ℕ). linesAt j m) (sym (eqb-true (a .identity) i t)) ∙ none-at (a .identity) m h in
+      let e : linesAt i m ≡ [] =
+      ap (λ (j : ℕ). linesAt j m) (sym (eqb-true (a .identity) i t)) ∙ none-at (a .identity) m h in
       rw (t, e))
       (λ f. rw f)
 
-  same-at : (c : Line) (l : List Line) → a .identity ≡ c .identity → linesAt i (joined a c ∷ l) ≡ after (linesAt i (c ∷ l))
+  same-at : (c : Line) (l : List Line) → a .identity ≡ c .identity
+      → linesAt i (joined a c ∷ l) ≡ after (linesAt i (c ∷ l))
   same-at c l e =
       by-test {X = linesAt i (joined a c ∷ l) ≡ after (linesAt i (c ∷ l))} (eqb (a .identity) i)
       (λ t. rw (← e, t))
       (λ f. rw (← e, f))
 
-  behind-at : (c : Line) (l m : List Line) → c .identity < a .identity → linesAt i m ≡ after (linesAt i l) → linesAt i (c ∷ m) ≡ after (linesAt i (c ∷ l))
+  behind-at : (c : Line) (l m : List Line) → c .identity < a .identity
+      → linesAt i m ≡ after (linesAt i l) → linesAt i (c ∷ m) ≡ after (linesAt i (c ∷ l))
   behind-at c l m h k =
       by-test {X = linesAt i (c ∷ m) ≡ after (linesAt i (c ∷ l))} (eqb (a .identity) i)
       (λ t.
@@ -85,10 +89,12 @@ given (r ∷ rows) = merged (lineOf r) (given rows)
 lines-at : (i : ℕ) (rows : List Row) → linesAt i (addRows rows []) ≡ given (rowsFrom i rows)
 lines-at i [] = ap (linesAt i) (add-none [])
 lines-at i (r ∷ rows) =
-    ap (linesAt i) (add-first r rows []) ∙ insert-at i (lineOf r) (addRows rows []) (rising-added [] rows refl) ∙ step (eqb (identityOf r) i) (lines-at i rows)
+    ap (linesAt i) (add-first r rows []) ∙ insert-at i (lineOf r) (addRows rows []) (rising-added [] rows refl)
+    ∙ step (eqb (identityOf r) i) (lines-at i rows)
   where
     step : (t : Bool) → linesAt i (addRows rows []) ≡ given (rowsFrom i rows)
-        → cond t (merged (lineOf r) (linesAt i (addRows rows []))) (linesAt i (addRows rows [])) ≡ given (cond t (r ∷ rowsFrom i rows) (rowsFrom i rows))
+        → cond t (merged (lineOf r) (linesAt i (addRows rows []))) (linesAt i (addRows rows []))
+        ≡ given (cond t (r ∷ rowsFrom i rows) (rowsFrom i rows))
     step true e = ap (merged (lineOf r)) e
     step false e = e
 
@@ -179,7 +185,9 @@ given-counts r (q ∷ rows) =
 pub line-counts : (rows : List Row) (a : Line) → List·Memᴰ a (addRows rows []) → Counts (rowsFrom (a .identity) rows) a
 line-counts rows a m =
     let i = a .identity in
-    go (rowsFrom i rows) (subst (λ (l : List Line). List·Memᴰ a l) (lines-at i rows) (keep-in (λ (b : Line). eqb (b .identity) i) m (eq-eqb i i refl)))
+    go (rowsFrom i rows)
+    (subst (λ (l : List Line). List·Memᴰ a l) (lines-at i rows)
+    (keep-in (λ (b : Line). eqb (b .identity) i) m (eq-eqb i i refl)))
   where
     go : (own : List Row) → List·Memᴰ a (given own) → Counts own a
     go [] n = absurd (List·Memᴰ·not-nil n)
@@ -208,9 +216,13 @@ module _ (i : ℕ) where
   any-insert a (c ∷ l) =
       insert-cases (λ (m : List Line). hasLine m ≡ (eqb (a .identity) i || hasLine (c ∷ l))) a c l
       (λ k. refl)
-      (λ k. or-twice (eqb (a .identity) i) (hasLine l) ∙ ap (λ (j : ℕ). eqb (a .identity) i || (eqb j i || hasLine l)) k)
-      (λ k. ap (λ (t : Bool). eqb (c .identity) i || t) (any-insert a l) ∙ or-swap (eqb (c .identity) i) (eqb (a .identity) i) (hasLine l))
+      (λ k. or-twice (eqb (a .identity) i) (hasLine l)
+      ∙ ap (λ (j : ℕ). eqb (a .identity) i || (eqb j i || hasLine l)) k)
+      (λ k. ap (λ (t : Bool). eqb (c .identity) i || t) (any-insert a l)
+      ∙ or-swap (eqb (c .identity) i) (eqb (a .identity) i) (hasLine l))
 
   pub any-added : (rows : List Row) → hasLine (addRows rows []) ≡ any (λ r. eqb (identityOf r) i) rows
   any-added [] = ap hasLine (add-none [])
-  any-added (r ∷ rows) = ap hasLine (add-first r rows []) ∙ any-insert (lineOf r) (addRows rows []) ∙ ap (λ (t : Bool). eqb (identityOf r) i || t) (any-added rows)
+  any-added (r ∷ rows) =
+      ap hasLine (add-first r rows []) ∙ any-insert (lineOf r) (addRows rows [])
+      ∙ ap (λ (t : Bool). eqb (identityOf r) i || t) (any-added rows)

@@ -36,7 +36,8 @@ one b h = and-true (lt-ltb b 256 h) refl
 pub be-bytes : (w n : ℕ) → areBytes (be w n) ≡ true
 unfolding be
 be-bytes zero n = refl
-be-bytes (suc w) n = all-append isByte (be w (n / 256)) (n % 256 ∷ []) (be-bytes w (n / 256)) (one (n % 256) (omega arith))
+be-bytes (suc w) n =
+    all-append isByte (be w (n / 256)) (n % 256 ∷ []) (be-bytes w (n / 256)) (one (n % 256) (omega arith))
 
 step-byte : (crc b : ℕ) → crc < 256 → b < 256 → stepOf crc b < 256
 unfolding stepOf
@@ -71,7 +72,8 @@ sealed-bytes body t = all-append isByte body (crcOf body ∷ []) t (one (crcOf b
 abbrev pub isPlain : Row → Bool
 isPlain r = isRow r && areBytes (r .bytes)
 
-cell-of : (time last : ℕ) (bytes : List ℕ) → length bytes < 256 → areBytes bytes ≡ true → areBytes (cellOf time bytes last) ≡ true
+cell-of : (time last : ℕ) (bytes : List ℕ) → length bytes < 256
+    → areBytes bytes ≡ true → areBytes (cellOf time bytes last) ≡ true
 unfolding cellOf
 cell-of time last bytes h t =
     let head : List ℕ = be 8 time ++ (length bytes ∷ []) in
@@ -89,17 +91,20 @@ row-cell r t =
 
 header-bytes : (k n : ℕ) → n < 256 → areBytes (rowsHeader k n) ≡ true
 header-bytes k n h =
-    all-append isByte (be 4 k ++ (n ∷ [])) (replicate 19 0) (all-append isByte (be 4 k) (n ∷ []) (be-bytes 4 k) (one n h))
+    all-append isByte (be 4 k ++ (n ∷ [])) (replicate 19 0)
+    (all-append isByte (be 4 k) (n ∷ []) (be-bytes 4 k) (one n h))
     (all-repeated isByte 19 0 refl)
 
-pub block-bytes : (k : ℕ) (rows : List Row) → length rows ≤ cellsPerBlock → all isPlain rows ≡ true → areBytes (rowsBlock k rows) ≡ true
+pub block-bytes : (k : ℕ) (rows : List Row) → length rows ≤ cellsPerBlock
+    → all isPlain rows ≡ true → areBytes (rowsBlock k rows) ≡ true
 unfolding rowsBlock blockOf
 block-bytes k rows few t =
     let head = rowsHeader k (length rows) in
     let cells = flatten (map rowCell rows) in
     sealed-bytes (padded bodyLength (head ++ cells))
     (padded-bytes bodyLength (head ++ cells)
-    (all-append isByte head cells (header-bytes k (length rows) (omega arith)) (all-flat isByte isPlain rowCell row-cell rows t)))
+    (all-append isByte head cells (header-bytes k (length rows) (omega arith))
+    (all-flat isByte isPlain rowCell row-cell rows t)))
 
 every : (l : List ℕ) → all (λ k. true) l ≡ true
 every [] = refl
@@ -112,5 +117,6 @@ buffer-bytes n rows t =
     padded-bytes n (flatten (map (λ k. rowsBlock k (rowsAt k rows)) blocks))
     (all-flat isByte (λ k. true) (λ k. rowsBlock k (rowsAt k rows))
     (λ k e.
-    block-bytes k (rowsAt k rows) (omega (arith, length-take cellsPerBlock (drop (cellsPerBlock * k) rows))) (all-part isPlain (cellsPerBlock * k) cellsPerBlock rows t))
+    block-bytes k (rowsAt k rows) (omega (arith, length-take cellsPerBlock (drop (cellsPerBlock * k) rows)))
+    (all-part isPlain (cellsPerBlock * k) cellsPerBlock rows t))
     blocks (every blocks))
