@@ -33,7 +33,10 @@ pub check-failed : (s : List ℕ) → isValid s ≡ false → Failed (checkOf s)
 unfolding checkOf
 check-failed s =
     branch (λ n. eqb n 0 ≡ false → Failed n) (isLengthWrong s) (λ _ _. length-wrong)
-    λ _. branch (λ n. eqb n 0 ≡ false → Failed n) (not (isHashed s)) (λ _ _. branch (λ (why : Refusal). Failed (numberOf why)) (splitOf (statusOf s) .crc) (λ _. crc-wrong) (λ _. sum-wrong))
-    λ _. branch (λ n. eqb n 0 ≡ false → Failed n) (isAddressed s && ltb (length s) minAddressedLength) (λ _ _. length-wrong)
+    λ _. branch (λ n. eqb n 0 ≡ false → Failed n) (not (isHashed s))
+    (λ _ _. branch (λ (why : Refusal). Failed (numberOf why))
+    (splitOf (statusOf s) .crc) (λ _. crc-wrong) (λ _. sum-wrong))
+    λ _. branch (λ n. eqb n 0 ≡ false → Failed n)
+    (isAddressed s && ltb (length s) minAddressedLength) (λ _ _. length-wrong)
     λ _. branch (λ n. eqb n 0 ≡ false → Failed n) (isAddressed s && isNested s) (λ _ _. nested)
     λ _ h. absurd (false≢true (sym h))

@@ -42,9 +42,11 @@ module _ (more : ℕ → ℕ) (q : Entry → Bool) where
       go false false = rw (ne-eqb 0 (suc (length l)) (λ e. absurd (omega arith)))
   credit-at d (x ∷ l) (suc k) h = go (any q l) (q x) (credit-at d l k (le-of-suc-le-suc h))
     where
-      go : (c b : Bool) → getD (credit more q l) k d ≡ cond (eqb k (lastIndex q l)) (recount more (getD l k d)) (getD l k d)
+      go : (c b : Bool)
+          → getD (credit more q l) k d ≡ cond (eqb k (lastIndex q l)) (recount more (getD l k d)) (getD l k d)
           → getD (cond c (x ∷ credit more q l) (cond b (recount more x ∷ l) (x ∷ l))) (suc k) d
-          ≡ cond (eqb (suc k) (cond c (suc (lastIndex q l)) (cond b 0 (suc (length l))))) (recount more (getD l k d)) (getD l k d)
+          ≡ cond (eqb (suc k) (cond c (suc (lastIndex q l)) (cond b 0 (suc (length l)))))
+          (recount more (getD l k d)) (getD l k d)
       go true b ih = ih ∙ ap (λ (t : Bool). cond t (recount more (getD l k d)) (getD l k d)) (eqb-suc k (lastIndex q l))
       go false true ih = rw (ne-eqb (suc k) 0 (λ e. absurd (omega arith)))
       go false false ih = rw (ne-eqb (suc k) (suc (length l)) (λ e. absurd (omega arith)))
@@ -70,12 +72,14 @@ module _ (more : ℕ → ℕ) (q : Entry → Bool) where
       λ _. branch (λ m. all p m ≡ true) (q x) (λ _. and-true (h x (w .0)) (w .1)) (λ _. e)
 
   pub pairwise-credit : (r : Entry → Entry → Bool)
-      → ((x y : Entry) → r x y ≡ true → r (recount more x) y ≡ true) → ((x y : Entry) → r x y ≡ true → r x (recount more y) ≡ true)
+      → ((x y : Entry) → r x y ≡ true → r (recount more x) y ≡ true)
+      → ((x y : Entry) → r x y ≡ true → r x (recount more y) ≡ true)
       → (l : List Entry) → pairwise r l ≡ true → pairwise r (credit more q l) ≡ true
   pairwise-credit r left right [] e = refl
   pairwise-credit r left right (x ∷ l) e =
       let w = both (all (r x) l) (pairwise r l) e in
-      branch (λ m. pairwise r m ≡ true) (any q l) (λ _. and-true (all-credit (r x) (right x) l (w .0)) (pairwise-credit r left right l (w .1)))
+      branch (λ m. pairwise r m ≡ true) (any q l)
+      (λ _. and-true (all-credit (r x) (right x) l (w .0)) (pairwise-credit r left right l (w .1)))
       λ _. branch (λ m. pairwise r m ≡ true) (q x)
       (λ _. and-true (all-both (r x) (r x) (r (recount more x)) (λ y k _. left x y k) l (w .0) (w .0)) (w .1)) (λ _. e)
 
@@ -83,7 +87,8 @@ module _ (more : ℕ → ℕ) (q : Entry → Bool) where
 
   -- where what passes is kept, and a count does not matter for it, the credit is the same before and after
   pub keep-credit : (p : Entry → Bool) → ((e : Entry) → p (recount more e) ≡ p e) → (r : Entry → Bool)
-      → ((e : Entry) → r e ≡ true → q e ≡ true → p e ≡ true) → (l : List Entry) → all r l ≡ true → keep p (credit more q l) ≡ credit more q (keep p l)
+      → ((e : Entry) → r e ≡ true → q e ≡ true → p e ≡ true) → (l : List Entry)
+      → all r l ≡ true → keep p (credit more q l) ≡ credit more q (keep p l)
   keep-credit p still r h [] a = refl
   keep-credit p still r h (x ∷ l) a =
       let w = both (r x) (all r l) a in
@@ -91,7 +96,8 @@ module _ (more : ℕ → ℕ) (q : Entry → Bool) where
     where
       go : (c d : Bool) → q x ≡ d → (b : Bool) → p x ≡ b → (d ≡ true → b ≡ true) → any q (keep p l) ≡ c
           → keep p (credit more q l) ≡ credit more q (keep p l)
-          → keep p (cond c (x ∷ credit more q l) (cond d (recount more x ∷ l) (x ∷ l))) ≡ credit more q (cond b (x ∷ keep p l) (keep p l))
+          → keep p (cond c (x ∷ credit more q l) (cond d (recount more x ∷ l) (x ∷ l)))
+          ≡ credit more q (cond b (x ∷ keep p l) (keep p l))
       go true d e true f k al ih = rw (f, al, ih)
       go true d e false f k al ih = rw (f, ih)
       go false true e true f k al ih = rw (still x, f, al, e)
@@ -101,20 +107,23 @@ module _ (more : ℕ → ℕ) (q : Entry → Bool) where
 
   -- where what passes is not kept, what is kept stays as it is
   pub keep-other : (p : Entry → Bool) → ((e : Entry) → p (recount more e) ≡ p e) → (r : Entry → Bool)
-      → ((e : Entry) → r e ≡ true → q e ≡ true → p e ≡ false) → (l : List Entry) → all r l ≡ true → keep p (credit more q l) ≡ keep p l
+      → ((e : Entry) → r e ≡ true → q e ≡ true → p e ≡ false) → (l : List Entry)
+      → all r l ≡ true → keep p (credit more q l) ≡ keep p l
   keep-other p still r h [] a = refl
   keep-other p still r h (x ∷ l) a =
       let w = both (r x) (all r l) a in
       go (any q l) (q x) (h x (w .0)) (keep-other p still r h l (w .1))
     where
       go : (c d : Bool) → (d ≡ true → p x ≡ false) → keep p (credit more q l) ≡ keep p l
-          → keep p (cond c (x ∷ credit more q l) (cond d (recount more x ∷ l) (x ∷ l))) ≡ cond (p x) (x ∷ keep p l) (keep p l)
+          → keep p (cond c (x ∷ credit more q l) (cond d (recount more x ∷ l) (x ∷ l)))
+          ≡ cond (p x) (x ∷ keep p l) (keep p l)
       go true d k ih = rw ih
       go false true k ih = rw (still x, k refl)
       go false false k ih = refl
 
 -- among those that pass p, p need not be asked again
-pub credit-and : (more : ℕ → ℕ) (p q : Entry → Bool) (l : List Entry) → credit more (λ e. p e && q e) (keep p l) ≡ credit more q (keep p l)
+pub credit-and : (more : ℕ → ℕ) (p q : Entry → Bool) (l : List Entry)
+    → credit more (λ e. p e && q e) (keep p l) ≡ credit more q (keep p l)
 credit-and more p q l = same (keep p l) (passed l)
   where
     passed : (l : List Entry) → all p (keep p l) ≡ true
@@ -136,18 +145,22 @@ pub credit-cap : (q : Entry → Bool) → ((e : Entry) → q (recount capped e) 
     → map (recount capped) (credit (λ n. n + 1) q l) ≡ credit (λ n. capped (n + 1)) q (map (recount capped) l)
 credit-cap q still [] = refl
 credit-cap q still (x ∷ l) =
-    let same : any q (map (recount capped) l) ≡ any q l = any-map (recount capped) q l ∙ (λ i. any (λ e. still e i) l) in
+    let same : any q (map (recount capped) l) ≡ any q l =
+    any-map (recount capped) q l ∙ (λ i. any (λ e. still e i) l) in
     rw (same, still x) (go (any q l) (q x) (credit-cap q still l))
   where
     on : capped (x .copies + 1) ≡ capped (capped (x .copies) + 1)
     on = omega arith
 
-    go : (c b : Bool) → map (recount capped) (credit (λ n. n + 1) q l) ≡ credit (λ n. capped (n + 1)) q (map (recount capped) l)
+    go : (c b : Bool)
+        → map (recount capped) (credit (λ n. n + 1) q l) ≡ credit (λ n. capped (n + 1)) q (map (recount capped) l)
         → map (recount capped) (cond c (x ∷ credit (λ n. n + 1) q l) (cond b (recount (λ n. n + 1) x ∷ l) (x ∷ l)))
         ≡ cond c (recount capped x ∷ credit (λ n. capped (n + 1)) q (map (recount capped) l))
-        (cond b (recount (λ n. capped (n + 1)) (recount capped x) ∷ map (recount capped) l) (recount capped x ∷ map (recount capped) l))
+        (cond b (recount (λ n. capped (n + 1)) (recount capped x) ∷ map (recount capped) l)
+        (recount capped x ∷ map (recount capped) l))
     go true b ih = ap (λ (m : List Entry). recount capped x ∷ m) ih
-    go false true ih = ap (λ (n : ℕ). record { bytes = x .bytes; time = x .time; copies = n } ∷ map (recount capped) l) on
+    go false true ih =
+        ap (λ (n : ℕ). record { bytes = x .bytes; time = x .time; copies = n } ∷ map (recount capped) l) on
     go false false ih = refl
 
 pub cap-small : (l : List Entry) → all (λ e. leb (e .copies) ceiling) l ≡ true → map (recount capped) l ≡ l

@@ -38,19 +38,22 @@ count-at : (l : List Entry) (n : ℕ) → n < length l → getD (copiesIn l) n 0
 count-at l n h = getD-map (λ e. e .copies) l n noEntry 0 h
 
 credited-at : (q : Entry → Bool) (l : List Entry) (n : ℕ) → n < length l
-    → getD (copiesIn (credit oneMore q l)) n 0 ≡ cond (eqb n (lastIndex q l)) (getD (copiesIn l) n 0 + 1) (getD (copiesIn l) n 0)
+    → getD (copiesIn (credit oneMore q l)) n 0
+    ≡ cond (eqb n (lastIndex q l)) (getD (copiesIn l) n 0 + 1) (getD (copiesIn l) n 0)
 credited-at q l n h =
     let k : n < length (credit oneMore q l) = omega (arith, length-credit oneMore q l) in
     let e = getD l n noEntry in
     rw (count-at (credit oneMore q l) n k, count-at l n h, credit-at oneMore q noEntry l n h)
     (cond-ap (λ (x : Entry). x .copies) (eqb n (lastIndex q l)) (recount oneMore e) e)
 
-sum-credit : (q : Entry → Bool) (l : List Entry) → any q l ≡ true → sumOf (copiesIn (credit oneMore q l)) ≡ sumOf (copiesIn l) + 1
+sum-credit : (q : Entry → Bool) (l : List Entry) → any q l ≡ true
+    → sumOf (copiesIn (credit oneMore q l)) ≡ sumOf (copiesIn l) + 1
 sum-credit q [] e = absurd (false≢true e)
 sum-credit q (x ∷ l) e = go (q x) (any q l) e (sum-credit q l)
   where
     go : (b c : Bool) → (b || c) ≡ true → (c ≡ true → sumOf (copiesIn (credit oneMore q l)) ≡ sumOf (copiesIn l) + 1)
-        → sumOf (copiesIn (cond c (x ∷ credit oneMore q l) (cond b (recount oneMore x ∷ l) (x ∷ l)))) ≡ x .copies + sumOf (copiesIn l) + 1
+        → sumOf (copiesIn (cond c (x ∷ credit oneMore q l) (cond b (recount oneMore x ∷ l) (x ∷ l))))
+        ≡ x .copies + sumOf (copiesIn l) + 1
     go b true h ih = omega (arith, ih refl)
     go true false h ih = omega arith
     go false false h ih = absurd (false≢true h)
@@ -62,7 +65,8 @@ sum-opened (x ∷ l) r = ap (λ (n : ℕ). x .copies + n) (sum-opened l r)
 -- ---- the log
 
 -- a Copy answer is given where an open telegram passes
-copy-found : (log : List Logged) (r : Reception) → isCopy (answerTo log r) ≡ true → any (isOpenCopy r) (keptOf log) ≡ true
+copy-found : (log : List Logged) (r : Reception)
+    → isCopy (answerTo log r) ≡ true → any (isOpenCopy r) (keptOf log) ≡ true
 unfolding answerTo
 copy-found log r h =
     let P : Shown → Type 0 = λ a. isCopy a ≡ true → any (λ e. isCopyOf e r) (openAt (r .time) log) ≡ true in
@@ -71,7 +75,9 @@ copy-found log r h =
     (λ _. branch P (not (isValid (r .bytes))) (λ _ e. absurd (false≢true e))
     (λ _. branch P (isBehind (r .time) log) (λ _ e. absurd (false≢true e))
     (λ _. branch P (any (λ e. isCopyOf e r) (openAt (r .time) log)) (λ e _. e)
-    (λ _. branch P (leb capacity (length (openAt (r .time) log))) (λ _ e. absurd (false≢true e)) (λ _ e. absurd (false≢true e))))))) h
+    (λ _. branch P (leb capacity (length (openAt (r .time) log)))
+    (λ _ e. absurd (false≢true e)) (λ _ e. absurd (false≢true e)))))))
+    h
 
 record Counted (log : List Logged) : Type 0 where
   numbers : (n : ℕ) → n < length (keptOf log) → getD (copiesIn (keptOf log)) n 0 ≡ copyAnswers n log
@@ -105,7 +111,8 @@ counted-more log r Copy h o =
           let low : n < length l = omega (arith, length-credit oneMore q l) in
           credited-at q l n low ∙ ap (λ (c : ℕ). cond (eqb n (lastIndex q l)) (c + 1) c) (o .numbers n low);
       past = λ n k.
-          let other : n ≡ lastIndex q l → ⊥ = λ e. absurd (omega (arith, last-low q l found, length-credit oneMore q l)) in
+          let other : n ≡ lastIndex q l → ⊥ =
+          λ e. absurd (omega (arith, last-low q l found, length-credit oneMore q l)) in
           rw (ne-eqb n (lastIndex q l) other) (o .past n (omega (arith, length-credit oneMore q l)));
       sum = sum-credit q l found ∙ ap oneMore (o .sum);
     }
@@ -143,16 +150,19 @@ keep-end p up (x ∷ l) s =
     let none-left : suc (length l) - suc (length l) ≡ 0 = omega arith in
     rw (e, rest, none-left))
     (λ e.
-    let more : suc (length l) - length (keep p l) ≡ suc (length l - length (keep p l)) = omega (arith, length-keep p l) in
+    let more : suc (length l) - length (keep p l) ≡ suc (length l - length (keep p l)) =
+    omega (arith, length-keep p l) in
     rw (e, more) (keep-end p up l (w .1)))
   where
     all-kept : (l : List Entry) → all p l ≡ true → keep p l ≡ l
     all-kept [] e = refl
-    all-kept (y ∷ l) e = let w = both (p y) (all p l) e in rw (w .0) (ap (λ (m : List Entry). y ∷ m) (all-kept l (w .1)))
+    all-kept (y ∷ l) e = let w = both (p y) (all p l) e in
+        rw (w .0) (ap (λ (m : List Entry). y ∷ m) (all-kept l (w .1)))
 
 pub open-later : (t : ℕ) (e later : Entry) → inTime e later ≡ true → isOpen t e ≡ true → isOpen t later ≡ true
 open-later t e later h o =
-    le-leb (t - later .time) maturity (omega (arith, leb-true (t - e .time) maturity o, leb-true (e .time) (later .time) h))
+    le-leb (t - later .time) maturity
+    (omega (arith, leb-true (t - e .time) maturity o, leb-true (e .time) (later .time) h))
 
 pub heard-is-answers : HeardIsAnswers
 unfolding heardBy
@@ -161,10 +171,12 @@ heard-is-answers past k h =
     let l = keptOf log in
     let opens = openAt (latestOf log) log in
     let long : length (copiesIn opens) ≡ length opens = length-map opens (λ e. e .copies) in
-    let end : opens ≡ drop (closedOf log) l = keep-end (isOpen (latestOf log)) (open-later (latestOf log)) l (ordered past .order) in
+    let end : opens ≡ drop (closedOf log) l =
+    keep-end (isOpen (latestOf log)) (open-later (latestOf log)) l (ordered past .order) in
     let few : length opens ≤ length l = length-keep (isOpen (latestOf log)) l in
     let counts : getD (copiesIn opens) k 0 ≡ copyAnswers (closedOf log + k) log =
-    count-at opens k h ∙ ap (λ (m : List Entry). getD m k noEntry .copies) end ∙ ap (λ (e : Entry). e .copies) (getD-drop (closedOf log) l k noEntry)
+    count-at opens k h ∙ ap (λ (m : List Entry). getD m k noEntry .copies) end
+    ∙ ap (λ (e : Entry). e .copies) (getD-drop (closedOf log) l k noEntry)
     ∙ sym (count-at l (closedOf log + k) (omega arith)) ∙ counted past .numbers (closedOf log + k) (omega arith)
     in
     rw (lt-ltb k (length (copiesIn opens)) (omega (arith, long)), counts)
@@ -196,4 +208,5 @@ module _ (l m : List Entry) (e : map openedBy l ≡ map openedBy m) where
 
 pub any-number : AnyNumber
 unfolding acceptable
-any-number v l e = rw (same-length l (v .entries) e, same-entries l (v .entries) e (v .latest), same-order l (v .entries) e)
+any-number v l e =
+    rw (same-length l (v .entries) e, same-entries l (v .entries) e (v .latest), same-order l (v .entries) e)

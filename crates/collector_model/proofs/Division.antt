@@ -25,12 +25,14 @@ replies-long setting past (r ∷ rs) = ap suc (replies-long setting (r ∷ past)
 
 -- those of a burst share its setting
 replies-joined : (setting : ℕ) (past rs : List Reception) (more : List Given)
-    → repliesAt past (map (givenAt setting) rs ++ more) ≡ repliesBy setting past rs ++ repliesAt (pastAfter past rs) more
+    → repliesAt past (map (givenAt setting) rs ++ more)
+    ≡ repliesBy setting past rs ++ repliesAt (pastAfter past rs) more
 replies-joined setting past [] more = refl
 replies-joined setting past (r ∷ rs) more = ap₂ _∷_ refl (replies-joined setting (r ∷ past) rs more)
 
 -- the replies in what is expected are the reference model's to the receptions alone
-pub expected-replies : (past : List Reception) (h : List Call) → repliesIn h (expected past h) ≡ repliesAt past (receptionsOf h)
+pub expected-replies : (past : List Reception) (h : List Call)
+    → repliesIn h (expected past h) ≡ repliesAt past (receptionsOf h)
 expected-replies past [] = refl
 expected-replies past (Receive setting r ∷ h) = ap₂ _∷_ refl (expected-replies (r ∷ past) h)
 expected-replies past (Checkpoint output ∷ h) = expected-replies past h

@@ -34,7 +34,8 @@ module _ (k used a b : ℕ) where
   pub header-first : a < 2 ^ 64 → headerFirst (headerOf k used a b) ≡ a
   unfolding headerOf
   header-first h =
-      ap unbe (left toSecond (be 8 b) 16 8 8 second-at (omega arith) ∙ last toFirst (be 8 a) 8 8 refl (be-length 8 a)) ∙ unbe-be 8 a h
+      ap unbe (left toSecond (be 8 b) 16 8 8 second-at (omega arith) ∙ last toFirst (be 8 a) 8 8 refl (be-length 8 a))
+      ∙ unbe-be 8 a h
 
   pub header-second : b < 2 ^ 64 → headerSecond (headerOf k used a b) ≡ b
   unfolding headerOf

@@ -39,7 +39,8 @@ more : (m n : ℕ) → min m n + min 15 (n - m) ≡ min (m + 15) n
 more m n = omega arith
 
 -- an acceptable view has it
-fits-cell : (latest : ℕ) (e : Entry) → latest < 2 ^ 64 → isEntry latest e ≡ true → leb (e .copies) ceiling ≡ true → fitsCell e ≡ true
+fits-cell : (latest : ℕ) (e : Entry) → latest < 2 ^ 64 → isEntry latest e ≡ true
+    → leb (e .copies) ceiling ≡ true → fitsCell e ≡ true
 fits-cell latest e fits is small =
     and-true (lt-ltb (e .time) (2 ^ 64) (omega (arith, entry-before latest e is)))
     (and-true (le-leb (length (e .bytes)) cellCapacity (valid-length (e .bytes) (entry-valid latest e is))) small)
@@ -55,7 +56,8 @@ fits-layout {v} g = record {
   late = omega (arith, g .totals .sum, g .totals .fits);
   few = omega (arith, g .entries .few);
   entries =
-      all-both (isEntry (v .latest)) (λ e. leb (e .copies) ceiling) fitsCell (λ e. fits-cell (v .latest) e (g .entries .fits)) (v .entries)
+      all-both (isEntry (v .latest)) (λ e. leb (e .copies) ceiling) fitsCell
+      (λ e. fits-cell (v .latest) e (g .entries .fits)) (v .entries)
       (g .entries .each) (g .entries .copies);
 }
 
@@ -74,16 +76,20 @@ module _ (setting : ℕ) (v : View) where
     group-length : (k : ℕ) → length (entriesOf k v) ≡ min cellsPerBlock (count - cellsPerBlock * k)
     group-length k = simp (length-take, length-drop)
 
-    cell-at : (k i : ℕ) → i < length (entriesOf k v) → getD (map entryCell (entriesOf k v)) i [] ≡ entryCell (entryAt (cellsPerBlock * k + i))
+    cell-at : (k i : ℕ) → i < length (entriesOf k v)
+        → getD (map entryCell (entriesOf k v)) i [] ≡ entryCell (entryAt (cellsPerBlock * k + i))
     cell-at k i h =
         getD-map entryCell (entriesOf k v) i noEntry [] h
-        ∙ ap entryCell (part-at (cellsPerBlock * k) cellsPerBlock (v .entries) i noEntry (omega (arith, group-length k)))
+        ∙ ap entryCell
+        (part-at (cellsPerBlock * k) cellsPerBlock (v .entries) i noEntry (omega (arith, group-length k)))
 
     pub cells-long : (k : ℕ) → Each cellLength (map entryCell (entriesOf k v))
     cells-long k i h =
         let l : i < length (entriesOf k v) = rw (length-map (entriesOf k v) entryCell) at h in
         let e = entryAt (cellsPerBlock * k + i) in
-        ap length (cell-at k i l) ∙ cell-length (e .time) (e .bytes) (e .copies) (short (cellsPerBlock * k + i) (omega (arith, group-length k)))
+        ap length (cell-at k i l)
+        ∙ cell-length (e .time) (e .bytes) (e .copies)
+        (short (cellsPerBlock * k + i) (omega (arith, group-length k)))
 
     pub cells-few : (k : ℕ) → length (map entryCell (entriesOf k v)) ≤ cellsPerBlock
     cells-few k = omega (arith, length-map (entriesOf k v) entryCell, group-length k)
@@ -102,7 +108,8 @@ module _ (setting : ℕ) (v : View) where
     unfolding imageBlock
     blocks-long k h =
         let w = block-at k h in
-        ap length (w .2) ∙ block-length _ _ (header-length k (length (entriesOf k v)) (w .0) (w .1)) (cells-long k) (cells-few k)
+        ap length (w .2)
+        ∙ block-length _ _ (header-length k (length (entriesOf k v)) (w .0) (w .1)) (cells-long k) (cells-few k)
 
     written-length : length (imageWith setting v) ≡ imageLength
     unfolding imageWith
@@ -115,7 +122,9 @@ module _ (setting : ℕ) (v : View) where
     module _ (k a b : ℕ) (low : k < 5) (is : getD (blocksOf setting v) k [] ≡ imageBlock k a b v) where
       header-in : blockHeader (blockIn k (imageWith setting v)) ≡ headerOf k (length (entriesOf k v)) a b
       unfolding imageBlock
-      header-in = ap blockHeader (block-in k low ∙ is) ∙ block-header _ _ (header-length k (length (entriesOf k v)) a b) (cells-long k) (cells-few k)
+      header-in =
+          ap blockHeader (block-in k low ∙ is)
+          ∙ block-header _ _ (header-length k (length (entriesOf k v)) a b) (cells-long k) (cells-few k)
 
       used-in : usedIn k (imageWith setting v) ≡ min cellsPerBlock (count - cellsPerBlock * k)
       used-in = ap headerUsed header-in ∙ header-used k (length (entriesOf k v)) a b ∙ group-length k
@@ -126,15 +135,18 @@ module _ (setting : ℕ) (v : View) where
       second-in : b < 2 ^ 64 → secondIn k (imageWith setting v) ≡ b
       second-in h = ap headerSecond header-in ∙ header-second k (length (entriesOf k v)) a b h
 
-      cell-in : (i : ℕ) → i < length (entriesOf k v) → blockCell i (blockIn k (imageWith setting v)) ≡ entryCell (entryAt (cellsPerBlock * k + i))
+      cell-in : (i : ℕ) → i < length (entriesOf k v)
+          → blockCell i (blockIn k (imageWith setting v)) ≡ entryCell (entryAt (cellsPerBlock * k + i))
       unfolding imageBlock
       cell-in i h =
           ap (blockCell i) (block-in k low ∙ is)
-          ∙ block-cell _ _ (header-length k (length (entriesOf k v)) a b) (cells-long k) (cells-few k) i (omega (arith, length-map (entriesOf k v) entryCell))
+          ∙ block-cell _ _ (header-length k (length (entriesOf k v)) a b) (cells-long k)
+          (cells-few k) i (omega (arith, length-map (entriesOf k v) entryCell))
           ∙ cell-at k i h
 
     -- the cell of each entry
-    pub cell-written : (i : ℕ) → i < count → count ≤ 5 * cellsPerBlock → blockCell (i % 15) (blockIn (i / 15) (imageWith setting v)) ≡ entryCell (entryAt i)
+    pub cell-written : (i : ℕ) → i < count → count ≤ 5 * cellsPerBlock
+        → blockCell (i % 15) (blockIn (i / 15) (imageWith setting v)) ≡ entryCell (entryAt i)
     cell-written i h few =
         let k : i / 15 < 5 = omega arith in
         let w = block-at (i / 15) k in
@@ -150,7 +162,8 @@ module _ (setting : ℕ) (v : View) where
     timed : (i : ℕ) → i < count → entryAt i .time < 2 ^ 64
     timed i h = ltb-true (entryAt i .time) (2 ^ 64) (both (ltb (entryAt i .time) (2 ^ 64)) _ (room i h) .0)
 
-    sized : (i : ℕ) → i < count → (leb (length (entryAt i .bytes)) cellCapacity ≡ true) × (leb (entryAt i .copies) ceiling ≡ true)
+    sized : (i : ℕ) → i < count
+        → (leb (length (entryAt i .bytes)) cellCapacity ≡ true) × (leb (entryAt i .copies) ceiling ≡ true)
     sized i h = both _ (leb (entryAt i .copies) ceiling) (both (ltb (entryAt i .time) (2 ^ 64)) _ (room i h) .1)
 
     short : (i : ℕ) → i < count → length (entryAt i .bytes) ≤ cellCapacity
@@ -195,12 +208,14 @@ module _ (setting : ℕ) (v : View) where
 
     entries-in : map (entryIn (imageWith setting v)) (upFrom 0 (countIn (imageWith setting v))) ≡ v .entries
     entries-in =
-        let long : length (map (entryIn (imageWith setting v)) (upFrom 0 count)) ≡ count = length-map (upFrom 0 count) (entryIn (imageWith setting v)) ∙ length-upFrom 0 count in
+        let long : length (map (entryIn (imageWith setting v)) (upFrom 0 count)) ≡ count =
+        length-map (upFrom 0 count) (entryIn (imageWith setting v)) ∙ length-upFrom 0 count in
         rw count-in
         (ext-getD noEntry (map (entryIn (imageWith setting v)) (upFrom 0 count)) (v .entries) long
         (λ i h.
         let low : i < count = omega arith in
-        getD-upFrom (entryIn (imageWith setting v)) 0 count i noEntry low ∙ ap (entryIn (imageWith setting v)) (zero-add i) ∙ entry-in i low))
+        getD-upFrom (entryIn (imageWith setting v)) 0 count i noEntry low
+        ∙ ap (entryIn (imageWith setting v)) (zero-add i) ∙ entry-in i low))
 
     pub parse-image : parse (imageWith setting v) ≡ v
     unfolding parse totalsIn

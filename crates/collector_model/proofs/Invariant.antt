@@ -71,7 +71,8 @@ good-fresh = record {
 
 -- ---- entries
 
-entry : (latest : ℕ) (e : Entry) → isValid (e .bytes) ≡ true → e .time ≤ latest → isOpen latest e ≡ true → isEntry latest e ≡ true
+entry : (latest : ℕ) (e : Entry) → isValid (e .bytes) ≡ true
+    → e .time ≤ latest → isOpen latest e ≡ true → isEntry latest e ≡ true
 entry latest e p q o = and-true p (and-true (le-leb (e .time) latest q) o)
 
 -- what is known of one
@@ -80,7 +81,9 @@ entry-valid latest e p = both (isValid (e .bytes)) (leb (e .time) latest && isOp
 
 pub entry-before : (latest : ℕ) (e : Entry) → isEntry latest e ≡ true → e .time ≤ latest
 entry-before latest e p =
-    leb-true (e .time) latest (both (leb (e .time) latest) (isOpen latest e) (both (isValid (e .bytes)) (leb (e .time) latest && isOpen latest e) p .1) .0)
+    leb-true (e .time) latest
+    (both (leb (e .time) latest) (isOpen latest e)
+    (both (isValid (e .bytes)) (leb (e .time) latest && isOpen latest e) p .1) .0)
 
 -- at a later time t the entries no longer open are gone
 module _ {latest t : ℕ} {l : List Entry} (g : GoodEntries latest l) (h : latest ≤ t) (fits : t < 2 ^ 64) where
@@ -92,7 +95,8 @@ module _ {latest t : ℕ} {l : List Entry} (g : GoodEntries latest l) (h : lates
     each = all-keep (isEntry latest) (isOpen t) (isEntry t) still-entry l (g .each);
     order = pairwise-keep mayFollow (isOpen t) l (g .order);
     few = omega (arith, length-keep (isOpen t) l);
-    copies = all-keep (λ e. leb (e .copies) ceiling) (isOpen t) (λ e. leb (e .copies) ceiling) (λ e p _. p) l (g .copies);
+    copies =
+        all-keep (λ e. leb (e .copies) ceiling) (isOpen t) (λ e. leb (e .copies) ceiling) (λ e p _. p) l (g .copies);
     fits = fits;
   }
 
@@ -101,14 +105,16 @@ module _ {l : List Entry} (r : Reception) (g : GoodEntries (r .time) l) where
   follow : (e : Entry) → isEntry (r .time) e ≡ true → not (isCopyOf e r) ≡ true → mayFollow e (opened r) ≡ true
   follow e p q = and-true (le-leb (e .time) (r .time) (entry-before (r .time) e p)) q
 
-  good-add : isValid (r .bytes) ≡ true → any (λ e. isCopyOf e r) l ≡ false → length l < capacity → GoodEntries (r .time) (l ++ (opened r ∷ []))
+  good-add : isValid (r .bytes) ≡ true → any (λ e. isCopyOf e r) l ≡ false
+      → length l < capacity → GoodEntries (r .time) (l ++ (opened r ∷ []))
   good-add valid new room = record {
     each =
         all-last (isEntry (r .time)) l (opened r) (g .each)
         (entry (r .time) (opened r) valid (omega arith) (le-leb (r .time - r .time) maturity (omega arith)));
     order =
         pairwise-last mayFollow l (opened r) (g .order)
-        (all-both (isEntry (r .time)) (λ e. not (isCopyOf e r)) (λ e. mayFollow e (opened r)) follow l (g .each) (none (λ e. isCopyOf e r) l new));
+        (all-both (isEntry (r .time)) (λ e. not (isCopyOf e r))
+        (λ e. mayFollow e (opened r)) follow l (g .each) (none (λ e. isCopyOf e r) l new));
     few = omega (arith, length-append l (opened r ∷ []));
     copies = all-last (λ e. leb (e .copies) ceiling) l (opened r) (g .copies) refl;
     fits = g .fits;
@@ -131,7 +137,9 @@ module _ {latest : ℕ} {l : List Entry} (q : Entry → Bool) (g : GoodEntries l
     each = all-credit more q (isEntry latest) (λ e h. h) l (g .each);
     order = pairwise-credit more q mayFollow (follows-left more) (follows-right more) l (g .order);
     few = omega (arith, length-credit more q l);
-    copies = all-credit more q (λ e. leb (e .copies) ceiling) (λ e _. le-leb (more (e .copies)) ceiling (omega arith)) l (g .copies);
+    copies =
+        all-credit more q (λ e. leb (e .copies) ceiling)
+        (λ e _. le-leb (more (e .copies)) ceiling (omega arith)) l (g .copies);
     fits = g .fits;
   }
 
@@ -146,14 +154,16 @@ module _ (v : View) (r : Reception) where
     late : v .totals .received < maxCount → Classified (Refused (numberOf refusal.Late))
     copy : v .totals .received < maxCount → v .latest ≤ r .time → Classified Copy
     loose : v .totals .received < maxCount → v .latest ≤ r .time → Classified Loose
-    kept : v .totals .received < maxCount → v .latest ≤ r .time → isValid (r .bytes) ≡ true → isKnown v r ≡ false → isCrowded v r ≡ false → Classified Kept
+    kept : v .totals .received < maxCount → v .latest ≤ r .time → isValid (r .bytes) ≡ true
+        → isKnown v r ≡ false → isCrowded v r ≡ false → Classified Kept
 
   pub classified : Classified (classify v r)
   unfolding classify
   classified =
       branch Classified (not (acceptable v)) (λ _. unacceptable)
       λ _. branch Classified (leb maxCount (v .totals .received)) (λ _. full)
-      λ m. branch Classified (not (isValid (r .bytes))) (λ w. damaged (check-failed (r .bytes) (not-true _ w)) (leb-false _ _ m))
+      λ m. branch Classified (not (isValid (r .bytes)))
+      (λ w. damaged (check-failed (r .bytes) (not-true _ w)) (leb-false _ _ m))
       λ w. branch Classified (ltb (r .time) (v .latest)) (λ _. late (leb-false _ _ m))
       λ t. branch Classified (isKnown v r) (λ _. copy (leb-false _ _ m) (ltb-false _ _ t))
       λ c. branch Classified (isCrowded v r) (λ _. loose (leb-false _ _ m) (ltb-false _ _ t))
@@ -181,13 +191,24 @@ module _ (v : View) (r : Reception) where
     good-advance (late m) = record { entries = g .entries; totals = omega arith }
     good-advance (copy m t) = record {
       entries = good-credit (λ e. isCopyOf e r) (good-still (g .entries) t small);
-      totals = omega (arith, length-credit more (λ e. isCopyOf e r) (stillOpen (r .time) v), length-keep (isOpen (r .time)) (v .entries));
+      totals =
+          omega (
+            arith,
+            length-credit more (λ e. isCopyOf e r) (stillOpen (r .time) v),
+            length-keep (isOpen (r .time)) (v .entries),
+          );
     }
     good-advance (loose m t) = record {
       entries = good-still (g .entries) t small;
       totals = omega (arith, length-keep (isOpen (r .time)) (v .entries));
     }
     good-advance (kept m t w c l) = record {
-      entries = good-add r (good-still (g .entries) t small) w c (leb-false capacity (length (stillOpen (r .time) v)) l);
-      totals = omega (arith, length-keep (isOpen (r .time)) (v .entries), length-append (stillOpen (r .time) v) (opened r ∷ []));
+      entries =
+          good-add r (good-still (g .entries) t small) w c (leb-false capacity (length (stillOpen (r .time) v)) l);
+      totals =
+          omega (
+            arith,
+            length-keep (isOpen (r .time)) (v .entries),
+            length-append (stillOpen (r .time) v) (opened r ∷ []),
+          );
     }

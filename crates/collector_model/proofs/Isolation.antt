@@ -52,7 +52,8 @@ not-late t (r ∷ past) h =
     let w = both (leb (r .time) t) (all (λ e. leb (e .time) t) past) h in
     go (isAccepted (answerTo (logOf past) r)) (w .0) (not-late t past (w .1))
   where
-    go : (b : Bool) → leb (r .time) t ≡ true → isBehind t (logOf past) ≡ false → ((b && ltb t (r .time)) || isBehind t (logOf past)) ≡ false
+    go : (b : Bool) → leb (r .time) t ≡ true → isBehind t (logOf past) ≡ false
+        → ((b && ltb t (r .time)) || isBehind t (logOf past)) ≡ false
     go true p ih = rw (le-ltb t (r .time) (leb-true (r .time) t p), ih)
     go false p ih = ih
 
@@ -60,10 +61,12 @@ not-late t (r ∷ past) h =
 quiet-answer : (past : List Reception) (r : Reception) → length past < maxCount → isValid (r .bytes) ≡ true
     → all (λ e. leb (e .time) (r .time)) past ≡ true
     → answerTo (logOf past) r
-    ≡ cond (any (λ e. isCopyOf e r) (openAt (r .time) (logOf past))) Copy (cond (leb capacity (length (openAt (r .time) (logOf past)))) Loose Kept)
+    ≡ cond (any (λ e. isCopyOf e r) (openAt (r .time) (logOf past))) Copy
+    (cond (leb capacity (length (openAt (r .time) (logOf past)))) Loose Kept)
 unfolding answerTo
 quiet-answer past r few w h =
-    let low : answers isReceived (logOf past) < maxCount = omega (arith, count-length (λ e. isReceived (e .answer)) (logOf past), length-log past) in
+    let low : answers isReceived (logOf past) < maxCount =
+    omega (arith, count-length (λ e. isReceived (e .answer)) (logOf past), length-log past) in
     rw (lt-leb maxCount (answers isReceived (logOf past)) low, w, not-late (r .time) past h)
 
 -- what is accepted is valid, and so is every telegram that is opened
@@ -79,7 +82,8 @@ all-valid : (past : List Reception) → all (λ e. isValid (e .bytes)) (keptOf (
 all-valid [] = refl
 all-valid (r ∷ past) = go (answerTo (logOf past) r) (accepted-valid (logOf past) r) (all-valid past)
   where
-    go : (a : Shown) → (isAccepted a ≡ true → isValid (r .bytes) ≡ true) → all (λ e. isValid (e .bytes)) (keptOf (logOf past)) ≡ true
+    go : (a : Shown) → (isAccepted a ≡ true → isValid (r .bytes) ≡ true)
+        → all (λ e. isValid (e .bytes)) (keptOf (logOf past)) ≡ true
         → all (λ e. isValid (e .bytes)) (keptAfter (keptOf (logOf past)) r a) ≡ true
     go Kept h ih = all-last (λ e. isValid (e .bytes)) (keptOf (logOf past)) (opened r) ih (h refl)
     go Copy h ih =
@@ -97,7 +101,8 @@ copy-txid e r ve vr c =
 
 module _ (x : List ℕ) where
   -- so it is x's just where its telegram is
-  copy-owner : (e : Entry) (r : Reception) → isValid (e .bytes) ≡ true → isValid (r .bytes) ≡ true → isCopyOf e r ≡ true → isEntryOf x e ≡ isOf x r
+  copy-owner : (e : Entry) (r : Reception) → isValid (e .bytes) ≡ true
+      → isValid (r .bytes) ≡ true → isCopyOf e r ≡ true → isEntryOf x e ≡ isOf x r
   copy-owner e r ve vr c = rw (ve, vr) (ap (λ (t : List ℕ). equal t x) (copy-txid e r ve vr c))
 
   -- ---- the telegrams opened by x
@@ -112,7 +117,8 @@ module _ (x : List ℕ) where
         → keep (isEntryOf x) (keptAfter l r a) ≡ keptAfter (keep (isEntryOf x) l) r a
     kept-mine Kept h is = keep-last (isEntryOf x) l (opened r) is
     kept-mine Copy h is =
-        keep-credit (λ n. n + 1) (isOpenCopy r) (isEntryOf x) (λ e. refl) (λ e. isValid (e .bytes)) (owner (h refl) true is) l valid
+        keep-credit (λ n. n + 1) (isOpenCopy r) (isEntryOf x) (λ e. refl)
+        (λ e. isValid (e .bytes)) (owner (h refl) true is) l valid
     kept-mine Loose h is = refl
     kept-mine (Refused n) h is = refl
 
@@ -120,7 +126,8 @@ module _ (x : List ℕ) where
         → keep (isEntryOf x) (keptAfter l r a) ≡ keep (isEntryOf x) l
     kept-other Kept h is = rw (keep-append (isEntryOf x) l (opened r ∷ []), is) (append-nil (keep (isEntryOf x) l))
     kept-other Copy h is =
-        keep-other (λ n. n + 1) (isOpenCopy r) (isEntryOf x) (λ e. refl) (λ e. isValid (e .bytes)) (owner (h refl) false is) l valid
+        keep-other (λ n. n + 1) (isOpenCopy r) (isEntryOf x) (λ e. refl)
+        (λ e. isValid (e .bytes)) (owner (h refl) false is) l valid
     kept-other Loose h is = refl
     kept-other (Refused n) h is = refl
 
@@ -129,12 +136,17 @@ module _ (x : List ℕ) where
   kept-of (r ∷ past) = go (isOf x r) refl (kept-of past)
     where
       go : (b : Bool) → isOf x r ≡ b → keptOf (loggedOf x past) ≡ keep (isEntryOf x) (keptOf (logOf past))
-          → keptOf (cond b (record { reception = r; answer = answerTo (logOf past) r } ∷ loggedOf x past) (loggedOf x past))
+          → keptOf (cond b (record { reception = r; answer = answerTo (logOf past) r } ∷ loggedOf x past)
+          (loggedOf x past))
           ≡ keep (isEntryOf x) (keptAfter (keptOf (logOf past)) r (answerTo (logOf past) r))
       go true is ih =
           ap (λ (l : List Entry). keptAfter l r (answerTo (logOf past) r)) ih
-          ∙ sym (kept-mine r (keptOf (logOf past)) (all-valid past) (answerTo (logOf past) r) (accepted-valid (logOf past) r) is)
-      go false is ih = ih ∙ sym (kept-other r (keptOf (logOf past)) (all-valid past) (answerTo (logOf past) r) (accepted-valid (logOf past) r) is)
+          ∙ sym (kept-mine r (keptOf (logOf past)) (all-valid past)
+          (answerTo (logOf past) r) (accepted-valid (logOf past) r) is)
+      go false is ih =
+          ih
+          ∙ sym (kept-other r (keptOf (logOf past)) (all-valid past)
+          (answerTo (logOf past) r) (accepted-valid (logOf past) r) is)
 
   -- ---- a reception of x, after the receptions of all and after those of x alone
 
@@ -142,10 +154,14 @@ module _ (x : List ℕ) where
   valid-of r mine = both (isValid (r .bytes)) (equal (fieldsOf (r .bytes) .txid) x) mine .0
 
   earlier : (r : Reception) (past : List Reception) → Quiet (r ∷ past) → all (λ e. leb (e .time) (r .time)) past ≡ true
-  earlier r past h = both (all (λ e. leb (e .time) (r .time)) past) (pairwise (λ s e. leb (e .time) (s .time)) past) (h .order) .0
+  earlier r past h =
+      both (all (λ e. leb (e .time) (r .time)) past) (pairwise (λ s e. leb (e .time) (s .time)) past) (h .order) .0
 
-  earlier-mine : (r : Reception) (past : List Reception) → Quiet (r ∷ past) → all (λ e. leb (e .time) (r .time)) (keep (isOf x) past) ≡ true
-  earlier-mine r past h = all-keep (λ e. leb (e .time) (r .time)) (isOf x) (λ e. leb (e .time) (r .time)) (λ e p q. p) past (earlier r past h)
+  earlier-mine : (r : Reception) (past : List Reception) → Quiet (r ∷ past)
+      → all (λ e. leb (e .time) (r .time)) (keep (isOf x) past) ≡ true
+  earlier-mine r past h =
+      all-keep (λ e. leb (e .time) (r .time)) (isOf x)
+      (λ e. leb (e .time) (r .time)) (λ e p q. p) past (earlier r past h)
 
   module _ (r : Reception) (past : List Reception) (h : Quiet (r ∷ past)) (mine : isOf x r ≡ true)
       (ih : loggedOf x past ≡ logOf (keep (isOf x) past)) where
@@ -157,12 +173,15 @@ module _ (x : List ℕ) where
 
     same-copy : any (λ e. isCopyOf e r) (keep (isEntryOf x) opens) ≡ any (λ e. isCopyOf e r) opens
     same-copy =
-        any-keep (λ e. isCopyOf e r) (isEntryOf x) (λ e. isValid (e .bytes)) (λ e w c. copy-owner e r w (valid-of r mine) c ∙ mine) opens
-        (all-keep (λ e. isValid (e .bytes)) (isOpen (r .time)) (λ e. isValid (e .bytes)) (λ e p q. p) (keptOf (logOf past)) (all-valid past))
+        any-keep (λ e. isCopyOf e r) (isEntryOf x) (λ e. isValid (e .bytes))
+        (λ e w c. copy-owner e r w (valid-of r mine) c ∙ mine) opens
+        (all-keep (λ e. isValid (e .bytes)) (isOpen (r .time)) (λ e. isValid (e .bytes))
+        (λ e p q. p) (keptOf (logOf past)) (all-valid past))
 
     crowded : leb capacity (length (keep (isEntryOf x) opens)) ≡ true → leb capacity (length opens) ≡ true
     crowded e =
-        le-leb capacity (length opens) (omega (arith, leb-true capacity (length (keep (isEntryOf x) opens)) e, length-keep (isEntryOf x) opens))
+        le-leb capacity (length opens)
+        (omega (arith, leb-true capacity (length (keep (isEntryOf x) opens)) e, length-keep (isEntryOf x) opens))
 
     same-answer : answerTo (logOf past) r ≡ answerTo (logOf (keep (isOf x) past)) r
     same-answer =
@@ -170,9 +189,11 @@ module _ (x : List ℕ) where
         let few : length (keep (isOf x) past) < maxCount = omega (arith, h .few, length-keep (isOf x) past) in
         let x-past = quiet-answer (keep (isOf x) past) r few (valid-of r mine) (earlier-mine r past h) in
         let loose = isLoose (answerTo (logOf past) r) in
-        let quiet : loose ≡ false = not-true loose (both (not loose) (all (λ e. not (isLoose (e .answer))) (logOf past)) (h .room) .0) in
+        let quiet : loose ≡ false =
+        not-true loose (both (not loose) (all (λ e. not (isLoose (e .answer))) (logOf past)) (h .room) .0) in
         rw (all-past, x-past, opens-of, same-copy)
-        (no-loose (any (λ e. isCopyOf e r) opens) (leb capacity (length opens)) (leb capacity (length (keep (isEntryOf x) opens)))
+        (no-loose (any (λ e. isCopyOf e r) opens) (leb capacity (length opens))
+        (leb capacity (length (keep (isEntryOf x) opens)))
         (rw all-past at quiet) crowded)
 
 -- ---- the whole history
@@ -181,7 +202,8 @@ pub quiet-tail : (r : Reception) (past : List Reception) → Quiet (r ∷ past) 
 quiet-tail r past h = record {
   few = omega (arith, h .few);
   order = both (all (λ e. leb (e .time) (r .time)) past) (pairwise (λ s e. leb (e .time) (s .time)) past) (h .order) .1;
-  room = both (not (isLoose (answerTo (logOf past) r))) (all (λ e. not (isLoose (e .answer))) (logOf past)) (h .room) .1;
+  room =
+      both (not (isLoose (answerTo (logOf past) r))) (all (λ e. not (isLoose (e .answer))) (logOf past)) (h .room) .1;
 }
 
 pub answers-isolated : AnswersIsolated
@@ -207,7 +229,8 @@ latest-low t (r ∷ past) h =
     let w = both (leb (r .time) t) (all (λ e. leb (e .time) t) past) h in
     go (isAccepted (answerTo (logOf past) r)) (leb-true (r .time) t (w .0)) (latest-low t past (w .1))
   where
-    go : (b : Bool) → r .time ≤ t → latestOf (logOf past) ≤ t → cond b (max (r .time) (latestOf (logOf past))) (latestOf (logOf past)) ≤ t
+    go : (b : Bool) → r .time ≤ t → latestOf (logOf past) ≤ t
+        → cond b (max (r .time) (latestOf (logOf past))) (latestOf (logOf past)) ≤ t
     go true p ih = omega arith
     go false p ih = ih
 
@@ -228,8 +251,9 @@ pub entries-isolated : EntriesIsolated
 unfolding modelView
 entries-isolated x r past h mine =
     let whole = latest-now past r (omega (arith, h .few)) (valid-of x r mine) (earlier x r past h) in
-    let alone : latestOf (logOf (r ∷ keep (isOf x) past)) ≡ r .time
-    = latest-now (keep (isOf x) past) r (omega (arith, h .few, length-keep (isOf x) past)) (valid-of x r mine) (earlier-mine x r past h) in
+    let alone : latestOf (logOf (r ∷ keep (isOf x) past)) ≡ r .time =
+    latest-now (keep (isOf x) past) r (omega (arith, h .few, length-keep (isOf x) past))
+    (valid-of x r mine) (earlier-mine x r past h) in
     let struck : keep (isOf x) (r ∷ past) ≡ r ∷ keep (isOf x) past = rw mine in
     let cap : List Entry → List Entry = map (recount capped) in
     keep-map (isEntryOf x) (recount capped) (openAt (latestOf (logOf (r ∷ past))) (logOf (r ∷ past)))

@@ -35,7 +35,8 @@ any-last q up (x ∷ y ∷ l) s =
     let w = both (all (inTime x) (y ∷ l)) (pairwise inTime (y ∷ l)) s in
     go (q x) (q y) (up x y (both (inTime x y) (all (inTime x) l) (w .0) .0)) (any-last q up (y ∷ l) (w .1))
   where
-    go : (b c : Bool) → (b ≡ true → c ≡ true) → (c || any q l) ≡ any q (lastOf (y ∷ l)) → (b || (c || any q l)) ≡ any q (lastOf (y ∷ l))
+    go : (b c : Bool) → (b ≡ true → c ≡ true) → (c || any q l) ≡ any q (lastOf (y ∷ l))
+        → (b || (c || any q l)) ≡ any q (lastOf (y ∷ l))
     go true true k ih = ih
     go true false k ih = absurd (false≢true (k refl))
     go false c k ih = ih
@@ -43,19 +44,25 @@ any-last q up (x ∷ y ∷ l) s =
 later-echo : (r : Reception) (e later : Entry) → inTime e later ≡ true → isEcho e r ≡ true → isEcho later r ≡ true
 later-echo r e later h = go (not (eqb (levelOf (r .bytes)) 0))
   where
-    go : (b : Bool) → (b || leb (r .time - e .time) txMaturity) ≡ true → (b || leb (r .time - later .time) txMaturity) ≡ true
+    go : (b : Bool) → (b || leb (r .time - e .time) txMaturity) ≡ true
+        → (b || leb (r .time - later .time) txMaturity) ≡ true
     go true k = refl
-    go false k = le-leb (r .time - later .time) txMaturity (omega (arith, leb-true (r .time - e .time) txMaturity k, leb-true (e .time) (later .time) h))
+    go false k =
+        le-leb (r .time - later .time) txMaturity
+        (omega (arith, leb-true (r .time - e .time) txMaturity k, leb-true (e .time) (later .time) h))
 
-pub by-the-latest : (r : Reception) (l : List Entry) → pairwise inTime l ≡ true → any (λ e. isCopyOf e r) l ≡ any (λ e. isEcho e r) (latestSame l r)
+pub by-the-latest : (r : Reception) (l : List Entry) → pairwise inTime l ≡ true
+    → any (λ e. isCopyOf e r) l ≡ any (λ e. isEcho e r) (latestSame l r)
 unfolding isCopyOf
 by-the-latest r l s =
     any-and (λ e. isSame (e .bytes) (r .bytes)) (λ e. isEcho e r) l
-    ∙ any-last (λ e. isEcho e r) (later-echo r) (keep (λ e. isSame (e .bytes) (r .bytes)) l) (pairwise-keep inTime (λ e. isSame (e .bytes) (r .bytes)) l s)
+    ∙ any-last (λ e. isEcho e r) (later-echo r) (keep (λ e. isSame (e .bytes) (r .bytes)) l)
+    (pairwise-keep inTime (λ e. isSame (e .bytes) (r .bytes)) l s)
 
 -- ---- which is credited
 
-copy-says : (e : Entry) (r : Reception) → isCopyOf e r ≡ true → (isSame (e .bytes) (r .bytes) ≡ true) × (isEcho e r ≡ true)
+copy-says : (e : Entry) (r : Reception) → isCopyOf e r ≡ true
+    → (isSame (e .bytes) (r .bytes) ≡ true) × (isEcho e r ≡ true)
 unfolding isCopyOf
 copy-says e r h = both (isSame (e .bytes) (r .bytes)) (isEcho e r) h
 
@@ -81,7 +88,8 @@ none-kept : (p : Entry → Bool) (l : List Entry) → any p l ≡ false → keep
 none-kept p [] e = refl
 none-kept p (x ∷ l) e = let w = neither (p x) (any p l) e in rw (w .0) (none-kept p l (w .1))
 
-credits-latest : (more : ℕ → ℕ) (r : Reception) (l : List Entry) → pairwise inTime l ≡ true → any (λ e. isCopyOf e r) l ≡ true
+credits-latest : (more : ℕ → ℕ) (r : Reception) (l : List Entry)
+    → pairwise inTime l ≡ true → any (λ e. isCopyOf e r) l ≡ true
     → CreditsLatest more r l
 credits-latest more r [] s e = absurd (false≢true e)
 credits-latest more r (x ∷ l) s e =
@@ -95,7 +103,8 @@ credits-latest more r (x ∷ l) s e =
       latest = c .latest;
       after = c .after;
       place = ap (λ m. x ∷ m) (c .place);
-      named = branch (λ m. lastOf m ≡ c .latest ∷ []) (same x) (λ _. last-more x (keep same l) (c .named)) (λ _. c .named);
+      named =
+          branch (λ m. lastOf m ≡ c .latest ∷ []) (same x) (λ _. last-more x (keep same l) (c .named)) (λ _. c .named);
       last = c .last;
       credited = rw t (ap (λ m. x ∷ m) (c .credited));
     })
@@ -119,8 +128,10 @@ credits-latest more r (x ∷ l) s e =
 kept-latest : (log : List Logged) (r : Reception) → isKept (answerTo log r) ≡ true → latestOf log ≤ r .time
 unfolding answerTo
 kept-latest log r =
-    branch (λ a. isKept a ≡ true → latestOf log ≤ r .time) (leb maxCount (answers isReceived log)) (λ _ e. absurd (false≢true e))
-    λ _. branch (λ a. isKept a ≡ true → latestOf log ≤ r .time) (not (isValid (r .bytes))) (λ _ e. absurd (false≢true e))
+    branch (λ a. isKept a ≡ true → latestOf log ≤ r .time)
+    (leb maxCount (answers isReceived log)) (λ _ e. absurd (false≢true e))
+    λ _. branch (λ a. isKept a ≡ true → latestOf log ≤ r .time)
+    (not (isValid (r .bytes))) (λ _ e. absurd (false≢true e))
     λ _. branch (λ a. isKept a ≡ true → latestOf log ≤ r .time) (isBehind (r .time) log) (λ _ e. absurd (false≢true e))
     λ b e. ltb-false (r .time) (latestOf log) (sym (behind-latest (r .time) log) ∙ b)
 
@@ -129,25 +140,31 @@ pub record Ordered (log : List Logged) : Type 0 where
   pub low : all (λ e. leb (e .time) (latestOf log)) (keptOf log) ≡ true
 
 wider : {m n : ℕ} (l : List Entry) → m ≤ n → all (λ e. leb (e .time) m) l ≡ true → all (λ e. leb (e .time) n) l ≡ true
-wider {m} {n} l h a = all-both (λ e. leb (e .time) m) (λ e. leb (e .time) m) (λ e. leb (e .time) n) (λ e p _. le-leb (e .time) n (omega (arith, leb-true (e .time) m p))) l a a
+wider {m} {n} l h a =
+    all-both (λ e. leb (e .time) m) (λ e. leb (e .time) m) (λ e. leb (e .time) n)
+    (λ e p _. le-leb (e .time) n (omega (arith, leb-true (e .time) m p))) l a a
 
 up : (log : List Logged) (r : Reception) → latestOf log ≤ max (r .time) (latestOf log)
 up log r = omega arith
 
-ordered-more : (log : List Logged) (r : Reception) (a : Shown) → (isKept a ≡ true → latestOf log ≤ r .time) → Ordered log → Ordered (record { reception = r; answer = a } ∷ log)
+ordered-more : (log : List Logged) (r : Reception) (a : Shown) → (isKept a ≡ true → latestOf log ≤ r .time)
+    → Ordered log → Ordered (record { reception = r; answer = a } ∷ log)
 ordered-more log r Kept h o =
     let m = h refl in
     record {
       order = pairwise-last inTime (keptOf log) (opened r) (o .order) (wider (keptOf log) m (o .low));
       low =
-          all-last (λ e. leb (e .time) (max (r .time) (latestOf log))) (keptOf log) (opened r) (wider (keptOf log) (up log r) (o .low))
+          all-last (λ e. leb (e .time) (max (r .time) (latestOf log)))
+          (keptOf log) (opened r) (wider (keptOf log) (up log r) (o .low))
           (le-leb (r .time) (max (r .time) (latestOf log)) (omega arith));
     }
 ordered-more log r Copy h o =
     let below : Entry → Bool = λ e. leb (e .time) (max (r .time) (latestOf log)) in
     record {
       order = pairwise-credit (λ n. n + 1) (isOpenCopy r) inTime (λ x y k. k) (λ x y k. k) (keptOf log) (o .order);
-      low = all-credit (λ n. n + 1) (isOpenCopy r) below (λ e k. k) (keptOf log) (wider (keptOf log) (up log r) (o .low));
+      low =
+          all-credit (λ n. n + 1) (isOpenCopy r) below (λ e k. k)
+          (keptOf log) (wider (keptOf log) (up log r) (o .low));
     }
 ordered-more log r Loose h o = record { order = o .order; low = wider (keptOf log) (up log r) (o .low) }
 ordered-more log r (Refused n) h o = record { order = o .order; low = o .low }

@@ -20,7 +20,8 @@ module _ (v : View) (bad : acceptable v ≡ false) where
   unfolding step classify advance
   step-unacceptable r = rw bad
 
-  pub checkpoint-unacceptable : (output : List ℕ) → record { number = numberOf NotAccepted; output = output } ≡ checkpointOf v output
+  pub checkpoint-unacceptable : (output : List ℕ)
+      → record { number = numberOf NotAccepted; output = output } ≡ checkpointOf v output
   unfolding checkpointOf
   checkpoint-unacceptable output = rw bad
 
@@ -29,11 +30,13 @@ module _ (v : View) (bad : acceptable v ≡ false) where
   restore-unacceptable image = rw bad
 
 module _ (v : View) (ok : acceptable v ≡ true) (output : List ℕ) where
-  pub checkpoint-short : length output < imageLength → record { number = numberOf ShortOutput; output = output } ≡ checkpointOf v output
+  pub checkpoint-short : length output < imageLength
+      → record { number = numberOf ShortOutput; output = output } ≡ checkpointOf v output
   unfolding checkpointOf
   checkpoint-short h = rw (ok, lt-ltb (length output) imageLength h)
 
-  pub checkpoint-written : imageLength ≤ length output → record { number = 0; output = imageOf v ++ drop imageLength output } ≡ checkpointOf v output
+  pub checkpoint-written : imageLength ≤ length output
+      → record { number = 0; output = imageOf v ++ drop imageLength output } ≡ checkpointOf v output
   unfolding checkpointOf
   checkpoint-written h = rw (ok, le-ltb (length output) imageLength h)
 

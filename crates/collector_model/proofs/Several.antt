@@ -67,7 +67,8 @@ new-is before e order =
     ∙ sym (none-of (λ x. isCopyOf x r) before)
 
 -- one more before
-one-more : (before : List Entry) (e f : Entry) → all (λ x. isNew x f) (before ++ (e ∷ [])) ≡ (all (λ x. isNew x f) before && isNew e f)
+one-more : (before : List Entry) (e f : Entry)
+    → all (λ x. isNew x f) (before ++ (e ∷ [])) ≡ (all (λ x. isNew x f) before && isNew e f)
 one-more [] e f = go (isNew e f)
   where
     go : (b : Bool) → (b && true) ≡ b
@@ -96,8 +97,10 @@ each-new before (e ∷ l) order =
     let split : all (λ f. all (λ x. isNew x f) behind) l ≡ (all (λ f. all (λ x. isNew x f) before) l && all (isNew e) l)
     = all-ext (λ f. all (λ x. isNew x f) behind) (λ f. all (λ x. isNew x f) before && isNew e f) (one-more before e) l
     ∙ all-and (λ f. all (λ x. isNew x f) before) (isNew e) l in
-    regroup (all (λ x. isNew x e) before) (all (λ f. all (λ x. isNew x f) before) l) (all (isNew e) l) (pairwise isNew l)
-    ∙ ap₂ _&&_ (sym (new-is before e (front before (e ∷ l) order))) (ap (λ (b : Bool). b && pairwise isNew l) (sym split) ∙ rest)
+    regroup (all (λ x. isNew x e) before) (all (λ f. all (λ x. isNew x f) before) l)
+    (all (isNew e) l) (pairwise isNew l)
+    ∙ ap₂ _&&_ (sym (new-is before e (front before (e ∷ l) order)))
+    (ap (λ (b : Bool). b && pairwise isNew l) (sym split) ∙ rest)
 
 -- behind none
 none-before : (l : List Entry) → all (λ e. all (λ x. isNew x e) []) l ≡ true

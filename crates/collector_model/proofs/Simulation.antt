@@ -46,7 +46,8 @@ behind-latest t [] = sym (le-ltb t 0 (omega arith))
 behind-latest t (e ∷ log) = go (isAccepted (e .answer)) (behind-latest t log)
   where
     go : (b : Bool) → isBehind t log ≡ ltb t (latestOf log)
-        → ((b && ltb t (e .reception .time)) || isBehind t log) ≡ ltb t (cond b (max (e .reception .time) (latestOf log)) (latestOf log))
+        → ((b && ltb t (e .reception .time)) || isBehind t log)
+        ≡ ltb t (cond b (max (e .reception .time) (latestOf log)) (latestOf log))
     go true ih = ap (λ x. ltb t (e .reception .time) || x) ih ∙ ltb-max t (e .reception .time) (latestOf log)
     go false ih = ih
 
@@ -62,11 +63,14 @@ capped-copy : (r : Reception) (e : Entry) → isCopyOf (recount capped e) r ≡ 
 unfolding isCopyOf
 capped-copy r e = refl
 
-any-capped : (r : Reception) (l : List Entry) → any (λ e. isCopyOf e r) (map (recount capped) l) ≡ any (λ e. isCopyOf e r) l
+any-capped : (r : Reception) (l : List Entry)
+    → any (λ e. isCopyOf e r) (map (recount capped) l) ≡ any (λ e. isCopyOf e r) l
 any-capped r l = any-map (recount capped) (λ e. isCopyOf e r) l ∙ (λ i. any (λ e. capped-copy r e i) l)
 
-still-capped : {t u : ℕ} → t ≤ u → (log : List Logged) → keep (isOpen u) (map (recount capped) (openAt t log)) ≡ map (recount capped) (openAt u log)
-still-capped {t} {u} h log = keep-map (isOpen u) (recount capped) (openAt t log) ∙ ap (map (recount capped)) (still-open h log)
+still-capped : {t u : ℕ} → t ≤ u → (log : List Logged)
+    → keep (isOpen u) (map (recount capped) (openAt t log)) ≡ map (recount capped) (openAt u log)
+still-capped {t} {u} h log =
+    keep-map (isOpen u) (recount capped) (openAt t log) ∙ ap (map (recount capped)) (still-open h log)
 
 -- of the telegrams still open, a copy is one of the last of which it is a copy
 credit-open : (r : Reception) (l : List Entry)
@@ -141,5 +145,6 @@ same-heard log k g =
     (λ e. rw (good-acceptable g, open-length, count-length, e, le-ltb k (length l) (leb-true (length l) k e)))
     (λ e.
     let low : k < length l = leb-false (length l) k e in
-    let at : getD (map capped (copiesIn l)) k 0 ≡ capped (getD (copiesIn l) k 0) = getD-map capped (copiesIn l) k 0 0 (omega (arith, count-length)) in
+    let at : getD (map capped (copiesIn l)) k 0 ≡ capped (getD (copiesIn l) k 0) =
+    getD-map capped (copiesIn l) k 0 0 (omega (arith, count-length)) in
     rw (good-acceptable g, open-length, count-length, e, lt-ltb k (length l) low, counts-capped l, at))

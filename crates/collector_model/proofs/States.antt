@@ -18,7 +18,8 @@ use Rattle.collector_model.proofs.Division.{any-division}
 
 -- the receptions of a burst, and those of the calls after it
 pub past-joined : (setting : ℕ) (past rs : List Reception) (more : List Given)
-    → pastAfter past (map (λ g. g .reception) (map (givenAt setting) rs ++ more)) ≡ pastAfter (pastAfter past rs) (map (λ g. g .reception) more)
+    → pastAfter past (map (λ g. g .reception) (map (givenAt setting) rs ++ more))
+    ≡ pastAfter (pastAfter past rs) (map (λ g. g .reception) more)
 past-joined setting past [] more = refl
 past-joined setting past (r ∷ rs) more = past-joined setting (r ∷ past) rs more
 
@@ -29,7 +30,9 @@ module _ {State : Type 0} (view : State → View) where
   shows-run (saved e t) = rw (← e) (ap₂ _∷_ refl (shows-run t))
   shows-run (restored e t) = rw (← e) (ap₂ _∷_ refl (shows-run t))
   shows-run (resumed e d f t) = rw (← e, ← d, ← f) (ap₂ _∷_ refl (ap₂ _∷_ refl (shows-run t)))
-  shows-run (delivered {h = h} e t) = ap₂ _∷_ refl (shows-run t) ∙ ap (λ (b : BurstResult). Delivered (b .number) (b .replies) (b .next .totals) ∷ run (b .next) h) e
+  shows-run (delivered {h = h} e t) =
+      ap₂ _∷_ refl (shows-run t)
+      ∙ ap (λ (b : BurstResult). Delivered (b .number) (b .replies) (b .next .totals) ∷ run (b .next) h) e
   shows-run (asked e t) = rw (← e) (ap₂ _∷_ refl (shows-run t))
   shows-run (looked t) = ap₂ _∷_ refl (shows-run t)
 
@@ -45,7 +48,8 @@ module _ {State : Type 0} (view : State → View) where
 
   pub states-divide : StatesDivide view
   states-divide h h′ ok ok′ e c d from-c from-d l m t u =
-      ap (repliesIn h) (fresh-shows from-c t) ∙ any-division h h′ ok ok′ e ∙ sym (ap (repliesIn h′) (fresh-shows from-d u))
+      ap (repliesIn h) (fresh-shows from-c t) ∙ any-division h h′ ok ok′ e
+      ∙ sym (ap (repliesIn h′) (fresh-shows from-d u))
 
   -- ---- the state that is left
 
@@ -55,7 +59,8 @@ module _ {State : Type 0} (view : State → View) where
   left-model past ended e g ok = e
   left-model past (received {r = r} f s t) e g ok =
       left-model (r ∷ past) t
-      (ap (λ (o : Outcome). o .next) f ∙ ap (λ (v : View). step v r .next) e ∙ ap (λ (o : Outcome). o .next) (same-step (logOf past) r g))
+      (ap (λ (o : Outcome). o .next) f ∙ ap (λ (v : View). step v r .next) e
+      ∙ ap (λ (o : Outcome). o .next) (same-step (logOf past) r g))
       (good-after (logOf past) r g (ok .0)) (ok .1)
   left-model past (saved f t) e g ok = left-model past t e g ok
   left-model past (restored {image = image} f t) e g ok =

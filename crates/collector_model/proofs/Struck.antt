@@ -33,7 +33,8 @@ receptions-one-by-one (g ∷ gs) = ap (λ (l : List Given). g ∷ l) (receptions
 abbrev pub AllTimely : List Given → Type 0
 AllTimely gs = Timely (bare gs)
 
-burst-timely : (setting : ℕ) (rs : List Reception) (gs : List Given) → Timely rs → AllTimely gs → AllTimely (map (givenAt setting) rs ++ gs)
+burst-timely : (setting : ℕ) (rs : List Reception) (gs : List Given)
+    → Timely rs → AllTimely gs → AllTimely (map (givenAt setting) rs ++ gs)
 burst-timely setting [] gs t u = u
 burst-timely setting (r ∷ rs) gs t u = (t .0, burst-timely setting rs gs (t .1) u)
 
@@ -44,7 +45,8 @@ history-timely (Checkpoint output ∷ h) ok = history-timely h ok
 history-timely (Restore image ∷ h) ok = history-timely h (ok .1)
 history-timely (Cut output ∷ h) ok = history-timely h (ok .1)
 history-timely (Burst setting rs places ∷ h) ok =
-    burst-timely setting (burstTaken setting rs places) (receptionsOf h) (taken-timely setting rs places (ok .0)) (history-timely h (ok .1))
+    burst-timely setting (burstTaken setting rs places) (receptionsOf h)
+    (taken-timely setting rs places (ok .0)) (history-timely h (ok .1))
 history-timely (Ask k ∷ h) ok = history-timely h ok
 history-timely (Look ∷ h) ok = history-timely h ok
 
@@ -56,7 +58,8 @@ module _ (x : List ℕ) where
   kept-history [] t = tt
   kept-history (g ∷ gs) t = go (mine g) (kept-history gs (t .1))
     where
-      go : (b : Bool) → IsHistory (oneByOne (keep mine gs)) → IsHistory (oneByOne (cond b (g ∷ keep mine gs) (keep mine gs)))
+      go : (b : Bool) → IsHistory (oneByOne (keep mine gs))
+          → IsHistory (oneByOne (cond b (g ∷ keep mine gs) (keep mine gs)))
       go true ok = (t .0, ok)
       go false ok = ok
 
@@ -69,7 +72,8 @@ module _ (x : List ℕ) where
   past-kept past (g ∷ gs) = go (mine g) refl (past-kept (g .reception ∷ past) gs)
     where
       go : (b : Bool) → mine g ≡ b
-          → pastAfter (keep (isOf x) (g .reception ∷ past)) (bare (keep mine gs)) ≡ keep (isOf x) (pastAfter (g .reception ∷ past) (bare gs))
+          → pastAfter (keep (isOf x) (g .reception ∷ past)) (bare (keep mine gs))
+          ≡ keep (isOf x) (pastAfter (g .reception ∷ past) (bare gs))
           → pastAfter (keep (isOf x) past) (bare (cond b (g ∷ keep mine gs) (keep mine gs)))
           ≡ keep (isOf x) (pastAfter (g .reception ∷ past) (bare gs))
       go true e ih = rw e at ih
@@ -96,11 +100,13 @@ module _ (x : List ℕ) where
       reply a = record { answer = a; sent = sentWith (g .setting) a (g .reception) }
 
       go : (b : Bool) → mine g ≡ b → Quiet (g .reception ∷ past)
-          → repliesOf x gs (repliesAt (g .reception ∷ past) gs) ≡ repliesAt (keep (isOf x) (g .reception ∷ past)) (keep mine gs)
+          → repliesOf x gs (repliesAt (g .reception ∷ past) gs)
+          ≡ repliesAt (keep (isOf x) (g .reception ∷ past)) (keep mine gs)
           → cond b (reply (answerTo (logOf past) (g .reception)) ∷ repliesOf x gs (repliesAt (g .reception ∷ past) gs))
           (repliesOf x gs (repliesAt (g .reception ∷ past) gs))
           ≡ repliesAt (keep (isOf x) past) (cond b (g ∷ keep mine gs) (keep mine gs))
-      go true e q ih = ap₂ (λ (a : Shown) (l : List Replied). reply a ∷ l) (answer-isolated x (g .reception) past q e) (rw e at ih)
+      go true e q ih =
+          ap₂ (λ (a : Shown) (l : List Replied). reply a ∷ l) (answer-isolated x (g .reception) past q e) (rw e at ih)
       go false e q ih = rw e at ih
 
   -- ---- entries
@@ -124,9 +130,11 @@ module _ {State : Type 0} (view : State → View) where
       record {
         replies =
             ap (repliesOf x (receptionsOf h)) (replies-shown from-c ok t) ∙ replies-isolated x [] (receptionsOf h) q
-            ∙ ap (repliesAt []) (sym (receptions-one-by-one (keep (mine x) (receptionsOf h)))) ∙ sym (replies-shown from-d alone u);
+            ∙ ap (repliesAt []) (sym (receptions-one-by-one (keep (mine x) (receptionsOf h))))
+            ∙ sym (replies-shown from-d alone u);
         entries = λ newest.
-            ap (λ (v : View). keep (isEntryOf x) (v .entries)) (states-left view h ok c from-c l t) ∙ newest-isolated x (pastOf h) q newest
+            ap (λ (v : View). keep (isEntryOf x) (v .entries)) (states-left view h ok c from-c l t)
+            ∙ newest-isolated x (pastOf h) q newest
             ∙ ap (λ (p : List Reception). modelView (logOf p) .entries) (sym (struck-past x h))
             ∙ sym (ap (λ (v : View). v .entries) (states-left view (struck x h) alone d from-d m u));
       }

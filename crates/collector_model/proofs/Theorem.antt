@@ -43,13 +43,17 @@ module _ (log : List Logged) (output : List ℕ) where
   same-checkpoint g = rw (good-acceptable g)
 
   -- into room
-  pub saved : imageLength ≤ length output → savedBy log output ≡ record { number = 0; output = imageOf (modelView log) ++ drop imageLength output }
+  pub saved : imageLength ≤ length output
+      → savedBy log output ≡ record { number = 0; output = imageOf (modelView log) ++ drop imageLength output }
   unfolding savedBy
   saved room = rw (le-ltb (length output) imageLength room)
 
   -- the bytes it wrote
-  pub front : Good (modelView log) → take imageLength (imageOf (modelView log) ++ drop imageLength output) ≡ imageOf (modelView log)
-  front g = take-at (imageOf (modelView log)) (drop imageLength output) imageLength (image-length 0 (modelView log) (fits-layout g))
+  pub front : Good (modelView log)
+      → take imageLength (imageOf (modelView log) ++ drop imageLength output) ≡ imageOf (modelView log)
+  front g =
+      take-at (imageOf (modelView log)) (drop imageLength output) imageLength
+      (image-length 0 (modelView log) (fits-layout g))
 
 -- ---- receptions one by one, from the reference model's view
 
@@ -58,7 +62,8 @@ pub burst-after : (past rs : List Reception) → Good (modelView (logOf past)) �
 unfolding afterAll
 burst-after past [] g t = refl
 burst-after past (r ∷ rs) g t =
-    ap (λ (o : Outcome). afterAll (o .next) rs) (same-step (logOf past) r g) ∙ burst-after (r ∷ past) rs (good-after (logOf past) r g (t .0)) (t .1)
+    ap (λ (o : Outcome). afterAll (o .next) rs) (same-step (logOf past) r g)
+    ∙ burst-after (r ∷ past) rs (good-after (logOf past) r g (t .0)) (t .1)
 
 burst-replies : (setting : ℕ) (past rs : List Reception) → Good (modelView (logOf past)) → Timely rs
     → repliesTo setting (modelView (logOf past)) rs ≡ repliesBy setting past rs
@@ -66,22 +71,42 @@ unfolding repliesTo
 burst-replies setting past [] g t = refl
 burst-replies setting past (r ∷ rs) g t =
     ap (λ (o : Outcome). replyWith setting (o .answer) r ∷ repliesTo setting (o .next) rs) (same-step (logOf past) r g)
-    ∙ ap₂ _∷_ (ap (λ (f : Frame). record { answer = answerTo (logOf past) r; sent = f }) (same-sent setting (answerTo (logOf past) r) r))
+    ∙ ap₂ _∷_
+    (ap (λ (f : Frame). record { answer = answerTo (logOf past) r; sent = f })
+    (same-sent setting (answerTo (logOf past) r) r))
     (burst-replies setting (r ∷ past) rs (good-after (logOf past) r g (t .0)) (t .1))
 
-pub burst-good : (past rs : List Reception) → Good (modelView (logOf past)) → Timely rs → Good (modelView (logOf (pastAfter past rs)))
+pub burst-good : (past rs : List Reception) → Good (modelView (logOf past))
+    → Timely rs → Good (modelView (logOf (pastAfter past rs)))
 burst-good past [] g t = g
 burst-good past (r ∷ rs) g t = burst-good (r ∷ past) rs (good-after (logOf past) r g (t .0)) (t .1)
 
 -- a burst is not refused for its arguments just where each reception has a place, they are at most 256, and the setting is at most 2
-not-refused : (setting n m : ℕ) → eqb (callNumber setting n m) 0 ≡ (leb n m && (leb n maxBurst && leb setting maxSetting))
+not-refused : (setting n m : ℕ)
+    → eqb (callNumber setting n m) 0 ≡ (leb n m && (leb n maxBurst && leb setting maxSetting))
 unfolding callNumber
 not-refused setting n m =
     by-test (leb n m)
     (λ a. by-test (leb n maxBurst)
     (λ b. by-test (leb setting maxSetting)
-    (λ c. rw (a, b, c, le-ltb m n (leb-true n m a), le-ltb maxBurst n (leb-true n maxBurst b), le-ltb maxSetting setting (leb-true setting maxSetting c)))
-    (λ c. rw (a, b, c, le-ltb m n (leb-true n m a), le-ltb maxBurst n (leb-true n maxBurst b), lt-ltb maxSetting setting (leb-false setting maxSetting c))))
+    (λ c.
+    rw (
+      a,
+      b,
+      c,
+      le-ltb m n (leb-true n m a),
+      le-ltb maxBurst n (leb-true n maxBurst b),
+      le-ltb maxSetting setting (leb-true setting maxSetting c),
+    ))
+    (λ c.
+    rw (
+      a,
+      b,
+      c,
+      le-ltb m n (leb-true n m a),
+      le-ltb maxBurst n (leb-true n maxBurst b),
+      lt-ltb maxSetting setting (leb-false setting maxSetting c),
+    )))
     (λ b. rw (a, b, le-ltb m n (leb-true n m a), lt-ltb maxBurst n (leb-false n maxBurst b))))
     (λ a. rw (a, lt-ltb m n (leb-false n m a)))
 
@@ -89,10 +114,13 @@ timely-if : (b : Bool) (rs : List Reception) → Timely rs → Timely (cond b rs
 timely-if true rs t = t
 timely-if false rs t = tt
 
-pub taken-timely : (setting : ℕ) (rs : List Reception) (places : List Replied) → Timely rs → Timely (burstTaken setting rs places)
-taken-timely setting rs places t = timely-if (leb (length rs) (length places) && (leb (length rs) maxBurst && leb setting maxSetting)) rs t
+pub taken-timely : (setting : ℕ) (rs : List Reception) (places : List Replied)
+    → Timely rs → Timely (burstTaken setting rs places)
+taken-timely setting rs places t =
+    timely-if (leb (length rs) (length places) && (leb (length rs) maxBurst && leb setting maxSetting)) rs t
 
-module _ (setting : ℕ) (past rs : List Reception) (places : List Replied) (g : Good (modelView (logOf past))) (t : Timely rs) where
+module _ (setting : ℕ) (past rs : List Reception) (places : List Replied)
+    (g : Good (modelView (logOf past))) (t : Timely rs) where
   abbrev v : View
   v = modelView (logOf past)
 
@@ -118,8 +146,14 @@ module _ (setting : ℕ) (past rs : List Reception) (places : List Replied) (g :
     next = modelView (logOf (pastAfter past whole));
   }
   same-burst =
-      ap (λ (n : ℕ). resultOf n (taken n rs)) same-number ∙ ap (resultOf (callNumber setting (length rs) (length places))) same-taken
-      ∙ ap₂ (λ (l : List Replied) (u : View). record { number = callNumber setting (length rs) (length places); replies = l ++ drop (length whole) places; next = u })
+      ap (λ (n : ℕ). resultOf n (taken n rs)) same-number
+      ∙ ap (resultOf (callNumber setting (length rs) (length places))) same-taken
+      ∙ ap₂ (λ (l : List Replied) (u : View).
+      record {
+        number = callNumber setting (length rs) (length places);
+        replies = l ++ drop (length whole) places;
+        next = u;
+      })
       (burst-replies setting past whole g whole-timely) (burst-after past whole g whole-timely)
 
 -- ---- all calls
@@ -132,7 +166,8 @@ same-run past [] g ok = refl
 same-run past (Receive setting r ∷ h) g ok =
     rw (same-step (logOf past) r g, same-sent setting (answerTo (logOf past) r) r)
     (ap₂ _∷_ refl (same-run (r ∷ past) h (good-after (logOf past) r g (ok .0)) (ok .1)))
-same-run past (Checkpoint output ∷ h) g ok = rw (same-checkpoint (logOf past) output g) (ap₂ _∷_ refl (same-run past h g ok))
+same-run past (Checkpoint output ∷ h) g ok =
+    rw (same-checkpoint (logOf past) output g) (ap₂ _∷_ refl (same-run past h g ok))
 same-run past (Restore image ∷ h) g ok = rw (restore-refused image g (ok .0)) (ap₂ _∷_ refl (same-run past h g (ok .1)))
 same-run past (Cut output ∷ h) g ok =
     rw (
@@ -142,7 +177,8 @@ same-run past (Cut output ∷ h) g ok =
       restore-image g,
     ) (ap₂ _∷_ refl (ap₂ _∷_ refl (same-run past h g (ok .1))))
 same-run past (Burst setting rs places ∷ h) g ok =
-    ap (λ (b : BurstResult). Delivered (b .number) (b .replies) (b .next .totals) ∷ run (b .next) h) (same-burst setting past rs places g (ok .0))
+    ap (λ (b : BurstResult). Delivered (b .number) (b .replies) (b .next .totals) ∷ run (b .next) h)
+    (same-burst setting past rs places g (ok .0))
     ∙ ap₂ _∷_ refl (same-run (pastAfter past (burstTaken setting rs places)) h
     (burst-good past (burstTaken setting rs places) g (taken-timely setting rs places (ok .0))) (ok .1))
 same-run past (Ask k ∷ h) g ok = rw (same-heard (logOf past) k g) (ap₂ _∷_ refl (same-run past h g ok))
@@ -154,8 +190,10 @@ same-uncut past [] ok = refl
 same-uncut past (Receive setting r ∷ h) ok = ap₂ _∷_ refl (same-uncut (r ∷ past) h (ok .1))
 same-uncut past (Checkpoint output ∷ h) ok = ap₂ _∷_ refl (same-uncut past h ok)
 same-uncut past (Restore image ∷ h) ok = ap₂ _∷_ refl (same-uncut past h (ok .1))
-same-uncut past (Cut output ∷ h) ok = rw (saved (logOf past) output (ok .0)) (ap₂ _∷_ refl (ap₂ _∷_ refl (same-uncut past h (ok .1))))
-same-uncut past (Burst setting rs places ∷ h) ok = ap₂ _∷_ refl (same-uncut (pastAfter past (burstTaken setting rs places)) h (ok .1))
+same-uncut past (Cut output ∷ h) ok =
+    rw (saved (logOf past) output (ok .0)) (ap₂ _∷_ refl (ap₂ _∷_ refl (same-uncut past h (ok .1))))
+same-uncut past (Burst setting rs places ∷ h) ok =
+    ap₂ _∷_ refl (same-uncut (pastAfter past (burstTaken setting rs places)) h (ok .1))
 same-uncut past (Ask k ∷ h) ok = ap₂ _∷_ refl (same-uncut past h ok)
 same-uncut past (Look ∷ h) ok = ap₂ _∷_ refl (same-uncut past h ok)
 
