@@ -69,7 +69,9 @@ all-from p (x ∷ l) h = and-true (h 0 (omega arith)) (all-from p l (λ i k. h (
 
 -- rows whose bytes a cell holds
 unfoldable pub Shorts : List Row → Type 0
-Shorts rows = (i : ℕ) → i < length rows → length (getD rows i (record { bytes = []; time = 0; loose = false }) .bytes) ≤ maxLength
+Shorts rows =
+    (i : ℕ) → i < length rows
+    → length (getD rows i (record { bytes = []; time = 0; loose = false }) .bytes) ≤ maxLength
 
 pub shorts : (rows : List Row) → Fits rows → Shorts rows
 unfolding Fits Shorts
@@ -111,7 +113,9 @@ module _ (k : ℕ) (rows : List Row) (fit : Shorts rows) (few : length rows ≤ 
 
   pub written-number : k < 2 ^ 32 → blockNumber (rowsBlock k rows) ≡ k
   written-number h =
-      ap unbe (head-part 0 4 (omega arith) ∙ left (be 4 k ++ (n ∷ [])) (replicate 19 0) 5 0 4 (simp (length-append, be-length)) (omega arith)
+      ap unbe
+      (head-part 0 4 (omega arith)
+      ∙ left (be 4 k ++ (n ∷ [])) (replicate 19 0) 5 0 4 (simp (length-append, be-length)) (omega arith)
       ∙ left (be 4 k) (n ∷ []) 4 0 4 (be-length 4 k) (omega arith) ∙ whole (be 4 k) 4 (be-length 4 k))
       ∙ unbe-be 4 k h
 
@@ -123,7 +127,8 @@ module _ (k : ℕ) (rows : List Row) (fit : Shorts rows) (few : length rows ≤ 
 
   pub written-cell : (i : ℕ) → i < n → blockCell i (rowsBlock k rows) ≡ rowCell (getD rows i noRow)
   unfolding rowsBlock
-  written-cell i h = block-cell _ _ (header-length k n) each cells-few i (omega (arith, length-map rows rowCell)) ∙ cell-at i h
+  written-cell i h =
+      block-cell _ _ (header-length k n) each cells-few i (omega (arith, length-map rows rowCell)) ∙ cell-at i h
 
 -- ---- where they fit
 
@@ -142,11 +147,13 @@ module _ (k : ℕ) (rows : List Row) (fit : Fits rows) (few : length rows ≤ ce
   rows-back =
       let block = rowsBlock k rows in
       let read : ℕ → Row = λ i. rowIn (blockCell i block) in
-      let long : length (map read (upFrom 0 (rowCount block))) ≡ length rows = length-map (upFrom 0 (rowCount block)) read ∙ length-upFrom 0 (rowCount block) ∙ count-back in
+      let long : length (map read (upFrom 0 (rowCount block))) ≡ length rows =
+      length-map (upFrom 0 (rowCount block)) read ∙ length-upFrom 0 (rowCount block) ∙ count-back in
       ext-getD noRow (map read (upFrom 0 (rowCount block))) rows long
       (λ i h.
       let l : i < length rows = omega (arith, long) in
-      getD-upFrom read 0 (rowCount block) i noRow (omega (arith, count-back)) ∙ ap read (zero-add i) ∙ ap rowIn (written-cell k rows (shorts rows fit) few i l) ∙ row-back (getD rows i noRow) (fit i l))
+      getD-upFrom read 0 (rowCount block) i noRow (omega (arith, count-back)) ∙ ap read (zero-add i)
+      ∙ ap rowIn (written-cell k rows (shorts rows fit) few i l) ∙ row-back (getD rows i noRow) (fit i l))
 
   all-valid : all isRow rows ≡ true
   unfolding Fits

@@ -34,13 +34,16 @@ map-constant x a zero = refl
 map-constant x a (suc n) = ap (λ (l : List _). x ∷ l) (map-constant x (suc a) n)
 
 -- a list in pieces of w
-pub pieces : {A : Type 0} (w : ℕ) (xs : List A) (a n : ℕ) → flatten (map (λ k. part (w * k) w xs) (upFrom a n)) ≡ part (w * a) (w * n) xs
+pub pieces : {A : Type 0} (w : ℕ) (xs : List A) (a n : ℕ)
+    → flatten (map (λ k. part (w * k) w xs) (upFrom a n)) ≡ part (w * a) (w * n) xs
 unfolding flatten upFrom
 pieces w xs a zero = ap (λ (k : ℕ). take k (drop (w * a) xs)) (sym (mul-zero w))
 pieces w xs a (suc n) =
     let e : w * suc n ≡ w + w * n = mul-suc w n ∙ add-comm (w * n) w in
     let d : w * suc a ≡ w * a + w = mul-suc w a in
-    ap (λ (l : List _). part (w * a) w xs ++ l) (pieces w xs (suc a) n ∙ ap (λ (k : ℕ). take (w * n) (drop k xs)) d ∙ ap (take (w * n)) (sym (drop-drop w (w * a) xs)))
+    ap (λ (l : List _). part (w * a) w xs ++ l)
+    (pieces w xs (suc a) n ∙ ap (λ (k : ℕ). take (w * n) (drop k xs)) d
+    ∙ ap (take (w * n)) (sym (drop-drop w (w * a) xs)))
     ∙ sym (take-add w (w * n) (drop (w * a) xs)) ∙ ap (λ (k : ℕ). take k (drop (w * a) xs)) (sym e)
 
 -- an all-zero block
@@ -75,7 +78,9 @@ module _ (rows : List Row) where
 
   pub group-fits : Fits rows → (k : ℕ) → Fits (rowsAt k rows)
   unfolding Fits
-  group-fits fit k i h = rw (part-at (cellsPerBlock * k) cellsPerBlock rows i _ (omega (arith, group-length k))) (fit (cellsPerBlock * k + i) (omega (arith, group-length k)))
+  group-fits fit k i h =
+      rw (part-at (cellsPerBlock * k) cellsPerBlock rows i _ (omega (arith, group-length k)))
+      (fit (cellsPerBlock * k + i) (omega (arith, group-length k)))
 
 -- ---- the blocks of a buffer
 
@@ -99,7 +104,9 @@ module _ (rows : List Row) (m : ℕ) (fit : Fits rows) (fits : length rows ≤ c
   segment-at k h = getD-upFrom blockFor 0 b k [] h ∙ ap blockFor (zero-add k)
 
   each : Each blockLength segments
-  each k h = ap length (segment-at k (omega (arith, segments-count))) ∙ rows-block-length k (rowsAt k rows) (group-fits rows fit k) (group-few rows k)
+  each k h =
+      ap length (segment-at k (omega (arith, segments-count)))
+      ∙ rows-block-length k (rowsAt k rows) (group-fits rows fit k) (group-few rows k)
 
   archive-length : length (flatten segments) ≡ blockLength * b
   archive-length = flatten-length blockLength segments each ∙ ap (λ (k : ℕ). blockLength * k) segments-count
@@ -112,21 +119,26 @@ module _ (rows : List Row) (m : ℕ) (fit : Fits rows) (fits : length rows ≤ c
   buffer-is = refl
 
   pub buffer-length : length (bufferOf (blockLength * m) rows) ≡ blockLength * m
-  buffer-length = ap length buffer-is ∙ padded-length (blockLength * m) (flatten segments) (omega (arith, archive-length, few))
+  buffer-length =
+      ap length buffer-is ∙ padded-length (blockLength * m) (flatten segments) (omega (arith, archive-length, few))
 
-  pub used-block : (k : ℕ) → 0 ≤ k → k < 0 + b → part (blockLength * k) blockLength (bufferOf (blockLength * m) rows) ≡ blockFor k
+  pub used-block : (k : ℕ) → 0 ≤ k → k < 0 + b
+      → part (blockLength * k) blockLength (bufferOf (blockLength * m) rows) ≡ blockFor k
   used-block k l h =
       ap (part (blockLength * k) blockLength) buffer-is
       ∙ left (flatten segments) zeros (blockLength * b) (blockLength * k) blockLength archive-length (omega arith)
       ∙ flatten-part blockLength segments each k (omega (arith, segments-count)) ∙ segment-at k (omega arith)
 
-  pub free-block : (k : ℕ) → b ≤ k → k < b + (m - b) → part (blockLength * k) blockLength (bufferOf (blockLength * m) rows) ≡ blank
+  pub free-block : (k : ℕ) → b ≤ k → k < b + (m - b)
+      → part (blockLength * k) blockLength (bufferOf (blockLength * m) rows) ≡ blank
   free-block k l h =
       let e : blockLength * k ≡ blockLength * b + blockLength * (k - b) = omega arith in
       ap (part (blockLength * k) blockLength) buffer-is
       ∙ ap (λ (a : ℕ). part a blockLength (flatten segments ++ zeros)) e
       ∙ right (flatten segments) zeros (blockLength * b) (blockLength * (k - b)) blockLength archive-length
-      ∙ part-replicate (blockLength * (k - b)) blockLength (blockLength * m - length (flatten segments)) 0 (omega (arith, archive-length)) ∙ sym blank-is
+      ∙ part-replicate (blockLength * (k - b)) blockLength
+      (blockLength * m - length (flatten segments)) 0 (omega (arith, archive-length))
+      ∙ sym blank-is
 
   pub blocks-back : blocksIn (bufferOf (blockLength * m) rows) ≡ segments ++ replicate (m - b) blank
   unfolding blocksIn
@@ -134,19 +146,25 @@ module _ (rows : List Row) (m : ℕ) (fit : Fits rows) (fits : length rows ≤ c
       let buffer = bufferOf (blockLength * m) rows in
       let at : ℕ → List ℕ = λ k. part (blockLength * k) blockLength buffer in
       let count : length buffer / blockLength ≡ b + (m - b) = omega (arith, buffer-length, few) in
-      ap (λ (k : ℕ). map at (upFrom 0 k)) count ∙ ap (map at) (upFrom-add 0 b (m - b) ∙ ap (λ (k : ℕ). upFrom 0 b ++ upFrom k (m - b)) (zero-add b))
+      ap (λ (k : ℕ). map at (upFrom 0 k)) count
+      ∙ ap (map at) (upFrom-add 0 b (m - b) ∙ ap (λ (k : ℕ). upFrom 0 b ++ upFrom k (m - b)) (zero-add b))
       ∙ map-append at (upFrom 0 b) (upFrom b (m - b))
-      ∙ ap₂ _++_ (map-same at blockFor 0 b used-block) (map-same at (λ k. blank) b (m - b) free-block ∙ map-constant blank b (m - b))
+      ∙ ap₂ _++_ (map-same at blockFor 0 b used-block)
+      (map-same at (λ k. blank) b (m - b) free-block ∙ map-constant blank b (m - b))
 
   -- ---- the rows
 
   pub rows-in : rowsIn (bufferOf (blockLength * m) rows) ≡ rows
   unfolding rowsIn
   rows-in =
-      ap (λ (l : List (List ℕ)). flatten (map rowsOf l)) blocks-back ∙ ap flatten (map-append rowsOf segments (replicate (m - b) blank))
+      ap (λ (l : List (List ℕ)). flatten (map rowsOf l)) blocks-back
+      ∙ ap flatten (map-append rowsOf segments (replicate (m - b) blank))
       ∙ flatten-append (map rowsOf segments) (map rowsOf (replicate (m - b) blank))
       ∙ ap₂ _++_
-      (ap flatten (map-map rowsOf blockFor (upFrom 0 b) ∙ map-same (λ k. rowsOf (blockFor k)) (λ k. rowsAt k rows) 0 b (λ k l h. rows-back k (rowsAt k rows) (group-fits rows fit k) (group-few rows k)))
+      (ap flatten
+      (map-map rowsOf blockFor (upFrom 0 b)
+      ∙ map-same (λ k. rowsOf (blockFor k)) (λ k. rowsAt k rows) 0 b
+      (λ k l h. rows-back k (rowsAt k rows) (group-fits rows fit k) (group-few rows k)))
       ∙ pieces cellsPerBlock rows 0 b)
       (none-flat (m - b))
       ∙ append-nil (part (cellsPerBlock * 0) (cellsPerBlock * b) rows) ∙ take-all (cellsPerBlock * b) rows (omega arith)
@@ -185,19 +203,26 @@ blank-count block t = elim (decLt 4 (length block)) [
 pub not-blank : (block : List ℕ) → length block ≡ blockLength → 1 ≤ rowCount block → isBlank block ≡ false
 not-blank block l h =
     by-test {X = isBlank block ≡ false} (isBlank block)
-    (λ t. absurd (let e : rowCount block ≡ 0 = eqb-true (rowCount block) 0 (all-getD (λ (x : ℕ). eqb x 0) block 4 0 t (omega arith)) in omega arith))
+    (λ t.
+    absurd (let e : rowCount block ≡ 0 =
+    eqb-true (rowCount block) 0 (all-getD (λ (x : ℕ). eqb x 0) block 4 0 t (omega arith)) in
+    omega arith))
     (λ f. f)
 
 -- one block that matches, and those behind it
-match-next : (k : ℕ) (block : List ℕ) (more : List (List ℕ)) → isBlank block ≡ false → isSound block ≡ true → blockNumber block ≡ k
+match-next : (k : ℕ) (block : List ℕ) (more : List (List ℕ))
+    → isBlank block ≡ false → isSound block ≡ true → blockNumber block ≡ k
     → isShort block && isFollowed more ≡ false → mismatchFrom (suc k) more ≡ None → mismatchFrom k (block ∷ more) ≡ None
 unfolding mismatchFrom
 match-next k block more nb so nu sh rest = rw (nb, so, eq-eqb (blockNumber block) k nu, sh) rest
 
-module _ (rows : List Row) (m : ℕ) (fit : Fits rows) (fits : length rows ≤ cellsPerBlock * m) (buffer : m ≤ maxBlocks) where
+module _ (rows : List Row) (m : ℕ) (fit : Fits rows)
+    (fits : length rows ≤ cellsPerBlock * m) (buffer : m ≤ maxBlocks) where
   -- the last one, or a full one
   last-or-full : (a j z : ℕ) → a + suc j ≡ blocksFor (length rows)
-      → isShort (rowsBlock a (rowsAt a rows)) && isFollowed (map (λ k. rowsBlock k (rowsAt k rows)) (upFrom (suc a) j) ++ replicate z blank) ≡ false
+      → isShort (rowsBlock a (rowsAt a rows))
+      && isFollowed (map (λ k. rowsBlock k (rowsAt k rows)) (upFrom (suc a) j) ++ replicate z blank)
+      ≡ false
   unfolding upFrom
   last-or-full a zero z e = and-false (isShort (rowsBlock a (rowsAt a rows))) (zeros-follow z)
   last-or-full a (suc j) z e =
@@ -205,7 +230,8 @@ module _ (rows : List Row) (m : ℕ) (fit : Fits rows) (fits : length rows ≤ c
       let full : cellsPerBlock ≤ rowCount (rowsBlock a (rowsAt a rows)) = omega (arith, count, group-length rows a) in
       rw (le-ltb (rowCount (rowsBlock a (rowsAt a rows))) cellsPerBlock full)
 
-  matches : (a j z : ℕ) → a + j ≡ blocksFor (length rows) → mismatchFrom a (map (λ k. rowsBlock k (rowsAt k rows)) (upFrom a j) ++ replicate z blank) ≡ None
+  matches : (a j z : ℕ) → a + j ≡ blocksFor (length rows)
+      → mismatchFrom a (map (λ k. rowsBlock k (rowsAt k rows)) (upFrom a j) ++ replicate z blank) ≡ None
   unfolding upFrom
   matches a zero z e = zeros-match a z
   matches a (suc j) z e =
@@ -215,7 +241,8 @@ module _ (rows : List Row) (m : ℕ) (fit : Fits rows) (fits : length rows ≤ c
       let some : 1 ≤ length (rowsAt a rows) = omega (arith, long) in
       let low : a < 2 ^ 32 = omega arith in
       match-next a block (map (λ k. rowsBlock k (rowsAt k rows)) (upFrom (suc a) j) ++ replicate z blank)
-      (not-blank block (rows-block-length a (rowsAt a rows) (group-fits rows fit a) (group-few rows a)) (omega (arith, count)))
+      (not-blank block (rows-block-length a (rowsAt a rows) (group-fits rows fit a) (group-few rows a))
+      (omega (arith, count)))
       (block-sound a (rowsAt a rows) (group-fits rows fit a) (group-few rows a) some low)
       (number-back a (rowsAt a rows) (group-fits rows fit a) (group-few rows a) low)
       (last-or-full a j z e)
@@ -224,4 +251,5 @@ module _ (rows : List Row) (m : ℕ) (fit : Fits rows) (fits : length rows ≤ c
   pub no-mismatch : mismatch (bufferOf (blockLength * m) rows) ≡ None
   unfolding mismatch
   no-mismatch =
-      ap (mismatchFrom 0) (blocks-back rows m fit fits) ∙ matches 0 (blocksFor (length rows)) (m - blocksFor (length rows)) (zero-add (blocksFor (length rows)))
+      ap (mismatchFrom 0) (blocks-back rows m fit fits)
+      ∙ matches 0 (blocksFor (length rows)) (m - blocksFor (length rows)) (zero-add (blocksFor (length rows)))

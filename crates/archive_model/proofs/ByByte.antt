@@ -40,7 +40,9 @@ module _ (r : Row) (short : length (r .bytes) ≤ cellCapacity) where
   used-length = length-append (be 8 (r .time)) (length (r .bytes) ∷ []) ∙ omega (arith, be-length 8 (r .time))
 
   field-length : length toField ≡ 30
-  field-length = length-append toUsed (padded cellCapacity (r .bytes)) ∙ omega (arith, used-length, padded-length cellCapacity (r .bytes) short)
+  field-length =
+      length-append toUsed (padded cellCapacity (r .bytes))
+      ∙ omega (arith, used-length, padded-length cellCapacity (r .bytes) short)
 
   front : (i : ℕ) → i < 30 → getD (rowCell r) i 0 ≡ getD toField i 0
   unfolding cellOf
@@ -48,12 +50,15 @@ module _ (r : Row) (short : length (r .bytes) ≤ cellCapacity) where
 
   end : (i : ℕ) → getD (rowCell r) (30 + i) 0 ≡ getD (be 2 (rowLast (r .loose))) i 0
   unfolding cellOf
-  end i = ap (λ (n : ℕ). getD (rowCell r) (n + i) 0) (sym field-length) ∙ getD-append-add toField (be 2 (rowLast (r .loose))) i 0
+  end i =
+      ap (λ (n : ℕ). getD (rowCell r) (n + i) 0) (sym field-length)
+      ∙ getD-append-add toField (be 2 (rowLast (r .loose))) i 0
 
   cell-time : (i : ℕ) → i < 8 → getD (rowCell r) i 0 ≡ digit 8 (r .time) i
   cell-time i h =
       front i (omega arith) ∙ List·getD-append toUsed (padded cellCapacity (r .bytes)) 0 i (omega (arith, used-length))
-      ∙ List·getD-append (be 8 (r .time)) (length (r .bytes) ∷ []) 0 i (omega (arith, be-length 8 (r .time))) ∙ be-at 8 (r .time) i h
+      ∙ List·getD-append (be 8 (r .time)) (length (r .bytes) ∷ []) 0 i (omega (arith, be-length 8 (r .time)))
+      ∙ be-at 8 (r .time) i h
 
   cell-used : getD (rowCell r) 8 0 ≡ length (r .bytes)
   cell-used =
@@ -62,11 +67,13 @@ module _ (r : Row) (short : length (r .bytes) ≤ cellCapacity) where
 
   cell-bytes : (i : ℕ) → i < 21 → getD (rowCell r) (9 + i) 0 ≡ getD (r .bytes) i 0
   cell-bytes i h =
-      front (9 + i) (omega arith) ∙ ap (λ (n : ℕ). getD toField (n + i) 0) (sym used-length) ∙ getD-append-add toUsed (padded cellCapacity (r .bytes)) i 0
+      front (9 + i) (omega arith) ∙ ap (λ (n : ℕ). getD toField (n + i) 0) (sym used-length)
+      ∙ getD-append-add toUsed (padded cellCapacity (r .bytes)) i 0
       ∙ padded-at cellCapacity (r .bytes) i
 
   -- the cell stands in a block
-  pub laid-row : (block : List ℕ) (a : ℕ) → ((i : ℕ) → i < cellLength → getD block (a + i) 0 ≡ getD (rowCell r) i 0) → LaidRow block a r
+  pub laid-row : (block : List ℕ) (a : ℕ)
+      → ((i : ℕ) → i < cellLength → getD block (a + i) 0 ≡ getD (rowCell r) i 0) → LaidRow block a r
   laid-row block a at = record {
     time = λ i h. at i (omega arith) ∙ cell-time i h;
     used = at 8 (omega arith) ∙ cell-used;
@@ -91,7 +98,14 @@ module _ (k : ℕ) (rows : List Row) (shorts : Shorts rows) (few : length rows �
   cells = flatten (map rowCell rows)
 
   used : length (head ++ cells) ≡ headerLength + cellLength * n
-  used = length-append head cells ∙ omega (arith, header-length k n, flatten-length cellLength (map rowCell rows) (each k rows shorts few), length-map rows rowCell)
+  used =
+      length-append head cells
+      ∙ omega (
+        arith,
+        header-length k n,
+        flatten-length cellLength (map rowCell rows) (each k rows shorts few),
+        length-map rows rowCell,
+      )
 
   body-length : length (padded bodyLength (head ++ cells)) ≡ bodyLength
   body-length = padded-length bodyLength (head ++ cells) (omega (arith, used))
@@ -105,13 +119,15 @@ module _ (k : ℕ) (rows : List Row) (shorts : Shorts rows) (few : length rows �
 
   head-at : (i : ℕ) → i < headerLength → getD block i 0 ≡ getD (be 4 k ++ (n ∷ [])) i 0
   head-at i h =
-      body-at i (omega arith) ∙ List·getD-append head cells 0 i (omega (arith, header-length k n)) ∙ zeros-after (be 4 k ++ (n ∷ [])) 19 i
+      body-at i (omega arith) ∙ List·getD-append head cells 0 i (omega (arith, header-length k n))
+      ∙ zeros-after (be 4 k ++ (n ∷ [])) 19 i
 
   front-length : length (be 4 k ++ (n ∷ [])) ≡ 5
   front-length = length-append (be 4 k) (n ∷ []) ∙ omega (arith, be-length 4 k)
 
   number : (i : ℕ) → i < 4 → getD block i 0 ≡ digit 4 k i
-  number i h = head-at i (omega arith) ∙ List·getD-append (be 4 k) (n ∷ []) 0 i (omega (arith, be-length 4 k)) ∙ be-at 4 k i h
+  number i h =
+      head-at i (omega arith) ∙ List·getD-append (be 4 k) (n ∷ []) 0 i (omega (arith, be-length 4 k)) ∙ be-at 4 k i h
 
   gap : (i : ℕ) → 5 ≤ i → i < 24 → getD block i 0 ≡ 0
   gap i l h = head-at i h ∙ List·getD-eq-default (be 4 k ++ (n ∷ [])) 0 (omega (arith, front-length))
@@ -121,14 +137,17 @@ module _ (k : ℕ) (rows : List Row) (shorts : Shorts rows) (few : length rows �
 
   check : getD block 511 0 ≡ crcOf (take 511 block)
   unfolding rowsBlock
-  check = block-crc head (map rowCell rows) (header-length k n) (each k rows shorts few) (omega (arith, length-map rows rowCell))
+  check =
+      block-crc head (map rowCell rows) (header-length k n)
+      (each k rows shorts few) (omega (arith, length-map rows rowCell))
 
   row-at : (j : ℕ) → j < n → LaidRow block (24 + 32 * j) (getD rows j noRow)
   unfolding Shorts
   row-at j h =
       let r = getD rows j noRow in
       laid-row r (shorts j h) block (24 + 32 * j)
-      (λ i l. sym (part-at (headerLength + cellLength * j) cellLength block i 0 l) ∙ ap (λ (c : List ℕ). getD c i 0) (written-cell k rows shorts few j h))
+      (λ i l. sym (part-at (headerLength + cellLength * j) cellLength block i 0 l)
+      ∙ ap (λ (c : List ℕ). getD c i 0) (written-cell k rows shorts few j h))
 
   pub laid : Laid k rows block
   laid = record {

@@ -33,7 +33,8 @@ fits rows ok i h =
 
 are-fit : (rows : List Row) → Fits rows → all isFit rows ≡ true
 unfolding Fits
-are-fit rows f = all-from isFit rows (λ i h. and-true (f i h .valid) (lt-ltb (getD rows i noRow .time) (2 ^ 64) (f i h .time)))
+are-fit rows f =
+    all-from isFit rows (λ i h. and-true (f i h .valid) (lt-ltb (getD rows i noRow .time) (2 ^ 64) (f i h .time)))
 
 pub sizes : Sizes
 unfolding isWhole
@@ -52,14 +53,20 @@ pub read-back : ReadBack
 read-back m rows mb few ok = (written-verdict rows m (fits rows ok) few mb, rows-in rows m (fits rows ok) few)
 
 pub exact : Exact
-exact buffer v = (ap (λ (n : ℕ). bufferOf n (rowsIn buffer)) (blocks-of buffer v .0) ∙ is-exact buffer v, are-fit (rowsIn buffer) (rows-fit buffer v))
+exact buffer v = (
+  ap (λ (n : ℕ). bufferOf n (rowsIn buffer)) (blocks-of buffer v .0) ∙ is-exact buffer v,
+  are-fit (rowsIn buffer) (rows-fit buffer v),
+)
 
 pub at-cursor : AtCursor
-at-cursor buffer r v t = (cursor buffer v r t, λ z. ap length (appended buffer v r t z .1) ∙ length-append (rowsIn buffer) (r ∷ []))
+at-cursor buffer r v t =
+    (cursor buffer v r t, λ z. ap length (appended buffer v r t z .1) ∙ length-append (rowsIn buffer) (r ∷ []))
 
 pub row-read : Rows
 row-read buffer i v =
-    rw (is-exact buffer v) at (row-at (rowsIn buffer) (length buffer / blockLength) (rows-fit buffer v) (rows-few buffer v) (blocks-of buffer v .1) i)
+    rw (is-exact buffer v) at
+    (row-at (rowsIn buffer) (length buffer / blockLength)
+    (rows-fit buffer v) (rows-few buffer v) (blocks-of buffer v .1) i)
 
 pub row-fits : RowShort
 row-fits = row-short
@@ -69,17 +76,24 @@ in-pieces = (scan-append, scan-found, scan-rows)
 
 -- ---- the run
 
-run-from : (buffer : List ℕ) (rows : List Row) → verdict buffer .number ≡ 0 → all (λ r. ltb (r .time) (2 ^ 64)) rows ≡ true
-    → (verdict (afterAppends buffer rows) .number ≡ 0) × (rowsIn (afterAppends buffer rows) ≡ rowsIn buffer ++ accepted buffer rows)
+run-from : (buffer : List ℕ) (rows : List Row) → verdict buffer .number ≡ 0
+    → all (λ r. ltb (r .time) (2 ^ 64)) rows ≡ true
+    → (verdict (afterAppends buffer rows) .number ≡ 0)
+    × (rowsIn (afterAppends buffer rows) ≡ rowsIn buffer ++ accepted buffer rows)
 run-from buffer [] v ok = (v, sym (append-nil (rowsIn buffer)))
 run-from buffer (r ∷ rows) v ok =
     let b = both (ltb (r .time) (2 ^ 64)) _ ok in
     let next = appendOf buffer r .buffer in
-    by-test {X = (verdict (afterAppends next rows) .number ≡ 0) × (rowsIn (afterAppends next rows) ≡ rowsIn buffer ++ accepted buffer (r ∷ rows))} (eqb (appendOf buffer r .number) 0)
+    by-test {X = (verdict (afterAppends next rows) .number ≡ 0)
+    × (rowsIn (afterAppends next rows) ≡ rowsIn buffer ++ accepted buffer (r ∷ rows))}
+    (eqb (appendOf buffer r .number) 0)
     (λ t.
     let a = appended buffer v r (ltb-true (r .time) (2 ^ 64) (b .0)) (eqb-true (appendOf buffer r .number) 0 t) in
-    let p = run-from next rows (a .0) (b .1) in
-    (p .0, p .1 ∙ ap (λ (l : List Row). l ++ accepted next rows) (a .1) ∙ append-assoc (rowsIn buffer) (r ∷ []) (accepted next rows) ∙ (rw t)))
+    let p = run-from next rows (a .0) (b .1) in (
+      p .0,
+      p .1 ∙ ap (λ (l : List Row). l ++ accepted next rows) (a .1)
+          ∙ append-assoc (rowsIn buffer) (r ∷ []) (accepted next rows) ∙ (rw t),
+    ))
     (λ f.
     let k = append-kept buffer r (eqb-false (appendOf buffer r .number) 0 f) in
     let p = run-from next rows (rw k v) (b .1) in

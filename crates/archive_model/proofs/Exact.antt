@@ -35,7 +35,8 @@ use Rattle.archive_model.proofs.Pieces.{blocks-count, rows-count, at-no
 -- ---- one sound block
 
 module _ (b : List ℕ) (sound : isSound b ≡ true) where
-  pub tests : (1 ≤ rowCount b) × (rowCount b ≤ cellsPerBlock) × (all isRow (rowsOf b) ≡ true) × (equal (rowsBlock (blockNumber b) (rowsOf b)) b ≡ true)
+  pub tests : (1 ≤ rowCount b) × (rowCount b ≤ cellsPerBlock) × (all isRow (rowsOf b) ≡ true)
+      × (equal (rowsBlock (blockNumber b) (rowsOf b)) b ≡ true)
   unfolding isSound
   tests =
       let x = both (leb 1 (rowCount b)) _ sound in
@@ -68,7 +69,12 @@ module _ (b : List ℕ) (sound : isSound b ≡ true) where
   pub row-is : (i : ℕ) → i < length (rowsOf b) → getD (rowsOf b) i noRow ≡ rowIn (blockCell i b)
   unfolding rowsOf
   row-is i h =
-      getD-upFrom (λ j. rowIn (blockCell j b)) 0 (rowCount b) i noRow (omega (arith, length-map (upFrom 0 (rowCount b)) (λ j. rowIn (blockCell j b)), length-upFrom 0 (rowCount b)))
+      getD-upFrom (λ j. rowIn (blockCell j b)) 0 (rowCount b) i noRow
+      (omega (
+        arith,
+        length-map (upFrom 0 (rowCount b)) (λ j. rowIn (blockCell j b)),
+        length-upFrom 0 (rowCount b),
+      ))
       ∙ ap (λ j. rowIn (blockCell j b)) (zero-add i)
 
   pub cell-is : (i : ℕ) → i < length (rowsOf b) → blockCell i b ≡ rowCell (getD (rowsOf b) i noRow)
@@ -107,17 +113,20 @@ pub record Good (k : ℕ) (b : List ℕ) : Type 0 where
 pub data Shape : ℕ → List (List ℕ) → Type 0 where
   ended : {k : ℕ} (z : ℕ) → Shape k (replicate z blank)
   last : {k : ℕ} {b : List ℕ} (z : ℕ) → Good k b → Shape k (b ∷ replicate z blank)
-  more : {k : ℕ} {b : List ℕ} {bs : List (List ℕ)} → Good k b → cellsPerBlock ≤ rowCount b → Shape (suc k) bs → Shape k (b ∷ bs)
+  more : {k : ℕ} {b : List ℕ} {bs : List (List ℕ)} → Good k b
+      → cellsPerBlock ≤ rowCount b → Shape (suc k) bs → Shape k (b ∷ bs)
 
 all-blank : (k : ℕ) (bs : List (List ℕ)) → Each blockLength bs → nonZero k bs ≡ None → bs ≡ replicate (length bs) blank
 all-blank k [] each e = refl
 all-blank k (b ∷ bs) each e =
     by-test {X = b ∷ bs ≡ replicate (length (b ∷ bs)) blank} (isBlank b)
-    (λ t. ap₂ _∷_ (blank-of b (each 0 (omega arith)) t) (all-blank (suc k) bs (λ i h. each (suc i) (omega arith)) (rw t at e)))
+    (λ t. ap₂ _∷_ (blank-of b (each 0 (omega arith)) t)
+    (all-blank (suc k) bs (λ i h. each (suc i) (omega arith)) (rw t at e)))
     (λ f. absurd (at-none k (rw f at e)))
 
 -- behind a short block
-after-short : (k : ℕ) (bs : List (List ℕ)) → Each blockLength bs → isFollowed bs ≡ false → mismatchFrom k bs ≡ None → bs ≡ replicate (length bs) blank
+after-short : (k : ℕ) (bs : List (List ℕ)) → Each blockLength bs → isFollowed bs ≡ false
+    → mismatchFrom k bs ≡ None → bs ≡ replicate (length bs) blank
 unfolding mismatchFrom
 after-short k [] each f e = refl
 after-short k (b ∷ bs) each f e =
@@ -126,11 +135,13 @@ after-short k (b ∷ bs) each f e =
 
 -- one that is not all zero: what the tests after that say
 tested : (k : ℕ) (b : List ℕ) (bs : List (List ℕ)) → isBlank b ≡ false → mismatchFrom k (b ∷ bs) ≡ None
-    → (isSound b && eqb (blockNumber b) k ≡ true) × (isShort b && isFollowed bs ≡ false) × (mismatchFrom (suc k) bs ≡ None)
+    → (isSound b && eqb (blockNumber b) k ≡ true)
+    × (isShort b && isFollowed bs ≡ false) × (mismatchFrom (suc k) bs ≡ None)
 unfolding mismatchFrom
 tested k b bs f e = go (isSound b && eqb (blockNumber b) k) (isShort b && isFollowed bs) (rw f at e)
   where
-    go : (x y : Bool) → cond (not x) (At k) (cond y (At k) (mismatchFrom (suc k) bs)) ≡ None → (x ≡ true) × (y ≡ false) × (mismatchFrom (suc k) bs ≡ None)
+    go : (x y : Bool) → cond (not x) (At k) (cond y (At k) (mismatchFrom (suc k) bs)) ≡ None
+        → (x ≡ true) × (y ≡ false) × (mismatchFrom (suc k) bs ≡ None)
     go true true q = absurd (at-none k q)
     go true false q = (refl, refl, q)
     go false y q = absurd (at-none k q)
@@ -145,9 +156,11 @@ shape k (b ∷ bs) each e =
     (λ f.
     let p = tested k b bs f e in
     let q = both (isSound b) _ (p .0) in
-    let good : Good k b = record { sound = q .0; number = eqb-true (blockNumber b) k (q .1); long = each 0 (omega arith) } in
+    let good : Good k b =
+    record { sound = q .0; number = eqb-true (blockNumber b) k (q .1); long = each 0 (omega arith) } in
     by-test {X = Shape k (b ∷ bs)} (isShort b)
-    (λ s. rw (after-short (suc k) bs rest (ap (λ (u : Bool). u && isFollowed bs) (sym s) ∙ p .1) (p .2)) (last (length bs) good))
+    (λ s. rw (after-short (suc k) bs rest (ap (λ (u : Bool). u && isFollowed bs) (sym s) ∙ p .1) (p .2))
+    (last (length bs) good))
     (λ s. more good (ltb-false (rowCount b) cellsPerBlock s) (shape (suc k) bs rest (p .2))))
 
 -- ---- the rows that they say
@@ -169,14 +182,23 @@ fits-none z i h = absurd (omega (arith, ap length (none-flat z)))
 shape-fits : {k : ℕ} {bs : List (List ℕ)} → Shape k bs → Fits (flatten (map rowsOf bs))
 unfolding flatten
 shape-fits (ended z) = fits-none z
-shape-fits (last {k} {b} z g) = fits-append (rowsOf b) (flatten (map rowsOf (replicate z blank))) (sound-fits b (g .sound)) (fits-none z)
-shape-fits (more {k} {b} {bs} g f s) = fits-append (rowsOf b) (flatten (map rowsOf bs)) (sound-fits b (g .sound)) (shape-fits s)
+shape-fits (last {k} {b} z g) =
+    fits-append (rowsOf b) (flatten (map rowsOf (replicate z blank))) (sound-fits b (g .sound)) (fits-none z)
+shape-fits (more {k} {b} {bs} g f s) =
+    fits-append (rowsOf b) (flatten (map rowsOf bs)) (sound-fits b (g .sound)) (shape-fits s)
 
 shape-few : {k : ℕ} {bs : List (List ℕ)} → Shape k bs → length (flatten (map rowsOf bs)) ≤ cellsPerBlock * length bs
 unfolding flatten
 shape-few (ended z) = omega (arith, ap length (none-flat z))
-shape-few (last {k} {b} z g) = omega (arith, ap length (none-flat z), length-append (rowsOf b) (flatten (map rowsOf (replicate z blank))), sound-few b (g .sound))
-shape-few (more {k} {b} {bs} g f s) = omega (arith, length-append (rowsOf b) (flatten (map rowsOf bs)), sound-few b (g .sound), shape-few s)
+shape-few (last {k} {b} z g) =
+    omega (
+      arith,
+      ap length (none-flat z),
+      length-append (rowsOf b) (flatten (map rowsOf (replicate z blank))),
+      sound-few b (g .sound),
+    )
+shape-few (more {k} {b} {bs} g f s) =
+    omega (arith, length-append (rowsOf b) (flatten (map rowsOf bs)), sound-few b (g .sound), shape-few s)
 
 -- ---- the bytes that are written of them
 
@@ -201,7 +223,8 @@ archive-one k xs h l =
     rw (e, add-zero k, take-all cellsPerBlock xs l) (append-nil (rowsBlock k xs))
 
 -- a full block, and those behind it
-archive-next : (k : ℕ) (xs ys : List Row) → length xs ≡ cellsPerBlock → archiveFrom k (xs ++ ys) ≡ rowsBlock k xs ++ archiveFrom (suc k) ys
+archive-next : (k : ℕ) (xs ys : List Row) → length xs ≡ cellsPerBlock
+    → archiveFrom k (xs ++ ys) ≡ rowsBlock k xs ++ archiveFrom (suc k) ys
 unfolding archiveFrom flatten upFrom
 archive-next k xs ys l =
     let f : ℕ → List ℕ = λ j. rowsBlock (k + j) (rowsAt j (xs ++ ys)) in
@@ -212,7 +235,9 @@ archive-next k xs ys l =
     ∙ map-same (λ j. f (suc j)) (λ j. rowsBlock (suc k + j) (rowsAt j ys)) 0 (blocksFor (length ys))
     (λ j p q.
     let d : cellsPerBlock * suc j ≡ cellsPerBlock + cellsPerBlock * j = omega arith in
-    ap₂ rowsBlock (add-suc k j ∙ sym (suc-add k j)) (ap (λ (a : ℕ). part a cellsPerBlock (xs ++ ys)) d ∙ right xs ys cellsPerBlock (cellsPerBlock * j) cellsPerBlock l))))
+    ap₂ rowsBlock (add-suc k j ∙ sym (suc-add k j))
+    (ap (λ (a : ℕ). part a cellsPerBlock (xs ++ ys)) d
+    ∙ right xs ys cellsPerBlock (cellsPerBlock * j) cellsPerBlock l))))
 
 padded-none : (n : ℕ) → replicate n 0 ≡ padded n []
 padded-none n =
@@ -224,37 +249,51 @@ unfolding flatten
 zeros-flat zero = refl
 zeros-flat (suc z) =
     let e : blockLength + blockLength * z ≡ blockLength * suc z = omega arith in
-    ap₂ _++_ blank-is (zeros-flat z) ∙ replicate-append-replicate blockLength (blockLength * z) 0 ∙ ap (λ n. replicate n 0) e
+    ap₂ _++_ blank-is (zeros-flat z)
+    ∙ replicate-append-replicate blockLength (blockLength * z) 0 ∙ ap (λ n. replicate n 0) e
 
 good-is : {k : ℕ} {b : List ℕ} → Good k b → rowsBlock k (rowsOf b) ≡ b
 good-is {k} {b} g = ap (λ (n : ℕ). rowsBlock n (rowsOf b)) (sym (g .number)) ∙ sound-is b (g .sound)
 
 -- zeros behind a block
-padded-next : (b xs : List ℕ) (n : ℕ) → length b ≡ blockLength → b ++ padded (blockLength * n) xs ≡ padded (blockLength * suc n) (b ++ xs)
+padded-next : (b xs : List ℕ) (n : ℕ) → length b ≡ blockLength
+    → b ++ padded (blockLength * n) xs ≡ padded (blockLength * suc n) (b ++ xs)
 padded-next b xs n l =
     let e : blockLength * n - length xs ≡ blockLength * suc n - length (b ++ xs) = omega (arith, length-append b xs) in
     sym (append-assoc b xs (replicate (blockLength * n - length xs) 0)) ∙ ap (λ m. b ++ xs ++ replicate m 0) e
 
-shape-written : {k : ℕ} {bs : List (List ℕ)} → Shape k bs → flatten bs ≡ padded (blockLength * length bs) (archiveFrom k (flatten (map rowsOf bs)))
+shape-written : {k : ℕ} {bs : List (List ℕ)} → Shape k bs
+    → flatten bs ≡ padded (blockLength * length bs) (archiveFrom k (flatten (map rowsOf bs)))
 unfolding flatten
 shape-written {k} (ended z) =
-    zeros-flat z ∙ ap (λ n. replicate (blockLength * n) 0) (sym (length-replicate z blank)) ∙ padded-none (blockLength * length (replicate z blank))
+    zeros-flat z ∙ ap (λ n. replicate (blockLength * n) 0) (sym (length-replicate z blank))
+    ∙ padded-none (blockLength * length (replicate z blank))
     ∙ ap (padded (blockLength * length (replicate z blank))) (sym (ap (archiveFrom k) (none-flat z) ∙ archive-none k))
 shape-written (last {k} {b} z g) =
-    let rows : flatten (map rowsOf (b ∷ replicate z blank)) ≡ rowsOf b = ap (λ (l : List Row). rowsOf b ++ l) (none-flat z) ∙ append-nil (rowsOf b) in
-    let is : archiveFrom k (flatten (map rowsOf (b ∷ replicate z blank))) ≡ b = ap (archiveFrom k) rows ∙ archive-one k (rowsOf b) (sound-some b (g .sound)) (sound-few b (g .sound)) ∙ good-is g in
-    ap (λ (l : List ℕ). b ++ l) (zeros-flat z ∙ ap (λ n. replicate (blockLength * n) 0) (sym (length-replicate z blank)) ∙ padded-none (blockLength * length (replicate z blank)))
-    ∙ padded-next b [] (length (replicate z blank)) (g .long) ∙ ap (padded (blockLength * suc (length (replicate z blank)))) (append-nil b ∙ sym is)
+    let rows : flatten (map rowsOf (b ∷ replicate z blank)) ≡ rowsOf b =
+    ap (λ (l : List Row). rowsOf b ++ l) (none-flat z) ∙ append-nil (rowsOf b) in
+    let is : archiveFrom k (flatten (map rowsOf (b ∷ replicate z blank))) ≡ b =
+    ap (archiveFrom k) rows
+    ∙ archive-one k (rowsOf b) (sound-some b (g .sound)) (sound-few b (g .sound)) ∙ good-is g in
+    ap (λ (l : List ℕ). b ++ l)
+    (zeros-flat z ∙ ap (λ n. replicate (blockLength * n) 0) (sym (length-replicate z blank))
+    ∙ padded-none (blockLength * length (replicate z blank)))
+    ∙ padded-next b [] (length (replicate z blank)) (g .long)
+    ∙ ap (padded (blockLength * suc (length (replicate z blank)))) (append-nil b ∙ sym is)
 shape-written (more {k} {b} {bs} g f s) =
     let full : length (rowsOf b) ≡ cellsPerBlock = omega (arith, rows-count b, sound-few b (g .sound)) in
-    ap (λ (l : List ℕ). b ++ l) (shape-written s) ∙ padded-next b (archiveFrom (suc k) (flatten (map rowsOf bs))) (length bs) (g .long)
+    ap (λ (l : List ℕ). b ++ l) (shape-written s)
+    ∙ padded-next b (archiveFrom (suc k) (flatten (map rowsOf bs))) (length bs) (g .long)
     ∙ ap (padded (blockLength * suc (length bs)))
-    (sym (archive-next k (rowsOf b) (flatten (map rowsOf bs)) full ∙ ap (λ (l : List ℕ). l ++ archiveFrom (suc k) (flatten (map rowsOf bs))) (good-is g)))
+    (sym (archive-next k (rowsOf b) (flatten (map rowsOf bs)) full
+    ∙ ap (λ (l : List ℕ). l ++ archiveFrom (suc k) (flatten (map rowsOf bs))) (good-is g)))
 
 archive-from : (rows : List Row) → archiveFrom 0 rows ≡ archiveOf rows
 unfolding archiveFrom archiveOf
 archive-from rows =
-    ap flatten (map-same (λ j. rowsBlock (0 + j) (rowsAt j rows)) (λ j. rowsBlock j (rowsAt j rows)) 0 (blocksFor (length rows)) (λ j p q. ap (λ (n : ℕ). rowsBlock n (rowsAt j rows)) (zero-add j)))
+    ap flatten
+    (map-same (λ j. rowsBlock (0 + j) (rowsAt j rows)) (λ j. rowsBlock j (rowsAt j rows)) 0
+    (blocksFor (length rows)) (λ j p q. ap (λ (n : ℕ). rowsBlock n (rowsAt j rows)) (zero-add j)))
 
 -- ---- the buffer
 
@@ -272,11 +311,14 @@ module _ (buffer : List ℕ) (m : ℕ) (long : length buffer ≡ blockLength * m
   unfolding blocksIn
   each i h =
       let l : i < m = omega (arith, m-blocks) in
-      ap length (getD-upFrom at 0 (length buffer / blockLength) i [] (omega (arith, count)) ∙ ap at (zero-add i)) ∙ part-length (blockLength * i) blockLength buffer (omega arith)
+      ap length (getD-upFrom at 0 (length buffer / blockLength) i [] (omega (arith, count)) ∙ ap at (zero-add i))
+      ∙ part-length (blockLength * i) blockLength buffer (omega arith)
 
   pub blocks-flat : flatten (blocksIn buffer) ≡ buffer
   unfolding blocksIn
-  blocks-flat = pieces blockLength buffer 0 (length buffer / blockLength) ∙ take-all (blockLength * (length buffer / blockLength)) buffer (omega (arith, count))
+  blocks-flat =
+      pieces blockLength buffer 0 (length buffer / blockLength)
+      ∙ take-all (blockLength * (length buffer / blockLength)) buffer (omega (arith, count))
 
   module _ (none : mismatch buffer ≡ None) where
     pub is-shape : Shape 0 (blocksIn buffer)
@@ -286,7 +328,9 @@ module _ (buffer : List ℕ) (m : ℕ) (long : length buffer ≡ blockLength * m
     pub exact : bufferOf (blockLength * m) (rowsIn buffer) ≡ buffer
     unfolding bufferOf rowsIn
     exact =
-        ap₂ padded (ap (λ (n : ℕ). blockLength * n) (sym m-blocks)) (sym (archive-from (flatten (map rowsOf (blocksIn buffer))))) ∙ sym (shape-written is-shape) ∙ blocks-flat
+        ap₂ padded (ap (λ (n : ℕ). blockLength * n) (sym m-blocks))
+        (sym (archive-from (flatten (map rowsOf (blocksIn buffer)))))
+        ∙ sym (shape-written is-shape) ∙ blocks-flat
 
     pub exact-fits : Fits (rowsIn buffer)
     unfolding rowsIn

@@ -19,7 +19,9 @@ txid-is : (s : List ℕ) → fieldsOf s .txid ≡ take (length s - 2 - (length s
 unfolding fieldsOf
 txid-is s = go (isAddressed s)
   where
-    go : (b : Bool) → cond b (addressedFields s) (plainFields s) .txid ≡ take (length s - 2 - (length s - 6)) (drop (length s - 6) s)
+    go : (b : Bool)
+        → cond b (addressedFields s) (plainFields s) .txid
+        ≡ take (length s - 2 - (length s - 6)) (drop (length s - 6) s)
     go true = refl
     go false = refl
 

@@ -45,9 +45,11 @@ module _ (xs ys : List ℕ) (e : length xs % blockLength ≡ 0) where
   pieces-blocks =
       let count : length (xs ++ ys) / blockLength ≡ n + m = omega (arith, length-append xs ys) in
       ap (λ (c : ℕ). map at (upFrom 0 c)) count
-      ∙ ap (map at) (upFrom-add 0 n m ∙ ap (λ (c : ℕ). upFrom 0 n ++ upFrom c m) (zero-add n ∙ sym (add-zero n))) ∙ map-append at (upFrom 0 n) (upFrom (n + 0) m)
+      ∙ ap (map at) (upFrom-add 0 n m ∙ ap (λ (c : ℕ). upFrom 0 n ++ upFrom c m) (zero-add n ∙ sym (add-zero n)))
+      ∙ map-append at (upFrom 0 n) (upFrom (n + 0) m)
       ∙ ap₂ _++_
-      (map-same at (λ k. part (blockLength * k) blockLength xs) 0 n (λ k l h. left xs ys (length xs) (blockLength * k) blockLength refl (omega arith)))
+      (map-same at (λ k. part (blockLength * k) blockLength xs) 0 n
+      (λ k l h. left xs ys (length xs) (blockLength * k) blockLength refl (omega arith)))
       (map-shift at n 0 m
       ∙ map-same (λ k. at (n + k)) (λ k. part (blockLength * k) blockLength ys) 0 m
       (λ k l h.
@@ -83,48 +85,68 @@ unfolding scanBlocks
 wrong-stays [] s j e = e
 wrong-stays (b ∷ bs) s j e =
     wrong-stays bs (scanBlock s b) j
-    (by-test {X = scanBlock s b .stage ≡ Wrong j} (isBlank b) (λ t. blank-stage s b t (Wrong j) e) (λ f. other-stage s b f (Wrong j) e))
+    (by-test {X = scanBlock s b .stage ≡ Wrong j} (isBlank b)
+    (λ t. blank-stage s b t (Wrong j) e) (λ f. other-stage s b f (Wrong j) e))
 
-ended : (bs : List (List ℕ)) (s : Scan) → s .stage ≡ Ended → stageFound (scanBlocks s bs .stage) ≡ nonZero (s .blocks) bs
+ended : (bs : List (List ℕ)) (s : Scan) → s .stage ≡ Ended
+    → stageFound (scanBlocks s bs .stage) ≡ nonZero (s .blocks) bs
 unfolding scanBlocks
 ended [] s e = ap stageFound e
 ended (b ∷ bs) s e =
     by-test {X = stageFound (scanBlocks (scanBlock s b) bs .stage) ≡ nonZero (s .blocks) (b ∷ bs)} (isBlank b)
-    (λ t. ended bs (scanBlock s b) (blank-stage s b t Ended e) ∙ ap (λ (k : ℕ). nonZero k bs) (blocks-more s b) ∙ (rw t))
+    (λ t. ended bs (scanBlock s b) (blank-stage s b t Ended e)
+    ∙ ap (λ (k : ℕ). nonZero k bs) (blocks-more s b) ∙ (rw t))
     (λ f. ap stageFound (wrong-stays bs (scanBlock s b) (s .blocks) (other-stage s b f Ended e)) ∙ (rw f))
 
-short : (bs : List (List ℕ)) (s : Scan) → s .stage ≡ Short → stageFound (scanBlocks s bs .stage) ≡ cond (isFollowed bs) (At (s .blocks - 1)) (mismatchFrom (s .blocks) bs)
+short : (bs : List (List ℕ)) (s : Scan) → s .stage ≡ Short
+    → stageFound (scanBlocks s bs .stage) ≡ cond (isFollowed bs) (At (s .blocks - 1)) (mismatchFrom (s .blocks) bs)
 unfolding scanBlocks mismatchFrom
 short [] s e = ap stageFound e
 short (b ∷ bs) s e =
-    by-test {X = stageFound (scanBlocks (scanBlock s b) bs .stage) ≡ cond (isFollowed (b ∷ bs)) (At (s .blocks - 1)) (mismatchFrom (s .blocks) (b ∷ bs))} (isBlank b)
-    (λ t. ended bs (scanBlock s b) (blank-stage s b t Short e) ∙ ap (λ (k : ℕ). nonZero k bs) (blocks-more s b) ∙ (rw t))
+    by-test {X = stageFound (scanBlocks (scanBlock s b) bs .stage)
+    ≡ cond (isFollowed (b ∷ bs)) (At (s .blocks - 1)) (mismatchFrom (s .blocks) (b ∷ bs))}
+    (isBlank b)
+    (λ t. ended bs (scanBlock s b) (blank-stage s b t Short e)
+    ∙ ap (λ (k : ℕ). nonZero k bs) (blocks-more s b) ∙ (rw t))
     (λ f. ap stageFound (wrong-stays bs (scanBlock s b) (s .blocks - 1) (other-stage s b f Short e)) ∙ (rw f))
 
 -- a block that matches: it is short, or full
-matching : (bs : List (List ℕ)) (s : Scan) (b : List ℕ) → isBlank b ≡ false → isSound b && eqb (blockNumber b) (s .blocks) ≡ true → s .stage ≡ Filling
-    → (scanBlock s b .stage ≡ Filling → stageFound (scanBlocks (scanBlock s b) bs .stage) ≡ mismatchFrom (scanBlock s b .blocks) bs)
+matching : (bs : List (List ℕ)) (s : Scan) (b : List ℕ) → isBlank b ≡ false
+    → isSound b && eqb (blockNumber b) (s .blocks) ≡ true → s .stage ≡ Filling
+    → (scanBlock s b .stage ≡ Filling
+    → stageFound (scanBlocks (scanBlock s b) bs .stage) ≡ mismatchFrom (scanBlock s b .blocks) bs)
     → stageFound (scanBlocks (scanBlock s b) bs .stage) ≡ mismatchFrom (s .blocks) (b ∷ bs)
 unfolding mismatchFrom
 matching bs s b f m e more =
-    let after : scanBlock s b .stage ≡ cond (isShort b) Short Filling = other-stage s b f Filling e ∙ ap (λ (t : Bool). cond t (cond (isShort b) Short Filling) (Wrong (s .blocks))) m in
+    let after : scanBlock s b .stage ≡ cond (isShort b) Short Filling =
+    other-stage s b f Filling e
+    ∙ ap (λ (t : Bool). cond t (cond (isShort b) Short Filling) (Wrong (s .blocks))) m in
     let back : scanBlock s b .blocks - 1 ≡ s .blocks = omega (arith, blocks-more s b) in
     by-test {X = stageFound (scanBlocks (scanBlock s b) bs .stage) ≡ mismatchFrom (s .blocks) (b ∷ bs)} (isShort b)
     (λ t.
-    short bs (scanBlock s b) (after ∙ ap (λ (u : Bool). cond u Short Filling) t) ∙ ap (λ (k : ℕ). cond (isFollowed bs) (At k) (mismatchFrom (scanBlock s b .blocks) bs)) back
+    short bs (scanBlock s b) (after ∙ ap (λ (u : Bool). cond u Short Filling) t)
+    ∙ ap (λ (k : ℕ). cond (isFollowed bs) (At k) (mismatchFrom (scanBlock s b .blocks) bs)) back
     ∙ ap (λ (k : ℕ). cond (isFollowed bs) (At (s .blocks)) (mismatchFrom k bs)) (blocks-more s b) ∙ (rw (f, m, t)))
-    (λ n. more (after ∙ ap (λ (u : Bool). cond u Short Filling) n) ∙ ap (λ (k : ℕ). mismatchFrom k bs) (blocks-more s b) ∙ (rw (f, m, n)))
+    (λ n. more (after ∙ ap (λ (u : Bool). cond u Short Filling) n)
+    ∙ ap (λ (k : ℕ). mismatchFrom k bs) (blocks-more s b) ∙ (rw (f, m, n)))
 
-filling : (bs : List (List ℕ)) (s : Scan) → s .stage ≡ Filling → stageFound (scanBlocks s bs .stage) ≡ mismatchFrom (s .blocks) bs
+filling : (bs : List (List ℕ)) (s : Scan) → s .stage ≡ Filling
+    → stageFound (scanBlocks s bs .stage) ≡ mismatchFrom (s .blocks) bs
 unfolding scanBlocks mismatchFrom
 filling [] s e = ap stageFound e
 filling (b ∷ bs) s e =
     by-test {X = stageFound (scanBlocks (scanBlock s b) bs .stage) ≡ mismatchFrom (s .blocks) (b ∷ bs)} (isBlank b)
-    (λ t. ended bs (scanBlock s b) (blank-stage s b t Filling e) ∙ ap (λ (k : ℕ). nonZero k bs) (blocks-more s b) ∙ (rw t))
+    (λ t. ended bs (scanBlock s b) (blank-stage s b t Filling e)
+    ∙ ap (λ (k : ℕ). nonZero k bs) (blocks-more s b) ∙ (rw t))
     (λ f.
-    by-test {X = stageFound (scanBlocks (scanBlock s b) bs .stage) ≡ mismatchFrom (s .blocks) (b ∷ bs)} (isSound b && eqb (blockNumber b) (s .blocks))
+    by-test {X = stageFound (scanBlocks (scanBlock s b) bs .stage) ≡ mismatchFrom (s .blocks) (b ∷ bs)}
+    (isSound b && eqb (blockNumber b) (s .blocks))
     (λ m. matching bs s b f m e (filling bs (scanBlock s b)))
-    (λ n. ap stageFound (wrong-stays bs (scanBlock s b) (s .blocks) (other-stage s b f Filling e ∙ ap (λ (t : Bool). cond t (cond (isShort b) Short Filling) (Wrong (s .blocks))) n)) ∙ (rw (f, n))))
+    (λ n. ap stageFound
+    (wrong-stays bs (scanBlock s b) (s .blocks)
+    (other-stage s b f Filling e
+    ∙ ap (λ (t : Bool). cond t (cond (isShort b) Short Filling) (Wrong (s .blocks))) n))
+    ∙ (rw (f, n))))
 
 pub scan-found : (buffer : List ℕ) → stageFound (scanBlocks startScan (blocksIn buffer) .stage) ≡ mismatch buffer
 unfolding mismatch
@@ -147,7 +169,8 @@ pub at-none : (j : ℕ) → At j ≡ None → ⊥
 at-none j e = let z : _≡_ {A = ℕ} 0 1 = cc in omega arith
 
 -- the rows that a block adds, where no mismatch is found
-adds : (bs : List (List ℕ)) (s : Scan) (b : List ℕ) → stageFound (scanBlocks (scanBlock s b) bs .stage) ≡ None → scanBlock s b .rows ≡ s .rows + length (rowsOf b)
+adds : (bs : List (List ℕ)) (s : Scan) (b : List ℕ) → stageFound (scanBlocks (scanBlock s b) bs .stage) ≡ None
+    → scanBlock s b .rows ≡ s .rows + length (rowsOf b)
 unfolding scanBlock
 adds bs s b none =
     by-test {X = s .rows + cond (isSound b) (rowCount b) 0 ≡ s .rows + length (rowsOf b)} (isSound b)
@@ -157,14 +180,21 @@ adds bs s b none =
     (λ z. rw f (omega (arith, rows-count b, blank-count b z)))
     (λ n.
     let u = unsound b (s .stage) (s .blocks) f in
-    absurd (at-none (u .0) (sym (ap stageFound (wrong-stays bs (scanBlock s b) (u .0) (other-stage s b n (s .stage) refl ∙ u .1))) ∙ none))))
+    absurd (at-none (u .0)
+    (sym (ap stageFound (wrong-stays bs (scanBlock s b) (u .0) (other-stage s b n (s .stage) refl ∙ u .1)))
+    ∙ none))))
 
-rows-over : (bs : List (List ℕ)) (s : Scan) → stageFound (scanBlocks s bs .stage) ≡ None → scanBlocks s bs .rows ≡ s .rows + length (flatten (map rowsOf bs))
+rows-over : (bs : List (List ℕ)) (s : Scan) → stageFound (scanBlocks s bs .stage) ≡ None
+    → scanBlocks s bs .rows ≡ s .rows + length (flatten (map rowsOf bs))
 unfolding scanBlocks flatten
 rows-over [] s none = omega arith
 rows-over (b ∷ bs) s none =
-    rows-over bs (scanBlock s b) none ∙ omega (arith, adds bs s b none, length-append (rowsOf b) (flatten (map rowsOf bs)))
+    rows-over bs (scanBlock s b) none
+    ∙ omega (arith, adds bs s b none, length-append (rowsOf b) (flatten (map rowsOf bs)))
 
-pub scan-rows : (buffer : List ℕ) → mismatch buffer ≡ None → scanBlocks startScan (blocksIn buffer) .rows ≡ length (rowsIn buffer)
+pub scan-rows : (buffer : List ℕ) → mismatch buffer ≡ None
+    → scanBlocks startScan (blocksIn buffer) .rows ≡ length (rowsIn buffer)
 unfolding rowsIn
-scan-rows buffer none = rows-over (blocksIn buffer) startScan (scan-found buffer ∙ none) ∙ zero-add (length (flatten (map rowsOf (blocksIn buffer))))
+scan-rows buffer none =
+    rows-over (blocksIn buffer) startScan (scan-found buffer ∙ none)
+    ∙ zero-add (length (flatten (map rowsOf (blocksIn buffer))))

@@ -48,9 +48,11 @@ module _ (cell : List ℕ) where
 
 -- what is answered, by whether there is such a row
 abbrev answer : List Row → ℕ → Bool → ReadRow
-answer rows i b = cond b (record { number = 0; row = getD rows i noRow }) (record { number = numberOf Argument; row = noRow })
+answer rows i b =
+    cond b (record { number = 0; row = getD rows i noRow }) (record { number = numberOf Argument; row = noRow })
 
-module _ (rows : List Row) (m : ℕ) (fit : Fits rows) (few : length rows ≤ cellsPerBlock * m) (mb : m ≤ maxBlocks) (i : ℕ) where
+module _ (rows : List Row) (m : ℕ) (fit : Fits rows)
+    (few : length rows ≤ cellsPerBlock * m) (mb : m ≤ maxBlocks) (i : ℕ) where
   abbrev k : ℕ
   k = i / cellsPerBlock
 
@@ -80,7 +82,8 @@ module _ (rows : List Row) (m : ℕ) (fit : Fits rows) (few : length rows ≤ ce
       let j = i % cellsPerBlock in
       let l : j < length group = omega (arith, group-length rows k) in
       let e : cellsPerBlock * k + j ≡ i = omega arith in
-      ap (λ (b : List ℕ). rowIn (blockCell j b)) (used (omega arith)) ∙ ap rowIn (written-cell k group (shorts group (group-fits rows fit k)) (group-few rows k) j l)
+      ap (λ (b : List ℕ). rowIn (blockCell j b)) (used (omega arith))
+      ∙ ap rowIn (written-cell k group (shorts group (group-fits rows fit k)) (group-few rows k) j l)
       ∙ row-back (getD group j noRow) (group-fits rows fit k j l)
       ∙ part-at (cellsPerBlock * k) cellsPerBlock rows j noRow (omega arith) ∙ ap (λ (n : ℕ). getD rows n noRow) e
 
@@ -92,7 +95,8 @@ module _ (rows : List Row) (m : ℕ) (fit : Fits rows) (few : length rows ≤ ce
   here : i < length rows → isInside i buffer && ltb (i % cellsPerBlock) (rowCount (blockAt k buffer)) ≡ true
   here h =
       let a : k < length buffer / blockLength = omega (arith, count) in
-      let b : i % cellsPerBlock < rowCount (blockAt k buffer) = omega (arith, said (omega arith), group-length rows k) in
+      let b : i % cellsPerBlock < rowCount (blockAt k buffer) =
+      omega (arith, said (omega arith), group-length rows k) in
       rw (lt-ltb k (length buffer / blockLength) a, lt-ltb (i % cellsPerBlock) (rowCount (blockAt k buffer)) b)
 
   away : length rows ≤ i → isInside i buffer && ltb (i % cellsPerBlock) (rowCount (blockAt k buffer)) ≡ false
@@ -114,7 +118,8 @@ module _ (rows : List Row) (m : ℕ) (fit : Fits rows) (few : length rows ≤ ce
   row-at = elim (decLt i (length rows)) [
     | yes h ↦
         let cell = blockCell (i % cellsPerBlock) (blockAt k buffer) in
-        let l : cellUsed cell ≤ cellCapacity = omega (arith, cell-shown cell, ap (λ (r : Row). length (r .bytes)) (found h), is-short h) in
+        let l : cellUsed cell ≤ cellCapacity =
+        omega (arith, cell-shown cell, ap (λ (r : Row). length (r .bytes)) (found h), is-short h) in
         rw (written-whole rows m fit few mb, here h, lt-ltb i (length rows) h, cell-found cell l, found h)
     | no h ↦
         let l : length rows ≤ i = omega arith in
@@ -127,7 +132,8 @@ row-short buffer i =
     let cell = blockCell (i % cellsPerBlock) (blockAt (i / cellsPerBlock) buffer) in
     by-test {X = length (rowAtOf buffer i .row .bytes) ≤ cellCapacity} (isWhole (length buffer))
     (λ w.
-    by-test {X = length (rowAtOf buffer i .row .bytes) ≤ cellCapacity} (isInside i buffer && ltb (i % cellsPerBlock) (rowCount (blockAt (i / cellsPerBlock) buffer)))
+    by-test {X = length (rowAtOf buffer i .row .bytes) ≤ cellCapacity}
+    (isInside i buffer && ltb (i % cellsPerBlock) (rowCount (blockAt (i / cellsPerBlock) buffer)))
     (λ t. rw (w, t) (cell-short cell))
     (λ f. rw (w, f) (omega arith)))
     (λ w. rw w (omega arith))
@@ -138,28 +144,35 @@ cell-field : (cell : List ℕ) → length cell ≡ cellLength → cellRow cell .
     → take (length (cellRow cell .row .bytes)) (cellField cell) ≡ cellRow cell .row .bytes
 unfolding cellBytes
 cell-field cell l z = elim (decLt cellCapacity (cellUsed cell)) [
-  | yes h ↦ absurd (let e : numberOf Mismatch ≡ 0 = sym (ap (λ (r : ReadRow). r .number) (cell-long cell h)) ∙ z in omega arith)
+  | yes h ↦ absurd
+      (let e : numberOf Mismatch ≡ 0 = sym (ap (λ (r : ReadRow). r .number) (cell-long cell h)) ∙ z in omega arith)
   | no h ↦
       let field = cellField cell in
       let long : length field ≡ cellCapacity = part-length 9 cellCapacity cell (omega arith) in
       let few : cellUsed cell ≤ length field = omega arith in
-      rw (cell-found cell (omega arith)) (ap (λ (n : ℕ). take n field) (cell-shown cell) ∙ sym (resized-cut (cellUsed cell) field few))
+      rw (cell-found cell (omega arith))
+      (ap (λ (n : ℕ). take n field) (cell-shown cell) ∙ sym (resized-cut (cellUsed cell) field few))
 ]
 
 pub row-field : (buffer : List ℕ) (i : ℕ) → rowAtOf buffer i .number ≡ 0
     → take (length (rowAtOf buffer i .row .bytes)) (cellField (cellAt i buffer)) ≡ rowAtOf buffer i .row .bytes
 unfolding rowAtOf
-row-field buffer i z = go (isWhole (length buffer)) (isInside i buffer) (ltb (i % cellsPerBlock) (rowCount (blockAt (i / cellsPerBlock) buffer))) refl refl refl
+row-field buffer i z =
+    go (isWhole (length buffer)) (isInside i buffer)
+    (ltb (i % cellsPerBlock) (rowCount (blockAt (i / cellsPerBlock) buffer))) refl refl refl
   where
-    go : (w a b : Bool) → isWhole (length buffer) ≡ w → isInside i buffer ≡ a → ltb (i % cellsPerBlock) (rowCount (blockAt (i / cellsPerBlock) buffer)) ≡ b
+    go : (w a b : Bool) → isWhole (length buffer) ≡ w → isInside i buffer ≡ a
+        → ltb (i % cellsPerBlock) (rowCount (blockAt (i / cellsPerBlock) buffer)) ≡ b
         → take (length (rowAtOf buffer i .row .bytes)) (cellField (cellAt i buffer)) ≡ rowAtOf buffer i .row .bytes
     go false a b e f g = absurd (let n : numberOf Size ≡ 0 = (rw e) ∙ z in omega arith)
     go true false b e f g = absurd (let n : numberOf Argument ≡ 0 = (rw (e, f)) ∙ z in omega arith)
     go true true false e f g = absurd (let n : numberOf Argument ≡ 0 = (rw (e, f, g)) ∙ z in omega arith)
     go true true true e f g =
         let inside = ltb-true (i / cellsPerBlock) (length buffer / blockLength) f in
-        let block : length (blockAt (i / cellsPerBlock) buffer) ≡ blockLength = part-length (blockLength * (i / cellsPerBlock)) blockLength buffer (omega arith) in
+        let block : length (blockAt (i / cellsPerBlock) buffer) ≡ blockLength =
+        part-length (blockLength * (i / cellsPerBlock)) blockLength buffer (omega arith) in
         let long : length (cellAt i buffer) ≡ cellLength =
-        part-length (headerLength + cellLength * (i % cellsPerBlock)) cellLength (blockAt (i / cellsPerBlock) buffer) (omega arith) in
+        part-length (headerLength + cellLength * (i % cellsPerBlock)) cellLength
+        (blockAt (i / cellsPerBlock) buffer) (omega arith) in
         let found : cellRow (cellAt i buffer) .number ≡ 0 = (rw (e, f, g)) ∙ z in
         rw (e, f, g) (cell-field (cellAt i buffer) long found)

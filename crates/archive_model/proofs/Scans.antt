@@ -21,14 +21,18 @@ use Rattle.archive_model.proofs.Exact.{tests}
 -- ---- an accepted scan
 
 module _ (s : Scan) where
-  pub scan-facts : isScan s ≡ true → (s .blocks ≤ maxBlocks) × (s .rows ≤ cellsPerBlock * s .blocks) × (isStage (s .stage) (s .blocks) (s .rows) ≡ true)
+  pub scan-facts : isScan s ≡ true
+      → (s .blocks ≤ maxBlocks) × (s .rows ≤ cellsPerBlock * s .blocks)
+      × (isStage (s .stage) (s .blocks) (s .rows) ≡ true)
   scan-facts h =
       let b = both (leb (s .blocks) maxBlocks) _ h in
       let c = both (leb (s .rows) (cellsPerBlock * s .blocks)) _ (b .1) in
       (leb-true (s .blocks) maxBlocks (b .0), leb-true (s .rows) (cellsPerBlock * s .blocks) (c .0), c .1)
 
-  pub is-scan : s .blocks ≤ maxBlocks → s .rows ≤ cellsPerBlock * s .blocks → isStage (s .stage) (s .blocks) (s .rows) ≡ true → isScan s ≡ true
-  is-scan a b c = and-true (le-leb (s .blocks) maxBlocks a) (and-true (le-leb (s .rows) (cellsPerBlock * s .blocks) b) c)
+  pub is-scan : s .blocks ≤ maxBlocks → s .rows ≤ cellsPerBlock * s .blocks
+      → isStage (s .stage) (s .blocks) (s .rows) ≡ true → isScan s ≡ true
+  is-scan a b c =
+      and-true (le-leb (s .blocks) maxBlocks a) (and-true (le-leb (s .rows) (cellsPerBlock * s .blocks) b) c)
 
 -- ---- a block
 
@@ -46,20 +50,24 @@ module _ (block : List ℕ) where
   blocks-after s = refl
 
   pub used-few : (used : ℕ) → used ≡ soundRows block → used ≤ cellsPerBlock
-  used-few used e = by-test {X = used ≤ cellsPerBlock} (isSound block) (λ t. rw (e, t) (tests block t .1)) (λ f. rw (e, f) (omega arith))
+  used-few used e =
+      by-test {X = used ≤ cellsPerBlock} (isSound block)
+      (λ t. rw (e, t) (tests block t .1)) (λ f. rw (e, f) (omega arith))
 
   blank-none : isBlank block ≡ true → soundRows block ≡ 0
   blank-none z = by-test {X = soundRows block ≡ 0} (isSound block) (λ t. rw t (blank-count block z)) (λ f. rw f)
 
 -- what an all-zero block makes of a stage
-blank-stage : (st : Stage) (n rows : ℕ) → rows ≤ cellsPerBlock * n → isStage st n rows ≡ true → isStage (stageBlank st) (n + 1) rows ≡ true
+blank-stage : (st : Stage) (n rows : ℕ) → rows ≤ cellsPerBlock * n
+    → isStage st n rows ≡ true → isStage (stageBlank st) (n + 1) rows ≡ true
 blank-stage Filling n rows h t = le-leb (rows + cellsPerBlock) (cellsPerBlock * (n + 1)) (omega arith)
 blank-stage Short n rows h t = le-leb (rows + cellsPerBlock) (cellsPerBlock * (n + 1)) (omega arith)
 blank-stage Ended n rows h t = le-leb (rows + cellsPerBlock) (cellsPerBlock * (n + 1)) (omega arith)
 blank-stage (Wrong j) n rows h t = let l = ltb-true j n t in lt-ltb j (n + 1) (omega arith)
 
 -- what any other makes of it
-after-stage : (b : List ℕ) (st : Stage) (n rows : ℕ) → isStage st n rows ≡ true → isStage (stageAfter st n b) (n + 1) (rows + soundRows b) ≡ true
+after-stage : (b : List ℕ) (st : Stage) (n rows : ℕ) → isStage st n rows ≡ true
+    → isStage (stageAfter st n b) (n + 1) (rows + soundRows b) ≡ true
 after-stage b Filling n rows t =
     let full : rows ≡ cellsPerBlock * n = eqb-true rows (cellsPerBlock * n) t in
     let next = n + 1 in
@@ -82,7 +90,8 @@ after-stage b Short n rows t = lt-ltb (n - 1) (n + 1) (omega arith)
 after-stage b Ended n rows t = lt-ltb n (n + 1) (omega arith)
 after-stage b (Wrong j) n rows t = let l = ltb-true j n t in lt-ltb j (n + 1) (omega arith)
 
-pub scanned-next : (block : List ℕ) (s : Scan) → isScan s ≡ true → s .blocks < maxBlocks → isScan (scanBlock s block) ≡ true
+pub scanned-next : (block : List ℕ) (s : Scan) → isScan s ≡ true
+    → s .blocks < maxBlocks → isScan (scanBlock s block) ≡ true
 unfolding scanBlock
 scanned-next b s t h =
     let f = scan-facts s t in
@@ -91,5 +100,7 @@ scanned-next b s t h =
     (by-test {X = isStage (scanBlock s b .stage) (s .blocks + 1) (s .rows + soundRows b) ≡ true} (isBlank b)
     (λ z.
     let same : s .rows ≡ s .rows + soundRows b = omega (arith, blank-none b z) in
-    rw z (ap (isStage (stageBlank (s .stage)) (s .blocks + 1)) (sym same) ∙ blank-stage (s .stage) (s .blocks) (s .rows) (f .1) (f .2)))
+    rw z
+    (ap (isStage (stageBlank (s .stage)) (s .blocks + 1)) (sym same)
+    ∙ blank-stage (s .stage) (s .blocks) (s .rows) (f .1) (f .2)))
     (λ n. rw n (after-stage b (s .stage) (s .blocks) (s .rows) (f .2))))
