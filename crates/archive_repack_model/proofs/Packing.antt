@@ -39,7 +39,8 @@ module _ (xs ys : List ℕ) where
   both-drop = drop-append-le (fullLength * n) xs ys (omega arith)
 
   rest-length : length rest ≡ length xs - fullLength * n + length ys
-  rest-length = length-append (drop (fullLength * n) xs) ys ∙ ap (λ (k : ℕ). k + length ys) (length-drop (fullLength * n) xs)
+  rest-length =
+      length-append (drop (fullLength * n) xs) ys ∙ ap (λ (k : ℕ). k + length ys) (length-drop (fullLength * n) xs)
 
   both-count : length (xs ++ ys) / fullLength ≡ n + length rest / fullLength
   both-count = omega (arith, length-append xs ys, rest-length)
@@ -50,8 +51,10 @@ module _ (xs ys : List ℕ) where
       let f : ℕ → List ℕ = λ j. cellsBlock (k + j) (part (fullLength * j) fullLength (xs ++ ys)) in
       let m = length rest / fullLength in
       ap (λ (c : ℕ). flatten (map f (upFrom 0 c))) both-count
-      ∙ ap (λ (l : List ℕ). flatten (map f l)) (upFrom-add 0 n m ∙ ap (λ (c : ℕ). upFrom 0 n ++ upFrom c m) (zero-add n ∙ sym (add-zero n)))
-      ∙ ap flatten (map-append f (upFrom 0 n) (upFrom (n + 0) m)) ∙ flatten-append (map f (upFrom 0 n)) (map f (upFrom (n + 0) m))
+      ∙ ap (λ (l : List ℕ). flatten (map f l))
+      (upFrom-add 0 n m ∙ ap (λ (c : ℕ). upFrom 0 n ++ upFrom c m) (zero-add n ∙ sym (add-zero n)))
+      ∙ ap flatten (map-append f (upFrom 0 n) (upFrom (n + 0) m))
+      ∙ flatten-append (map f (upFrom 0 n)) (map f (upFrom (n + 0) m))
       ∙ ap₂ _++_
       (ap flatten (map-same f (λ j. cellsBlock (k + j) (part (fullLength * j) fullLength xs)) 0 n
       (λ j l h. ap (cellsBlock (k + j)) (left xs ys (length xs) (fullLength * j) fullLength refl (omega arith)))))
@@ -60,7 +63,9 @@ module _ (xs ys : List ℕ) where
       (λ j l h.
       let e : fullLength * (n + j) ≡ fullLength * n + fullLength * j = omega arith in
       ap₂ cellsBlock (sym (add-assoc k n j))
-      (ap (λ (a : ℕ). part a fullLength (xs ++ ys)) e ∙ ap (take fullLength) (sym (drop-drop (fullLength * j) (fullLength * n) (xs ++ ys)) ∙ ap (drop (fullLength * j)) both-drop)))))
+      (ap (λ (a : ℕ). part a fullLength (xs ++ ys)) e
+      ∙ ap (take fullLength)
+      (sym (drop-drop (fullLength * j) (fullLength * n) (xs ++ ys)) ∙ ap (drop (fullLength * j)) both-drop)))))
 
 -- ---- pushing
 
@@ -81,20 +86,25 @@ module _ (p : Packing) where
   push-append xs ys =
       let n = length (w ++ xs) / fullLength in
       let m = length (drop (fullLength * n) (w ++ xs) ++ ys) / fullLength in
-      let count : length (w ++ (xs ++ ys)) / fullLength ≡ n + m = ap (λ (l : List ℕ). length l / fullLength) (sym (append-assoc w xs ys)) ∙ both-count (w ++ xs) ys in
+      let count : length (w ++ (xs ++ ys)) / fullLength ≡ n + m =
+      ap (λ (l : List ℕ). length l / fullLength) (sym (append-assoc w xs ys)) ∙ both-count (w ++ xs) ys in
       let next : p .next + length (w ++ (xs ++ ys)) / fullLength ≡ p .next + n + m = omega (arith, count) in
       let e : fullLength * (n + m) ≡ fullLength * n + fullLength * m = omega arith in
-      let waits : drop (fullLength * (length (w ++ (xs ++ ys)) / fullLength)) (w ++ (xs ++ ys)) ≡ drop (fullLength * m) (drop (fullLength * n) (w ++ xs) ++ ys) =
+      let waits : drop (fullLength * (length (w ++ (xs ++ ys)) / fullLength)) (w ++ (xs ++ ys))
+      ≡ drop (fullLength * m) (drop (fullLength * n) (w ++ xs) ++ ys) =
       ap₂ (λ (c : ℕ) (l : List ℕ). drop (fullLength * c) l) count (sym (append-assoc w xs ys))
       ∙ ap (λ (c : ℕ). drop c (w ++ xs ++ ys)) e ∙ sym (drop-drop (fullLength * m) (fullLength * n) (w ++ xs ++ ys))
       ∙ ap (drop (fullLength * m)) (both-drop (w ++ xs) ys) in
       λ j. record { next = next j; waiting = waits j }
 
-pub cells-block-length : (k : ℕ) (cells : List ℕ) → length cells ≤ fullLength → length (cellsBlock k cells) ≡ blockLength
+pub cells-block-length : (k : ℕ) (cells : List ℕ)
+    → length cells ≤ fullLength → length (cellsBlock k cells) ≡ blockLength
 unfolding cellsBlock sealed
 cells-block-length k cells h =
     let head = rowsHeader k (length cells / cellLength) in
-    let long : length (padded bodyLength (head ++ cells)) ≡ bodyLength = padded-length bodyLength (head ++ cells) (omega (arith, length-append head cells, header-length k (length cells / cellLength))) in
+    let long : length (padded bodyLength (head ++ cells)) ≡ bodyLength =
+    padded-length bodyLength (head ++ cells)
+    (omega (arith, length-append head cells, header-length k (length cells / cellLength))) in
     length-append (padded bodyLength (head ++ cells)) _ ∙ omega (arith, long)
 
 -- fewer than 15 cells fill no block
@@ -105,7 +115,8 @@ few-blocks k cells h =
     rw e
 
 -- 15 to 29 cells fill one
-pub one-block : (k : ℕ) (cells : List ℕ) → fullLength ≤ length cells → length cells < fullLength + fullLength → fullBlocks k cells ≡ cellsBlock k (take fullLength cells)
+pub one-block : (k : ℕ) (cells : List ℕ) → fullLength ≤ length cells
+    → length cells < fullLength + fullLength → fullBlocks k cells ≡ cellsBlock k (take fullLength cells)
 unfolding fullBlocks flatten upFrom
 one-block k cells h l =
     let e : length cells / fullLength ≡ 1 = omega arith in
@@ -114,8 +125,10 @@ one-block k cells h l =
 pub push-none : (p : Packing) → length (p .waiting) < fullLength → (pushedBlocks p [] ≡ []) × (pushed p [] ≡ p)
 unfolding pushed
 push-none p h =
-    let e : length (p .waiting) / fullLength ≡ 0 = omega arith in
-    (ap (fullBlocks (p .next)) (append-nil (p .waiting)) ∙ few-blocks (p .next) (p .waiting) h, rw (append-nil (p .waiting), e, add-zero (p .next)))
+    let e : length (p .waiting) / fullLength ≡ 0 = omega arith in (
+      ap (fullBlocks (p .next)) (append-nil (p .waiting)) ∙ few-blocks (p .next) (p .waiting) h,
+      rw (append-nil (p .waiting), e, add-zero (p .next)),
+    )
 
 -- ---- the cells of rows
 
@@ -137,7 +150,9 @@ tail-fits r rows f i h = f (suc i) (omega arith)
 pub cells-length : (rows : List Row) → Fits rows → length (cellsOf rows) ≡ cellLength * length rows
 unfolding flatten
 cells-length [] f = refl
-cells-length (r ∷ rows) f = length-append (rowCell r) (cellsOf rows) ∙ omega (arith, row-length r (head-fits r rows f), cells-length rows (tail-fits r rows f))
+cells-length (r ∷ rows) f =
+    length-append (rowCell r) (cellsOf rows)
+    ∙ omega (arith, row-length r (head-fits r rows f), cells-length rows (tail-fits r rows f))
 
 drop-cells : (n : ℕ) (rows : List Row) → Fits rows → drop (cellLength * n) (cellsOf rows) ≡ cellsOf (drop n rows)
 unfolding flatten
@@ -145,8 +160,10 @@ drop-cells zero rows f = refl
 drop-cells (suc n) [] f = drop-nil (cellLength * suc n)
 drop-cells (suc n) (r ∷ rows) f =
     let e : cellLength * suc n ≡ cellLength + cellLength * n = omega arith in
-    ap (λ (a : ℕ). drop a (rowCell r ++ cellsOf rows)) e ∙ sym (drop-drop (cellLength * n) cellLength (rowCell r ++ cellsOf rows))
-    ∙ ap (drop (cellLength * n)) (drop-at (rowCell r) (cellsOf rows) cellLength (row-length r (head-fits r rows f))) ∙ drop-cells n rows (tail-fits r rows f)
+    ap (λ (a : ℕ). drop a (rowCell r ++ cellsOf rows)) e
+    ∙ sym (drop-drop (cellLength * n) cellLength (rowCell r ++ cellsOf rows))
+    ∙ ap (drop (cellLength * n)) (drop-at (rowCell r) (cellsOf rows) cellLength (row-length r (head-fits r rows f)))
+    ∙ drop-cells n rows (tail-fits r rows f)
 
 take-cells : (n : ℕ) (rows : List Row) → Fits rows → take (cellLength * n) (cellsOf rows) ≡ cellsOf (take n rows)
 unfolding flatten
@@ -155,8 +172,10 @@ take-cells (suc n) [] f = take-nil (cellLength * suc n)
 take-cells (suc n) (r ∷ rows) f =
     let e : cellLength * suc n ≡ cellLength + cellLength * n = omega arith in
     let l = row-length r (head-fits r rows f) in
-    ap (λ (a : ℕ). take a (rowCell r ++ cellsOf rows)) e ∙ take-add cellLength (cellLength * n) (rowCell r ++ cellsOf rows)
-    ∙ ap₂ (λ (x y : List ℕ). x ++ take (cellLength * n) y) (take-at (rowCell r) (cellsOf rows) cellLength l) (drop-at (rowCell r) (cellsOf rows) cellLength l)
+    ap (λ (a : ℕ). take a (rowCell r ++ cellsOf rows)) e
+    ∙ take-add cellLength (cellLength * n) (rowCell r ++ cellsOf rows)
+    ∙ ap₂ (λ (x y : List ℕ). x ++ take (cellLength * n) y)
+    (take-at (rowCell r) (cellsOf rows) cellLength l) (drop-at (rowCell r) (cellsOf rows) cellLength l)
     ∙ ap (λ (x : List ℕ). rowCell r ++ x) (take-cells n rows (tail-fits r rows f))
 
 -- ---- the blocks of rows
@@ -197,7 +216,8 @@ module _ (rows : List Row) (fit : Fits rows) where
   full-rows =
       ap flatten (map-same write (λ j. cellsBlock (0 + j) (part (fullLength * j) fullLength cells)) 0 count
       (λ k l h. at-block k ∙ ap (λ (i : ℕ). cellsBlock i (part (fullLength * k) fullLength cells)) (sym (zero-add k))))
-      ∙ ap (λ (c : ℕ). flatten (map (λ j. cellsBlock (0 + j) (part (fullLength * j) fullLength cells)) (upFrom 0 c))) (sym full-count)
+      ∙ ap (λ (c : ℕ). flatten (map (λ j. cellsBlock (0 + j) (part (fullLength * j) fullLength cells)) (upFrom 0 c)))
+      (sym full-count)
 
   one-more : (k : ℕ) → flatten (map write (upFrom k 1)) ≡ write k
   unfolding flatten upFrom
@@ -209,20 +229,29 @@ module _ (rows : List Row) (fit : Fits rows) where
   archive-cells = elim (decLt 0 (length rows % cellsPerBlock)) [
     | yes h ↦
         (let b : blocksFor (length rows) ≡ count + 1 = omega arith in
-        let long : length (drop (fullLength * (length cells / fullLength)) cells) ≡ cellLength * (length rows % cellsPerBlock) =
-        length-drop (fullLength * (length cells / fullLength)) cells ∙ omega (arith, full-count, cells-length rows fit) in
-        let some : length (drop (fullLength * (length cells / fullLength)) cells) ≡ 0 → ⊥ = λ z. omega (arith, long, h, z) in
-        let last : flatten (map write (upFrom count 1)) ≡ cellsBlock (0 + length cells / fullLength) (drop (fullLength * (length cells / fullLength)) cells) =
+        let long : length (drop (fullLength * (length cells / fullLength)) cells)
+        ≡ cellLength * (length rows % cellsPerBlock) =
+        length-drop (fullLength * (length cells / fullLength)) cells
+        ∙ omega (arith, full-count, cells-length rows fit) in
+        let some : length (drop (fullLength * (length cells / fullLength)) cells) ≡ 0 → ⊥ =
+        λ z. omega (arith, long, h, z) in
+        let last : flatten (map write (upFrom count 1))
+        ≡ cellsBlock (0 + length cells / fullLength) (drop (fullLength * (length cells / fullLength)) cells) =
         one-more count ∙ at-block count
         ∙ ap (λ (k : ℕ). cellsBlock k (part (fullLength * k) fullLength cells)) (sym full-count)
-        ∙ ap₂ cellsBlock (sym (zero-add (length cells / fullLength))) (take-all fullLength (drop (fullLength * (length cells / fullLength)) cells) (omega (arith, long))) in
+        ∙ ap₂ cellsBlock (sym (zero-add (length cells / fullLength)))
+        (take-all fullLength (drop (fullLength * (length cells / fullLength)) cells) (omega (arith, long))) in
         ap (λ (c : ℕ). flatten (map write (upFrom 0 c))) b
-        ∙ ap (λ (l : List ℕ). flatten (map write l)) (upFrom-add 0 count 1 ∙ ap (λ (c : ℕ). upFrom 0 count ++ upFrom c 1) (zero-add count))
-        ∙ ap flatten (map-append write (upFrom 0 count) (upFrom count 1)) ∙ flatten-append (map write (upFrom 0 count)) (map write (upFrom count 1))
+        ∙ ap (λ (l : List ℕ). flatten (map write l))
+        (upFrom-add 0 count 1 ∙ ap (λ (c : ℕ). upFrom 0 count ++ upFrom c 1) (zero-add count))
+        ∙ ap flatten (map-append write (upFrom 0 count) (upFrom count 1))
+        ∙ flatten-append (map write (upFrom 0 count)) (map write (upFrom count 1))
         ∙ ap₂ _++_ full-rows last ∙ (rw (ne-eqb _ 0 some)))
     | no h ↦
         (let b : blocksFor (length rows) ≡ count = omega arith in
         let none : length (drop (fullLength * (length cells / fullLength)) cells) ≡ 0 =
-        length-drop (fullLength * (length cells / fullLength)) cells ∙ omega (arith, full-count, cells-length rows fit) in
-        ap (λ (c : ℕ). flatten (map write (upFrom 0 c))) b ∙ full-rows ∙ sym (append-nil (fullBlocks 0 cells)) ∙ (rw (eq-eqb _ 0 none)))
+        length-drop (fullLength * (length cells / fullLength)) cells
+        ∙ omega (arith, full-count, cells-length rows fit) in
+        ap (λ (c : ℕ). flatten (map write (upFrom 0 c))) b ∙ full-rows
+        ∙ sym (append-nil (fullBlocks 0 cells)) ∙ (rw (eq-eqb _ 0 none)))
   ]

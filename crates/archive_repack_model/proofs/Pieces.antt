@@ -44,29 +44,37 @@ module _ (identities : List ℕ) where
   kept-append bs cs =
       let p : Row → Bool = λ r. not (isListed identities r) in
       let rows : rowsKept (bs ++ cs) ≡ rowsKept bs ++ rowsKept cs =
-      ap (λ (l : List (List ℕ)). flatten (map rowsOf l)) (keep-append isSound bs cs) ∙ ap flatten (map-append rowsOf (keep isSound bs) (keep isSound cs))
+      ap (λ (l : List (List ℕ)). flatten (map rowsOf l)) (keep-append isSound bs cs)
+      ∙ ap flatten (map-append rowsOf (keep isSound bs) (keep isSound cs))
       ∙ flatten-append (map rowsOf (keep isSound bs)) (map rowsOf (keep isSound cs)) in
       ap (λ (l : List Row). cellsOf (others identities l)) rows ∙ ap cellsOf (keep-append p (rowsKept bs) (rowsKept cs))
-      ∙ ap flatten (map-append rowCell (keep p (rowsKept bs)) (keep p (rowsKept cs))) ∙ flatten-append (map rowCell (keep p (rowsKept bs))) (map rowCell (keep p (rowsKept cs)))
+      ∙ ap flatten (map-append rowCell (keep p (rowsKept bs)) (keep p (rowsKept cs)))
+      ∙ flatten-append (map rowCell (keep p (rowsKept bs))) (map rowCell (keep p (rowsKept cs)))
 
   pub kept-next : (b : List ℕ) (bs : List (List ℕ)) → keptIn (b ∷ bs) ≡ keptIn (b ∷ []) ++ keptIn bs
   kept-next b bs = kept-append (b ∷ []) bs
 
   -- of two pieces
-  pub kept-pieces : (xs ys : List ℕ) → length xs % blockLength ≡ 0 → keptCells identities (xs ++ ys) ≡ keptCells identities xs ++ keptCells identities ys
+  pub kept-pieces : (xs ys : List ℕ) → length xs % blockLength ≡ 0
+      → keptCells identities (xs ++ ys) ≡ keptCells identities xs ++ keptCells identities ys
   kept-pieces xs ys e =
-      kept-is (xs ++ ys) ∙ ap keptIn (pieces-blocks xs ys e) ∙ kept-append (blocksIn xs) (blocksIn ys) ∙ sym (ap₂ _++_ (kept-is xs) (kept-is ys))
+      kept-is (xs ++ ys) ∙ ap keptIn (pieces-blocks xs ys e)
+      ∙ kept-append (blocksIn xs) (blocksIn ys) ∙ sym (ap₂ _++_ (kept-is xs) (kept-is ys))
 
 -- the archive of what stays
 pub packed-archive : (identities : List ℕ) (piece : List ℕ)
-    → pushedBlocks startPacking (keptCells identities piece) ++ lastBlock (pushed startPacking (keptCells identities piece)) ≡ archiveOf (others identities (soundRows piece))
+    → pushedBlocks startPacking (keptCells identities piece)
+    ++ lastBlock (pushed startPacking (keptCells identities piece))
+    ≡ archiveOf (others identities (soundRows piece))
 unfolding keptCells
 packed-archive identities piece =
-    sym (archive-cells (others identities (soundRows piece)) (fits-keep (λ r. not (isListed identities r)) (soundRows piece) (sound-rows-fit piece)))
+    sym (archive-cells (others identities (soundRows piece))
+    (fits-keep (λ r. not (isListed identities r)) (soundRows piece) (sound-rows-fit piece)))
 
 pub held : Held
 held count p output positions h =
     let ws = p .waiting in
     let zeros = replicate {A = ℕ} (pendingLength - length ws) 0 in
     let e : cellLength * (length ws / cellLength) ≡ length ws = omega arith in
-    ap (λ (w : List ℕ). record { next = p .next; waiting = w }) (ap (λ (n : ℕ). take n (ws ++ zeros)) e ∙ take-at ws zeros (length ws) refl)
+    ap (λ (w : List ℕ). record { next = p .next; waiting = w })
+    (ap (λ (n : ℕ). take n (ws ++ zeros)) e ∙ take-at ws zeros (length ws) refl)

@@ -56,15 +56,18 @@ kept-few (b ∷ bs) =
 -- a sound block has a row, so it is not all zero
 sound-not-blank : (b : List ℕ) → isSound b ≡ true → isBlank b ≡ false
 sound-not-blank b s =
-    by-test {X = isBlank b ≡ false} (isBlank b) (λ t. absurd (omega (arith, sound-some b s, rows-count b, blank-count b t))) (λ f. f)
+    by-test {X = isBlank b ≡ false} (isBlank b)
+    (λ t. absurd (omega (arith, sound-some b s, rows-count b, blank-count b t))) (λ f. f)
 
 three-kinds : (bs : List (List ℕ)) → count isSound bs + length (keep isDropped bs) + count isBlank bs ≡ length bs
 three-kinds [] = refl
 three-kinds (b ∷ bs) =
-    by-test {X = count isSound (b ∷ bs) + length (keep isDropped (b ∷ bs)) + count isBlank (b ∷ bs) ≡ suc (length bs)} (isSound b)
+    by-test {X = count isSound (b ∷ bs) + length (keep isDropped (b ∷ bs)) + count isBlank (b ∷ bs) ≡ suc (length bs)}
+    (isSound b)
     (λ s. rw (s, sound-not-blank b s) (omega (arith, three-kinds bs)))
     (λ n.
-    by-test {X = count isSound (b ∷ bs) + length (keep isDropped (b ∷ bs)) + count isBlank (b ∷ bs) ≡ suc (length bs)} (isBlank b)
+    by-test {X = count isSound (b ∷ bs) + length (keep isDropped (b ∷ bs)) + count isBlank (b ∷ bs) ≡ suc (length bs)}
+    (isBlank b)
     (λ t. rw (n, t) (omega (arith, three-kinds bs)))
     (λ f. rw (n, f) (omega (arith, three-kinds bs))))
 
@@ -72,7 +75,8 @@ three-kinds (b ∷ bs) =
 
 blank-unsound : isSound blank ≡ false
 blank-unsound =
-    by-test {X = isSound blank ≡ false} (isSound blank) (λ t. absurd (omega (arith, sound-some blank t, ap length no-rows))) (λ f. f)
+    by-test {X = isSound blank ≡ false} (isSound blank)
+    (λ t. absurd (omega (arith, sound-some blank t, ap length no-rows))) (λ f. f)
 
 blanks-kept : (z : ℕ) → keep isSound (replicate z blank) ≡ []
 blanks-kept zero = refl
@@ -86,7 +90,9 @@ shape-rows : {k : ℕ} {bs : List (List ℕ)} → Shape k bs → rowsKept bs ≡
 unfolding flatten
 shape-rows (Shape.ended z) = ap (λ (l : List (List ℕ)). flatten (map rowsOf l)) (blanks-kept z) ∙ sym (none-flat z)
 shape-rows (Shape.last {k} {b} z g) =
-    rw (g .sound) (ap (λ (l : List Row). rowsOf b ++ l) (ap (λ (l : List (List ℕ)). flatten (map rowsOf l)) (blanks-kept z) ∙ sym (none-flat z)))
+    rw (g .sound)
+    (ap (λ (l : List Row). rowsOf b ++ l)
+    (ap (λ (l : List (List ℕ)). flatten (map rowsOf l)) (blanks-kept z) ∙ sym (none-flat z)))
 shape-rows (Shape.more {k} {b} {bs} g f s) = rw (g .sound) (ap (λ (l : List Row). rowsOf b ++ l) (shape-rows s))
 
 shape-dropped : {k : ℕ} {bs : List (List ℕ)} → Shape k bs → keep isDropped bs ≡ []
@@ -132,14 +138,20 @@ module _ (buffer : List ℕ) where
   dropped-count = ap length dropped-blocks ∙ length-map (dropped buffer) at
 
   upFrom-rises : pairwise ltb (upFrom 0 blocks) ≡ true
-  upFrom-rises = ap (pairwise ltb) (sym (map-id (upFrom 0 blocks))) ∙ pairwise-map (λ (i : ℕ). i) ltb (λ i j h. lt-ltb i j h) 0 blocks
+  upFrom-rises =
+      ap (pairwise ltb) (sym (map-id (upFrom 0 blocks)))
+      ∙ pairwise-map (λ (i : ℕ). i) ltb (λ i j h. lt-ltb i j h) 0 blocks
 
   pub accounted : Accounted buffer
   unfolding dropped
   accounted = record {
     blocks = omega (arith, three-kinds (blocksIn buffer), dropped-count, blocks-count buffer);
     rising = pairwise-keep ltb (λ k. isDropped (at k)) (upFrom 0 blocks) upFrom-rises;
-    listed = λ k m. (omega (arith, upFrom-below 0 blocks (keep-from (λ k. isDropped (at k)) (upFrom 0 blocks) m .0)), keep-from (λ k. isDropped (at k)) (upFrom 0 blocks) m .1);
+    listed =
+        λ k m. (
+          omega (arith, upFrom-below 0 blocks (keep-from (λ k. isDropped (at k)) (upFrom 0 blocks) m .0)),
+          keep-from (λ k. isDropped (at k)) (upFrom 0 blocks) m .1,
+        );
     every = λ k h d. keep-in (λ k. isDropped (at k)) (upFrom-in 0 blocks k (omega arith) (omega arith)) d;
   }
 
@@ -150,7 +162,9 @@ module _ (buffer : List ℕ) where
 
     pub intact-dropped : dropped buffer ≡ []
     intact-dropped =
-        empty (dropped buffer) (sym dropped-count ∙ ap length (shape-dropped (is-shape buffer blocks (blocks-of buffer v .0) (verdict-facts buffer v .1))))
+        empty (dropped buffer)
+        (sym dropped-count
+        ∙ ap length (shape-dropped (is-shape buffer blocks (blocks-of buffer v .0) (verdict-facts buffer v .1))))
       where
         empty : (l : List ℕ) → length l ≡ 0 → l ≡ []
         empty [] e = refl

@@ -41,20 +41,23 @@ use Rattle.archive_repack_model.proofs.Pieces.{kept-is, kept-none, kept
 -- ---- how long
 
 blocks-long : (k a n : ℕ) (cells : List ℕ)
-    → length (flatten (map (λ j. cellsBlock (k + j) (part (fullLength * j) fullLength cells)) (upFrom a n))) ≡ blockLength * n
+    → length (flatten (map (λ j. cellsBlock (k + j) (part (fullLength * j) fullLength cells)) (upFrom a n)))
+    ≡ blockLength * n
 unfolding flatten upFrom
 blocks-long k a zero cells = refl
 blocks-long k a (suc n) cells =
     let here = part (fullLength * a) fullLength cells in
     let few : length here ≤ fullLength = omega (arith, length-take fullLength (drop (fullLength * a) cells)) in
-    length-append (cellsBlock (k + a) here) _ ∙ omega (arith, cells-block-length (k + a) here few, blocks-long k (suc a) n cells)
+    length-append (cellsBlock (k + a) here) _
+    ∙ omega (arith, cells-block-length (k + a) here few, blocks-long k (suc a) n cells)
 
 full-long : (k : ℕ) (cells : List ℕ) → length (fullBlocks k cells) ≡ blockLength * (length cells / fullLength)
 unfolding fullBlocks
 full-long k cells = blocks-long k 0 (length cells / fullLength) cells
 
 -- the blocks that are written are as many as the number rises
-pushed-long : (p : Packing) (cells : List ℕ) → blockLength * (pushed p cells .next - p .next) ≡ length (pushedBlocks p cells)
+pushed-long : (p : Packing) (cells : List ℕ)
+    → blockLength * (pushed p cells .next - p .next) ≡ length (pushedBlocks p cells)
 unfolding pushed
 pushed-long p cells = omega (arith, full-long (p .next) (p .waiting ++ cells))
 
@@ -72,7 +75,8 @@ module _ (identities piece : List ℕ) where
 
 -- ---- the dropped blocks of two pieces
 
-keep-same : (p q : ℕ → Bool) (a n : ℕ) → ((k : ℕ) → a ≤ k → k < a + n → p k ≡ q k) → keep p (upFrom a n) ≡ keep q (upFrom a n)
+keep-same : (p q : ℕ → Bool) (a n : ℕ) → ((k : ℕ) → a ≤ k → k < a + n → p k ≡ q k)
+    → keep p (upFrom a n) ≡ keep q (upFrom a n)
 unfolding upFrom
 keep-same p q a zero h = refl
 keep-same p q a (suc n) h =
@@ -97,7 +101,9 @@ module _ (xs ys : List ℕ) (e : length xs % blockLength ≡ 0) where
   later : (j : ℕ) → at (n + j) ≡ isDropped (blockAt j ys)
   later j =
       let d : blockLength * (n + j) ≡ length xs + blockLength * j = omega arith in
-      ap isDropped (ap (λ (a : ℕ). part a blockLength (xs ++ ys)) d ∙ right xs ys (length xs) (blockLength * j) blockLength refl)
+      ap isDropped
+      (ap (λ (a : ℕ). part a blockLength (xs ++ ys)) d
+      ∙ right xs ys (length xs) (blockLength * j) blockLength refl)
 
   second : keep at (upFrom (n + 0) m) ≡ map (λ k. n + k) (dropped ys)
   unfolding dropped
@@ -126,7 +132,8 @@ module _ (next used : ℕ) (pending : List ℕ) (p : isPacking next used pending
 
     abbrev packed : Packed
     packed =
-        packedAs (length (dropped piece)) (pushed (packing next used pending) cells) (fronted (pushedBlocks (packing next used pending) cells) output)
+        packedAs (length (dropped piece)) (pushed (packing next used pending) cells)
+        (fronted (pushedBlocks (packing next used pending) cells) output)
         (fronted (dropped piece) positions)
 
     -- a piece that is taken
@@ -165,15 +172,19 @@ module _ (next used : ℕ) (pending : List ℕ) (p : isPacking next used pending
   unfolding lastBlock isPacking
   last-few =
       let waits = packing next used pending .waiting in
-      let low = ltb-true used cellsPerBlock (both (ltb used cellsPerBlock) _ (both (eqb (length pending) pendingLength) _ p .1) .0) in
+      let low =
+      ltb-true used cellsPerBlock
+      (both (ltb used cellsPerBlock) _ (both (eqb (length pending) pendingLength) _ p .1) .0) in
       let few : length waits ≤ fullLength = omega (arith, length-take (cellLength * used) pending, low) in
-      by-test {X = length (lastBlock (packing next used pending)) ≤ blockLength} (eqb (length waits) 0) (λ t. rw t (omega arith))
+      by-test {X = length (lastBlock (packing next used pending)) ≤ blockLength}
+      (eqb (length waits) 0) (λ t. rw t (omega arith))
       (λ f. rw f (omega (arith, cells-block-length next waits few)))
 
   -- the end
   finish-done : (output : List ℕ) → blockLength ≤ length output
       → (finishOf next used pending output .number ≡ 0)
-      × (take (finishOf next used pending output .length) (finishOf next used pending output .output) ≡ lastBlock (packing next used pending))
+      × (take (finishOf next used pending output .length) (finishOf next used pending output .output)
+      ≡ lastBlock (packing next used pending))
   unfolding finishOf
   finish-done output h =
       let last = lastBlock (packing next used pending) in
@@ -191,9 +202,15 @@ record Reached (identities : List ℕ) (r : Run) : Type 0 where
   positions : r .dropped ≡ dropped (r .taken)
 
 -- a refusal leaves the run as it was
-run-refused : (r : Run) (piece output positions : List ℕ) (why : Refusal) → ran r piece (keptAs (numberOf why) (r .next) (r .used) (r .pending) output positions) ≡ r
+run-refused : (r : Run) (piece output positions : List ℕ) (why : Refusal)
+    → ran r piece (keptAs (numberOf why) (r .next) (r .used) (r .pending) output positions) ≡ r
 run-refused r piece output positions why =
-    rw (ne-eqb (numberOf why) 0 (refused-number why), append-nil (r .written), append-nil (r .dropped), append-nil (r .taken))
+    rw (
+      ne-eqb (numberOf why) 0 (refused-number why),
+      append-nil (r .written),
+      append-nil (r .dropped),
+      append-nil (r .taken),
+    )
 
 module _ (identities : List ℕ) (r : Run) (reached : Reached identities r) where
   abbrev P : Packing
@@ -202,12 +219,16 @@ module _ (identities : List ℕ) (r : Run) (reached : Reached identities r) wher
   abbrev K : List ℕ
   K = keptCells identities (r .taken)
 
-  lawful-facts : (length (r .pending) ≡ pendingLength) × (r .used < cellsPerBlock) × (cellsPerBlock * r .next + r .used ≤ maxRows)
+  lawful-facts : (length (r .pending) ≡ pendingLength)
+      × (r .used < cellsPerBlock) × (cellsPerBlock * r .next + r .used ≤ maxRows)
   unfolding isPacking
   lawful-facts =
       let a = both (eqb (length (r .pending)) pendingLength) _ (reached .lawful) in
-      let b = both (ltb (r .used) cellsPerBlock) _ (a .1) in
-      (eqb-true (length (r .pending)) pendingLength (a .0), ltb-true (r .used) cellsPerBlock (b .0), leb-true (cellsPerBlock * r .next + r .used) maxRows (b .1))
+      let b = both (ltb (r .used) cellsPerBlock) _ (a .1) in (
+        eqb-true (length (r .pending)) pendingLength (a .0),
+        ltb-true (r .used) cellsPerBlock (b .0),
+        leb-true (cellsPerBlock * r .next + r .used) maxRows (b .1),
+      )
 
   waits-long : length (P .waiting) ≡ cellLength * r .used
   waits-long = omega (arith, length-take (cellLength * r .used) (r .pending), lawful-facts)
@@ -227,7 +248,9 @@ module _ (identities : List ℕ) (r : Run) (reached : Reached identities r) wher
         lawful-facts,
       )
 
-  module _ (c : Call) (t : Took (r .next) (r .used) (r .pending) (reached .lawful) (c .piece) identities (c .output) (c .positions)) where
+  module _ (c : Call)
+      (t : Took (r .next) (r .used) (r .pending) (reached .lawful)
+      (c .piece) identities (c .output) (c .positions)) where
     abbrev C : List ℕ
     C = keptCells identities (c .piece)
 
@@ -235,13 +258,21 @@ module _ (identities : List ℕ) (r : Run) (reached : Reached identities r) wher
     Q = pushed P C
 
     abbrev after : Run
-    after = ran r (c .piece) (packed (r .next) (r .used) (r .pending) (reached .lawful) (c .piece) identities (c .output) (c .positions))
+    after =
+        ran r (c .piece)
+        (packed (r .next) (r .used) (r .pending) (reached .lawful) (c .piece) identities (c .output) (c .positions))
 
     -- the rows that were packed, and those that wait
-    counted : cellLength * (cellsPerBlock * Q .next) + length (Q .waiting) ≡ cellLength * (cellsPerBlock * r .next + r .used) + length C
+    counted : cellLength * (cellsPerBlock * Q .next) + length (Q .waiting)
+        ≡ cellLength * (cellsPerBlock * r .next + r .used) + length C
     unfolding pushed
     counted =
-        omega (arith, waits-long, length-append (P .waiting) C, length-drop (fullLength * (length (P .waiting ++ C) / fullLength)) (P .waiting ++ C))
+        omega (
+          arith,
+          waits-long,
+          length-append (P .waiting) C,
+          length-drop (fullLength * (length (P .waiting ++ C) / fullLength)) (P .waiting ++ C),
+        )
 
     used-now : cellLength * (length (Q .waiting) / cellLength) ≡ length (Q .waiting)
     used-now = omega (arith, counted, cells-long identities (c .piece))
@@ -252,12 +283,14 @@ module _ (identities : List ℕ) (r : Run) (reached : Reached identities r) wher
     lawful-next : isPacking (after .next) (after .used) (after .pending) ≡ true
     unfolding isPacking
     lawful-next =
-        let long : length (padded pendingLength (Q .waiting)) ≡ pendingLength = padded-length pendingLength (Q .waiting) (omega (arith, few)) in
+        let long : length (padded pendingLength (Q .waiting)) ≡ pendingLength =
+        padded-length pendingLength (Q .waiting) (omega (arith, few)) in
         let used : length (Q .waiting) / cellLength < cellsPerBlock = omega (arith, few) in
         let rows : cellsPerBlock * Q .next + length (Q .waiting) / cellLength ≤ maxRows =
         omega (arith, counted, used-now, cells-long identities (c .piece), stay-few identities (c .piece), t .near) in
         and-true (eq-eqb (length (padded pendingLength (Q .waiting))) pendingLength long)
-        (and-true (lt-ltb (length (Q .waiting) / cellLength) cellsPerBlock used) (le-leb (cellsPerBlock * Q .next + length (Q .waiting) / cellLength) maxRows rows))
+        (and-true (lt-ltb (length (Q .waiting) / cellLength) cellsPerBlock used)
+        (le-leb (cellsPerBlock * Q .next + length (Q .waiting) / cellLength) maxRows rows))
 
     cells-now : keptCells identities (r .taken ++ c .piece) ≡ K ++ C
     cells-now = kept-pieces identities (r .taken) (c .piece) (reached .whole)
@@ -267,7 +300,8 @@ module _ (identities : List ℕ) (r : Run) (reached : Reached identities r) wher
       whole = omega (arith, length-append (r .taken) (c .piece), reached .whole, t .even);
       lawful = lawful-next;
       packer =
-          held 0 Q [] [] (omega (arith, used-now)) ∙ ap (λ (q : Packing). pushed q C) (reached .packer) ∙ sym (push-append startPacking K C)
+          held 0 Q [] [] (omega (arith, used-now)) ∙ ap (λ (q : Packing). pushed q C) (reached .packer)
+          ∙ sym (push-append startPacking K C)
           ∙ ap (pushed startPacking) (sym cells-now);
       written =
           ap₂ _++_ (reached .written)
@@ -277,7 +311,8 @@ module _ (identities : List ℕ) (r : Run) (reached : Reached identities r) wher
           ∙ sym (blocks-append startPacking K C) ∙ ap (pushedBlocks startPacking) (sym cells-now);
       positions =
           ap₂ (λ (d l : List ℕ). d ++ map (λ k. length (r .taken) / blockLength + k) l) (reached .positions)
-          (take-at (dropped (c .piece)) (drop (length (dropped (c .piece))) (c .positions)) (length (dropped (c .piece))) refl)
+          (take-at (dropped (c .piece)) (drop (length (dropped (c .piece))) (c .positions))
+          (length (dropped (c .piece))) refl)
           ∙ sym (dropped-pieces (r .taken) (c .piece) (reached .whole));
     }
 
@@ -285,15 +320,20 @@ module _ (identities : List ℕ) (r : Run) (reached : Reached identities r) wher
 
 -- one call more
 reached-call : (identities : List ℕ) (c : Call) (r : Run) → Reached identities r
-    → Reached identities (ran r (c .piece) (packOf (r .next) (r .used) (r .pending) (c .piece) identities (c .output) (c .positions)))
-reached-call identities c r h = go (answered (r .next) (r .used) (r .pending) (h .lawful) (c .piece) identities (c .output) (c .positions))
+    → Reached identities
+    (ran r (c .piece) (packOf (r .next) (r .used) (r .pending) (c .piece) identities (c .output) (c .positions)))
+reached-call identities c r h =
+    go (answered (r .next) (r .used) (r .pending) (h .lawful) (c .piece) identities (c .output) (c .positions))
   where
     go : Answered (r .next) (r .used) (r .pending) (h .lawful) (c .piece) identities (c .output) (c .positions)
-        → Reached identities (ran r (c .piece) (packOf (r .next) (r .used) (r .pending) (c .piece) identities (c .output) (c .positions)))
+        → Reached identities
+        (ran r (c .piece)
+        (packOf (r .next) (r .used) (r .pending) (c .piece) identities (c .output) (c .positions)))
     go (took t) = rw (t .is) (reached-next identities r h c t)
     go (refused why e) = rw (e, run-refused r (c .piece) (c .output) (c .positions) why) h
 
-reached-all : (identities : List ℕ) (calls : List Call) (r : Run) → Reached identities r → Reached identities (packAll identities r calls)
+reached-all : (identities : List ℕ) (calls : List Call) (r : Run)
+    → Reached identities r → Reached identities (packAll identities r calls)
 reached-all identities [] r h = h
 reached-all identities (c ∷ cs) r h = reached-all identities cs _ (reached-call identities c r h)
 

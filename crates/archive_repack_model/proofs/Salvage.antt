@@ -26,7 +26,8 @@ use Rattle.archive_repack_model.proofs.Rows.{sound-rows-fit, sound-rows
 -- ---- the three answers
 
 abbrev asItWas : ℕ → List ℕ → List ℕ → Salvaged
-asItWas number output positions = record { number = number; count = 0; rows = 0; output = output; positions = positions }
+asItWas number output positions =
+    record { number = number; count = 0; rows = 0; output = output; positions = positions }
 
 abbrev salvaged : List ℕ → List ℕ → List ℕ → Salvaged
 salvaged buffer output positions = record {
@@ -51,9 +52,12 @@ module _ (buffer output positions : List ℕ) where
 
   pub answered : Answered
   unfolding salvageOf
-  answered = go (isWhole (length buffer)) (ltb (length output) (length buffer)) (ltb (length positions) (length (dropped buffer))) refl refl refl
+  answered =
+      go (isWhole (length buffer)) (ltb (length output) (length buffer))
+      (ltb (length positions) (length (dropped buffer))) refl refl refl
     where
-      go : (w s l : Bool) → isWhole (length buffer) ≡ w → ltb (length output) (length buffer) ≡ s → ltb (length positions) (length (dropped buffer)) ≡ l → Answered
+      go : (w s l : Bool) → isWhole (length buffer) ≡ w → ltb (length output) (length buffer) ≡ s
+          → ltb (length positions) (length (dropped buffer)) ≡ l → Answered
       go false s l e f g = refused (numberOf Size) (omega arith) (rw e)
       go true true l e f g = refused (numberOf ShortOutput) (omega arith) (rw (e, f))
       go true false true e f g = refused (numberOf ShortOutput) (omega arith) (rw (e, f, g))
@@ -87,10 +91,15 @@ module _ (buffer : List ℕ) (w : isWhole (length buffer) ≡ true) where
   written-is = ap (λ (n : ℕ). bufferOf n (soundRows buffer)) (whole-length (length buffer) w .0)
 
   pub salvaged-length : length (bufferOf (length buffer) (soundRows buffer)) ≡ length buffer
-  salvaged-length = ap length written-is ∙ buffer-length (soundRows buffer) m (sound-rows-fit buffer) (sound-rows-few buffer) ∙ sym (whole-length (length buffer) w .0)
+  salvaged-length =
+      ap length written-is ∙ buffer-length (soundRows buffer) m (sound-rows-fit buffer) (sound-rows-few buffer)
+      ∙ sym (whole-length (length buffer) w .0)
 
   salvaged-verdict : verdict (bufferOf (length buffer) (soundRows buffer)) .number ≡ 0
-  salvaged-verdict = rw written-is (written-verdict (soundRows buffer) m (sound-rows-fit buffer) (sound-rows-few buffer) (whole-length (length buffer) w .1))
+  salvaged-verdict =
+      rw written-is
+      (written-verdict (soundRows buffer) m (sound-rows-fit buffer)
+      (sound-rows-few buffer) (whole-length (length buffer) w .1))
 
   salvaged-rows : rowsIn (bufferOf (length buffer) (soundRows buffer)) ≡ soundRows buffer
   salvaged-rows = rw written-is (rows-in (soundRows buffer) m (sound-rows-fit buffer) (sound-rows-few buffer))
@@ -117,17 +126,28 @@ intact buffer output positions v fits =
     ap₂ bufferOf (blocks-of buffer v .0) (intact-rows buffer v) ∙ is-exact buffer v in
     let none = intact-dropped buffer v in
     let listed : length (dropped buffer) ≤ length positions = omega (arith, ap length none) in
-    rw (verdict-facts buffer v .0, le-ltb (length output) (length buffer) fits, le-ltb (length positions) (length (dropped buffer)) listed, none, written, intact-rows buffer v)
+    rw (
+      verdict-facts buffer v .0,
+      le-ltb (length output) (length buffer) fits,
+      le-ltb (length positions) (length (dropped buffer)) listed,
+      none,
+      written,
+      intact-rows buffer v,
+    )
 
 pub salvaged-again : SalvagedAgain
 salvaged-again buffer output positions output2 positions2 z fits =
     let d = done buffer output positions z in
     let front = salvagedFront buffer output positions in
-    let long : length front ≡ length buffer = ap length (front-is buffer output positions z) ∙ salvaged-length buffer (d .whole) in
+    let long : length front ≡ length buffer =
+    ap length (front-is buffer output positions z) ∙ salvaged-length buffer (d .whole) in
     let k = kept buffer output positions z in
-    let rows : length (rowsIn front) ≡ salvageOf buffer output positions .rows = ap length (k .1) ∙ sym (ap (λ (s : Salvaged). s .rows) (d .is)) in
+    let rows : length (rowsIn front) ≡ salvageOf buffer output positions .rows =
+    ap length (k .1) ∙ sym (ap (λ (s : Salvaged). s .rows) (d .is)) in
     intact front output2 positions2 (k .0) (omega (arith, long, fits))
-    ∙ ap₂ (λ (r n : ℕ). record { number = 0; count = 0; rows = r; output = front ++ drop n output2; positions = positions2 }) rows long
+    ∙ ap₂ (λ (r n : ℕ).
+    record { number = 0; count = 0; rows = r; output = front ++ drop n output2; positions = positions2 })
+    rows long
 
 -- a front that was put, and what stands behind it
 fronted-length : (xs old : List ℕ) → length xs ≤ length old → length (fronted xs old) ≡ length old
@@ -150,7 +170,12 @@ untouched buffer output positions = go (answered buffer output positions)
         record {
           outputLength = rw (d .is) (fronted-length written output (omega (arith, long, d .fits)));
           listLength = rw (d .is) (fronted-length (dropped buffer) positions (d .listed));
-          outputPast = rw (d .is) (drop-at written (drop (length written) output) (length buffer) long ∙ ap (λ (n : ℕ). drop n output) long);
-          listPast = rw (d .is) (drop-at (dropped buffer) (drop (length (dropped buffer)) positions) (length (dropped buffer)) refl);
+          outputPast =
+              rw (d .is)
+              (drop-at written (drop (length written) output) (length buffer) long
+              ∙ ap (λ (n : ℕ). drop n output) long);
+          listPast =
+              rw (d .is)
+              (drop-at (dropped buffer) (drop (length (dropped buffer)) positions) (length (dropped buffer)) refl);
           refused = λ z. absurd (z (rw (d .is)));
         }
