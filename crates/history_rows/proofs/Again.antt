@@ -40,7 +40,8 @@ first-rows v (r ∷ rs) (suc j) =
         → (k : ℕ) × (rowsFrom (step v r .next) (take k rs) ≡ take j (rowsFrom (step v r .next) rs))
         → (k : ℕ) × (rowsFrom (step v r .next) (take k rs) ≡ take (suc j) (rowsFrom (step v r .next) rs))
         → (k : ℕ) × (rowsFrom v (take k (r ∷ rs)) ≡ take (suc j) (rowsFrom v (r ∷ rs)))
-    go true e m n = (suc (m .0), rw e (ap (λ (l : List Logged). record { reception = r; answer = step v r .answer } ∷ l) (m .1)))
+    go true e m n =
+        (suc (m .0), rw e (ap (λ (l : List Logged). record { reception = r; answer = step v r .answer } ∷ l) (m .1)))
     go false e m n = (suc (n .0), rw e (n .1))
 
 -- what is a row is valid, whatever the view
@@ -62,7 +63,10 @@ rows-fit v [] t = refl
 rows-fit v (r ∷ rs) t = go (isRow (step v r .answer)) refl (rows-fit (step v r .next) rs (t .1))
   where
     go : (b : Bool) → isRow (step v r .answer) ≡ b → all isFit (rowsFrom (step v r .next) rs) ≡ true
-        → all isFit (cond b (record { reception = r; answer = step v r .answer } ∷ rowsFrom (step v r .next) rs) (rowsFrom (step v r .next) rs)) ≡ true
+        → all isFit
+        (cond b (record { reception = r; answer = step v r .answer } ∷ rowsFrom (step v r .next) rs)
+        (rowsFrom (step v r .next) rs))
+        ≡ true
     go true e ih = and-true (and-true (step-valid v r e) (lt-ltb (r .time) (2 ^ 64) (t .0))) ih
     go false e ih = ih
 
@@ -71,14 +75,18 @@ rows-fit v (r ∷ rs) t = go (isRow (step v r .answer)) refl (rows-fit (step v r
 abbrev rowsBy : List Reception → List Reception → List Logged
 rowsBy past [] = []
 rowsBy past (r ∷ rs) =
-    cond (isRow (answerTo (logOf past) r)) (record { reception = r; answer = answerTo (logOf past) r } ∷ rowsBy (r ∷ past) rs) (rowsBy (r ∷ past) rs)
+    cond (isRow (answerTo (logOf past) r))
+    (record { reception = r; answer = answerTo (logOf past) r } ∷ rowsBy (r ∷ past) rs) (rowsBy (r ∷ past) rs)
 
-rows-by : (past rs : List Reception) → Good (modelView (logOf past)) → Timely rs → rowsFrom (modelView (logOf past)) rs ≡ rowsBy past rs
+rows-by : (past rs : List Reception) → Good (modelView (logOf past))
+    → Timely rs → rowsFrom (modelView (logOf past)) rs ≡ rowsBy past rs
 rows-by past [] g t = refl
 rows-by past (r ∷ rs) g t =
-    ap (λ (o : Outcome). cond (isRow (o .answer)) (record { reception = r; answer = o .answer } ∷ rowsFrom (o .next) rs) (rowsFrom (o .next) rs))
+    ap (λ (o : Outcome). cond (isRow (o .answer))
+    (record { reception = r; answer = o .answer } ∷ rowsFrom (o .next) rs) (rowsFrom (o .next) rs))
     (same-step (logOf past) r g)
-    ∙ ap (λ (l : List Logged). cond (isRow (answerTo (logOf past) r)) (record { reception = r; answer = answerTo (logOf past) r } ∷ l) l)
+    ∙ ap (λ (l : List Logged). cond (isRow (answerTo (logOf past) r))
+    (record { reception = r; answer = answerTo (logOf past) r } ∷ l) l)
     (rows-by (r ∷ past) rs (good-after (logOf past) r g (t .0)) (t .1))
 
 abbrev receptions : List Logged → List Reception
@@ -90,20 +98,28 @@ rows-timely past [] (suc j) t = tt
 rows-timely past (r ∷ rs) (suc j) t =
     go (isRow (answerTo (logOf past) r)) (rows-timely (r ∷ past) rs j (t .1)) (rows-timely (r ∷ past) rs (suc j) (t .1))
   where
-    go : (b : Bool) → Timely (receptions (take j (rowsBy (r ∷ past) rs))) → Timely (receptions (take (suc j) (rowsBy (r ∷ past) rs)))
-        → Timely (receptions (take (suc j) (cond b (record { reception = r; answer = answerTo (logOf past) r } ∷ rowsBy (r ∷ past) rs) (rowsBy (r ∷ past) rs))))
+    go : (b : Bool) → Timely (receptions (take j (rowsBy (r ∷ past) rs)))
+        → Timely (receptions (take (suc j) (rowsBy (r ∷ past) rs)))
+        → Timely
+        (receptions (take (suc j)
+        (cond b (record { reception = r; answer = answerTo (logOf past) r } ∷ rowsBy (r ∷ past) rs)
+        (rowsBy (r ∷ past) rs))))
     go true m n = (t .0, m)
     go false m n = n
 
-rows-again : (p q rs : List Reception) (j : ℕ) → Thinned (logOf p) (logOf q) → rowsBy q (receptions (take j (rowsBy p rs))) ≡ take j (rowsBy p rs)
+rows-again : (p q rs : List Reception) (j : ℕ) → Thinned (logOf p) (logOf q)
+    → rowsBy q (receptions (take j (rowsBy p rs))) ≡ take j (rowsBy p rs)
 rows-again p q rs zero h = refl
 rows-again p q [] (suc j) h = refl
 rows-again p q (r ∷ rs) (suc j) h =
-    go (isRow (answerTo (logOf p) r)) refl (λ q′ k. rows-again (r ∷ p) q′ rs j k) (λ k. rows-again (r ∷ p) q rs (suc j) k)
+    go (isRow (answerTo (logOf p) r)) refl (λ q′ k. rows-again (r ∷ p) q′ rs j k)
+    (λ k. rows-again (r ∷ p) q rs (suc j) k)
   where
     go : (b : Bool) → isRow (answerTo (logOf p) r) ≡ b
-        → ((q′ : List Reception) → Thinned (logOf (r ∷ p)) (logOf q′) → rowsBy q′ (receptions (take j (rowsBy (r ∷ p) rs))) ≡ take j (rowsBy (r ∷ p) rs))
-        → (Thinned (logOf (r ∷ p)) (logOf q) → rowsBy q (receptions (take (suc j) (rowsBy (r ∷ p) rs))) ≡ take (suc j) (rowsBy (r ∷ p) rs))
+        → ((q′ : List Reception) → Thinned (logOf (r ∷ p)) (logOf q′)
+        → rowsBy q′ (receptions (take j (rowsBy (r ∷ p) rs))) ≡ take j (rowsBy (r ∷ p) rs))
+        → (Thinned (logOf (r ∷ p)) (logOf q)
+        → rowsBy q (receptions (take (suc j) (rowsBy (r ∷ p) rs))) ≡ take (suc j) (rowsBy (r ∷ p) rs))
         → rowsBy q (receptions (take (suc j) (rowsBy p (r ∷ rs)))) ≡ take (suc j) (rowsBy p (r ∷ rs))
     go true is m n =
         let a : answerTo (logOf p) r ≡ answerTo (logOf q) r = thinned-answer (logOf p) (logOf q) h r is in
@@ -119,10 +135,12 @@ pub given-again : GivenAgain
 given-again first more t u j =
     let p = pastAfter [] first in
     let good : Good (modelView (logOf p)) = burst-good [] first fresh-good t in
-    let middle : afterAll fresh first ≡ modelView (logOf p) = ap (λ (v : View). afterAll v first) fresh-model ∙ burst-after [] first fresh-good t in
+    let middle : afterAll fresh first ≡ modelView (logOf p) =
+    ap (λ (v : View). afterAll v first) fresh-model ∙ burst-after [] first fresh-good t in
     let back : restoreOf fresh (imageOf (afterAll fresh first)) ≡ record { number = 0; next = modelView (logOf p) }
     = ap (λ (v : View). restoreOf fresh (imageOf v)) middle ∙ restore-image good in
-    let rows : rowsFrom (afterAll fresh first) more ≡ rowsBy p more = ap (λ (v : View). rowsFrom v more) middle ∙ rows-by p more good u in
+    let rows : rowsFrom (afterAll fresh first) more ≡ rowsBy p more =
+    ap (λ (v : View). rowsFrom v more) middle ∙ rows-by p more good u in
     record {
       number = ap (λ (q : RestoreResult). q .number) back;
       rows =
@@ -140,13 +158,15 @@ pub record Follows (from : ℕ) (whole thin : List Logged) : Type 0 where
 
 same-behind : (from a b t : ℕ) → a ≡ max from b → from ≤ t → ltb t a ≡ ltb t b
 same-behind from a b t e h =
-    by-test (ltb t b) (λ k. lt-ltb t a (omega (arith, e, h, ltb-true t b k)) ∙ sym k) (λ k. le-ltb t a (omega (arith, e, h, ltb-false t b k)) ∙ sym k)
+    by-test (ltb t b) (λ k. lt-ltb t a (omega (arith, e, h, ltb-true t b k)) ∙ sym k)
+    (λ k. le-ltb t a (omega (arith, e, h, ltb-false t b k)) ∙ sym k)
 
 module _ (from : ℕ) (whole thin : List Logged) (h : Follows from whole thin) (r : Reception) where
   opens : map openedBy (openAt (r .time) whole) ≡ map openedBy (openAt (r .time) thin)
   opens = same-open (keptOf whole) (keptOf thin) (h .openings) (r .time)
 
-  pub follows-answer : answers isReceived whole < maxCount → answers isReceived thin < maxCount → from ≤ r .time → answerTo whole r ≡ answerTo thin r
+  pub follows-answer : answers isReceived whole < maxCount → answers isReceived thin < maxCount
+      → from ≤ r .time → answerTo whole r ≡ answerTo thin r
   unfolding answerTo
   follows-answer m n k =
       rw (
@@ -159,10 +179,14 @@ module _ (from : ℕ) (whole thin : List Logged) (h : Follows from whole thin) (
         same-length (openAt (r .time) whole) (openAt (r .time) thin) opens,
       )
 
-  pub follows-more : (a : Shown) → Follows from (record { reception = r; answer = a } ∷ whole) (record { reception = r; answer = a } ∷ thin)
-  follows-more a = record { openings = same-after (keptOf whole) (keptOf thin) (h .openings) r a; latest = go (isAccepted a) }
+  pub follows-more : (a : Shown)
+      → Follows from (record { reception = r; answer = a } ∷ whole) (record { reception = r; answer = a } ∷ thin)
+  follows-more a =
+      record { openings = same-after (keptOf whole) (keptOf thin) (h .openings) r a; latest = go (isAccepted a) }
     where
-      go : (b : Bool) → cond b (max (r .time) (latestOf whole)) (latestOf whole) ≡ max from (cond b (max (r .time) (latestOf thin)) (latestOf thin))
+      go : (b : Bool)
+          → cond b (max (r .time) (latestOf whole)) (latestOf whole)
+          ≡ max from (cond b (max (r .time) (latestOf thin)) (latestOf thin))
       go true = omega (arith, h .latest)
       go false = h .latest
 
@@ -181,12 +205,15 @@ going from p q (r ∷ next) h less few t =
     let g = going from p q next h less (omega (arith, few)) (w .1) in
     let whole : length (next ++ p) < maxCount = omega (arith, few) in
     let thin : length (next ++ q) < maxCount = omega (arith, few, less, length-append next p, length-append next q) in
-    let a : answerTo (logOf (next ++ p)) r ≡ answerTo (logOf (next ++ q)) r
-    = follows-answer from (logOf (next ++ p)) (logOf (next ++ q)) (g .follows) r (low-count (next ++ p) whole) (low-count (next ++ q) thin)
+    let a : answerTo (logOf (next ++ p)) r ≡ answerTo (logOf (next ++ q)) r =
+    follows-answer from (logOf (next ++ p)) (logOf (next ++ q))
+    (g .follows) r (low-count (next ++ p) whole) (low-count (next ++ q) thin)
     (leb-true from (r .time) (w .0)) in
     record {
       answers = ap₂ (λ (s : Shown) (l : List Logged). record { reception = r; answer = s } ∷ l) a (g .answers);
-      follows = rw (← a) (follows-more from (logOf (next ++ p)) (logOf (next ++ q)) (g .follows) r (answerTo (logOf (next ++ p)) r));
+      follows =
+          rw (← a)
+          (follows-more from (logOf (next ++ p)) (logOf (next ++ q)) (g .follows) r (answerTo (logOf (next ++ p)) r));
     }
 
 length-alone : (past more : List Reception) → length (alone (logSince past more)) ≤ length more
@@ -194,7 +221,10 @@ length-alone past [] = omega arith
 length-alone past (r ∷ more) = go (isRow (answerTo (logOf (more ++ past)) r)) (length-alone past more)
   where
     go : (b : Bool) → length (alone (logSince past more)) ≤ length more
-        → length (receptions (cond b (record { reception = r; answer = answerTo (logOf (more ++ past)) r } ∷ rowsOf (logSince past more)) (rowsOf (logSince past more))))
+        → length
+        (receptions (cond b
+        (record { reception = r; answer = answerTo (logOf (more ++ past)) r } ∷ rowsOf (logSince past more))
+        (rowsOf (logSince past more))))
         ≤ suc (length more)
     go true ih = omega (arith, ih)
     go false ih = omega (arith, ih)

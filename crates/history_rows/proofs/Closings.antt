@@ -55,7 +55,8 @@ closed-first t (x ∷ l) s =
     let w = both (all (inTime x) l) (pairwise inTime l) s in
     by-test (isOpen t x)
     (λ e.
-    let rest : all (isOpen t) l ≡ true = all-both (inTime x) (inTime x) (isOpen t) (λ y k _. open-later t x y k e) l (w .0) (w .0) in
+    let rest : all (isOpen t) l ≡ true =
+    all-both (inTime x) (inTime x) (isOpen t) (λ y k _. open-later t x y k e) l (w .0) (w .0) in
     rw (e, none-shut t l rest, keep-every (isOpen t) l rest))
     (λ e. rw e (ap (λ (m : List Entry). x ∷ m) (closed-first t l (w .1))))
 
@@ -68,7 +69,8 @@ shut-after {t} {u} h e p = go (isOpen u e) refl
     go false o = refl
 
 -- at a later time more are closed: the first of those that were open
-closed-more : {t u : ℕ} → t ≤ u → (l : List Entry) → pairwise inTime l ≡ true → closedAt t l ++ closedAt u (keep (isOpen t) l) ≡ closedAt u l
+closed-more : {t u : ℕ} → t ≤ u → (l : List Entry) → pairwise inTime l ≡ true
+    → closedAt t l ++ closedAt u (keep (isOpen t) l) ≡ closedAt u l
 closed-more {t} {u} h l s =
     ap (λ (m : List Entry). m ++ closedAt u (keep (isOpen t) l))
     (sym (keep-swap (isShut u) (isShut t) l ∙ keep-keep (isShut t) (isShut u) (shut-after h) l))
@@ -93,7 +95,8 @@ closed-so-far (r ∷ past) = go (answerTo (logOf past) r) (accepted-latest (logO
   where
     -- of the telegrams opened before
     so-far : closings past ≡ closedAt (latestOf (logOf past)) (keptOf (logOf past)) → latestOf (logOf past) ≤ r .time
-        → closings past ++ closedAt (r .time) (openAt (latestOf (logOf past)) (logOf past)) ≡ closedAt (r .time) (keptOf (logOf past))
+        → closings past ++ closedAt (r .time) (openAt (latestOf (logOf past)) (logOf past))
+        ≡ closedAt (r .time) (keptOf (logOf past))
     so-far ih h =
         ap (λ (m : List Entry). m ++ closedAt (r .time) (openAt (latestOf (logOf past)) (logOf past))) ih
         ∙ closed-more h (keptOf (logOf past)) (ordered past .order)
@@ -112,7 +115,8 @@ closed-so-far (r ∷ past) = go (answerTo (logOf past) r) (accepted-latest (logO
     go Copy h ih =
         rw (
           max-eq-left (h refl),
-          keep-other (λ n. n + 1) (isOpenCopy r) (isShut (r .time)) (λ e. refl) (λ e. true) (λ e _ k. not-shut e k) (keptOf (logOf past))
+          keep-other (λ n. n + 1) (isOpenCopy r) (isShut (r .time)) (λ e. refl)
+              (λ e. true) (λ e _ k. not-shut e k) (keptOf (logOf past))
               (all-of (λ e. true) (keptOf (logOf past)) (λ e m. refl)),
         ) (so-far ih (h refl))
     go Loose h ih = rw (max-eq-left (h refl)) (so-far ih (h refl))
@@ -141,7 +145,8 @@ kept-receptions (e ∷ log) = go (e .reception) (e .answer) (kept-receptions log
 abbrev cap : List Entry → List Entry
 cap l = map (recount capped) l
 
-capped-counts : (f : ℕ → ℕ) (l : List Entry) (ns : List ℕ) → copiesIn l ≡ map f ns → copiesIn (cap l) ≡ map (λ n. capped (f n)) ns
+capped-counts : (f : ℕ → ℕ) (l : List Entry) (ns : List ℕ)
+    → copiesIn l ≡ map f ns → copiesIn (cap l) ≡ map (λ n. capped (f n)) ns
 capped-counts f l ns e = counts l ∙ ap (map capped) e ∙ twice ns
   where
     counts : (m : List Entry) → copiesIn (cap m) ≡ map capped (copiesIn m)
@@ -169,13 +174,16 @@ closed-view : (log : List Logged) (r : Reception) (a : Shown) → closedFrom (mo
 unfolding modelView
 closed-view log r a = go (isAccepted a)
   where
-    go : (b : Bool) → cond b (closedAt (r .time) (cap (openAt (latestOf log) log))) [] ≡ cap (cond b (closedAt (r .time) (openAt (latestOf log) log)) [])
+    go : (b : Bool)
+        → cond b (closedAt (r .time) (cap (openAt (latestOf log) log))) []
+        ≡ cap (cond b (closedAt (r .time) (openAt (latestOf log) log)) [])
     go true = keep-map (isShut (r .time)) (recount capped) (openAt (latestOf log) log)
     go false = refl
 
 -- what closes from a view of the reference model stands behind what closed before
 closings-more : (past : List Reception) (r : Reception) (rest : List Entry)
-    → cap (closings past) ++ (closedFrom (modelView (logOf past)) r (answerTo (logOf past) r) ++ rest) ≡ cap (closings (r ∷ past)) ++ rest
+    → cap (closings past) ++ (closedFrom (modelView (logOf past)) r (answerTo (logOf past) r) ++ rest)
+    ≡ cap (closings (r ∷ past)) ++ rest
 closings-more past r rest =
     let a = answerTo (logOf past) r in
     ap (λ (m : List Entry). cap (closings past) ++ (m ++ rest)) (closed-view (logOf past) r a)
@@ -186,17 +194,22 @@ closings-from : (past rs : List Reception) → Good (modelView (logOf past)) →
     → cap (closings past) ++ closingsFrom (modelView (logOf past)) rs ≡ cap (closings (pastAfter past rs))
 closings-from past [] g t = append-nil (cap (closings past))
 closings-from past (r ∷ rs) g t =
-    ap (λ (o : Outcome). cap (closings past) ++ (closedFrom (modelView (logOf past)) r (o .answer) ++ closingsFrom (o .next) rs)) (same-step (logOf past) r g)
+    ap (λ (o : Outcome). cap (closings past)
+    ++ (closedFrom (modelView (logOf past)) r (o .answer) ++ closingsFrom (o .next) rs))
+    (same-step (logOf past) r g)
     ∙ closings-more past r (closingsFrom (modelView (logOf (r ∷ past))) rs)
     ∙ closings-from (r ∷ past) rs (good-after (logOf past) r g (t .0)) (t .1)
 
 -- with what is still open they are all that was opened
-all-opened : (past : List Reception) → cap (closings past) ++ modelView (logOf past) .entries ≡ cap (keptOf (logOf past))
+all-opened : (past : List Reception)
+    → cap (closings past) ++ modelView (logOf past) .entries ≡ cap (keptOf (logOf past))
 unfolding modelView
 all-opened past =
-    sym (map-append (recount capped) (closings past) (openAt (latestOf (logOf past)) (logOf past))) ∙ ap cap (closed-once past)
+    sym (map-append (recount capped) (closings past) (openAt (latestOf (logOf past)) (logOf past)))
+    ∙ ap cap (closed-once past)
 
-once : (past : List Reception) (l : List Entry) (v : View) → l ≡ cap (closings past) → v ≡ modelView (logOf past) → EachOnce (l ++ v .entries) past
+once : (past : List Reception) (l : List Entry) (v : View) → l ≡ cap (closings past)
+    → v ≡ modelView (logOf past) → EachOnce (l ++ v .entries) past
 once past l v e f = rw (e, f, all-opened past) (each-once past)
 
 fresh-good : Good (modelView (logOf []))
@@ -216,13 +229,16 @@ module _ {State : Type 0} (view : State → View) where
       → cap (closings past) ++ closingsOf view t ≡ cap (closings (pastAfter past (bare (receptionsOf h))))
   closings-shown past ended e g ok = append-nil (cap (closings past))
   closings-shown past (received {c = c} {r = r} {a = a} f s t) e g ok =
-      let is : a ≡ answerTo (logOf past) r
-      = ap (λ (o : Outcome). o .answer) f ∙ ap (λ (v : View). step v r .answer) e ∙ ap (λ (o : Outcome). o .answer) (same-step (logOf past) r g) in
+      let is : a ≡ answerTo (logOf past) r =
+      ap (λ (o : Outcome). o .answer) f ∙ ap (λ (v : View). step v r .answer) e
+      ∙ ap (λ (o : Outcome). o .answer) (same-step (logOf past) r g) in
       ap₂ (λ (v : View) (b : Shown). cap (closings past) ++ (closedFrom v r b ++ closingsOf view t)) e is
       ∙ closings-more past r (closingsOf view t)
-      ∙ closings-shown (r ∷ past) t (left-model view past (received f s ended) e g (ok .0, tt)) (good-after (logOf past) r g (ok .0)) (ok .1)
+      ∙ closings-shown (r ∷ past) t (left-model view past (received f s ended) e g (ok .0, tt))
+      (good-after (logOf past) r g (ok .0)) (ok .1)
   closings-shown past (saved f t) e g ok = closings-shown past t e g ok
-  closings-shown past (restored f t) e g ok = closings-shown past t (left-model view past (restored f ended) e g (ok .0, tt)) g (ok .1)
+  closings-shown past (restored f t) e g ok =
+      closings-shown past t (left-model view past (restored f ended) e g (ok .0, tt)) g (ok .1)
   closings-shown past (resumed f from k t) e g ok =
       closings-shown past t (left-model view past (resumed f from k ended) e g (ok .0, tt)) g (ok .1)
   closings-shown past (delivered {setting = setting} {rs = rs} {places = places} {h = h} f t) e g ok =

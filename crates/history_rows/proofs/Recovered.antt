@@ -39,7 +39,8 @@ length-rows past [] = omega arith
 length-rows past (g ∷ gs) = go (isRow (answerTo (logOf past) (g .reception))) (length-rows (g .reception ∷ past) gs)
   where
     go : (b : Bool) → length (rowsGiven (g .reception ∷ past) gs) ≤ length gs
-        → length (cond b (g ∷ rowsGiven (g .reception ∷ past) gs) (rowsGiven (g .reception ∷ past) gs)) ≤ suc (length gs)
+        → length (cond b (g ∷ rowsGiven (g .reception ∷ past) gs) (rowsGiven (g .reception ∷ past) gs))
+        ≤ suc (length gs)
     go true ih = omega (arith, ih)
     go false ih = omega (arith, ih)
 
@@ -56,9 +57,11 @@ following from p q (g ∷ gs) h less few t =
     let w = both (leb from (r .time)) (all (λ x. leb from (x .reception .time)) gs) t in
     let whole : length p < maxCount = omega (arith, few) in
     let thin : length q < maxCount = omega (arith, few, less) in
-    let a : answerTo (logOf p) r ≡ answerTo (logOf q) r
-    = follows-answer from (logOf p) (logOf q) h r (low-count p whole) (low-count q thin) (leb-true from (r .time) (w .0)) in
-    let more : Follows from (logOf (r ∷ p)) (logOf (r ∷ q)) = rw (← a) (follows-more from (logOf p) (logOf q) h r (answerTo (logOf p) r)) in
+    let a : answerTo (logOf p) r ≡ answerTo (logOf q) r =
+    follows-answer from (logOf p) (logOf q) h r (low-count p whole)
+    (low-count q thin) (leb-true from (r .time) (w .0)) in
+    let more : Follows from (logOf (r ∷ p)) (logOf (r ∷ q)) =
+    rw (← a) (follows-more from (logOf p) (logOf q) h r (answerTo (logOf p) r)) in
     let next = following from (r ∷ p) (r ∷ q) gs more (omega (arith, less)) (omega (arith, few)) (w .1) in
     let reply : Shown → Replied = λ s. record { answer = s; sent = sentWith (g .setting) s r } in
     record {
@@ -76,9 +79,12 @@ module _ {State : Type 0} (view : State → View) where
       let rows = rowsGiven past (receptionsOf g) in
       let p = pastBy past g in
       let q = pastAfter past (bare rows) in
-      let good : Good (modelView (logOf past)) = burst-good [] (bare (receptionsOf h)) fresh-good (history-timely h ok-h) in
-      let middle : view (leftBy view s) ≡ modelView (logOf past) = left-model view [] s (from-c ∙ fresh-model) fresh-good ok-h in
-      let back : _≡_ {A = RestoreResult} (record { number = n; next = view d′ }) (record { number = 0; next = modelView (logOf past) })
+      let good : Good (modelView (logOf past)) =
+      burst-good [] (bare (receptionsOf h)) fresh-good (history-timely h ok-h) in
+      let middle : view (leftBy view s) ≡ modelView (logOf past) =
+      left-model view [] s (from-c ∙ fresh-model) fresh-good ok-h in
+      let back : _≡_ {A = RestoreResult} (record { number = n; next = view d′ })
+      (record { number = 0; next = modelView (logOf past) })
       = e ∙ ap₂ (λ (v w : View). restoreOf v (imageOf w)) from-d middle ∙ restore-image good in
       let rows-ok = rows-timely past (receptionsOf g) (history-timely g ok-g) in
       let rows-few : AllTimely rows = rw (receptions-one-by-one rows) at (history-timely (oneByOne rows) rows-ok) in
@@ -88,7 +94,9 @@ module _ {State : Type 0} (view : State → View) where
       ∙ ap (λ (gs : List Given). modelView (logOf (pastAfter past (bare gs)))) (receptions-one-by-one rows) in
       let good-p : Good (modelView (logOf p)) = burst-good past (bare (receptionsOf g)) good (history-timely g ok-g) in
       let good-q : Good (modelView (logOf q)) = burst-good past (bare rows) good rows-few in
-      let b = both-runs past past (receptionsOf g) (record { thinned = thinned-same (logOf past); newest = λ _. refl }) .level .thinned in
+      let b =
+      both-runs past past (receptionsOf g)
+      (record { thinned = thinned-same (logOf past); newest = λ _. refl }) .level .thinned in
       let less : length q ≤ length p
       = omega (
         arith,
@@ -100,12 +108,15 @@ module _ {State : Type 0} (view : State → View) where
       ) in
       let low : length p + length (receptionsOf f) < 2 ^ 64
       = omega (arith, few, length-past p (bare (receptionsOf f)), length-map (receptionsOf f) (λ r. r .reception)) in
-      let o = following (latestOf (logOf p)) p q (receptionsOf f) (record { openings = b .openings; latest = omega (arith, b .latest) }) less low late in
+      let o =
+      following (latestOf (logOf p)) p q (receptionsOf f)
+      (record { openings = b .openings; latest = omega (arith, b .latest) }) less low late in
       let whole = logOf (pastBy p f) in
       let thin = logOf (pastBy q f) in
       record {
         replies = replies-from view p left good-p ok-f w ∙ o .replies ∙ sym (replies-from view q alone good-q ok-f z);
         openings =
-            views-later whole thin (o .follows .openings) (omega (arith, o .follows .latest)) (view (leftBy view w)) (view (leftBy view z))
+            views-later whole thin (o .follows .openings) (omega (arith, o .follows .latest))
+            (view (leftBy view w)) (view (leftBy view z))
             (left-model view p w left good-p ok-f) (left-model view q z alone good-q ok-f);
       }

@@ -22,16 +22,22 @@ kept past (r ∷ more) = go (isRow (answerTo (logOf (more ++ past)) r)) refl (ke
         let a : answerTo (logOf (more ++ past)) r ≡ answerTo (logOf (alone (logSince past more) ++ past)) r
         = thinned-answer (logOf (more ++ past)) (logOf (alone (logSince past more) ++ past)) (k .thinned) r is in
         record {
-          answers = rw is (ap₂ (λ (s : Shown) (l : List Logged). record { reception = r; answer = s } ∷ l) a (k .answers));
-          thinned = rw is (thinned-row (logOf (more ++ past)) (logOf (alone (logSince past more) ++ past)) (k .thinned) r is);
+          answers =
+              rw is (ap₂ (λ (s : Shown) (l : List Logged). record { reception = r; answer = s } ∷ l) a (k .answers));
+          thinned =
+              rw is
+              (thinned-row (logOf (more ++ past)) (logOf (alone (logSince past more) ++ past)) (k .thinned) r is);
         }
     go false is k = record {
       answers = rw is (k .answers);
       thinned =
-          rw is (thinned-other (logOf (more ++ past)) (logOf (alone (logSince past more) ++ past)) (k .thinned) r (answerTo (logOf (more ++ past)) r) is);
+          rw is
+          (thinned-other (logOf (more ++ past)) (logOf (alone (logSince past more) ++ past))
+          (k .thinned) r (answerTo (logOf (more ++ past)) r) is);
     }
 
-pub rows-thinned : (past more : List Reception) → Thinned (logOf (more ++ past)) (logOf (alone (logSince past more) ++ past))
+pub rows-thinned : (past more : List Reception)
+    → Thinned (logOf (more ++ past)) (logOf (alone (logSince past more) ++ past))
 rows-thinned past more = kept past more .thinned
 
 pub rows-alone-since : RowsAloneSince
@@ -45,7 +51,8 @@ rows-alone-since past more =
 log-since-none : (past : List Reception) → logSince [] past ≡ logOf past
 log-since-none [] = refl
 log-since-none (r ∷ past) =
-    ap₂ (λ (p : List Reception) (l : List Logged). record { reception = r; answer = answerTo (logOf p) r } ∷ l) (append-nil past) (log-since-none past)
+    ap₂ (λ (p : List Reception) (l : List Logged). record { reception = r; answer = answerTo (logOf p) r } ∷ l)
+    (append-nil past) (log-since-none past)
 
 -- before all receptions the middle is the beginning
 pub rows-alone : RowsAlone
@@ -54,7 +61,8 @@ rows-alone past =
     let e = log-since-none past in
     record {
       answers =
-          ap rowsOf (sym e) ∙ k .answers ∙ log-since-none (alone (logSince [] past)) ∙ ap (λ (l : List Logged). logOf (alone l)) e;
+          ap rowsOf (sym e) ∙ k .answers ∙ log-since-none (alone (logSince [] past))
+          ∙ ap (λ (l : List Logged). logOf (alone l)) e;
       openings = λ t.
           ap (λ (p : List Reception). map openedBy (openAt t (logOf p))) (sym (append-nil past)) ∙ k .openings t
           ∙ ap (λ (p : List Reception). map openedBy (openAt t (logOf p))) (append-nil (alone (logSince [] past)))

@@ -38,13 +38,15 @@ pub record Both (p q : List Reception) (gs : List Given) : Type 0 where
 
 pub both-runs : (p q : List Reception) (gs : List Given) → Level (logOf p) (logOf q) → Both p q gs
 both-runs p q [] h = record { replies = refl; level = h; latest = refl }
-both-runs p q (g ∷ gs) h = go (isRow (answerTo (logOf p) (g .reception))) refl (λ q′ k. both-runs (g .reception ∷ p) q′ gs k)
+both-runs p q (g ∷ gs) h =
+    go (isRow (answerTo (logOf p) (g .reception))) refl (λ q′ k. both-runs (g .reception ∷ p) q′ gs k)
   where
     reply : Shown → Replied
     reply a = record { answer = a; sent = sentWith (g .setting) a (g .reception) }
 
     go : (b : Bool) → isRow (answerTo (logOf p) (g .reception)) ≡ b
-        → ((q′ : List Reception) → Level (logOf (g .reception ∷ p)) (logOf q′) → Both (g .reception ∷ p) q′ gs) → Both p q (g ∷ gs)
+        → ((q′ : List Reception) → Level (logOf (g .reception ∷ p)) (logOf q′) → Both (g .reception ∷ p) q′ gs)
+        → Both p q (g ∷ gs)
     go true is on =
         let r = g .reception in
         let a : answerTo (logOf p) r ≡ answerTo (logOf q) r = thinned-answer (logOf p) (logOf q) (h .thinned) r is in
@@ -82,10 +84,12 @@ module _ (whole thin : List Logged) (e : map openedBy (keptOf whole) ≡ map ope
   same-openings = view-openings thin ∙ sym (same-open (keptOf whole) (keptOf thin) e (latestOf thin))
 
   later-openings : latestOf thin ≤ latestOf whole
-      → map openedBy (keep (isOpen (latestOf whole)) (modelView thin .entries)) ≡ map openedBy (modelView whole .entries)
+      → map openedBy (keep (isOpen (latestOf whole)) (modelView thin .entries))
+      ≡ map openedBy (modelView whole .entries)
   later-openings low =
       let t = latestOf whole in
-      open-openings t (modelView thin .entries) ∙ ap (keep (opensAt t)) same-openings ∙ sym (open-openings t (openAt (latestOf thin) whole))
+      open-openings t (modelView thin .entries) ∙ ap (keep (opensAt t)) same-openings
+      ∙ sym (open-openings t (openAt (latestOf thin) whole))
       ∙ ap (map openedBy) (keep-keep (isOpen t) (isOpen (latestOf thin)) (open-before low) (keptOf whole))
       ∙ sym (view-openings whole)
 
@@ -99,18 +103,21 @@ module _ (whole thin : List Logged) (e : map openedBy (keptOf whole) ≡ map ope
 
 module _ (whole thin : List Logged) (h : Level whole thin) where
   newest-openings : endsInRow whole ≡ true
-      → (modelView thin .latest ≡ modelView whole .latest) × (map openedBy (modelView thin .entries) ≡ map openedBy (modelView whole .entries))
+      → (modelView thin .latest ≡ modelView whole .latest)
+      × (map openedBy (modelView thin .entries) ≡ map openedBy (modelView whole .entries))
   newest-openings e =
       let same = h .newest e in (
         view-latest thin ∙ sym same ∙ sym (view-latest whole),
-        same-openings whole thin (h .thinned .openings) ∙ ap (λ (t : ℕ). map openedBy (openAt t whole)) (sym same) ∙ sym (view-openings whole),
+        same-openings whole thin (h .thinned .openings)
+            ∙ ap (λ (t : ℕ). map openedBy (openAt t whole)) (sym same) ∙ sym (view-openings whole),
       )
 
 -- ---- states
 
 pub rows-timely : (past : List Reception) (gs : List Given) → AllTimely gs → IsHistory (oneByOne (rowsGiven past gs))
 rows-timely past [] t = tt
-rows-timely past (g ∷ gs) t = go (isRow (answerTo (logOf past) (g .reception))) (rows-timely (g .reception ∷ past) gs (t .1))
+rows-timely past (g ∷ gs) t =
+    go (isRow (answerTo (logOf past) (g .reception))) (rows-timely (g .reception ∷ past) gs (t .1))
   where
     go : (b : Bool) → IsHistory (oneByOne (rowsGiven (g .reception ∷ past) gs))
         → IsHistory (oneByOne (cond b (g ∷ rowsGiven (g .reception ∷ past) gs) (rowsGiven (g .reception ∷ past) gs)))
@@ -118,7 +125,8 @@ rows-timely past (g ∷ gs) t = go (isRow (answerTo (logOf past) (g .reception))
     go false ok = ok
 
 module _ {State : Type 0} (view : State → View) where
-  pub replies-from : (past : List Reception) {c : State} {h : List Call} {l : List Seen} → view c ≡ modelView (logOf past)
+  pub replies-from : (past : List Reception) {c : State} {h : List Call} {l : List Seen}
+      → view c ≡ modelView (logOf past)
       → Good (modelView (logOf past)) → IsHistory h → Shows view c h l → repliesIn h l ≡ repliesAt past (receptionsOf h)
   replies-from past {h = h} e g ok t =
       ap (repliesIn h) (shows-run view t ∙ ap (λ v. run v h) e ∙ same-run past h g ok) ∙ expected-replies past h
@@ -131,7 +139,8 @@ module _ {State : Type 0} (view : State → View) where
   rows-from past g h ok c d from-c from-d l m t u =
       let rows = rowsGiven past (receptionsOf h) in
       let rows-ok : IsHistory (struck past h) = rows-timely past (receptionsOf h) (history-timely h ok) in
-      let b = both-runs past past (receptionsOf h) (record { thinned = thinned-same (logOf past); newest = λ _. refl }) in
+      let b =
+      both-runs past past (receptionsOf h) (record { thinned = thinned-same (logOf past); newest = λ _. refl }) in
       let whole = logOf (pastBy past h) in
       let thin = logOf (pastAfter past (bare rows)) in
       let left : view (leftBy view t) ≡ modelView whole = left-model view past t from-c g ok in
@@ -147,11 +156,13 @@ module _ {State : Type 0} (view : State → View) where
             ap (λ (v : View). map openedBy (v .entries)) alone ∙ same-openings whole thin (b .level .thinned .openings)
             ∙ ap (λ (t : ℕ). map openedBy (openAt t whole)) (b .latest);
         later =
-            views-later whole thin (b .level .thinned .openings) (b .level .thinned .latest) (view (leftBy view t)) (view (leftBy view u)) left alone;
+            views-later whole thin (b .level .thinned .openings) (b .level .thinned .latest)
+            (view (leftBy view t)) (view (leftBy view u)) left alone;
         newest = λ e.
             let n = newest-openings whole thin (b .level) e in (
               ap (λ (v : View). v .latest) alone ∙ n .0 ∙ sym (ap (λ (v : View). v .latest) left),
-              ap (λ (v : View). map openedBy (v .entries)) alone ∙ n .1 ∙ sym (ap (λ (v : View). map openedBy (v .entries)) left),
+              ap (λ (v : View). map openedBy (v .entries)) alone ∙ n .1
+                  ∙ sym (ap (λ (v : View). map openedBy (v .entries)) left),
             );
       }
 
@@ -165,9 +176,12 @@ module _ {State : Type 0} (view : State → View) where
   pub restored-rows-alone : RestoredRowsAlone view
   restored-rows-alone h g ok ok′ c d d′ from-c from-d k l m s t n e u =
       let past = pastOf h in
-      let good : Good (modelView (logOf past)) = burst-good [] (bare (receptionsOf h)) fresh-good (history-timely h ok) in
-      let middle : view (leftBy view s) ≡ modelView (logOf past) = left-model view [] s (from-c ∙ fresh-model) fresh-good ok in
-      let back : _≡_ {A = RestoreResult} (record { number = n; next = view d′ }) (record { number = 0; next = modelView (logOf past) })
+      let good : Good (modelView (logOf past)) =
+      burst-good [] (bare (receptionsOf h)) fresh-good (history-timely h ok) in
+      let middle : view (leftBy view s) ≡ modelView (logOf past) =
+      left-model view [] s (from-c ∙ fresh-model) fresh-good ok in
+      let back : _≡_ {A = RestoreResult} (record { number = n; next = view d′ })
+      (record { number = 0; next = modelView (logOf past) })
       = e ∙ ap₂ (λ (v w : View). restoreOf v (imageOf w)) from-d middle ∙ restore-image good in (
         ap (λ (q : RestoreResult). q .number) back,
         rows-from past good g ok′ (leftBy view s) d′ middle (ap (λ (q : RestoreResult). q .next) back) l m t u,

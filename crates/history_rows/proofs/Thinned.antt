@@ -31,7 +31,8 @@ opened-credit more q [] = refl
 opened-credit more q (x ∷ l) = go (any q l) (q x) (opened-credit more q l)
   where
     go : (c b : Bool) → map openedBy (credit more q l) ≡ map openedBy l
-        → map openedBy (cond c (x ∷ credit more q l) (cond b (recount more x ∷ l) (x ∷ l))) ≡ openedBy x ∷ map openedBy l
+        → map openedBy (cond c (x ∷ credit more q l) (cond b (recount more x ∷ l) (x ∷ l)))
+        ≡ openedBy x ∷ map openedBy l
     go true b ih = ap (λ (m : List Reception). openedBy x ∷ m) ih
     go false true ih = refl
     go false false ih = refl
@@ -52,7 +53,8 @@ copy-of-opening : (r : Reception) (e : Entry) → isCopyOf (opened (openedBy e))
 unfolding isCopyOf
 copy-of-opening r e = refl
 
-any-openings : (r : Reception) (l : List Entry) → any (λ e. isCopyOf e r) l ≡ any (λ s. isCopyOf (opened s) r) (map openedBy l)
+any-openings : (r : Reception) (l : List Entry)
+    → any (λ e. isCopyOf e r) l ≡ any (λ s. isCopyOf (opened s) r) (map openedBy l)
 any-openings r l = sym (any-map openedBy (λ s. isCopyOf (opened s) r) l ∙ (λ i. any (λ e. copy-of-opening r e i) l))
 
 -- ---- two lists of telegrams with the same openings
@@ -70,8 +72,10 @@ module _ (l m : List Entry) (e : map openedBy l ≡ map openedBy m) where
   -- an answer adds the same opening to both
   pub same-after : (r : Reception) (a : Shown) → map openedBy (keptAfter l r a) ≡ map openedBy (keptAfter m r a)
   same-after r Kept =
-      map-append openedBy l (opened r ∷ []) ∙ ap (λ (k : List Reception). k ++ (r ∷ [])) e ∙ sym (map-append openedBy m (opened r ∷ []))
-  same-after r Copy = opened-credit (λ n. n + 1) (isOpenCopy r) l ∙ e ∙ sym (opened-credit (λ n. n + 1) (isOpenCopy r) m)
+      map-append openedBy l (opened r ∷ []) ∙ ap (λ (k : List Reception). k ++ (r ∷ [])) e
+      ∙ sym (map-append openedBy m (opened r ∷ []))
+  same-after r Copy =
+      opened-credit (λ n. n + 1) (isOpenCopy r) l ∙ e ∙ sym (opened-credit (λ n. n + 1) (isOpenCopy r) m)
   same-after r Loose = e
   same-after r (Refused n) = e
 
@@ -155,23 +159,29 @@ module _ (whole thin : List Logged) (h : Thinned whole thin) where
         ∙ sym (row-answer thin r (same-facts f))
 
     latest-more : (a : Shown)
-        → latestOf (record { reception = r; answer = a } ∷ thin) ≤ latestOf (record { reception = r; answer = a } ∷ whole)
+        → latestOf (record { reception = r; answer = a } ∷ thin)
+        ≤ latestOf (record { reception = r; answer = a } ∷ whole)
     latest-more a = go (isAccepted a)
       where
-        go : (b : Bool) → cond b (max (r .time) (latestOf thin)) (latestOf thin) ≤ cond b (max (r .time) (latestOf whole)) (latestOf whole)
+        go : (b : Bool)
+            → cond b (max (r .time) (latestOf thin)) (latestOf thin)
+            ≤ cond b (max (r .time) (latestOf whole)) (latestOf whole)
         go true = omega (arith, h .latest)
         go false = h .latest
 
     received-more : (a : Shown)
-        → answers isReceived (record { reception = r; answer = a } ∷ thin) ≤ answers isReceived (record { reception = r; answer = a } ∷ whole)
+        → answers isReceived (record { reception = r; answer = a } ∷ thin)
+        ≤ answers isReceived (record { reception = r; answer = a } ∷ whole)
     received-more a = go (isReceived a)
       where
         go : (b : Bool)
-            → cond b (answers isReceived thin + 1) (answers isReceived thin) ≤ cond b (answers isReceived whole + 1) (answers isReceived whole)
+            → cond b (answers isReceived thin + 1) (answers isReceived thin)
+            ≤ cond b (answers isReceived whole + 1) (answers isReceived whole)
         go true = omega (arith, h .received)
         go false = h .received
 
-    thinned-both : (a : Shown) → Thinned (record { reception = r; answer = a } ∷ whole) (record { reception = r; answer = a } ∷ thin)
+    thinned-both : (a : Shown)
+        → Thinned (record { reception = r; answer = a } ∷ whole) (record { reception = r; answer = a } ∷ thin)
     thinned-both a = record {
       openings = same-after (keptOf whole) (keptOf thin) (h .openings) r a;
       latest = latest-more a;
@@ -179,11 +189,13 @@ module _ (whole thin : List Logged) (h : Thinned whole thin) where
     }
 
     pub thinned-row : isRow (answerTo whole r) ≡ true
-        → Thinned (record { reception = r; answer = answerTo whole r } ∷ whole) (record { reception = r; answer = answerTo thin r } ∷ thin)
+        → Thinned (record { reception = r; answer = answerTo whole r } ∷ whole)
+        (record { reception = r; answer = answerTo thin r } ∷ thin)
     thinned-row e = rw (← thinned-answer e) (thinned-both (answerTo whole r))
 
     -- what is no row opens nothing
-    no-opening : (a : Shown) → isRow a ≡ false → map openedBy (keptAfter (keptOf whole) r a) ≡ map openedBy (keptOf thin)
+    no-opening : (a : Shown) → isRow a ≡ false
+        → map openedBy (keptAfter (keptOf whole) r a) ≡ map openedBy (keptOf thin)
     no-opening Kept e = absurd (false≢true (sym e))
     no-opening Copy e = opened-credit (λ n. n + 1) (isOpenCopy r) (keptOf whole) ∙ h .openings
     no-opening Loose e = h .openings
@@ -196,7 +208,8 @@ module _ (whole thin : List Logged) (h : Thinned whole thin) where
         go true = omega (arith, h .latest)
         go false = h .latest
 
-    received-only : (a : Shown) → answers isReceived thin ≤ answers isReceived (record { reception = r; answer = a } ∷ whole)
+    received-only : (a : Shown)
+        → answers isReceived thin ≤ answers isReceived (record { reception = r; answer = a } ∷ whole)
     received-only a = go (isReceived a)
       where
         go : (b : Bool) → answers isReceived thin ≤ cond b (answers isReceived whole + 1) (answers isReceived whole)
