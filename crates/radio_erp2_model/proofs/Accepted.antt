@@ -26,7 +26,8 @@ same-differ true = refl
 same-differ false = refl
 
 -- two bytes, the first with an address control that is not reserved, hold what is read from them
-bits-hold : (b e : ℕ) (x : Bool) → b / 32 < 4 → e < 256 → (ltb 7 (b / 32) || ltb 15 (b % 16) || (x && (ltb 15 (e / 16) || ltb 15 (e % 16)))) ≡ false
+bits-hold : (b e : ℕ) (x : Bool) → b / 32 < 4 → e < 256
+    → (ltb 7 (b / 32) || ltb 15 (b % 16) || (x && (ltb 15 (e / 16) || ltb 15 (e % 16)))) ≡ false
 bits-hold b e x h k =
     let p : ltb 7 (b / 32) ≡ false = le-ltb 7 (b / 32) (omega arith) in
     let q : ltb 15 (b % 16) ≡ false = le-ltb 15 (b % 16) (omega arith) in
@@ -61,7 +62,8 @@ module _ (s : List ℕ) (v : Sound s) (b : Bytes s) where
       let low = leb-false (lengthByte s) 6 h in
       let e = second-lt h (headerIn s .extended) refl in
       rw (originator-holds, form-long s v h, h, field-one 1 s (omega (arith, v .long)))
-      (bits-hold (getD s 1 0) (unbe (part 2 (cond (headerIn s .extended) 1 0) s)) (headerIn s .extended) (v .allowed h) e)
+      (bits-hold (getD s 1 0) (unbe (part 2 (cond (headerIn s .extended) 1 0) s))
+      (headerIn s .extended) (v .allowed h) e)
 
   long-agrees : isShort s ≡ false → isAgainstHeader (fieldsOf s) ≡ false
   unfolding isAgainstHeader fieldsOf
@@ -79,9 +81,16 @@ module _ (s : List ℕ) (v : Sound s) (b : Bytes s) where
   fits-read true h = rw (length-read s v, form-short s v h, named h, eq-eqb (lengthByte s) (lengthByte s) refl) refl
   fits-read false h =
       let low = leb-false (lengthByte s) 6 h in
-      rw (length-read s v, form-long s v h, le-ltb (lengthByte s) 7 (omega arith), le-ltb 255 (lengthByte s) (omega (arith, b 0))) refl
+      rw (
+        length-read s v,
+        form-long s v h,
+        le-ltb (lengthByte s) 7 (omega arith),
+        le-ltb 255 (lengthByte s) (omega (arith, b 0)),
+      )
+      refl
 
-  allowed-read : (x : Bool) → isShort s ≡ x → (not (isShortForm (fieldsOf s)) && isReserved (fieldsOf s .header)) ≡ false
+  allowed-read : (x : Bool) → isShort s ≡ x
+      → (not (isShortForm (fieldsOf s)) && isReserved (fieldsOf s .header)) ≡ false
   unfolding fieldsOf
   allowed-read true h = rw (form-short s v h) refl
   allowed-read false h =

@@ -18,7 +18,8 @@ header-back b = go (eqb (b / 16 % 2) 1) refl
 pub extension-back : (e : ℕ) → e / 16 * 16 + e % 16 ≡ e
 extension-back e = omega arith
 
-three-bits : (c k : ℕ) (x : Bool) → c < 8 → k < 16 → headerOf (c * 32 + cond x 16 0 + k) ≡ record { control = c; extended = x; kind = k }
+three-bits : (c k : ℕ) (x : Bool) → c < 8 → k < 16
+    → headerOf (c * 32 + cond x 16 0 + k) ≡ record { control = c; extended = x; kind = k }
 three-bits c k true h l =
     let p : (c * 32 + 16 + k) / 32 ≡ c = omega arith in
     let q : eqb ((c * 32 + 16 + k) / 16 % 2) 1 ≡ true = eq-eqb ((c * 32 + 16 + k) / 16 % 2) 1 (omega arith) in

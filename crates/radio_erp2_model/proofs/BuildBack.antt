@@ -80,7 +80,8 @@ module _ (t : Telegram) (shape : Shaped t) (f : isShortForm t ≡ true) (v : Sho
       let b : unbe (extensionField t) ≡ 0 = rw f (none _) in
       let c : unbe (subtypeField t) ≡ 0 = rw f (none _) in
       let e : unbe (destinationField t) ≡ 0 = rw f (none _) in
-      let d : unbe (originatorField t) ≡ t .originator = rw f (unbe-be (shortSizes (t .short) .originator) (t .originator) (v .originator)) in
+      let d : unbe (originatorField t) ≡ t .originator =
+      rw f (unbe-be (shortSizes (t .short) .originator) (t .originator) (v .originator)) in
       rw (
         short-sizes,
         length-built t,
@@ -132,7 +133,8 @@ module _ (t : Telegram) (shape : Shaped t) (f : isShortForm t ≡ false) (v : Lo
     one-extension = rw (f, e) refl
 
     extension-read : unbe (extensionField t) ≡ extensionByte (t .extension)
-    extension-read = rw one-extension (unbe-be 1 (extensionByte (t .extension)) (omega (arith, v .hops there, v .announced there)))
+    extension-read =
+        rw one-extension (unbe-be 1 (extensionByte (t .extension)) (omega (arith, v .hops there, v .announced there)))
 
     second-byte : getD (erp2Bytes t) 2 0 ≡ extensionByte (t .extension)
     second-byte =
@@ -142,21 +144,24 @@ module _ (t : Telegram) (shape : Shaped t) (f : isShortForm t ≡ false) (v : Lo
         ∙ ap (λ (a : ℕ). part a (sizesFor t .extension) (erp2Bytes t)) (sym two) ∙ part-extension t)
         ∙ extension-read
 
-  optional-is : (x : Bool) → t .header .extended ≡ x → cond x (getD (erp2Bytes t) 2 0 % 16) 0 ≡ cond x (t .extension .announced) 0
+  optional-is : (x : Bool) → t .header .extended ≡ x
+      → cond x (getD (erp2Bytes t) 2 0 % 16) 0 ≡ cond x (t .extension .announced) 0
   optional-is true e = rw (second-byte e) (omega (arith, v .hops (there e), v .announced (there e)))
   optional-is false e = refl
 
   announced-sizes : longSizes (headerIn (erp2Bytes t)) (getD (erp2Bytes t) 2 0 % 16) ≡ sizesFor t
   announced-sizes =
       rw f
-      (ap (λ (h : Header). longSizes h (getD (erp2Bytes t) 2 0 % 16)) header-is ∙ ap (withOptional (t .header)) (optional-is (t .header .extended) refl))
+      (ap (λ (h : Header). longSizes h (getD (erp2Bytes t) 2 0 % 16)) header-is
+      ∙ ap (withOptional (t .header)) (optional-is (t .header .extended) refl))
 
   long-sizes : sizesIn (erp2Bytes t) ≡ sizesFor t
   long-sizes = rw long-is announced-sizes
 
   -- each optional field, there or not
   extension-is : (x : Bool) → t .header .extended ≡ x
-      → extensionOf (t .header .extended) (unbe (extensionField t)) ≡ cond (t .extension .present) (t .extension) noExtension
+      → extensionOf (t .header .extended) (unbe (extensionField t))
+      ≡ cond (t .extension .present) (t .extension) noExtension
   extension-is true e =
       let p : extensionByte (t .extension) / 16 ≡ t .extension .hops = omega (arith, v .announced (there e)) in
       let q : extensionByte (t .extension) % 16 ≡ t .extension .announced = omega (arith, v .announced (there e)) in
@@ -168,20 +173,24 @@ module _ (t : Telegram) (shape : Shaped t) (f : isShortForm t ≡ false) (v : Lo
       rw (r, v .extension, e)
 
   subtype-is : (x : Bool) → isTypeExtended (t .header) ≡ x
-      → record { present = isTypeExtended (t .header); value = unbe (subtypeField t) } ≡ cond (t .subtype .present) (t .subtype) noSubtype
+      → record { present = isTypeExtended (t .header); value = unbe (subtypeField t) }
+      ≡ cond (t .subtype .present) (t .subtype) noSubtype
   subtype-is true e =
       let q : unbe (subtypeField t) ≡ t .subtype .value = rw (f, e) (unbe-be 1 (t .subtype .value) (shape .value)) in
-      let r : record { present = isTypeExtended (t .header); value = unbe (subtypeField t) } ≡ t .subtype = rw (q, ← v .subtype) in
+      let r : record { present = isTypeExtended (t .header); value = unbe (subtypeField t) } ≡ t .subtype =
+      rw (q, ← v .subtype) in
       r ∙ sym (ap (λ (b : Bool). cond b (t .subtype) noSubtype) (v .subtype ∙ e))
   subtype-is false e =
       let r : unbe (subtypeField t) ≡ 0 = rw (f, e) (none _) in
       rw (r, v .subtype, e)
 
   destination-is : (x : Bool) → isAddressed (t .header) ≡ x
-      → record { present = isAddressed (t .header); id = unbe (destinationField t) } ≡ cond (t .destination .present) (t .destination) noDestination
+      → record { present = isAddressed (t .header); id = unbe (destinationField t) }
+      ≡ cond (t .destination .present) (t .destination) noDestination
   destination-is true e =
       let q : unbe (destinationField t) ≡ t .destination .id = rw (f, e) (unbe-be 4 (t .destination .id) (shape .id)) in
-      let r : record { present = isAddressed (t .header); id = unbe (destinationField t) } ≡ t .destination = rw (q, ← v .destination) in
+      let r : record { present = isAddressed (t .header); id = unbe (destinationField t) } ≡ t .destination =
+      rw (q, ← v .destination) in
       r ∙ sym (ap (λ (b : Bool). cond b (t .destination) noDestination) (v .destination ∙ e))
   destination-is false e =
       let r : unbe (destinationField t) ≡ 0 = rw (f, e) (none _) in
@@ -212,7 +221,8 @@ module _ (t : Telegram) (shape : Shaped t) (f : isShortForm t ≡ false) (v : Lo
 
   long-normal : normalOf t ≡ made 0 (t .header) keptExtension keptSubtype keptDestination
   long-normal =
-      ap (λ (n : ℕ). made n (cond (isShortForm t) noHeader (t .header)) keptExtension keptSubtype keptDestination) (v .none)
+      ap (λ (n : ℕ). made n (cond (isShortForm t) noHeader (t .header)) keptExtension keptSubtype keptDestination)
+      (v .none)
       ∙ ap (λ (b : Bool). made 0 (cond b noHeader (t .header)) keptExtension keptSubtype keptDestination) f
 
   abbrev readSubtype : Header → Subtype
@@ -234,7 +244,8 @@ module _ (t : Telegram) (shape : Shaped t) (f : isShortForm t ≡ false) (v : Lo
   long-fields : fieldsOf (erp2Bytes t) ≡ normalOf t
   unfolding fieldsOf
   long-fields =
-      let d : unbe (originatorField t) ≡ t .originator = rw f (unbe-be (longSizes (t .header) 0 .originator) (t .originator) (v .originator)) in
+      let d : unbe (originatorField t) ≡ t .originator =
+      rw f (unbe-be (longSizes (t .header) 0 .originator) (t .originator) (v .originator)) in
       rw (
         long-sizes,
         length-built t,
@@ -250,9 +261,12 @@ module _ (t : Telegram) (shape : Shaped t) (f : isShortForm t ≡ false) (v : Lo
         lt-leb (telegramSize t) 6 (omega (arith, v .low)),
       )
       (ap readAs header-built
-      ∙ ap (λ (e : Extension). made 0 (t .header) e (readSubtype (t .header)) (readDestination (t .header))) (extension-is (t .header .extended) refl)
-      ∙ ap (λ (u : Subtype). made 0 (t .header) keptExtension u (readDestination (t .header))) (subtype-is (isTypeExtended (t .header)) refl)
-      ∙ ap (λ (w : Destination). made 0 (t .header) keptExtension keptSubtype w) (destination-is (isAddressed (t .header)) refl)
+      ∙ ap (λ (e : Extension). made 0 (t .header) e (readSubtype (t .header)) (readDestination (t .header)))
+      (extension-is (t .header .extended) refl)
+      ∙ ap (λ (u : Subtype). made 0 (t .header) keptExtension u (readDestination (t .header)))
+      (subtype-is (isTypeExtended (t .header)) refl)
+      ∙ ap (λ (w : Destination). made 0 (t .header) keptExtension keptSubtype w)
+      (destination-is (isAddressed (t .header)) refl)
       ∙ sym long-normal)
 
   body-length : length (bodyOf t) + 1 ≡ telegramSize t
@@ -277,9 +291,12 @@ module _ (t : Telegram) (shape : Shaped t) (f : isShortForm t ≡ false) (v : Lo
   long-checks : checkOf (erp2Bytes t) ≡ 0
   unfolding checkOf
   long-checks =
-      let open-address : isReserved (headerIn (erp2Bytes t)) ≡ false = ap isReserved header-is ∙ lt-leb 4 (t .header .control) (v .control) in
-      let fit : ltb (telegramSize t) (overhead (longSizes (headerIn (erp2Bytes t)) (getD (erp2Bytes t) 2 0 % 16))) ≡ false
-      = ap (λ (y : Sizes). ltb (telegramSize t) (overhead y)) announced-sizes ∙ le-ltb (telegramSize t) (overhead (sizesFor t)) room in
+      let open-address : isReserved (headerIn (erp2Bytes t)) ≡ false =
+      ap isReserved header-is ∙ lt-leb 4 (t .header .control) (v .control) in
+      let fit : ltb (telegramSize t) (overhead (longSizes (headerIn (erp2Bytes t)) (getD (erp2Bytes t) 2 0 % 16)))
+      ≡ false =
+      ap (λ (y : Sizes). ltb (telegramSize t) (overhead y)) announced-sizes
+      ∙ le-ltb (telegramSize t) (overhead (sizesFor t)) room in
       rw (
         length-built t,
         built-length t l,

@@ -28,7 +28,8 @@ module _ (s : List ℕ) where
   module _ (some : lengthByte s ≡ 0 → ⊥) (long : length s ≡ 1 + lengthByte s) where
     pub check-short : lengthByte s ≤ 6 → 0 ≡ checkOf s
     unfolding checkOf
-    check-short h = simp (ne-eqb (lengthByte s) 0 some, eq-eqb (length s) (1 + lengthByte s) long, le-leb (lengthByte s) 6 h)
+    check-short h =
+        simp (ne-eqb (lengthByte s) 0 some, eq-eqb (length s) (1 + lengthByte s) long, le-leb (lengthByte s) 6 h)
 
     module _ (h : 6 < lengthByte s) where
       pub check-crc : (getD s (lengthByte s) 0 ≡ crcOf (part 1 (lengthByte s - 1) s) → ⊥) → numberOf Crc ≡ checkOf s
@@ -54,7 +55,8 @@ module _ (s : List ℕ) where
             )
 
         module _ (r : headerIn s .control < 4) where
-          pub check-misfit : lengthByte s < overhead (longSizes (headerIn s) (getD s 2 0 % 16)) → numberOf Misfit ≡ checkOf s
+          pub check-misfit : lengthByte s < overhead (longSizes (headerIn s) (getD s 2 0 % 16))
+              → numberOf Misfit ≡ checkOf s
           unfolding checkOf
           check-misfit m =
               simp (

@@ -21,13 +21,16 @@ use Rattle.radio_erp2_model.specs.Bounds.{Buildable}
 use Rattle.radio_erp2_model.specs.Claims.{Shaped}
 use Rattle.radio_erp2_model.proofs.Lookups.{originator-low}
 
-pub build-facts : (t : Telegram) (out : List ℕ) → buildOf t out .number ≡ 0 → Buildable t × (buildOf t out ≡ written (erp2Bytes t) out)
+pub build-facts : (t : Telegram) (out : List ℕ) → buildOf t out .number ≡ 0
+    → Buildable t × (buildOf t out ≡ written (erp2Bytes t) out)
 unfolding buildOf
 build-facts t out e =
     let p = unrefused (isUnholdable t || isAgainstHeader t) _ out _ (refused-number Argument) e in
     let q = unrefused (not (isShortForm t) && isReserved (t .header)) _ out _ (refused-number ReservedAddress) (p .1) in
     let r = unrefused (isMisfitting t) _ out _ (refused-number Misfit) (q .1) in
-    let u = unrefused (ltb (length out) (1 + telegramSize t)) _ out (written (erp2Bytes t) out) (refused-number ShortOutput) (r .1) in
+    let u =
+    unrefused (ltb (length out) (1 + telegramSize t)) _ out
+    (written (erp2Bytes t) out) (refused-number ShortOutput) (r .1) in
     let w = neither (isUnholdable t) (isAgainstHeader t) (p .0) in
     (record { holds = w .0; agrees = w .1; allowed = q .0; fits = r .0 }, rw (p .0, q .0, r .0, u .0))
 
@@ -65,7 +68,9 @@ module _ (t : Telegram) (v : Buildable t) where
   pub short-facts : isShortForm t ≡ true → Short t
   unfolding isUnholdable isAgainstHeader isMisfitting
   short-facts f =
-      let h = neither (leb (256 ^ shortSizes (t .short) .originator) (t .originator)) (ltb 6 (t .short)) (rw f at (v .holds)) in
+      let h =
+      neither (leb (256 ^ shortSizes (t .short) .originator) (t .originator))
+      (ltb 6 (t .short)) (rw f at (v .holds)) in
       let before-destination = differ (t .extension .present) false || differ (t .subtype .present) false in
       let g = neither before-destination (differ (t .destination .present) false) (rw f at (v .agrees)) in
       let g2 = neither (differ (t .extension .present) false) (differ (t .subtype .present) false) (g .0) in
@@ -84,14 +89,23 @@ module _ (t : Telegram) (v : Buildable t) where
   long-facts f =
       let header-over = ltb 7 (t .header .control) || ltb 15 (t .header .kind) in
       let extension-over = t .extension .present && (ltb 15 (t .extension .hops) || ltb 15 (t .extension .announced)) in
-      let h = neither (leb (256 ^ longSizes (t .header) 0 .originator) (t .originator)) (header-over || extension-over) (rw f at (v .holds)) in
+      let h =
+      neither (leb (256 ^ longSizes (t .header) 0 .originator) (t .originator))
+      (header-over || extension-over) (rw f at (v .holds)) in
       let h1 = neither header-over extension-over (h .1) in
       let h2 = neither (ltb 7 (t .header .control)) (ltb 15 (t .header .kind)) (h1 .0) in
-      let before-destination = differ (t .extension .present) (t .header .extended) || differ (t .subtype .present) (isTypeExtended (t .header)) in
-      let g = neither before-destination (differ (t .destination .present) (isAddressed (t .header))) (rw f at (v .agrees)) in
-      let g2 = neither (differ (t .extension .present) (t .header .extended)) (differ (t .subtype .present) (isTypeExtended (t .header))) (g .0) in
+      let before-destination =
+      differ (t .extension .present) (t .header .extended)
+      || differ (t .subtype .present) (isTypeExtended (t .header)) in
+      let g =
+      neither before-destination
+      (differ (t .destination .present) (isAddressed (t .header))) (rw f at (v .agrees)) in
+      let g2 =
+      neither (differ (t .extension .present) (t .header .extended))
+      (differ (t .subtype .present) (isTypeExtended (t .header))) (g .0) in
       let k = neither (ltb (telegramSize t) 7) (ltb 255 (telegramSize t)) (rw f at (v .fits)) in
-      let bits : t .extension .present ≡ true → (ltb 15 (t .extension .hops) ≡ false) × (ltb 15 (t .extension .announced) ≡ false)
+      let bits : t .extension .present ≡ true
+      → (ltb 15 (t .extension .hops) ≡ false) × (ltb 15 (t .extension .announced) ≡ false)
       = λ e. neither (ltb 15 (t .extension .hops)) (ltb 15 (t .extension .announced)) (rw e at (h1 .1)) in
       record {
         none = eqb-true (t .short) 0 (not-false (eqb (t .short) 0) f);
@@ -114,7 +128,8 @@ pub record Lengths (t : Telegram) : Type 0 where
   pub optional : length (optionalOf t) ≡ sizesFor t .optional
   pub seal : length (sealOf t) ≡ sizesFor t .crc
 
-pub optional-high : (t : Telegram) → Long t → (x : Bool) → t .extension .present ≡ x → cond x (t .extension .announced) 0 ≤ 15
+pub optional-high : (t : Telegram) → Long t → (x : Bool)
+    → t .extension .present ≡ x → cond x (t .extension .announced) 0 ≤ 15
 optional-high t v true e = omega (arith, v .announced e)
 optional-high t v false e = omega arith
 
@@ -134,7 +149,8 @@ module _ (t : Telegram) (shape : Shaped t) where
   long-lengths f v =
       let n : overhead (longSizes (t .header) (t .extension .announced)) + t .len ≤ 255 = rw f at (v .high) in
       let o = originator-low (t .header .control) in
-      let p : cond (t .header .extended) (t .extension .announced) 0 ≤ 15 = rw (v .extension) at (optional-high t v (t .extension .present) refl) in
+      let p : cond (t .header .extended) (t .extension .announced) 0 ≤ 15 =
+      rw (v .extension) at (optional-high t v (t .extension .present) refl) in
       record {
         payload = length-take-le (t .len) (t .payload) (omega (arith, shape .payload));
         optional = rw f (length-take-le _ (t .optional) (omega (arith, shape .optional)));

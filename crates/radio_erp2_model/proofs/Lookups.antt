@@ -16,7 +16,8 @@ module _ (p : ℕ → ℕ → Bool) (d : ℕ) (default : (k : ℕ) → p k d ≡
   from : (j : ℕ) (xs : List ℕ) → every p j xs ≡ true → (i : ℕ) → p (j + i) (getD xs i d) ≡ true
   from j [] e i = default (j + i)
   from j (x ∷ xs) e zero = rw (add-zero j) (both (p j x) (every p (suc j) xs) e .0)
-  from j (x ∷ xs) e (suc i) = rw (add-suc j i, ← suc-add j i) (from (suc j) xs (both (p j x) (every p (suc j) xs) e .1) i)
+  from j (x ∷ xs) e (suc i) =
+      rw (add-suc j i, ← suc-add j i) (from (suc j) xs (both (p j x) (every p (suc j) xs) e .1) i)
 
   lookup : (xs : List ℕ) → every p 0 xs ≡ true → (i : ℕ) → p i (getD xs i d) ≡ true
   lookup xs e i = rw (zero-add i) at (from 0 xs e i)

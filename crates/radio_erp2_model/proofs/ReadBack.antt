@@ -48,7 +48,8 @@ module _ (s : List ℕ) (b : Bytes s) (z : Sizes) (n : ℕ) (long : length s ≡
         part-join 1 (z .header) (z .extension) (extensionAt z) s (omega arith),
         part-join 1 (z .header + z .extension) (z .subtype) (subtypeAt z) s (omega arith),
         part-join 1 (z .header + z .extension + z .subtype) (z .originator) (originatorAt z) s (omega arith),
-        part-join 1 (z .header + z .extension + z .subtype + z .originator) (z .destination) (destinationAt z) s (omega arith),
+        part-join 1 (z .header + z .extension + z .subtype + z .originator)
+            (z .destination) (destinationAt z) s (omega arith),
         part-join 1 (fieldBytes z) n (payloadAt z) s (omega arith),
       )
       (part-join 1 (fieldBytes z + n) (z .optional) (payloadAt z + n) s (omega arith))
@@ -59,7 +60,8 @@ module _ (s : List ℕ) (v : Sound s) where
   unfolding fieldsOf
   sizes-short h = rw (h, ne-eqb (lengthByte s) 0 (λ e. omega (arith, v .some))) refl
 
-  second : isShort s ≡ false → (x : Bool) → headerIn s .extended ≡ x → cond x (unbe (part 2 (cond x 1 0) s) % 16) 0 ≡ cond x (getD s 2 0 % 16) 0
+  second : isShort s ≡ false → (x : Bool) → headerIn s .extended ≡ x
+      → cond x (unbe (part 2 (cond x 1 0) s) % 16) 0 ≡ cond x (getD s 2 0 % 16) 0
   second h true e = rw (field-one 2 s (omega (arith, v .long, leb-false (lengthByte s) 6 h))) refl
   second h false e = refl
 
@@ -137,7 +139,8 @@ module _ (s : List ℕ) (v : Sound s) where
     crc-short h =
         let n : inFront ≡ lengthByte s
         = rw h (omega (arith, short-fits (lengthByte s))) in
-        rw (length-read, body-read, n, form-short h) (ap (λ (l : List ℕ). lengthByte s ∷ l) (append-nil (part 1 (lengthByte s) s)) ∙ whole)
+        rw (length-read, body-read, n, form-short h)
+        (ap (λ (l : List ℕ). lengthByte s ∷ l) (append-nil (part 1 (lengthByte s) s)) ∙ whole)
 
     crc-long : isShort s ≡ false → erp2Bytes (fieldsOf s) ≡ s
     unfolding erp2Bytes
@@ -148,7 +151,16 @@ module _ (s : List ℕ) (v : Sound s) where
         let last : crcOf (part 1 (lengthByte s - 1) s) ∷ [] ≡ part (lengthByte s) 1 s
         = ap (λ (c : ℕ). c ∷ []) (sym (v .intact h)) ∙ part-one (lengthByte s) s (omega (arith, v .long)) in
         let m : lengthByte s - 1 + 1 ≡ lengthByte s = omega arith in
-        rw (length-read, body-read, n, form-long h, last, part-join 1 (lengthByte s - 1) 1 (lengthByte s) s (omega arith), m) whole
+        rw (
+          length-read,
+          body-read,
+          n,
+          form-long h,
+          last,
+          part-join 1 (lengthByte s - 1) 1 (lengthByte s) s (omega arith),
+          m,
+        )
+        whole
 
     by-form-bytes : (x : Bool) → isShort s ≡ x → erp2Bytes (fieldsOf s) ≡ s
     by-form-bytes true h = crc-short h

@@ -16,7 +16,8 @@ use Rattle.radio_erp2_model.specs.Sizes.{extensionAt, subtypeAt, origina
 use Rattle.radio_erp2_model.specs.Building.{sizesFor, telegramSize, dataOf, optionalOf, bodyOf, sealOf, erp2Bytes}
 use Rattle.radio_erp2_model.proofs.Facts.{Lengths}
 
-joined : (l : ℕ) (A B C D E F G H : List ℕ) → l ∷ ((A ++ B ++ C ++ D ++ E ++ F ++ G) ++ H) ≡ flatten ((l ∷ []) ∷ A ∷ B ∷ C ∷ D ∷ E ∷ F ∷ G ∷ H ∷ [])
+joined : (l : ℕ) (A B C D E F G H : List ℕ)
+    → l ∷ ((A ++ B ++ C ++ D ++ E ++ F ++ G) ++ H) ≡ flatten ((l ∷ []) ∷ A ∷ B ∷ C ∷ D ∷ E ∷ F ∷ G ∷ H ∷ [])
 unfolding flatten
 joined l A B C D E F G H = simp (append-assoc, append-nil)
 
@@ -41,13 +42,17 @@ module _ (t : Telegram) where
 
   abbrev segments : List (List ℕ)
   segments =
-      (telegramSize t ∷ []) ∷ headerField ∷ extensionField ∷ subtypeField ∷ originatorField ∷ destinationField ∷ dataOf t ∷ optionalOf t ∷ sealOf t ∷ []
+      (telegramSize t ∷ []) ∷ headerField ∷ extensionField ∷ subtypeField
+      ∷ originatorField ∷ destinationField ∷ dataOf t ∷ optionalOf t ∷ sealOf t ∷ []
 
   is-segments : erp2Bytes t ≡ flatten segments
   unfolding erp2Bytes bodyOf
-  is-segments = joined (telegramSize t) headerField extensionField subtypeField originatorField destinationField (dataOf t) (optionalOf t) (sealOf t)
+  is-segments =
+      joined (telegramSize t) headerField extensionField subtypeField originatorField destinationField
+      (dataOf t) (optionalOf t) (sealOf t)
 
-  segment : (k a n : ℕ) → start k segments ≡ a → length (getD segments k []) ≡ n → part a n (erp2Bytes t) ≡ getD segments k []
+  segment : (k a n : ℕ) → start k segments ≡ a → length (getD segments k []) ≡ n
+      → part a n (erp2Bytes t) ≡ getD segments k []
   segment k a n e h = rw is-segments (part-nth k segments a n e h)
 
   -- ---- how long each is
@@ -79,11 +84,14 @@ module _ (t : Telegram) where
   part-subtype = segment 3 (subtypeAt z) (z .subtype) (omega (arith, header-length, extension-length)) subtype-length
 
   pub part-originator : part (originatorAt z) (z .originator) (erp2Bytes t) ≡ originatorField
-  part-originator = segment 4 (originatorAt z) (z .originator) (omega (arith, header-length, extension-length, subtype-length)) originator-length
+  part-originator =
+      segment 4 (originatorAt z) (z .originator)
+      (omega (arith, header-length, extension-length, subtype-length)) originator-length
 
   pub part-destination : part (destinationAt z) (z .destination) (erp2Bytes t) ≡ destinationField
   part-destination =
-      segment 5 (destinationAt z) (z .destination) (omega (arith, header-length, extension-length, subtype-length, originator-length))
+      segment 5 (destinationAt z) (z .destination)
+      (omega (arith, header-length, extension-length, subtype-length, originator-length))
       destination-length
 
   -- the start of the data, in segments

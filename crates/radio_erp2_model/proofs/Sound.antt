@@ -56,7 +56,8 @@ module _ (s : List ℕ) (some : 0 < lengthByte s) (long : length s ≡ 1 + lengt
         allowed = λ k. leb-false _ _ (b .0);
       }
 
-by-form : (s : List ℕ) → 0 < lengthByte s → length s ≡ 1 + lengthByte s → (b : Bool) → isShort s ≡ b → cond b 0 (longTests s) ≡ 0 → Sound s
+by-form : (s : List ℕ) → 0 < lengthByte s → length s ≡ 1 + lengthByte s
+    → (b : Bool) → isShort s ≡ b → cond b 0 (longTests s) ≡ 0 → Sound s
 by-form s some long true h e = sound-short s some long h
 by-form s some long false h e = sound-long s some long h e
 
@@ -65,4 +66,5 @@ unfolding checkOf
 check-facts s e =
     let a = cond-no (isLengthWrong s) (refused-number Length) e in
     let w = neither (eqb (lengthByte s) 0) (not (eqb (length s) (1 + lengthByte s))) (a .0) in
-    by-form s (omega (arith, eqb-false (lengthByte s) 0 (w .0))) (eqb-true _ _ (not-false _ (w .1))) (isShort s) refl (a .1)
+    by-form s (omega (arith, eqb-false (lengthByte s) 0 (w .0)))
+    (eqb-true _ _ (not-false _ (w .1))) (isShort s) refl (a .1)

@@ -66,7 +66,9 @@ module _ (s : List ℕ) (v : Sound s) (b : Bytes s) where
       let optional = part-length (payloadAt z + rest) (z .optional) s (omega (arith, place .long)) in
       record {
         payload = padded-length maxData (part (payloadAt z) rest s) (omega (arith, payload, place .payload));
-        optional = padded-length maxOptional (part (payloadAt z + rest) (z .optional) s) (omega (arith, optional, place .optional));
+        optional =
+            padded-length maxOptional (part (payloadAt z + rest) (z .optional) s)
+            (omega (arith, optional, place .optional));
         value = narrow _ (z .subtype) 1 (place .subtype) (field-lt (subtypeAt z) (z .subtype) s b);
         id = narrow _ (z .destination) 4 (place .destination) (field-lt (destinationAt z) (z .destination) s b);
       }
@@ -80,7 +82,8 @@ normal-read s b e =
     let shape : Shaped t = rw e (read-shaped s (check-facts s e) b) in
     let back : readOf (resultBytes (buildOf t s)) ≡ record { number = 0; telegram = normalOf t }
     = read-built t shape s (ap (λ (r : Result). r .number) built) in
-    let same : readOf (resultBytes (buildOf t s)) ≡ readOf s = ap (λ (r : Result). readOf (resultBytes r)) built ∙ ap readOf (written-bytes s s) in
+    let same : readOf (resultBytes (buildOf t s)) ≡ readOf s =
+    ap (λ (r : Result). readOf (resultBytes r)) built ∙ ap readOf (written-bytes s s) in
     ap (λ (r : Read). r .telegram) (sym back ∙ same)
 
 -- the tables are those of 004
