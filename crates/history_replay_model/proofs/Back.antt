@@ -44,7 +44,8 @@ module _ (operation number : ℕ) (n : Totals) (x : List ℕ) where
   -- its segments
   abbrev segments : List (List ℕ)
   segments =
-      (operation ∷ number ∷ []) ∷ be 8 (n .received) ∷ be 8 (n .kept) ∷ be 8 (n .copies) ∷ be 8 (n .loose) ∷ be 8 (n .damaged) ∷ be 8
+      (operation ∷ number ∷ []) ∷ be 8 (n .received) ∷ be 8 (n .kept)
+      ∷ be 8 (n .copies) ∷ be 8 (n .loose) ∷ be 8 (n .damaged) ∷ be 8
       (n .late) ∷ x ∷ []
 
   head-segments : headOf operation number n ++ x ≡ flatten segments
@@ -52,7 +53,8 @@ module _ (operation number : ℕ) (n : Totals) (x : List ℕ) where
   head-segments = simp (append-assoc, append-nil)
 
   -- segment k of them is a number, at a
-  number-at : (k a m : ℕ) → start k segments ≡ a → getD segments k [] ≡ be 8 m → m < 2 ^ 64 → unbe (part a 8 (headOf operation number n ++ x)) ≡ m
+  number-at : (k a m : ℕ) → start k segments ≡ a → getD segments k [] ≡ be 8 m
+      → m < 2 ^ 64 → unbe (part a 8 (headOf operation number n ++ x)) ≡ m
   number-at k a m e is low =
       rw (head-segments, part-nth k segments a 8 e (ap length is ∙ be-length 8 m), is) (unbe-be 8 m low)
 
@@ -91,18 +93,25 @@ shown-back Loose = refl
 shown-back (Refused n) = refl
 
 replyIn : List ℕ → Replied
-replyIn b = record { answer = shownIn (getD b 0 0) (getD b 1 0); sent = record { len = unbe (part 2 8 b); bytes = part 10 maxLength b } }
+replyIn b =
+    record {
+      answer = shownIn (getD b 0 0) (getD b 1 0);
+      sent = record { len = unbe (part 2 8 b); bytes = part 10 maxLength b };
+    }
 
 module _ (r : Replied) (x : List ℕ) where
   abbrev fields : List (List ℕ)
-  fields = (formOf (r .answer) ∷ shownNumber (r .answer) ∷ []) ∷ be 8 (r .sent .len) ∷ resized maxLength (r .sent .bytes) ∷ x ∷ []
+  fields =
+      (formOf (r .answer) ∷ shownNumber (r .answer) ∷ [])
+      ∷ be 8 (r .sent .len) ∷ resized maxLength (r .sent .bytes) ∷ x ∷ []
 
   reply-fields : replyOf r ++ x ≡ flatten fields
   unfolding replyOf flatten
   reply-fields = simp (append-assoc, append-nil)
 
   len-back : WholeFrame (r .sent) → unbe (part 2 8 (replyOf r ++ x)) ≡ r .sent .len
-  len-back w = rw (reply-fields, part-nth 1 fields 2 8 refl (be-length 8 (r .sent .len))) (unbe-be 8 (r .sent .len) (w .len))
+  len-back w =
+      rw (reply-fields, part-nth 1 fields 2 8 refl (be-length 8 (r .sent .len))) (unbe-be 8 (r .sent .len) (w .len))
 
   frame-back : WholeFrame (r .sent) → part 10 maxLength (replyOf r ++ x) ≡ r .sent .bytes
   frame-back w =
@@ -129,7 +138,8 @@ pastReplies : ℕ → List ℕ → List ℕ
 pastReplies zero b = b
 pastReplies (suc n) b = pastReplies n (drop 31 b)
 
-replies-back : (l : List Replied) (x : List ℕ) → WholeReplies l → repliesIn (length l) (flatten (map replyOf l) ++ x) ≡ l
+replies-back : (l : List Replied) (x : List ℕ) → WholeReplies l
+    → repliesIn (length l) (flatten (map replyOf l) ++ x) ≡ l
 unfolding repliesIn flatten
 replies-back [] x w = refl
 replies-back (r ∷ l) x w =
@@ -161,22 +171,32 @@ counted body = unbe (take 8 body)
 
 bodyIn : ℕ → ℕ → Totals → List ℕ → Cell
 bodyIn operation number n body =
-    cond (eqb operation receiving) (record { seen = Answered (replyIn body .answer) (replyIn body .sent) n; rest = drop 31 body })
+    cond (eqb operation receiving)
+    (record { seen = Answered (replyIn body .answer) (replyIn body .sent) n; rest = drop 31 body })
     (cond (eqb operation saving)
     (record { seen = Wrote number (take (counted body) (drop 8 body)) n; rest = drop (counted body) (drop 8 body) })
     (cond (eqb operation restoring) (record { seen = Restored number n; rest = body })
     (cond (eqb operation delivering)
-    (record { seen = Delivered number (repliesIn (counted body) (drop 8 body)) n; rest = pastReplies (counted body) (drop 8 body) })
+    (record {
+      seen = Delivered number (repliesIn (counted body) (drop 8 body)) n;
+      rest = pastReplies (counted body) (drop 8 body);
+    })
     (cond (eqb operation asking) (record { seen = Heard number (counted body) n; rest = drop 8 body })
     (record { seen = Looked n; rest = body })))))
 
 seenIn : List ℕ → Cell
 seenIn b = bodyIn (getD b 0 0) (getD b 1 0) (totalsAt b) (drop 50 b)
 
-head-back : (operation number : ℕ) (n : Totals) (x : List ℕ) → WholeTotals n → seenIn (headOf operation number n ++ x) ≡ bodyIn operation number n x
+head-back : (operation number : ℕ) (n : Totals) (x : List ℕ) → WholeTotals n
+    → seenIn (headOf operation number n ++ x) ≡ bodyIn operation number n x
 unfolding seenIn
 head-back operation number n x w =
-    rw (head-operation operation number n x, head-number operation number n x, head-totals operation number n x w, head-body operation number n x)
+    rw (
+      head-operation operation number n x,
+      head-number operation number n x,
+      head-totals operation number n x w,
+      head-body operation number n x,
+    )
 
 module _ (m : ℕ) (y : List ℕ) where
   count-back : m < 2 ^ 64 → counted (be 8 m ++ y) ≡ m

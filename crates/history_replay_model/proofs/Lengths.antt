@@ -59,7 +59,8 @@ module _ (v : View) (ok : acceptable v ≡ true) where
   short : (i : ℕ) → i < length (v .entries) → length (getD (v .entries) i none .bytes) ≤ maxLength
   short i h =
       let e = getD (v .entries) i none in
-      valid-length (e .bytes) (entry-valid (v .latest) e (all-getD (isEntry (v .latest)) (v .entries) i none each-entry h))
+      valid-length (e .bytes)
+      (entry-valid (v .latest) e (all-getD (isEntry (v .latest)) (v .entries) i none each-entry h))
 
   group-length : (k : ℕ) → length (entriesOf k v) ≤ cellsPerBlock
   group-length k = omega (arith, length-take cellsPerBlock (drop (cellsPerBlock * k) (v .entries)))
@@ -69,7 +70,11 @@ module _ (v : View) (ok : acceptable v ≡ true) where
       let l : i < length (entriesOf k v) = rw (length-map (entriesOf k v) entryCell) at h in
       let e = getD (v .entries) (cellsPerBlock * k + i) none in
       let inside : cellsPerBlock * k + i < length (v .entries) =
-      omega (arith, length-take cellsPerBlock (drop (cellsPerBlock * k) (v .entries)), length-drop (cellsPerBlock * k) (v .entries))
+      omega (
+        arith,
+        length-take cellsPerBlock (drop (cellsPerBlock * k) (v .entries)),
+        length-drop (cellsPerBlock * k) (v .entries),
+      )
       in
       ap length
       (getD-map entryCell (entriesOf k v) i none [] l
@@ -97,7 +102,9 @@ unfolding checkpointOf
 checkpoint-length v output =
     by-test (acceptable v)
     (λ ok. by-test (ltb (length output) imageLength) (λ short. rw (ok, short))
-    (λ room. rw (ok, room) (simp (length-append, length-drop, image-length v ok 0) (omega (arith, ltb-false (length output) imageLength room)))))
+    (λ room. rw (ok, room)
+    (simp (length-append, length-drop, image-length v ok 0)
+    (omega (arith, ltb-false (length output) imageLength room)))))
     (λ no. rw no)
 
 -- a burst that is taken has a place for each reception
@@ -105,10 +112,12 @@ burst-refused : (setting : ℕ) (v : View) (n m : ℕ) → ltb m n ≡ true → 
 unfolding burstNumber callNumber
 burst-refused setting v n m h = by-test (acceptable v) (λ ok. rw (ok, h)) (λ no. rw no)
 
-taken-few : (setting : ℕ) (v : View) (rs : List Reception) (m : ℕ) → length (taken (burstNumber setting v (length rs) m) rs) ≤ m
+taken-few : (setting : ℕ) (v : View) (rs : List Reception) (m : ℕ)
+    → length (taken (burstNumber setting v (length rs) m) rs) ≤ m
 taken-few setting v rs m =
     by-test (ltb m (length rs)) (λ h. rw (burst-refused setting v (length rs) m h) (omega arith))
-    (λ h. by-test (eqb (burstNumber setting v (length rs) m) 0) (λ t. rw t (ltb-false m (length rs) h)) (λ t. rw t (omega arith)))
+    (λ h. by-test (eqb (burstNumber setting v (length rs) m) 0)
+    (λ t. rw t (ltb-false m (length rs) h)) (λ t. rw t (omega arith)))
 
 pub burst-length : (setting : ℕ) (v : View) (rs : List Reception) (places : List Replied)
     → length (burstOf setting v rs places .replies) ≡ length places

@@ -17,7 +17,8 @@ run-append v (Receive setting r ∷ h) g = ap₂ _∷_ refl (run-append (step v 
 run-append v (Checkpoint output ∷ h) g = ap₂ _∷_ refl (run-append v h g)
 run-append v (Restore image ∷ h) g = ap₂ _∷_ refl (run-append (restoreOf v image .next) h g)
 run-append v (Cut output ∷ h) g =
-    ap₂ _∷_ refl (ap₂ _∷_ refl (run-append (restoreOf fresh (take imageLength (checkpointOf v output .output)) .next) h g))
+    ap₂ _∷_ refl
+    (ap₂ _∷_ refl (run-append (restoreOf fresh (take imageLength (checkpointOf v output .output)) .next) h g))
 run-append v (Burst setting rs places ∷ h) g = ap₂ _∷_ refl (run-append (burstOf setting v rs places .next) h g)
 run-append v (Ask k ∷ h) g = ap₂ _∷_ refl (run-append v h g)
 run-append v (Look ∷ h) g = ap₂ _∷_ refl (run-append v h g)

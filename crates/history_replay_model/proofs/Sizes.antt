@@ -53,7 +53,13 @@ sized v (Receive setting r ∷ h) = more _ _ ∙ ap (λ (n : ℕ). 81 + n) (size
 sized v (Checkpoint output ∷ h) = rw (more, checkpoint-length, sized v h)
 sized v (Restore image ∷ h) = more _ _ ∙ ap (λ (n : ℕ). 50 + n) (sized (restoreOf v image .next) h)
 sized v (Cut output ∷ h) =
-    rw (more, more, checkpoint-length, sized (restoreOf fresh (take imageLength (checkpointOf v output .output)) .next) h) (omega arith)
+    rw (
+      more,
+      more,
+      checkpoint-length,
+      sized (restoreOf fresh (take imageLength (checkpointOf v output .output)) .next) h,
+    )
+    (omega arith)
 sized v (Burst setting rs places ∷ h) = rw (more, burst-length, sized (burstOf setting v rs places .next) h)
 sized v (Ask k ∷ h) = more _ _ ∙ ap (λ (n : ℕ). 58 + n) (sized v h)
 sized v (Look ∷ h) = more _ _ ∙ ap (λ (n : ℕ). 50 + n) (sized v h)

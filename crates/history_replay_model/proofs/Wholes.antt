@@ -45,12 +45,14 @@ unfolding heardBy
 copies-small log k =
     by-test (ltb k (length (copiesIn (openAt (latestOf log) log)))) (λ t. rw t (omega arith)) (λ t. rw t (omega arith))
 
-saved-length : (log : List Logged) (output : List ℕ) → Good (modelView log) → length (savedBy log output .output) ≡ length output
+saved-length : (log : List Logged) (output : List ℕ) → Good (modelView log)
+    → length (savedBy log output .output) ≡ length output
 unfolding savedBy
 saved-length log output g =
     by-test (ltb (length output) imageLength) (λ t. rw t)
     (λ t. rw t
-    (simp (length-append, length-drop, image-length 0 (modelView log) (fits-layout g)) (omega (arith, ltb-false (length output) imageLength t))))
+    (simp (length-append, length-drop, image-length 0 (modelView log) (fits-layout g))
+    (omega (arith, ltb-false (length output) imageLength t))))
 
 -- ---- what is sent
 
@@ -77,7 +79,8 @@ sent-whole setting (Refused n) r = frame-whole [] (omega arith)
 
 replies-whole : (setting : ℕ) (past rs : List Reception) → WholeReplies (repliesBy setting past rs)
 replies-whole setting past [] = tt
-replies-whole setting past (r ∷ rs) = (sent-whole setting (answerTo (logOf past) r) r, replies-whole setting (r ∷ past) rs)
+replies-whole setting past (r ∷ rs) =
+    (sent-whole setting (answerTo (logOf past) r) r, replies-whole setting (r ∷ past) rs)
 
 both-whole : (l m : List Replied) → WholeReplies l → WholeReplies m → WholeReplies (l ++ m)
 both-whole [] m w u = u
@@ -92,7 +95,8 @@ replies-length : (setting : ℕ) (past rs : List Reception) → length (repliesB
 replies-length setting past [] = refl
 replies-length setting past (r ∷ rs) = ap suc (replies-length setting (r ∷ past) rs)
 
-burst-good : (past rs : List Reception) → Good (modelView (logOf past)) → Timely rs → Good (modelView (logOf (pastAfter past rs)))
+burst-good : (past rs : List Reception) → Good (modelView (logOf past))
+    → Timely rs → Good (modelView (logOf (pastAfter past rs)))
 burst-good past [] g t = g
 burst-good past (r ∷ rs) g t = burst-good (r ∷ past) rs (good-after (logOf past) r g (t .0)) (t .1)
 
@@ -102,22 +106,28 @@ module _ (setting : ℕ) (rs : List Reception) (places : List Replied) where
 
   taken-few : length (burstTaken setting rs places) ≤ length places
   taken-few =
-      by-test room (λ t. rw t (leb-true (length rs) (length places) (both (leb (length rs) (length places)) _ t .0))) (λ t. rw t (omega arith))
+      by-test room (λ t. rw t (leb-true (length rs) (length places) (both (leb (length rs) (length places)) _ t .0)))
+      (λ t. rw t (omega arith))
 
   taken-timely : Timely rs → Timely (burstTaken setting rs places)
   taken-timely t = by-test room (λ e. rw e t) (λ e. rw e tt)
 
   places-length : (past : List Reception)
-      → length (repliesBy setting past (burstTaken setting rs places) ++ drop (length (burstTaken setting rs places)) places) ≡ length places
+      → length (repliesBy setting past (burstTaken setting rs places)
+      ++ drop (length (burstTaken setting rs places)) places)
+      ≡ length places
   places-length past = simp (length-append, length-drop, replies-length) (omega (arith, taken-few))
 
 -- ---- all calls
 
-whole : (past : List Reception) → Good (modelView (logOf past)) → (h : List Call) → IsHistory h → Held h → AllWhole (expected past h)
+whole : (past : List Reception) → Good (modelView (logOf past))
+    → (h : List Call) → IsHistory h → Held h → AllWhole (expected past h)
 whole past g [] ok held = tt
 whole past g (Receive setting r ∷ h) ok held =
-    let next = good-after (logOf past) r g (ok .0) in
-    ((sent-whole setting (answerTo (logOf past) r) r, totals-whole (logOf (r ∷ past)) next), whole (r ∷ past) next h (ok .1) held)
+    let next = good-after (logOf past) r g (ok .0) in (
+      (sent-whole setting (answerTo (logOf past) r) r, totals-whole (logOf (r ∷ past)) next),
+      whole (r ∷ past) next h (ok .1) held,
+    )
 whole past g (Checkpoint output ∷ h) ok held =
     ((rw (saved-length (logOf past) output g) (held .0), totals-whole (logOf past) g), whole past g h ok (held .1))
 whole past g (Restore image ∷ h) ok held = (totals-whole (logOf past) g, whole past g h (ok .1) held)
@@ -129,7 +139,8 @@ whole past g (Burst setting rs places ∷ h) ok held =
     let next = burst-good past t g (taken-timely setting rs places (ok .0)) in (
       (
         rw (places-length setting rs places past) (held .0),
-        both-whole (repliesBy setting past t) (drop (length t) places) (replies-whole setting past t) (rest-whole (length t) places (held .1)),
+        both-whole (repliesBy setting past t) (drop (length t) places)
+            (replies-whole setting past t) (rest-whole (length t) places (held .1)),
         totals-whole (logOf (pastAfter past t)) next,
       ),
       whole (pastAfter past t) next h (ok .1) (held .2),
