@@ -49,7 +49,8 @@ module _ (b : List ℕ) (sound : isSound b ≡ true) (m : ℕ) (few : m ≤ rowC
       let e : rowCount b ≡ m + n = omega arith in
       ap (λ (c : ℕ). take m (map read (upFrom 0 c))) e
       ∙ ap (take m) (ap (map read) (upFrom-add 0 m n) ∙ map-append read (upFrom 0 m) (upFrom (0 + m) n))
-      ∙ take-at (map read (upFrom 0 m)) (map read (upFrom (0 + m) n)) m (length-map (upFrom 0 m) read ∙ length-upFrom 0 m)
+      ∙ take-at (map read (upFrom 0 m)) (map read (upFrom (0 + m) n)) m
+      (length-map (upFrom 0 m) read ∙ length-upFrom 0 m)
 
   -- their cells stand behind the header
   cells-are : flatten (map rowCell (take m rows)) ≡ part headerLength (cellLength * m) b
@@ -57,14 +58,17 @@ module _ (b : List ℕ) (sound : isSound b ≡ true) (m : ℕ) (few : m ≤ rowC
       ap (λ (l : List Row). flatten (map rowCell l)) rows-are
       ∙ ap flatten
       (map-map rowCell (λ i. rowIn (blockCell i b)) (upFrom 0 m)
-      ∙ map-same (λ i. rowCell (rowIn (blockCell i b))) (λ i. part (cellLength * i) cellLength (drop headerLength b)) 0 m
+      ∙ map-same (λ i. rowCell (rowIn (blockCell i b)))
+      (λ i. part (cellLength * i) cellLength (drop headerLength b)) 0 m
       (λ i p h.
       let l : i < length rows = omega (arith, rows-count b) in
-      ap rowCell (sym (row-is b sound i l)) ∙ sym (cell-is b sound i l) ∙ ap (take cellLength) (sym (drop-drop (cellLength * i) headerLength b))))
+      ap rowCell (sym (row-is b sound i l)) ∙ sym (cell-is b sound i l)
+      ∙ ap (take cellLength) (sym (drop-drop (cellLength * i) headerLength b))))
       ∙ pieces cellLength (drop headerLength b) 0 m
 
   head-is : (a w : ℕ) → a + w ≤ headerLength → part a w b ≡ part a w (rowsHeader k (length rows))
-  head-is a w h = ap (part a w) (sym (sound-is b sound)) ∙ head-part k rows (sound-shorts b sound) (sound-few b sound) a w h
+  head-is a w h =
+      ap (part a w) (sym (sound-is b sound)) ∙ head-part k rows (sound-shorts b sound) (sound-few b sound) a w h
 
   abbrev said : List ℕ
   said = be 4 k ++ (length rows ∷ [])
@@ -80,7 +84,8 @@ module _ (b : List ℕ) (sound : isSound b ≡ true) (m : ℕ) (few : m ≤ rowC
   gap-is : part 5 19 b ≡ replicate 19 0
   gap-is = head-is 5 19 (omega arith) ∙ last said (replicate 19 0) 5 19 said-length (length-replicate {A = ℕ} 19 0)
 
-  front-is : part 0 4 b ++ (m ∷ []) ++ part 5 (headerLength + cellLength * m - 5) b ≡ rowsHeader k m ++ flatten (map rowCell (take m rows))
+  front-is : part 0 4 b ++ (m ∷ []) ++ part 5 (headerLength + cellLength * m - 5) b
+      ≡ rowsHeader k m ++ flatten (map rowCell (take m rows))
   front-is =
       let e : headerLength + cellLength * m - 5 ≡ 19 + cellLength * m = omega arith in
       ap (λ (n : ℕ). part 0 4 b ++ (m ∷ []) ++ part 5 n b) e
@@ -112,7 +117,8 @@ module _ (m : ℕ) (b : List ℕ) where
   block-size h = rw (ne-eqb (length b) blockLength h)
 
   module _ (long : length b ≡ blockLength) where
-    other : isSound b && leb m (rowCount b) ≡ false → (record { number = numberOf Mismatch; block = b }) ≡ cutBlockOf m b
+    other : isSound b && leb m (rowCount b) ≡ false
+        → (record { number = numberOf Mismatch; block = b }) ≡ cutBlockOf m b
     unfolding cutBlockOf
     other h = rw (eq-eqb (length b) blockLength long, h)
 

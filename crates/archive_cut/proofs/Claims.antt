@@ -23,16 +23,24 @@ use Rattle.archive_cut.proofs.Cutting.{remaining, cut-is, cut-done, rem
 pub remains : Remains
 remains m buffer z =
     let d = cut-done m buffer z in
-    rw (d .is) (remaining-verdict m buffer (d .archive), remaining-rows m buffer (d .archive), remaining-length m buffer (d .archive))
+    rw (d .is) (
+      remaining-verdict m buffer (d .archive),
+      remaining-rows m buffer (d .archive),
+      remaining-length m buffer (d .archive),
+    )
 
 pub cut-again : CutAgain
 cut-again m buffer z =
     let d = cut-done m buffer z in
     let v = d .archive in
     let rows = remaining-rows m buffer v in
-    let few : m ≤ length (rowsIn (remaining m buffer)) = omega (arith, ap length rows, length-take m (rowsIn buffer), d .few) in
-    let same : take m (rowsIn (remaining m buffer)) ≡ take m (rowsIn buffer) = ap (take m) rows ∙ take-take m m (rowsIn buffer) (omega arith) in
-    rw (d .is) (sym (cut-is m (remaining m buffer) (remaining-verdict m buffer v) few) ∙ ap stored (ap₂ bufferOf (remaining-length m buffer v) same))
+    let few : m ≤ length (rowsIn (remaining m buffer)) =
+    omega (arith, ap length rows, length-take m (rowsIn buffer), d .few) in
+    let same : take m (rowsIn (remaining m buffer)) ≡ take m (rowsIn buffer) =
+    ap (take m) rows ∙ take-take m m (rowsIn buffer) (omega arith) in
+    rw (d .is)
+    (sym (cut-is m (remaining m buffer) (remaining-verdict m buffer v) few)
+    ∙ ap stored (ap₂ bufferOf (remaining-length m buffer v) same))
 
 -- ---- the rows appended again
 
@@ -42,7 +50,8 @@ fits-front xs ys fit i h = rw (List·getD-append xs ys noRow i h) at (fit i (ome
 
 fit-next : (xs : List Row) (y : Row) (ys : List Row) → Fits (xs ++ (y ∷ ys)) → Fit y
 unfolding Fits
-fit-next xs y ys fit = rw (getD-at xs y ys noRow (length xs) refl) at (fit (length xs) (omega (arith, length-append xs (y ∷ ys))))
+fit-next xs y ys fit =
+    rw (getD-at xs y ys noRow (length xs) refl) at (fit (length xs) (omega (arith, length-append xs (y ∷ ys))))
 
 module _ (n : ℕ) (mb : n ≤ maxBlocks) where
   append-one : (xs : List Row) (r : Row) → Fits xs → Fit r → length xs < cellsPerBlock * n
@@ -73,7 +82,8 @@ undone m buffer z =
     let n = length buffer / blockLength in
     rw (d .is)
     (ap (λ (c : ℕ). afterAppends (bufferOf c (take m rows)) (drop m rows)) (blocks-of buffer v .0)
-    ∙ append-all n (blocks-of buffer v .1) (take m rows) (drop m rows) (rw e (rows-fit buffer v)) (rw e (rows-few buffer v))
+    ∙ append-all n (blocks-of buffer v .1) (take m rows) (drop m rows)
+    (rw e (rows-fit buffer v)) (rw e (rows-few buffer v))
     ∙ ap (bufferOf (blockLength * n)) e ∙ is-exact buffer v)
 
 -- ---- one block
@@ -86,7 +96,9 @@ at-one-block m buffer v some =
     let done = block-done (m % cellsPerBlock) b (sound-long b (h .0)) (h .0) (h .1) in (
       ap (λ (c : CutBlock). c .number) (sym done),
       sym (cut-is m buffer v (omega arith)) ∙ ap stored (sym (cut-parts m buffer v some))
-          ∙ ap (λ (c : CutBlock). stored (take at buffer ++ c .block ++ replicate (length buffer - (at + blockLength)) 0)) done,
+          ∙ ap (λ (c : CutBlock).
+          stored (take at buffer ++ c .block ++ replicate (length buffer - (at + blockLength)) 0))
+          done,
     )
 
 pub zeros-behind : ZerosBehind
@@ -95,14 +107,18 @@ zeros-behind k buffer v some =
     let r : cellsPerBlock * k % cellsPerBlock ≡ 0 = omega arith in
     let b = blockAt k buffer in
     let n = length buffer in
-    let e : blockLength + (n - (blockLength * k + blockLength)) ≡ n - blockLength * k = omega (arith, rows-few buffer v) in
+    let e : blockLength + (n - (blockLength * k + blockLength)) ≡ n - blockLength * k =
+    omega (arith, rows-few buffer v) in
     let parts : take (blockLength * k) buffer ++ firstRows 0 b ++ replicate (n - (blockLength * k + blockLength)) 0
     ≡ remaining (cellsPerBlock * k) buffer
     = rw (d, r) at (cut-parts (cellsPerBlock * k) buffer v some) in
     let zeros : firstRows 0 b ++ replicate (n - (blockLength * k + blockLength)) 0 ≡ replicate (n - blockLength * k) 0
     = ap (λ (l : List ℕ). l ++ replicate (n - (blockLength * k + blockLength)) 0) (sym (first-none b))
-    ∙ replicate-append-replicate blockLength (n - (blockLength * k + blockLength)) 0 ∙ ap (λ (c : ℕ). replicate c 0) e in
+    ∙ replicate-append-replicate blockLength (n - (blockLength * k + blockLength)) 0
+    ∙ ap (λ (c : ℕ). replicate c 0) e in
     sym (cut-is (cellsPerBlock * k) buffer v (omega arith))
     ∙ ap stored
-    (sym parts ∙ append-assoc (take (blockLength * k) buffer) (firstRows 0 b) (replicate (n - (blockLength * k + blockLength)) 0)
+    (sym parts
+    ∙ append-assoc (take (blockLength * k) buffer) (firstRows 0 b)
+    (replicate (n - (blockLength * k + blockLength)) 0)
     ∙ ap (λ (l : List ℕ). take (blockLength * k) buffer ++ l) zeros)

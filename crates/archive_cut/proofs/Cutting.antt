@@ -44,12 +44,14 @@ drop-front a r xs h =
     let l : length (take a xs) ≡ a = length-take a xs ∙ omega arith in
     ap (drop a) (take-add a r xs) ∙ drop-at (take a xs) (take r (drop a xs)) a l
 
-blanks : (f : ℕ → List ℕ) (a n : ℕ) → ((j : ℕ) → a ≤ j → j < a + n → f j ≡ blank) → flatten (map f (upFrom a n)) ≡ replicate (blockLength * n) 0
+blanks : (f : ℕ → List ℕ) (a n : ℕ) → ((j : ℕ) → a ≤ j → j < a + n → f j ≡ blank)
+    → flatten (map f (upFrom a n)) ≡ replicate (blockLength * n) 0
 unfolding flatten upFrom
 blanks f a zero h = refl
 blanks f a (suc n) h =
     let e : blockLength + blockLength * n ≡ blockLength * suc n = omega arith in
-    ap₂ _++_ (h a (omega arith) (omega arith) ∙ blank-is) (blanks f (suc a) n (λ j p q. h j (omega arith) (omega arith)))
+    ap₂ _++_ (h a (omega arith) (omega arith) ∙ blank-is)
+    (blanks f (suc a) n (λ j p q. h j (omega arith) (omega arith)))
     ∙ replicate-append-replicate blockLength (blockLength * n) 0 ∙ ap (λ (c : ℕ). replicate c 0) e
 
 -- ---- what is written of the first rows
@@ -60,7 +62,8 @@ first-fits m rows fit i h =
     let l = length-take m rows in
     rw (getD-take m rows i noRow (omega (arith, l, h))) (fit i (omega (arith, l, h)))
 
-module _ (rows : List Row) (n : ℕ) (fit : Fits rows) (fits : length rows ≤ cellsPerBlock * n) (mb : n ≤ maxBlocks) (m : ℕ)
+module _ (rows : List Row) (n : ℕ) (fit : Fits rows)
+    (fits : length rows ≤ cellsPerBlock * n) (mb : n ≤ maxBlocks) (m : ℕ)
     (some : m < length rows) where
   abbrev k : ℕ
   k = m / cellsPerBlock
@@ -87,10 +90,13 @@ module _ (rows : List Row) (n : ℕ) (fit : Fits rows) (fits : length rows ≤ c
   front : take (blockLength * k) after ≡ take (blockLength * k) before
   front =
       sym (pieces blockLength after 0 k)
-      ∙ ap flatten (map-same (λ j. part (blockLength * j) blockLength after) (λ j. part (blockLength * j) blockLength before) 0 k same)
+      ∙ ap flatten
+      (map-same (λ j. part (blockLength * j) blockLength after)
+      (λ j. part (blockLength * j) blockLength before) 0 k same)
       ∙ pieces blockLength before 0 k
     where
-      same : (j : ℕ) → 0 ≤ j → j < 0 + k → part (blockLength * j) blockLength after ≡ part (blockLength * j) blockLength before
+      same : (j : ℕ) → 0 ≤ j → j < 0 + k
+          → part (blockLength * j) blockLength after ≡ part (blockLength * j) blockLength before
       same j z h =
           used-block first n after-fits after-few j (omega arith) (omega (arith, first-length))
           ∙ ap (rowsBlock j) (part-take (cellsPerBlock * j) cellsPerBlock m rows (omega arith))
@@ -119,13 +125,16 @@ module _ (rows : List Row) (n : ℕ) (fit : Fits rows) (fits : length rows ≤ c
       by-test {X = blockAt k after ≡ firstRows (m % cellsPerBlock) block} (eqb (m % cellsPerBlock) 0)
       (λ t.
       let z = eqb-true (m % cellsPerBlock) 0 t in
-      free-block first n after-fits after-few k (omega (arith, first-length)) (omega (arith, first-length)) ∙ blank-is ∙ first-none block
+      free-block first n after-fits after-few k (omega (arith, first-length)) (omega (arith, first-length))
+      ∙ blank-is ∙ first-none block
       ∙ ap (λ (r : ℕ). firstRows r block) (sym z))
       (λ f.
       let u = eqb-false (m % cellsPerBlock) 0 f in
       let number : blockNumber block ≡ k =
-      ap blockNumber block-is ∙ number-back k (rowsAt k rows) (group-fits rows fit k) (group-few rows k) (omega arith) in
-      let says : rowsOf block ≡ rowsAt k rows = ap rowsOf block-is ∙ rows-back k (rowsAt k rows) (group-fits rows fit k) (group-few rows k) in
+      ap blockNumber block-is
+      ∙ number-back k (rowsAt k rows) (group-fits rows fit k) (group-few rows k) (omega arith) in
+      let says : rowsOf block ≡ rowsAt k rows =
+      ap rowsOf block-is ∙ rows-back k (rowsAt k rows) (group-fits rows fit k) (group-few rows k) in
       used-block first n after-fits after-few k (omega arith) (omega (arith, first-length)) ∙ ap (rowsBlock k) group-is
       ∙ sym (ap₂ (λ (c : ℕ) (l : List Row). rowsBlock c (take (m % cellsPerBlock) l)) number says)
       ∙ first-some (m % cellsPerBlock) block u)
@@ -148,14 +157,18 @@ module _ (rows : List Row) (n : ℕ) (fit : Fits rows) (fits : length rows ≤ c
       ++ replicate (blockLength * n - (blockLength * k + blockLength)) 0
       ≡ after
   after-is =
-      ap₂ (λ (x y : List ℕ). x ++ y ++ replicate (blockLength * n - (blockLength * k + blockLength)) 0) (sym front) (sym middle)
-      ∙ ap (λ (z : List ℕ). take (blockLength * k) after ++ blockAt k after ++ z) (sym back) ∙ split (blockLength * k) blockLength after
+      ap₂ (λ (x y : List ℕ). x ++ y ++ replicate (blockLength * n - (blockLength * k + blockLength)) 0)
+      (sym front) (sym middle)
+      ∙ ap (λ (z : List ℕ). take (blockLength * k) after ++ blockAt k after ++ z) (sym back)
+      ∙ split (blockLength * k) blockLength after
 
   -- that block is sound, and has so many rows
   pub block-enough : (isSound block ≡ true) × (m % cellsPerBlock ≤ rowCount block)
   block-enough =
       let group = group-length rows k in
-      let sound = block-sound k (rowsAt k rows) (group-fits rows fit k) (group-few rows k) (omega (arith, group)) (omega arith) in
+      let sound =
+      block-sound k (rowsAt k rows) (group-fits rows fit k)
+      (group-few rows k) (omega (arith, group)) (omega arith) in
       let count = count-back k (rowsAt k rows) (group-fits rows fit k) (group-few rows k) in
       (ap isSound block-is ∙ sound, omega (arith, ap rowCount block-is, count, group))
 
@@ -173,7 +186,8 @@ module _ (m : ℕ) (buffer : List ℕ) where
   unfolding cutOf
   cut-is v h = rw (v, le-ltb (length rows-now) m h)
 
-  pub cut-over : verdict buffer .number ≡ 0 → length rows-now < m → refusedAppend (numberOf Argument) 0 buffer ≡ cutOf m buffer
+  pub cut-over : verdict buffer .number ≡ 0 → length rows-now < m
+      → refusedAppend (numberOf Argument) 0 buffer ≡ cutOf m buffer
   unfolding cutOf
   cut-over v h = rw (v, lt-ltb (length rows-now) m h)
 
@@ -212,10 +226,13 @@ module _ (m : ℕ) (buffer : List ℕ) where
     remaining-few = omega (arith, rows-few buffer v, length-take m rows-now)
 
     pub remaining-length : length remaining ≡ length buffer
-    remaining-length = ap length remaining-is ∙ buffer-length (take m rows-now) blocks remaining-fits remaining-few ∙ sym (blocks-of buffer v .0)
+    remaining-length =
+        ap length remaining-is ∙ buffer-length (take m rows-now) blocks remaining-fits remaining-few
+        ∙ sym (blocks-of buffer v .0)
 
     pub remaining-verdict : verdict remaining .number ≡ 0
-    remaining-verdict = rw remaining-is (written-verdict (take m rows-now) blocks remaining-fits remaining-few (blocks-of buffer v .1))
+    remaining-verdict =
+        rw remaining-is (written-verdict (take m rows-now) blocks remaining-fits remaining-few (blocks-of buffer v .1))
 
     pub remaining-rows : rowsIn remaining ≡ take m rows-now
     remaining-rows = rw remaining-is (rows-in (take m rows-now) blocks remaining-fits remaining-few)
@@ -229,34 +246,49 @@ module _ (m : ℕ) (buffer : List ℕ) where
       cut-block = blockAt (m / cellsPerBlock) buffer
 
       pub cut-enough : (isSound cut-block ≡ true) × (m % cellsPerBlock ≤ rowCount cut-block)
-      cut-enough = rw (is-exact buffer v) at (block-enough rows-now blocks (rows-fit buffer v) (rows-few buffer v) (blocks-of buffer v .1) m some)
+      cut-enough =
+          rw (is-exact buffer v) at
+          (block-enough rows-now blocks (rows-fit buffer v) (rows-few buffer v) (blocks-of buffer v .1) m some)
 
       pub cut-parts : take (blockLength * (m / cellsPerBlock)) buffer ++ firstRows (m % cellsPerBlock) cut-block
           ++ replicate (length buffer - (blockLength * (m / cellsPerBlock) + blockLength)) 0
           ≡ remaining
       cut-parts =
           let a = blockLength * (m / cellsPerBlock) in
-          ap (λ (n : ℕ). take a buffer ++ firstRows (m % cellsPerBlock) cut-block ++ replicate (n - (a + blockLength)) 0) (blocks-of buffer v .0)
-          ∙ (rw (is-exact buffer v) at (after-is rows-now blocks (rows-fit buffer v) (rows-few buffer v) (blocks-of buffer v .1) m some))
+          ap (λ (n : ℕ). take a buffer ++ firstRows (m % cellsPerBlock) cut-block
+          ++ replicate (n - (a + blockLength)) 0)
+          (blocks-of buffer v .0)
+          ∙ (rw (is-exact buffer v) at
+          (after-is rows-now blocks (rows-fit buffer v) (rows-few buffer v) (blocks-of buffer v .1) m some))
           ∙ sym remaining-is
 
       -- the same as it is written in place
       pub cut-written : (at : ℕ) → at ≡ blockLength * (m / cellsPerBlock)
-          → length ([] ++ part 0 (at - 0) buffer ++ firstRows (m % cellsPerBlock) (part at (at + blockLength - at) buffer)) ≡ at + blockLength
-          → padded (length buffer) ([] ++ part 0 (at - 0) buffer ++ firstRows (m % cellsPerBlock) (part at (at + blockLength - at) buffer))
+          → length ([] ++ part 0 (at - 0) buffer
+          ++ firstRows (m % cellsPerBlock) (part at (at + blockLength - at) buffer))
+          ≡ at + blockLength
+          → padded (length buffer)
+          ([] ++ part 0 (at - 0) buffer ++ firstRows (m % cellsPerBlock) (part at (at + blockLength - at) buffer))
           ≡ remaining
       cut-written at e long =
           let z : at - 0 ≡ at = omega arith in
           let d : at + blockLength - at ≡ blockLength = omega arith in
           let r = m % cellsPerBlock in
-          ap (λ (n : ℕ). part 0 (at - 0) buffer ++ firstRows r (part at (at + blockLength - at) buffer) ++ replicate (length buffer - n) 0) long
-          ∙ ap₂ (λ (x y : ℕ). take x buffer ++ firstRows r (part at y buffer) ++ replicate (length buffer - (at + blockLength)) 0) z d
-          ∙ ap (λ (x : ℕ). take x buffer ++ firstRows r (part x blockLength buffer) ++ replicate (length buffer - (x + blockLength)) 0) e
+          ap (λ (n : ℕ). part 0 (at - 0) buffer ++ firstRows r (part at (at + blockLength - at) buffer)
+          ++ replicate (length buffer - n) 0)
+          long
+          ∙ ap₂ (λ (x y : ℕ). take x buffer ++ firstRows r (part at y buffer)
+          ++ replicate (length buffer - (at + blockLength)) 0)
+          z d
+          ∙ ap (λ (x : ℕ). take x buffer ++ firstRows r (part x blockLength buffer)
+          ++ replicate (length buffer - (x + blockLength)) 0)
+          e
           ∙ cut-parts
 
   -- a buffer that is no archive
   pub cut-not : (number position : ℕ)
-      → (number ≡ verdict buffer .number) × (position ≡ verdict buffer .position) × (eqb (verdict buffer .number) 0 ≡ false)
+      → (number ≡ verdict buffer .number) × (position ≡ verdict buffer .position)
+      × (eqb (verdict buffer .number) 0 ≡ false)
       → refusedAppend number position buffer ≡ cutOf m buffer
   unfolding cutOf
   cut-not number position v = rw (v .2) (ap₂ (λ (x y : ℕ). refusedAppend x y buffer) (v .0) (v .1))

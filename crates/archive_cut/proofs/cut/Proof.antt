@@ -15,7 +15,8 @@ cut-from-requires c κs =
     let k = c .before .before in
     let o = k .before .before in
     let a = o .before .before .before .args in
-    opened-rows (now (a .buffer)) (k .opened .given .0 .0) (sym (ap openResult (k .opened .given .1)) ∙ o .«open» .ensures)
+    opened-rows (now (a .buffer)) (k .opened .given .0 .0)
+    (sym (ap openResult (k .opened .given .1)) ∙ o .«open» .ensures)
 
 damaged : tie.Need-returns-2
 damaged c =
@@ -23,7 +24,8 @@ damaged c =
     let o = k .before .before in
     let a = o .before .before .before .args in
     cut-not (a .rows) (now (a .buffer)) (numberOf Mismatch) (k .opened2 .given .0 .0)
-    (opened-damaged (now (a .buffer)) (k .opened2 .given .0 .0) (sym (ap openResult (k .opened2 .given .1)) ∙ o .«open» .ensures))
+    (opened-damaged (now (a .buffer)) (k .opened2 .given .0 .0)
+    (sym (ap openResult (k .opened2 .given .1)) ∙ o .«open» .ensures))
 
 refused : tie.Need-returns-3
 refused c =
@@ -31,7 +33,8 @@ refused c =
     let o = k .before .before in
     let a = o .before .before .before .args in
     cut-not (a .rows) (now (a .buffer)) (numberOf (k .opened3 .given .0 .0)) 0
-    (opened-refused (now (a .buffer)) (k .opened3 .given .0 .0) (sym (ap openResult (k .opened3 .given .1)) ∙ o .«open» .ensures))
+    (opened-refused (now (a .buffer)) (k .opened3 .given .0 .0)
+    (sym (ap openResult (k .opened3 .given .1)) ∙ o .«open» .ensures))
 
 pub cut-spec : {M : Type 1} → statement M
 cut-spec =

@@ -11,6 +11,13 @@ use Rattle.archive_cut.proofs.Blocks.{block-size, block-unsound, block-
 use Rattle.archive_cut.proofs.cut_block.Statement.{statement}
 use Rattle.archive_cut.proofs.cut_block.Tie as tie
 
+-- states on the way
+abbrev entry : tie.After-sound-arg → tie.Start
+entry c = c .before .before .before
+
+abbrev else1 : tie.Else2 → tie.Else1
+else1 c = c .before .before .before
+
 size : tie.Need-returns
 size c =
     let a = c .before .before .args in
@@ -31,9 +38,10 @@ few c =
     block-few (a .rows) (now (a .block)) (e .if1 .left) (omega (arith, u .sound .ensures, c .if3 .taken))
 
 abbrev start : tie.Else3 → tie.Start
-start c = c .before .before .before .before .before .before
+start c = entry (c .before .before .before)
 
-has : (c : tie.Else3) → (isSound (now (start c .args .block)) ≡ true) × (start c .args .rows ≤ rowCount (now (start c .args .block)))
+has : (c : tie.Else3)
+    → (isSound (now (start c .args .block)) ≡ true) × (start c .args .rows ≤ rowCount (now (start c .args .block)))
 has c =
     let u = c .before .before in
     let e = u .before .before in
@@ -48,7 +56,7 @@ done : tie.Need-returns-4
 done c =
     let s = c .before .before in
     let e3 = s .before .before in
-    let e = e3 .before .before .before .before in
+    let e = else1 (e3 .before) in
     let a = e .before .before .args in
     ap (λ (b : List ℕ). record { number = 0; block = b }) (s .shorten .ensures)
     ∙ block-done (a .rows) (now (a .block)) (e .if1 .left) (has e3 .0) (has e3 .1)

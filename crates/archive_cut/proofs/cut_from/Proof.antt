@@ -32,7 +32,8 @@ some c =
     let t = c .before .before in
     let e = t .before .before in
     let s = e .before .before .before in
-    ap stored (t .take-back .ensures) ∙ cut-is (s .args .rows) (now (s .args .buffer)) (s .pre .0) (omega (arith, s .pre .1, e .before .if1 .left))
+    ap stored (t .take-back .ensures)
+    ∙ cut-is (s .args .rows) (now (s .args .buffer)) (s .pre .0) (omega (arith, s .pre .1, e .before .if1 .left))
 
 pub cut-from-spec : {M : Type 1} → statement M
 cut-from-spec =

@@ -12,10 +12,14 @@ use Rattle.archive_cut.proofs.Blocks.{rows-kept, first-none, first-some
 use Rattle.archive_cut.proofs.shorten.Statement.{statement}
 use Rattle.archive_cut.proofs.shorten.Tie as tie
 
+-- states on the way
+abbrev start : tie.After-clear-arg → tie.Start
+start c = c .before .before .before
+
 none : tie.Need-returns
 none c =
     let w = c .before .before in
-    let s = w .before .before .before .before in
+    let s = start (w .before) in
     let b = now (s .args .block) in
     w .clear .ensures ∙ ap (λ (n : ℕ). replicate n 0) (sound-long b (s .pre .0)) ∙ first-none b
     ∙ ap (λ (m : ℕ). firstRows m b) (sym (w .before .before .if1 .taken))
@@ -32,7 +36,8 @@ some c =
     let e = k .before .before in
     let s = e .before .before in
     let b = now (s .args .block) in
-    k .keep-rows .ensures ∙ rows-kept b (s .pre .0) (s .args .rows) (s .pre .1) ∙ first-some (s .args .rows) b (e .if1 .left)
+    k .keep-rows .ensures ∙ rows-kept b (s .pre .0) (s .args .rows) (s .pre .1)
+    ∙ first-some (s .args .rows) b (e .if1 .left)
 
 pub shorten-spec : {M : Type 1} → statement M
 shorten-spec =

@@ -12,6 +12,13 @@ use Rattle.archive_cut.proofs.Cutting.{cut-enough, cut-written}
 use Rattle.archive_cut.proofs.take_back.Statement.{statement}
 use Rattle.archive_cut.proofs.take_back.Tie as tie
 
+-- states on the way
+abbrev start : tie.After-shorten → tie.Start
+start c = c .before .before .before
+
+abbrev shortened : tie.After-clear-arg → tie.After-shorten
+shortened c = c .before .before .before
+
 -- where the block stands
 abbrev at : tie.Start → ℕ
 at s = blockLength * (s .args .rows / cellsPerBlock)
@@ -29,19 +36,21 @@ abbrev cut : (c : tie.After-shorten) → Writing (at (c .before .before .before)
 cut c =
     let s = c .before .before .before in
     packed
-    (lend (skip (begin (now (s .args .buffer))) (at s) (omega arith) (omega (arith, inside s))) _ _ (at s + blockLength) (c .shorten .ensures)
+    (lend (skip (begin (now (s .args .buffer))) (at s) (omega arith) (omega (arith, inside s))) _ _
+    (at s + blockLength) (c .shorten .ensures)
     (c .shorten .kept .0) (omega arith) (inside s))
 
-abbrev whole : (c : tie.After-clear) → Writing (length (now (c .before .before .before .before .before .before .before .args .buffer)))
+abbrev whole : (c : tie.After-clear) → Writing (length (now (start (shortened (c .before)) .args .buffer)))
 whole c =
-    let k = c .before .before .before .before in
+    let k = shortened (c .before) in
     let s = k .before .before .before in
-    packed (wipe (cut k .begun) _ (length (now (s .args .buffer))) (c .clear .ensures) (c .clear .kept .0) (inside s) (omega arith))
+    packed (wipe (cut k .begun) _ (length (now (s .args .buffer)))
+    (c .clear .ensures) (c .clear .kept .0) (inside s) (omega arith))
 
 returns : tie.Need-returns
 returns c =
     let w = c .before .before in
-    let k = w .before .before .before .before in
+    let k = shortened (w .before) in
     let s = k .before .before .before in
     done (whole w .begun) refl
     ∙ cut-written (s .args .rows) (now (s .args .buffer)) (s .pre .0) (s .pre .1) (at s) refl (cut k .begun .long)
@@ -56,8 +65,8 @@ take-back-spec =
     (λ c. search needs)
     (λ c. inside (c .before))
     requires
-    (λ c. inside (c .before .before .before .before .before))
-    (λ c. inside (c .before .before .before .before .before))
+    (λ c. inside (start (c .before .before)))
+    (λ c. inside (start (c .before .before)))
     (λ c. within (cut (c .before .before) .begun) _ (omega arith))
     (λ c κs. search needs)
     (λ c. begun-length (whole (c .before .before) .begun))
