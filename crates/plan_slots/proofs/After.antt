@@ -28,7 +28,8 @@ module _ (f : ℕ → SlotPlan) (c m k : ℕ) {ps : List SlotPlan} (is : ps ≡ 
   row-counted h = rw is (rw size at (lookup-counted (map f (upFrom c m)) k (omega (arith, size))))
 
   row-found : k < m → Found (f (c + k)) ≡ lookupOf ps k
-  row-found h = rw is (rw (getD-upFrom f c m k (plan 0 0 0) h) at (lookup-found (map f (upFrom c m)) k (omega (arith, size))))
+  row-found h =
+      rw is (rw (getD-upFrom f c m k (plan 0 0 0) h) at (lookup-found (map f (upFrom c m)) k (omega (arith, size))))
 
 -- ---- with given first two slots
 
@@ -87,7 +88,9 @@ module _ (r : Rule) (d a : ℕ) (two : isOfTwo r ≡ true) where
   module _ {c m : ℕ} (t : IsRow (rangeAt r 1) d from (r .end) c m) where
     all : plansFrom r d a ≡ map pair (upFrom c m)
     unfolding plansFrom
-    all = pairs (rangeAt r 1 .first) (rangeAt r 1 .last + 1 - rangeAt r 1 .first) (omega arith) (omega arith) ∙ ap (map pair) (t .row)
+    all =
+        pairs (rangeAt r 1 .first) (rangeAt r 1 .last + 1 - rangeAt r 1 .first) (omega arith) (omega arith)
+        ∙ ap (map pair) (t .row)
 
     pub pairs-counted : (k : ℕ) → m ≤ k → Counted m ≡ lookupOf (plansFrom r d a) k
     pairs-counted k h = row-counted pair c m k all h

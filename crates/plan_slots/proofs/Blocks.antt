@@ -49,19 +49,26 @@ module _ (f : ℕ → List SlotPlan) (lo hi : ℕ) where
       rw (size, upFrom-add, flatMap-append, at)
 
   -- the search in block i found the plan at index k, or passed m plans more
-  pub found : {k i n : ℕ} {p : SlotPlan} → Passed k i n → i < hi → Found p ≡ lookupOf (f i) (k - n) → Found p ≡ lookupOf (upTo hi) k
+  pub found : {k i n : ℕ} {p : SlotPlan} → Passed k i n → i < hi
+      → Found p ≡ lookupOf (f i) (k - n) → Found p ≡ lookupOf (upTo hi) k
   found {k} {i} {n} {p} s h e =
       let w = is-found (f i) (k - n) e in
       let at : length (upTo i) + (k - n) ≡ k = omega arith in
       let inside : k < length (upTo i ++ (f i ++ rest i)) = simp length-append (omega arith) in
       let there : getD (upTo i ++ (f i ++ rest i)) k (plan 0 0 0) ≡ getD (f i) (k - n) (plan 0 0 0) =
-      (rw at at (getD-append-add (upTo i) (f i ++ rest i) (k - n) (plan 0 0 0))) ∙ List·getD-append (f i) (rest i) (plan 0 0 0) (k - n) (w .0) in
+      (rw at at (getD-append-add (upTo i) (f i ++ rest i) (k - n) (plan 0 0 0)))
+      ∙ List·getD-append (f i) (rest i) (plan 0 0 0) (k - n) (w .0) in
       rw (split i (s .low) h, w .1, ← there) (lookup-found _ k inside)
 
   pub at-next : {k i n m : ℕ} → Passed k i n → i < hi → Counted m ≡ lookupOf (f i) (k - n) → Passed k (i + 1) (n + m)
   at-next {k} {i} {n} {m} s h e =
       let w = is-counted (f i) (k - n) e in
-      record { low = omega arith; high = omega arith; count = rw (one-more i (s .low), length-append) (omega arith); before = omega arith }
+      record {
+        low = omega arith;
+        high = omega arith;
+        count = rw (one-more i (s .low), length-append) (omega arith);
+        before = omega arith;
+      }
 
   pub at-end : {k i n : ℕ} → Passed k i n → hi ≤ i → Counted n ≡ lookupOf (upTo hi) k
   at-end {k} {i} {n} s h =

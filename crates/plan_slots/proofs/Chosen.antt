@@ -26,7 +26,8 @@ unfolding drawn
 from-list r d [] draw l = none (λ p. not-lawful (lawful r d p) (λ e. List·Memᴰ·not-nil (l .every e)))
 from-list r d (p ∷ ps) draw l =
     rw (eqb·suc-zero (length ps))
-    (one (l .only (getD-in (p ∷ ps) (draw % suc (length ps)) (plan 0 0 0) (mod-lt draw {m = suc (length ps)} (omega arith)))))
+    (one (l .only
+    (getD-in (p ∷ ps) (draw % suc (length ps)) (plan 0 0 0) (mod-lt draw {m = suc (length ps)} (omega arith)))))
 
 pub drawn-chosen : DrawnChosen
 drawn-chosen r d draw = from-list r d (plans r d) draw (plans-listed r d)
@@ -34,10 +35,12 @@ drawn-chosen r d draw = from-list r d (plans r d) draw (plans-listed r d)
 -- and so does a call
 pub plan-chosen : PlanChosen
 unfolding planOf
-plan-chosen level d draw = record { argument = λ e. rw e; chosen = λ e. rw e (drawn-chosen (standardRule level) d draw) }
+plan-chosen level d draw =
+    record { argument = λ e. rw e; chosen = λ e. rw e (drawn-chosen (standardRule level) d draw) }
 
 -- an answer that is a plan is a lawful one
-pub chosen-lawful : (r : Rule) (d : ℕ) {a : Answer} → Chosen r d a → (p : SlotPlan) → a ≡ planned p → lawful r d p ≡ true
+pub chosen-lawful : (r : Rule) (d : ℕ) {a : Answer} → Chosen r d a
+    → (p : SlotPlan) → a ≡ planned p → lawful r d p ≡ true
 chosen-lawful r d (one l) p e = subst (λ (q : SlotPlan). lawful r d q ≡ true) (ap (λ (a : Answer). a .slots) e) l
 chosen-lawful r d (none h) p e = absurd (refused-number NoPlan (ap (λ (a : Answer). a .number) e))
 

@@ -42,7 +42,8 @@ module _ (r : Rule) (d : ℕ) where
       let a = bounds (rangeAt r 0) (p .first) (w .in-first) in
       let b = bounds (rangeAt r 1) (p .second) (w .in-second) in
       let c = third-in (p .second) (p .third) (w .third-follows) in
-      flatMap-in _ _ _ (p .first) (a .0) (a .1) (flatMap-in _ _ _ (p .second) (b .0) (b .1) (Memᴰ·map (plan (p .first) (p .second)) c))
+      flatMap-in _ _ _ (p .first) (a .0) (a .1)
+      (flatMap-in _ _ _ (p .second) (b .0) (b .1) (Memᴰ·map (plan (p .first) (p .second)) c))
 
 -- ── the candidates stand in order ──
 
@@ -53,7 +54,8 @@ by-second : (p q : SlotPlan) → p .first ≡ q .first → p .second < q .second
 by-second p q e h = simp (eq-eqb (p .first) (q .first) e, lt-ltb (p .second) (q .second) h, or-true)
 
 by-third : (p q : SlotPlan) → p .first ≡ q .first → p .second ≡ q .second → p .third < q .third → precedes p q ≡ true
-by-third p q e f h = simp (eq-eqb (p .first) (q .first) e, eq-eqb (p .second) (q .second) f, lt-ltb (p .third) (q .third) h, or-true)
+by-third p q e f h =
+    simp (eq-eqb (p .first) (q .first) e, eq-eqb (p .second) (q .second) f, lt-ltb (p .third) (q .third) h, or-true)
 
 module _ (r : Rule) where
   abbrev thirds : ℕ → ℕ → List SlotPlan

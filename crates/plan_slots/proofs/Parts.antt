@@ -12,7 +12,8 @@ use Rattle.plan_slots.specs.Search.{secondFollows, thirdFollows, passes}
 
 -- the tests in range, in order and in time, slot by slot
 regrouped : (two a b none c s o x y : Bool)
-    → ((a && (b && cond two none c)) && ((s && cond two true o) && cond two x y)) ≡ (a && (b && (s && cond two (none && x) (c && (o && y)))))
+    → ((a && (b && cond two none c)) && ((s && cond two true o) && cond two x y))
+    ≡ (a && (b && (s && cond two (none && x) (c && (o && y)))))
 regrouped two false b none c s o x y = refl
 regrouped two true false none c s o x y = refl
 regrouped true true true false c false o x y = refl
@@ -34,7 +35,8 @@ module _ (r : Rule) (d : ℕ) where
   pub lawful-passes : (p : SlotPlan) → lawful r d p ≡ passes r d p
   unfolding lawful passes thirdFollows
   lawful-passes p =
-      regrouped (isOfTwo r) (within (rangeAt r 0) (p .first)) (within (rangeAt r 1) (p .second)) (eqb (p .third) noSlot) (within (rangeAt r 2) (p .third))
+      regrouped (isOfTwo r) (within (rangeAt r 0) (p .first)) (within (rangeAt r 1) (p .second))
+      (eqb (p .third) noSlot) (within (rangeAt r 2) (p .third))
       (secondFollows r d (p .first) (p .second)) (leb (endOf d (p .second)) (startOf (p .third)))
       (leb (endOf d (p .second)) (r .end)) (leb (endOf d (p .third)) (r .end))
 

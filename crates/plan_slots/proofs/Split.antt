@@ -15,7 +15,8 @@ use Rattle.plan_slots.specs.Search.{secondFollows, passes, plansAfter, p
 use Rattle.plan_slots.proofs.Parts.{lawful-passes}
 
 -- the test of the second slot taken out of the test of each plan
-second-out : (t : Bool) (f : ℕ → Bool) (g : ℕ → SlotPlan) (cs : List ℕ) → map g (keep (λ c. t && f c) cs) ≡ cond t (map g (keep f cs)) []
+second-out : (t : Bool) (f : ℕ → Bool) (g : ℕ → SlotPlan) (cs : List ℕ)
+    → map g (keep (λ c. t && f c) cs) ≡ cond t (map g (keep f cs)) []
 second-out true f g cs = refl
 second-out false f g cs = ap (map g) (keep-false cs)
 
@@ -27,7 +28,8 @@ module _ (r : Rule) (d : ℕ) where
   last i = rangeAt r i .last
 
   -- of the candidates with two slots inside their ranges, the lawful ones
-  block : (a b : ℕ) → first 0 ≤ a → a ≤ last 0 → first 1 ≤ b → b ≤ last 1 → keep (lawful r d) (map (plan a b) (thirdSlots r)) ≡ plansAfter r d a b
+  block : (a b : ℕ) → first 0 ≤ a → a ≤ last 0 → first 1 ≤ b → b ≤ last 1
+      → keep (lawful r d) (map (plan a b) (thirdSlots r)) ≡ plansAfter r d a b
   unfolding passes plansAfter
   block a b p q s t =
       keep-same (lawful r d) (passes r d) (lawful-passes r d) (map (plan a b) (thirdSlots r))

@@ -38,7 +38,11 @@ module _ (s : SlotRange) (d from end : ℕ) where
 
   pub row-too-long : end < d → IsRow s d from end 0 0
   unfolding upFrom
-  row-too-long h = record { row = keep-none (fits s d from end) lo (hi + 1 - lo) (λ i p q. late i (omega arith)); small = omega arith }
+  row-too-long h =
+      record {
+        row = keep-none (fits s d from end) lo (hi + 1 - lo) (λ i p q. late i (omega arith));
+        small = omega arith;
+      }
 
   pub row-none : d ≤ end → high < low → IsRow s d from end 0 0
   unfolding upFrom
@@ -72,6 +76,9 @@ module _ (r : Rule) (d b : ℕ) where
   pub third-row : isOfTwo r ≡ false → {a n : ℕ} → IsRow (rangeAt r 2) d (endOf d b) (r .end) a n → IsThirds r d b a n
   unfolding thirdFollows
   third-row h k = record {
-    row = rw h (keep-same (thirdFollows r d b) (fits (rangeAt r 2) d (endOf d b) (r .end)) (λ c. rw h) (slotsIn (rangeAt r 2)) ∙ k .row);
+    row =
+        rw h
+        (keep-same (thirdFollows r d b) (fits (rangeAt r 2) d (endOf d b) (r .end)) (λ c. rw h) (slotsIn (rangeAt r 2))
+        ∙ k .row);
     small = k .small;
   }

@@ -24,7 +24,8 @@ found c = drawn-first _ _ (sym (c .before .p .given .1) ∙ c .before .before .b
 found-round : tie.Need-returns-3
 found-round c =
     let second = c .before .before .before in
-    drawn-round _ _ (counted (second .before .before .before)) (sym (c .before .p2 .given .1) ∙ second .search2 .ensures)
+    drawn-round _ _ (counted (second .before .before .before))
+    (sym (c .before .p2 .given .1) ∙ second .search2 .ensures)
 
 never : tie.Need-returns-4
 never c =

@@ -16,6 +16,13 @@ Inv-loop duration k rule low high passed₀ slot₀ passed slot = Passed (plansF
 abbrev μ-loop : tie.MeasureT-loop
 μ-loop duration k rule low high passed₀ slot₀ passed slot = high - slot
 
+-- states on the way, each three steps back
+abbrev start : tie.After-struct-known2 Inv-loop μ-loop → tie.Start Inv-loop μ-loop
+start c = c .before .before .before
+
+abbrev turn : tie.At-match-keys2 Inv-loop μ-loop → tie.At-loop Inv-loop μ-loop
+turn c = c .before .before .before
+
 returns : tie.Need-returns Inv-loop μ-loop
 returns c =
     let called = c .before .before .before in
@@ -31,7 +38,7 @@ loop-again c =
 
 -- at most k plans are passed, and k fits
 add-passed : tie.Need-add-passed Inv-loop μ-loop
-add-passed c = omega (arith, loop-again c .before, c .before .before .before .before .before .before .before .before .before .fits .k)
+add-passed c = omega (arith, loop-again c .before, start (turn (c .before .before) .before) .fits .k)
 
 returns-2 : tie.Need-returns-2 Inv-loop μ-loop
 returns-2 c = rw plans-split (at-end _ _ _ (c .before .loop .inv) (c .loop-test .left))

@@ -18,7 +18,8 @@ follows : (c : tie.Else1) →
 follows c = sym (c .before .second-follows .ensures) ∙ not-false _ (c .if1 .left)
 
 returns-2 : tie.Need-returns-2
-returns-2 c = let called = c .before .before in after-counted _ _ _ _ _ _ _ (follows (called .before)) (called .thirds .ensures) (search needs)
+returns-2 c = let called = c .before .before in
+    after-counted _ _ _ _ _ _ _ (follows (called .before)) (called .thirds .ensures) (search needs)
 
 returns-3 : tie.Need-returns-3
 returns-3 c =

@@ -10,10 +10,15 @@ use Rattle.plan_slots.proofs.search_from.Statement.{statement}
 use Rattle.plan_slots.proofs.search_from.Tie as tie
 
 abbrev Inv-loop : tie.InvT-loop
-Inv-loop duration first k rule low high passed₀ slot₀ passed slot = Passed (plansAfter rule duration first) low high k slot passed
+Inv-loop duration first k rule low high passed₀ slot₀ passed slot =
+    Passed (plansAfter rule duration first) low high k slot passed
 
 abbrev μ-loop : tie.MeasureT-loop
 μ-loop duration first k rule low high passed₀ slot₀ passed slot = high - slot
+
+-- states on the way, each three steps back
+abbrev else1 : tie.After-struct-known2 Inv-loop μ-loop → tie.Else1 Inv-loop μ-loop
+else1 c = c .before .before .before
 
 returns-2 : tie.Need-returns-2 Inv-loop μ-loop
 unfolding plansFrom
@@ -30,7 +35,7 @@ loop-again c =
 
 -- where the loop starts
 abbrev entered : tie.At-loop Inv-loop μ-loop → tie.Else1 Inv-loop μ-loop
-entered c = c .before .before .before .before
+entered c = else1 (c .before)
 
 -- at most k plans are passed, and k fits
 add-passed : tie.Need-add-passed Inv-loop μ-loop
