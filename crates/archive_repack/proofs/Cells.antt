@@ -35,27 +35,33 @@ used-is : (cell : List ℕ) → length (cellBytes cell) ≡ cellUsed cell
 unfolding cellBytes
 used-is cell = resized-length (cellUsed cell) (cellField cell)
 
-pub used-bounds : (cell : List ℕ) → isRow (rowIn cell) ≡ true → (minLength ≤ cellUsed cell) × (cellUsed cell ≤ cellCapacity)
+pub used-bounds : (cell : List ℕ) → isRow (rowIn cell) ≡ true
+    → (minLength ≤ cellUsed cell) × (cellUsed cell ≤ cellCapacity)
 used-bounds cell v =
     let f = check-facts (cellBytes cell) (eqb-true (checkOf (cellBytes cell)) 0 v) in
     (omega (arith, f .low, used-is cell), omega (arith, f .high, used-is cell))
 
-pub identity-shown : (cell : List ℕ) (used : ℕ) → length cell ≡ cellLength → isRow (rowIn cell) ≡ true → used ≡ cellUsed cell
+pub identity-shown : (cell : List ℕ) (used : ℕ) → length cell ≡ cellLength
+    → isRow (rowIn cell) ≡ true → used ≡ cellUsed cell
     → unbe (take 8 (part (9 + used - 6) (9 + used - 6 + 4 - (9 + used - 6)) cell)) ≡ identityOf (rowIn cell)
 unfolding cellBytes
 identity-shown cell used l v e =
     let b = used-bounds cell v in
     let four : 9 + used - 6 + 4 - (9 + used - 6) ≡ 4 = omega arith in
     let at : 9 + used - 6 ≡ 9 + (used - 6) = omega (arith, e, b .0) in
-    let short : length (part (9 + used - 6) 4 cell) ≤ 8 = omega (arith, part-length (9 + used - 6) 4 cell (omega (arith, e, b .1, b .0))) in
+    let short : length (part (9 + used - 6) 4 cell) ≤ 8 =
+    omega (arith, part-length (9 + used - 6) 4 cell (omega (arith, e, b .1, b .0))) in
     let field : length (cellField cell) ≡ cellCapacity = part-length 9 cellCapacity cell (omega arith) in
     let shown : part (used - 6) 4 (resized used (cellField cell)) ≡ part (9 + used - 6) 4 cell =
     ap (part (used - 6) 4) (resized-cut used (cellField cell) (omega (arith, field, e, b .1)))
     ∙ part-take (used - 6) 4 used (cellField cell) (omega (arith, e, b .0))
-    ∙ part-take (used - 6) 4 cellCapacity (drop 9 cell) (omega (arith, e, b .0, b .1)) ∙ ap (take 4) (drop-drop (used - 6) 9 cell)
+    ∙ part-take (used - 6) 4 cellCapacity (drop 9 cell) (omega (arith, e, b .0, b .1))
+    ∙ ap (take 4) (drop-drop (used - 6) 9 cell)
     ∙ ap (λ (a : ℕ). part a 4 cell) (sym at) in
-    let long : length (resized (cellUsed cell) (cellField cell)) ≡ used = resized-length (cellUsed cell) (cellField cell) ∙ sym e in
-    ap (λ (n : ℕ). unbe (take 8 (part (9 + used - 6) n cell))) four ∙ ap unbe (take-all 8 (part (9 + used - 6) 4 cell) short ∙ sym shown)
+    let long : length (resized (cellUsed cell) (cellField cell)) ≡ used =
+    resized-length (cellUsed cell) (cellField cell) ∙ sym e in
+    ap (λ (n : ℕ). unbe (take 8 (part (9 + used - 6) n cell))) four
+    ∙ ap unbe (take-all 8 (part (9 + used - 6) 4 cell) short ∙ sym shown)
     ∙ ap₂ (λ (n u : ℕ). unbe (part (n - 6) 4 (resized u (cellField cell)))) (sym long) e
 
 -- ---- the cells of a block
@@ -91,14 +97,16 @@ module _ (identities block : List ℕ) where
       rw e
 
 -- a cell that stays, and one that does not
-pub cell-listed : (identities cell : List ℕ) (b : Bool) → isListed identities (rowIn cell) ≡ b → keptCell identities cell ≡ cond b [] cell
+pub cell-listed : (identities cell : List ℕ) (b : Bool)
+    → isListed identities (rowIn cell) ≡ b → keptCell identities cell ≡ cond b [] cell
 unfolding keptCell
 cell-listed identities cell b e = rw e
 
 -- ---- the search in a list
 
 module _ (x : ℕ) where
-  pub any-next : (l : List ℕ) (i : ℕ) → i < length l → (x ≡ getD l i 0 → ⊥) → any (eqb x) (drop i l) ≡ any (eqb x) (drop (i + 1) l)
+  pub any-next : (l : List ℕ) (i : ℕ) → i < length l → (x ≡ getD l i 0 → ⊥)
+      → any (eqb x) (drop i l) ≡ any (eqb x) (drop (i + 1) l)
   any-next l i h n = rw (drop-cons l i 0, add-one, ne-eqb x (getD l i 0) n)
 
   pub any-found : (l : List ℕ) (i : ℕ) → i < length l → x ≡ getD l i 0 → any (eqb x) (drop i l) ≡ true

@@ -47,7 +47,8 @@ module _ (next used : ℕ) (pending : List ℕ) (l : length pending ≡ pendingL
       let e : length (take (cellLength * used) pending) ≡ 0 = waiting-long ∙ omega arith in
       rw (eq-eqb _ 0 e)
 
-  pub last-some : (used ≡ 0 → ⊥) → lastBlock (packing next used pending) ≡ cellsBlock next (take (cellLength * used) pending)
+  pub last-some : (used ≡ 0 → ⊥)
+      → lastBlock (packing next used pending) ≡ cellsBlock next (take (cellLength * used) pending)
   unfolding lastBlock
   last-some z =
       let e : length (take (cellLength * used) pending) ≡ 0 → ⊥ = λ q. z (omega (arith, waiting-long, q)) in
@@ -60,25 +61,30 @@ module _ (next used : ℕ) (pending : List ℕ) (l : length pending ≡ pendingL
     abbrev at : ℕ
     at = blockLength * next
 
-    pub closed-none : used ≡ 0 → Begun out (take at out ++ replicate (end - at) 0) end xs → xs ≡ closed (packing next used pending) end out
+    pub closed-none : used ≡ 0 → Begun out (take at out ++ replicate (end - at) 0) end xs
+        → xs ≡ closed (packing next used pending) end out
     closed-none z b =
         let n : end - at - 0 ≡ end - at = omega arith in
         b .is ∙ ap (λ (m : ℕ). take at out ++ replicate m 0 ++ drop end out) (sym n)
         ∙ ap (λ (x : List ℕ). take at out ++ padded (end - at) x ++ drop end out) (sym (last-none z))
 
     pub closed-last : (used ≡ 0 → ⊥) → Begun out
-        (take at out ++ cellsBlock next (take (cellLength * used) pending) ++ replicate (end - (at + blockLength)) 0) end xs
+        (take at out ++ cellsBlock next (take (cellLength * used) pending) ++ replicate (end - (at + blockLength)) 0)
+        end xs
         → xs ≡ closed (packing next used pending) end out
     closed-last z b =
         let block = cellsBlock next (take (cellLength * used) pending) in
         let n : end - (at + blockLength) ≡ end - at - length block = omega (arith, last-long) in
-        b .is ∙ ap (λ (x : List ℕ). x ++ drop end out) (append-assoc (take at out) block (replicate (end - (at + blockLength)) 0)
+        b .is
+        ∙ ap (λ (x : List ℕ). x ++ drop end out)
+        (append-assoc (take at out) block (replicate (end - (at + blockLength)) 0)
         ∙ ap (λ (m : ℕ). take at out ++ (block ++ replicate m 0)) n)
         ∙ ap (λ (x : List ℕ). take at out ++ padded (end - at) x ++ drop end out) (sym (last-some z))
 
 -- ---- a packing from the start
 
-module _ (identities piece : List ℕ) (next used : ℕ) (pending : List ℕ) (l : length pending ≡ pendingLength) (few : used < cellsPerBlock)
+module _ (identities piece : List ℕ) (next used : ℕ) (pending : List ℕ)
+    (l : length pending ≡ pendingLength) (few : used < cellsPerBlock)
     (is : packing next used pending ≡ pushed startPacking (keptCells identities piece)) where
   abbrev cells : List ℕ
   cells = keptCells identities piece
@@ -110,11 +116,14 @@ module _ (identities piece : List ℕ) (next used : ℕ) (pending : List ℕ) (l
       ap (drop end) e ∙ ap (λ (m : ℕ). drop m (front ++ drop (length front) out)) (sym d)
       ∙ drop-append-add front (drop (length front) out) (end - length front)
       ∙ drop-drop (end - length front) (length front) out ∙ ap (λ (m : ℕ). drop m out) d in
-      let archive : front ++ last ≡ archiveOf (others identities (soundRows piece)) = ap (λ (p : Packing). front ++ lastBlock p) is
+      let archive : front ++ last ≡ archiveOf (others identities (soundRows piece)) =
+      ap (λ (p : Packing). front ++ lastBlock p) is
       ∙ packed-archive identities piece in
-      let n : end - blockLength * next - length last ≡ end - length (front ++ last) = omega (arith, length-append front last, long) in
+      let n : end - blockLength * next - length last ≡ end - length (front ++ last) =
+      omega (arith, length-append front last, long) in
       ap₂ (λ (x y : List ℕ). x ++ padded (end - blockLength * next) last ++ y) first past
-      ∙ ap (λ (x : List ℕ). x ++ drop end out) (sym (append-assoc front last (replicate (end - blockLength * next - length last) 0))
+      ∙ ap (λ (x : List ℕ). x ++ drop end out)
+      (sym (append-assoc front last (replicate (end - blockLength * next - length last) 0))
       ∙ ap (λ (m : ℕ). front ++ last ++ replicate m 0) n)
       ∙ ap (λ (x : List ℕ). padded end x ++ drop end out) archive
 
@@ -124,24 +133,35 @@ others-none : (rows : List Row) → others [] rows ≡ rows
 others-none [] = refl
 others-none (r ∷ rows) = ap (λ (l : List Row). r ∷ l) (others-none rows)
 
-pub kept-long : (identities piece : List ℕ) → length (keptCells identities piece) ≡ cellLength * length (others identities (soundRows piece))
+pub kept-long : (identities piece : List ℕ)
+    → length (keptCells identities piece) ≡ cellLength * length (others identities (soundRows piece))
 unfolding keptCells
 kept-long identities piece =
-    cells-length (others identities (soundRows piece)) (fits-keep (λ r. not (isListed identities r)) (soundRows piece) (sound-rows-fit piece))
+    cells-length (others identities (soundRows piece))
+    (fits-keep (λ r. not (isListed identities r)) (soundRows piece) (sound-rows-fit piece))
 
-module _ (buffer : List ℕ) (next used : ℕ) (pending : List ℕ) (l : length pending ≡ pendingLength) (few : used < cellsPerBlock)
+module _ (buffer : List ℕ) (next used : ℕ) (pending : List ℕ)
+    (l : length pending ≡ pendingLength) (few : used < cellsPerBlock)
     (is : packing next used pending ≡ pushed startPacking (keptCells [] buffer)) where
   pub salvaged-rows : cellsPerBlock * next + used ≡ length (soundRows buffer)
-  salvaged-rows = omega (arith, counted [] buffer next used pending l few is, kept-long [] buffer, ap length (others-none (soundRows buffer)))
+  salvaged-rows =
+      omega (
+        arith,
+        counted [] buffer next used pending l few is,
+        kept-long [] buffer,
+        ap length (others-none (soundRows buffer)),
+      )
 
   pub salvaged-few : cellsPerBlock * next + used ≤ cellsPerBlock * (length buffer / blockLength)
   salvaged-few = omega (arith, salvaged-rows, sound-rows-few buffer)
 
-  pub salvage-done : (output positions out1 out2 positions2 : List ℕ) → isWhole (length buffer) ≡ true → length buffer ≤ length output
+  pub salvage-done : (output positions out1 out2 positions2 : List ℕ)
+      → isWhole (length buffer) ≡ true → length buffer ≤ length output
       → length (dropped buffer) ≤ length positions
       → blockLength * 0 + length (pushedBlocks startPacking (keptCells [] buffer)) ≡ blockLength * next
       → out1 ≡ fronted (pushedBlocks startPacking (keptCells [] buffer)) output
-      → out2 ≡ closed (packing next used pending) (length buffer) out1 → positions2 ≡ fronted (dropped buffer) positions → (gone : ℕ)
+      → out2 ≡ closed (packing next used pending) (length buffer) out1
+      → positions2 ≡ fronted (dropped buffer) positions → (gone : ℕ)
       → gone ≡ length (dropped buffer)
       → record { number = 0; count = gone; rows = cellsPerBlock * next + used; output = out2; positions = positions2 }
       ≡ salvageOf buffer output positions
@@ -150,7 +170,8 @@ module _ (buffer : List ℕ) (next used : ℕ) (pending : List ℕ) (l : length 
       let done : out2 ≡ fronted (bufferOf (length buffer) (soundRows buffer)) output =
       out-is ∙ closed-archive [] buffer next used pending l few is (length buffer) output out1 (omega (arith, long))
       (omega (arith, long, salvaged-few)) put
-      ∙ ap (λ (rows : List Row). bufferOf (length buffer) rows ++ drop (length buffer) output) (others-none (soundRows buffer))
+      ∙ ap (λ (rows : List Row). bufferOf (length buffer) rows ++ drop (length buffer) output)
+      (others-none (soundRows buffer))
       ∙ ap (λ (n : ℕ). bufferOf (length buffer) (soundRows buffer) ++ drop n output) (sym (salvaged-length buffer w)) in
       rw (w, le-ltb (length output) (length buffer) fits, le-ltb (length positions) (length (dropped buffer)) listable)
       (λ j. record { number = 0; count = count j; rows = salvaged-rows j; output = done j; positions = list j })
@@ -168,7 +189,8 @@ module _ (buffer output positions : List ℕ) where
   unfolding salvageOf
   salvage-short w h = rw (w, lt-ltb (length output) (length buffer) h)
 
-  pub salvage-list : isWhole (length buffer) ≡ true → length buffer ≤ length output → leb (length (dropped buffer)) (length positions) ≡ false
+  pub salvage-list : isWhole (length buffer) ≡ true → length buffer ≤ length output
+      → leb (length (dropped buffer)) (length positions) ≡ false
       → refused (numberOf ShortOutput) ≡ salvageOf buffer output positions
   unfolding salvageOf
   salvage-list w h f = rw (

@@ -18,7 +18,8 @@ module _ (k total : ℕ) (before : List ℕ) where
   abbrev cells : List ℕ
   cells = take (cellLength * total) before
 
-  pub flush-few : (full : List ℕ) → length before ≡ pendingLength → total < cellsPerBlock → Flushed k total before before full full total
+  pub flush-few : (full : List ℕ) → length before ≡ pendingLength
+      → total < cellsPerBlock → Flushed k total before before full full total
   flush-few full l h =
       let long : length cells < fullLength = omega (arith, length-take (cellLength * total) before) in
       let none : total / cellsPerBlock ≡ 0 = omega arith in
@@ -37,8 +38,11 @@ module _ (k total : ℕ) (before : List ℕ) where
         let long : length cells ≡ cellLength * total = length-take (cellLength * total) before ∙ omega arith in
         let one : total / cellsPerBlock ≡ 1 = omega arith in
         let split : cellLength * total ≡ fullLength + cellLength * (total - cellsPerBlock) = omega arith in
-        let left : fullLength + cellLength * (total - cellsPerBlock) - fullLength ≡ cellLength * (total - cellsPerBlock) = omega arith in
-        let first : take fullLength cells ≡ take fullLength before = take-take fullLength (cellLength * total) before (omega arith) in
+        let left : fullLength + cellLength * (total - cellsPerBlock) - fullLength
+        ≡ cellLength * (total - cellsPerBlock) =
+        omega arith in
+        let first : take fullLength cells ≡ take fullLength before =
+        take-take fullLength (cellLength * total) before (omega arith) in
         let block : fullBlocks k cells ≡ cellsBlock k (take fullLength before) =
         one-block k cells (omega (arith, long)) (omega (arith, long)) ∙ ap (cellsBlock k) first in
         let size : length (cellsBlock k (take fullLength before)) ≡ blockLength =

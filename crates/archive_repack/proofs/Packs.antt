@@ -29,16 +29,23 @@ module _ (next used : ℕ) (pending : List ℕ) where
   unfolding isPacking
   packing-many l h = rw (eq-eqb (length pending) pendingLength l, le-ltb used cellsPerBlock h)
 
-  pub packing-far : length pending ≡ pendingLength → used < cellsPerBlock → maxBlocks < next → false ≡ isPacking next used pending
+  pub packing-far : length pending ≡ pendingLength → used < cellsPerBlock
+      → maxBlocks < next → false ≡ isPacking next used pending
   unfolding isPacking
   packing-far l h o =
-      rw (eq-eqb (length pending) pendingLength l, lt-ltb used cellsPerBlock h, lt-leb (cellsPerBlock * next + used) maxRows (omega arith))
+      rw (
+        eq-eqb (length pending) pendingLength l,
+        lt-ltb used cellsPerBlock h,
+        lt-leb (cellsPerBlock * next + used) maxRows (omega arith),
+      )
 
-  pub packing-rows : length pending ≡ pendingLength → used < cellsPerBlock → hasBlocks next used ≡ isPacking next used pending
+  pub packing-rows : length pending ≡ pendingLength → used < cellsPerBlock
+      → hasBlocks next used ≡ isPacking next used pending
   unfolding isPacking
   packing-rows l h = rw (eq-eqb (length pending) pendingLength l, lt-ltb used cellsPerBlock h)
 
-  pub packing-facts : isPacking next used pending ≡ true → (length pending ≡ pendingLength) × (used < cellsPerBlock) × (next ≤ maxBlocks)
+  pub packing-facts : isPacking next used pending ≡ true
+      → (length pending ≡ pendingLength) × (used < cellsPerBlock) × (next ≤ maxBlocks)
   unfolding isPacking
   packing-facts e =
       let a = both (eqb (length pending) pendingLength) _ e in
@@ -94,7 +101,8 @@ module _ (next used : ℕ) (pending : List ℕ) where
                 )
 
             module _ (fits : length piece ≤ length output) where
-              pub pack-list : leb (length (dropped piece)) (length positions) ≡ false → kept (numberOf ShortOutput) ≡ answer
+              pub pack-list : leb (length (dropped piece)) (length positions) ≡ false
+                  → kept (numberOf ShortOutput) ≡ answer
               unfolding packOf
               pack-list f =
                   rw (
@@ -103,7 +111,8 @@ module _ (next used : ℕ) (pending : List ℕ) where
                     le-leb most maxRows near,
                     le-ltb maxIdentities (length identities) few,
                     le-ltb (length output) (length piece) fits,
-                    lt-ltb (length positions) (length (dropped piece)) (leb-false (length (dropped piece)) (length positions) f),
+                    lt-ltb (length positions) (length (dropped piece))
+                        (leb-false (length (dropped piece)) (length positions) f),
                   )
 
               pub pack-done : length (dropped piece) ≤ length positions
@@ -132,7 +141,8 @@ module _ (next used : ℕ) (pending : List ℕ) where
       abbrev facts : (length pending ≡ pendingLength) × (used < cellsPerBlock) × (next ≤ maxBlocks)
       facts = packing-facts p
 
-      pub finish-none : used ≡ 0 → record { number = 0; length = 0; output = output } ≡ finishOf next used pending output
+      pub finish-none : used ≡ 0
+          → record { number = 0; length = 0; output = output } ≡ finishOf next used pending output
       unfolding finishOf
       finish-none z =
           let none = last-none next used pending (facts .0) (facts .1) z in
@@ -141,7 +151,9 @@ module _ (next used : ℕ) (pending : List ℕ) where
 
       module _ (some : used ≡ 0 → ⊥) where
         long : length (lastBlock (packing next used pending)) ≡ blockLength
-        long = ap length (last-some next used pending (facts .0) (facts .1) some) ∙ last-long next used pending (facts .0) (facts .1)
+        long =
+            ap length (last-some next used pending (facts .0) (facts .1) some)
+            ∙ last-long next used pending (facts .0) (facts .1)
 
         pub finish-short : length output < blockLength
             → record { number = numberOf ShortOutput; length = 0; output = output } ≡ finishOf next used pending output
@@ -157,6 +169,8 @@ module _ (next used : ℕ) (pending : List ℕ) where
         finish-last h out2 e =
             let low : length (lastBlock (packing next used pending)) ≤ length output = omega (arith, long) in
             let is : out2 ≡ fronted (lastBlock (packing next used pending)) output =
-            e ∙ ap₂ (λ (b : List ℕ) (n : ℕ). b ++ drop n output) (sym (last-some next used pending (facts .0) (facts .1) some)) (sym long) in
+            e
+            ∙ ap₂ (λ (b : List ℕ) (n : ℕ). b ++ drop n output)
+            (sym (last-some next used pending (facts .0) (facts .1) some)) (sym long) in
             rw (p, le-ltb (length output) (length (lastBlock (packing next used pending))) low)
             (λ j. record { number = 0; length = sym long j; output = is j })

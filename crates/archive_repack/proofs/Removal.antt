@@ -28,7 +28,8 @@ use Rattle.archive_repack.specs.Private.{closed}
 use Rattle.archive_repack.proofs.Closing.{counted, kept-long, closed-archive}
 use Rattle.archive_repack.proofs.Within.{in-use-few, in-use-length, in-use-archive}
 
-module _ (buffer identities : List ℕ) (v : verdict buffer .number ≡ 0) (blocks : ℕ) (used : blocks ≡ blocksFor (length (rowsIn buffer))) where
+module _ (buffer identities : List ℕ) (v : verdict buffer .number ≡ 0)
+    (blocks : ℕ) (used : blocks ≡ blocksFor (length (rowsIn buffer))) where
   abbrev rows : List Row
   rows = rowsIn buffer
 
@@ -45,10 +46,12 @@ module _ (buffer identities : List ℕ) (v : verdict buffer .number ≡ 0) (bloc
   zeros-behind : drop end buffer ≡ replicate (length buffer - end) 0
   unfolding bufferOf
   zeros-behind =
-      let long : length (archiveOf rows) ≡ end = sym (ap length (in-use-archive buffer v blocks used)) ∙ in-use-length buffer v blocks used in
+      let long : length (archiveOf rows) ≡ end =
+      sym (ap length (in-use-archive buffer v blocks used)) ∙ in-use-length buffer v blocks used in
       let left : ℕ = blockLength * (length buffer / blockLength) - length (archiveOf rows) in
       let n : left ≡ length buffer - end = omega (arith, long, blocks-of buffer v .0) in
-      ap (drop end) (sym (is-exact buffer v)) ∙ drop-at (archiveOf rows) (replicate left 0) end long ∙ ap (λ (k : ℕ). replicate k 0) n
+      ap (drop end) (sym (is-exact buffer v))
+      ∙ drop-at (archiveOf rows) (replicate left 0) end long ∙ ap (λ (k : ℕ). replicate k 0) n
 
   rest-behind : bufferOf end rest ++ drop end buffer ≡ bufferOf (length buffer) rest
   unfolding bufferOf
@@ -57,7 +60,8 @@ module _ (buffer identities : List ℕ) (v : verdict buffer .number ≡ 0) (bloc
       let long : length (archive ++ replicate (end - length archive) 0) ≡ end =
       buffer-length rest blocks (rest-fits buffer identities v) (omega (arith, rest-short)) in
       let low : length archive ≤ end = omega (arith, length-append archive (replicate (end - length archive) 0)) in
-      let sum : end - length archive + (length buffer - end) ≡ length buffer - length archive = omega (arith, low, in-use-few buffer v blocks used) in
+      let sum : end - length archive + (length buffer - end) ≡ length buffer - length archive =
+      omega (arith, low, in-use-few buffer v blocks used) in
       ap (λ (l : List ℕ). archive ++ replicate (end - length archive) 0 ++ l) zeros-behind
       ∙ append-assoc archive (replicate (end - length archive) 0) (replicate (length buffer - end) 0)
       ∙ ap (λ (l : List ℕ). archive ++ l) (replicate-append-replicate (end - length archive) (length buffer - end) 0
@@ -78,22 +82,27 @@ module _ (buffer identities : List ℕ) (v : verdict buffer .number ≡ 0) (bloc
 
     pub remove-done : (out1 out2 : List ℕ) → length identities ≤ maxIdentities
         → blockLength * 0 + length (pushedBlocks startPacking (keptCells identities buffer)) ≡ blockLength * next
-        → out1 ≡ fronted (pushedBlocks startPacking (keptCells identities buffer)) buffer → out2 ≡ closed (packing next waits pending) end out1
+        → out1 ≡ fronted (pushedBlocks startPacking (keptCells identities buffer)) buffer
+        → out2 ≡ closed (packing next waits pending) end out1
         → (after : ℕ) → after ≡ blocksFor (cellsPerBlock * next + waits)
         → record { number = 0; position = 0; freed = blocks - after; buffer = out2 } ≡ removeOf buffer identities
     remove-done out1 out2 listed long put out-is after e =
-        let freed : blocks - after ≡ blocksFor (length rows) - blocksFor (length rest) = omega (arith, used, e, removed-rows) in
+        let freed : blocks - after ≡ blocksFor (length rows) - blocksFor (length rest) =
+        omega (arith, used, e, removed-rows) in
         let is-rest : out2 ≡ bufferOf (length buffer) rest =
         out-is ∙ closed-archive identities buffer next waits pending l few is end buffer out1 (omega (arith, long))
         (omega (arith, long, removed-few)) put
-        ∙ ap (λ (x : List Row). bufferOf end (others identities x) ++ drop end buffer) (intact-rows buffer v) ∙ rest-behind in
-        (λ j. record { number = 0; position = 0; freed = freed j; buffer = is-rest j }) ∙ sym (removed-is buffer identities v listed)
+        ∙ ap (λ (x : List Row). bufferOf end (others identities x) ++ drop end buffer) (intact-rows buffer v)
+        ∙ rest-behind in
+        (λ j. record { number = 0; position = 0; freed = freed j; buffer = is-rest j })
+        ∙ sym (removed-is buffer identities v listed)
 
 module _ (buffer identities : List ℕ) where
   abbrev asItWas : ℕ → ℕ → Removed
   asItWas number position = record { number = number; position = position; freed = 0; buffer = buffer }
 
-  pub remove-many : verdict buffer .number ≡ 0 → maxIdentities < length identities → asItWas (numberOf Argument) 0 ≡ removeOf buffer identities
+  pub remove-many : verdict buffer .number ≡ 0 → maxIdentities < length identities
+      → asItWas (numberOf Argument) 0 ≡ removeOf buffer identities
   unfolding removeOf
   remove-many v h = rw (v, lt-ltb maxIdentities (length identities) h)
 

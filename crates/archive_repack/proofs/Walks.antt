@@ -48,7 +48,8 @@ module _ (identities : List ℕ) where
       let same : rowCell (rowIn c) ≡ c = equal-eq (rowCell (rowIn c)) c (rw (both (isRow (rowIn c)) _ (b .0) .1) tt) in
       go (isListed identities (rowIn c)) same (kept-written cells (b .1))
     where
-      go : (b : Bool) → rowCell (rowIn c) ≡ c → flatten (map (keptCell identities) cells) ≡ cellsOf (others identities (map rowIn cells))
+      go : (b : Bool) → rowCell (rowIn c) ≡ c
+          → flatten (map (keptCell identities) cells) ≡ cellsOf (others identities (map rowIn cells))
           → cond b [] c ++ flatten (map (keptCell identities) cells)
           ≡ cellsOf (cond (not b) (rowIn c ∷ others identities (map rowIn cells)) (others identities (map rowIn cells)))
       go true same e = e
@@ -69,7 +70,8 @@ module _ (identities : List ℕ) where
   unfolding keptFrom keptIn flatten cellsFrom upFrom
   kept-other b n = rw n
 
-  pub kept-block : (b : List ℕ) (rows : ℕ) → rows ≡ soundCount b → keptFrom identities b 0 rows ≡ keptIn identities (b ∷ [])
+  pub kept-block : (b : List ℕ) (rows : ℕ) → rows ≡ soundCount b
+      → keptFrom identities b 0 rows ≡ keptIn identities (b ∷ [])
   kept-block b rows e =
       by-test {X = keptFrom identities b 0 rows ≡ keptIn identities (b ∷ [])} (isSound b)
       (λ t. ap (keptFrom identities b 0) (rw t at e) ∙ kept-sound b t)
@@ -98,28 +100,38 @@ block-rows b rows e =
 put-same : (a k : ℕ) (xs : List ℕ) → take a xs ++ (take k (drop a xs) ++ drop k (drop a xs)) ≡ xs
 put-same a k xs = ap (λ (x : List ℕ). take a xs ++ x) (take-append-drop k (drop a xs)) ∙ take-append-drop a xs
 
-begun-same : {old front : List ℕ} {a : ℕ} {xs : List ℕ} → Begun old front a xs → (b : ℕ) (ys : List ℕ) → a ≡ b → xs ≡ ys → Begun old front b ys
+begun-same : {old front : List ℕ} {a : ℕ} {xs : List ℕ} → Begun old front a xs
+    → (b : ℕ) (ys : List ℕ) → a ≡ b → xs ≡ ys → Begun old front b ys
 begun-same {old} {front} {a} {xs} w b ys e f =
-    record { is = sym f ∙ w .is ∙ ap (λ (n : ℕ). front ++ drop n old) e; long = w .long ∙ e; bound = omega (arith, e, w .bound) }
+    record {
+      is = sym f ∙ w .is ∙ ap (λ (n : ℕ). front ++ drop n old) e;
+      long = w .long ∙ e;
+      bound = omega (arith, e, w .bound);
+    }
 
-pub record Walking (p : Packing) (identities piece old : List ℕ) (most n k put waits : ℕ) (pending out : List ℕ) : Type 0 where
+pub record Walking (p : Packing) (identities piece old : List ℕ)
+    (most n k put waits : ℕ) (pending out : List ℕ) : Type 0 where
   pub front : List ℕ
   pub begun : Begun old front (blockLength * put) out
   pub long : length pending ≡ pendingLength
   pub few : waits < cellsPerBlock
   pub room : cellsPerBlock * put + waits ≤ most + cellsPerBlock * k
-  pub blocks : front ++ pushedBlocks (packing (p .next + put) waits pending) (keptIn identities (blocksFrom piece k (n - k)))
+  pub blocks : front
+      ++ pushedBlocks (packing (p .next + put) waits pending) (keptIn identities (blocksFrom piece k (n - k)))
       ≡ pushedBlocks p (keptIn identities (blocksIn piece))
   pub left : pushed (packing (p .next + put) waits pending) (keptIn identities (blocksFrom piece k (n - k)))
       ≡ pushed p (keptIn identities (blocksIn piece))
 
 module _ (identities piece : List ℕ) where
-  pub rest-turn : (n k : ℕ) → k < n → keptIn identities (blocksFrom piece k (n - k)) ≡ keptIn identities (blockAt k piece ∷ [])
+  pub rest-turn : (n k : ℕ) → k < n
+      → keptIn identities (blocksFrom piece k (n - k)) ≡ keptIn identities (blockAt k piece ∷ [])
       ++ keptIn identities (blocksFrom piece (k + 1) (n - (k + 1)))
   unfolding blocksFrom upFrom
   rest-turn n k h =
       let e : n - k ≡ suc (n - (k + 1)) = omega arith in
-      rw (e, add-one) (kept-next identities (blockAt k piece) (map (λ j. part (blockLength * j) blockLength piece) (upFrom (suc k) (n - suc k))))
+      rw (e, add-one)
+      (kept-next identities (blockAt k piece)
+      (map (λ j. part (blockLength * j) blockLength piece) (upFrom (suc k) (n - suc k))))
 
   pub rest-end : (n k : ℕ) → n ≤ k → keptIn identities (blocksFrom piece k (n - k)) ≡ []
   unfolding blocksFrom upFrom
@@ -128,9 +140,11 @@ module _ (identities piece : List ℕ) where
       rw e (kept-none identities)
 
 -- one block pushed: the packing after it, and what is put
-module _ (next waits total rest : ℕ) (pending pending1 pending2 cells full full2 : List ℕ) (l : length pending1 ≡ pendingLength) (most : ℕ)
+module _ (next waits total rest : ℕ) (pending pending1 pending2 cells full full2 : List ℕ)
+    (l : length pending1 ≡ pendingLength) (most : ℕ)
     (few : total < cellsPerBlock + cellsPerBlock)
-    (w : Waits (take (cellLength * waits) pending) cells pending1 most total) (f : Flushed next total pending1 pending2 full full2 rest) where
+    (w : Waits (take (cellLength * waits) pending) cells pending1 most total)
+    (f : Flushed next total pending1 pending2 full full2 rest) where
   abbrev p : Packing
   p = packing next waits pending
 
@@ -148,8 +162,10 @@ module _ (next waits total rest : ℕ) (pending pending1 pending2 cells full ful
   step-packing =
       let c : length (take (cellLength * waits) pending ++ cells) / fullLength ≡ total / cellsPerBlock =
       ap (λ (x : List ℕ). length x / fullLength) (sym (w .are)) ∙ omega (arith, cells-long) in
-      let n : next + length (take (cellLength * waits) pending ++ cells) / fullLength ≡ next + total / cellsPerBlock = ap (λ (x : ℕ). next + x) c in
-      let d : drop (fullLength * (length (take (cellLength * waits) pending ++ cells) / fullLength)) (take (cellLength * waits) pending ++ cells)
+      let n : next + length (take (cellLength * waits) pending ++ cells) / fullLength ≡ next + total / cellsPerBlock =
+      ap (λ (x : ℕ). next + x) c in
+      let d : drop (fullLength * (length (take (cellLength * waits) pending ++ cells) / fullLength))
+      (take (cellLength * waits) pending ++ cells)
       ≡ take (cellLength * rest) pending2 =
       ap₂ (λ (x : ℕ) (y : List ℕ). drop (fullLength * x) y) c (sym (w .are)) ∙ sym (f .are) in
       λ j. record { next = n j; waiting = d j }
@@ -165,7 +181,8 @@ module _ (next waits total rest : ℕ) (pending pending1 pending2 cells full ful
   put-one h e =
       let block = cellsBlock-length (omega (arith, cells-long)) (omega (arith, cells-long)) in
       let past : length full ≤ length (fullBlocks next all-cells) = omega (arith, e, block) in
-      f .put ∙ ap (λ (x : List ℕ). fullBlocks next all-cells ++ x) (drop-of-length-le full past) ∙ append-nil (fullBlocks next all-cells)
+      f .put ∙ ap (λ (x : List ℕ). fullBlocks next all-cells ++ x) (drop-of-length-le full past)
+      ∙ append-nil (fullBlocks next all-cells)
     where
       cellsBlock-length : fullLength ≤ length all-cells → length all-cells < fullLength + fullLength
           → length (fullBlocks next all-cells) ≡ blockLength
@@ -174,11 +191,13 @@ module _ (next waits total rest : ℕ) (pending pending1 pending2 cells full ful
           ∙ cells-block-length next (take fullLength all-cells) (omega (arith, length-take fullLength all-cells))
 
 module _ (p : Packing) (identities piece old : List ℕ) (most n : ℕ) where
-  pub walk-start : (waits : ℕ) (pending : List ℕ) → length pending ≡ pendingLength → waits < cellsPerBlock → waits ≤ most
+  pub walk-start : (waits : ℕ) (pending : List ℕ)
+      → length pending ≡ pendingLength → waits < cellsPerBlock → waits ≤ most
       → n ≡ length piece / blockLength
       → p ≡ packing (p .next) waits pending → Walking p identities piece old most n 0 0 waits pending old
   walk-start waits pending l few room e is =
-      let q : packing (p .next + 0) waits pending ≡ p = ap (λ (x : ℕ). packing x waits pending) (add-zero (p .next)) ∙ sym is in
+      let q : packing (p .next + 0) waits pending ≡ p =
+      ap (λ (x : ℕ). packing x waits pending) (add-zero (p .next)) ∙ sym is in
       let all-blocks = ap (keptIn identities) (rest-first piece n e) in
       record {
         front = [];
@@ -191,14 +210,17 @@ module _ (p : Packing) (identities piece old : List ℕ) (most n : ℕ) where
       }
 
   -- the next block
-  module _ (k put waits : ℕ) (pending out : List ℕ) (at : Walking p identities piece old most n k put waits pending out) (below : k < n)
+  module _ (k put waits : ℕ) (pending out : List ℕ)
+      (at : Walking p identities piece old most n k put waits pending out) (below : k < n)
       (rows total waits2 : ℕ) (pending1 pending2 full2 : List ℕ) (sound : rows ≡ soundCount (blockAt k piece))
-      (pushes : Waits (take (cellLength * waits) pending) (keptFrom identities (blockAt k piece) 0 rows) pending1 (waits + rows) total)
+      (pushes : Waits (take (cellLength * waits) pending)
+      (keptFrom identities (blockAt k piece) 0 rows) pending1 (waits + rows) total)
       (l1 : length pending1 ≡ pendingLength)
       (flushes : Flushed (p .next + put) total pending1 pending2
       (part (blockLength * put) (blockLength * put + blockLength - blockLength * put) out) full2 waits2)
       (l2 : length pending2 ≡ pendingLength)
-      (same : length full2 ≡ length (part (blockLength * put) (blockLength * put + blockLength - blockLength * put) out))
+      (same : length full2
+      ≡ length (part (blockLength * put) (blockLength * put + blockLength - blockLength * put) out))
       (fits : blockLength * put + blockLength ≤ length old) where
     abbrev N : ℕ
     N = p .next + put
@@ -225,7 +247,8 @@ module _ (p : Packing) (identities piece old : List ℕ) (most n : ℕ) where
     next-is =
         let e : N + total / cellsPerBlock ≡ p .next + (put + total / cellsPerBlock) = omega arith in
         ap (pushed q) (sym (kept-block identities (blockAt k piece) rows sound))
-        ∙ step-packing N waits total waits2 pending pending1 pending2 (keptFrom identities (blockAt k piece) 0 rows) full full2 l1
+        ∙ step-packing N waits total waits2 pending pending1 pending2
+        (keptFrom identities (blockAt k piece) 0 rows) full full2 l1
         (waits + rows) total-few pushes flushes
         ∙ ap (λ (x : ℕ). packing x waits2 pending2) e
 
@@ -236,44 +259,59 @@ module _ (p : Packing) (identities piece old : List ℕ) (most n : ℕ) where
     unfolding put-blocks
     blocks-are =
         ap (pushedBlocks q) (sym (kept-block identities (blockAt k piece) rows sound))
-        ∙ step-blocks N waits total waits2 pending pending1 pending2 (keptFrom identities (blockAt k piece) 0 rows) full full2 l1
+        ∙ step-blocks N waits total waits2 pending pending1 pending2
+        (keptFrom identities (blockAt k piece) 0 rows) full full2 l1
         (waits + rows) total-few pushes flushes
 
-    all-blocks : at .front ++ put-blocks ++ pushedBlocks (packing (p .next + (put + total / cellsPerBlock)) waits2 pending2) later
+    all-blocks : at .front ++ put-blocks
+        ++ pushedBlocks (packing (p .next + (put + total / cellsPerBlock)) waits2 pending2) later
         ≡ pushedBlocks p (keptIn identities (blocksIn piece))
     all-blocks =
-        append-assoc (at .front) put-blocks (pushedBlocks (packing (p .next + (put + total / cellsPerBlock)) waits2 pending2) later)
-        ∙ ap (λ (x : List ℕ). at .front ++ x) (ap₂ (λ (x : List ℕ) (r : Packing). x ++ pushedBlocks r later) (sym blocks-are) (sym next-is)
+        append-assoc (at .front) put-blocks
+        (pushedBlocks (packing (p .next + (put + total / cellsPerBlock)) waits2 pending2) later)
+        ∙ ap (λ (x : List ℕ). at .front ++ x)
+        (ap₂ (λ (x : List ℕ) (r : Packing). x ++ pushedBlocks r later) (sym blocks-are) (sym next-is)
         ∙ sym (blocks-append q cells later)
         ∙ ap (pushedBlocks q) (sym (rest-turn identities piece n k below)))
         ∙ at .blocks
 
-    all-left : pushed (packing (p .next + (put + total / cellsPerBlock)) waits2 pending2) later ≡ pushed p (keptIn identities (blocksIn piece))
+    all-left : pushed (packing (p .next + (put + total / cellsPerBlock)) waits2 pending2) later
+        ≡ pushed p (keptIn identities (blocksIn piece))
     all-left = ap (λ (r : Packing). pushed r later) (sym next-is) ∙ sym (push-append q cells later)
         ∙ ap (pushed q) (sym (rest-turn identities piece n k below)) ∙ at .left
 
     abbrev out2 : List ℕ
-    out2 = take (blockLength * put) out ++ (full2 ++ drop (blockLength * put + blockLength - blockLength * put) (drop (blockLength * put) out))
+    out2 =
+        take (blockLength * put) out
+        ++ (full2 ++ drop (blockLength * put + blockLength - blockLength * put) (drop (blockLength * put) out))
 
     front-after : Begun old (at .front ++ put-blocks) (blockLength * (put + total / cellsPerBlock)) out2
     unfolding put-blocks
     front-after = elim (decLt total cellsPerBlock) [
       | yes h ↦
-          (let none = put-none N waits total waits2 pending pending1 pending2 (keptFrom identities (blockAt k piece) 0 rows) full full2 l1
+          (let none =
+          put-none N waits total waits2 pending pending1 pending2
+          (keptFrom identities (blockAt k piece) 0 rows) full full2 l1
           (waits + rows) total-few pushes flushes h in
           let z : blockLength * put ≡ blockLength * (put + total / cellsPerBlock) = omega arith in
           let out-is : out ≡ out2 = sym (ap (λ (x : List ℕ). take (blockLength * put) out
           ++ (x ++ drop (blockLength * put + blockLength - blockLength * put) (drop (blockLength * put) out))) (none .0)
           ∙ put-same (blockLength * put) (blockLength * put + blockLength - blockLength * put) out) in
-          begun-same (named (at .begun) (at .front ++ fullBlocks N (take (cellLength * total) pending1)) (sym (append-nil (at .front))
+          begun-same (named (at .begun) (at .front ++ fullBlocks N (take (cellLength * total) pending1))
+          (sym (append-nil (at .front))
           ∙ ap (λ (x : List ℕ). at .front ++ x) (sym (none .1))))
           (blockLength * (put + total / cellsPerBlock)) out2 z out-is)
       | no h ↦
-          (let long : length full ≡ blockLength = lent (at .begun) blockLength (blockLength * put + blockLength) refl fits in
-          let one = put-one N waits total waits2 pending pending1 pending2 (keptFrom identities (blockAt k piece) 0 rows) full full2 l1
+          (let long : length full ≡ blockLength =
+          lent (at .begun) blockLength (blockLength * put + blockLength) refl fits in
+          let one =
+          put-one N waits total waits2 pending pending1 pending2
+          (keptFrom identities (blockAt k piece) 0 rows) full full2 l1
           (waits + rows) total-few pushes flushes (omega arith) long in
-          let z : blockLength * put + blockLength ≡ blockLength * (put + total / cellsPerBlock) = omega (arith, total-few) in
-          begun-same (lend (at .begun) full2 (fullBlocks N (take (cellLength * total) pending1)) (blockLength * put + blockLength) one same
+          let z : blockLength * put + blockLength ≡ blockLength * (put + total / cellsPerBlock) =
+          omega (arith, total-few) in
+          begun-same (lend (at .begun) full2 (fullBlocks N (take (cellLength * total) pending1))
+          (blockLength * put + blockLength) one same
           (omega arith) fits)
           (blockLength * (put + total / cellsPerBlock)) out2 z refl)
     ]
@@ -290,7 +328,8 @@ module _ (p : Packing) (identities piece old : List ℕ) (most n : ℕ) where
     }
 
   -- the end
-  module _ (k put waits : ℕ) (pending out : List ℕ) (at : Walking p identities piece old most n k put waits pending out) (over : n ≤ k) where
+  module _ (k put waits : ℕ) (pending out : List ℕ)
+      (at : Walking p identities piece old most n k put waits pending out) (over : n ≤ k) where
     none-left : keptIn identities (blocksFrom piece k (n - k)) ≡ []
     none-left = rest-end identities piece n k over
 
@@ -302,20 +341,25 @@ module _ (p : Packing) (identities piece old : List ℕ) (most n : ℕ) where
 
     front-is : at .front ≡ pushedBlocks p (keptCells identities piece)
     front-is =
-        sym (append-nil (at .front)) ∙ ap (λ (x : List ℕ). at .front ++ x) (sym (ap (pushedBlocks q-end) none-left ∙ push-none q-end few-waiting .0))
+        sym (append-nil (at .front))
+        ∙ ap (λ (x : List ℕ). at .front ++ x)
+        (sym (ap (pushedBlocks q-end) none-left ∙ push-none q-end few-waiting .0))
         ∙ at .blocks
         ∙ ap (pushedBlocks p) (sym (kept-is identities piece))
 
     pub walk-packed : packing (p .next + put) waits pending ≡ pushed p (keptCells identities piece)
     walk-packed =
-        sym (ap (pushed q-end) none-left ∙ push-none q-end few-waiting .1) ∙ at .left ∙ ap (pushed p) (sym (kept-is identities piece))
+        sym (ap (pushed q-end) none-left ∙ push-none q-end few-waiting .1)
+        ∙ at .left ∙ ap (pushed p) (sym (kept-is identities piece))
 
-    pub walk-long : blockLength * p .next + length (pushedBlocks p (keptCells identities piece)) ≡ blockLength * (p .next + put)
+    pub walk-long : blockLength * p .next + length (pushedBlocks p (keptCells identities piece))
+        ≡ blockLength * (p .next + put)
     walk-long = omega (arith, sym (ap length front-is), at .begun .long)
 
     pub walk-put : out ≡ fronted (pushedBlocks p (keptCells identities piece)) old
     walk-put =
-        at .begun .is ∙ ap₂ (λ (x : List ℕ) (a : ℕ). x ++ drop a old) front-is (sym (at .begun .long) ∙ ap length front-is)
+        at .begun .is
+        ∙ ap₂ (λ (x : List ℕ) (a : ℕ). x ++ drop a old) front-is (sym (at .begun .long) ∙ ap length front-is)
 
 -- ---- the list of dropped blocks
 
@@ -343,7 +387,11 @@ module _ (piece old : List ℕ) (n : ℕ) where
   unfolding dropped
   list-start e =
       let z : n - 0 ≡ length piece / blockLength = omega arith in
-      record { front = []; begun = begin old; whole = ap (λ (x : ℕ). keep (λ j. isDropped (blockAt j piece)) (upFrom 0 x)) z }
+      record {
+        front = [];
+        begun = begin old;
+        whole = ap (λ (x : ℕ). keep (λ j. isDropped (blockAt j piece)) (upFrom 0 x)) z;
+      }
 
   module _ (k gone : ℕ) (positions : List ℕ) (at : Listing piece old n k gone positions) where
     -- where the next one is dropped it has room
@@ -353,12 +401,20 @@ module _ (piece old : List ℕ) (n : ℕ) where
     unfolding upFrom
     split h b e =
         let z : n - k ≡ suc (n - suc k) = omega arith in
-        rw (← e, add-one) (ap (λ (x : ℕ). at .front ++ keep (λ j. isDropped (blockAt j piece)) (upFrom k x)) (sym z) ∙ at .whole)
+        rw (← e, add-one)
+        (ap (λ (x : ℕ). at .front ++ keep (λ j. isDropped (blockAt j piece)) (upFrom k x)) (sym z) ∙ at .whole)
 
-    pub has-room : k < n → length (dropped piece) ≤ length old → isDropped (blockAt k piece) ≡ true → gone < length positions
+    pub has-room : k < n → length (dropped piece) ≤ length old
+        → isDropped (blockAt k piece) ≡ true → gone < length positions
     has-room h few d =
         let rest = keep (λ j. isDropped (blockAt j piece)) (upFrom (k + 1) (n - (k + 1))) in
-        omega (arith, sym (ap length (split h true d)) ∙ length-append (at .front) (k ∷ rest), at .begun .long, begun-length (at .begun), few)
+        omega (
+          arith,
+          sym (ap length (split h true d)) ∙ length-append (at .front) (k ∷ rest),
+          at .begun .long,
+          begun-length (at .begun),
+          few,
+        )
 
     pub list-turn : k < n → length (dropped piece) ≤ length old → (after : List ℕ) (r : ℕ)
         → Listed (isDropped (blockAt k piece)) gone k positions after r → Listing piece old n (k + 1) r after
@@ -385,8 +441,10 @@ module _ (piece old : List ℕ) (n : ℕ) where
     list-end h =
         let z : n - k ≡ 0 = omega arith in
         let e : at .front ≡ dropped piece = sym (append-nil (at .front))
-        ∙ ap (λ (x : ℕ). at .front ++ keep (λ j. isDropped (blockAt j piece)) (upFrom k x)) (sym z) ∙ at .whole in
-        (sym (at .begun .long) ∙ ap length e, at .begun .is ∙ ap₂ (λ (x : List ℕ) (a : ℕ). x ++ drop a old) e (sym (at .begun .long) ∙ ap length e))
+        ∙ ap (λ (x : ℕ). at .front ++ keep (λ j. isDropped (blockAt j piece)) (upFrom k x)) (sym z) ∙ at .whole in (
+          sym (at .begun .long) ∙ ap length e,
+          at .begun .is ∙ ap₂ (λ (x : List ℕ) (a : ℕ). x ++ drop a old) e (sym (at .begun .long) ∙ ap length e),
+        )
 
 -- ---- how many blocks are dropped
 
@@ -395,7 +453,8 @@ unfoldable pub droppedFrom : List ℕ → ℕ → ℕ → ℕ
 droppedFrom buffer a n = length (keep (λ j. isDropped (blockAt j buffer)) (upFrom a n))
 
 module _ (buffer : List ℕ) where
-  pub from-first : (n : ℕ) → n ≡ length buffer / blockLength → 0 + droppedFrom buffer 0 (n - 0) ≡ length (dropped buffer)
+  pub from-first : (n : ℕ) → n ≡ length buffer / blockLength
+      → 0 + droppedFrom buffer 0 (n - 0) ≡ length (dropped buffer)
   unfolding droppedFrom dropped
   from-first n e =
       let z : n - 0 ≡ length buffer / blockLength = omega arith in

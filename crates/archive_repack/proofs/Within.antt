@@ -26,11 +26,13 @@ use Rattle.archive_repack_model.proofs.Rows.{intact-rows}
 use Rattle.archive_repack.specs.Private.{Flushed}
 
 -- the first block is block 0
-pub flushed-next : {put total rest : ℕ} {before after full full2 : List ℕ} → Flushed put total before after full full2 rest
+pub flushed-next : {put total rest : ℕ} {before after full full2 : List ℕ}
+    → Flushed put total before after full full2 rest
     → Flushed (0 + put) total before after full full2 rest
 flushed-next {put} f = rw (zero-add put) f
 
-module _ (buffer : List ℕ) (v : verdict buffer .number ≡ 0) (blocks : ℕ) (used : blocks ≡ blocksFor (length (rowsIn buffer))) where
+module _ (buffer : List ℕ) (v : verdict buffer .number ≡ 0) (blocks : ℕ)
+    (used : blocks ≡ blocksFor (length (rowsIn buffer))) where
   abbrev rows : List Row
   rows = rowsIn buffer
 
@@ -51,13 +53,16 @@ module _ (buffer : List ℕ) (v : verdict buffer .number ≡ 0) (blocks : ℕ) (
   in-use-block k h = part-take (blockLength * k) blockLength (blockLength * blocks) buffer (omega arith)
 
   block-is : (k : ℕ) → k < blocks → blockAt k buffer ≡ rowsBlock k (rowsAt k rows)
-  block-is k h = ap (blockAt k) (sym (is-exact buffer v)) ∙ used-block rows m (rows-fit buffer v) (rows-few buffer v) k (omega arith) (omega arith)
+  block-is k h =
+      ap (blockAt k) (sym (is-exact buffer v))
+      ∙ used-block rows m (rows-fit buffer v) (rows-few buffer v) k (omega arith) (omega arith)
 
   in-use-sound : (k : ℕ) → k < blocks → isSound (blockAt k buffer) ≡ true
   in-use-sound k h =
       let some : 1 ≤ length (rowsAt k rows) = omega (arith, group-length rows k) in
       let low : k < 2 ^ 32 = omega (arith, blocks-of buffer v .1, in-use-few) in
-      ap isSound (block-is k h) ∙ block-sound k (rowsAt k rows) (group-fits rows (rows-fit buffer v) k) (group-few rows k) some low
+      ap isSound (block-is k h)
+      ∙ block-sound k (rowsAt k rows) (group-fits rows (rows-fit buffer v) k) (group-few rows k) some low
 
   pub in-use-count : (k : ℕ) → k < blocks → rowCount (blockAt k buffer) ≡ soundCount (blockAt k inUse)
   in-use-count k h = sym (ap soundCount (in-use-block k h) ∙ (rw (in-use-sound k h)))
@@ -66,13 +71,16 @@ module _ (buffer : List ℕ) (v : verdict buffer .number ≡ 0) (blocks : ℕ) (
   unfolding archiveOf
   in-use-archive =
       sym (pieces blockLength buffer 0 blocks)
-      ∙ ap flatten (map-same (λ k. blockAt k buffer) (λ k. rowsBlock k (rowsAt k rows)) 0 blocks (λ k l h. block-is k (omega arith)))
+      ∙ ap flatten
+      (map-same (λ k. blockAt k buffer) (λ k. rowsBlock k (rowsAt k rows)) 0 blocks
+      (λ k l h. block-is k (omega arith)))
       ∙ ap (λ (n : ℕ). flatten (map (λ k. rowsBlock k (rowsAt k rows)) (upFrom 0 n))) used
 
   in-use-is : inUse ≡ bufferOf (blockLength * blocks) rows
   unfolding bufferOf
   in-use-is =
-      let none : blockLength * blocks - length (archiveOf rows) ≡ 0 = omega (arith, in-use-length, ap length in-use-archive) in
+      let none : blockLength * blocks - length (archiveOf rows) ≡ 0 =
+      omega (arith, in-use-length, ap length in-use-archive) in
       in-use-archive ∙ sym (append-nil (archiveOf rows)) ∙ ap (λ (n : ℕ). archiveOf rows ++ replicate n 0) (sym none)
 
   in-use-rows : model.soundRows inUse ≡ rows
@@ -80,9 +88,11 @@ module _ (buffer : List ℕ) (v : verdict buffer .number ≡ 0) (blocks : ℕ) (
       let fit = rows-fit buffer v in
       let few : length rows ≤ cellsPerBlock * blocks = omega arith in
       let low : blocks ≤ maxBlocks = omega (arith, blocks-of buffer v .1, in-use-few) in
-      ap model.soundRows in-use-is ∙ intact-rows (bufferOf (blockLength * blocks) rows) (written-verdict rows blocks fit few low)
+      ap model.soundRows in-use-is
+      ∙ intact-rows (bufferOf (blockLength * blocks) rows) (written-verdict rows blocks fit few low)
       ∙ rows-in rows blocks fit few
 
   pub in-use-cells : (identities : List ℕ) → keptCells identities inUse ≡ keptCells identities buffer
   unfolding keptCells
-  in-use-cells identities = ap (λ (l : List Row). cellsOf (model.others identities l)) (in-use-rows ∙ sym (intact-rows buffer v))
+  in-use-cells identities =
+      ap (λ (l : List Row). cellsOf (model.others identities l)) (in-use-rows ∙ sym (intact-rows buffer v))

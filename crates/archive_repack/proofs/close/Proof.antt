@@ -14,40 +14,59 @@ use Rattle.archive_repack.proofs.Closing.{before, closed-none, closed-l
 use Rattle.archive_repack.proofs.close.Statement.{statement}
 use Rattle.archive_repack.proofs.close.Tie as tie
 
-abbrev cleared : (c : tie.After-clear) → Writing (c .before .before .before .before .before .args .end)
+-- states on the way
+abbrev start : tie.Else1 → tie.Start
+start c = c .before .before .before
+
+abbrev entry : tie.Then1 → tie.Start
+entry c = c .before .before .before
+
+abbrev put-block : tie.After-clear-arg2 → tie.After-put-block
+put-block c = c .before .before .before
+
+abbrev start-put-block : tie.After-clear-arg2 → tie.Start
+start-put-block c = start (put-block c .before .before .before)
+
+abbrev cleared : (c : tie.After-clear) → Writing (entry (c .before .before) .args .end)
 cleared c =
-    let a = c .before .before .before .before .before .args in
-    packed (lend-sized (before (now (a .out)) (blockLength * a .next) (omega arith)) _ (λ n. replicate n 0) (a .end) (c .clear .ensures)
+    let a = entry (c .before .before) .args in
+    packed (lend-sized (before (now (a .out)) (blockLength * a .next) (omega arith)) _
+    (λ n. replicate n 0) (a .end) (c .clear .ensures)
     (c .clear .kept .0) (omega arith) (omega arith))
 
 none : tie.Need-returns
 none c =
     let k = c .before .before in
-    let s = k .before .before .before .before .before in
+    let s = entry (k .before .before) in
     let a = s .args in
-    closed-none (a .next) (a .used) (now (a .pending)) (s .pre .0) (s .pre .1) (a .end) (now (a .out)) _ (omega arith) (cleared k .begun)
+    closed-none (a .next) (a .used) (now (a .pending)) (s .pre .0) (s .pre .1)
+    (a .end) (now (a .out)) _ (omega arith) (cleared k .begun)
 
-abbrev put : (c : tie.After-put-block) → Writing (blockLength * c .before .before .before .before .before .before .args .next + blockLength)
+abbrev put : (c : tie.After-put-block)
+    → Writing (blockLength * start (c .before .before .before) .args .next + blockLength)
 put c =
-    let a = c .before .before .before .before .before .before .args in
+    let a = start (c .before .before .before) .args in
     let z : cellLength * a .used - 0 ≡ cellLength * a .used = omega arith in
     packed
-    (lend (before (now (a .out)) (blockLength * a .next) (omega arith)) _ (cellsBlock (a .next) (take (cellLength * a .used) (now (a .pending))))
+    (lend (before (now (a .out)) (blockLength * a .next) (omega arith)) _
+    (cellsBlock (a .next) (take (cellLength * a .used) (now (a .pending))))
     (blockLength * a .next + blockLength)
-    (c .put-block .ensures ∙ ap (λ (n : ℕ). cellsBlock (a .next) (take n (now (a .pending)))) z) (c .put-block .kept .0) (omega arith) (omega arith))
+    (c .put-block .ensures ∙ ap (λ (n : ℕ). cellsBlock (a .next) (take n (now (a .pending)))) z)
+    (c .put-block .kept .0) (omega arith) (omega arith))
 
-abbrev cleared2 : (c : tie.After-clear2) → Writing (c .before .before .before .before .before .before .before .before .before .before .args .end)
+abbrev cleared2 : (c : tie.After-clear2) → Writing (start-put-block (c .before) .args .end)
 cleared2 c =
-    packed (lend-sized (put (c .before .before .before .before) .begun) _ (λ n. replicate n 0)
-    (c .before .before .before .before .before .before .before .before .before .before .args .end) (c .clear2 .ensures) (c .clear2 .kept .0)
+    packed (lend-sized (put (put-block (c .before)) .begun) _ (λ n. replicate n 0)
+    (start-put-block (c .before) .args .end) (c .clear2 .ensures) (c .clear2 .kept .0)
     (omega arith) (omega arith))
 
 last : tie.Need-returns-2
 last c =
     let k = c .before .before in
-    let s = k .before .before .before .before .before .before .before .before .before .before in
+    let s = start-put-block (k .before) in
     let a = s .args in
-    closed-last (a .next) (a .used) (now (a .pending)) (s .pre .0) (s .pre .1) (a .end) (now (a .out)) _ (λ z. omega arith) (cleared2 k .begun)
+    closed-last (a .next) (a .used) (now (a .pending)) (s .pre .0) (s .pre .1)
+    (a .end) (now (a .out)) _ (λ z. omega arith) (cleared2 k .begun)
 
 pub close-spec : {M : Type 1} → statement M
 close-spec =

@@ -27,13 +27,17 @@ Inv-loop buffer gone₀ k₀ k-end gone k = Counting buffer k-end gone k
 abbrev μ-loop : tie.MeasureT-loop
 μ-loop buffer gone₀ k₀ k-end gone k = k-end - k
 
+-- states on the way, each three steps back
+abbrev start : tie.In-loop Inv-loop μ-loop → tie.Start Inv-loop μ-loop
+start c = c .before .before .before
+
 one-low : (b : Bool) → cond b 1 0 ≤ 1
 one-low true = omega arith
 one-low false = omega arith
 
 told : (c : tie.After-dropped-one Inv-loop μ-loop)
     → c .dropped-one .result ≡ cond (isDropped
-    (blockAt (c .before .before .before .loop .k) (now (c .before .before .before .before .before .args .buffer)))) 1 0
+    (blockAt (c .before .before .before .loop .k) (now (start (c .before .before) .args .buffer)))) 1 0
 told c =
     let at = c .before .before .before in
     c .dropped-one .ensures ∙ ap (λ (b : List ℕ). cond (isDropped b) 1 0)
@@ -48,7 +52,13 @@ loop-again c =
       bounded = omega arith;
       ends = refl;
       few = omega (arith, one, one-low (isDropped (blockAt (at .loop .k) buffer)));
-      rest = omega (arith, one, from-turn buffer (length buffer / blockLength) (at .loop .k) (omega arith), at .loop .inv .rest);
+      rest =
+          omega (
+            arith,
+            one,
+            from-turn buffer (length buffer / blockLength) (at .loop .k) (omega arith),
+            at .loop .inv .rest,
+          );
     }
 
 returns : tie.Need-returns Inv-loop μ-loop
@@ -75,7 +85,7 @@ dropped-in-spec =
       arith,
       told c,
       one-low (isDropped
-          (blockAt (c .before .before .before .loop .k) (now (c .before .before .before .before .before .args .buffer)))),
+          (blockAt (c .before .before .before .loop .k) (now (start (c .before .before) .args .buffer)))),
     ))
     (λ c. omega arith)
     (λ c. omega arith)

@@ -10,18 +10,21 @@ use Rattle.archive_repack.proofs.dropped_one.Tie as tie
 kept : tie.Need-returns
 kept c =
     let so = c .before in
-    rw (kept-not-dropped (now (so .before .before .args .block)) (so .sound .result) (so .sound .ensures) (c .if1 .taken))
+    rw (kept-not-dropped (now (so .before .before .args .block))
+    (so .sound .result) (so .sound .ensures) (c .if1 .taken))
 
 blank : tie.Need-returns-2
 blank c =
     let so = c .before .before .before in
-    rw (blank-not-dropped (now (so .before .before .args .block)) (so .sound .result) (so .sound .ensures) (sym (c .before .is-blank .ensures)
+    rw (blank-not-dropped (now (so .before .before .args .block))
+    (so .sound .result) (so .sound .ensures) (sym (c .before .is-blank .ensures)
     ∙ c .if2 .taken))
 
 dropped : tie.Need-returns-3
 dropped c =
     let so = c .before .before .before in
-    rw (is-dropped (now (so .before .before .args .block)) (so .sound .result) (so .sound .ensures) (omega arith) (sym (c .before .is-blank .ensures)
+    rw (is-dropped (now (so .before .before .args .block)) (so .sound .result)
+    (so .sound .ensures) (omega arith) (sym (c .before .is-blank .ensures)
     ∙ c .if2 .left))
 
 pub dropped-one-spec : {M : Type 1} → statement M

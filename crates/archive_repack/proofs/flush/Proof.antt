@@ -7,6 +7,16 @@ use Rattle.archive_repack.proofs.Flushes.{flush-few, flush-full}
 use Rattle.archive_repack.proofs.flush.Statement.{statement}
 use Rattle.archive_repack.proofs.flush.Tie as tie
 
+-- states on the way, each three steps back
+abbrev start : tie.Else1 → tie.Start
+start c = c .before .before .before
+
+abbrev block-full : tie.After-put-block-arg2 → tie.Else1
+block-full c = c .before .before .before
+
+abbrev put-block : tie.After-move-front-arg → tie.After-put-block
+put-block c = c .before .before .before
+
 few : tie.Need-returns
 few c =
     let s = c .before .before .before in
@@ -14,9 +24,10 @@ few c =
 
 returns-2 : tie.Need-returns-2
 returns-2 c =
-    let s = c .before .before .before .before .before .before .before .before .before .before .before .before .before in
-    let put = c .before .before .before .before .before .before in
-    flush-full (s .args .k) (s .args .total) (now (s .args .pending)) _ (now (s .args .full)) _ (s .pre .0) (omega arith) (omega arith) (s .pre .2)
+    let s = start (block-full (put-block (c .before .before .before) .before)) in
+    let put = put-block (c .before .before .before) in
+    flush-full (s .args .k) (s .args .total) (now (s .args .pending)) _
+    (now (s .args .full)) _ (s .pre .0) (omega arith) (omega arith) (s .pre .2)
     (put .put-block .ensures) (c .before .before .move-front .ensures)
 
 pub flush-spec : {M : Type 1} → statement M

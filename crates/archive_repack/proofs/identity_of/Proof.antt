@@ -20,7 +20,8 @@ returns : tie.Need-returns
 returns c =
     let u = c .before .before in
     let s = u .before .before in
-    c .read-number .ensures ∙ identity-shown (now (s .args .cell)) (u .cell-used .result) (s .pre .0) (s .pre .1) (u .cell-used .ensures)
+    c .read-number .ensures
+    ∙ identity-shown (now (s .args .cell)) (u .cell-used .result) (s .pre .0) (s .pre .1) (u .cell-used .ensures)
 
 pub identity-of-spec : {M : Type 1} → statement M
 identity-of-spec =

@@ -15,7 +15,8 @@ use Rattle.archive_repack.proofs.is_listable.Tie as tie
 long : tie.Need-returns
 long c =
     let a = c .before .before .args in
-    sym (le-leb (length (dropped (now (a .buffer)))) (a .len) (omega (arith, dropped-few (now (a .buffer)), c .if1 .taken)))
+    sym (le-leb (length (dropped (now (a .buffer)))) (a .len)
+    (omega (arith, dropped-few (now (a .buffer)), c .if1 .taken)))
 
 pub is-listable-spec : {M : Type 1} → statement M
 is-listable-spec =

@@ -27,7 +27,8 @@ returns : tie.Need-returns Inv-loop μ-loop
 returns c =
     let at = c .before .before .before in
     let a = at .before .args in
-    sym (any-found (a .identity) (now (a .identities)) (at .loop .i) (omega arith) (c .if1 .taken)) ∙ at .loop .inv .rest
+    sym (any-found (a .identity) (now (a .identities)) (at .loop .i) (omega arith) (c .if1 .taken))
+    ∙ at .loop .inv .rest
 
 loop-again : tie.Need-loop-again Inv-loop μ-loop
 loop-again c =
@@ -36,7 +37,9 @@ loop-again c =
     record {
       bounded = omega arith;
       ends = omega arith;
-      rest = sym (any-next (a .identity) (now (a .identities)) (at .loop .i) (omega arith) (c .if1 .left)) ∙ at .loop .inv .rest;
+      rest =
+          sym (any-next (a .identity) (now (a .identities)) (at .loop .i) (omega arith) (c .if1 .left))
+          ∙ at .loop .inv .rest;
     }
 
 returns-2 : tie.Need-returns-2 Inv-loop μ-loop

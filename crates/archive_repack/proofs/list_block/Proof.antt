@@ -11,6 +11,10 @@ use Rattle.archive_repack.proofs.Walks.{kept-not-dropped, blank-not-dro
 use Rattle.archive_repack.proofs.list_block.Statement.{statement}
 use Rattle.archive_repack.proofs.list_block.Tie as tie
 
+-- states on the way, each three steps back
+abbrev start : tie.Else1 → tie.Start
+start c = c .before .before .before
+
 kept : tie.Need-returns
 kept c =
     let s = c .before .before .before in
@@ -19,18 +23,21 @@ kept c =
 
 blank : tie.Need-returns-2
 blank c =
-    let s = c .before .before .before .before .before in
-    let d = blank-not-dropped (now (s .args .block)) (s .args .rows) (s .pre .0) (sym (c .before .is-blank .ensures) ∙ c .if2 .taken) in
+    let s = start (c .before .before) in
+    let d =
+    blank-not-dropped (now (s .args .block)) (s .args .rows)
+    (s .pre .0) (sym (c .before .is-blank .ensures) ∙ c .if2 .taken) in
     record { list = rw d; count = rw d }
 
-told : (c : tie.Else2) → isDropped (now (c .before .before .before .before .before .args .block)) ≡ true
+told : (c : tie.Else2) → isDropped (now (start (c .before .before) .args .block)) ≡ true
 told c =
-    let s = c .before .before .before .before .before in
-    is-dropped (now (s .args .block)) (s .args .rows) (s .pre .0) (omega arith) (sym (c .before .is-blank .ensures) ∙ c .if2 .left)
+    let s = start (c .before .before) in
+    is-dropped (now (s .args .block)) (s .args .rows) (s .pre .0)
+    (omega arith) (sym (c .before .is-blank .ensures) ∙ c .if2 .left)
 
-room : (c : tie.Else2) → c .before .before .before .before .before .args .gone < length
-    (now (c .before .before .before .before .before .args .positions))
-room c = c .before .before .before .before .before .pre .1 (told c)
+room : (c : tie.Else2) → start (c .before .before) .args .gone < length
+    (now (start (c .before .before) .args .positions))
+room c = start (c .before .before) .pre .1 (told c)
 
 listed : tie.Need-returns-3
 listed c =

@@ -13,17 +13,26 @@ use Rattle.archive_repack_model.specs.Packer.{fullLength}
 use Rattle.archive_repack.proofs.move_front.Statement.{statement}
 use Rattle.archive_repack.proofs.move_front.Tie as tie
 
+-- states on the way, each three steps back
+abbrev start : tie.After-copy-arg → tie.Start
+start c = c .before .before .before
+
+abbrev copied-now : tie.After-copy-arg2 → tie.After-copy
+copied-now c = c .before .before .before
+
 returns : tie.Need-returns
 returns c =
     let second = c .before .before in
-    let first = second .before .before .before .before in
-    let pending = now (second .before .before .before .before .before .before .before .before .before .args .pending) in
+    let first = copied-now (second .before) in
+    let pending = now (start (copied-now (second .before) .before .before) .args .pending) in
     let l : length (drop fullLength pending) ≤ fullLength = omega (arith, length-drop fullLength pending) in
     let later : first .copy .last .1 .0 ≡ drop fullLength pending =
     copied _ _ _ (part-length fullLength fullLength pending (omega arith)) (first .copy .ensures .1)
     ∙ take-all fullLength (drop fullLength pending) l in
     ap (λ (front : List ℕ). front ++ drop fullLength pending)
-    (copied _ _ _ (ap length later ∙ omega (arith, length-drop fullLength pending, part-length 0 fullLength pending (omega arith)))
+    (copied _ _ _
+    (ap length later
+    ∙ omega (arith, length-drop fullLength pending, part-length 0 fullLength pending (omega arith)))
     (second .copy2 .ensures .1) ∙ later)
 
 pub move-front-spec : {M : Type 1} → statement M

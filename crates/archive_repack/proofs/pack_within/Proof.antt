@@ -22,13 +22,34 @@ use Rattle.archive_repack.proofs.pack_within.Tie as tie
 
 record Packed (buffer₀ : List ℕ) (blocks : ℕ) (identities buffer pending : List ℕ) (waits put k : ℕ) : Type 0 where
   bounded : k ≤ blocks
-  walking : Walking startPacking identities (take (blockLength * blocks) buffer₀) buffer₀ 0 blocks k put waits pending buffer
+  walking : Walking startPacking identities
+      (take (blockLength * blocks) buffer₀) buffer₀ 0 blocks k put waits pending buffer
 
 abbrev Inv-loop : tie.InvT-loop
-Inv-loop buffer₀ blocks identities pending₀ waits₀ put₀ k₀ buffer pending waits put k = Packed buffer₀ blocks identities buffer pending waits put k
+Inv-loop buffer₀ blocks identities pending₀ waits₀ put₀ k₀ buffer pending waits put k =
+    Packed buffer₀ blocks identities buffer pending waits put k
 
 abbrev μ-loop : tie.MeasureT-loop
 μ-loop buffer₀ blocks identities pending₀ waits₀ put₀ k₀ buffer pending waits put k = blocks - k
+
+-- states on the way
+abbrev entry : tie.After-slice-known2 Inv-loop μ-loop → tie.Start Inv-loop μ-loop
+entry c = c .before .before .before
+
+abbrev turn : tie.After-block Inv-loop μ-loop → tie.At-loop Inv-loop μ-loop
+turn c = c .before .before .before
+
+abbrev turning : tie.After-byte-at Inv-loop μ-loop → tie.In-loop Inv-loop μ-loop
+turning c = c .before .before .before
+
+abbrev pushed-cells : tie.After-flush-arg Inv-loop μ-loop → tie.After-push-cells Inv-loop μ-loop
+pushed-cells c = c .before .before .before
+
+abbrev flushed : tie.After-buffer2 Inv-loop μ-loop → tie.After-flush Inv-loop μ-loop
+flushed c = c .before .before .before
+
+abbrev pushed-cells-flushed : tie.After-buffer2 Inv-loop μ-loop → tie.After-push-cells Inv-loop μ-loop
+pushed-cells-flushed c = pushed-cells (flushed c .before .before)
 
 -- ---- where a turn is
 
@@ -39,7 +60,7 @@ abbrev Turn : Type 0
 Turn = tie.In-loop Inv-loop μ-loop
 
 abbrev start : At → tie.Start Inv-loop μ-loop
-start at = at .before .before .before .before
+start at = entry (at .before)
 
 abbrev buffer : At → List ℕ
 buffer at = now (start at .args .buffer)
@@ -49,7 +70,7 @@ abbrev source : At → List ℕ
 source at = take (blockLength * start at .args .blocks) (buffer at)
 
 abbrev at-push : tie.After-push-cells Inv-loop μ-loop → Turn
-at-push c = c .before .before .before .before .before
+at-push c = turning (c .before .before)
 
 abbrev at-flush : tie.After-flush-arg Inv-loop μ-loop → Turn
 at-flush c = at-push (c .before .before .before)
@@ -64,7 +85,9 @@ loop-holds c =
     let long = in-use-length buffer (s .pre .0) (a .blocks) (s .pre .1) in
     record {
       bounded = omega arith;
-      walking = walk-start startPacking (now (a .identities)) (take (blockLength * a .blocks) buffer) buffer 0 (a .blocks) 0 (now (a .pending)) (s .pre .2)
+      walking =
+          walk-start startPacking (now (a .identities))
+          (take (blockLength * a .blocks) buffer) buffer 0 (a .blocks) 0 (now (a .pending)) (s .pre .2)
           (omega arith) (omega arith) (omega (arith, long)) refl;
     }
 
@@ -83,7 +106,8 @@ fits t = omega (arith, behind (t .before), inside t)
 
 -- so what is read is still as it was
 shown : (t : Turn)
-    → part (blockLength * t .before .loop .k) (blockLength * t .before .loop .k + blockLength - blockLength * t .before .loop .k)
+    → part (blockLength * t .before .loop .k)
+    (blockLength * t .before .loop .k + blockLength - blockLength * t .before .loop .k)
     (t .before .loop .buffer)
     ≡ blockAt (t .before .loop .k) (source (t .before))
 shown t =
@@ -96,26 +120,29 @@ shown t =
 
 -- and its fifth byte is how many rows it has
 rows : (c : tie.After-byte-at Inv-loop μ-loop)
-    → c .byte-at .result ≡ soundCount (blockAt (c .before .before .before .before .loop .k) (source (c .before .before .before .before)))
+    → c .byte-at .result ≡ soundCount (blockAt (turn (c .before) .loop .k) (source (turn (c .before))))
 rows c =
     let t = c .before .before .before in
     let at = t .before in
     let s = start at in
     let k = at .loop .k in
     let below = t .loop-test .taken in
-    c .byte-at .ensures ∙ ap (λ (b : List ℕ). getD b 4 0) (shown t ∙ in-use-block (buffer at) (s .pre .0) (s .args .blocks) (s .pre .1) k below)
+    c .byte-at .ensures
+    ∙ ap (λ (b : List ℕ). getD b 4 0)
+    (shown t ∙ in-use-block (buffer at) (s .pre .0) (s .args .blocks) (s .pre .1) k below)
     ∙ in-use-count (buffer at) (s .pre .0) (s .args .blocks) (s .pre .1) k below
 
 push-cells-requires : tie.Need-push-cells-requires Inv-loop μ-loop
 push-cells-requires c κs =
-    let t = c .before .before .before .before in
+    let t = turning (c .before) in
     let at = t .before in
     let s = start at in
     let block = blockAt (at .loop .k) (source at) in
     let long = in-use-length (buffer at) (s .pre .0) (s .args .blocks) (s .pre .1) in (
       at .loop .inv .walking .long,
       at .loop .inv .walking .few,
-      ap length (shown t) ∙ part-length (blockLength * at .loop .k) blockLength (source at) (omega (arith, long, t .loop-test .taken)),
+      ap length (shown t)
+          ∙ part-length (blockLength * at .loop .k) blockLength (source at) (omega (arith, long, t .loop-test .taken)),
       omega (arith, rows (c .before), sound-le block),
       rw (shown t) (block-rows block (c .before .byte-at .result) (rows (c .before))),
     )
@@ -123,19 +150,25 @@ push-cells-requires c κs =
 few : (c : tie.After-push-cells Inv-loop μ-loop) → c .push-cells .result < 30
 few c =
     let at = at-push c .before in
-    omega (arith, c .push-cells .ensures .few, at .loop .inv .walking .few, rows (c .before .before), sound-le (blockAt (at .loop .k) (source at)))
+    omega (
+      arith,
+      c .push-cells .ensures .few,
+      at .loop .inv .walking .few,
+      rows (c .before .before),
+      sound-le (blockAt (at .loop .k) (source at)),
+    )
 
 flush-requires : tie.Need-flush-requires Inv-loop μ-loop
 flush-requires c κs =
-    let push = c .before .before .before .before in
+    let push = pushed-cells (c .before) in
     let t = at-push push in
     let w = t .before .loop .inv .walking in
     (push .push-cells .kept .0 ∙ w .long, few push, lent (w .begun) blockLength _ refl (fits t))
 
 loop-again : tie.Need-loop-again Inv-loop μ-loop
 loop-again c =
-    let fl = c .before .before .before .before in
-    let push = fl .before .before .before .before .before in
+    let fl = flushed (c .before) in
+    let push = pushed-cells (fl .before .before) in
     let by = push .before .before in
     let t = at-push push in
     let at = t .before in
@@ -144,10 +177,14 @@ loop-again c =
     let long = push .push-cells .kept .0 ∙ w .long in
     record {
       bounded = omega (arith, t .loop-test .taken);
-      walking = walk-turn startPacking (now (a .identities)) (source at) (buffer at) 0 (a .blocks) (at .loop .k) (at .loop .put) (at .loop .waits)
+      walking =
+          walk-turn startPacking (now (a .identities)) (source at) (buffer at) 0
+          (a .blocks) (at .loop .k) (at .loop .put) (at .loop .waits)
           (at .loop .pending)
-          (at .loop .buffer) w (t .loop-test .taken) (by .byte-at .result) (push .push-cells .result) (fl .flush .result) _ _ _ (rows by)
-          (rw (shown t) at (push .push-cells .ensures)) long (flushed-next (fl .flush .ensures)) (fl .flush .kept .0 ∙ long)
+          (at .loop .buffer) w (t .loop-test .taken) (by .byte-at .result)
+          (push .push-cells .result) (fl .flush .result) _ _ _ (rows by)
+          (rw (shown t) at (push .push-cells .ensures)) long
+          (flushed-next (fl .flush .ensures)) (fl .flush .kept .0 ∙ long)
           (fl .flush .kept .1 .1 .1 .0) (fits t);
     }
 
@@ -199,11 +236,11 @@ pack-within-spec =
     flush-requires
     (λ c. omega (
       arith,
-      fits (at-push (c .before .before .before .before .before .before .before .before .before)),
-      few (c .before .before .before .before .before .before .before .before .before),
+      fits (at-push (pushed-cells-flushed (c .before))),
+      few (pushed-cells-flushed (c .before)),
     ))
-    (λ c. omega (arith, inside (at-push (c .before .before .before .before .before .before .before .before .before))))
-    (λ c. omega (arith, at-push (c .before .before .before .before .before .before .before .before .before) .loop-test .taken))
+    (λ c. omega (arith, inside (at-push (pushed-cells-flushed (c .before)))))
+    (λ c. omega (arith, at-push (pushed-cells-flushed (c .before)) .loop-test .taken))
     loop-again
     (λ c. begun-length (c .before .loop .inv .walking .begun))
     (λ c. omega (arith, c .before .loop .inv .walking .long, start (c .before) .pre .2))

@@ -16,7 +16,8 @@ use Rattle.archive_repack.proofs.Cells.{row-at, kept-first, kept-turn, 
 use Rattle.archive_repack.proofs.push_cells.Statement.{statement}
 use Rattle.archive_repack.proofs.push_cells.Tie as tie
 
-record Pushing (pending₀ : List ℕ) (used : ℕ) (source : List ℕ) (rows : ℕ) (identities pending : List ℕ) (at i : ℕ) : Type 0 where
+record Pushing (pending₀ : List ℕ) (used : ℕ) (source : List ℕ)
+    (rows : ℕ) (identities pending : List ℕ) (at i : ℕ) : Type 0 where
   bounded : i ≤ rows
   few : at ≤ used + i
   long : length pending ≡ pendingLength
@@ -24,10 +25,18 @@ record Pushing (pending₀ : List ℕ) (used : ℕ) (source : List ℕ) (rows : 
       ≡ take (cellLength * used) pending₀ ++ keptFrom identities source 0 rows
 
 abbrev Inv-loop : tie.InvT-loop
-Inv-loop pending₀ used source rows identities at₀ i₀ pending at i = Pushing pending₀ used source rows identities pending at i
+Inv-loop pending₀ used source rows identities at₀ i₀ pending at i =
+    Pushing pending₀ used source rows identities pending at i
 
 abbrev μ-loop : tie.MeasureT-loop
 μ-loop pending₀ used source rows identities at₀ i₀ pending at i = rows - i
+
+-- states on the way, each three steps back
+abbrev start : tie.After-shared-slice-known2 Inv-loop μ-loop → tie.Start Inv-loop μ-loop
+start c = c .before .before .before
+
+abbrev turn : tie.After-push-cell-arg2 Inv-loop μ-loop → tie.At-loop Inv-loop μ-loop
+turn c = c .before .before .before
 
 loop-holds : tie.Need-loop-holds Inv-loop μ-loop
 loop-holds c =
@@ -44,21 +53,22 @@ loop-holds c =
 push-cell-requires : tie.Need-push-cell-requires Inv-loop μ-loop
 push-cell-requires c κs =
     let at = c .before .before .before in
-    let s = at .before .before .before .before in
+    let s = start (at .before) in
     let source = now (s .args .source) in
     let i = at .loop .i in
     let cell = part-ends (headerLength + cellLength * i) cellLength source in (
       at .loop .inv .long,
       omega arith,
       ap length cell ∙ part-length (headerLength + cellLength * i) cellLength source (omega arith),
-      ap (λ (l : List ℕ). isRow (rowIn l)) cell ∙ row-at (now (s .args .identities)) source (s .args .rows) i (s .pre .4) (omega arith),
+      ap (λ (l : List ℕ). isRow (rowIn l)) cell
+          ∙ row-at (now (s .args .identities)) source (s .args .rows) i (s .pre .4) (omega arith),
     )
 
 loop-again : tie.Need-loop-again Inv-loop μ-loop
 loop-again c =
     let push = c .before .before in
-    let at = push .before .before .before .before in
-    let s = at .before .before .before .before in
+    let at = turn (push .before) in
+    let s = start (at .before) in
     let ids = now (s .args .identities) in
     let source = now (s .args .source) in
     let i = at .loop .i in
@@ -72,18 +82,20 @@ loop-again c =
       long = push .push-cell .kept .0 ∙ at .loop .inv .long;
       rest = ap (λ (l : List ℕ). l ++ rest) (w .are ∙ ap (λ (l : List ℕ). front ++ keptCell ids l) cell)
           ∙ append-assoc front (keptCell ids (blockCell i source)) rest
-          ∙ ap (λ (l : List ℕ). front ++ l) (sym (kept-turn ids source (s .args .rows) i (omega arith))) ∙ at .loop .inv .rest;
+          ∙ ap (λ (l : List ℕ). front ++ l) (sym (kept-turn ids source (s .args .rows) i (omega arith)))
+          ∙ at .loop .inv .rest;
     }
 
 returns : tie.Need-returns Inv-loop μ-loop
 returns c =
     let at = c .before in
-    let a = at .before .before .before .before .args in
+    let a = start (at .before) .args in
     let front = take (cellLength * at .loop .at) (at .loop .pending) in
     record {
       few = omega arith;
       are = sym (append-nil front) ∙ ap (λ (l : List ℕ). front ++ l)
-          (sym (kept-end (now (a .identities)) (now (a .source)) (a .rows) (at .loop .i) (omega arith))) ∙ at .loop .inv .rest;
+          (sym (kept-end (now (a .identities)) (now (a .source)) (a .rows) (at .loop .i) (omega arith)))
+          ∙ at .loop .inv .rest;
     }
 
 pub push-cells-spec : {M : Type 1} → statement M

@@ -16,42 +16,63 @@ use Rattle.archive_repack_model.specs.Packer.{cellsBlock}
 use Rattle.archive_repack.proofs.put_block.Statement.{statement}
 use Rattle.archive_repack.proofs.put_block.Tie as tie
 
+-- states on the way, each three steps back
+abbrev start : tie.After-put-number-arg → tie.Start
+start c = c .before .before .before
+
+abbrev put-number : tie.After-clear-arg → tie.After-put-number
+put-number c = c .before .before .before
+
+abbrev cleared : tie.After-copy-arg → tie.After-clear
+cleared c = c .before .before .before
+
+abbrev copied-now : tie.After-clear-arg2 → tie.After-copy
+copied-now c = c .before .before .before
+
+abbrev cleared2 : tie.After-seal-arg → tie.After-clear2
+cleared2 c = c .before .before .before
+
 abbrev numbered : tie.After-put-number → Writing 5
 numbered c =
-    let a = c .before .before .before .before .args in
+    let a = start (c .before) .args in
     packed
     (store
-    (lend-sized (begin (now (a .out))) _ (λ w. be w (a .k)) 4 (c .put-number .ensures) (c .put-number .kept .0) (omega arith) (omega arith))
+    (lend-sized (begin (now (a .out))) _ (λ w. be w (a .k)) 4 (c .put-number .ensures)
+    (c .put-number .kept .0) (omega arith) (omega arith))
     (length (now (a .cells)) / cellLength)
     (omega arith))
 
 abbrev headed : tie.After-clear → Writing headerLength
 headed c =
-    packed (lend-sized (numbered (c .before .before .before .before) .begun) _ (λ w. replicate w 0) headerLength (c .clear .ensures)
+    packed (lend-sized (numbered (put-number (c .before)) .begun) _
+    (λ w. replicate w 0) headerLength (c .clear .ensures)
     (c .clear .kept .0) (omega arith) (omega arith))
 
 abbrev cells-of : tie.After-copy → List ℕ
-cells-of c = now (c .before .before .before .before .before .before .before .before .before .before .before .before .args .cells)
+cells-of c = now (start (put-number (cleared (c .before) .before) .before) .args .cells)
 
 abbrev filled : (c : tie.After-copy) → Writing (headerLength + length (cells-of c))
 filled c =
-    let h = headed (c .before .before .before .before) .begun in
+    let h = headed (cleared (c .before)) .begun in
     let n = length (cells-of c) in
     packed
-    (lend h _ (cells-of c) (headerLength + n) (copied (cells-of c) _ _ (sym (lent h n (headerLength + n) refl (omega arith))) (c .copy .ensures .1))
+    (lend h _ (cells-of c) (headerLength + n)
+    (copied (cells-of c) _ _ (sym (lent h n (headerLength + n) refl (omega arith))) (c .copy .ensures .1))
     (c .copy .kept .1 .0) (omega arith) (omega arith))
 
 abbrev whole : tie.After-clear2 → Writing bodyLength
-whole c = packed (wipe (filled (c .before .before .before .before) .begun) _ bodyLength (c .clear2 .ensures) (c .clear2 .kept .0) (omega arith)
+whole c =
+    packed (wipe (filled (copied-now (c .before)) .begun) _ bodyLength
+    (c .clear2 .ensures) (c .clear2 .kept .0) (omega arith)
     (omega arith))
 
 returns : tie.Need-returns
 unfolding cellsBlock
 returns c =
     let s = c .before .before in
-    let w = s .before .before .before .before in
+    let w = cleared2 (s .before) in
     s .seal .ensures ∙ seal-front _ (whole w .begun)
-    (w .before .before .before .before .before .before .before .before .before .before .before .before .before .before .before .before .pre .0)
+    (start (put-number (cleared (copied-now (w .before) .before) .before) .before) .pre .0)
 
 pub put-block-spec : {M : Type 1} → statement M
 put-block-spec =
@@ -77,5 +98,5 @@ put-block-spec =
     (λ c. within (filled (c .before .before) .begun) bodyLength (omega arith))
     (λ c κs. search needs)
     (λ c κs. search needs)
-    (λ c. c .before .before .seal .kept .0 ∙ begun-length (whole (c .before .before .before .before .before .before) .begun))
+    (λ c. c .before .before .seal .kept .0 ∙ begun-length (whole (cleared2 (c .before .before .before)) .begun))
     returns)

@@ -15,6 +15,19 @@ use Rattle.archive_repack.proofs.Removal.{removed-few, remove-done, rem
 use Rattle.archive_repack.proofs.remove_from.Statement.{statement}
 use Rattle.archive_repack.proofs.remove_from.Tie as tie
 
+-- states on the way
+abbrev entry : tie.Else1 → tie.Start
+entry c = c .before .before .before
+
+abbrev packed-within : tie.After-pending2 → tie.After-pack-within
+packed-within c = c .before .before .before
+
+abbrev closed : tie.After-struct-known → tie.After-close
+closed c = c .before .before .before
+
+abbrev packed-within-closed : tie.After-struct-known → tie.After-pack-within
+packed-within-closed c = packed-within (closed c .before .before .before)
+
 many : tie.Need-returns
 many c =
     let s = c .before .before .before in
@@ -23,7 +36,7 @@ many c =
 -- ---- where the walk is
 
 abbrev start : tie.After-blocks-for → tie.Start
-start c = c .before .before .before .before
+start c = entry (c .before)
 
 abbrev buffer : tie.After-blocks-for → List ℕ
 buffer c = now (start c .args .buffer)
@@ -32,13 +45,14 @@ abbrev at-walk : tie.After-pack-within → tie.After-blocks-for
 at-walk c = c .before .before .before
 
 abbrev at-close : tie.After-struct-known2 → tie.After-pack-within
-at-close c = c .before .before .before .before .before .before .before .before .before .before
+at-close c = packed-within-closed (c .before)
 
 -- ---- what is known of it
 
 -- an archive has at most 15 times 2^32 rows
 rows-low : (c : tie.Start) → length (rowsIn (now (c .args .buffer))) ≤ maxRows
-rows-low c = omega (arith, rows-few (now (c .args .buffer)) (c .pre .0), blocks-of (now (c .args .buffer)) (c .pre .0) .1)
+rows-low c =
+    omega (arith, rows-few (now (c .args .buffer)) (c .pre .0), blocks-of (now (c .args .buffer)) (c .pre .0) .1)
 
 -- the blocks in use
 in-use : (c : tie.After-blocks-for) → c .blocks-for .result ≡ blocksFor (length (rowsIn (buffer c)))
@@ -54,12 +68,13 @@ stay c =
     let f = at-walk c in
     let r = c .pack-within .result in
     let w = c .pack-within .ensures in
-    removed-few (buffer f) (now (start f .args .identities)) (start f .pre .0) (f .blocks-for .result) (in-use f) (r .next) (r .used) _
+    removed-few (buffer f) (now (start f .args .identities)) (start f .pre .0)
+    (f .blocks-for .result) (in-use f) (r .next) (r .used) _
     (c .pack-within .kept .1 .1 .1 .0) (w .waits) (w .packed)
 
 close-requires : tie.Need-close-requires
 close-requires c κs =
-    let walk = c .before .before .before .before .before in
+    let walk = packed-within (c .before .before) in
     let f = at-walk walk in (
       walk .pack-within .kept .1 .1 .1 .0,
       walk .pack-within .ensures .waits,
@@ -73,9 +88,10 @@ done c =
     let f = at-walk walk in
     let r = walk .pack-within .result in
     let w = walk .pack-within .ensures in
-    remove-done (buffer f) (now (start f .args .identities)) (start f .pre .0) (f .blocks-for .result) (in-use f) (r .next) (r .used) _
+    remove-done (buffer f) (now (start f .args .identities)) (start f .pre .0)
+    (f .blocks-for .result) (in-use f) (r .next) (r .used) _
     (walk .pack-within .kept .1 .1 .1 .0) (w .waits) (w .packed) _ _ (f .before .if1 .left) (w .long) (w .put)
-    (c .before .before .before .before .before .close .ensures) (c .blocks-for2 .result) (c .blocks-for2 .ensures)
+    (closed (c .before .before) .close .ensures) (c .blocks-for2 .result) (c .blocks-for2 .ensures)
 
 pub remove-from-spec : {M : Type 1} → statement M
 remove-from-spec =
@@ -86,12 +102,12 @@ remove-from-spec =
     (λ c. search needs)
     (λ c κs. (start (c .before .before) .pre .0, in-use (c .before .before), refl))
     (λ c. search needs)
-    (λ c. omega (arith, inside (at-walk (c .before .before .before .before .before))))
+    (λ c. omega (arith, inside (at-walk (packed-within (c .before .before)))))
     close-requires
     (λ c. omega (
       arith,
-      stay (c .before .before .before .before .before .before .before .before .before),
-      rows-low (start (at-walk (c .before .before .before .before .before .before .before .before .before))),
+      stay (packed-within-closed c),
+      rows-low (start (at-walk (packed-within-closed c))),
     ))
     (λ c. omega (arith, stay (at-close c), rows-low (start (at-walk (at-close c)))))
     (λ c κs. omega (arith, stay (at-close c), rows-low (start (at-walk (at-close c)))))
