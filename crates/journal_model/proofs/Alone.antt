@@ -48,7 +48,9 @@ said-bytes : (l : List ℕ) {t : ℕ} {bs : List ℕ} → lineReading l ≡ rece
 unfolding isHex
 said-bytes l e =
     let w = said l e in
-    let d = both (leb (length (w .hex)) (2 * maxBytes) && eqb (length (w .hex) % 2) 0) (all isHexDigit (w .hex)) (w .isRight) in
+    let d =
+    both (leb (length (w .hex)) (2 * maxBytes) && eqb (length (w .hex) % 2) 0)
+    (all isHexDigit (w .hex)) (w .isRight) in
     rw (w .saysBytes) at (pairs-bytes (w .hex) (d .1))
 
 -- ---- the line of a row says its reception
@@ -89,9 +91,11 @@ module _ (l : List ℕ) (ls : List (List ℕ)) (ih : Again ls) (p q : List Recep
   given : (a : Shown) → answerTo (logOf p) r ≡ a → (row : Row) → RowOf a row → (k : ℕ)
       → modelRows q (map rowLine (take (suc k) (row ∷ rest))) ≡ take (suc k) (row ∷ rest)
   given a is row (row-is, is-time, is-bytes, counts) k =
-      let same : answerTo (logOf p) r ≡ answerTo (logOf q) r = thinned-answer (logOf p) (logOf q) h r (ap isRow is ∙ counts) in
-      let fit : all isFit (row ∷ []) ≡ true
-      = ap (all isFit) (sym row-is ∙ ap (λ (s : Shown). rowFor s r) (sym is)) ∙ answer-valid (logOf p) r (said-small l e) in
+      let same : answerTo (logOf p) r ≡ answerTo (logOf q) r =
+      thinned-answer (logOf p) (logOf q) h r (ap isRow is ∙ counts) in
+      let fit : all isFit (row ∷ []) ≡ true =
+      ap (all isFit) (sym row-is ∙ ap (λ (s : Shown). rowFor s r) (sym is))
+      ∙ answer-valid (logOf p) r (said-small l e) in
       let ok : isFit row ≡ true = both (isFit row) true fit .0 in
       let says : lineReading (rowLine row) ≡ reception t bs
       = handed-over row ok (ap areBytes is-bytes ∙ said-bytes l e) ∙ ap₂ reception is-time is-bytes in
