@@ -73,6 +73,7 @@ use Rattle.journal_model.proofs.Untouched as journal_calls_untouched
 use Rattle.journal_model.proofs.Whole as journal_calls_whole
 use Rattle.journal_state.proofs.Claims as journal_state
 use Rattle.journal_state.proofs.Modelled as state_modelled
+use Rattle.cases.proofs.Laid as cases
 use Rattle.theorems.specs.Details.{Telegrams, SlotPlans, Model, Code, Records, Lines, Rows, Journal, Archives, Reports, Details}
 
 telegrams : Telegrams
@@ -134,6 +135,7 @@ code = record {
   one-test-is-enough = collector_state_stepping.told-rightly;
   told-call-takes = c_collector_state.told-takes;
   sent-follows-model = collector_state_sending.relayed-sent;
+  layouts-are-worked-out = cases.every-layout;
 }
 
 records : Records

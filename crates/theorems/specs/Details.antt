@@ -54,6 +54,7 @@ use Rattle.history_rows.specs.Example as rows_example
 use Rattle.journal_model.specs.Claims as journal_calls_model
 use Rattle.journal_calls.specs.Claims as journal_calls_calls
 use Rattle.journal_state.specs.Claims as journal_state
+use Rattle.cases.specs.Layouts as cases_layouts
 
 -- ---- telegrams
 
@@ -160,6 +161,8 @@ pub record Code : Type 1 where
   pub told-call-takes : c_collector.ToldTakes
   -- After each reception, the telegram that the code sends on is the one that the model says.
   pub sent-follows-model : collector_state.RelayedSent
+  -- One value of each kind that the library hands out, and one checkpoint, worked out: each byte and number is where the header and docs/FORMATS.md say.
+  pub layouts-are-worked-out : cases_layouts.EveryLayout
 
 -- ---- the record that a test run of calls writes
 
@@ -278,9 +281,9 @@ pub record Journal : Type 0 where
   pub runs-can-finish : journal_calls_model.Finishes
   -- If the front of a file is an archive, all its rows are found.
   pub whole-front-is-found : journal_calls_model.FoundLongest
-  -- A start changes no block with rows, except a torn one, which it mends.
+  -- Of the blocks with rows that it finds, a start changes none, except a torn one, which it mends. What stands behind a gap is not found.
   pub sound-blocks-stay : journal_calls_model.Untouched
-  -- After a start that is not refused, the archive has the counted rows, and leftovers behind them.
+  -- After a start that is not refused, an archive of one file has the counted rows, and leftovers behind them.
   pub leftovers-are-rows : journal_calls_model.StartCounts
   -- A start changes no byte of such an archive.
   pub start-keeps-leftovers : journal_calls_model.StartKeeps
