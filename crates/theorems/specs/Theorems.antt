@@ -77,7 +77,7 @@ pub record SlotPlans : Type 0 where
 -- ---- the collector
 
 pub record Collector : Type 0 where
-  -- All answers and outputs of any calls, with restarts anywhere, equal those of a model that stores every reception, and of a run without restarts.
+  -- All answers and outputs of any calls, with restarts from their own checkpoints anywhere, equal those of a model that stores every reception, and of a run without restarts.
   pub histories-follow-model : collector_model_history.WholeHistory
   -- The same holds for the calls of the library. The proof uses only their contracts.
   pub code-follows-model : history_calls.ArraysAgree
@@ -91,7 +91,7 @@ pub record Collector : Type 0 where
   pub restore-is-exact : collector_model_exact.Exact
   -- In fewer than 2^64 receptions, none loose and none earlier than the one before, a sensor's answers do not depend on the other sensors.
   pub sensors-are-independent : history_calls.ArraysIsolated
-  -- Whatever pieces its reads give, `collect` writes what the model says of all that was read. The proof uses only the contract of its step.
+  -- Whatever pieces the reads give, the steps of `collect` give what the model says of all that was read. The proof uses only the contract of the step.
   pub output-follows-model : text_print.RunsPrint
   -- The rows that a log gives for an archive are the receptions that the model keeps, and the loose ones, in order.
   pub rows-follow-model : history_archived.LogArchived
@@ -139,7 +139,7 @@ pub record Journal : Type 0 where
   pub starts-destroy-nothing : journal_calls_model.NothingDestroyed
   -- What a crash can leave is never refused.
   pub crashes-are-recovered : journal_calls_model.NoFalseAlarm
-  -- A row that was printed stays in the archive, in its place.
+  -- A row that the state on disk counts stays in the archive, in its place; that the tool prints it only then is tested.
   pub printed-is-kept : journal_calls_model.PrintedIsKept
   -- In the file of `--out` each row of the lines that were taken stands once, in their order, after any batches and any crashes.
   pub rows-are-in-the-file-once : journal_calls_out.OnceInFile
