@@ -28,6 +28,8 @@ use Rattle.journal_model.proofs.Destroyed as journal_calls_destroyed
 use Rattle.journal_model.proofs.Live as journal_calls_live
 use Rattle.journal_model.proofs.Out as journal_calls_out
 use Rattle.journal_model.proofs.Whole as journal_calls_whole
+use Rattle.journal_recovery.proofs.Recovers as journal_recovery
+use Rattle.journal_batch.proofs.Commits as journal_batch
 use Rattle.theorems.specs.Theorems.{Telegrams, SlotPlans, Collector, Archives, Journal, Theorems}
 use Rattle.theorems.proofs.Details.{details}
 
@@ -85,6 +87,8 @@ journal = record {
   live-crashes-lose-nothing = journal_calls_live.live-safe;
   starts-destroy-nothing = journal_calls_destroyed.nothing-destroyed;
   crashes-are-recovered = journal_calls_claims.no-false-alarm;
+  code-starts-after-crashes = journal_recovery.start-recovers;
+  code-commits-batches = journal_batch.batch-commits;
   printed-is-kept = journal_calls_whole.printed-is-kept;
   rows-are-in-the-file-once = journal_calls_out.once-in-file;
 }

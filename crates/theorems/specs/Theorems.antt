@@ -46,6 +46,8 @@ use Rattle.archive_report_model.specs.Claims as archive_report_model
 use Rattle.cases.specs.Cases as cases
 use Rattle.journal_model.specs.Claims as journal_calls_model
 use Rattle.journal_model.specs.Out as journal_calls_out
+use Rattle.journal_recovery.specs.Claims as journal_recovery
+use Rattle.journal_batch.specs.Claims as journal_batch
 use Rattle.theorems.specs.Details.{Details}
 
 -- ---- telegrams, in the radio protocols ERP1 and ERP2
@@ -139,6 +141,10 @@ pub record Journal : Type 0 where
   pub starts-destroy-nothing : journal_calls_model.NothingDestroyed
   -- What a crash can leave is never refused.
   pub crashes-are-recovered : journal_calls_model.NoFalseAlarm
+  -- After a crash, the code of a start accepts the state file, refuses nothing, and leaves the model's rows in the archive.
+  pub code-starts-after-crashes : journal_recovery.StartRecovers
+  -- The code of a batch, whose rows are in one block, leaves the archive and the state of the model, and can be called again.
+  pub code-commits-batches : journal_batch.BatchCommits
   -- A row that the state on disk counts stays in the archive, in its place; that the tool prints it only then is tested.
   pub printed-is-kept : journal_calls_model.PrintedIsKept
   -- In the file of `--out` each row of the lines that were taken stands once, in their order, after any batches and any crashes.

@@ -1,0 +1,149 @@
+// A batch of the plant's tool with an archive of one file, on the bytes of its files, made of the calls that the tool
+// makes (docs/CRASH.md, "A commit"): leftovers are compared, the rows go to the archive, then the state is written.
+use archive_file::Taken;
+use base_refusal::Refusal;
+use block_layout::BLOCK_LENGTH;
+use block_layout::CELLS_PER_BLOCK;
+use collector_checkpoint::IMAGE_LENGTH;
+use journal_calls::rows;
+use journal_state::LENGTH;
+use journal_state::NAME_LENGTH;
+use journal_state::NUMBERS;
+use journal_state::TAIL_LENGTH;
+ghost use mathlib.Core.Path.{_≡_};
+ghost use mathlib.Core.Bool.{true, cond};
+ghost use Prim.Native.Nat.{_<_};
+ghost use lib.ListN.{replicate};
+ghost use Rattle.block_layout.specs.Block.{blockLength};
+ghost use Rattle.archive_file.specs.Archive.{takenNumber};
+ghost use Rattle.archive_fill.specs.Claims.{withBlock};
+ghost use Rattle.journal_model.specs.Disk.{wholeBlocks};
+ghost use Rattle.journal_state.specs.State.{kept};
+ghost use Rattle.journal_batch.specs.Batch.{putOf, filledOf, commitOf};
+
+// Rows `count`, count + 1 and so on of the archive, all in one block, and the state that counts them. `moments` and
+// `left` are the leftovers that stand where they go; rows that are there already are not written again. `last` is the
+// copy of the block with the last row. Refused: 16, 12 at leftovers that are to be put aside first, the number of
+// `put_rows`, 6 where the archive has no such block, 11 for a state that is not lawful; then everything is as it was.
+pub fn commit(
+    count: usize,
+    times: &[u64],
+    records: &[u8],
+    moments: &[u64],
+    left: &[u8],
+    numbers: &[u64; NUMBERS],
+    name: &[u8; NAME_LENGTH],
+    image: &[u8; IMAGE_LENGTH],
+    tail: &[u8; TAIL_LENGTH],
+    last: &mut [u8; BLOCK_LENGTH],
+    file: &mut [u8],
+    state: &mut [u8; LENGTH],
+) -> u8
+    ensures { λ r. ⌜ record {
+      number = r;
+      last = now (last .exit);
+      archive = now (file .exit);
+      state = now (state .exit);
+    }
+        ≡ commitOf count (now (times .entry)) (now (records .entry)) (now (moments .entry)) (now (left .entry))
+        (λ block. kept (now (numbers .entry)) (now (name .entry)) block (now (image .entry)) (now (tail .entry)))
+        (now (last .entry)) (now (file .entry)) (now (state .entry)) ⌝ }
+{
+    let mut agreed = 0;
+    let mut going = 0;
+    let compared = rows::compare(times, records, moments, left, &mut agreed, &mut going);
+    if compared != 0 {
+        return compared;
+    }
+    if going != 0 {
+        return base_refusal::number(Refusal::Mismatch);
+    }
+    let mut block = [0u8; BLOCK_LENGTH];
+    let filled = fill(&mut block, last, count, times, records);
+    if filled != 0 {
+        return filled;
+    }
+    let fresh = agreed < times.len();
+    if fresh & (file.len() / BLOCK_LENGTH <= count / CELLS_PER_BLOCK) {
+        return base_refusal::number(Refusal::ShortOutput);
+    }
+    let mut next = [0u8; LENGTH];
+    let written = journal_state::write(numbers, name, &block, image, tail, &mut next);
+    if written != 0 {
+        return written;
+    }
+    put_block(file, count / CELLS_PER_BLOCK, &block, fresh);
+    copy_block(last, &block);
+    copy_state(state, &next);
+    0
+}
+
+// The block with the new rows: a blank one, where the last one is full, or the copy of the last one.
+fn fill(
+    block: &mut [u8; BLOCK_LENGTH],
+    last: &[u8; BLOCK_LENGTH],
+    count: usize,
+    times: &[u64],
+    records: &[u8],
+) -> u8
+    requires { ⌜ now block ≡ replicate blockLength 0 ⌝ }
+    ensures { λ r. ⌜ record { number = r; block = now (block .exit) }
+        ≡ filledOf (now (last .entry)) count (now (times .entry)) (now (records .entry)) ⌝ }
+{
+    if times.len() == 0 {
+        block_layout::put_bytes(block, last);
+        return 0;
+    }
+    if count % CELLS_PER_BLOCK == 0 {
+        return put(block, count, times, records);
+    }
+    block_layout::put_bytes(block, last);
+    put(block, count, times, records)
+}
+
+// Rows into a block, and the number of the answer.
+fn put(block: &mut [u8; BLOCK_LENGTH], count: usize, times: &[u64], records: &[u8]) -> u8
+    ensures { λ r. ⌜ record { number = r; block = now (block .exit) }
+        ≡ putOf (now (block .entry)) count (now (times .entry)) (now (records .entry)) ⌝ }
+{
+    let filled = archive_fill::put_rows(block, count, times, records);
+    let answer = filled.answer;
+    taken_number(answer)
+}
+
+// The number of an answer.
+fn taken_number(answer: Taken) -> u8
+    ensures { λ r. ⌜ r ≡ takenNumber answer ⌝ }
+{
+    match answer {
+        Taken::Done => 0,
+        Taken::Refused(why) => base_refusal::number(why),
+    }
+}
+
+// A block of the archive, where it has new rows.
+fn put_block(file: &mut [u8], at: usize, block: &[u8; BLOCK_LENGTH], fresh: bool)
+    requires { ⌜ (fresh ≡ true → at < wholeBlocks (now file)) ⌝ }
+    ensures { λ _. ⌜ now (file .exit)
+        ≡ cond fresh (withBlock at (now (block .entry)) (now (file .entry))) (now (file .entry)) ⌝ }
+{
+    if !fresh {
+        return;
+    }
+    let from = BLOCK_LENGTH * at;
+    block_layout::put_bytes(&mut file[from..from + BLOCK_LENGTH], block);
+}
+
+// A block in the place of another.
+fn copy_block(out: &mut [u8; BLOCK_LENGTH], block: &[u8; BLOCK_LENGTH])
+    ensures { λ _. ⌜ now (out .exit) ≡ now (block .entry) ⌝ }
+{
+    block_layout::put_bytes(out, block);
+}
+
+// A state file in the place of another.
+fn copy_state(out: &mut [u8; LENGTH], bytes: &[u8; LENGTH])
+    ensures { λ _. ⌜ now (out .exit) ≡ now (bytes .entry) ⌝ }
+{
+    block_layout::put_bytes(out, bytes);
+}
