@@ -38,8 +38,8 @@ use Rattle.history_archived.proofs.Closed as history_archived_closed
 use Rattle.history_archived.proofs.Places as history_archived_places
 use Rattle.history_archived.proofs.Outputs as history_archived_outputs
 use Rattle.history_log.proofs.Claims as history_log
-use Rattle.archive_model.proofs.Claims as archive_file_model_claims
-use Rattle.archive_model.proofs.Identity as archive_file_model_identity
+use Rattle.archive_model.proofs.Claims as archive_model_claims
+use Rattle.archive_model.proofs.Identity as archive_model_identity
 use Rattle.archive_repack_model.proofs.Rows as archive_repack_model_rows
 use Rattle.archive_repack_model.proofs.Salvage as archive_repack_model_salvage
 use Rattle.archive_repack_model.proofs.Removal as archive_repack_model_removal
@@ -54,25 +54,25 @@ use Rattle.c_pieces.proofs.Pieces as c_pieces
 use Rattle.archive_report_model.proofs.Claims as archive_report_model_claims
 use Rattle.archive_report_model.proofs.Complete as archive_report_model_complete
 use Rattle.archive_report_model.proofs.Adding as archive_report_model_adding
-use Rattle.history_rows.proofs.Rows as rows_alone
-use Rattle.history_rows.proofs.States as rows_states
-use Rattle.history_rows.proofs.Again as rows_again
-use Rattle.history_rows.proofs.Recovered as rows_recovered
-use Rattle.history_rows.proofs.Closings as rows_closings
-use Rattle.history_rows.proofs.Example as rows_example
+use Rattle.history_rows.proofs.Rows as history_rows_alone
+use Rattle.history_rows.proofs.States as history_rows_states
+use Rattle.history_rows.proofs.Again as history_rows_again
+use Rattle.history_rows.proofs.Recovered as history_rows_recovered
+use Rattle.history_rows.proofs.Closings as history_rows_closings
+use Rattle.history_rows.proofs.Example as history_rows_example
 use Rattle.journal_calls.proofs.Claims as journal_calls_calls
-use Rattle.journal_model.proofs.Alone as journal_calls_alone
-use Rattle.journal_model.proofs.Any as journal_calls_any
-use Rattle.journal_model.proofs.Claims as journal_calls_claims
-use Rattle.journal_model.proofs.Destroyed as journal_calls_destroyed
-use Rattle.journal_model.proofs.Live as journal_calls_live
-use Rattle.journal_model.proofs.Longest as journal_calls_longest
-use Rattle.journal_model.proofs.Sound as journal_calls_sound
-use Rattle.journal_model.proofs.TakenIn as journal_calls_taken
-use Rattle.journal_model.proofs.Untouched as journal_calls_untouched
-use Rattle.journal_model.proofs.Whole as journal_calls_whole
+use Rattle.journal_model.proofs.Alone as journal_model_alone
+use Rattle.journal_model.proofs.Any as journal_model_any
+use Rattle.journal_model.proofs.Claims as journal_model_claims
+use Rattle.journal_model.proofs.Destroyed as journal_model_destroyed
+use Rattle.journal_model.proofs.Live as journal_model_live
+use Rattle.journal_model.proofs.Longest as journal_model_longest
+use Rattle.journal_model.proofs.Sound as journal_model_sound
+use Rattle.journal_model.proofs.TakenIn as journal_model_taken
+use Rattle.journal_model.proofs.Untouched as journal_model_untouched
+use Rattle.journal_model.proofs.Whole as journal_model_whole
 use Rattle.journal_state.proofs.Claims as journal_state
-use Rattle.journal_state.proofs.Modelled as state_modelled
+use Rattle.journal_state.proofs.Modelled as journal_state_modelled
 use Rattle.cases.proofs.Laid as cases
 use Rattle.theorems.specs.Details.{Telegrams, SlotPlans, Model, Code, Records, Lines, Rows, Journal, Archives, Reports, Details}
 
@@ -180,60 +180,60 @@ lines = record {
 
 rows : Rows
 rows = record {
-  rows-decide = rows_alone.rows-alone;
-  rows-decide-from-middle = rows_alone.rows-alone-since;
-  contracts-give-rows = rows_states.states-rows-alone;
-  restored-give-rows = rows_states.restored-rows-alone;
-  rows-fit-archive = rows_again.rows-fit;
-  first-rows-are-of-first = rows_again.first-rows;
-  rows-are-answered-again = rows_again.given-again;
-  later-answers-are-same = rows_again.goes-on;
-  contracts-give-recovery = rows_recovered.recovered-goes-on;
-  telegrams-close-once = rows_closings.closed-once;
-  views-close-once = rows_closings.views-closed-once;
-  contracts-close-once = rows_closings.states-closed-once;
-  example-is-worked = rows_example.worked;
+  rows-decide = history_rows_alone.rows-alone;
+  rows-decide-from-middle = history_rows_alone.rows-alone-since;
+  contracts-give-rows = history_rows_states.states-rows-alone;
+  restored-give-rows = history_rows_states.restored-rows-alone;
+  rows-fit-archive = history_rows_again.rows-fit;
+  first-rows-are-of-first = history_rows_again.first-rows;
+  rows-are-answered-again = history_rows_again.given-again;
+  later-answers-are-same = history_rows_again.goes-on;
+  contracts-give-recovery = history_rows_recovered.recovered-goes-on;
+  telegrams-close-once = history_rows_closings.closed-once;
+  views-close-once = history_rows_closings.views-closed-once;
+  contracts-close-once = history_rows_closings.states-closed-once;
+  example-is-worked = history_rows_example.worked;
 }
 
 journal : Journal
 journal = record {
-  begins-with-nothing = journal_calls_whole.from-nothing;
-  first-line-gives-no-row = journal_calls_whole.first-lines;
-  start-recovers = journal_calls_claims.recovers-all;
-  whole-log-is-undisturbed = journal_calls_claims.whole-log;
-  runs-can-finish = journal_calls_whole.finishes;
-  whole-front-is-found = journal_calls_longest.found-longest;
-  sound-blocks-stay = journal_calls_untouched.untouched;
-  leftovers-are-rows = journal_calls_any.start-counts;
-  start-keeps-leftovers = journal_calls_sound.start-keeps;
-  equal-rows-write-nothing = journal_calls_destroyed.equal-rows-write-nothing;
-  batch-destroys-nothing = journal_calls_destroyed.batch-destroys-nothing;
-  end-destroys-nothing = journal_calls_destroyed.end-destroys-nothing;
-  crash-destroys-nothing = journal_calls_whole.crash-destroys-nothing;
-  row-is-handed-over = journal_calls_alone.handed-over;
-  live-rows-stay = journal_calls_live.live-kept;
-  leftovers-are-counted = journal_calls_taken.leftovers-taken-in;
-  live-destroys-nothing = journal_calls_taken.live-destroys-nothing;
-  rows-are-given-again = journal_calls_alone.rows-alone;
-  leftovers-are-taken-in = journal_calls_taken.all-taken-in;
+  begins-with-nothing = journal_model_whole.from-nothing;
+  first-line-gives-no-row = journal_model_whole.first-lines;
+  start-recovers = journal_model_claims.recovers-all;
+  whole-log-is-undisturbed = journal_model_claims.whole-log;
+  runs-can-finish = journal_model_whole.finishes;
+  whole-front-is-found = journal_model_longest.found-longest;
+  sound-blocks-stay = journal_model_untouched.untouched;
+  leftovers-are-rows = journal_model_any.start-counts;
+  start-keeps-leftovers = journal_model_sound.start-keeps;
+  equal-rows-write-nothing = journal_model_destroyed.equal-rows-write-nothing;
+  batch-destroys-nothing = journal_model_destroyed.batch-destroys-nothing;
+  end-destroys-nothing = journal_model_destroyed.end-destroys-nothing;
+  crash-destroys-nothing = journal_model_whole.crash-destroys-nothing;
+  row-is-handed-over = journal_model_alone.handed-over;
+  live-rows-stay = journal_model_live.live-kept;
+  leftovers-are-counted = journal_model_taken.leftovers-taken-in;
+  live-destroys-nothing = journal_model_taken.live-destroys-nothing;
+  rows-are-given-again = journal_model_alone.rows-alone;
+  leftovers-are-taken-in = journal_model_taken.all-taken-in;
   blocks-are-judged = journal_calls_calls.judged-right;
   scans-count-the-run = journal_calls_calls.run-counts;
   scans-go-by-pieces = journal_calls_calls.run-joins;
   scans-are-held = journal_calls_calls.run-back;
   states-read-back = journal_state.state-read;
   states-are-exact = journal_state.state-written;
-  states-are-modelled = state_modelled.state-modelled;
+  states-are-modelled = journal_state_modelled.state-modelled;
 }
 
 archives : Archives
 archives = record {
-  sizes-are-limited = archive_file_model_claims.sizes;
-  written-rows-come-back = archive_file_model_claims.read-back;
-  last-block-is-enough = archive_file_model_claims.at-cursor;
-  rows-are-returned = archive_file_model_claims.row-read;
-  rows-are-short = archive_file_model_claims.row-fits;
-  parts-are-checked = archive_file_model_claims.in-pieces;
-  sensor-is-sender = archive_file_model_identity.transmitter;
+  sizes-are-limited = archive_model_claims.sizes;
+  written-rows-come-back = archive_model_claims.read-back;
+  last-block-is-enough = archive_model_claims.at-cursor;
+  rows-are-returned = archive_model_claims.row-read;
+  rows-are-short = archive_model_claims.row-fits;
+  parts-are-checked = archive_model_claims.in-pieces;
+  sensor-is-sender = archive_model_identity.transmitter;
   blocks-are-accounted = archive_repack_model_rows.accounted;
   undamaged-is-unchanged = archive_repack_model_salvage.intact;
   second-salvage-is-same = archive_repack_model_salvage.salvaged-again;

@@ -16,18 +16,18 @@ use Rattle.history_archived.proofs.Runs as history_archived_runs
 use Rattle.history_archived.proofs.Closed as history_archived_closed
 use Rattle.history_archived.proofs.Places as history_archived_places
 use Rattle.history_log.proofs.Claims as history_log
-use Rattle.archive_model.proofs.Claims as archive_file_model
+use Rattle.archive_model.proofs.Claims as archive_model
 use Rattle.archive_repack_model.proofs.Salvage as archive_repack_model_salvage
 use Rattle.archive_repack_model.proofs.Removal as archive_repack_model_removal
 use Rattle.archive_cut.proofs.Claims as archive_cut
 use Rattle.c_pieces.proofs.Pieces as c_pieces
 use Rattle.archive_report_model.proofs.Claims as archive_report_model
 use Rattle.cases.proofs.Proved as cases
-use Rattle.journal_model.proofs.Claims as journal_calls_claims
-use Rattle.journal_model.proofs.Destroyed as journal_calls_destroyed
-use Rattle.journal_model.proofs.Live as journal_calls_live
-use Rattle.journal_model.proofs.Out as journal_calls_out
-use Rattle.journal_model.proofs.Whole as journal_calls_whole
+use Rattle.journal_model.proofs.Claims as journal_model_claims
+use Rattle.journal_model.proofs.Destroyed as journal_model_destroyed
+use Rattle.journal_model.proofs.Live as journal_model_live
+use Rattle.journal_model.proofs.Out as journal_model_out
+use Rattle.journal_model.proofs.Whole as journal_model_whole
 use Rattle.journal_recovery.proofs.Recovers as journal_recovery
 use Rattle.journal_batch.proofs.Commits as journal_batch
 use Rattle.theorems.specs.Theorems.{Telegrams, SlotPlans, Collector, Archives, Journal, Theorems}
@@ -70,9 +70,9 @@ collector = record {
 
 archives : Archives
 archives = record {
-  blocks-are-laid-out = archive_file_model.by-byte;
-  rows-come-back = archive_file_model.run;
-  archives-are-exact = archive_file_model.exact;
+  blocks-are-laid-out = archive_model.by-byte;
+  rows-come-back = archive_model.run;
+  archives-are-exact = archive_model.exact;
   salvage-keeps-rows = archive_repack_model_salvage.kept;
   others-remain = archive_repack_model_removal.remains;
   first-rows-remain = archive_cut.remains;
@@ -83,14 +83,14 @@ archives = record {
 
 journal : Journal
 journal = record {
-  crashes-lose-nothing = journal_calls_claims.crash-safe;
-  live-crashes-lose-nothing = journal_calls_live.live-safe;
-  starts-destroy-nothing = journal_calls_destroyed.nothing-destroyed;
-  crashes-are-recovered = journal_calls_claims.no-false-alarm;
+  crashes-lose-nothing = journal_model_claims.crash-safe;
+  live-crashes-lose-nothing = journal_model_live.live-safe;
+  starts-destroy-nothing = journal_model_destroyed.nothing-destroyed;
+  crashes-are-recovered = journal_model_claims.no-false-alarm;
   code-starts-after-crashes = journal_recovery.start-recovers;
   code-commits-batches = journal_batch.batch-commits;
-  printed-is-kept = journal_calls_whole.printed-is-kept;
-  rows-are-in-the-file-once = journal_calls_out.once-in-file;
+  printed-is-kept = journal_model_whole.printed-is-kept;
+  rows-are-in-the-file-once = journal_model_out.once-in-file;
 }
 
 pub theorems : Theorems

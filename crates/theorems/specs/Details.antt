@@ -35,8 +35,8 @@ use Rattle.history_archived.specs.Closed as history_archived_closed
 use Rattle.history_archived.specs.Places as history_archived_places
 use Rattle.history_archived.specs.Outputs as history_archived_outputs
 use Rattle.history_log.specs.Claims as history_log
-use Rattle.archive_model.specs.Claims as archive_file_model
-use Rattle.archive_model.specs.Identity as archive_file_identity
+use Rattle.archive_model.specs.Claims as archive_model
+use Rattle.archive_model.specs.Identity as archive_model_identity
 use Rattle.archive_repack_model.specs.Claims as archive_repack_model
 use Rattle.archive_cut.specs.Claims as archive_cut
 use Rattle.archive_fill.specs.Claims as archive_fill
@@ -45,13 +45,13 @@ use Rattle.c_erp2.specs.Claims as c_erp2
 use Rattle.c_archive.specs.Claims as c_archive
 use Rattle.c_pieces.specs.Claims as c_pieces
 use Rattle.archive_report_model.specs.Claims as archive_report_model
-use Rattle.history_rows.specs.Rows as rows_alone
-use Rattle.history_rows.specs.States as rows_states
-use Rattle.history_rows.specs.Again as rows_again
-use Rattle.history_rows.specs.Recovered as rows_recovered
-use Rattle.history_rows.specs.Closings as rows_closings
-use Rattle.history_rows.specs.Example as rows_example
-use Rattle.journal_model.specs.Claims as journal_calls_model
+use Rattle.history_rows.specs.Rows as history_rows_alone
+use Rattle.history_rows.specs.States as history_rows_states
+use Rattle.history_rows.specs.Again as history_rows_again
+use Rattle.history_rows.specs.Recovered as history_rows_recovered
+use Rattle.history_rows.specs.Closings as history_rows_closings
+use Rattle.history_rows.specs.Example as history_rows_example
+use Rattle.journal_model.specs.Claims as journal_model
 use Rattle.journal_calls.specs.Claims as journal_calls_calls
 use Rattle.journal_state.specs.Claims as journal_state
 use Rattle.cases.specs.Layouts as cases_layouts
@@ -240,73 +240,73 @@ pub record Lines : Type 1 where
 
 pub record Rows : Type 1 where
   -- If only the kept and loose receptions of a history are handed over, they get the same answers and leave the same telegrams open.
-  pub rows-decide : rows_alone.RowsAlone
+  pub rows-decide : history_rows_alone.RowsAlone
   -- The same holds from the middle of a history on.
-  pub rows-decide-from-middle : rows_alone.RowsAloneSince
+  pub rows-decide-from-middle : history_rows_alone.RowsAloneSince
   -- It holds for the states of any program whose calls meet the contracts,
-  pub contracts-give-rows : {State : Type 0} (view : State → View) → rows_states.StatesRowsAlone view
+  pub contracts-give-rows : {State : Type 0} (view : State → View) → history_rows_states.StatesRowsAlone view
   -- and from a state that was restored in the middle.
-  pub restored-give-rows : {State : Type 0} (view : State → View) → rows_states.RestoredRowsAlone view
+  pub restored-give-rows : {State : Type 0} (view : State → View) → history_rows_states.RestoredRowsAlone view
   -- Each row is a valid telegram with a time of 64 bits, so an archive accepts it.
-  pub rows-fit-archive : rows_again.RowsFit
+  pub rows-fit-archive : history_rows_again.RowsFit
   -- The first rows of some receptions are the rows of the first of these receptions.
-  pub first-rows-are-of-first : rows_again.FirstRows
+  pub first-rows-are-of-first : history_rows_again.FirstRows
   -- A collector that is restored, and is handed the rows that came after its checkpoint, answers each as before.
-  pub rows-are-answered-again : rows_again.GivenAgain
+  pub rows-are-answered-again : history_rows_again.GivenAgain
   -- Then it answers all that comes later as the first collector would have, if nothing comes earlier than that one's latest time.
-  pub later-answers-are-same : rows_again.GoesOn
+  pub later-answers-are-same : history_rows_again.GoesOn
   -- The same holds for any program whose calls meet the contracts.
-  pub contracts-give-recovery : {State : Type 0} (view : State → View) → rows_recovered.RecoveredGoesOn view
+  pub contracts-give-recovery : {State : Type 0} (view : State → View) → history_rows_recovered.RecoveredGoesOn view
   -- In the model, each telegram that was opened closes once, in order, with its number of copies, or is still open.
-  pub telegrams-close-once : rows_closings.ClosedOnce
+  pub telegrams-close-once : history_rows_closings.ClosedOnce
   -- The same holds for the states of the collector, with the number of copies counted from the answers,
-  pub views-close-once : rows_closings.ViewsClosedOnce
+  pub views-close-once : history_rows_closings.ViewsClosedOnce
   -- and for any program whose calls meet the contracts.
-  pub contracts-close-once : {State : Type 0} (view : State → View) → rows_closings.StatesClosedOnce view
+  pub contracts-close-once : {State : Type 0} (view : State → View) → history_rows_closings.StatesClosedOnce view
   -- A short history, worked out: its answers, its rows, what closed and what is open.
-  pub example-is-worked : rows_example.Worked
+  pub example-is-worked : history_rows_example.Worked
 
 -- ---- the journal of the plant's tool: its state file and its archive, through crashes
 
 pub record Journal : Type 0 where
   -- A run can begin with an empty archive.
-  pub begins-with-nothing : journal_calls_model.FromNothing
+  pub begins-with-nothing : journal_model.FromNothing
   -- A first line that says a level gives no row.
-  pub first-line-gives-no-row : journal_calls_model.FirstLines
+  pub first-line-gives-no-row : journal_model.FirstLines
   -- After a crash, a start brings the archive to what the model says for the state that is on disk.
-  pub start-recovers : journal_calls_model.Recovers
+  pub start-recovers : journal_model.Recovers
   -- When all lines of the log are taken, state and archive are those of a run without crashes.
-  pub whole-log-is-undisturbed : journal_calls_model.WholeLog
+  pub whole-log-is-undisturbed : journal_model.WholeLog
   -- From every disk that a run can leave, the log can be taken to its end.
-  pub runs-can-finish : journal_calls_model.Finishes
+  pub runs-can-finish : journal_model.Finishes
   -- If the front of a file is an archive, all its rows are found.
-  pub whole-front-is-found : journal_calls_model.FoundLongest
+  pub whole-front-is-found : journal_model.FoundLongest
   -- Of the blocks with rows that it finds, a start changes none, except a torn one, which it mends. What stands behind a gap is not found.
-  pub sound-blocks-stay : journal_calls_model.Untouched
+  pub sound-blocks-stay : journal_model.Untouched
   -- After a start that is not refused, an archive of one file has the counted rows, and leftovers behind them.
-  pub leftovers-are-rows : journal_calls_model.StartCounts
+  pub leftovers-are-rows : journal_model.StartCounts
   -- A start changes no byte of such an archive.
-  pub start-keeps-leftovers : journal_calls_model.StartKeeps
+  pub start-keeps-leftovers : journal_model.StartKeeps
   -- If the leftovers begin with the rows that come, nothing is written and nothing is put aside.
-  pub equal-rows-write-nothing : journal_calls_model.EqualRowsWriteNothing
+  pub equal-rows-write-nothing : journal_model.EqualRowsWriteNothing
   -- A batch destroys no row: each stays in the archive or is put aside.
-  pub batch-destroys-nothing : journal_calls_model.BatchDestroysNothing
+  pub batch-destroys-nothing : journal_model.BatchDestroysNothing
   -- Nor does the end of the log.
-  pub end-destroys-nothing : journal_calls_model.EndDestroysNothing
+  pub end-destroys-nothing : journal_model.EndDestroysNothing
   -- Nor does a crash within a batch: the log gives the row again, or the row is put aside before.
-  pub crash-destroys-nothing : journal_calls_model.CrashDestroysNothing
+  pub crash-destroys-nothing : journal_model.CrashDestroysNothing
   -- The line of a row gives the collector the reception that the row was.
-  pub row-is-handed-over : journal_calls_model.HandedOver
+  pub row-is-handed-over : journal_model.HandedOver
   -- With a live feed, the rows that are counted at any moment stay in their places.
-  pub live-rows-stay : journal_calls_model.LiveKept
+  pub live-rows-stay : journal_model.LiveKept
   -- If the collector answers the leftovers as they stand, nothing is written and every row is counted.
-  pub leftovers-are-counted : journal_calls_model.LeftoversTakenIn
+  pub leftovers-are-counted : journal_model.LeftoversTakenIn
   -- Whatever it answers, each row stays in the archive or is put aside.
-  pub live-destroys-nothing : journal_calls_model.LiveDestroysNothing
+  pub live-destroys-nothing : journal_model.LiveDestroysNothing
   -- The rows that lines gave, handed over again after the same lines, are given again.
-  pub rows-are-given-again : journal_calls_model.RowsAlone
+  pub rows-are-given-again : journal_model.RowsAlone
   -- So leftovers of lines that were on their way are all taken in.
-  pub leftovers-are-taken-in : journal_calls_model.AllTakenIn
+  pub leftovers-are-taken-in : journal_model.AllTakenIn
   -- The judgement on the last counted block refuses what the model refuses, and else leaves the block that the model goes on from.
   pub blocks-are-judged : journal_calls_calls.Judged
   -- A scan counts the rows and blocks that the model finds from a block on.
@@ -326,19 +326,19 @@ pub record Journal : Type 0 where
 
 pub record Archives : Type 0 where
   -- An archive has 0 to 2^32 blocks of 512 bytes and no part of a block: six lengths at these limits are computed.
-  pub sizes-are-limited : archive_file_model.Sizes
+  pub sizes-are-limited : archive_model.Sizes
   -- Rows that are written are read back, and the archive is accepted.
-  pub written-rows-come-back : archive_file_model.ReadBack
+  pub written-rows-come-back : archive_model.ReadBack
   -- An append that looks at the last block alone does the same as one that looks at the whole archive.
-  pub last-block-is-enough : archive_file_model.AtCursor
+  pub last-block-is-enough : archive_model.AtCursor
   -- Row i of an archive is returned, or the answer is 10 if there are fewer rows.
-  pub rows-are-returned : archive_file_model.Rows
+  pub rows-are-returned : archive_model.Rows
   -- A row that is returned has at most 21 bytes, whatever the buffer holds.
-  pub rows-are-short : archive_file_model.RowShort
+  pub rows-are-short : archive_model.RowShort
   -- A check of an archive's blocks in two parts is one check, and finds the first wrong block or the number of rows.
-  pub parts-are-checked : archive_file_model.Pieces
+  pub parts-are-checked : archive_model.Pieces
   -- The sensor of a row is the sender that its telegram names, also if it names a receiver.
-  pub sensor-is-sender : archive_file_identity.Transmitter
+  pub sensor-is-sender : archive_model_identity.Transmitter
   -- Salvage counts each block as kept, empty or dropped, and lists exactly the dropped ones.
   pub blocks-are-accounted : (buffer : List ℕ) → archive_repack_model.Accounted buffer
   -- Salvage returns an undamaged archive unchanged.

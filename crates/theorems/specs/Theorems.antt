@@ -38,14 +38,14 @@ use Rattle.history_archived.specs.Runs as history_archived_runs
 use Rattle.history_archived.specs.Closed as history_archived_closed
 use Rattle.history_archived.specs.Places as history_archived_places
 use Rattle.history_log.specs.Claims as history_log
-use Rattle.archive_model.specs.Claims as archive_file_model
+use Rattle.archive_model.specs.Claims as archive_model
 use Rattle.archive_repack_model.specs.Claims as archive_repack_model
 use Rattle.archive_cut.specs.Claims as archive_cut
 use Rattle.c_pieces.specs.Claims as c_pieces
 use Rattle.archive_report_model.specs.Claims as archive_report_model
 use Rattle.cases.specs.Cases as cases
-use Rattle.journal_model.specs.Claims as journal_calls_model
-use Rattle.journal_model.specs.Out as journal_calls_out
+use Rattle.journal_model.specs.Claims as journal_model
+use Rattle.journal_model.specs.Out as journal_model_out
 use Rattle.journal_recovery.specs.Claims as journal_recovery
 use Rattle.journal_batch.specs.Claims as journal_batch
 use Rattle.theorems.specs.Details.{Details}
@@ -112,11 +112,11 @@ pub record Collector : Type 0 where
 
 pub record Archives : Type 0 where
   -- Each field of an archive block is at the bytes that the papers say.
-  pub blocks-are-laid-out : archive_file_model.Layout
+  pub blocks-are-laid-out : archive_model.Layout
   -- After any appends, reading an archive gives exactly the rows whose append was not refused, in order.
-  pub rows-come-back : archive_file_model.Run
+  pub rows-come-back : archive_model.Run
   -- An archive that is accepted is byte for byte what is written for its rows.
-  pub archives-are-exact : archive_file_model.Exact
+  pub archives-are-exact : archive_model.Exact
   -- If some blocks are damaged, salvage keeps all rows of the other blocks, in order, and changes none.
   pub salvage-keeps-rows : archive_repack_model.Kept
   -- If sensors are removed from an archive, exactly the rows of the other sensors remain, in order.
@@ -134,21 +134,21 @@ pub record Archives : Type 0 where
 
 pub record Journal : Type 0 where
   -- After any batches and any crashes, also during a recovery, the archive has the model's rows and the state is the model's.
-  pub crashes-lose-nothing : journal_calls_model.CrashSafe
+  pub crashes-lose-nothing : journal_model.CrashSafe
   -- With a live feed, of which there is no log, the same holds for the lines that were taken and the rows that a crash left.
-  pub live-crashes-lose-nothing : journal_calls_model.LiveSafe
+  pub live-crashes-lose-nothing : journal_model.LiveSafe
   -- At a start, no row that is found is destroyed, whoever wrote it.
-  pub starts-destroy-nothing : journal_calls_model.NothingDestroyed
+  pub starts-destroy-nothing : journal_model.NothingDestroyed
   -- What a crash can leave is never refused.
-  pub crashes-are-recovered : journal_calls_model.NoFalseAlarm
+  pub crashes-are-recovered : journal_model.NoFalseAlarm
   -- After a crash, the code of a start accepts the state file, refuses nothing, and leaves the model's rows in the archive.
   pub code-starts-after-crashes : journal_recovery.StartRecovers
   -- The code of a batch, whose rows are in one block, leaves the archive and the state of the model, and can be called again.
   pub code-commits-batches : journal_batch.BatchCommits
   -- A row that the state on disk counts stays in the archive, in its place; that the tool prints it only then is tested.
-  pub printed-is-kept : journal_calls_model.PrintedIsKept
+  pub printed-is-kept : journal_model.PrintedIsKept
   -- In the file of `--out` each row of the lines that were taken stands once, in their order, after any batches and any crashes.
-  pub rows-are-in-the-file-once : journal_calls_out.OnceInFile
+  pub rows-are-in-the-file-once : journal_model_out.OnceInFile
 
 -- ---- all of it
 
