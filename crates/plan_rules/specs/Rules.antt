@@ -93,8 +93,10 @@ planBy rule level n d draw =
 abbrev pub transmissionsOf : SlotPlan → ℕ
 transmissionsOf p = cond (eqb (p .third) noSlot) 2 3
 
--- lawful under a rule that has so many transmissions at this level, for a duration 1 to 65,535
+-- lawful under a rule that has n transmissions at this level
+abbrev pub isLawfulOf : ℕ → ℕ → ℕ → ℕ → SlotPlan → Bool
+isLawfulOf n rule level d p = isOffered rule level n && lawful (ruleOf rule level n) d p
+
+-- the same for the transmissions that the plan has, and a duration 1 to 65,535
 unfoldable pub isLawfulBy : ℕ → ℕ → ℕ → SlotPlan → Bool
-isLawfulBy rule level d p =
-    let n = transmissionsOf p in
-    isDuration d && (isKnown rule level && (isOffered rule level n && lawful (ruleOf rule level n) d p))
+isLawfulBy rule level d p = isDuration d && (isKnown rule level && isLawfulOf (transmissionsOf p) rule level d p)

@@ -7,7 +7,7 @@ use plan_slots::SlotPlan;
 use plan_slots::SlotRange;
 ghost use mathlib.Core.Path.{_≡_};
 ghost use Rattle.plan_slots.specs.Plan.{answerOf};
-ghost use Rattle.plan_rules.specs.Rules.{IsKnown, isKnown, isOffered, ruleOf, planBy, transmissionsOf, isLawfulBy};
+ghost use Rattle.plan_rules.specs.Rules.{IsKnown, isKnown, isOffered, ruleOf, planBy, isLawfulOf, isLawfulBy};
 
 // The rules, by number; PAUSED is the last.
 pub const STANDARD: u8 = 0;
@@ -30,11 +30,11 @@ const COMPRESSED_ROW: [SlotRange; 3] = [
 const UNUSED_ROW: [SlotRange; 3] = [plan_slots::EMPTY, plan_slots::EMPTY, plan_slots::EMPTY];
 
 // The ranges of the rule with a pause at level 0, by transmission.
-const PAUSED_ROW: [SlotRange; 3] = [
-    SlotRange { first: 0, last: 0 },
-    SlotRange { first: 0, last: 39 },
-    SlotRange { first: 0, last: 39 },
-];
+const PAUSED_ROW: [SlotRange; 3] = [PAUSED_FIRST, PAUSED_NEXT, PAUSED_NEXT];
+
+const PAUSED_FIRST: SlotRange = SlotRange { first: 0, last: 0 };
+
+const PAUSED_NEXT: SlotRange = SlotRange { first: 0, last: 39 };
 
 // The ranges of the compressed rule, by level sent, then transmission.
 pub const COMPRESSED_RANGES: [[SlotRange; 3]; 3] = [COMPRESSED_ROW, COMPRESSED_ROW, UNUSED_ROW];
@@ -50,10 +50,53 @@ pub const PAUSED_RANGES: [[SlotRange; 3]; 3] = [
 const RANGES: [[[SlotRange; 3]; 3]; 3] = [plan_slots::RANGES, COMPRESSED_RANGES, PAUSED_RANGES];
 
 // The smallest pause between the first transmission's end and the second's start, in microseconds: by rule, then level sent.
-const PAUSES: [[u32; 3]; 3] = [[0, 0, 0], [0, 0, 0], [12_000, 0, 0]];
+const PAUSES: [[u32; 3]; 3] = [[0, 0, 0], [0, 0, 0], [PAUSE, 0, 0]];
+
+const PAUSE: u32 = 12_000;
 
 // The last end, in microseconds: by rule.
-const LAST_ENDS: [u32; 3] = [plan_slots::LAST_END, 50_000, 40_000];
+const LAST_ENDS: [u32; 3] = [plan_slots::LAST_END, COMPRESSED_END, PAUSED_END];
+
+const COMPRESSED_END: u32 = 50_000;
+
+const PAUSED_END: u32 = 40_000;
+
+// The rules that have plans, each with its row. At levels 1 and 2 the standard rule and the one with a pause are the same.
+const RULE_0: Rule = Rule {
+    ranges: plan_slots::LEVEL_0,
+    pause: 0,
+    end: plan_slots::LAST_END,
+};
+
+const RULE_1: Rule = Rule {
+    ranges: plan_slots::LEVEL_1,
+    pause: 0,
+    end: plan_slots::LAST_END,
+};
+
+const RULE_2: Rule = Rule {
+    ranges: plan_slots::LEVEL_2,
+    pause: 0,
+    end: plan_slots::LAST_END,
+};
+
+const COMPRESSED_OF_THREE: Rule = Rule {
+    ranges: COMPRESSED_ROW,
+    pause: 0,
+    end: COMPRESSED_END,
+};
+
+const PAUSED_OF_TWO: Rule = Rule {
+    ranges: [PAUSED_FIRST, PAUSED_NEXT, plan_slots::EMPTY],
+    pause: PAUSE,
+    end: PAUSED_END,
+};
+
+const PAUSED_OF_THREE: Rule = Rule {
+    ranges: PAUSED_ROW,
+    pause: PAUSE,
+    end: PAUSED_END,
+};
 
 // How many transmissions may be asked for.
 pub struct Offer {
@@ -100,14 +143,53 @@ pub fn is_lawful_by(rule: u8, level: u8, duration: u32, plan: SlotPlan) -> bool
     if !timed {
         return false;
     }
-    let n = transmissions_of(plan);
     if !is_known(rule, level) {
         return false;
     }
-    if !offers(rule, level, n) {
+    if plan.third == plan_slots::NO_SLOT {
+        return is_lawful_of_two(rule, level, duration, plan);
+    }
+    is_lawful_of_three(rule, level, duration, plan)
+}
+
+// The same of two transmissions, for a rule and a level that there are. Each rule is named: a table would be made anew at each call.
+fn is_lawful_of_two(rule: u8, level: u8, duration: u32, plan: SlotPlan) -> bool
+    requires { ⌜ IsKnown rule level ⌝ }
+    ensures { λ r. ⌜ r ≡ isLawfulOf 2 rule level duration plan ⌝ }
+{
+    if rule == COMPRESSED {
         return false;
     }
-    plan_slots::is_lawful(rule_of(rule, level, n), duration, plan)
+    if level == 1 {
+        return plan_slots::is_lawful(RULE_1, duration, plan);
+    }
+    if level == 2 {
+        return plan_slots::is_lawful(RULE_2, duration, plan);
+    }
+    if rule == STANDARD {
+        return false;
+    }
+    plan_slots::is_lawful(PAUSED_OF_TWO, duration, plan)
+}
+
+// The same of three.
+fn is_lawful_of_three(rule: u8, level: u8, duration: u32, plan: SlotPlan) -> bool
+    requires { ⌜ IsKnown rule level ⌝ }
+    ensures { λ r. ⌜ r ≡ isLawfulOf 3 rule level duration plan ⌝ }
+{
+    if rule == COMPRESSED {
+        if level == 2 {
+            return false;
+        }
+        return plan_slots::is_lawful(COMPRESSED_OF_THREE, duration, plan);
+    }
+    if level != 0 {
+        return false;
+    }
+    if rule == STANDARD {
+        return plan_slots::is_lawful(RULE_0, duration, plan);
+    }
+    plan_slots::is_lawful(PAUSED_OF_THREE, duration, plan)
 }
 
 // Whether there is such a rule, and such a level.
@@ -146,14 +228,4 @@ fn rule_of(rule: u8, level: u8, transmissions: u8) -> Rule
         pause: pause,
         end: end,
     }
-}
-
-// Two where the third slot reads 255, else three.
-fn transmissions_of(plan: SlotPlan) -> u8
-    ensures { λ r. ⌜ r ≡ transmissionsOf plan ⌝ }
-{
-    if plan.third == plan_slots::NO_SLOT {
-        return 2;
-    }
-    3
 }

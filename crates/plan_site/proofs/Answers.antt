@@ -24,10 +24,10 @@ module _ (count : ℕ) (repeaters : List Assignment) where
     unfolding siteOf
     out-of-range e = simp (e, or-true)
 
-    module _ (known : all isInRange (take count repeaters) ≡ true) (long : length repeaters ≡ 32) (i : ℕ)
+    module _ (known : all isInRange (take count repeaters) ≡ true) (long : count ≤ length repeaters) (i : ℕ)
         (e : i ≡ firstOf (λ b. not (hasLawfulPlan b)) (take count repeaters)) where
       known-length : length (take count repeaters) ≡ count
-      known-length = length-take-le count repeaters (omega arith)
+      known-length = length-take-le count repeaters long
 
       pub unlawful : i < count → answer (numberOf refusal.Unlawful) i 0 ≡ siteOf count repeaters
       unfolding siteOf

@@ -2,4 +2,4 @@ pub mod Accepts
 pub mod Named
 mod Loops
 mod Answers
-mod Fill
+mod Read

@@ -1,4 +1,4 @@
--- The loops over the first `count` of 32 repeaters.
+-- The loops over the first `count` repeaters.
 use mathlib.Core.Path.{_≡_, refl, sym, ap, _∙_}
 use mathlib.Core.Bool.{Bool, true, false}
 use mathlib.Core.List.{List, [], _∷_}

@@ -1,16 +1,16 @@
 -- The repeaters of a site as bytes, nine for each: rule, level, duration in four from the highest, first, second and third slot. A layout of
 -- this house, for callers in C.
 use mathlib.Core.Bool.{cond}
-use mathlib.Core.List.{List, map, _++_}
-use Prim.Native.Nat.{ℕ, _+_, _-_, _*_, _/_, _%_, min}
+use mathlib.Core.List.{List, map}
+use Prim.Native.Nat.{ℕ, _+_, _*_, _/_, _%_, _≤_, min}
 use lib.Dec.{eqb}
-use lib.ListN.{length, getD, take, drop, replicate}
+use lib.ListN.{length, getD, take, drop}
 use Rattle.base_lists.specs.Lists.{upFrom}
 use Rattle.base_refusal.specs.Number.{numberOf}
 use Rattle.base_refusal.specs.declared.Refusal.the-variants.{Argument}
 use Rattle.plan_slots.specs.Plan.{plan}
 use Rattle.plan_site.specs.declared.Assignment.{Assignment}
-use Rattle.plan_site.specs.Site.{maxRepeaters, noAssignment, Answer, answer, siteOf}
+use Rattle.plan_site.specs.Site.{maxRepeaters, Answer, answer, siteOf}
 
 -- the bytes of one repeater
 abbrev pub size : ℕ
@@ -35,9 +35,10 @@ countIn s = min (length s / size) maxRepeaters
 abbrev pub assignmentsIn : List ℕ → List Assignment
 assignmentsIn s = map (assignmentAt s) (upFrom 0 (countIn s))
 
--- the same in an array for 32, all zero behind them
-abbrev pub repeatersIn : List ℕ → List Assignment
-repeatersIn s = assignmentsIn s ++ replicate (maxRepeaters - countIn s) noAssignment
+-- so many repeaters, at most 32, are in these bytes
+pub record Holds (count : ℕ) (s : List ℕ) : Type 0 where
+  pub few : count ≤ maxRepeaters
+  pub whole : size * count ≤ length s
 
 -- 10 also where the bytes are no whole repeaters
 abbrev pub siteIn : List ℕ → Answer

@@ -2,11 +2,11 @@
 use plan_slots::SlotPlan;
 ghost use mathlib.Core.Path.{_≡_};
 ghost use mathlib.Core.Bool.{not};
-ghost use Prim.Native.Nat.{_+_, _≤_, _<_, min};
-ghost use lib.ListN.{length, getD, take, drop, replicate};
+ghost use Prim.Native.Nat.{_<_};
+ghost use lib.ListN.{length, take};
 ghost use Rattle.base_lists.specs.Lists.{all, any, firstOf};
-ghost use Rattle.plan_site.specs.Bytes.{assignmentOf, repeatersIn, siteIn};
-ghost use Rattle.plan_site.specs.Site.{isInRange, hasLawfulPlan, transmission, sentBy, overlap, clash, noAssignment, verdictOf, pairOf, siteOf};
+ghost use Rattle.plan_site.specs.Bytes.{Holds, assignmentOf, assignmentsIn, siteIn};
+ghost use Rattle.plan_site.specs.Site.{isInRange, hasLawfulPlan, transmission, sentBy, overlap, clash, verdictOf, pairOf};
 
 // The most repeaters of a site.
 pub const MAX_REPEATERS: usize = 32;
@@ -30,31 +30,38 @@ pub enum Verdict {
     Overlap(usize, usize),
 }
 
-// Whether the first `count` repeaters fit together. Refused, in this order: more than 32 repeaters, or a rule, level or duration out of range
-// (10); the first unlawful plan (18); the first pair that overlaps (19). What stands past `count` is not looked at.
-pub fn check(repeaters: [Assignment; MAX_REPEATERS], count: usize) -> Verdict
-    ensures { λ r. ⌜ verdictOf r ≡ siteOf count repeaters ⌝ }
+// The bytes of one repeater.
+pub const SIZE: usize = 9;
+
+// The check of a site in bytes. Refused, in this order: bytes that are no whole repeaters, more than 32 repeaters, or a rule, level or duration out of
+// range (10); the first unlawful plan (18); the first pair that overlaps (19).
+pub fn check_bytes(bytes: &[u8]) -> Verdict
+    ensures { λ r. ⌜ verdictOf r ≡ siteIn (now (bytes .entry)) ⌝ }
 {
+    if bytes.len() % SIZE != 0 {
+        return Verdict::OutOfRange;
+    }
+    let count = bytes.len() / SIZE;
     if MAX_REPEATERS < count {
         return Verdict::OutOfRange;
     }
-    if !all_in_range(repeaters, count) {
+    if !all_in_range(bytes, count) {
         return Verdict::OutOfRange;
     }
-    let i = first_unlawful(repeaters, count);
+    let i = first_unlawful(bytes, count);
     if i < count {
         return Verdict::Unlawful(i);
     }
-    first_overlap(repeaters, count)
+    first_overlap(bytes, count)
 }
 
 // Whether rule, level and duration of every one are in range.
-fn all_in_range(repeaters: [Assignment; MAX_REPEATERS], count: usize) -> bool
-    requires { ⌜ count ≤ 32 ⌝ }
-    ensures { λ r. ⌜ r ≡ all isInRange (take count repeaters) ⌝ }
+fn all_in_range(bytes: &[u8], count: usize) -> bool
+    requires { ⌜ Holds count (now bytes) ⌝ }
+    ensures { λ r. ⌜ r ≡ all isInRange (take count (assignmentsIn (now (bytes .entry)))) ⌝ }
 {
     for i in 0..count {
-        let b = repeaters[i];
+        let b = read_one(&bytes[SIZE * i..SIZE * i + SIZE]);
         if !is_in_range(b) {
             return false;
         }
@@ -70,12 +77,12 @@ fn is_in_range(b: Assignment) -> bool
 }
 
 // The first repeater whose plan is not lawful; `count` where all are.
-fn first_unlawful(repeaters: [Assignment; MAX_REPEATERS], count: usize) -> usize
-    requires { ⌜ count ≤ 32 ⌝ }
-    ensures { λ r. ⌜ r ≡ firstOf (λ b. not (hasLawfulPlan b)) (take count repeaters) ⌝ }
+fn first_unlawful(bytes: &[u8], count: usize) -> usize
+    requires { ⌜ Holds count (now bytes) ⌝ }
+    ensures { λ r. ⌜ r ≡ firstOf (λ b. not (hasLawfulPlan b)) (take count (assignmentsIn (now (bytes .entry)))) ⌝ }
 {
     for i in 0..count {
-        let b = repeaters[i];
+        let b = read_one(&bytes[SIZE * i..SIZE * i + SIZE]);
         let plan = b.slots;
         if !plan_rules::is_lawful_by(b.rule, b.level, b.duration, plan) {
             return i;
@@ -84,15 +91,15 @@ fn first_unlawful(repeaters: [Assignment; MAX_REPEATERS], count: usize) -> usize
     count
 }
 
-// The first pair that overlaps, if any. Both loops stand here: a function for the inner one would be given the array by value at each turn.
-fn first_overlap(repeaters: [Assignment; MAX_REPEATERS], count: usize) -> Verdict
-    requires { ⌜ count ≤ 32 ⌝ }
-    ensures { λ r. ⌜ verdictOf r ≡ pairOf 0 (take count repeaters) ⌝ }
+// The first pair that overlaps, if any.
+fn first_overlap(bytes: &[u8], count: usize) -> Verdict
+    requires { ⌜ Holds count (now bytes) ⌝ }
+    ensures { λ r. ⌜ verdictOf r ≡ pairOf 0 (take count (assignmentsIn (now (bytes .entry)))) ⌝ }
 {
     for i in 0..count {
-        let b = repeaters[i];
+        let b = read_one(&bytes[SIZE * i..SIZE * i + SIZE]);
         for j in i + 1..count {
-            let c = repeaters[j];
+            let c = read_one(&bytes[SIZE * j..SIZE * j + SIZE]);
             if clashes(b, c) {
                 return Verdict::Overlap(i, j);
             }
@@ -136,52 +143,6 @@ fn overlaps(slot: u8, duration: u32, other: u8, length: u32) -> bool
     let start = plan_slots::SLOT * slot as u64;
     let begin = plan_slots::SLOT * other as u64;
     (start < begin + length as u64) & (begin < start + duration as u64)
-}
-
-// The bytes of one repeater.
-pub const SIZE: usize = 9;
-
-// The check of a site in bytes. Refused with 10 also where they are no whole repeaters.
-pub fn check_bytes(bytes: &[u8]) -> Verdict
-    ensures { λ r. ⌜ verdictOf r ≡ siteIn (now (bytes .entry)) ⌝ }
-{
-    if bytes.len() % SIZE != 0 {
-        return Verdict::OutOfRange;
-    }
-    check(decode(bytes), bytes.len() / SIZE)
-}
-
-// The repeaters that bytes say, nine bytes each: at most 32. What stands past them is all zero.
-pub fn decode(bytes: &[u8]) -> [Assignment; MAX_REPEATERS]
-    ensures { λ r. ⌜ r ≡ repeatersIn (now (bytes .entry)) ⌝ }
-{
-    let count = smaller(bytes.len() / SIZE, MAX_REPEATERS);
-    let mut all = nothing();
-    for i in 0..count {
-        all[i] = read_one(&bytes[SIZE * i..SIZE * i + SIZE]);
-    }
-    all
-}
-
-fn smaller(x: usize, y: usize) -> usize
-    ensures { λ r. ⌜ r ≡ min x y ⌝ }
-{
-    if x < y { x } else { y }
-}
-
-fn nothing() -> [Assignment; MAX_REPEATERS]
-    ensures { λ r. ⌜ r ≡ replicate 32 noAssignment ⌝ }
-{
-    [Assignment {
-        rule: 0,
-        level: 0,
-        duration: 0,
-        slots: SlotPlan {
-            first: 0,
-            second: 0,
-            third: 0,
-        },
-    }; MAX_REPEATERS]
 }
 
 // Rule, level, duration in four bytes from the highest, first, second and third slot.

@@ -4,6 +4,7 @@ use plan_site::Verdict;
 use test_io::LONG;
 use test_io::field;
 use test_io::last_field;
+ghost use Prim.Native.Nat.{_≤_};
 
 fn main() {
     records(1_000_000);
@@ -30,11 +31,17 @@ fn record() -> bool {
     more
 }
 
-// The first 32 repeaters of the record, whatever its count is.
+// The repeaters of the record; of a count over 33, which is refused as 33 is, the first 33.
 fn answer(r: &[u8; LONG]) {
     let whole = &r[..];
-    let repeaters = plan_site::decode(&whole[8..296]);
-    show(plan_site::check(repeaters, whole[0] as usize));
+    let count = smaller(whole[0] as usize, plan_site::MAX_REPEATERS + 1);
+    show(plan_site::check_bytes(&whole[8..8 + plan_site::SIZE * count]));
+}
+
+fn smaller(x: usize, y: usize) -> usize
+    ensures { λ r. ⌜ (r ≤ x) × (r ≤ y) ⌝ }
+{
+    if x < y { x } else { y }
 }
 
 fn show(verdict: Verdict) {

@@ -1,11 +1,10 @@
 -- `plan_rules::is_lawful_by` meets its contract: each return is a case of `isLawfulBy`, in its order.
-use mathlib.Core.Path.{_≡_, sym, _∙_, ap}
+use mathlib.Core.Path.{_≡_, sym, _∙_}
 use mathlib.Core.Bool.{true, false, and-false}
 use borrow.Author.Needs.{needs}
-use borrow.Author.Tests.{not-true, not-false}
-use Rattle.plan_slots.specs.declared.Rule.{Rule}
-use Rattle.plan_slots.specs.Plan.{isDuration, lawful}
-use Rattle.plan_rules.specs.Rules.{isOffered, ruleOf, isLawfulBy}
+use borrow.Author.Tests.{not-true, not-false, eq-eqb, ne-eqb}
+use Rattle.plan_slots.specs.Plan.{isDuration}
+use Rattle.plan_rules.specs.Rules.{isKnown, isLawfulBy}
 use Rattle.plan_rules.proofs.Known.{known}
 use Rattle.plan_rules.proofs.is_lawful_by.Statement.{statement}
 use Rattle.plan_rules.proofs.is_lawful_by.Tie as tie
@@ -22,33 +21,33 @@ returns c =
     let no = sym (c .before .is-known .ensures) ∙ not-true _ (c .if2 .taken) in
     simp (no, and-false)
 
-offers-requires : tie.Need-offers-requires
-offers-requires c κs = known _ _ (sym (c .before .is-known .ensures) ∙ not-false _ (c .if2 .left))
+-- rule and level are there, and the duration is right
+abbrev start : tie.Else2 → tie.Start
+start c = c .before .before .before
 
-returns-2 : tie.Need-returns-3
-unfolding isLawfulBy
-returns-2 c =
-    let a = c .before .before .before .before .before .before .args in
-    let named = sym (c .before .before .before .is-known .ensures) ∙ not-false _ (c .before .before .if2 .left) in
-    let n = c .before .before .before .before .transmissions-of .ensures in
-    let no = ap (isOffered (a .rule) (a .level)) (sym n) ∙ sym (c .before .offers .ensures) ∙ not-true _ (c .if3 .taken) in
-    simp (named, no, and-false)
+named : (c : tie.Else2) → isKnown (start c .args .rule) (start c .args .level) ≡ true
+named c = sym (c .before .is-known .ensures) ∙ not-false _ (c .if2 .left)
 
-rule-of-requires : tie.Need-rule-of-requires
-rule-of-requires c κs = known _ _ (sym (c .before .before .before .is-known .ensures) ∙ not-false _ (c .before .before .if2 .left))
+timed : (c : tie.Else2) → isDuration (start c .args .duration) ≡ true
+timed c = not-false _ (c .before .before .if1 .left)
 
-returns-3 : tie.Need-returns-4
+of-two-requires : tie.Need-is-lawful-of-two-requires
+of-two-requires c κs = known _ _ (named (c .before .before))
+
+returns-3 : tie.Need-returns-3
 unfolding isLawfulBy
 returns-3 c =
-    let asked = c .before .before in
-    let a = asked .before .before .before .before .before .before .args in
-    let n = asked .before .before .before .before .transmissions-of .ensures in
-    let named = sym (asked .before .before .before .is-known .ensures) ∙ not-false _ (asked .before .before .if2 .left) in
-    let timed : isDuration (a .duration) ≡ true = not-false _ (asked .before .before .before .before .before .if1 .left) in
-    let offered = ap (isOffered (a .rule) (a .level)) (sym n) ∙ sym (asked .before .offers .ensures) ∙ not-false _ (asked .if3 .left) in
-    simp (timed, named, offered)
-    (c .is-lawful .ensures
-    ∙ ap (λ (r : Rule). lawful r (a .duration) (a .plan)) (c .before .rule-of .ensures ∙ ap (ruleOf (a .rule) (a .level)) n))
+    let at = c .before .before .before in
+    simp (timed at, named at, eq-eqb _ _ (c .before .if3 .taken)) (c .is-lawful-of-two .ensures)
+
+of-three-requires : tie.Need-is-lawful-of-three-requires
+of-three-requires c κs = known _ _ (named (c .before .before))
+
+returns-4 : tie.Need-returns-4
+unfolding isLawfulBy
+returns-4 c =
+    let at = c .before .before .before in
+    simp (timed at, named at, ne-eqb _ _ (c .before .if3 .left)) (c .is-lawful-of-three .ensures)
 
 pub is-lawful-by-spec : {M : Type 1} → statement M
 is-lawful-by-spec =
@@ -56,10 +55,8 @@ is-lawful-by-spec =
     (tie.spec
     untimed
     (λ c κs. search needs)
-    (λ c κs. search needs)
     returns
-    offers-requires
-    returns-2
-    rule-of-requires
-    (λ c κs. search needs)
-    returns-3)
+    of-two-requires
+    returns-3
+    of-three-requires
+    returns-4)

@@ -1,44 +1,56 @@
 -- `plan_site::first_unlawful` meets its contract. The invariant is `Sought`; the measure: the repeaters left.
-use mathlib.Core.Path.{_≡_, refl, sym, ap, _∙_}
-use mathlib.Core.Bool.{not}
+use mathlib.Core.Path.{refl, sym, ap, _∙_}
+use mathlib.Core.Bool.{Bool, not}
 use Prim.Native.Nat.{_-_}
 use native.Mathlib.Omega.{arith}
-use lib.ListN.{length}
 use borrow.Author.Needs.{needs}
-use borrow.Author.Tests.{not-true, not-false}
 use Rattle.plan_site.specs.declared.Assignment.{Assignment}
 use Rattle.plan_site.specs.Site.{hasLawfulPlan}
+use Rattle.plan_site.specs.Bytes.{assignmentsIn}
 use Rattle.plan_site.proofs.Loops.{Sought, sought-next, sought-stop, sought-end}
+use Rattle.plan_site.proofs.Read.{enough, as-read}
 use Rattle.plan_site.proofs.first_unlawful.Statement.{statement}
 use Rattle.plan_site.proofs.first_unlawful.Tie as tie
 
+abbrev isUnlawful : Assignment → Bool
+isUnlawful b = not (hasLawfulPlan b)
+
 abbrev Inv-loop : tie.InvT-loop
-Inv-loop count repeaters i₀ i = Sought (λ b. not (hasLawfulPlan b)) count repeaters 0 i
+Inv-loop bytes count i₀ i = Sought isUnlawful count (assignmentsIn bytes) 0 i
 
 abbrev μ-loop : tie.MeasureT-loop
-μ-loop count repeaters i₀ i = count - i
+μ-loop bytes count i₀ i = count - i
 
 loop-holds : tie.Need-loop-holds Inv-loop μ-loop
-loop-holds c =
-    let h : length (c .args .t1) ≡ 32 = search needs in
-    record { enough = omega arith; least = omega arith; whole = refl }
+loop-holds c = record { enough = enough _ _ (c .before .pre); least = omega arith; whole = refl }
+
+abbrev start : tie.In-loop Inv-loop μ-loop → tie.Start Inv-loop μ-loop
+start c = c .before .before .before
+
+-- the turn of the loop
+abbrev turn : tie.After-read-one Inv-loop μ-loop → tie.In-loop Inv-loop μ-loop
+turn c = c .before .before
 
 returns : tie.Need-returns Inv-loop μ-loop
 returns c =
-    let at = c .before .before .before .before in
-    let k = sought-stop (λ b. not (hasLawfulPlan b)) _ _ _ 0 (at .before .loop .inv) (at .loop-test .taken)
-    (ap not (sym (c .before .is-lawful-by .ensures)) ∙ c .if1 .taken) in
+    let one = c .before .before .before in
+    let at = turn one in
+    let k = sought-stop isUnlawful _ _ _ 0 (at .before .loop .inv) (at .loop-test .taken)
+    (as-read _ _ (start at .pre) _ (at .loop-test .taken) _ (one .read-one .ensures) isUnlawful _
+    (ap not (sym (c .before .is-lawful-by .ensures)) ∙ c .if1 .taken)) in
     omega (arith, k)
 
 loop-again : tie.Need-loop-again Inv-loop μ-loop
 loop-again c =
-    let at = c .before .before .before .before in
-    sought-next (λ b. not (hasLawfulPlan b)) _ _ _ 0 (at .before .loop .inv) (at .loop-test .taken)
-    (ap not (sym (c .before .is-lawful-by .ensures)) ∙ c .if1 .left)
+    let one = c .before .before .before in
+    let at = turn one in
+    sought-next isUnlawful _ _ _ 0 (at .before .loop .inv) (at .loop-test .taken)
+    (as-read _ _ (start at .pre) _ (at .loop-test .taken) _ (one .read-one .ensures) isUnlawful _
+    (ap not (sym (c .before .is-lawful-by .ensures)) ∙ c .if1 .left))
 
 returns-2 : tie.Need-returns-2 Inv-loop μ-loop
 returns-2 c =
-    let k = sought-end (λ b. not (hasLawfulPlan b)) _ _ _ 0 (c .before .loop .inv) (c .loop-test .left) in
+    let k = sought-end isUnlawful _ _ _ 0 (c .before .loop .inv) (c .loop-test .left) in
     omega (arith, k)
 
 pub first-unlawful-spec : {M : Type 1} → statement M
@@ -50,6 +62,11 @@ first-unlawful-spec =
     loop-holds
     (λ c. search needs)
     (λ c. search needs)
+    (λ c. search needs)
+    (λ c. search needs)
+    (λ c. search needs)
+    (λ c. search needs)
+    (λ c κs. search needs)
     (λ c κs. search needs)
     returns
     (λ c. search needs)
