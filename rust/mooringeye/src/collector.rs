@@ -1,5 +1,5 @@
 //! The collector: receptions go in, and each is answered KEPT, COPY or LOOSE.
-use crate::lines::{Format, Lines, Taken};
+use crate::lines::{newlines, Format, Lines, Taken};
 use crate::raw;
 use crate::refusal::{done, Refusal};
 use crate::telegram::{frame, Telegram};
@@ -241,8 +241,7 @@ impl Collector {
     pub fn lines_as(&mut self, setting: u8, format: Format, input: &[u8], most: usize, to: &mut Taken) -> Result<Lines, Refusal> {
         to.clear();
         // Lines are counted only where they may be far fewer than `most`.
-        let ends = || input.iter().filter(|c| **c == b'\n').count();
-        let lines = if most <= input.len() / 16 { most } else { most.min(ends()) };
+        let lines = if most <= input.len() / 16 { most } else { most.min(newlines(input)) };
         let mut told = [0; raw::LINES_AS_DONE];
         let state = &mut self.arrays_mut();
         if format == Format::Text && !to.asks_closings() {

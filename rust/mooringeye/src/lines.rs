@@ -339,6 +339,12 @@ pub fn skip_lines(text: &[u8], most: usize) -> (usize, usize) {
     (used, lines)
 }
 
+/// The lines that end in a text. In parts that a byte can count, so that many characters are looked at at once.
+pub(crate) fn newlines(text: &[u8]) -> usize {
+    let in_part = |part: &[u8]| part.iter().map(|c| u8::from(*c == b'\n')).sum::<u8>();
+    text.chunks(usize::from(u8::MAX)).map(|part| usize::from(in_part(part))).sum()
+}
+
 fn size(n: u64) -> usize {
     usize::try_from(n).expect("the library counts what lies in memory")
 }
@@ -448,6 +454,15 @@ mod tests {
         assert_eq!(text_alone.closings().count(), 0);
         let mut again = Session::new(Collector::new(), 0, Format::Text).unwrap();
         assert!(again.feed(text.as_bytes()).text() == text_alone.text());
+    }
+
+    #[test]
+    fn newlines_are_counted() {
+        for n in [0, 1, 254, 255, 256, 510, 511, 100_000] {
+            assert_eq!(newlines(&vec![b'\n'; n]), n);
+            assert_eq!(newlines(&vec![b'0'; n]), 0);
+            assert_eq!(newlines("1 D5\n".repeat(n).as_bytes()), n);
+        }
     }
 
     #[test]
