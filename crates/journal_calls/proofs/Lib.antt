@@ -2,3 +2,4 @@ pub mod Judged
 pub mod Runs
 pub mod Agreed
 pub mod Claims
+pub mod Given

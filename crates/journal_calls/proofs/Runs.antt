@@ -1,4 +1,5 @@
 -- A run of blocks, as the code goes through them.
+--     dense-many, dense-ended, dense-on                                   the rows of so many blocks
 --     RunFacts, run-facts, run-limit, run-place, run-many, run-dense      what `isRun` says
 --     block-ended, block-unsound, block-number, block-passed              one block more: the cases of `runBlock`
 --     block-next                                                           it leaves the numbers of a run
@@ -9,14 +10,14 @@ use native.Mathlib.Nat.{mod-lt}
 use native.Mathlib.Numerals.{add-one}
 use native.Mathlib.Omega.{arith}
 use mathlib.Core.Path.{_≡_, refl, sym, ap, _∙_}
-use mathlib.Core.Bool.{Bool, true, false, _&&_}
+use mathlib.Core.Bool.{Bool, true, false, _&&_, false≢true}
 use mathlib.Core.List.{List, map}
 use lib.Dec.{ltb, leb, eqb}
 use lib.ListN.{length}
-use borrow.Author.Tests.{eqb-true, leb-true, ltb-true, eq-eqb, ne-eqb, lt-ltb, le-ltb, le-leb, lt-leb}
+use borrow.Author.Tests.{eqb-true, leb-true, ltb-true, ltb-false, eq-eqb, ne-eqb, lt-ltb, le-ltb, le-leb, lt-leb}
 use Rattle.base_lists.specs.Lists.{upFrom}
 use Rattle.base_lists.proofs.Choice.{both}
-use Rattle.base_lists.proofs.Tests.{and-true, branch}
+use Rattle.base_lists.proofs.Tests.{and-true, by-test, branch}
 use Rattle.base_refusal.specs.Number.{numberOf}
 use Rattle.base_refusal.specs.declared.Refusal.the-variants.{NotAccepted, Size}
 use Rattle.base_buffers.specs.Buffer.{part}
@@ -26,7 +27,7 @@ use Rattle.archive_model.specs.Buffer.{maxBlocks, blocksIn, isShort}
 use Rattle.archive_model.proofs.Exact.{tests}
 use Rattle.archive_file.specs.Archive.{soundCount}
 use Rattle.archive_file.proofs.Scans.{blocksFrom}
-use Rattle.journal_calls.specs.Run.{Run, stopped, passed, runBlock, runBlocks, isRun, runAt, runNumbers, ScanCall, scanCall}
+use Rattle.journal_calls.specs.Run.{Run, stopped, passed, runBlock, runBlocks, isDense, isRun, runAt, runNumbers, ScanCall, scanCall}
 use Rattle.journal_calls.proofs.Judged.{sound-none, sound-some}
 
 -- ---- numbers of a run
@@ -36,8 +37,37 @@ pub record RunFacts (r : Run) : Type 0 where
   pub placed : r .place < r .limit
   pub few : r .blocks ≤ maxBlocks
   pub dense : r .rows ≤ cellsPerBlock * r .blocks
+  pub near : cellsPerBlock * r .blocks < r .rows + cellsPerBlock
+  pub full : r .ended ≡ false → cellsPerBlock * r .blocks ≤ r .rows
+
+-- the rows of so many blocks
+module _ (ended : Bool) (n rows : ℕ) where
+  pub dense-many : cellsPerBlock * n < rows → false ≡ isDense ended n rows
+  dense-many h = rw (lt-leb rows (cellsPerBlock * n) h)
+
+  module _ (few : rows ≤ cellsPerBlock * n) where
+    pub dense-ended : ended ≡ true → ltb (cellsPerBlock * n) (rows + cellsPerBlock) ≡ isDense ended n rows
+    dense-ended e = rw (le-leb rows (cellsPerBlock * n) few, e)
+
+    pub dense-on : ended ≡ false → leb (cellsPerBlock * n) rows ≡ isDense ended n rows
+    dense-on e = rw (le-leb rows (cellsPerBlock * n) few, e)
 
 module _ (r : Run) where
+  abbrev isFull : Bool
+  isFull = isDense (r .ended) (r .blocks) (r .rows)
+
+  dense-near : isFull ≡ true → cellsPerBlock * r .blocks < r .rows + cellsPerBlock
+  dense-near h =
+      let n = cellsPerBlock * r .blocks in
+      let d = both (leb (r .rows) n) _ h in
+      by-test {X = n < r .rows + cellsPerBlock} (r .ended)
+      (λ t. ltb-true n (r .rows + cellsPerBlock) (rw t at (d .1)))
+      (λ f. let l : n ≤ r .rows = leb-true n (r .rows) (rw f at (d .1)) in omega arith)
+
+  dense-full : isFull ≡ true → r .ended ≡ false → cellsPerBlock * r .blocks ≤ r .rows
+  dense-full h f =
+      leb-true (cellsPerBlock * r .blocks) (r .rows) (rw f at (both (leb (r .rows) (cellsPerBlock * r .blocks)) _ h .1))
+
   pub run-facts : isRun r ≡ true → RunFacts r
   unfolding isRun
   run-facts h =
@@ -48,8 +78,19 @@ module _ (r : Run) where
         limited = leb-true (r .limit) maxBlocks (a .0);
         placed = ltb-true (r .place) (r .limit) (b .0);
         few = leb-true (r .blocks) maxBlocks (d .0);
-        dense = leb-true (r .rows) (cellsPerBlock * r .blocks) (d .1);
+        dense = leb-true (r .rows) (cellsPerBlock * r .blocks)
+            (both (leb (r .rows) (cellsPerBlock * r .blocks)) _ (d .1) .0);
+        near = dense-near (d .1);
+        full = dense-full (d .1);
       }
+
+  is-full : RunFacts r → isFull ≡ true
+  is-full f =
+      by-test {X = isFull ≡ true} (r .ended)
+      (λ t. sym (dense-ended (r .ended) (r .blocks) (r .rows) (f .dense) t)
+      ∙ lt-ltb (cellsPerBlock * r .blocks) (r .rows + cellsPerBlock) (f .near))
+      (λ e. sym (dense-on (r .ended) (r .blocks) (r .rows) (f .dense) e)
+      ∙ le-leb (cellsPerBlock * r .blocks) (r .rows) (f .full e))
 
   pub run-is : RunFacts r → isRun r ≡ true
   unfolding isRun
@@ -57,9 +98,8 @@ module _ (r : Run) where
       rw (
         le-leb (r .limit) maxBlocks (f .limited),
         lt-ltb (r .place) (r .limit) (f .placed),
-        le-leb
-            (r .blocks) maxBlocks (f .few),
-        le-leb (r .rows) (cellsPerBlock * r .blocks) (f .dense),
+        le-leb (r .blocks) maxBlocks (f .few),
+        is-full f,
       )
 
   pub run-limit : maxBlocks < r .limit → false ≡ isRun r
@@ -81,7 +121,7 @@ module _ (r : Run) where
             (r .blocks) maxBlocks h,
       )
 
-      pub run-dense : r .blocks ≤ maxBlocks → leb (r .rows) (cellsPerBlock * r .blocks) ≡ isRun r
+      pub run-dense : r .blocks ≤ maxBlocks → isDense (r .ended) (r .blocks) (r .rows) ≡ isRun r
       unfolding isRun
       run-dense h = rw (
         le-leb (r .limit) maxBlocks limited,
@@ -154,16 +194,21 @@ module _ (r : Run) (b : List ℕ) where
           limited = f .limited;
           placed = k;
           few = omega arith;
-          dense = omega (
-            arith,
-            tests b (both
-                (isSound b) _ t .0) .1,
-          );
+          dense = omega (arith, tests b (both (isSound b) _ t .0) .1);
+          near = omega (arith, tests b (both (isSound b) _ t .0) .0, f .full n);
+          full = λ e. omega (arith, f .full n, ltb-false (rowCount b) cellsPerBlock e);
         };
         bound = omega arith;
       })
       (λ e. record {
-        facts = record { limited = f .limited; placed = f .placed; few = f .few; dense = f .dense };
+        facts = record {
+          limited = f .limited;
+          placed = f .placed;
+          few = f .few;
+          dense = f .dense;
+          near = f .near;
+          full = λ z. absurd (false≢true (sym z));
+        };
         bound = omega arith;
       }))
 

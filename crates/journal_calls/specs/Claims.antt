@@ -1,18 +1,19 @@
 -- What is proved of the journal's decisions: they are those of the model of the disk.
-use Prim.Native.Nat.{ℕ, _-_, _*_}
+use Prim.Native.Nat.{ℕ, _+_, _-_, _*_, _≤_}
 use mathlib.Core.Path.{_≡_}
-use mathlib.Core.Bool.{false}
+use mathlib.Core.Bool.{true, false}
 use mathlib.Core.List.{List, _++_}
 use lib.Dec.{eqb}
 use lib.ListN.{length}
-use Rattle.block_layout.specs.Block.{cellsPerBlock}
-use Rattle.archive_model.specs.Buffer.{blocksFor}
+use Rattle.base_lists.specs.Lists.{all}
+use Rattle.block_layout.specs.Block.{cellsPerBlock, blockLength}
+use Rattle.archive_model.specs.Buffer.{blocksFor, maxBlocks}
 use Rattle.archive_model.specs.Append.{blockAt}
 use Rattle.journal_model.specs.Disk.{State, counted, lastUsed, isOther, mended, runFrom}
 use Rattle.journal_calls.specs.declared.Judgement.{Judgement}
 use Rattle.journal_calls.specs.declared.Judgement.the-variants.{Same, Longer, Torn, Other}
 use Rattle.journal_calls.specs.Block.{judgementOf, judgementNumber}
-use Rattle.journal_calls.specs.Run.{Run, startRun, runBlocks, runAt, runNumbers}
+use Rattle.journal_calls.specs.Run.{Run, startRun, runBlocks, isRun, runAt, runNumbers}
 
 -- the block that a judgement leaves: a torn one is replaced by the copy
 abbrev pub mendedBy : Judgement → List ℕ → List ℕ → List ℕ
@@ -48,3 +49,19 @@ RunJoins = (r : Run) (xs ys : List (List ℕ)) → runBlocks r (xs ++ ys) ≡ ru
 -- Run back: five numbers hold any run.
 abbrev pub RunBack : Type 0
 RunBack = (r : Run) → runAt (runNumbers r) ≡ r
+
+-- Run accepted: blocks leave the numbers of a run.
+abbrev pub RunAccepted : Type 0
+RunAccepted =
+    (r : Run) (blocks : List (List ℕ)) → isRun r ≡ true → r .blocks + length blocks ≤ maxBlocks
+    → isRun (runBlocks r blocks) ≡ true
+
+-- Run given: numbers that are accepted are those that some blocks give, from some block on.
+pub record Given (limit : ℕ) (r : Run) : Type 0 where
+  pub k : ℕ
+  pub blocks : List (List ℕ)
+  pub long : all (λ b. eqb (length b) blockLength) blocks ≡ true
+  pub give : runBlocks (startRun limit k) blocks ≡ r
+
+abbrev pub RunGiven : Type 0
+RunGiven = (r : Run) → isRun r ≡ true → Given (r .limit) r

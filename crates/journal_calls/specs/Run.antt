@@ -50,14 +50,19 @@ runBlocks r (b ∷ bs) = runBlocks (runBlock r b) bs
 
 -- ---- the call, on five numbers
 
--- numbers that some blocks give: at most 2^32 blocks in a file, in which the next one stands, and passed, and at most
--- 15 rows a block
+-- the rows of so many blocks: all are full, or the run has ended with a short one
+abbrev pub isDense : (ended : Bool) (blocks rows : ℕ) → Bool
+isDense ended blocks rows =
+    leb rows (cellsPerBlock * blocks)
+    && cond ended (ltb (cellsPerBlock * blocks) (rows + cellsPerBlock)) (leb (cellsPerBlock * blocks) rows)
+
+-- numbers that some blocks give: at most 2^32 blocks in a file, in which the next one stands, and passed
 unfoldable pub isRun : Run → Bool
 isRun r =
     leb (r .limit) maxBlocks
     && (ltb (r .place) (r .limit)
     && (leb (r .blocks) maxBlocks
-    && leb (r .rows) (cellsPerBlock * r .blocks)))
+    && isDense (r .ended) (r .blocks) (r .rows)))
 
 abbrev pub runAt : List ℕ → Run
 runAt numbers = record {

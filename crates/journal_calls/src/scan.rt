@@ -12,7 +12,7 @@ ghost use Prim.Native.Nat.{_+_, _/_, _≤_, _<_};
 ghost use lib.ListN.{length};
 ghost use Rattle.block_layout.specs.Block.{blockLength};
 ghost use Rattle.archive_model.specs.Buffer.{blocksIn, maxBlocks};
-ghost use Rattle.journal_calls.specs.Run.{runOf, runAt, runNumbers, isRun, stopped, runBlock, runBlocks, scanCall};
+ghost use Rattle.journal_calls.specs.Run.{runOf, runAt, runNumbers, isDense, isRun, stopped, runBlock, runBlocks, scanCall};
 
 // The blocks of a file, the number that the next block must have, blocks passed, their rows, and another number than 0
 // where the run has ended.
@@ -66,7 +66,7 @@ fn store(r: Run, numbers: &mut [u64; NUMBERS])
     ];
 }
 
-// Whether some blocks give this run, as far as its numbers tell.
+// Whether some blocks give this run.
 fn is_run(r: Run) -> bool
     ensures { λ b. ⌜ b ≡ isRun (runOf r) ⌝ }
 {
@@ -81,7 +81,22 @@ fn is_run(r: Run) -> bool
     if MAX_BLOCKS < blocks {
         return false;
     }
-    r.rows <= CELLS_PER_BLOCK * blocks
+    is_dense(r.ended, blocks, r.rows)
+}
+
+// Whether so many blocks have these rows: all are full, or the run has ended with a short one.
+fn is_dense(ended: bool, blocks: usize, rows: usize) -> bool
+    requires { ⌜ blocks ≤ maxBlocks ⌝ }
+    ensures { λ b. ⌜ b ≡ isDense ended blocks rows ⌝ }
+{
+    let most = CELLS_PER_BLOCK * blocks;
+    if most < rows {
+        return false;
+    }
+    if ended {
+        return most < rows + CELLS_PER_BLOCK;
+    }
+    most <= rows
 }
 
 // Every whole block of a piece.

@@ -2,16 +2,16 @@
 use Prim.Native.Nat.{ℕ, _+_, _≤_}
 use native.Mathlib.Omega.{arith}
 use mathlib.Core.Path.{_≡_, refl, sym, ap, ap₂, _∙_}
-use mathlib.Core.Logic.{inl, inr}
-use mathlib.Core.Bool.{Bool, true, false, cond}
+use mathlib.Core.Bool.{Bool, true, false, cond, not, _&&_}
 use mathlib.Core.List.{List, [], _∷_, _++_, append-assoc, append-nil}
 use lib.Dec.{eqb}
 use lib.ListN.{length, take, drop, length-append, length-take, drop-of-length-le}
 use lib.Seq.{take-add, take-all}
-use borrow.Author.Tests.{eqb-true}
+use borrow.Author.Tests.{eqb-true, eqb-false, eq-eqb, ne-eqb}
 use Rattle.base_lists.proofs.Tests.{by-test}
 use Rattle.base_buffers.proofs.Segments.{take-clamped}
-use Rattle.journal_model.specs.Out.{Out, OutEvent, Print, Stop, OutLeft, early, late, textOf, nextOf, batchText, printed, cutOut, outRun, IsOutRun, EachOnce, OnceInFile}
+use Rattle.text_rows.specs.Formats.{headingIn}
+use Rattle.journal_model.specs.Out.{Out, OutEvent, Print, Stop, OutLeft, early, late, textOf, nextOf, batchText, printed, cutOut, outRun, IsOutRun, topOf, EachOnce, OnceInFile, textBy, OnceInFormat}
 
 no-bytes : (xs : List ℕ) → length xs ≡ 0 → xs ≡ []
 no-bytes [] e = refl
@@ -40,8 +40,6 @@ module _ (text : List (List ℕ) → List ℕ → List ℕ) (heading : List ℕ)
 
     cut-once : EachOnce text heading log old (cutOut text heading log o)
     cut-once = record {
-      top = once .top;
-      isTop = once .isTop;
       is = all-there ∙ once .is;
       counted = once .counted ∙ sym (ap length all-there);
     }
@@ -77,38 +75,56 @@ module _ (text : List (List ℕ) → List ℕ → List ℕ) (heading : List ℕ)
       size-is : next .size ≡ length (next .file)
       size-is = omega (arith, once .counted, length-append (o .file) new, ap length file-is)
 
+      abbrev top : Out → List ℕ
+      top = topOf text heading log old
+
+      new-long : length new ≡ length (cond (eqb (o .size) 0) heading []) + length more
+      new-long = length-append (cond (eqb (o .size) 0) heading []) more
+
+      -- the first batch writes the heading; one that leaves the file empty has none
+      top-first : eqb (o .size) 0 ≡ true → length old ≡ 0 → heading ≡ top next
+      top-first t bare =
+          let long : length new ≡ length heading + length more =
+          new-long ∙ ap (λ (b : Bool). length (cond b heading []) + length more) t in
+          by-test {X = heading ≡ top next} (eqb (next .size) 0)
+          (λ z. rw (eq-eqb (length old) 0 bare, z) (no-bytes heading (omega (arith, long, eqb-true (next .size) 0 z))))
+          (λ f. rw (eq-eqb (length old) 0 bare, f) refl)
+
       first : eqb (o .size) 0 ≡ true → EachOnce text heading log old next
       first t =
           let z = eqb-true (o .size) 0 t in
           let all : o .file ≡ [] = no-bytes (o .file) (omega (arith, once .counted)) in
-          let none : length old + (length (once .top) + length rows) ≡ 0 =
+          let none : length old + (length (top o) + length rows) ≡ 0 =
           omega (
             arith,
             ap length (once .is),
             ap length all,
-            length-append old (once .top ++ rows),
-            length-append
-                (once .top) rows,
+            length-append old (top o ++ rows),
+            length-append (top o) rows,
           ) in
           let bare : old ≡ [] = no-bytes old (omega arith) in
           let empty : rows ≡ [] = no-bytes rows (omega arith) in
           record {
-            top = heading;
-            isTop = inr refl;
             is = file-is ∙ ap₂ (λ (a b : List ℕ). a ++ b) (all ∙ sym bare)
                 (ap (λ (b : Bool). cond b heading [] ++ more) t)
-                ∙ ap (λ (l : List ℕ). old ++ (heading ++ l)) (sym (rows-next ∙ ap (λ (l : List ℕ). l ++ more) empty));
+                ∙ ap₂ (λ (h l : List ℕ). old ++ (h ++ l)) (top-first t (ap length bare))
+                (sym (rows-next ∙ ap (λ (l : List ℕ). l ++ more) empty));
             counted = size-is;
           }
 
+      -- a later one finds the file with bytes, before and after
+      top-later : eqb (o .size) 0 ≡ false → top o ≡ top next
+      top-later f =
+          let some : eqb (next .size) 0 ≡ false =
+          ne-eqb (next .size) 0 (λ z. eqb-false (o .size) 0 f (omega (arith, z))) in
+          ap (λ (b : Bool). cond (eqb (length old) 0 && not b) heading []) (f ∙ sym some)
+
       later : eqb (o .size) 0 ≡ false → EachOnce text heading log old next
       later f = record {
-        top = once .top;
-        isTop = once .isTop;
         is = file-is ∙ ap₂ (λ (a b : List ℕ). a ++ b) (once .is) (ap (λ (b : Bool). cond b heading [] ++ more) f)
-            ∙ append-assoc old (once .top ++ rows) more
-            ∙ ap (λ (l : List ℕ). old ++ l) (append-assoc (once .top) rows more)
-            ∙ ap (λ (l : List ℕ). old ++ (once .top ++ l)) (sym rows-next);
+            ∙ append-assoc old (top o ++ rows) more
+            ∙ ap (λ (l : List ℕ). old ++ l) (append-assoc (top o) rows more)
+            ∙ ap₂ (λ (h l : List ℕ). old ++ (h ++ l)) (top-later f) (sym rows-next);
         counted = size-is;
       }
 
@@ -119,8 +135,6 @@ module _ (text : List (List ℕ) → List ℕ → List ℕ) (heading : List ℕ)
         → EachOnce text heading log old
         (cutOut text heading log (record { lines = o .lines; size = o .size; file = file }))
     early-once file long same = record {
-      top = once .top;
-      isTop = once .isTop;
       is = same ∙ all-there ∙ once .is;
       counted = omega (arith, length-take (o .size) file);
     }
@@ -139,8 +153,20 @@ module _ (text : List (List ℕ) → List ℕ → List ℕ) (heading : List ℕ)
   run-once (Stop left ∷ es) old o once may = run-once es old (cutOut text heading log left)
       (left-once old o left once (may .0)) (may .1)
 
+-- before the first batch
+top-none : (heading old : List ℕ) → cond (eqb (length old) 0 && not (eqb (length old) 0)) heading [] ≡ []
+top-none heading old = by-test {X = cond (eqb (length old) 0 && not (eqb (length old) 0)) heading [] ≡ []}
+    (eqb (length old) 0) (λ t. rw t refl) (λ f. rw f refl)
+
 pub once-in-file : OnceInFile
 unfolding textOf
 once-in-file text heading log old es may =
     run-once text heading log es old (record { lines = 0; size = length old; file = old })
-    (record { top = []; isTop = inl refl; is = sym (append-nil old); counted = refl }) may
+    (record {
+      is = sym (ap (λ (l : List ℕ). old ++ (l ++ [])) (top-none heading old) ∙ append-nil old);
+      counted = refl;
+    })
+    may
+
+pub once-in-format : OnceInFormat
+once-in-format f setting log old es may = once-in-file (textBy f setting) (headingIn f) log old es may

@@ -2,11 +2,16 @@
 -- that both are replaced in one step.
 use Prim.Native.Nat.{ℕ, _+_, _≤_}
 use mathlib.Core.Path.{_≡_}
-use mathlib.Core.Logic.{_⊎_}
-use mathlib.Core.Bool.{cond}
+use mathlib.Core.Bool.{cond, not, _&&_}
 use mathlib.Core.List.{List, [], _∷_, _++_}
 use lib.Dec.{eqb}
 use lib.ListN.{length, take, drop}
+use Rattle.collector_model.specs.Reference.{logOf, modelView}
+use Rattle.text_lines.specs.Reading.{lineReading}
+use Rattle.text_rows.specs.declared.formats.Format.{Format}
+use Rattle.text_rows.specs.Formats.{headingIn}
+use Rattle.text_collect.specs.Printed.{pastAfterLines}
+use Rattle.text_collect.specs.Formats.{lineIn}
 
 -- lines that the state has taken, how much of the file it counts, and the file
 pub record Out : Type 0 where
@@ -73,12 +78,13 @@ module _ (text : List (List ℕ) → List ℕ → List ℕ) (heading : List ℕ)
   IsOutRun o [] = Unit {0}
   IsOutRun o (e ∷ es) = OutMay o e × IsOutRun (outNext o e) es
 
-  -- behind what stood in the file: the heading, where a batch found it empty, and each row of the lines that were
-  -- taken, once and in their order
+  -- what stands before the rows: the heading, just where the file was empty before the run and has a byte now
+  abbrev pub topOf : List ℕ → Out → List ℕ
+  topOf old o = cond (eqb (length old) 0 && not (eqb (o .size) 0)) heading []
+
+  -- behind what stood in the file: that, and each row of the lines that were taken, once and in their order
   pub record EachOnce (old : List ℕ) (o : Out) : Type 0 where
-    pub top : List ℕ
-    pub isTop : (top ≡ []) ⊎ (top ≡ heading)
-    pub is : o .file ≡ old ++ (top ++ textOf [] (take (o .lines) log))
+    pub is : o .file ≡ old ++ (topOf old o ++ textOf [] (take (o .lines) log))
     pub counted : o .size ≡ length (o .file)
 
 -- Once in file: batches of any sizes, crashes at any moments with any outcome: each row of the lines that the state
@@ -89,3 +95,19 @@ OnceInFile =
     (es : List OutEvent)
     → let o : Out = record { lines = 0; size = length old; file = old } in
     IsOutRun text heading log o es → EachOnce text heading log old (outRun text heading log o es)
+
+-- ---- the formats
+
+-- what a line prints behind others in a format, by the reference model
+abbrev pub textBy : Format → (setting : ℕ) → List (List ℕ) → List ℕ → List ℕ
+textBy f setting before l =
+    let view = modelView (logOf (pastAfterLines [] before)) in
+    lineIn f (record { setting = setting; view = view }) (lineReading l)
+
+-- Once in format: the same of the rows of a format, with its heading.
+abbrev pub OnceInFormat : Type 0
+OnceInFormat =
+    (f : Format) (setting : ℕ) (log : List (List ℕ)) (old : List ℕ) (es : List OutEvent)
+    → let o : Out = record { lines = 0; size = length old; file = old } in
+    let text = textBy f setting in
+    IsOutRun text (headingIn f) log o es → EachOnce text (headingIn f) log old (outRun text (headingIn f) log o es)

@@ -98,7 +98,14 @@ module _ (at : ℕ) (file : List ℕ) (inside : at ≤ wholeBlocks file) where
 
     is-run : isRun (runAt numbers) ≡ true
     is-run = run-is (runAt numbers)
-        (record { limited = omega arith; placed = low; few = omega arith; dense = omega arith })
+        (record {
+          limited = omega arith;
+          placed = low;
+          few = omega arith;
+          dense = omega arith;
+          near = omega arith;
+          full = λ z. omega arith;
+        })
 
     abbrev end : Run
     end = runBlocks (runAt numbers) (blocksIn piece)

@@ -61,12 +61,14 @@ use Rattle.history_rows.proofs.Recovered as history_rows_recovered
 use Rattle.history_rows.proofs.Closings as history_rows_closings
 use Rattle.history_rows.proofs.Example as history_rows_example
 use Rattle.journal_calls.proofs.Claims as journal_calls_calls
+use Rattle.journal_calls.proofs.Given as journal_calls_given
 use Rattle.journal_model.proofs.Alone as journal_model_alone
 use Rattle.journal_model.proofs.Any as journal_model_any
 use Rattle.journal_model.proofs.Claims as journal_model_claims
 use Rattle.journal_model.proofs.Destroyed as journal_model_destroyed
 use Rattle.journal_model.proofs.Live as journal_model_live
 use Rattle.journal_model.proofs.Longest as journal_model_longest
+use Rattle.journal_model.proofs.Out as journal_model_out
 use Rattle.journal_model.proofs.Sound as journal_model_sound
 use Rattle.journal_model.proofs.TakenIn as journal_model_taken
 use Rattle.journal_model.proofs.Untouched as journal_model_untouched
@@ -220,6 +222,9 @@ journal = record {
   scans-count-the-run = journal_calls_calls.run-counts;
   scans-go-by-pieces = journal_calls_calls.run-joins;
   scans-are-held = journal_calls_calls.run-back;
+  scans-go-on = journal_calls_given.run-accepted;
+  scans-are-exact = journal_calls_given.run-given;
+  formats-are-in-the-file-once = journal_model_out.once-in-format;
   states-read-back = journal_state.state-read;
   states-are-exact = journal_state.state-written;
   states-are-modelled = journal_state_modelled.state-modelled;

@@ -52,6 +52,7 @@ use Rattle.history_rows.specs.Recovered as history_rows_recovered
 use Rattle.history_rows.specs.Closings as history_rows_closings
 use Rattle.history_rows.specs.Example as history_rows_example
 use Rattle.journal_model.specs.Claims as journal_model
+use Rattle.journal_model.specs.Out as journal_model_out
 use Rattle.journal_calls.specs.Claims as journal_calls_calls
 use Rattle.journal_state.specs.Claims as journal_state
 use Rattle.cases.specs.Layouts as cases_layouts
@@ -315,6 +316,12 @@ pub record Journal : Type 0 where
   pub scans-go-by-pieces : journal_calls_calls.RunJoins
   -- The five numbers of a scan hold it.
   pub scans-are-held : journal_calls_calls.RunBack
+  -- The numbers that a scan leaves are accepted by its next call.
+  pub scans-go-on : journal_calls_calls.RunAccepted
+  -- Numbers of a scan that are accepted are those that some blocks give.
+  pub scans-are-exact : journal_calls_calls.RunGiven
+  -- In the file of `--out`, the rows of each format stand once, in the order of their lines; before them its heading, just where the file was empty.
+  pub formats-are-in-the-file-once : journal_model_out.OnceInFormat
   -- A lawful state that is written is accepted, and reads back as it was.
   pub states-read-back : journal_state.StateRead
   -- An accepted state file is lawful, and is byte for byte what is written of it.

@@ -141,13 +141,13 @@ pub record Journal : Type 0 where
   pub starts-destroy-nothing : journal_model.NothingDestroyed
   -- What a crash can leave is never refused.
   pub crashes-are-recovered : journal_model.NoFalseAlarm
-  -- After a crash, the code of a start accepts the state file, refuses nothing, and leaves the model's rows in the archive.
+  -- After a crash, the code of a start accepts the state file, refuses nothing, and leaves the model's rows in an archive of one file.
   pub code-starts-after-crashes : journal_recovery.StartRecovers
-  -- The code of a batch, whose rows are in one block, leaves the archive and the state of the model, and can be called again.
+  -- The code of a batch, whose rows are in one block and which puts nothing aside, leaves the archive and the state of the model.
   pub code-commits-batches : journal_batch.BatchCommits
   -- A row that the state on disk counts stays in the archive, in its place; that the tool prints it only then is tested.
   pub printed-is-kept : journal_model.PrintedIsKept
-  -- In the file of `--out` each row of the lines that were taken stands once, in their order, after any batches and any crashes.
+  -- After any crashes, each row of the lines that were taken is once in the file of `--out`, and the heading just where the file was empty.
   pub rows-are-in-the-file-once : journal_model_out.OnceInFile
 
 -- ---- all of it

@@ -13,6 +13,7 @@ use Rattle.journal_model.specs.Disk.{wholeBlocks}
 use Rattle.journal_calls.specs.Rows.{Compared, compareCall}
 use Rattle.journal_state.specs.State.{Kept, kept, stateLength, stateBytes}
 use Rattle.journal_state.specs.Lawful.{lawful}
+use Rattle.journal_state.specs.Calls.{writeOf}
 use Rattle.journal_batch.specs.Batch.{Filled, filledOf, Commit, isNew, commitOf}
 use Rattle.journal_batch.proofs.Cases as cases
 use Rattle.journal_batch.proofs.commit.Statement.{statement}
@@ -160,6 +161,10 @@ said c = first (second (at-fill c))
 abbrev bytes : tie.After-write → List ℕ
 bytes c = c .write .last .1 .1 .1 .1 .1 .0
 
+is-written : (c : tie.After-write) → record { number = c .write .result; output = bytes c }
+    ≡ writeOf (next (said c) (at-fill c .fill .last .0)) (replicate stateLength 0)
+is-written c = c .write .ensures
+
 law-as : (c : tie.After-write)
     → lawful (next (said c) (filled (said c) .block)) ≡ lawful (next (said c) (at-fill c .fill .last .0))
 law-as c = ap (λ (b : List ℕ). lawful (next (said c) b)) (sym (block-is (at-fill c)))
@@ -171,7 +176,7 @@ unlawful c =
     let s = said w in
     let a = s .args in
     let r = cases.write-refused (next s (at-fill w .fill .last .0)) (replicate stateLength 0)
-    (record { number = w .write .result; output = bytes w }) (w .write .ensures) (c .if5 .taken) in
+    (record { number = w .write .result; output = bytes w }) (is-written w) (c .if5 .taken) in
     ap (beside s) (r .number)
     ∙ cases.commit-unlawful (a .count) (now (a .times)) (now (a .records)) (now (a .moments)) (now (a .left)) (next s)
     (now (a .last)) (now (a .file)) (now (a .state)) (same (e .before)) (none e) (put (fourth w .before))
@@ -204,7 +209,7 @@ done c =
     let a = s .args in
     let k = e .before .before in
     let r = cases.write-did (next s (at-fill w .fill .last .0)) (replicate stateLength 0)
-    (record { number = w .write .result; output = bytes w }) (w .write .ensures) (e5 .if5 .left) in
+    (record { number = w .write .result; output = bytes w }) (is-written w) (e5 .if5 .left) in
     let last-is = b .copy-block .ensures ∙ block-is (at-fill w) in
     let state-is = c .copy-state .ensures ∙ r .bytes
     ∙ ap (λ (x : List ℕ). stateBytes (next s x) 2) (block-is (at-fill w)) in

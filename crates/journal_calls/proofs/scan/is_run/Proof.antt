@@ -1,5 +1,5 @@
 -- `journal_calls::scan::is_run` meets its contract: each test is one of `isRun`.
-use borrow.Author.Needs.{needs}
+use mathlib.Core.Path.{_∙_}
 use Rattle.journal_calls.specs.Run.{runOf}
 use Rattle.journal_calls.proofs.Runs.{run-limit, run-place, run-many, run-dense}
 use Rattle.journal_calls.proofs.scan.is_run.Statement.{statement}
@@ -15,9 +15,9 @@ is-run-spec =
     let p = c .before in
     let e = p .before .before in
     run-many (runOf (e .before .args .r)) (e .if1 .left) (p .if2 .left) (c .if3 .taken))
-    (λ c. search needs)
+    (λ c κs. c .if3 .left)
     (λ c.
     let m = c .before in
     let p = m .before in
     let e = p .before .before in
-    run-dense (runOf (e .before .args .r)) (e .if1 .left) (p .if2 .left) (m .if3 .left)))
+    c .is-dense .ensures ∙ run-dense (runOf (e .before .args .r)) (e .if1 .left) (p .if2 .left) (m .if3 .left)))
