@@ -4,5 +4,6 @@ pub mod Newlines
 pub mod Restarts
 pub mod Runs
 pub mod Places
+pub mod Stops
 pub mod Outputs
 pub mod Closed

@@ -118,7 +118,7 @@ module _ (Is : Call → Type 0) (setting : ℕ) (p : Program (Phase Receiver)) (
   call-whole c k =
       fed-whole rowTimes (phase setting (c .after)) (phase setting (c .before)) (usedBy c) (one c k .times .state)
 
-  call-count : (c : Call) → Is c → linesBy c ≡ newlines (usedBy c)
+  pub call-count : (c : Call) → Is c → linesBy c ≡ newlines (usedBy c)
   call-count c k = one c k .ticks ∙ ticks-count (usedBy c) (atLineStart (phase setting (c .before)))
 
   walked : (log : List ℕ) (cs : List Call) (a : Arrays) {place lines end : ℕ} → place ≤ length log
@@ -153,10 +153,10 @@ module _ (Is : Call → Type 0) (setting : ℕ) (p : Program (Phase Receiver)) (
   run-whole (c ∷ cs) a r =
       whole-append (usedBy c) (usedIn cs) true (call-whole c (r .1)) (run-whole cs (c .after) (r .2))
 
-inside : (setting : ℕ) (c : Call) → Takes setting c → getD (c .done') 0 0 ≤ length (c .input)
+pub inside : (setting : ℕ) (c : Call) → Takes setting c → getD (c .done') 0 0 ≤ length (c .input)
 inside setting c k = k .taken refl .within
 
-inside-as : (setting format : ℕ) (c : Call) → TakesAs setting format c → getD (c .done') 0 0 ≤ length (c .input)
+pub inside-as : (setting format : ℕ) (c : Call) → TakesAs setting format c → getD (c .done') 0 0 ≤ length (c .input)
 inside-as setting format c k = k .taken refl .within
 
 pub restarts-cover : RestartsCover

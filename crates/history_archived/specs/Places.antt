@@ -13,7 +13,7 @@ use Rattle.text_program.specs.Buffer.{isUnended}
 use Rattle.text_collect.specs.Session.{longestLine}
 use Rattle.text_collect.specs.Formats.{longestLineIn}
 use Rattle.text_collect.specs.Heard.{hasRoom}
-use Rattle.c_collector.specs.State.{Arrays}
+use Rattle.c_collector.specs.State.{Arrays, stateAt}
 use Rattle.c_lines.specs.Calls.{ReadLine, Skipped}
 use Rattle.history_archived.specs.Runs.{Call, linesBy, Takes, TakesAs, OfBoth, GoesOn, IsRun, usedIn, linesIn}
 
@@ -65,6 +65,22 @@ pub record SkipsAsTaken : Type 0 where
   pub linesAs : (setting format : ℕ) (c : Call) (done' : List ℕ) → TakesAs setting format c → HasRoom longestLineIn c
       → hasRoom (length (c .closed)) (getD (c .done') 4 0) ≡ true
       → Skipped (c .input) (c .most) done' → done' ≡ getD (c .done') 0 0 ∷ linesBy c ∷ []
+
+-- two calls on the same state, with the same text and limit, and outputs of the same lengths
+pub record Alike (c d : Call) : Type 0 where
+  pub state : stateAt (c .before) ≡ stateAt (d .before)
+  pub input : c .input ≡ d .input
+  pub most : c .most ≡ d .most
+  pub text : length (c .out) ≡ length (d .out)
+  pub rows : length (c .moments) ≡ length (d .moments)
+  pub closings : length (c .closed) ≡ length (d .closed)
+
+-- They take the same lines, so that what they are lent decides where they stop
+abbrev pub TakenAlike : (Call → Type 0) → Type 0
+TakenAlike Is = (c d : Call) → Is c → Is d → Alike c d → getD (c .done') 0 0 ≡ getD (d .done') 0 0
+
+abbrev pub StopsDecided : Type 0
+StopsDecided = OfBoth TakenAlike
 
 -- ---- line by line
 

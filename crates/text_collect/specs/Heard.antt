@@ -17,6 +17,7 @@ use Rattle.text_collect.specs.Printed.{receptionAt}
 use Rattle.text_collect.specs.Session.{Receiver, modelCollector}
 use Rattle.text_collect.specs.Rows.{rowTimes, rowRecords, lineTicks}
 use Rattle.text_collect.specs.Elements.{ElementsAfter}
+use Rattle.text_collect.specs.Stored.{givenBy, BeforeEach}
 use Rattle.text_collect.specs.Formats.{collectIn, longestLineIn}
 
 -- ---- what lines close, 32 bytes for each telegram
@@ -40,14 +41,23 @@ lineClosings asked = record { next = nextPhase modelCollector; text = λ s l. co
 abbrev pub isAsked : List ℕ → Bool
 isAsked closed = not (eqb (length closed) 0)
 
--- what one line more may close fits behind those that are there: 64 telegrams
+-- what one line more may close fits behind so many bytes: 64 telegrams
+abbrev pub hasRoomBehind : (long bytes : ℕ) → Bool
+hasRoomBehind long bytes = eqb long 0 || leb (bytes + 2048) long
+
 abbrev pub hasRoom : (long count : ℕ) → Bool
-hasRoom long count = eqb long 0 || leb (32 * count + 2048) long
+hasRoom long count = hasRoomBehind long (32 * count)
+
+-- behind a text there is a place for a row, room for the longest text of a line, and room for what it may close
+pub record RoomyIn (f : Format) (s : Phase Receiver) (out moments closed text : List ℕ) : Type 0 where
+  pub rows : givenBy rowTimes s text < length moments
+  pub chars : givenBy (collectIn f) s text + longestLineIn ≤ length out
+  pub closings : hasRoomBehind (length closed) (givenBy (lineClosings (isAsked closed)) s text) ≡ true
 
 -- Whole lines of the input, of `used` characters, were taken from phase s on to s', and from the collector's columns a on to
 -- a'. Their rows in the format stand at the front of the output, the times of the rows that an archive keeps, their records
--- and what the lines close at the front of the three other buffers; where fewer were taken than may be, though what a
--- further one gives would fit, no further line has ended.
+-- and what the lines close at the front of the three other buffers. Before each line there was room; where fewer were taken
+-- than may be, though there is room for a further one, no further line has ended.
 pub record HeardIn (f : Format) (s : Phase Receiver) (a : Columns) (input : List ℕ) (most : ℕ)
     (out moments rows closed out' moments' rows' closed' : List ℕ) (s' : Phase Receiver) (a' : Columns)
     (used written count lines closings : ℕ) : Type 0 where
@@ -59,5 +69,6 @@ pub record HeardIn (f : Format) (s : Phase Receiver) (a : Columns) (input : List
   pub closes : Fed (lineClosings (isAsked closed)) s (take used input) closed s' closed' (32 * closings)
   pub ticks : lines ≡ length (feedText lineTicks lineLimit (atLineStart s) (take used input))
   pub few : lines ≤ most
+  pub due : BeforeEach (RoomyIn f s out moments closed) s input used
   pub rest : lines < most → count < length moments → written + longestLineIn ≤ length out
       → hasRoom (length closed) closings ≡ true → isUnended (drop used input) ≡ true

@@ -36,6 +36,7 @@ use Rattle.history_archived.proofs.Archived as history_archived
 use Rattle.history_archived.proofs.Runs as history_archived_runs
 use Rattle.history_archived.proofs.Closed as history_archived_closed
 use Rattle.history_archived.proofs.Places as history_archived_places
+use Rattle.history_archived.proofs.Stops as history_archived_stops
 use Rattle.history_archived.proofs.Outputs as history_archived_outputs
 use Rattle.history_log.proofs.Claims as history_log
 use Rattle.archive_model.proofs.Claims as archive_model_claims
@@ -173,6 +174,7 @@ lines = record {
   calls-lay-elements = history_archived_runs.calls-lay;
   format-calls-lay-elements = history_archived_runs.calls-lay-as;
   skipped-as-taken = history_archived_places.skips-as-taken;
+  stops-are-decided = history_archived_stops.stops-decided;
   read-as-taken = history_archived_places.reads-agree;
   unended-is-not-read = history_archived_places.none-read;
   outputs-stay = history_archived_outputs.outputs-stay;

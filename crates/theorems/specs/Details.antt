@@ -226,6 +226,8 @@ pub record Lines : Type 1 where
   pub format-calls-lay-elements : history_archived_runs.CallsLayAs
   -- Of the same text, `skip_lines` passes over just the lines that `lines` or `lines_as` takes, if these leave room for a further row.
   pub skipped-as-taken : history_archived_places.SkipsAsTaken
+  -- The state, the text, the limit and the lengths of the outputs decide how many lines a call of `lines` or `lines_as` takes.
+  pub stops-are-decided : history_archived_places.StopsDecided
   -- Called line by line, `read_line` says of each line what `lines` and `lines_as` took of it.
   pub read-as-taken : history_archived_places.ReadsAgree
   -- If `read_line` answers 4, no line has ended.

@@ -30,14 +30,17 @@ use Rattle.text_program.proofs.Segments.{open-whole}
 use Rattle.text_program.proofs.Limit.{bounded}
 use Rattle.text_collect.proofs.Storing.{printed-none, bad-text, said-text, said-padded}
 use Rattle.text_collect.proofs.Turns.{Taken, none-taken, bad-taken, said-taken}
-use Rattle.text_collect.specs.Session.{modelCollector}
+use Rattle.text_collect.specs.Session.{modelCollector, runningAt}
+use Rattle.text_collect.specs.Stored.{Roomy}
 use Rattle.text_collect.proofs.Taking.{lineAt, time-room, time-short, time-text, relayed-bytes}
 use Rattle.text_collect.proofs.take_rows.Statement.{statement}
 use Rattle.text_collect.proofs.take_rows.Tie as tie
 
 abbrev Inv-loop : tie.InvT-loop
 Inv-loop fit setting times₀ lens₀ entries₀ copies₀ input most out₀ moments₀ rows₀ summary₀ bytes₀ at₀ to₀ n₀ left₀ times lens entries copies out moments rows summary bytes at to n left =
-    Taken (collect modelCollector) false fit setting input most
+    Taken (collect modelCollector)
+    (Roomy (runningAt setting (viewIn (columns times₀ lens₀ entries₀ copies₀) summary₀)) out₀ moments₀)
+    false fit setting input most
     (viewIn (columns times₀ lens₀ entries₀ copies₀) summary₀) (columns times₀ lens₀ entries₀ copies₀)
     out₀ moments₀ rows₀ []
     (viewIn (columns times lens entries copies) summary) (columns times lens entries copies)
@@ -101,7 +104,15 @@ loop-again c =
     let b = said-bad _ (answer (read e)) (e .if3 .left) (not-true _ (i .if4 .taken)) in
     let test = read e .before .before .before .before .before .loop-test .taken in
     let w = if-fits (omega arith) (q .put-bad .ensures) in
-    bad-taken (collect modelCollector) (bounded modelCollector) false (λ s x. refl) (input l) (l .loop .inv) (read e .parse .result .used) (ended e) (some (read e)) b (bad-text _ _ b) w
+    let inv = l .loop .inv in
+    let free = read e .before .before .before .if2 .left in
+    bad-taken (collect modelCollector) (bounded modelCollector) false (λ s x. refl) (input l) inv
+    (read e .parse .result .used) (ended e) (some (read e))
+    (record {
+      rows = omega (arith, inv .times .output .next, inv .same-moments, free);
+      chars = omega (arith, inv .fed .output .next, inv .long, inv .room, test);
+    })
+    b (bad-text _ _ b) w
     (omega (arith, w .short, test))
 
 -- ---- a reception
@@ -207,11 +218,19 @@ loop-again-2 c =
     let spare-out = parsed i .before .before .before .before .before .loop-test .taken in
     let x = admittedOf (columns (a .admit .last .1 .0) (a .admit .last .1 .1 .0) (a .admit .last .1 .1 .1 .0) (a .admit .last .1 .1 .1 .1 .0)) (a .admit .result) in
     let r : Reception = record { bytes = bytes i; time = parsed i .parse .result .time } in
-    said-taken (collect modelCollector) (bounded modelCollector) false (λ s y. refl) (input l) (l .loop .inv) (parsed i .parse .result .used) (ended (passed i)) (some (parsed i)) x (says i) o
+    let inv = l .loop .inv in
+    let free = parsed i .before .before .before .if2 .left in
+    said-taken (collect modelCollector) (bounded modelCollector) false (λ s y. refl) (input l) inv
+    (parsed i .parse .result .used) (ended (passed i)) (some (parsed i))
+    (record {
+      rows = omega (arith, inv .times .output .next, inv .same-moments, free);
+      chars = omega (arith, inv .fed .output .next, inv .long, inv .room, spare-out);
+    })
+    x (says i) o
     (rw z at (a .admit .ensures .elements) ∙ columns-fit _ r _ _ (l .loop .inv .tested .said))
     (rw (← o) at (tested-next _ r (l .loop .inv .tested) small))
     (said-text _ _ x (says i) o (time g) (relayed-bytes _ _ _ r _ (ap (λ (y : Outcome). y .answer) (rw z at (a .admit .ensures .outcome))))) w
-    (omega (arith, w .short, spare-out)) (parsed i .before .before .before .if2 .left) (d .0) (d .1) (printed-none [] 0 2048) (omega arith)
+    (omega (arith, w .short, spare-out)) free (d .0) (d .1) (printed-none [] 0 2048) (omega arith)
 
 store-row-requires : tie.Need-store-row-requires Inv-loop μ-loop
 store-row-requires c κs =
@@ -256,6 +275,7 @@ returns c =
       records = l .records;
       ticks = l .ticks .output .next ∙ zero-add _;
       few = omega arith;
+      due = l .due;
       rest = λ x y z. ended-there c x y z;
     }
 

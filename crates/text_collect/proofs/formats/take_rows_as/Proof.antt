@@ -29,11 +29,13 @@ use Rattle.text_program.proofs.Segments.{open-whole}
 use Rattle.text_collect.specs.Printed.{printedRow, receptionAt}
 use Rattle.collector_closings.specs.Cells.{closedCells}
 use Rattle.text_collect.specs.Formats.{sourceOf, collectIn}
-use Rattle.text_collect.specs.Heard.{isAsked, hasRoom}
+use Rattle.text_collect.specs.Heard.{isAsked, hasRoom, RoomyIn}
+use Rattle.text_collect.specs.Session.{runningAt}
 use Rattle.text_collect.proofs.Storing.{said-padded}
 use Rattle.text_collect.proofs.Taking.{lineAt, time-room, time-short, time-text, relayed-bytes}
 use Rattle.text_collect.proofs.Formatting.{format-bounded, bad-text, said-text}
-use Rattle.text_collect.proofs.Turns.{Taken, none-taken, bad-taken, said-taken, room-left, asked-same}
+use Rattle.text_collect.proofs.Turns.{Taken, none-taken, bad-taken, said-taken, room-left, room-there}
+use Rattle.text_collect.proofs.Turns.{asked-same}
 use borrow.Author.Needs.{needs}
 use Rattle.text_collect.proofs.formats.take_rows_as.Statement.{statement}
 use Rattle.text_collect.proofs.formats.take_rows_as.Tie as tie
@@ -41,7 +43,9 @@ use Rattle.text_collect.proofs.formats.take_rows_as.Tie as tie
 abbrev Inv-loop : tie.InvT-loop
 Inv-loop fit setting format times₀ lens₀ entries₀ copies₀ input most out₀ moments₀ rows₀ closed₀ summary₀ bytes₀ at₀ to₀ n₀
     k₀ left₀ times lens entries copies out moments rows closed summary bytes at to n k left =
-    Taken (collectIn format) (isAsked closed₀) fit setting input most
+    Taken (collectIn format)
+    (RoomyIn format (runningAt setting (viewIn (columns times₀ lens₀ entries₀ copies₀) summary₀)) out₀ moments₀ closed₀)
+    (isAsked closed₀) fit setting input most
     (viewIn (columns times₀ lens₀ entries₀ copies₀) summary₀) (columns times₀ lens₀ entries₀ copies₀)
     out₀ moments₀ rows₀ closed₀
     (viewIn (columns times lens entries copies) summary) (columns times lens entries copies)
@@ -143,7 +147,13 @@ loop-again c =
     let test = free p .before .before .loop-test .taken in
     let w = if-fits (omega arith) (q .put-bad .ensures) in
     bad-taken (collectIn (format l)) (format-bounded (format l)) (asked l) (λ s x. refl) (input l) (l .loop .inv)
-    (p .parse .result .used) (ended e) (some p) b (bad-text (format l) _ _ b) w (omega (arith, w .short, test))
+    (p .parse .result .used) (ended e) (some p)
+    (record {
+      rows = omega (arith, l .loop .inv .times .output .next, l .loop .inv .same-moments, free p .if2 .left);
+      chars = omega (arith, l .loop .inv .fed .output .next, l .loop .inv .long, l .loop .inv .room, test);
+      closings = room-there (l .loop .k) (l .loop .inv .closes) (l .loop .inv .same-closed) (fitting p);
+    })
+    b (bad-text (format l) _ _ b) w (omega (arith, w .short, test))
 
 -- ---- a reception
 
@@ -326,7 +336,13 @@ loop-again-2 c =
     let inv = l .loop .inv in
     let left = room-left (l .loop .k) (closer a .put-closed .result) (cells (r .len - 0)) (fitting p) (inv .spare) closes in
     said-taken (collectIn (format l)) (format-bounded (format l)) (asked l) (λ s y. refl) (input l) inv (r .used)
-    (ended (passed i)) (some p) next (says i) o elements
+    (ended (passed i)) (some p)
+    (record {
+      rows = omega (arith, inv .times .output .next, inv .same-moments, free p .if2 .left);
+      chars = omega (arith, inv .fed .output .next, inv .long, inv .room, test);
+      closings = room-there (l .loop .k) (inv .closes) (inv .same-closed) (fitting p);
+    })
+    next (says i) o elements
     (rw (← o) at (tested-next _ x (inv .tested) (small (passed i .before))))
     text w (omega (arith, w .short, test))
     (omega (arith, free p .if2 .left)) (g .store-row .ensures .0) (g .store-row .ensures .1)
@@ -365,6 +381,7 @@ returns c =
       closes = l .closes;
       ticks = l .ticks .output .next ∙ zero-add _;
       few = omega arith;
+      due = l .due;
       rest = λ x y z r. ended-there c x y z r;
     }
 
