@@ -19,11 +19,14 @@ pub used-is : (cell : List ℕ) → length (cellBytes cell) ≡ cellUsed cell
 unfolding cellBytes
 used-is cell = resized-length (cellUsed cell) (cellField cell)
 
-pub bytes-shown : (cell : List ℕ) (len : ℕ) → length cell ≡ cellLength → len ≡ cellUsed cell → len ≤ cellCapacity → part 9 (9 + len - 9) cell ≡ cellBytes cell
+pub bytes-shown : (cell : List ℕ) (len : ℕ) → length cell ≡ cellLength
+    → len ≡ cellUsed cell → len ≤ cellCapacity → part 9 (9 + len - 9) cell ≡ cellBytes cell
 unfolding cellBytes
 bytes-shown cell len l e h =
     let k : 9 + len - 9 ≡ len = omega arith in
-    rw (k, ← e) (sym (take-take len cellCapacity _ h) ∙ sym (resized-cut len (cellField cell) (omega (arith, part-length 9 cellCapacity cell (omega arith)))))
+    rw (k, ← e)
+    (sym (take-take len cellCapacity _ h)
+    ∙ sym (resized-cut len (cellField cell) (omega (arith, part-length 9 cellCapacity cell (omega arith)))))
 
 pub long-row : (cell : List ℕ) → cellCapacity < cellUsed cell → false ≡ isRow (rowIn cell)
 long-row cell h = sym (not-valid (cellBytes cell) Length (check-long (cellBytes cell) (omega (arith, used-is cell))))

@@ -17,7 +17,8 @@ use Rattle.archive_model.specs.Buffer.{maxRows}
 use Rattle.archive_model.specs.Append.{refusedAppend, stored, isNext, putRow, putRowOf}
 
 -- what `is_next` says of the bytes of a block
-pub next-told : (n : ℕ) (block : List ℕ) {b : Bool} → length block ≡ blockLength → eqb (length block) blockLength && isNext n block ≡ b
+pub next-told : (n : ℕ) (block : List ℕ) {b : Bool} → length block ≡ blockLength
+    → eqb (length block) blockLength && isNext n block ≡ b
     → isNext n block ≡ b
 next-told n block h e = rw (eq-eqb (length block) blockLength h) at e
 
@@ -32,15 +33,19 @@ module _ (block : List ℕ) (n : ℕ) (r : Row) where
     put-far h = rw (eq-eqb (length block) blockLength long, le-ltb n maxRows h)
 
     module _ (near : n < maxRows) where
-      pub put-other : isNext n block ≡ false → refusedAppend (numberOf Mismatch) (n / cellsPerBlock) block ≡ putRowOf block n r
+      pub put-other : isNext n block ≡ false
+          → refusedAppend (numberOf Mismatch) (n / cellsPerBlock) block ≡ putRowOf block n r
       unfolding putRowOf
       put-other h = rw (eq-eqb (length block) blockLength long, lt-ltb n maxRows near, h)
 
       module _ (next : isNext n block ≡ true) where
-        pub put-invalid : (why : Refusal) → numberOf why ≡ checkOf (r .bytes) → refusedAppend (numberOf why) 0 block ≡ putRowOf block n r
+        pub put-invalid : (why : Refusal) → numberOf why ≡ checkOf (r .bytes)
+            → refusedAppend (numberOf why) 0 block ≡ putRowOf block n r
         unfolding putRowOf
-        put-invalid why e = rw (eq-eqb (length block) blockLength long, lt-ltb n maxRows near, next, not-valid (r .bytes) why e, e)
+        put-invalid why e =
+            rw (eq-eqb (length block) blockLength long, lt-ltb n maxRows near, next, not-valid (r .bytes) why e, e)
 
         pub put-done : checkOf (r .bytes) ≡ 0 → stored (putRow n r block) ≡ putRowOf block n r
         unfolding putRowOf
-        put-done e = rw (eq-eqb (length block) blockLength long, lt-ltb n maxRows near, next, eq-eqb (checkOf (r .bytes)) 0 e)
+        put-done e =
+            rw (eq-eqb (length block) blockLength long, lt-ltb n maxRows near, next, eq-eqb (checkOf (r .bytes)) 0 e)

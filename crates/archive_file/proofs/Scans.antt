@@ -27,14 +27,19 @@ module _ (block : List ℕ) where
   few : isSound block ≡ true → (1 ≤ rowCount block) × (rowCount block ≤ cellsPerBlock)
   unfolding isSound
   few h =
-      let a = both (leb 1 (rowCount block)) _ h in
-      (leb-true 1 (rowCount block) (a .0), leb-true (rowCount block) cellsPerBlock (both (leb (rowCount block) cellsPerBlock) _ (a .1) .0))
+      let a = both (leb 1 (rowCount block)) _ h in (
+        leb-true 1 (rowCount block) (a .0),
+        leb-true (rowCount block) cellsPerBlock (both (leb (rowCount block) cellsPerBlock) _ (a .1) .0),
+      )
 
   pub sound-le : soundCount block ≤ cellsPerBlock
-  sound-le = by-test {X = soundCount block ≤ cellsPerBlock} (isSound block) (λ t. rw t (few t .1)) (λ f. rw f (omega arith))
+  sound-le =
+      by-test {X = soundCount block ≤ cellsPerBlock} (isSound block) (λ t. rw t (few t .1)) (λ f. rw f (omega arith))
 
   none-sound : soundCount block ≡ 0 → isSound block ≡ false
-  none-sound h = by-test {X = isSound block ≡ false} (isSound block) (λ t. absurd (let e : rowCount block ≡ 0 = rw t at h in omega (arith, few t .0))) (λ f. f)
+  none-sound h =
+      by-test {X = isSound block ≡ false} (isSound block)
+      (λ t. absurd (let e : rowCount block ≡ 0 = rw t at h in omega (arith, few t .0))) (λ f. f)
 
   some-sound : (soundCount block ≡ 0 → ⊥) → isSound block ≡ true
   some-sound n = by-test {X = isSound block ≡ true} (isSound block) (λ t. t) (λ f. absurd (n (rw f refl)))
@@ -58,21 +63,33 @@ module _ (block : List ℕ) where
         rows-are = rw (some-sound some)
 
         pub stage-short : soundCount block < cellsPerBlock → Short ≡ stageAfter Filling k block
-        stage-short h = rw (some-sound some, eq-eqb (blockNumber block) k e, lt-ltb (rowCount block) cellsPerBlock (omega (arith, rows-are)))
+        stage-short h =
+            rw (
+              some-sound some,
+              eq-eqb (blockNumber block) k e,
+              lt-ltb (rowCount block) cellsPerBlock (omega (arith, rows-are)),
+            )
 
         pub stage-full : cellsPerBlock ≤ soundCount block → Filling ≡ stageAfter Filling k block
-        stage-full h = rw (some-sound some, eq-eqb (blockNumber block) k e, le-ltb (rowCount block) cellsPerBlock (omega (arith, rows-are)))
+        stage-full h =
+            rw (
+              some-sound some,
+              eq-eqb (blockNumber block) k e,
+              le-ltb (rowCount block) cellsPerBlock (omega (arith, rows-are)),
+            )
 
   -- ---- one block more
 
   module _ (s : Scan) (stage : Stage) where
-    pub scanned-blank : isBlank block ≡ true → stage ≡ stageBlank (s .stage) → record { blocks = s .blocks + 1; rows = s .rows; stage = stage } ≡ scanBlock s block
+    pub scanned-blank : isBlank block ≡ true → stage ≡ stageBlank (s .stage)
+        → record { blocks = s .blocks + 1; rows = s .rows; stage = stage } ≡ scanBlock s block
     unfolding scanBlock
     scanned-blank h e =
         let z : s .rows ≡ s .rows + soundCount block = omega (arith, blank-none h) in
         rw (h, ← e) (λ j. record { blocks = s .blocks + 1; rows = z j; stage = stage })
 
-    pub scanned : isBlank block ≡ false → stage ≡ stageAfter (s .stage) (s .blocks) block → (used : ℕ) → used ≡ soundCount block
+    pub scanned : isBlank block ≡ false → stage ≡ stageAfter (s .stage) (s .blocks) block
+        → (used : ℕ) → used ≡ soundCount block
         → record { blocks = s .blocks + 1; rows = s .rows + used; stage = stage } ≡ scanBlock s block
     unfolding scanBlock
     scanned h e used u = rw (h, e, u)
@@ -95,7 +112,9 @@ module _ (piece : List ℕ) where
       rw z
 
   pub rest-next : (s : Scan) (n i : ℕ) → i < n
-      → scanBlocks s (blocksFrom piece i (n - i)) ≡ scanBlocks (scanBlock s (part (blockLength * i) blockLength piece)) (blocksFrom piece (i + 1) (n - (i + 1)))
+      → scanBlocks s (blocksFrom piece i (n - i))
+      ≡ scanBlocks (scanBlock s (part (blockLength * i) blockLength piece))
+      (blocksFrom piece (i + 1) (n - (i + 1)))
   unfolding blocksFrom upFrom scanBlocks
   rest-next s n i h =
       let e : n - i ≡ suc (n - (i + 1)) = omega arith in

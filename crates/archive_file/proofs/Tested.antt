@@ -40,7 +40,8 @@ use Rattle.archive_file.specs.Private.{isWritten, cellsFrom}
 use Rattle.archive_file.proofs.Cells.{bytes-shown, long-row, used-is}
 
 not-equal : (xs ys : List ℕ) → (xs ≡ ys → ⊥) → equal xs ys ≡ false
-not-equal xs ys n = by-test {X = equal xs ys ≡ false} (equal xs ys) (λ t. absurd (n (equal-eq xs ys (rw t tt)))) (λ f. f)
+not-equal xs ys n =
+    by-test {X = equal xs ys ≡ false} (equal xs ys) (λ t. absurd (n (equal-eq xs ys (rw t tt)))) (λ f. f)
 
 and-false : (a : Bool) {b : Bool} → b ≡ false → false ≡ a && b
 and-false true e = sym e
@@ -51,10 +52,12 @@ zeros-blank zero = refl
 zeros-blank (suc n) = zeros-blank n
 
 -- a test passes for numbers in a row
-all-up : {A : Type 0} (p : A → Bool) (f : ℕ → A) (a n : ℕ) → ((i : ℕ) → a ≤ i → i < a + n → p (f i) ≡ true) → all p (map f (upFrom a n)) ≡ true
+all-up : {A : Type 0} (p : A → Bool) (f : ℕ → A) (a n : ℕ)
+    → ((i : ℕ) → a ≤ i → i < a + n → p (f i) ≡ true) → all p (map f (upFrom a n)) ≡ true
 unfolding upFrom
 all-up p f a zero h = refl
-all-up p f a (suc n) h = and-true (h a (omega arith) (omega arith)) (all-up p f (suc a) n (λ i k l. h i (omega arith) (omega arith)))
+all-up p f a (suc n) h =
+    and-true (h a (omega arith) (omega arith)) (all-up p f (suc a) n (λ i k l. h i (omega arith) (omega arith)))
 
 -- ---- one cell
 
@@ -89,7 +92,8 @@ module _ (cell : List ℕ) where
         let e : cellCapacity ≡ len + (30 - (9 + len)) = omega arith in
         let d : 9 + len - 9 ≡ len = omega arith in
         ap (λ (n : ℕ). take n (drop 9 cell)) e ∙ take-add len (30 - (9 + len)) (drop 9 cell)
-        ∙ ap₂ _++_ (ap (λ (n : ℕ). part 9 n cell) (sym d) ∙ bytes-shown cell len l refl short) (ap (take (30 - (9 + len))) (drop-drop len 9 cell))
+        ∙ ap₂ _++_ (ap (λ (n : ℕ). part 9 n cell) (sym d) ∙ bytes-shown cell len l refl short)
+        (ap (take (30 - (9 + len))) (drop-drop len 9 cell))
 
     bytes-short : length (cellBytes cell) ≤ cellCapacity
     bytes-short = omega (arith, used-is cell)
@@ -97,43 +101,62 @@ module _ (cell : List ℕ) where
     zeros-are : rowCell (rowIn cell) ≡ cell → isBlank rest ≡ true
     zeros-are e =
         let bytes = cellBytes cell in
-        let f : bytes ++ rest ≡ padded cellCapacity bytes = sym field-split ∙ ap cellField (sym e) ∙ cell-field (cellTime cell) bytes (rowLast (rowIn cell .loose)) bytes-short in
+        let f : bytes ++ rest ≡ padded cellCapacity bytes =
+        sym field-split ∙ ap cellField (sym e)
+        ∙ cell-field (cellTime cell) bytes (rowLast (rowIn cell .loose)) bytes-short in
         let z : rest ≡ replicate (cellCapacity - length bytes) 0 =
-        sym (drop-at bytes rest len (used-is cell)) ∙ ap (drop len) f ∙ drop-at bytes (replicate (cellCapacity - length bytes) 0) len (used-is cell) in
+        sym (drop-at bytes rest len (used-is cell)) ∙ ap (drop len) f
+        ∙ drop-at bytes (replicate (cellCapacity - length bytes) 0) len (used-is cell) in
         ap isBlank z ∙ zeros-blank (cellCapacity - length bytes)
 
     last-is : rowCell (rowIn cell) ≡ cell → cellLast cell ≡ rowLast (rowIn cell .loose)
-    last-is e = ap cellLast (sym e) ∙ cell-last (cellTime cell) (cellBytes cell) (rowLast (rowIn cell .loose)) bytes-short (last-lt (rowIn cell .loose))
+    last-is e =
+        ap cellLast (sym e)
+        ∙ cell-last (cellTime cell) (cellBytes cell)
+        (rowLast (rowIn cell .loose)) bytes-short (last-lt (rowIn cell .loose))
 
     parts : take 8 cell ++ (len ∷ []) ++ cellField cell ++ part 30 2 cell ≡ cell
     parts =
         ap (λ (x : List ℕ). x ++ cellField cell ++ part 30 2 cell) (sym (take-suc cell 8 0 (omega arith)))
-        ∙ ap (λ (x : List ℕ). x ++ part 30 2 cell) (sym (take-add 9 cellCapacity cell)) ∙ sym (take-add 30 2 cell) ∙ take-all 32 cell (omega arith)
+        ∙ ap (λ (x : List ℕ). x ++ part 30 2 cell) (sym (take-add 9 cellCapacity cell))
+        ∙ sym (take-add 30 2 cell) ∙ take-all 32 cell (omega arith)
 
-    again : ((i : ℕ) → getD cell i 0 < 256) → isBlank rest ≡ true → cellLast cell ≡ rowLast (rowIn cell .loose) → rowCell (rowIn cell) ≡ cell
+    again : ((i : ℕ) → getD cell i 0 < 256) → isBlank rest ≡ true
+        → cellLast cell ≡ rowLast (rowIn cell .loose) → rowCell (rowIn cell) ≡ cell
     unfolding cellOf
     again small z e =
         let bytes = cellBytes cell in
-        let n : length rest ≡ cellCapacity - length bytes = part-length (9 + len) (30 - (9 + len)) cell (omega arith) ∙ omega (arith, used-is cell) in
-        let f : padded cellCapacity bytes ≡ cellField cell = ap (λ (x : List ℕ). bytes ++ x) (sym (zeros rest z ∙ ap (λ m. replicate m 0) n)) ∙ sym field-split in
+        let n : length rest ≡ cellCapacity - length bytes =
+        part-length (9 + len) (30 - (9 + len)) cell (omega arith) ∙ omega (arith, used-is cell) in
+        let f : padded cellCapacity bytes ≡ cellField cell =
+        ap (λ (x : List ℕ). bytes ++ x) (sym (zeros rest z ∙ ap (λ m. replicate m 0) n)) ∙ sym field-split in
         let t : be 8 (cellTime cell) ≡ take 8 cell = be-front 8 cell (omega arith) small in
         let w : be 2 (rowLast (rowIn cell .loose)) ≡ part 30 2 cell =
-        ap (be 2) (sym e) ∙ be-front 2 (drop 30 cell) (omega (arith, length-drop 30 cell)) (λ i. rw (getD-drop 30 cell i 0) (small (30 + i))) in
+        ap (be 2) (sym e)
+        ∙ be-front 2 (drop 30 cell) (omega (arith, length-drop 30 cell))
+        (λ i. rw (getD-drop 30 cell i 0) (small (30 + i))) in
         ap₂ (λ (x y : List ℕ). x ++ (length bytes ∷ []) ++ y ++ be 2 (rowLast (rowIn cell .loose))) t f
         ∙ ap₂ (λ (m : ℕ) (y : List ℕ). take 8 cell ++ (m ∷ []) ++ cellField cell ++ y) (used-is cell) w ∙ parts
 
     pub written-rest : isBlank rest ≡ false → false ≡ isWritten cell
     written-rest f =
-        and-false (isRow (rowIn cell)) (not-equal (rowCell (rowIn cell)) cell (λ e. let q : true ≡ false = sym (zeros-are e) ∙ f in let w : _≡_ {A = ℕ} 0 1 = cc in omega arith))
+        and-false (isRow (rowIn cell))
+        (not-equal (rowCell (rowIn cell)) cell
+        (λ e. let q : true ≡ false = sym (zeros-are e) ∙ f in let w : _≡_ {A = ℕ} 0 1 = cc in omega arith))
 
     pub written-last : not (eqb (cellLast cell) 0) && not (eqb (cellLast cell) 256) ≡ true → false ≡ isWritten cell
-    written-last h = and-false (isRow (rowIn cell)) (not-equal (rowCell (rowIn cell)) cell (λ e. last-bad (cellLast cell) h (rowIn cell .loose) (last-is e)))
+    written-last h =
+        and-false (isRow (rowIn cell))
+        (not-equal (rowCell (rowIn cell)) cell (λ e. last-bad (cellLast cell) h (rowIn cell .loose) (last-is e)))
 
-    pub written-row : ((i : ℕ) → getD cell i 0 < 256) → isBlank rest ≡ true → not (eqb (cellLast cell) 0) && not (eqb (cellLast cell) 256) ≡ false → isRow (rowIn cell) ≡ isWritten cell
+    pub written-row : ((i : ℕ) → getD cell i 0 < 256) → isBlank rest ≡ true
+        → not (eqb (cellLast cell) 0) && not (eqb (cellLast cell) 256) ≡ false → isRow (rowIn cell) ≡ isWritten cell
     written-row small z h =
         let e = again small z (last-ok (cellLast cell) h) in
         let t : equal (rowCell (rowIn cell)) cell ≡ true = ap (λ (x : List ℕ). equal x cell) e ∙ equal-refl cell in
-        sym (ap (λ (b : Bool). isRow (rowIn cell) && b) t ∙ by-test {X = isRow (rowIn cell) && true ≡ isRow (rowIn cell)} (isRow (rowIn cell)) (λ p. rw p) (λ p. rw p))
+        sym (ap (λ (b : Bool). isRow (rowIn cell) && b) t
+        ∙ by-test {X = isRow (rowIn cell) && true ≡ isRow (rowIn cell)}
+        (isRow (rowIn cell)) (λ p. rw p) (λ p. rw p))
 
 -- ---- the cells of a block
 
@@ -143,7 +166,9 @@ module _ (block : List ℕ) where
       let e : used - 0 ≡ used = omega arith in
       rw e
 
-  pub cells-next : (used i : ℕ) → i < used → all isWritten (cellsFrom block i (used - i)) ≡ isWritten (blockCell i block) && all isWritten (cellsFrom block (i + 1) (used - (i + 1)))
+  pub cells-next : (used i : ℕ) → i < used
+      → all isWritten (cellsFrom block i (used - i))
+      ≡ isWritten (blockCell i block) && all isWritten (cellsFrom block (i + 1) (used - (i + 1)))
   unfolding cellsFrom upFrom
   cells-next used i h =
       let e : used - i ≡ suc (used - (i + 1)) = omega arith in
@@ -200,7 +225,13 @@ module _ (b : List ℕ) where
     used-long : length (head ++ cells) ≡ headerLength + cellLength * rowCount b
     used-long =
         length-append head cells
-        ∙ omega (arith, header-length k (length rows), flatten-length cellLength (map rowCell rows) (each k rows (sound-shorts b s) (sound-few b s)), length-map rows rowCell, rows-count b)
+        ∙ omega (
+          arith,
+          header-length k (length rows),
+          flatten-length cellLength (map rowCell rows) (each k rows (sound-shorts b s) (sound-few b s)),
+          length-map rows rowCell,
+          rows-count b,
+        )
 
     few : rowCount b ≤ cellsPerBlock
     few = tests b s .1
@@ -212,20 +243,25 @@ module _ (b : List ℕ) where
     unfolding rowsBlock blockOf sealed
     block-is = refl
 
-    pub sound-zeros : isBlank (part (headerLength + cellLength * rowCount b) (bodyLength - (headerLength + cellLength * rowCount b)) b) ≡ true
+    pub sound-zeros : isBlank
+        (part (headerLength + cellLength * rowCount b) (bodyLength - (headerLength + cellLength * rowCount b)) b)
+        ≡ true
     sound-zeros =
         let a = headerLength + cellLength * rowCount b in
         let e : part a (bodyLength - a) b ≡ behind =
         ap (part a (bodyLength - a)) (sym (sound-is b s) ∙ block-is)
-        ∙ left (head ++ cells ++ behind) (crcOf (head ++ cells ++ behind) ∷ []) bodyLength a (bodyLength - a) body-long (omega (arith, few))
-        ∙ last (head ++ cells) behind a (bodyLength - a) used-long (length-replicate (bodyLength - length (head ++ cells)) 0 ∙ omega (arith, used-long)) in
+        ∙ left (head ++ cells ++ behind) (crcOf (head ++ cells ++ behind) ∷ []) bodyLength a
+        (bodyLength - a) body-long (omega (arith, few))
+        ∙ last (head ++ cells) behind a (bodyLength - a) used-long
+        (length-replicate (bodyLength - length (head ++ cells)) 0 ∙ omega (arith, used-long)) in
         ap isBlank e ∙ zeros-blank (bodyLength - length (head ++ cells))
 
     pub sound-crc : crcOf (part 0 bodyLength b) ≡ getD b bodyLength 0
     unfolding rowsBlock
     sound-crc =
         let c : getD (rowsBlock k rows) bodyLength 0 ≡ crcOf (take bodyLength (rowsBlock k rows)) =
-        block-crc head (map rowCell rows) (header-length k (length rows)) (each k rows (sound-shorts b s) (sound-few b s)) (omega (arith, length-map rows rowCell, sound-few b s)) in
+        block-crc head (map rowCell rows) (header-length k (length rows))
+        (each k rows (sound-shorts b s) (sound-few b s)) (omega (arith, length-map rows rowCell, sound-few b s)) in
         sym (rw (sound-is b s) at c)
 
     pub sound-cells : all isWritten (cellsFrom b 0 (rowCount b)) ≡ true
@@ -236,14 +272,18 @@ module _ (b : List ℕ) where
         at i h =
             let l : i < length (rowsOf b) = omega (arith, rows-count b) in
             let v : isRow (rowIn (blockCell i b)) ≡ true = ap isRow (sym (row-is b s i l)) ∙ valid-at b s i l in
-            let e : rowCell (rowIn (blockCell i b)) ≡ blockCell i b = ap rowCell (sym (row-is b s i l)) ∙ sym (cell-is b s i l) in
+            let e : rowCell (rowIn (blockCell i b)) ≡ blockCell i b =
+            ap rowCell (sym (row-is b s i l)) ∙ sym (cell-is b s i l) in
             and-true v (ap (λ (x : List ℕ). equal x (blockCell i b)) e ∙ equal-refl (blockCell i b))
 
 -- ---- and a block that passes is sound
 
-module _ (b : List ℕ) (l : length b ≡ blockLength) (small : (i : ℕ) → getD b i 0 < 256) (some : 1 ≤ rowCount b) (few : rowCount b ≤ cellsPerBlock)
+module _ (b : List ℕ) (l : length b ≡ blockLength) (small : (i : ℕ) → getD b i 0 < 256)
+    (some : 1 ≤ rowCount b) (few : rowCount b ≤ cellsPerBlock)
     (gap : isBlank (part 5 19 b) ≡ true) (ok : all isWritten (cellsFrom b 0 (rowCount b)) ≡ true)
-    (end : isBlank (part (headerLength + cellLength * rowCount b) (bodyLength - (headerLength + cellLength * rowCount b)) b) ≡ true)
+    (end : isBlank
+    (part (headerLength + cellLength * rowCount b) (bodyLength - (headerLength + cellLength * rowCount b)) b)
+    ≡ true)
     (crc : crcOf (part 0 bodyLength b) ≡ getD b bodyLength 0) where
   abbrev u : ℕ
   u = rowCount b
@@ -260,8 +300,11 @@ module _ (b : List ℕ) (l : length b ≡ blockLength) (small : (i : ℕ) → ge
   unfolding cellsFrom
   cell-ok i h =
       let c = blockCell i b in
-      let is : getD (cellsFrom b 0 u) i [] ≡ c = getD-upFrom (λ j. blockCell j b) 0 u i [] h ∙ ap (λ j. blockCell j b) (zero-add i) in
-      let p = both (isRow (rowIn c)) _ (ap isWritten (sym is) ∙ all-getD isWritten (cellsFrom b 0 u) i [] ok (omega (arith, cells-count))) in
+      let is : getD (cellsFrom b 0 u) i [] ≡ c =
+      getD-upFrom (λ j. blockCell j b) 0 u i [] h ∙ ap (λ j. blockCell j b) (zero-add i) in
+      let p =
+      both (isRow (rowIn c)) _
+      (ap isWritten (sym is) ∙ all-getD isWritten (cellsFrom b 0 u) i [] ok (omega (arith, cells-count))) in
       (p .0, equal-eq (rowCell (rowIn c)) c (rw (p .1) tt))
 
   all-rows : all isRow (rowsOf b) ≡ true
@@ -274,34 +317,43 @@ module _ (b : List ℕ) (l : length b ≡ blockLength) (small : (i : ℕ) → ge
   cells-are =
       ap flatten
       (map-map rowCell (λ i. rowIn (blockCell i b)) (upFrom 0 u)
-      ∙ map-same (λ i. rowCell (rowIn (blockCell i b))) (λ i. part (cellLength * i) cellLength (drop headerLength b)) 0 u
+      ∙ map-same (λ i. rowCell (rowIn (blockCell i b)))
+      (λ i. part (cellLength * i) cellLength (drop headerLength b)) 0 u
       (λ i p h. cell-ok i (omega arith) .1 ∙ ap (take cellLength) (sym (drop-drop (cellLength * i) headerLength b))))
       ∙ pieces cellLength (drop headerLength b) 0 u
 
   header-are : rowsHeader (blockNumber b) u ≡ take headerLength b
   header-are =
-      let z : replicate 19 0 ≡ part 5 19 b = sym (zeros (part 5 19 b) gap ∙ ap (λ n. replicate n 0) (part-length 5 19 b (omega arith))) in
+      let z : replicate 19 0 ≡ part 5 19 b =
+      sym (zeros (part 5 19 b) gap ∙ ap (λ n. replicate n 0) (part-length 5 19 b (omega arith))) in
       ap₂ (λ (x y : List ℕ). x ++ (u ∷ []) ++ y) (be-front 4 b (omega arith) small) z
       ∙ ap (λ (x : List ℕ). x ++ part 5 19 b) (sym (take-suc b 4 0 (omega arith))) ∙ sym (take-add 5 19 b)
 
-  body-are : padded bodyLength (rowsHeader (blockNumber b) (length (rowsOf b)) ++ flatten (map rowCell (rowsOf b))) ≡ take bodyLength b
+  body-are : padded bodyLength (rowsHeader (blockNumber b) (length (rowsOf b)) ++ flatten (map rowCell (rowsOf b)))
+      ≡ take bodyLength b
   body-are =
       let f : rowsHeader (blockNumber b) (length (rowsOf b)) ++ flatten (map rowCell (rowsOf b)) ≡ take at b =
-      ap₂ (λ (n : ℕ) (x : List ℕ). rowsHeader (blockNumber b) n ++ x) (rows-count b) cells-are ∙ ap (λ (x : List ℕ). x ++ part headerLength (cellLength * u) b) header-are
+      ap₂ (λ (n : ℕ) (x : List ℕ). rowsHeader (blockNumber b) n ++ x) (rows-count b) cells-are
+      ∙ ap (λ (x : List ℕ). x ++ part headerLength (cellLength * u) b) header-are
       ∙ sym (take-add headerLength (cellLength * u) b) in
       let n : length (take at b) ≡ at = part-length 0 at b (omega arith) in
-      let z : replicate (bodyLength - at) 0 ≡ part at (bodyLength - at) b = sym (zeros (part at (bodyLength - at) b) end ∙ ap (λ m. replicate m 0) (part-length at (bodyLength - at) b (omega arith))) in
+      let z : replicate (bodyLength - at) 0 ≡ part at (bodyLength - at) b =
+      sym (zeros (part at (bodyLength - at) b) end
+      ∙ ap (λ m. replicate m 0) (part-length at (bodyLength - at) b (omega arith))) in
       let e : at + (bodyLength - at) ≡ bodyLength = omega arith in
-      ap (padded bodyLength) f ∙ ap (λ (m : ℕ). take at b ++ replicate (bodyLength - m) 0) n ∙ ap (λ (x : List ℕ). take at b ++ x) z
+      ap (padded bodyLength) f ∙ ap (λ (m : ℕ). take at b ++ replicate (bodyLength - m) 0) n
+      ∙ ap (λ (x : List ℕ). take at b ++ x) z
       ∙ sym (take-add at (bodyLength - at) b) ∙ ap (λ (m : ℕ). take m b) e
 
   block-are : rowsBlock (blockNumber b) (rowsOf b) ≡ b
   unfolding rowsBlock blockOf sealed
   block-are =
-      ap sealed body-are ∙ ap (λ (c : ℕ). take bodyLength b ++ (c ∷ [])) crc ∙ sym (take-suc b bodyLength 0 (omega arith)) ∙ take-all blockLength b (omega arith)
+      ap sealed body-are ∙ ap (λ (c : ℕ). take bodyLength b ++ (c ∷ [])) crc
+      ∙ sym (take-suc b bodyLength 0 (omega arith)) ∙ take-all blockLength b (omega arith)
 
   pub tested : isSound b ≡ true
   unfolding isSound
   tested =
       and-true (le-leb 1 u some)
-      (and-true (le-leb u cellsPerBlock few) (and-true all-rows (ap (λ (x : List ℕ). equal x b) block-are ∙ equal-refl b)))
+      (and-true (le-leb u cellsPerBlock few)
+      (and-true all-rows (ap (λ (x : List ℕ). equal x b) block-are ∙ equal-refl b)))

@@ -53,9 +53,11 @@ module _ (block n times records : ℕ) where
               (λ t.
               let z : records % rowLength ≡ 0 = eqb-true (records % rowLength) 0 t in
               t ∙ sym (eq-eqb records (rowLength * times) (omega arith)))
-              (λ t. t ∙ sym (ne-eqb records (rowLength * times) (λ s. eqb-false (records % rowLength) 0 t (omega arith))))
+              (λ t. t
+              ∙ sym (ne-eqb records (rowLength * times) (λ s. eqb-false (records % rowLength) 0 t (omega arith))))
 
-  pub given-facts : isGiven block n times records ≡ true → (block ≡ blockLength) × (n < maxRows) × (records ≡ rowLength * times)
+  pub given-facts : isGiven block n times records ≡ true
+      → (block ≡ blockLength) × (n < maxRows) × (records ≡ rowLength * times)
   given-facts h =
       let a = both (eqb block blockLength) (ltb n maxRows && eqb records (rowLength * times)) h in
       let b = both (ltb n maxRows) (eqb records (rowLength * times)) (a .1) in
@@ -65,7 +67,8 @@ module _ (block n times records : ℕ) where
 
 module _ (rows : List Row) (i : ℕ) where
   module _ (h : i < length rows) where
-    pub check-next : isRow (getD rows i noRow) ≡ true → checkRows i (drop i rows) ≡ checkRows (i + 1) (drop (i + 1) rows)
+    pub check-next : isRow (getD rows i noRow) ≡ true
+        → checkRows i (drop i rows) ≡ checkRows (i + 1) (drop (i + 1) rows)
     unfolding checkRows
     check-next v = rw (drop-cons rows i noRow h, v, add-one i)
 
@@ -96,7 +99,8 @@ module _ (block : List ℕ) (n : ℕ) (times records : List ℕ) where
   abbrev rows : List Row
   rows = rowsGiven times records
 
-  pub put-size : isGiven (length block) n (length times) (length records) ≡ false → refusedAppend (numberOf Size) 0 block ≡ putRowsGiven block n times records
+  pub put-size : isGiven (length block) n (length times) (length records) ≡ false
+      → refusedAppend (numberOf Size) 0 block ≡ putRowsGiven block n times records
   unfolding putRowsGiven putRowsOf
   put-size h = go (eqb (length records) (rowLength * length times)) (eqb (length block) blockLength) (ltb n maxRows) h
     where
@@ -105,7 +109,8 @@ module _ (block : List ℕ) (n : ℕ) (times records : List ℕ) where
           ≡ cond (not c) (refusedAppend (numberOf Size) 0 block)
           (cond (not (a && b)) (refusedAppend (numberOf Size) 0 block)
           (cond (not (isNext n block)) (refusedAppend (numberOf Mismatch) (n / cellsPerBlock) block)
-          (cond (not (eqb (checkRows 0 rows .number) 0)) (refusedAppend (checkRows 0 rows .number) (checkRows 0 rows .position) block)
+          (cond (not (eqb (checkRows 0 rows .number) 0))
+          (refusedAppend (checkRows 0 rows .number) (checkRows 0 rows .position) block)
           (cond (ltb cellsPerBlock (n % cellsPerBlock + length rows)) (refusedAppend (numberOf ShortOutput) 0 block)
           (stored (putRows n rows block))))))
       go false a b e = refl
@@ -114,14 +119,21 @@ module _ (block : List ℕ) (n : ℕ) (times records : List ℕ) where
       go true true true e = absurd (false≢true (sym e))
 
   module _ (given : (length block ≡ blockLength) × (n < maxRows) × (length records ≡ rowLength * length times)) where
-    pub put-other : isNext n block ≡ false → refusedAppend (numberOf Mismatch) (n / cellsPerBlock) block ≡ putRowsGiven block n times records
+    pub put-other : isNext n block ≡ false
+        → refusedAppend (numberOf Mismatch) (n / cellsPerBlock) block ≡ putRowsGiven block n times records
     unfolding putRowsGiven putRowsOf
     put-other h =
-        rw (eq-eqb (length records) (rowLength * length times) (given .2), eq-eqb (length block) blockLength (given .0), lt-ltb n maxRows (given .1), h)
+        rw (
+          eq-eqb (length records) (rowLength * length times) (given .2),
+          eq-eqb (length block) blockLength (given .0),
+          lt-ltb n maxRows (given .1),
+          h,
+        )
 
     module _ (next : isNext n block ≡ true) where
       pub put-invalid : (checkRows 0 rows .number ≡ 0 → ⊥)
-          → refusedAppend (checkRows 0 rows .number) (checkRows 0 rows .position) block ≡ putRowsGiven block n times records
+          → refusedAppend (checkRows 0 rows .number) (checkRows 0 rows .position) block
+          ≡ putRowsGiven block n times records
       unfolding putRowsGiven putRowsOf
       put-invalid h =
           rw (
@@ -133,7 +145,8 @@ module _ (block : List ℕ) (n : ℕ) (times records : List ℕ) where
           )
 
       module _ (valid : checkRows 0 rows .number ≡ 0) where
-        pub put-many : cellsPerBlock < n % cellsPerBlock + length times → refusedAppend (numberOf ShortOutput) 0 block ≡ putRowsGiven block n times records
+        pub put-many : cellsPerBlock < n % cellsPerBlock + length times
+            → refusedAppend (numberOf ShortOutput) 0 block ≡ putRowsGiven block n times records
         unfolding putRowsGiven putRowsOf
         put-many h =
             rw (
@@ -146,7 +159,8 @@ module _ (block : List ℕ) (n : ℕ) (times records : List ℕ) where
               lt-ltb cellsPerBlock (n % cellsPerBlock + length times) h,
             )
 
-        pub put-done : n % cellsPerBlock + length times ≤ cellsPerBlock → stored (putRows n rows block) ≡ putRowsGiven block n times records
+        pub put-done : n % cellsPerBlock + length times ≤ cellsPerBlock
+            → stored (putRows n rows block) ≡ putRowsGiven block n times records
         unfolding putRowsGiven putRowsOf
         put-done h =
             rw (

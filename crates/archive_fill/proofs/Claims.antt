@@ -37,11 +37,13 @@ put-facts block n rows z =
     (ltb cellsPerBlock (n % cellsPerBlock + length rows)) refl refl refl refl
   where
     go : (size next valid many : Bool) → eqb (length block) blockLength && ltb n maxRows ≡ size → isNext n block ≡ next
-        → eqb (checkRows 0 rows .number) 0 ≡ valid → ltb cellsPerBlock (n % cellsPerBlock + length rows) ≡ many → Put block n rows
+        → eqb (checkRows 0 rows .number) 0 ≡ valid
+        → ltb cellsPerBlock (n % cellsPerBlock + length rows) ≡ many → Put block n rows
     go false next valid many a b c d = absurd (let q : 16 ≡ 0 = rw a at z in omega arith)
     go true false valid many a b c d = absurd (let q : 12 ≡ 0 = rw (a, b) at z in omega arith)
     go true true false many a b c d =
-        absurd (eqb-false (checkRows 0 rows .number) 0 c (let q : checkRows 0 rows .number ≡ 0 = rw (a, b, c) at z in q))
+        absurd (eqb-false (checkRows 0 rows .number) 0 c
+        (let q : checkRows 0 rows .number ≡ 0 = rw (a, b, c) at z in q))
     go true true true true a b c d = absurd (let q : 6 ≡ 0 = rw (a, b, c, d) at z in omega arith)
     go true true true false a b c d =
         let s = both (eqb (length block) blockLength) (ltb n maxRows) a in
@@ -55,8 +57,10 @@ put-facts block n rows z =
         }
 
 -- each row by itself, where its block says that it is next
-each : (block : List ℕ) (n : ℕ) (rows : List Row) → length block ≡ blockLength → (0 < length rows → (n < maxRows) × (isNext n block ≡ true))
-    → all isRow rows ≡ true → n % cellsPerBlock + length rows ≤ cellsPerBlock → oneByOne block n rows ≡ stored (putRows n rows block)
+each : (block : List ℕ) (n : ℕ) (rows : List Row) → length block ≡ blockLength
+    → (0 < length rows → (n < maxRows) × (isNext n block ≡ true))
+    → all isRow rows ≡ true → n % cellsPerBlock + length rows ≤ cellsPerBlock
+    → oneByOne block n rows ≡ stored (putRows n rows block)
 unfolding oneByOne putRows
 each block n [] long next valid few = refl
 each block n (r ∷ rows) long next valid few =

@@ -28,7 +28,11 @@ module _ (time : ℕ) (given : List ℕ) where
   pub short-given : isRow (rowGiven time given) ≡ true → getD given 1 0 ≤ maxLength
   short-given v =
       let valid = eqb-true (checkOf (rowGiven time given .bytes)) 0 v in
-      omega (arith, check-facts (rowGiven time given .bytes) valid .high, resized-length (getD given 1 0) (drop 2 given))
+      omega (
+        arith,
+        check-facts (rowGiven time given .bytes) valid .high,
+        resized-length (getD given 1 0) (drop 2 given),
+      )
 
   pub bytes-shown : (len : ℕ) → length given ≡ rowLength → len ≡ getD given 1 0 → len ≤ maxLength
       → part 2 (2 + len - 2) given ≡ rowGiven time given .bytes

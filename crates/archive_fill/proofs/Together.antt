@@ -30,11 +30,14 @@ use Rattle.archive_model.proofs.Blocks.{header-length}
 use Rattle.archive_fill.specs.Fill.{putRows}
 
 pub row-long : (r : Row) → isRow r ≡ true → length (rowCell r) ≡ cellLength
-row-long r v = cell-length (r .time) (r .bytes) (rowLast (r .loose)) (check-facts (r .bytes) (eqb-true (checkOf (r .bytes)) 0 v) .high)
+row-long r v =
+    cell-length (r .time) (r .bytes) (rowLast (r .loose))
+    (check-facts (r .bytes) (eqb-true (checkOf (r .bytes)) 0 v) .high)
 
 -- ---- one row
 
-module _ (n : ℕ) (r : Row) (block : List ℕ) (long : length block ≡ blockLength) (cell : length (rowCell r) ≡ cellLength) where
+module _ (n : ℕ) (r : Row) (block : List ℕ) (long : length block ≡ blockLength)
+    (cell : length (rowCell r) ≡ cellLength) where
   abbrev used : ℕ
   used = n % cellsPerBlock
 
@@ -64,7 +67,8 @@ module _ (n : ℕ) (r : Row) (block : List ℕ) (long : length block ≡ blockLe
   front-long = length-append (head ++ before) (rowCell r) ∙ omega (arith, head-long)
 
   body-long : length (front ++ behind) ≡ bodyLength
-  body-long = length-append front behind ∙ omega (arith, front-long, part-length end (bodyLength - end) block (omega arith))
+  body-long =
+      length-append front behind ∙ omega (arith, front-long, part-length end (bodyLength - end) block (omega arith))
 
   pub put-length : length (putRow n r block) ≡ blockLength
   unfolding putRow sealed
@@ -89,8 +93,10 @@ module _ (n : ℕ) (r : Row) (block : List ℕ) (long : length block ≡ blockLe
       let at = headerLength + cellLength * m in
       let w = bodyLength - at in
       let e : at ≡ end + (at - end) = omega arith in
-      in-body at w (omega arith) ∙ ap (λ (a : ℕ). part a w (front ++ behind)) e ∙ right front behind end (at - end) w front-long
-      ∙ part-take (at - end) w (bodyLength - end) (drop end block) (omega arith) ∙ ap (take w) (drop-drop (at - end) end block)
+      in-body at w (omega arith) ∙ ap (λ (a : ℕ). part a w (front ++ behind)) e
+      ∙ right front behind end (at - end) w front-long
+      ∙ part-take (at - end) w (bodyLength - end) (drop end block) (omega arith)
+      ∙ ap (take w) (drop-drop (at - end) end block)
       ∙ ap (λ (a : ℕ). part a w block) (sym e)
 
   -- the header as it stands
@@ -114,7 +120,8 @@ module _ (n : ℕ) (r : Row) (block : List ℕ) (long : length block ≡ blockLe
   count-is =
       let k = n / cellsPerBlock in
       sym (part-at 0 headerLength (putRow n r block) 4 0 (omega arith)) ∙ ap (λ (l : List ℕ). getD l 4 0) in-head
-      ∙ List·getD-append (be 4 k ++ ((used + 1) ∷ [])) (replicate 19 0) 0 4 (simp (length-append, be-length) (omega arith))
+      ∙ List·getD-append (be 4 k ++ ((used + 1) ∷ [])) (replicate 19 0) 0 4
+      (simp (length-append, be-length) (omega arith))
       ∙ getD-at (be 4 k) (used + 1) [] 0 4 (be-length 4 k)
 
   pub put-next : n < maxRows → used + 1 < cellsPerBlock → isNext (n + 1) (putRow n r block) ≡ true
@@ -148,8 +155,10 @@ one n r block =
     rw (append-nil (rowCell r), ← c)
 
 -- a row that is put, and then the others together
-more : (n : ℕ) (r : Row) (rows : List Row) (block : List ℕ) → length block ≡ blockLength → length (rowCell r) ≡ cellLength → 0 < length rows
-    → n % cellsPerBlock + length (r ∷ rows) ≤ cellsPerBlock → together (n + 1) rows (putRow n r block) ≡ together n (r ∷ rows) block
+more : (n : ℕ) (r : Row) (rows : List Row) (block : List ℕ)
+    → length block ≡ blockLength → length (rowCell r) ≡ cellLength → 0 < length rows
+    → n % cellsPerBlock + length (r ∷ rows) ≤ cellsPerBlock
+    → together (n + 1) rows (putRow n r block) ≡ together n (r ∷ rows) block
 unfolding together flatten
 more n r rows block long cell some few =
     let u = n % cellsPerBlock in
@@ -160,7 +169,8 @@ more n r rows block long cell some few =
     let c : m ≡ u + length (r ∷ rows) = omega arith in
     let cells = flatten (map rowCell rows) in
     let old = part headerLength (cellLength * u) block in
-    let rest : ℕ → List ℕ → List ℕ = λ w b. part (headerLength + cellLength * w) (bodyLength - (headerLength + cellLength * w)) b in
+    let rest : ℕ → List ℕ → List ℕ =
+    λ w b. part (headerLength + cellLength * w) (bodyLength - (headerLength + cellLength * w)) b in
     rw (e, q)
     (ap₂ (λ (x y : List ℕ). sealed (rowsHeader k m ++ x ++ cells ++ y)) (put-cells n r block long cell)
     (put-behind n r block long cell m (omega arith) (omega arith))
@@ -169,12 +179,14 @@ more n r rows block long cell some few =
     ∙ ap (λ (w : ℕ). sealed (rowsHeader k w ++ old ++ (rowCell r ++ cells) ++ rest w block)) c)
 
 pub put-together : (n : ℕ) (rows : List Row) (block : List ℕ) → length block ≡ blockLength → 0 < length rows
-    → n % cellsPerBlock + length rows ≤ cellsPerBlock → all isRow rows ≡ true → putRows n rows block ≡ together n rows block
+    → n % cellsPerBlock + length rows ≤ cellsPerBlock → all isRow rows ≡ true
+    → putRows n rows block ≡ together n rows block
 unfolding putRows
 put-together n [] block long some few valid = absurd (omega arith)
 put-together n (r ∷ []) block long some few valid = one n r block
 put-together n (r ∷ s ∷ rows) block long some few valid =
     let v = both (isRow r) (all isRow (s ∷ rows)) valid in
     let cell = row-long r (v .0) in
-    put-together (n + 1) (s ∷ rows) (putRow n r block) (put-length n r block long cell) (omega arith) (omega arith) (v .1)
+    put-together (n + 1) (s ∷ rows) (putRow n r block)
+    (put-length n r block long cell) (omega arith) (omega arith) (v .1)
     ∙ more n r (s ∷ rows) block long cell (omega arith) few

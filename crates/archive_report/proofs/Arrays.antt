@@ -17,12 +17,14 @@ use Rattle.archive_report.specs.Private.{SameBehind, Grows}
 use Rattle.archive_report.proofs.Windows.{lines-count, lines-next, lines-none}
 
 pub grows-none : (t : Tally) (xs : List ℕ) → t .count ≤ maxLines → Grows t t xs xs
-grows-none t xs f = record { few = f; before = λ e. e; count = λ e. omega arith; behind = λ e k h. refl; held = λ e. refl }
+grows-none t xs f =
+    record { few = f; before = λ e. e; count = λ e. omega arith; behind = λ e k h. refl; held = λ e. refl }
 
 no-lines : (xs ys : List ℕ) (n : ℕ) → n ≡ 0 → linesAt ys n ≡ linesAt xs n
 no-lines xs ys n z = ap (linesAt ys) z ∙ lines-none ys 0 ∙ sym (lines-none xs 0) ∙ ap (linesAt xs) (sym z)
 
-pub grows-over : (t r : Tally) (xs ys : List ℕ) → r .over ≡ true → r .count ≡ 0 → Grows t r xs ys × (r .over ≡ true → r .count ≡ 0)
+pub grows-over : (t r : Tally) (xs ys : List ℕ) → r .over ≡ true
+    → r .count ≡ 0 → Grows t r xs ys × (r .over ≡ true → r .count ≡ 0)
 grows-over t r xs ys o z = (
   record {
     few = omega arith;
@@ -34,7 +36,8 @@ grows-over t r xs ys o z = (
   λ e. z,
 )
 
-pub grows-then : (t u r : Tally) (xs ys zs : List ℕ) → Grows t u xs ys → Grows u r ys zs → (r .over ≡ true → r .count ≡ 0) → Grows t r xs zs
+pub grows-then : (t u r : Tally) (xs ys zs : List ℕ) → Grows t u xs ys
+    → Grows u r ys zs → (r .over ≡ true → r .count ≡ 0) → Grows t r xs zs
 grows-then t u r xs ys zs g h z = record {
   few = h .few;
   before = λ e. g .before (h .before e);
@@ -45,7 +48,9 @@ grows-then t u r xs ys zs g h z = record {
 
 -- five numbers of a list
 five : (xs : List ℕ) (at : ℕ) → at + lineLength ≤ length xs
-    → drop at xs ≡ getD xs at 0 ∷ getD xs (at + 1) 0 ∷ getD xs (at + 2) 0 ∷ getD xs (at + 3) 0 ∷ getD xs (at + 4) 0 ∷ drop (at + 5) xs
+    → drop at xs
+    ≡ getD xs at 0 ∷ getD xs (at + 1) 0 ∷ getD xs (at + 2) 0
+    ∷ getD xs (at + 3) 0 ∷ getD xs (at + 4) 0 ∷ drop (at + 5) xs
 five xs at h =
     let step : (n m : ℕ) → n < length xs → suc n ≡ m → drop n xs ≡ getD xs n 0 ∷ drop m xs =
     λ n m l e. drop-cons xs n 0 l ∙ ap (λ (k : ℕ). getD xs n 0 ∷ drop k xs) e in
@@ -58,7 +63,8 @@ five xs at h =
     (step (at + 3) (at + 4) (omega arith) (omega arith)
     ∙ ap (λ (l : List ℕ). getD xs (at + 3) 0 ∷ l) (step (at + 4) (at + 5) (omega arith) (omega arith)))))
 
-lines-are : (xs : List ℕ) (a n : ℕ) → lineLength * (a + n) ≤ length xs → drop (lineLength * a) xs ≡ linesNumbers (linesFrom xs a n) ++ drop (lineLength * (a + n)) xs
+lines-are : (xs : List ℕ) (a n : ℕ) → lineLength * (a + n) ≤ length xs
+    → drop (lineLength * a) xs ≡ linesNumbers (linesFrom xs a n) ++ drop (lineLength * (a + n)) xs
 unfolding linesNumbers
 lines-are xs a zero h =
     let e : lineLength * a ≡ lineLength * (a + 0) = omega arith in
@@ -68,19 +74,24 @@ lines-are xs a (suc n) h =
     let f : lineLength * (suc a + n) ≡ lineLength * (a + suc n) = omega arith in
     five xs (lineLength * a) (omega arith)
     ∙ ap (λ (l : List ℕ). lineNumbers (lineAt xs a) ++ l)
-    (ap (λ (m : ℕ). drop m xs) e ∙ lines-are xs (suc a) n (omega arith) ∙ ap (λ (m : ℕ). linesNumbers (linesFrom xs (suc a) n) ++ drop m xs) f)
+    (ap (λ (m : ℕ). drop m xs) e ∙ lines-are xs (suc a) n (omega arith)
+    ∙ ap (λ (m : ℕ). linesNumbers (linesFrom xs (suc a) n) ++ drop m xs) f)
     ∙ ap (λ l. linesNumbers l ++ drop (lineLength * (a + suc n)) xs) (sym (lines-next xs a n))
 
-pub written-is : (xs old : List ℕ) (n : ℕ) → length xs ≡ length old → lineLength * n ≤ length xs → SameBehind (lineLength * n) old xs
+pub written-is : (xs old : List ℕ) (n : ℕ) → length xs ≡ length old
+    → lineLength * n ≤ length xs → SameBehind (lineLength * n) old xs
     → xs ≡ written (linesAt xs n) old
 unfolding written
 written-is xs old n l h b =
     let z : 0 + n ≡ n = omega arith in
     let same : drop (lineLength * n) xs ≡ drop (lineLength * n) old =
-    ext-getD 0 (drop (lineLength * n) xs) (drop (lineLength * n) old) (omega (arith, length-drop (lineLength * n) xs, length-drop (lineLength * n) old, l))
-    (λ i k. getD-drop (lineLength * n) xs i 0 ∙ b (lineLength * n + i) (omega arith) ∙ sym (getD-drop (lineLength * n) old i 0)) in
+    ext-getD 0 (drop (lineLength * n) xs) (drop (lineLength * n) old)
+    (omega (arith, length-drop (lineLength * n) xs, length-drop (lineLength * n) old, l))
+    (λ i k. getD-drop (lineLength * n) xs i 0 ∙ b (lineLength * n + i) (omega arith)
+    ∙ sym (getD-drop (lineLength * n) old i 0)) in
     lines-are xs 0 n (omega arith) ∙ ap (λ (m : ℕ). linesNumbers (linesAt xs n) ++ drop (lineLength * m) xs) z
-    ∙ ap (λ (l : List ℕ). linesNumbers (linesAt xs n) ++ l) (same ∙ ap (λ (m : ℕ). drop (lineLength * m) old) (sym (lines-count xs 0 n)))
+    ∙ ap (λ (l : List ℕ). linesNumbers (linesAt xs n) ++ l)
+    (same ∙ ap (λ (m : ℕ). drop (lineLength * m) old) (sym (lines-count xs 0 n)))
 
 -- after blocks
 module _ (t r : Tally) (old new : List ℕ) (g : Grows t r old new) (l : length old ≡ linesLength) where

@@ -65,10 +65,12 @@ shown-identity cell l h =
     let w : len + 3 + 4 - (len + 3) ≡ 4 = omega arith in
     let k : 9 + len - 9 ≡ len = omega arith in
     let a : 9 + (len - 6) ≡ len + 3 = omega arith in
-    let is : part 9 len cell ≡ cellBytes cell = ap (λ (n : ℕ). part 9 n cell) (sym k) ∙ bytes-shown cell len l refl (r .1) in
+    let is : part 9 len cell ≡ cellBytes cell =
+    ap (λ (n : ℕ). part 9 n cell) (sym k) ∙ bytes-shown cell len l refl (r .1) in
     let n : length (cellBytes cell) - 6 ≡ len - 6 = omega (arith, used-is cell) in
     ap unbe
-    (ap (λ (m : ℕ). part (len + 3) m cell) w ∙ ap (λ (m : ℕ). part m 4 cell) (sym a) ∙ sym (part-part 9 len (len - 6) 4 cell (omega arith))
+    (ap (λ (m : ℕ). part (len + 3) m cell) w ∙ ap (λ (m : ℕ). part m 4 cell) (sym a)
+    ∙ sym (part-part 9 len (len - 6) 4 cell (omega arith))
     ∙ ap (part (len - 6) 4) is ∙ ap (λ (m : ℕ). part m 4 (cellBytes cell)) (sym n))
 
 -- ---- the rows of lines
@@ -86,7 +88,8 @@ one-row r = go (r .loose)
 total-added : (lines : List Line) (rows : List Row) → totalOf (addRows rows lines) ≡ totalOf lines + length rows
 total-added lines [] = ap totalOf (add-none lines) ∙ (omega arith)
 total-added lines (r ∷ rows) =
-    ap totalOf (add-first r rows lines) ∙ sum-insert rowsOfLine both-kinds (lineOf r) (addRows rows lines) ∙ omega (arith, one-row r, total-added lines rows)
+    ap totalOf (add-first r rows lines) ∙ sum-insert rowsOfLine both-kinds (lineOf r) (addRows rows lines)
+    ∙ omega (arith, one-row r, total-added lines rows)
 
 -- ---- the rows of a block
 
@@ -103,27 +106,33 @@ module _ (block : List ℕ) where
   unfolding rowsBetween
   between-length a n = length-map (upFrom a n) (λ i. rowIn (blockCell i block)) ∙ length-upFrom a n
 
-  turn : (used i : ℕ) → i < used → rowsBetween block i (used - i) ≡ rowIn (blockCell i block) ∷ rowsBetween block (i + 1) (used - (i + 1))
+  turn : (used i : ℕ) → i < used
+      → rowsBetween block i (used - i) ≡ rowIn (blockCell i block) ∷ rowsBetween block (i + 1) (used - (i + 1))
   turn used i h =
       let e : used - i ≡ suc (used - (i + 1)) = omega arith in
       let s : suc i ≡ i + 1 = omega arith in
-      ap (rowsBetween block i) e ∙ between-next i (used - (i + 1)) ∙ ap (λ (j : ℕ). rowIn (blockCell i block) ∷ rowsBetween block j (used - (i + 1))) s
+      ap (rowsBetween block i) e ∙ between-next i (used - (i + 1))
+      ∙ ap (λ (j : ℕ). rowIn (blockCell i block) ∷ rowsBetween block j (used - (i + 1))) s
 
   over : (used i : ℕ) → used ≤ i → rowsBetween block i (used - i) ≡ []
   over used i h =
       let e : used - i ≡ 0 = omega arith in
       ap (rowsBetween block i) e ∙ between-none i
 
-  all-rows : (used a n i : ℕ) → all isRow (rowsBetween block a n) ≡ true → a ≤ i → i < a + n → isRow (rowIn (blockCell i block)) ≡ true
+  all-rows : (used a n i : ℕ) → all isRow (rowsBetween block a n) ≡ true
+      → a ≤ i → i < a + n → isRow (rowIn (blockCell i block)) ≡ true
   all-rows used a zero i t l h = absurd (omega arith)
   all-rows used a (suc n) i t l h =
-      let w = both (isRow (rowIn (blockCell a block))) (all isRow (rowsBetween block (suc a) n)) (ap (all isRow) (sym (between-next a n)) ∙ t) in
+      let w =
+      both (isRow (rowIn (blockCell a block))) (all isRow (rowsBetween block (suc a) n))
+      (ap (all isRow) (sym (between-next a n)) ∙ t) in
       elim (decLt a i) [
         | yes k ↦ all-rows used (suc a) n i (w .1) k (omega arith)
         | no k ↦ let e : a ≡ i = omega arith in ap (λ (j : ℕ). isRow (rowIn (blockCell j block))) (sym e) ∙ w .0
       ]
 
-  pub valid-row : (used i : ℕ) → all isRow (rowsBetween block 0 used) ≡ true → i < used → isRow (rowIn (blockCell i block)) ≡ true
+  pub valid-row : (used i : ℕ) → all isRow (rowsBetween block 0 used) ≡ true
+      → i < used → isRow (rowIn (blockCell i block)) ≡ true
   valid-row used i t h = all-rows used 0 used i t (omega arith) (omega arith)
 
   -- the loop over them: `start` are the lines before the first
@@ -134,13 +143,23 @@ module _ (block : List ℕ) where
     pub total : totalOf (linesAt xs n) ≡ totalOf start + i
     pub rest : addRows (rowsBetween block i (used - i)) (linesAt xs n) ≡ addRows (rowsBetween block 0 used) start
 
-  pub running-first : (used n : ℕ) (xs : List ℕ) → length xs ≡ linesLength → n ≤ maxLines → isRising (linesAt xs n) ≡ true → Running used (linesAt xs n) n 0 xs
+  pub running-first : (used n : ℕ) (xs : List ℕ) → length xs ≡ linesLength → n ≤ maxLines
+      → isRising (linesAt xs n) ≡ true → Running used (linesAt xs n) n 0 xs
   running-first used n xs l f r =
       let e : used - 0 ≡ used = omega arith in
-      record { long = l; few = f; rising = r; total = omega arith; rest = ap (λ (m : ℕ). addRows (rowsBetween block 0 m) (linesAt xs n)) e }
+      record {
+        long = l;
+        few = f;
+        rising = r;
+        total = omega arith;
+        rest = ap (λ (m : ℕ). addRows (rowsBetween block 0 m) (linesAt xs n)) e;
+      }
 
-  module _ (used n i r : ℕ) (start : List Line) (xs ys : List ℕ) (go : Running used start n i xs) (h : i < used) (ins : Inserted n (lineOf (rowIn (blockCell i block))) xs ys r) where
-    step : addRows (rowsBetween block 0 used) start ≡ addRows (rowsBetween block (i + 1) (used - (i + 1))) (insert (lineOf (rowIn (blockCell i block))) (linesAt xs n))
+  module _ (used n i r : ℕ) (start : List Line) (xs ys : List ℕ) (go : Running used start n i xs)
+      (h : i < used) (ins : Inserted n (lineOf (rowIn (blockCell i block))) xs ys r) where
+    step : addRows (rowsBetween block 0 used) start
+        ≡ addRows (rowsBetween block (i + 1) (used - (i + 1)))
+        (insert (lineOf (rowIn (blockCell i block))) (linesAt xs n))
     unfolding addRows
     step = sym (go .rest) ∙ ap (λ (rows : List Row). addRows rows (linesAt xs n)) (turn used i h)
 
@@ -160,9 +179,16 @@ module _ (block : List ℕ) where
 
     pub running-many : maxLines < r → maxLines < length (addRows (rowsBetween block 0 used) start)
     running-many f =
-        omega (arith, ins .count, more-added (insert (lineOf (rowIn (blockCell i block))) (linesAt xs n)) (rowsBetween block (i + 1) (used - (i + 1))), ap length step)
+        omega (
+          arith,
+          ins .count,
+          more-added (insert (lineOf (rowIn (blockCell i block))) (linesAt xs n))
+              (rowsBetween block (i + 1) (used - (i + 1))),
+          ap length step,
+        )
 
-  pub running-end : (used n i : ℕ) (start : List Line) (xs : List ℕ) → Running used start n i xs → used ≤ i → linesAt xs n ≡ addRows (rowsBetween block 0 used) start
+  pub running-end : (used n i : ℕ) (start : List Line) (xs : List ℕ) → Running used start n i xs
+      → used ≤ i → linesAt xs n ≡ addRows (rowsBetween block 0 used) start
   running-end used n i start xs go h =
       sym (ap (λ (rows : List Row). addRows rows (linesAt xs n)) (over used i h) ∙ add-none (linesAt xs n)) ∙ go .rest
 
@@ -174,8 +200,11 @@ module _ (block : List ℕ) where
       omega (arith, ap (λ (m : ℕ). looseIn (rowsBetween block 0 m)) e)
 
   pub loose-next : (used i : ℕ) → i < used
-      → looseIn (rowsBetween block i (used - i)) ≡ cond (rowIn (blockCell i block) .loose) 1 0 + looseIn (rowsBetween block (i + 1) (used - (i + 1)))
-  loose-next used i h = ap looseIn (turn used i h) ∙ go (rowIn (blockCell i block) .loose) (looseIn (rowsBetween block (i + 1) (used - (i + 1))))
+      → looseIn (rowsBetween block i (used - i))
+      ≡ cond (rowIn (blockCell i block) .loose) 1 0 + looseIn (rowsBetween block (i + 1) (used - (i + 1)))
+  loose-next used i h =
+      ap looseIn (turn used i h)
+      ∙ go (rowIn (blockCell i block) .loose) (looseIn (rowsBetween block (i + 1) (used - (i + 1))))
     where
       go : (b : Bool) (n : ℕ) → cond b (n + 1) n ≡ cond b 1 0 + n
       go true n = omega arith
@@ -195,19 +224,27 @@ module _ (block : List ℕ) where
       let e : length block / blockLength ≡ 1 = omega arith in
       rw e (ap (λ (b : List ℕ). b ∷ []) (take-all blockLength block (omega arith)))
 
-  pub fed : (s : Scan) → length block ≡ blockLength → isScan s ≡ true → s .blocks < maxBlocks → feedOf s block ≡ record { number = 0; next = scanBlock s block }
+  pub fed : (s : Scan) → length block ≡ blockLength → isScan s ≡ true → s .blocks < maxBlocks
+      → feedOf s block ≡ record { number = 0; next = scanBlock s block }
   unfolding feedOf scanBlocks
   fed s l t h =
       let whole : length block % blockLength ≡ 0 = omega arith in
       let one : s .blocks + length block / blockLength ≤ maxBlocks = omega arith in
-      rw (t, eq-eqb (length block % blockLength) 0 whole, le-leb (s .blocks + length block / blockLength) maxBlocks one, one-block l)
+      rw (
+        t,
+        eq-eqb (length block % blockLength) 0 whole,
+        le-leb (s .blocks + length block / blockLength) maxBlocks one,
+        one-block l,
+      )
 
-  pub counted-rows : (used : ℕ) → used ≡ cond (isSound block) (rowCount block) 0 → rowsBetween block 0 used ≡ countedRows block
+  pub counted-rows : (used : ℕ) → used ≡ cond (isSound block) (rowCount block) 0
+      → rowsBetween block 0 used ≡ countedRows block
   unfolding rowsBetween rowsOf upFrom
   counted-rows used e =
       by-test {X = rowsBetween block 0 used ≡ countedRows block} (isSound block) (λ t. rw (e, t)) (λ f. rw (e, f))
 
-  pub used-rows : (used : ℕ) → used ≡ cond (isSound block) (rowCount block) 0 → all isRow (rowsBetween block 0 used) ≡ true
+  pub used-rows : (used : ℕ) → used ≡ cond (isSound block) (rowCount block) 0
+      → all isRow (rowsBetween block 0 used) ≡ true
   used-rows used e =
       by-test {X = all isRow (rowsBetween block 0 used) ≡ true} (isSound block)
       (λ t. ap (all isRow) (counted-rows used e) ∙ (rw t (sound-facts block t .1)))
@@ -220,10 +257,12 @@ module _ (block : List ℕ) where
   sane-next t s h =
       let rows = countedRows block in
       let next = scanBlock (t .scan) block in
-      let grown : next .rows ≡ t .scan .rows + length rows = rows-after block (t .scan) ∙ omega (arith, counted-length block) in
+      let grown : next .rows ≡ t .scan .rows + length rows =
+      rows-after block (t .scan) ∙ omega (arith, counted-length block) in
       let scanned = scanned-next block (t .scan) (s .scanned) h in
       by-test {X = Sane (counted t rows next)} (t .over || ltb maxLines (length (addRows rows (t .lines))))
-      (λ o. rw o (record { scanned = scanned; few = omega arith; rising = refl; rows = omega arith; totals = omega arith }))
+      (λ o. rw o
+      (record { scanned = scanned; few = omega arith; rising = refl; rows = omega arith; totals = omega arith }))
       (λ o.
       let n = neither (t .over) (ltb maxLines (length (addRows rows (t .lines)))) o in
       rw o (record {
@@ -238,7 +277,8 @@ module _ (block : List ℕ) where
 
 module _ (piece : List ℕ) where
   pub blocks-next : (t : Tally) (n i : ℕ) → i < n
-      → addBlocks t (blocksFrom piece i (n - i)) ≡ addBlocks (addBlock t (part (blockLength * i) blockLength piece)) (blocksFrom piece (i + 1) (n - (i + 1)))
+      → addBlocks t (blocksFrom piece i (n - i))
+      ≡ addBlocks (addBlock t (part (blockLength * i) blockLength piece)) (blocksFrom piece (i + 1) (n - (i + 1)))
   unfolding blocksFrom upFrom addBlocks
   blocks-next t n i h =
       let e : n - i ≡ suc (n - (i + 1)) = omega arith in
@@ -256,16 +296,25 @@ pub scan-few : (s : Scan) → isScan s ≡ true → s .rows ≤ maxRows
 scan-few s h = omega (arith, scan-facts s h)
 
 module _ (t : Tally) (block : List ℕ) (next : Scan) (is : next ≡ scanBlock (t .scan) block) where
-  pub over-block : (t .over || ltb maxLines (length (addRows (countedRows block) (t .lines)))) ≡ true → record { lines = []; kept = 0; loose = 0; over = true; scan = next } ≡ addBlock t block
+  pub over-block : (t .over || ltb maxLines (length (addRows (countedRows block) (t .lines)))) ≡ true
+      → record { lines = []; kept = 0; loose = 0; over = true; scan = next } ≡ addBlock t block
   unfolding addBlock
   over-block h = rw (h, is)
 
-  pub done-block : (lines : List Line) (kept loose : ℕ) → t .over ≡ false → lines ≡ addRows (countedRows block) (t .lines) → length lines ≤ maxLines
+  pub done-block : (lines : List Line) (kept loose : ℕ) → t .over ≡ false
+      → lines ≡ addRows (countedRows block) (t .lines) → length lines ≤ maxLines
       → kept ≡ t .kept + keptIn (countedRows block) → loose ≡ t .loose + looseIn (countedRows block)
       → record { lines = lines; kept = kept; loose = loose; over = false; scan = next } ≡ addBlock t block
   unfolding addBlock
   done-block lines kept loose o l few k m =
-      rw (o, le-ltb maxLines (length (addRows (countedRows block) (t .lines))) (omega (arith, ap length l, few)), l, k, m, is)
+      rw (
+        o,
+        le-ltb maxLines (length (addRows (countedRows block) (t .lines))) (omega (arith, ap length l, few)),
+        l,
+        k,
+        m,
+        is,
+      )
 
 or-true : (b : Bool) {c : Bool} → c ≡ true → (b || c) ≡ true
 or-true true h = refl
@@ -313,7 +362,8 @@ going-sane a h =
     let g = going a h in
     let p = facts (a .report) (g .report) in
     let t = tally-facts (a .tally .lines) (a .tally .kept) (a .tally .loose) (g .sums) in
-    let most : a .tally .kept + a .tally .loose ≤ maxRows * maxArchives + a .tally .scan .rows = omega (arith, few-so-far (a .tally .over) _ _ (g .rows), p .rows, p .archives) in
+    let most : a .tally .kept + a .tally .loose ≤ maxRows * maxArchives + a .tally .scan .rows =
+    omega (arith, few-so-far (a .tally .over) _ _ (g .rows), p .rows, p .archives) in
     record {
       scanned = g .scanned;
       few = g .few;

@@ -19,16 +19,19 @@ use Rattle.archive_report_model.specs.Report.{Report, maxArchives, maxLines, is
 use Rattle.archive_report_model.specs.Pieces.{Tally, addBlocks, closed, closing, Adding, adding, rowsSoFar, isAdding, isPiece, fed, feedOf, endedOf}
 
 -- beside a refusal the lines stay
-pub stay : {xs : List ℕ} (n : ℕ) (why : Refusal) (new old : List ℕ) → n ≡ numberOf why → xs ≡ old → xs ≡ cond (eqb n 0) new old
+pub stay : {xs : List ℕ} (n : ℕ) (why : Refusal) (new old : List ℕ)
+    → n ≡ numberOf why → xs ≡ old → xs ≡ cond (eqb n 0) new old
 stay n why new old e s = rw (ne-eqb n 0 (λ z. refused-number why (sym e ∙ z))) s
 
 -- what they are where nothing was refused
 pub done-as : (n : ℕ) (new also old : List ℕ) → (n ≡ 0 → new ≡ also) → cond (eqb n 0) new old ≡ cond (eqb n 0) also old
 done-as n new also old f =
-    by-test {X = cond (eqb n 0) new old ≡ cond (eqb n 0) also old} (eqb n 0) (λ t. rw t (f (eqb-true n 0 t))) (λ t. rw t)
+    by-test {X = cond (eqb n 0) new old ≡ cond (eqb n 0) also old}
+    (eqb n 0) (λ t. rw t (f (eqb-true n 0 t))) (λ t. rw t)
 
 -- where an archive is added, no transmitter was one too many, and its lines are those of the tally
-pub closing-zero : (s : Report) (t : Tally) → closing s t .number ≡ 0 → (t .over ≡ false) × (closing s t .next .lines ≡ t .lines)
+pub closing-zero : (s : Report) (t : Tally) → closing s t .number ≡ 0
+    → (t .over ≡ false) × (closing s t .next .lines ≡ t .lines)
 unfolding closing
 closing-zero s t z = go (stageFound (t .scan .stage)) z
   where
@@ -50,7 +53,9 @@ module _ (s : Report) (t : Tally) where
     pub closed-over : t .over ≡ true → answer (numberOf Transmitters) 0 s ≡ closed s t None
     closed-over h = rw (lt-leb maxArchives (s .archives) more, h)
 
-    pub closed-done : t .over ≡ false → answer 0 0 (record { archives = s .archives + 1; lines = t .lines; kept = t .kept; loose = t .loose }) ≡ closed s t None
+    pub closed-done : t .over ≡ false
+        → answer 0 0 (record { archives = s .archives + 1; lines = t .lines; kept = t .kept; loose = t .loose })
+        ≡ closed s t None
     closed-done h = rw (lt-leb maxArchives (s .archives) more, h)
 
 -- ---- the test of a report
@@ -68,11 +73,22 @@ module _ (s : Report) where
     module _ (short : length (s .lines) ≤ maxLines) where
       pub report-rows : maxRows * s .archives < s .kept + s .loose → false ≡ isReport s
       unfolding isReport
-      report-rows h = rw (le-leb (s .archives) maxArchives few, le-leb (length (s .lines)) maxLines short, lt-leb (s .kept + s .loose) (maxRows * s .archives) h)
+      report-rows h =
+          rw (
+            le-leb (s .archives) maxArchives few,
+            le-leb (length (s .lines)) maxLines short,
+            lt-leb (s .kept + s .loose) (maxRows * s .archives) h,
+          )
 
-      pub report-tally : s .kept + s .loose ≤ maxRows * s .archives → isTally (s .lines) (s .kept) (s .loose) ≡ isReport s
+      pub report-tally : s .kept + s .loose ≤ maxRows * s .archives
+          → isTally (s .lines) (s .kept) (s .loose) ≡ isReport s
       unfolding isReport
-      report-tally h = rw (le-leb (s .archives) maxArchives few, le-leb (length (s .lines)) maxLines short, le-leb (s .kept + s .loose) (maxRows * s .archives) h)
+      report-tally h =
+          rw (
+            le-leb (s .archives) maxArchives few,
+            le-leb (length (s .lines)) maxLines short,
+            le-leb (s .kept + s .loose) (maxRows * s .archives) h,
+          )
 
 -- ---- the calls
 
@@ -94,11 +110,13 @@ module _ (s : Report) (yes : isReport s ≡ true) where
   unfolding addOf verdict
   add-size buffer h = rw (yes, h)
 
-  pub share-zero : (received : ℕ) → received ≡ 0 → record { number = numberOf Argument; thousandths = 0 } ≡ shareOf s received
+  pub share-zero : (received : ℕ) → received ≡ 0
+      → record { number = numberOf Argument; thousandths = 0 } ≡ shareOf s received
   unfolding shareOf
   share-zero received h = rw (yes, eq-eqb received 0 h)
 
-  pub share-few : (received : ℕ) → (received ≡ 0 → ⊥) → received < s .kept + s .loose → record { number = numberOf Argument; thousandths = 0 } ≡ shareOf s received
+  pub share-few : (received : ℕ) → (received ≡ 0 → ⊥) → received < s .kept + s .loose
+      → record { number = numberOf Argument; thousandths = 0 } ≡ shareOf s received
   unfolding shareOf
   share-few received z h = rw (yes, ne-eqb received 0 z, lt-ltb received (s .kept + s .loose) h)
 
@@ -107,11 +125,13 @@ module _ (s : Report) (yes : isReport s ≡ true) where
   unfolding shareOf
   share-done received z h = rw (yes, ne-eqb received 0 z, le-ltb received (s .kept + s .loose) h)
 
-  pub line-none : (i : ℕ) → length (s .lines) ≤ i → record { number = numberOf Argument; line = noLine } ≡ lineOfReport s i
+  pub line-none : (i : ℕ) → length (s .lines) ≤ i
+      → record { number = numberOf Argument; line = noLine } ≡ lineOfReport s i
   unfolding lineOfReport
   line-none i h = rw (yes, le-leb (length (s .lines)) i h)
 
-  pub line-found : (i : ℕ) → i < length (s .lines) → record { number = 0; line = getD (s .lines) i noLine } ≡ lineOfReport s i
+  pub line-found : (i : ℕ) → i < length (s .lines)
+      → record { number = 0; line = getD (s .lines) i noLine } ≡ lineOfReport s i
   unfolding lineOfReport
   line-found i h = rw (yes, lt-leb (length (s .lines)) i h)
 
@@ -135,11 +155,24 @@ module _ (a : Adding) where
       module _ (few : length (a .tally .lines) ≤ maxLines) where
         pub adding-rows : (a .tally .kept + a .tally .loose ≡ rowsSoFar a → ⊥) → false ≡ isAdding a
         unfolding isAdding
-        adding-rows h = rw (yes, scanned, le-leb (length (a .tally .lines)) maxLines few, ne-eqb (a .tally .kept + a .tally .loose) (rowsSoFar a) h)
+        adding-rows h =
+            rw (
+              yes,
+              scanned,
+              le-leb (length (a .tally .lines)) maxLines few,
+              ne-eqb (a .tally .kept + a .tally .loose) (rowsSoFar a) h,
+            )
 
-        pub adding-tally : a .tally .kept + a .tally .loose ≡ rowsSoFar a → isTally (a .tally .lines) (a .tally .kept) (a .tally .loose) ≡ isAdding a
+        pub adding-tally : a .tally .kept + a .tally .loose ≡ rowsSoFar a
+            → isTally (a .tally .lines) (a .tally .kept) (a .tally .loose) ≡ isAdding a
         unfolding isAdding
-        adding-tally h = rw (yes, scanned, le-leb (length (a .tally .lines)) maxLines few, eq-eqb (a .tally .kept + a .tally .loose) (rowsSoFar a) h)
+        adding-tally h =
+            rw (
+              yes,
+              scanned,
+              le-leb (length (a .tally .lines)) maxLines few,
+              eq-eqb (a .tally .kept + a .tally .loose) (rowsSoFar a) h,
+            )
 
   module _ (no : isAdding a ≡ false) where
     pub feed-not : (piece : List ℕ) → fed (numberOf NotAccepted) a ≡ feedOf a piece
@@ -155,7 +188,8 @@ module _ (a : Adding) where
     unfolding feedOf
     feed-size piece h = rw (yes, h)
 
-    pub feed-done : (piece : List ℕ) → isPiece (a .tally .scan) piece ≡ true → (t : Tally) → t ≡ addBlocks (a .tally) (blocksIn piece) → fed 0 (adding (a .report) t) ≡ feedOf a piece
+    pub feed-done : (piece : List ℕ) → isPiece (a .tally .scan) piece ≡ true → (t : Tally)
+        → t ≡ addBlocks (a .tally) (blocksIn piece) → fed 0 (adding (a .report) t) ≡ feedOf a piece
     unfolding feedOf
     feed-done piece h t e = rw (yes, h, e)
 
@@ -170,7 +204,8 @@ module _ (blocks len : ℕ) where
       let odd : (blockLength * blocks + len) % blockLength ≡ 0 → ⊥ = λ z. h (omega arith) in
       rw (ne-eqb ((blockLength * blocks + len) % blockLength) 0 odd)
 
-  pub piece-whole : len % blockLength ≡ 0 → leb (blocks + len / blockLength) maxBlocks ≡ isWhole (blockLength * blocks + len)
+  pub piece-whole : len % blockLength ≡ 0
+      → leb (blocks + len / blockLength) maxBlocks ≡ isWhole (blockLength * blocks + len)
   unfolding isWhole
   piece-whole h =
       let even : (blockLength * blocks + len) % blockLength ≡ 0 = omega arith in

@@ -33,10 +33,17 @@ pub record Bracket (xs : List ℕ) (n x low size : ℕ) : Type 0 where
 
 module _ (xs : List ℕ) (n x : ℕ) where
   pub bracket-start : n ≤ maxLines → Bracket xs n x 0 maxLines
-  bracket-start h = record { within = omega arith; few = omega arith; below = λ i l. absurd (omega arith); above = λ i l k. absurd (omega arith) }
+  bracket-start h =
+      record {
+        within = omega arith;
+        few = omega arith;
+        below = λ i l. absurd (omega arith);
+        above = λ i l k. absurd (omega arith);
+      }
 
   -- a turn: the last line of one half tells which half is left, and of an odd size the greater one comes first
-  module _ (order : Ordered xs n) (low size half end r : ℕ) (b : Bracket xs n x low size) (one : 1 ≤ half) (two : half ≤ size - half + 1) (most : half ≤ size) (e : end ≡ low + half) where
+  module _ (order : Ordered xs n) (low size half end r : ℕ) (b : Bracket xs n x low size)
+      (one : 1 ≤ half) (two : half ≤ size - half + 1) (most : half ≤ size) (e : end ≡ low + half) where
     abbrev last : ℕ
     last = end - 1
 
@@ -60,7 +67,8 @@ module _ (xs : List ℕ) (n x : ℕ) where
       above =
           λ i k m. elim (decLt last i) [
             | yes s ↦ omega (arith, order last i s m, le (omega arith))
-            | no s ↦ let f : i ≡ last = omega arith in omega (arith, ap (λ (m : ℕ). lineAt xs m .identity) f, le (omega arith))
+            | no s ↦ let f : i ≡ last = omega arith in
+                omega (arith, ap (λ (m : ℕ). lineAt xs m .identity) f, le (omega arith))
           ];
     }
 
@@ -76,7 +84,8 @@ module _ (xs : List ℕ) (n x : ℕ) where
         down (λ h. absurd (omega arith)) (is ∙ (rw f)))
 
   pub bracket-place : (low size : ℕ) → Bracket xs n x low size → size ≡ 0 → Place xs n x low
-  bracket-place low size b z = record { within = b .within; below = b .below; above = λ i k m. b .above i (omega arith) m }
+  bracket-place low size b z =
+      record { within = b .within; below = b .below; above = λ i k m. b .above i (omega arith) m }
 
 -- ---- the gap
 
@@ -89,9 +98,18 @@ pub record Shifting (from end i : ℕ) (old xs : List ℕ) : Type 0 where
   pub behind : SameBehind (end + lineLength) old xs
 
 pub shift-none : (from end : ℕ) (old : List ℕ) → from ≤ end → Shifting from end end old old
-shift-none from end old h = record { long = refl; low = h; high = omega arith; same = λ k l. refl; moved = λ k l m. absurd (omega arith); behind = λ k l. refl }
+shift-none from end old h =
+    record {
+      long = refl;
+      low = h;
+      high = omega arith;
+      same = λ k l. refl;
+      moved = λ k l m. absurd (omega arith);
+      behind = λ k l. refl;
+    }
 
-pub shift-more : (from end i : ℕ) (old xs : List ℕ) → Shifting from end i old xs → from < i → end + lineLength ≤ length old
+pub shift-more : (from end i : ℕ) (old xs : List ℕ)
+    → Shifting from end i old xs → from < i → end + lineLength ≤ length old
     → Shifting from end (i - 1) old (set xs (i - 1 + lineLength) (getD xs (i - 1) 0))
 shift-more from end i old xs s h fits =
     let at = i - 1 + lineLength in
@@ -109,7 +127,8 @@ shift-more from end i old xs s h fits =
             | no p ↦
                 let e : k ≡ i - 1 = omega arith in
                 let f : k + lineLength ≡ at = omega arith in
-                ap (λ (j : ℕ). getD (set xs at x) j 0) f ∙ getD-set-same xs at x 0 (omega (arith, s .long)) ∙ s .same (i - 1) (omega arith) ∙ ap (λ (j : ℕ). getD old j 0) (sym e)
+                ap (λ (j : ℕ). getD (set xs at x) j 0) f ∙ getD-set-same xs at x 0 (omega (arith, s .long))
+                ∙ s .same (i - 1) (omega arith) ∙ ap (λ (j : ℕ). getD old j 0) (sym e)
           ];
       behind = λ k l. getD-set-other xs at k x 0 (λ q. omega arith) ∙ s .behind k l;
     }
@@ -124,17 +143,21 @@ shifted from end i old xs s h = record {
 
 -- ---- a line inserted behind those before it
 
-insert-behind : (a : Line) (front back : List Line) → all (λ b. ltb (b .identity) (a .identity)) front ≡ true → insert a (front ++ back) ≡ front ++ insert a back
+insert-behind : (a : Line) (front back : List Line) → all (λ b. ltb (b .identity) (a .identity)) front ≡ true
+    → insert a (front ++ back) ≡ front ++ insert a back
 insert-behind a [] back h = refl
 insert-behind a (c ∷ front) back h =
     let w = both (ltb (c .identity) (a .identity)) (all (λ b. ltb (b .identity) (a .identity)) front) h in
-    insert-after a c (front ++ back) (ltb-true (c .identity) (a .identity) (w .0)) ∙ ap (λ (l : List Line). c ∷ l) (insert-behind a front back (w .1))
+    insert-after a c (front ++ back) (ltb-true (c .identity) (a .identity) (w .0))
+    ∙ ap (λ (l : List Line). c ∷ l) (insert-behind a front back (w .1))
 
-all-before : (xs : List ℕ) (x a r : ℕ) → ((i : ℕ) → i < a + r → lineAt xs i .identity < x) → all (λ b. ltb (b .identity) x) (linesFrom xs a r) ≡ true
+all-before : (xs : List ℕ) (x a r : ℕ) → ((i : ℕ) → i < a + r → lineAt xs i .identity < x)
+    → all (λ b. ltb (b .identity) x) (linesFrom xs a r) ≡ true
 all-before xs x a zero h = ap (all (λ (b : Line). ltb (b .identity) x)) (lines-none xs a)
 all-before xs x a (suc r) h =
     ap (all (λ (b : Line). ltb (b .identity) x)) (lines-next xs a r)
-    ∙ and-true (lt-ltb (lineAt xs a .identity) x (h a (omega arith))) (all-before xs x (suc a) r (λ i k. h i (omega arith)))
+    ∙ and-true (lt-ltb (lineAt xs a .identity) x (h a (omega arith)))
+    (all-before xs x (suc a) r (λ i k. h i (omega arith)))
 
 strictly : (x y : ℕ) → x ≤ y → (y ≡ x → ⊥) → x < y
 strictly x y h n = elim (decLt x y) [
@@ -147,14 +170,18 @@ module _ (old : List ℕ) (n r : ℕ) (a : Line) (p : Place old n (a .identity) 
   split : insert a (linesAt old n) ≡ linesAt old r ++ insert a (linesFrom old r (n - r))
   split =
       ap (insert a) (lines-split old r n (p .within))
-      ∙ insert-behind a (linesAt old r) (linesFrom old r (n - r)) (all-before old (a .identity) 0 r (λ i h. p .below i (omega arith)))
+      ∙ insert-behind a (linesAt old r) (linesFrom old r (n - r))
+      (all-before old (a .identity) 0 r (λ i h. p .below i (omega arith)))
 
   module _ (there : r < n) (same : lineAt old r .identity ≡ a .identity) where
     at-line : insert a (linesAt old n) ≡ linesAt old r ++ (joined a (lineAt old r) ∷ linesFrom old (suc r) (n - suc r))
     at-line =
         let e : n - r ≡ suc (n - suc r) = omega arith in
-        split ∙ ap (λ (l : List Line). linesAt old r ++ insert a l) (ap (linesFrom old r) e ∙ lines-next old r (n - suc r))
-        ∙ ap (λ (l : List Line). linesAt old r ++ l) (insert-same a (lineAt old r) (linesFrom old (suc r) (n - suc r)) (sym same))
+        split
+        ∙ ap (λ (l : List Line). linesAt old r ++ insert a l)
+        (ap (linesFrom old r) e ∙ lines-next old r (n - suc r))
+        ∙ ap (λ (l : List Line). linesAt old r ++ l)
+        (insert-same a (lineAt old r) (linesFrom old (suc r) (n - suc r)) (sym same))
 
     pub joined-there : (new : List ℕ) → Stored r (joined a (lineAt old r)) old new → Inserted n a old new n
     joined-there new s =
@@ -163,9 +190,15 @@ module _ (old : List ℕ) (n r : ℕ) (a : Line) (p : Place old n (a .identity) 
         lines-split new r n (p .within)
         ∙ ap₂ _++_ (lines-same new old 0 0 r (λ i h. s .elsewhere (0 + i) (λ q. omega arith)))
         (ap (linesFrom new r) e ∙ lines-next new r (n - suc r)
-        ∙ ap₂ _∷_ (s .here) (lines-same new old (suc r) (suc r) (n - suc r) (λ i h. s .elsewhere (suc r + i) (λ q. omega arith))))
+        ∙ ap₂ _∷_ (s .here)
+        (lines-same new old (suc r) (suc r) (n - suc r) (λ i h. s .elsewhere (suc r + i) (λ q. omega arith))))
         ∙ sym at-line in
-        record { long = s .long; count = sym (lines-count new 0 n) ∙ ap length is; lines = λ h. is; behind = λ k h. s .behind k (omega arith) }
+        record {
+          long = s .long;
+          count = sym (lines-count new 0 n) ∙ ap length is;
+          lines = λ h. is;
+          behind = λ k h. s .behind k (omega arith);
+        }
 
   module _ (absent : r < n → lineAt old r .identity ≡ a .identity → ⊥) where
     new-line : insert a (linesFrom old r (n - r)) ≡ a ∷ linesFrom old r (n - r)
@@ -176,7 +209,8 @@ module _ (old : List ℕ) (n r : ℕ) (a : Line) (p : Place old n (a .identity) 
           let le = p .above r (omega arith) h in
           let lt : a .identity < lineAt old r .identity = strictly (a .identity) (lineAt old r .identity) le other in
           let is = ap (linesFrom old r) e ∙ lines-next old r (n - suc r) in
-          ap (insert a) is ∙ insert-before a (lineAt old r) (linesFrom old (suc r) (n - suc r)) lt ∙ ap (λ (l : List Line). a ∷ l) (sym is)
+          ap (insert a) is ∙ insert-before a (lineAt old r) (linesFrom old (suc r) (n - suc r)) lt
+          ∙ ap (λ (l : List Line). a ∷ l) (sym is)
       | no h ↦
           let e : n - r ≡ 0 = omega arith in
           let is = ap (linesFrom old r) e ∙ lines-none old r in
@@ -195,10 +229,12 @@ module _ (old : List ℕ) (n r : ℕ) (a : Line) (p : Place old n (a .identity) 
     no-room e = record { long = refl; count = sym one-more; lines = λ h. absurd (omega arith); behind = λ k h. refl }
 
     -- the lines behind the gap
-    moved-line : (mid new : List ℕ) → Gap (lineLength * r) (lineLength * n) old mid → Stored r a mid new → (i : ℕ) → i < n - r → lineAt new (suc r + i) ≡ lineAt old (r + i)
+    moved-line : (mid new : List ℕ) → Gap (lineLength * r) (lineLength * n) old mid
+        → Stored r a mid new → (i : ℕ) → i < n - r → lineAt new (suc r + i) ≡ lineAt old (r + i)
     moved-line mid new g s i h =
         let within = p .within in
-        let at : (k j : ℕ) → k < lineLength → j ≡ lineLength * (r + i) + k + lineLength → getD mid j 0 ≡ getD old (lineLength * (r + i) + k) 0 =
+        let at : (k j : ℕ) → k < lineLength → j ≡ lineLength * (r + i) + k + lineLength
+        → getD mid j 0 ≡ getD old (lineLength * (r + i) + k) 0 =
         λ k j l e. ap (λ (m : ℕ). getD mid m 0) e ∙ g .back (lineLength * (r + i) + k) (omega arith) (omega arith) in
         let zeroth : lineLength * (r + i) + 0 ≡ lineLength * (r + i) = omega arith in
         let first : getD mid (lineLength * (suc r + i)) 0 ≡ getD old (lineLength * (r + i)) 0 =
@@ -212,9 +248,11 @@ module _ (old : List ℕ) (n r : ℕ) (a : Line) (p : Place old n (a .identity) 
           latest = at 4 (lineLength * (suc r + i) + 4) (omega arith) (omega arith) t;
         })
 
-    front-line : (mid new : List ℕ) → Gap (lineLength * r) (lineLength * n) old mid → Stored r a mid new → (i : ℕ) → i < r → lineAt new i ≡ lineAt old i
+    front-line : (mid new : List ℕ) → Gap (lineLength * r) (lineLength * n) old mid
+        → Stored r a mid new → (i : ℕ) → i < r → lineAt new i ≡ lineAt old i
     front-line mid new g s i h =
-        let at : (k : ℕ) → k < lineLength → getD mid (lineLength * i + k) 0 ≡ getD old (lineLength * i + k) 0 = λ k l. g .front (lineLength * i + k) (omega arith) in
+        let at : (k : ℕ) → k < lineLength → getD mid (lineLength * i + k) 0 ≡ getD old (lineLength * i + k) 0 =
+        λ k l. g .front (lineLength * i + k) (omega arith) in
         s .elsewhere i (λ q. omega arith)
         ∙ (λ t. record {
           identity = g .front (lineLength * i) (omega arith) t;
@@ -224,16 +262,25 @@ module _ (old : List ℕ) (n r : ℕ) (a : Line) (p : Place old n (a .identity) 
           latest = at 4 (omega arith) t;
         })
 
-    pub put-there : (mid new : List ℕ) → Gap (lineLength * r) (lineLength * n) old mid → Stored r a mid new → Inserted n a old new (n + 1)
+    pub put-there : (mid new : List ℕ) → Gap (lineLength * r) (lineLength * n) old mid
+        → Stored r a mid new → Inserted n a old new (n + 1)
     put-there mid new g s =
         let within = p .within in
         let e : n + 1 - r ≡ suc (n - r) = omega arith in
         let is : linesAt new (n + 1) ≡ insert a (linesAt old n) =
         lines-split new r (n + 1) (omega arith)
-        ∙ ap₂ _++_ (lines-same new old 0 0 r (λ i h. ap (lineAt new) (zero-add i) ∙ front-line mid new g s i h ∙ ap (lineAt old) (sym (zero-add i))))
-        (ap (linesFrom new r) e ∙ lines-next new r (n - r) ∙ ap₂ _∷_ (s .here) (lines-same new old (suc r) r (n - r) (moved-line mid new g s)))
+        ∙ ap₂ _++_
+        (lines-same new old 0 0 r
+        (λ i h. ap (lineAt new) (zero-add i) ∙ front-line mid new g s i h ∙ ap (lineAt old) (sym (zero-add i))))
+        (ap (linesFrom new r) e ∙ lines-next new r (n - r)
+        ∙ ap₂ _∷_ (s .here) (lines-same new old (suc r) r (n - r) (moved-line mid new g s)))
         ∙ sym at-gap in
-        record { long = s .long ∙ g .long; count = sym one-more; lines = λ h. is; behind = λ k h. s .behind k (omega arith) ∙ g .behind k (omega arith) }
+        record {
+          long = s .long ∙ g .long;
+          count = sym one-more;
+          lines = λ h. is;
+          behind = λ k h. s .behind k (omega arith) ∙ g .behind k (omega arith);
+        }
 
 -- ---- what the test of a line tells
 

@@ -25,7 +25,8 @@ same-test true false f g = sym (f refl)
 same-test false true f g = g refl
 same-test false false f g = refl
 
-pub line-of : (a : Line) → a .latest < 2 ^ 64 → isLineOf (a .identity) (rowsOfLine a) (a .earliest) (a .latest) ≡ isLine a
+pub line-of : (a : Line) → a .latest < 2 ^ 64
+    → isLineOf (a .identity) (rowsOfLine a) (a .earliest) (a .latest) ≡ isLine a
 line-of a h = rw (lt-ltb (a .latest) (2 ^ 64) h)
 
 rising-next : (a : Line) (lines : List Line) → isRising (a ∷ lines) ≡ isBefore a lines && isRising lines
@@ -34,7 +35,8 @@ rising-next a (b ∷ lines) =
     same-test (isRising (a ∷ b ∷ lines)) (ltb (a .identity) (b .identity) && isRising (b ∷ lines))
     (λ h.
     let w = both (all (λ c. ltb (a .identity) (c .identity)) (b ∷ lines)) (isRising (b ∷ lines)) h in
-    and-true (both (ltb (a .identity) (b .identity)) (all (λ c. ltb (a .identity) (c .identity)) lines) (w .0) .0) (w .1))
+    and-true (both (ltb (a .identity) (b .identity)) (all (λ c. ltb (a .identity) (c .identity)) lines) (w .0) .0)
+    (w .1))
     (λ h.
     let w = both (ltb (a .identity) (b .identity)) (isRising (b ∷ lines)) h in
     let v = both (all (λ c. ltb (b .identity) (c .identity)) lines) (isRising lines) (w .1) in
@@ -47,7 +49,8 @@ module _ (a : Line) (lines : List Line) (kept loose : ℕ) (time : a .latest < 2
   abbrev looseSum : ℕ
   looseSum = sumBy (λ b. b .loose) lines
 
-  forth : isTally (a ∷ lines) kept loose ≡ true → lineFits a lines kept loose && isTally lines (kept - a .kept) (loose - a .loose) ≡ true
+  forth : isTally (a ∷ lines) kept loose ≡ true
+      → lineFits a lines kept loose && isTally lines (kept - a .kept) (loose - a .loose) ≡ true
   unfolding isTally
   forth h =
       let b = both (all isLine (a ∷ lines)) _ h in
@@ -58,10 +61,15 @@ module _ (a : Line) (lines : List Line) (kept loose : ℕ) (time : a .latest < 2
       let k : kept ≡ a .kept + keptSum = eqb-true kept (a .kept + keptSum) (f .0) in
       let l : loose ≡ a .loose + looseSum = eqb-true loose (a .loose + looseSum) (f .1) in
       and-true
-      (and-true (le-leb (a .kept) kept (omega arith)) (and-true (le-leb (a .loose) loose (omega arith)) (and-true (line-of a time ∙ c .0) (e .0))))
-      (and-true (c .1) (and-true (e .1) (and-true (eq-eqb (kept - a .kept) keptSum (omega arith)) (eq-eqb (loose - a .loose) looseSum (omega arith)))))
+      (and-true (le-leb (a .kept) kept (omega arith))
+      (and-true (le-leb (a .loose) loose (omega arith)) (and-true (line-of a time ∙ c .0) (e .0))))
+      (and-true (c .1)
+      (and-true (e .1)
+      (and-true (eq-eqb (kept - a .kept) keptSum (omega arith))
+      (eq-eqb (loose - a .loose) looseSum (omega arith)))))
 
-  back : lineFits a lines kept loose && isTally lines (kept - a .kept) (loose - a .loose) ≡ true → isTally (a ∷ lines) kept loose ≡ true
+  back : lineFits a lines kept loose && isTally lines (kept - a .kept) (loose - a .loose) ≡ true
+      → isTally (a ∷ lines) kept loose ≡ true
   unfolding isTally
   back h =
       let b = both (lineFits a lines kept loose) _ h in
@@ -79,8 +87,11 @@ module _ (a : Line) (lines : List Line) (kept loose : ℕ) (time : a .latest < 2
       (and-true (rising-next a lines ∙ and-true (e .1) (g .0))
       (and-true (eq-eqb kept (a .kept + keptSum) (omega arith)) (eq-eqb loose (a .loose + looseSum) (omega arith))))
 
-  tally-next : isTally (a ∷ lines) kept loose ≡ lineFits a lines kept loose && isTally lines (kept - a .kept) (loose - a .loose)
-  tally-next = same-test (isTally (a ∷ lines) kept loose) (lineFits a lines kept loose && isTally lines (kept - a .kept) (loose - a .loose)) forth back
+  tally-next : isTally (a ∷ lines) kept loose
+      ≡ lineFits a lines kept loose && isTally lines (kept - a .kept) (loose - a .loose)
+  tally-next =
+      same-test (isTally (a ∷ lines) kept loose)
+      (lineFits a lines kept loose && isTally lines (kept - a .kept) (loose - a .loose)) forth back
 
 -- ---- the loop over an array
 
@@ -92,11 +103,14 @@ module _ (xs : List ℕ) where
 
   pub rest-next : (n i kept loose : ℕ) → i < n → lineAt xs i .latest < 2 ^ 64
       → isTally (linesFrom xs i (n - i)) kept loose
-      ≡ lineFits (lineAt xs i) (linesFrom xs (i + 1) (n - (i + 1))) kept loose && isTally (linesFrom xs (i + 1) (n - (i + 1))) (kept - lineAt xs i .kept) (loose - lineAt xs i .loose)
+      ≡ lineFits (lineAt xs i) (linesFrom xs (i + 1) (n - (i + 1))) kept loose
+      && isTally (linesFrom xs (i + 1) (n - (i + 1))) (kept - lineAt xs i .kept) (loose - lineAt xs i .loose)
   rest-next n i kept loose h t =
       let e : n - i ≡ suc (n - (i + 1)) = omega arith in
       let s : suc i ≡ i + 1 = omega arith in
-      ap (λ (l : List Line). isTally l kept loose) (ap (linesFrom xs i) e ∙ lines-next xs i (n - (i + 1)) ∙ ap (λ (j : ℕ). lineAt xs i ∷ linesFrom xs j (n - (i + 1))) s)
+      ap (λ (l : List Line). isTally l kept loose)
+      (ap (linesFrom xs i) e ∙ lines-next xs i (n - (i + 1))
+      ∙ ap (λ (j : ℕ). lineAt xs i ∷ linesFrom xs j (n - (i + 1))) s)
       ∙ tally-next (lineAt xs i) (linesFrom xs (i + 1) (n - (i + 1))) kept loose t
 
   pub rest-end : (n i kept loose : ℕ) → n ≤ i → isTally (linesFrom xs i (n - i)) kept loose ≡ eqb kept 0 && eqb loose 0
@@ -110,7 +124,9 @@ module _ (xs : List ℕ) where
       let e : n - (i + 1) ≡ 0 = omega arith in
       sym (ap (isBefore (lineAt xs i)) (ap (linesFrom xs (i + 1)) e ∙ lines-none xs (i + 1)))
 
-  pub before-more : (n i : ℕ) → i + 1 < n → ltb (lineAt xs i .identity) (lineAt xs (i + 1) .identity) ≡ isBefore (lineAt xs i) (linesFrom xs (i + 1) (n - (i + 1)))
+  pub before-more : (n i : ℕ) → i + 1 < n
+      → ltb (lineAt xs i .identity) (lineAt xs (i + 1) .identity)
+      ≡ isBefore (lineAt xs i) (linesFrom xs (i + 1) (n - (i + 1)))
   before-more n i h =
       let e : n - (i + 1) ≡ suc (n - (i + 2)) = omega arith in
       sym (ap (isBefore (lineAt xs i)) (ap (linesFrom xs (i + 1)) e ∙ lines-next xs (i + 1) (n - (i + 2))))
@@ -125,7 +141,8 @@ module _ (a : Line) (lines : List Line) (kept loose : ℕ) where
   fits-loose k h = rw (le-leb (a .kept) kept k, lt-leb (a .loose) loose h)
 
   pub fits-both : a .kept ≤ kept → a .loose ≤ loose
-      → (isLineOf (a .identity) (rowsOfLine a) (a .earliest) (a .latest) && isBefore a lines) ≡ lineFits a lines kept loose
+      → (isLineOf (a .identity) (rowsOfLine a) (a .earliest) (a .latest) && isBefore a lines)
+      ≡ lineFits a lines kept loose
   fits-both k l = rw (le-leb (a .kept) kept k, le-leb (a .loose) loose l)
 
   pub fits-facts : lineFits a lines kept loose ≡ true → (a .kept ≤ kept) × (a .loose ≤ loose)

@@ -34,7 +34,8 @@ module _ (xs : List ℕ) where
   unfolding linesFrom
   lines-split r n h =
       let e : n ≡ r + (n - r) = omega arith in
-      ap (λ (k : ℕ). map (lineAt xs) (upFrom 0 k)) e ∙ ap (map (lineAt xs)) (upFrom-add 0 r (n - r)) ∙ map-append (lineAt xs) (upFrom 0 r) (upFrom (0 + r) (n - r))
+      ap (λ (k : ℕ). map (lineAt xs) (upFrom 0 k)) e ∙ ap (map (lineAt xs)) (upFrom-add 0 r (n - r))
+      ∙ map-append (lineAt xs) (upFrom 0 r) (upFrom (0 + r) (n - r))
       ∙ ap (λ (k : ℕ). map (lineAt xs) (upFrom 0 r) ++ map (lineAt xs) (upFrom k (n - r))) (zero-add r)
 
   pub lines-next : (a n : ℕ) → linesFrom xs a (suc n) ≡ lineAt xs a ∷ linesFrom xs (suc a) n
@@ -45,23 +46,27 @@ module _ (xs : List ℕ) where
   unfolding linesFrom upFrom
   lines-none a = refl
 
-pub lines-same : (xs ys : List ℕ) (a b n : ℕ) → ((i : ℕ) → i < n → lineAt xs (a + i) ≡ lineAt ys (b + i)) → linesFrom xs a n ≡ linesFrom ys b n
+pub lines-same : (xs ys : List ℕ) (a b n : ℕ)
+    → ((i : ℕ) → i < n → lineAt xs (a + i) ≡ lineAt ys (b + i)) → linesFrom xs a n ≡ linesFrom ys b n
 lines-same xs ys a b zero h = lines-none xs a ∙ sym (lines-none ys b)
 lines-same xs ys a b (suc n) h =
     lines-next xs a n
     ∙ ap₂ _∷_ (ap (lineAt xs) (sym (add-zero a)) ∙ h 0 (omega arith) ∙ ap (lineAt ys) (add-zero b))
     (lines-same xs ys (suc a) (suc b) n
-    (λ i l. ap (lineAt xs) (suc-add a i ∙ sym (add-suc a i)) ∙ h (suc i) (omega arith) ∙ ap (lineAt ys) (add-suc b i ∙ sym (suc-add b i))))
+    (λ i l. ap (lineAt xs) (suc-add a i ∙ sym (add-suc a i)) ∙ h (suc i) (omega arith)
+    ∙ ap (lineAt ys) (add-suc b i ∙ sym (suc-add b i))))
     ∙ sym (lines-next ys b n)
 
 -- ---- what holds of each line
 
-pairwise-at : (l : List Line) (i j : ℕ) → isRising l ≡ true → i < j → j < length l → getD l i noLine .identity < getD l j noLine .identity
+pairwise-at : (l : List Line) (i j : ℕ) → isRising l ≡ true → i < j
+    → j < length l → getD l i noLine .identity < getD l j noLine .identity
 pairwise-at [] i j t h k = absurd (omega arith)
 pairwise-at (c ∷ l) i zero t h k = absurd (omega arith)
 pairwise-at (c ∷ l) zero (suc j) t h k =
     let w = both (all (λ b. ltb (c .identity) (b .identity)) l) (isRising l) t in
-    ltb-true (c .identity) (getD l j noLine .identity) (all-getD (λ (b : Line). ltb (c .identity) (b .identity)) l j noLine (w .0) (omega arith))
+    ltb-true (c .identity) (getD l j noLine .identity)
+    (all-getD (λ (b : Line). ltb (c .identity) (b .identity)) l j noLine (w .0) (omega arith))
 pairwise-at (c ∷ l) (suc i) (suc j) t h k =
     let w = both (all (λ b. ltb (c .identity) (b .identity)) l) (isRising l) t in
     pairwise-at l i j (w .1) (omega arith) (omega arith)
@@ -80,7 +85,8 @@ sum-at f (c ∷ l) (suc i) h = omega (arith, sum-at f l i (omega arith))
 
 pub total-at : (xs : List ℕ) (n i : ℕ) → i < n → rowsOfLine (lineAt xs i) ≤ totalOf (linesAt xs n)
 total-at xs n i h =
-    subst (λ (a : Line). rowsOfLine a ≤ totalOf (linesAt xs n)) (line-at xs n i h) (sum-at rowsOfLine (linesAt xs n) i (omega (arith, lines-count xs 0 n)))
+    subst (λ (a : Line). rowsOfLine a ≤ totalOf (linesAt xs n)) (line-at xs n i h)
+    (sum-at rowsOfLine (linesAt xs n) i (omega (arith, lines-count xs 0 n)))
 
 -- ---- a line is written
 
@@ -115,35 +121,44 @@ module _ (xs : List ℕ) (at a b c d e : ℕ) (fits : at + lineLength ≤ length
   pub five-length : length x5 ≡ length xs
   five-length = length-set x4 (at + 4) e ∙ length4
 
-  pub five-other : (k : ℕ) → (k ≡ at → ⊥) → (k ≡ at + 1 → ⊥) → (k ≡ at + 2 → ⊥) → (k ≡ at + 3 → ⊥) → (k ≡ at + 4 → ⊥) → getD x5 k 0 ≡ getD xs k 0
+  pub five-other : (k : ℕ) → (k ≡ at → ⊥) → (k ≡ at + 1 → ⊥) → (k ≡ at + 2 → ⊥)
+      → (k ≡ at + 3 → ⊥) → (k ≡ at + 4 → ⊥) → getD x5 k 0 ≡ getD xs k 0
   five-other k n0 n1 n2 n3 n4 =
       getD-set-other x4 (at + 4) k e 0 n4 ∙ getD-set-other x3 (at + 3) k d 0 n3 ∙ getD-set-other x2 (at + 2) k c 0 n2
       ∙ getD-set-other x1 (at + 1) k b 0 n1 ∙ getD-set-other xs at k a 0 n0
 
   pub five-0 : getD x5 at 0 ≡ a
   five-0 =
-      getD-set-other x4 (at + 4) at e 0 (λ q. omega arith) ∙ getD-set-other x3 (at + 3) at d 0 (λ q. omega arith) ∙ getD-set-other x2 (at + 2) at c 0 (λ q. omega arith)
+      getD-set-other x4 (at + 4) at e 0 (λ q. omega arith) ∙ getD-set-other x3 (at + 3) at d 0 (λ q. omega arith)
+      ∙ getD-set-other x2 (at + 2) at c 0 (λ q. omega arith)
       ∙ getD-set-other x1 (at + 1) at b 0 (λ q. omega arith) ∙ getD-set-same xs at a 0 (omega arith)
 
   pub five-1 : getD x5 (at + 1) 0 ≡ b
   five-1 =
-      getD-set-other x4 (at + 4) (at + 1) e 0 (λ q. omega arith) ∙ getD-set-other x3 (at + 3) (at + 1) d 0 (λ q. omega arith)
-      ∙ getD-set-other x2 (at + 2) (at + 1) c 0 (λ q. omega arith) ∙ getD-set-same x1 (at + 1) b 0 (omega (arith, length1))
+      getD-set-other x4 (at + 4) (at + 1) e 0 (λ q. omega arith)
+      ∙ getD-set-other x3 (at + 3) (at + 1) d 0 (λ q. omega arith)
+      ∙ getD-set-other x2 (at + 2) (at + 1) c 0 (λ q. omega arith)
+      ∙ getD-set-same x1 (at + 1) b 0 (omega (arith, length1))
 
   pub five-2 : getD x5 (at + 2) 0 ≡ c
   five-2 =
-      getD-set-other x4 (at + 4) (at + 2) e 0 (λ q. omega arith) ∙ getD-set-other x3 (at + 3) (at + 2) d 0 (λ q. omega arith)
+      getD-set-other x4 (at + 4) (at + 2) e 0 (λ q. omega arith)
+      ∙ getD-set-other x3 (at + 3) (at + 2) d 0 (λ q. omega arith)
       ∙ getD-set-same x2 (at + 2) c 0 (omega (arith, length2))
 
   pub five-3 : getD x5 (at + 3) 0 ≡ d
-  five-3 = getD-set-other x4 (at + 4) (at + 3) e 0 (λ q. omega arith) ∙ getD-set-same x3 (at + 3) d 0 (omega (arith, length3))
+  five-3 =
+      getD-set-other x4 (at + 4) (at + 3) e 0 (λ q. omega arith)
+      ∙ getD-set-same x3 (at + 3) d 0 (omega (arith, length3))
 
   pub five-4 : getD x5 (at + 4) 0 ≡ e
   five-4 = getD-set-same x4 (at + 4) e 0 (omega (arith, length4))
 
 pub stored-line : (xs : List ℕ) (i : ℕ) (a b c d e : ℕ) → lineLength * i + lineLength ≤ length xs
     → Stored i (record { identity = a; kept = b; loose = c; earliest = d; latest = e }) xs
-    (set (set (set (set (set xs (lineLength * i) a) (lineLength * i + 1) b) (lineLength * i + 2) c) (lineLength * i + 3) d) (lineLength * i + 4) e)
+    (set (set (set (set (set xs (lineLength * i) a) (lineLength * i + 1) b) (lineLength * i + 2) c)
+    (lineLength * i + 3) d)
+    (lineLength * i + 4) e)
 stored-line xs i a b c d e fits =
     let at = lineLength * i in
     record {
@@ -158,11 +173,14 @@ stored-line xs i a b c d e fits =
           };
       elsewhere =
           λ j n.
-          let clear : (k : ℕ) → k < lineLength → getD (x5 xs at a b c d e fits) (lineLength * j + k) 0 ≡ getD xs (lineLength * j + k) 0 =
+          let clear : (k : ℕ) → k < lineLength
+          → getD (x5 xs at a b c d e fits) (lineLength * j + k) 0 ≡ getD xs (lineLength * j + k) 0 =
           λ k h.
-          five-other xs at a b c d e fits (lineLength * j + k) (λ q. n (omega arith)) (λ q. n (omega arith)) (λ q. n (omega arith)) (λ q. n (omega arith)) (λ q. n (omega arith)) in
+          five-other xs at a b c d e fits (lineLength * j + k) (λ q. n (omega arith)) (λ q. n (omega arith))
+          (λ q. n (omega arith)) (λ q. n (omega arith)) (λ q. n (omega arith)) in
           let first : getD (x5 xs at a b c d e fits) (lineLength * j) 0 ≡ getD xs (lineLength * j) 0 =
-          five-other xs at a b c d e fits (lineLength * j) (λ q. n (omega arith)) (λ q. n (omega arith)) (λ q. n (omega arith)) (λ q. n (omega arith)) (λ q. n (omega arith)) in
+          five-other xs at a b c d e fits (lineLength * j) (λ q. n (omega arith)) (λ q. n (omega arith))
+          (λ q. n (omega arith)) (λ q. n (omega arith)) (λ q. n (omega arith)) in
           λ t. record {
             identity = first t;
             kept = clear 1 (omega arith) t;
@@ -172,7 +190,8 @@ stored-line xs i a b c d e fits =
           };
       behind =
           λ k h.
-          five-other xs at a b c d e fits k (λ q. omega arith) (λ q. omega arith) (λ q. omega arith) (λ q. omega arith) (λ q. omega arith);
+          five-other xs at a b c d e fits k (λ q. omega arith) (λ q. omega arith)
+          (λ q. omega arith) (λ q. omega arith) (λ q. omega arith);
     }
 
 pub stored-as : {i : ℕ} {old new : List ℕ} {a b : Line} → a ≡ b → Stored i a old new → Stored i b old new

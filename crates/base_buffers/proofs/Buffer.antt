@@ -61,11 +61,19 @@ resized-more n xs = elim (decLt n (length xs)) [
     past : length xs ≤ n → resized n xs ++ (getD xs n 0 ∷ []) ≡ resized (n + 1) xs
     past h =
         let e : n + 1 - length xs ≡ n - length xs + 1 = omega arith in
-        rw (resized-padded n xs h, resized-padded (n + 1) xs (omega arith), List·getD-eq-default xs 0 h, e, ← replicate-append-replicate)
+        rw (
+          resized-padded n xs h,
+          resized-padded (n + 1) xs (omega arith),
+          List·getD-eq-default xs 0 h,
+          e,
+          ← replicate-append-replicate,
+        )
         (append-assoc xs (replicate (n - length xs) 0) (replicate 1 0))
 
 pub resized-back : (n : ℕ) (xs : List ℕ) → length xs ≤ n → resized (length xs) (padded n xs) ≡ xs
-resized-back n xs h = resized-cut (length xs) (padded n xs) (omega (arith, padded-length n xs h)) ∙ take-at xs (replicate (n - length xs) 0) (length xs) refl
+resized-back n xs h =
+    resized-cut (length xs) (padded n xs) (omega (arith, padded-length n xs h))
+    ∙ take-at xs (replicate (n - length xs) 0) (length xs) refl
 
 module _ (n : ℕ) (new old : List ℕ) where
   pub overwritten-fits : length old ≡ n → overwritten n new old ≡ new
@@ -76,7 +84,8 @@ module _ (n : ℕ) (new old : List ℕ) where
   unfolding overwritten
   overwritten-not h = rw (ne-eqb (length old) n h)
 
-pub copied : (src dst ys : List ℕ) → length src ≡ length dst → ys ≡ take (length src) src ++ drop (length src) dst → ys ≡ src
+pub copied : (src dst ys : List ℕ) → length src ≡ length dst
+    → ys ≡ take (length src) src ++ drop (length src) dst → ys ≡ src
 copied src dst ys e c =
     let l : length dst ≤ length src = omega arith in
     let k : length src ≤ length src = omega arith in

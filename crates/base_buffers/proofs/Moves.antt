@@ -31,11 +31,18 @@ module _ {old new : List ℕ} {from n i : ℕ} (m : Moved old from n i new) wher
   moved-next h k =
       let e : n - i ≡ suc (n - (i + 1)) = omega arith in
       let f : from + (i + 1) ≡ suc (from + i) = omega arith in
-      let front : take (n - i) (drop (from + i) old) ≡ getD old (from + i) 0 ∷ take (n - (i + 1)) (drop (from + (i + 1)) old) =
+      let front : take (n - i) (drop (from + i) old)
+      ≡ getD old (from + i) 0 ∷ take (n - (i + 1)) (drop (from + (i + 1)) old) =
       rw (e, drop-cons old (from + i) 0 (omega arith), f)
       in
       record {
-        rest = rw (drop-set-lt (i + 1) new i (getD new (from + i) 0) (omega arith), sym (drop-drop 1 i new), sym (drop-drop 1 i old), m .rest);
+        rest =
+            rw (
+              drop-set-lt (i + 1) new i (getD new (from + i) 0) (omega arith),
+              sym (drop-drop 1 i new),
+              sym (drop-drop 1 i old),
+              m .rest,
+            );
         stores = rw (same, add-one i) (rw (front, add-one i) at (m .stores));
       }
 

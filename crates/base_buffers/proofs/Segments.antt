@@ -76,7 +76,8 @@ module _ {A : Type 0} where
   start (suc k) (s ∷ segs) = length s + start k segs
 
   -- the part from there on, as long as it is, is segment k
-  pub part-nth : (k : ℕ) (segs : List (List A)) (a n : ℕ) → start k segs ≡ a → length (getD segs k []) ≡ n → part a n (flatten segs) ≡ getD segs k []
+  pub part-nth : (k : ℕ) (segs : List (List A)) (a n : ℕ) → start k segs ≡ a
+      → length (getD segs k []) ≡ n → part a n (flatten segs) ≡ getD segs k []
   unfolding flatten
   part-nth zero [] a n e h = rw (← e, ← h) refl
   part-nth (suc k) [] a n e h = rw (← e, ← h) refl
@@ -88,7 +89,12 @@ module _ {A : Type 0} where
   part-replicate a n m v h =
       let l : length (part a n (replicate m v)) ≡ n = part-length a n (replicate m v) (rw length-replicate h) in
       ext-getD v (part a n (replicate m v)) (replicate n v) (l ∙ sym (length-replicate n v))
-      (λ i k. rw (part-at a n (replicate m v) i v (omega arith), getD-replicate m (a + i) v v (omega arith), getD-replicate n i v v (omega arith)))
+      (λ i k.
+      rw (
+        part-at a n (replicate m v) i v (omega arith),
+        getD-replicate m (a + i) v v (omega arith),
+        getD-replicate n i v v (omega arith),
+      ))
 
   -- ---- a part whose ends are cut to the list's length
 
@@ -98,7 +104,8 @@ module _ {A : Type 0} where
     | no h ↦ take-all (min n (length xs)) xs (omega arith) ∙ sym (take-all n xs (omega arith))
   ]
 
-  pub part-clamped : (a n : ℕ) (xs : List A) → take (min (a + n) (length xs) - min a (length xs)) (drop (min a (length xs)) xs) ≡ part a n xs
+  pub part-clamped : (a n : ℕ) (xs : List A)
+      → take (min (a + n) (length xs) - min a (length xs)) (drop (min a (length xs)) xs) ≡ part a n xs
   part-clamped a n xs = elim (decLt a (length xs)) [
     | yes h ↦
         (let e : min a (length xs) ≡ a = omega arith in
@@ -108,7 +115,8 @@ module _ {A : Type 0} where
         (let e : min a (length xs) ≡ length xs = omega arith in
         let l : length xs ≤ a = omega arith in
         let k : length xs ≤ length xs = omega arith in
-        rw (e, drop-of-length-le xs l, drop-of-length-le xs k, take-nil n) (take-nil (min (a + n) (length xs) - length xs)))
+        rw (e, drop-of-length-le xs l, drop-of-length-le xs k, take-nil n)
+        (take-nil (min (a + n) (length xs) - length xs)))
   ]
 
   -- ---- segments of one length
@@ -119,22 +127,28 @@ module _ {A : Type 0} where
   pub flatten-length : (w : ℕ) (segs : List (List A)) → Each w segs → length (flatten segs) ≡ w * length segs
   unfolding flatten
   flatten-length w [] each = omega arith
-  flatten-length w (s ∷ segs) each = simp (length-append, mul-suc, flatten-length w segs (λ i h. each (suc i) (omega arith)), each 0 (omega arith)) (omega arith)
+  flatten-length w (s ∷ segs) each =
+      simp (length-append, mul-suc, flatten-length w segs (λ i h. each (suc i) (omega arith)), each 0 (omega arith))
+      (omega arith)
 
-  pub flatten-part : (w : ℕ) (segs : List (List A)) → Each w segs → (k : ℕ) → k < length segs → part (w * k) w (flatten segs) ≡ getD segs k []
+  pub flatten-part : (w : ℕ) (segs : List (List A)) → Each w segs → (k : ℕ)
+      → k < length segs → part (w * k) w (flatten segs) ≡ getD segs k []
   unfolding flatten
   flatten-part w [] each k h = absurd (not-suc-le-zero h)
   flatten-part w (s ∷ segs) each zero h = rw mul-zero (take-at s (flatten segs) w (each 0 (omega arith)))
   flatten-part w (s ∷ segs) each (suc k) h =
       let e : w * suc k ≡ w + w * k = rw mul-suc (omega arith) in
-      rw (e, right s (flatten segs) w (w * k) w (each 0 (omega arith))) (flatten-part w segs (λ i l. each (suc i) (omega arith)) k (omega arith))
+      rw (e, right s (flatten segs) w (w * k) w (each 0 (omega arith)))
+      (flatten-part w segs (λ i l. each (suc i) (omega arith)) k (omega arith))
 
   -- one segment more
-  flatten-more : (segs : List (List A)) (i : ℕ) → i < length segs → flatten (take (suc i) segs) ≡ flatten (take i segs) ++ getD segs i []
+  flatten-more : (segs : List (List A)) (i : ℕ) → i < length segs
+      → flatten (take (suc i) segs) ≡ flatten (take i segs) ++ getD segs i []
   unfolding flatten
   flatten-more [] i h = absurd (not-suc-le-zero h)
   flatten-more (s ∷ segs) zero h = append-nil s
-  flatten-more (s ∷ segs) (suc i) h = rw (flatten-more segs i (omega arith)) (sym (append-assoc s (flatten (take i segs)) (getD segs i [])))
+  flatten-more (s ∷ segs) (suc i) h =
+      rw (flatten-more segs i (omega arith)) (sym (append-assoc s (flatten (take i segs)) (getD segs i [])))
 
   -- ---- a list that is written from the front: xs is what is done, of length a, and then the rest of the list that it was
 
@@ -160,7 +174,9 @@ module _ {A : Type 0} where
     -- one element is stored
     pub store : (v : A) → a < length orig → Begun orig (front ++ (v ∷ [])) (a + 1) (set xs a v)
     store v h = record {
-      is = rw (b .is, drop-cons orig a v, set-at front (getD orig a v) (drop (suc a) orig) v a (b .long), add-one) (sym (append-snoc front v (drop (suc a) orig)));
+      is =
+          rw (b .is, drop-cons orig a v, set-at front (getD orig a v) (drop (suc a) orig) v a (b .long), add-one)
+          (sym (append-snoc front v (drop (suc a) orig)));
       long = simp length-append (omega (arith, b .long));
       bound = omega arith;
     }
@@ -176,23 +192,38 @@ module _ {A : Type 0} where
         let k : a + (e - a) ≡ e = omega arith in
         let n : length s ≡ e - a = rw p at (q ∙ part-length a (e - a) xs (within (a + (e - a)) (omega arith))) in
         record {
-          is = rw (b .is, p, take-at front (drop a orig) a (b .long), drop-at front (drop a orig) a (b .long), drop-drop (e - a) a orig, k)
+          is =
+              rw (
+                b .is,
+                p,
+                take-at front (drop a orig) a (b .long),
+                drop-at front (drop a orig) a (b .long),
+                drop-drop (e - a) a orig,
+                k,
+              )
               (sym (append-assoc front s (drop e orig)));
           long = simp length-append (omega (arith, b .long));
           bound = h;
         }
 
     -- the same, where what comes back depends on the part's length alone
-    pub lend-sized : (ys : List A) (s : ℕ → List A) (e : ℕ) → ys ≡ s (length (part a (e - a) xs)) → length ys ≡ length (part a (e - a) xs) → a ≤ e → e ≤ length orig
+    pub lend-sized : (ys : List A) (s : ℕ → List A) (e : ℕ) → ys ≡ s (length (part a (e - a) xs))
+        → length ys ≡ length (part a (e - a) xs) → a ≤ e → e ≤ length orig
         → Begun orig (front ++ s (e - a)) e (take a xs ++ (ys ++ drop (e - a) (drop a xs)))
-    lend-sized ys s e p q l h = lend ys (s (e - a)) e (rw (part-length a (e - a) xs (within (a + (e - a)) (omega arith))) at p) q l h
+    lend-sized ys s e p q l h =
+        lend ys (s (e - a)) e (rw (part-length a (e - a) xs (within (a + (e - a)) (omega arith))) at p) q l h
 
     -- the part from a up to e stays as it was
     pub skip : (e : ℕ) → a ≤ e → e ≤ length orig → Begun orig (front ++ part a (e - a) orig) e xs
     skip e l h =
         let k : a + (e - a) ≡ e = omega arith in
         record {
-          is = b .is ∙ ap (λ (l : List A). front ++ l) (sym (take-append-drop (e - a) (drop a orig)) ∙ ap (λ (l : List A). part a (e - a) orig ++ l) (drop-drop (e - a) a orig ∙ ap (λ (n : ℕ). drop n orig) k))
+          is =
+              b .is
+              ∙ ap (λ (l : List A). front ++ l)
+              (sym (take-append-drop (e - a) (drop a orig))
+              ∙ ap (λ (l : List A). part a (e - a) orig ++ l)
+              (drop-drop (e - a) a orig ∙ ap (λ (n : ℕ). drop n orig) k))
               ∙ sym (append-assoc front (part a (e - a) orig) (drop e orig));
           long = simp length-append (omega (arith, b .long, part-length a (e - a) orig (omega arith)));
           bound = h;
@@ -207,7 +238,8 @@ module _ {A : Type 0} where
     begun-after k h =
         let e : length front + (k - a) ≡ k = omega (arith, b .long) in
         let f : a + (k - a) ≡ k = omega arith in
-        ap (drop k) (b .is) ∙ ap (λ (n : ℕ). drop n (front ++ drop a orig)) (sym e) ∙ drop-append-add front (drop a orig) (k - a)
+        ap (drop k) (b .is) ∙ ap (λ (n : ℕ). drop n (front ++ drop a orig)) (sym e)
+        ∙ drop-append-add front (drop a orig) (k - a)
         ∙ drop-drop (k - a) a orig ∙ ap (λ (n : ℕ). drop n orig) f
 
     -- the whole is written
@@ -217,27 +249,33 @@ module _ {A : Type 0} where
         rw (b .is, drop-of-length-le orig h) (append-nil front)
 
   -- a turn of a loop that fills, and of one that copies
-  pub fill : (orig : List A) (v : A) (i : ℕ) (xs : List A) → Begun orig (replicate i v) i xs → i < length orig → Begun orig (replicate (i + 1) v) (i + 1) (set xs i v)
+  pub fill : (orig : List A) (v : A) (i : ℕ) (xs : List A) → Begun orig (replicate i v) i xs
+      → i < length orig → Begun orig (replicate (i + 1) v) (i + 1) (set xs i v)
   fill orig v i xs b h = named (store b v h) (replicate (i + 1) v) (replicate-append-replicate i 1 v)
 
   -- a turn of a loop that lends one part of w after the other
-  pub turn : (orig : List A) (segs : List (List A)) (w i : ℕ) (xs ys : List A) → Begun orig (flatten (take i segs)) (w * i) xs → i < length segs
+  pub turn : (orig : List A) (segs : List (List A)) (w i : ℕ) (xs ys : List A)
+      → Begun orig (flatten (take i segs)) (w * i) xs → i < length segs
       → ys ≡ getD segs i [] → length ys ≡ length (part (w * i) (w * i + w - w * i) xs) → w * i + w ≤ length orig
-      → Begun orig (flatten (take (i + 1) segs)) (w * (i + 1)) (take (w * i) xs ++ (ys ++ drop (w * i + w - w * i) (drop (w * i) xs)))
+      → Begun orig (flatten (take (i + 1) segs)) (w * (i + 1))
+      (take (w * i) xs ++ (ys ++ drop (w * i + w - w * i) (drop (w * i) xs)))
   turn orig segs w i xs ys b l p q h =
       let m : w * (i + 1) ≡ w * i + w = rw (add-one, mul-suc) refl in
       rw (m, add-one, flatten-more segs i l) (lend b ys (getD segs i []) (w * i + w) p q (omega arith) h)
 
   -- and where it ends, after n turns
-  pub turned : (orig : List A) (segs : List (List A)) (w n i : ℕ) (xs : List A) → Begun orig (flatten (take i segs)) (w * i) xs → i ≡ n → length segs ≡ n
+  pub turned : (orig : List A) (segs : List (List A)) (w n i : ℕ) (xs : List A)
+      → Begun orig (flatten (take i segs)) (w * i) xs → i ≡ n → length segs ≡ n
       → Begun orig (flatten segs) (w * n) xs
   turned orig segs w n i xs b e l =
       let h : length segs ≤ n = omega arith in
       rw (e, take-all n segs h) at b
 
 -- the part from a up to e is lent, and comes back as zeros
-pub wipe : {orig front : List ℕ} {a : ℕ} {xs : List ℕ} → Begun orig front a xs → (zs : List ℕ) (e : ℕ) → zs ≡ replicate (length (part a (e - a) xs)) 0
-    → length zs ≡ length (part a (e - a) xs) → a ≤ e → e ≤ length orig → Begun orig (padded e front) e (take a xs ++ (zs ++ drop (e - a) (drop a xs)))
+pub wipe : {orig front : List ℕ} {a : ℕ} {xs : List ℕ} → Begun orig front a xs
+    → (zs : List ℕ) (e : ℕ) → zs ≡ replicate (length (part a (e - a) xs)) 0
+    → length zs ≡ length (part a (e - a) xs) → a ≤ e → e ≤ length orig
+    → Begun orig (padded e front) e (take a xs ++ (zs ++ drop (e - a) (drop a xs)))
 wipe {orig} {front} {a} {xs} b zs e p q l h =
     let k : e - a ≡ e - length front = omega (arith, b .long) in
     named (lend-sized b zs (λ n. replicate n 0) e p q l h) (padded e front) (ap (λ (n : ℕ). front ++ replicate n 0) k)

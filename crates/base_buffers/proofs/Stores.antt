@@ -23,7 +23,8 @@ sets-append : (a b l : List ℕ) (i : ℕ) → sets l i (a ++ b) ≡ sets (sets 
 sets-append [] b l i = rw (add-zero i)
 sets-append (x ∷ a) b l i = rw (add-suc i (length a), ← suc-add i (length a)) (sets-append a b (set l i x) (suc i))
 
-pub then : {out out' out'' a b : List ℕ} {at r r' m n : ℕ} → Printed out at a m out' r → Printed out' r b n out'' r' → Printed out at (a ++ b) (m + n) out'' r'
+pub then : {out out' out'' a b : List ℕ} {at r r' m n : ℕ} → Printed out at a m out' r
+    → Printed out' r b n out'' r' → Printed out at (a ++ b) (m + n) out'' r'
 then {out} {a = a} {b = b} {at = at} p q =
     record {
       bytes = q .bytes ∙ rw (p .next, p .bytes, ← sets-append a b out at);
@@ -32,18 +33,22 @@ then {out} {a = a} {b = b} {at = at} p q =
     }
 
 -- a larger bound
-pub loosened : {out out' text : List ℕ} {at r m n : ℕ} → Printed out at text m out' r → m ≤ n → Printed out at text n out' r
+pub loosened : {out out' text : List ℕ} {at r m n : ℕ}
+    → Printed out at text m out' r → m ≤ n → Printed out at text n out' r
 loosened p h = record { bytes = p .bytes; next = p .next; short = omega (arith, p .short) }
 
 -- where the longest text fits, and where it does not
-pub fitting : {out out' text : List ℕ} {at r longest : ℕ} → leb (at + longest) (length out) ≡ true → Printed out at text longest out' r → PrintedIfFits out at longest text out' r
+pub fitting : {out out' text : List ℕ} {at r longest : ℕ} → leb (at + longest) (length out) ≡ true
+    → Printed out at text longest out' r → PrintedIfFits out at longest text out' r
 fitting e p = rw e p
 
 -- what a caller gets who knows that it fits
-pub if-fits : {out out' text : List ℕ} {at longest r : ℕ} → at + longest ≤ length out → PrintedIfFits out at longest text out' r → Printed out at text longest out' r
+pub if-fits : {out out' text : List ℕ} {at longest r : ℕ} → at + longest ≤ length out
+    → PrintedIfFits out at longest text out' r → Printed out at text longest out' r
 if-fits {out} {at = at} {longest = longest} h p = rw (le-leb (at + longest) (length out) h) at p
 
-pub not-fitting : {out : List ℕ} {at longest : ℕ} (text : List ℕ) → leb (at + longest) (length out) ≡ false → PrintedIfFits out at longest text out at
+pub not-fitting : {out : List ℕ} {at longest : ℕ} (text : List ℕ)
+    → leb (at + longest) (length out) ≡ false → PrintedIfFits out at longest text out at
 not-fitting {at = at} text e = rw e (record { bytes = refl; next = sym (add-zero at); short = omega arith })
 
 -- ---- a text that is stored from its front on

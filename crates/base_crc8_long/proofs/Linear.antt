@@ -28,11 +28,13 @@ bits-assoc (suc (suc x)) y z h k l = absurd (omega arith)
 pub xor-assoc : (a b c : ℕ) → bitXor (bitXor a b) c ≡ bitXor a (bitXor b c)
 xor-assoc a = bin-ind (λ (a : ℕ). (b c : ℕ) → bitXor (bitXor a b) c ≡ bitXor a (bitXor b c)) (λ b c. refl) more a
   where
-    more : (a : ℕ) → ((b c : ℕ) → bitXor (bitXor (a / 2) b) c ≡ bitXor (a / 2) (bitXor b c)) → (b c : ℕ) → bitXor (bitXor a b) c ≡ bitXor a (bitXor b c)
+    more : (a : ℕ) → ((b c : ℕ) → bitXor (bitXor (a / 2) b) c ≡ bitXor (a / 2) (bitXor b c))
+        → (b c : ℕ) → bitXor (bitXor a b) c ≡ bitXor a (bitXor b c)
     more a ih b c =
         xor-step (bitXor a b) c
         ∙ ap₂ (λ (x y : ℕ). x * 2 + y)
-        (ap (λ (x : ℕ). bitXor x (c / 2)) (xor-shr a b 1) ∙ ih (b / 2) (c / 2) ∙ ap (bitXor (a / 2)) (sym (xor-shr b c 1)))
+        (ap (λ (x : ℕ). bitXor x (c / 2)) (xor-shr a b 1)
+        ∙ ih (b / 2) (c / 2) ∙ ap (bitXor (a / 2)) (sym (xor-shr b c 1)))
         (ap (λ (x : ℕ). differ x (c % 2)) (xor-mod a b 1)
         ∙ bits-assoc (a % 2) (b % 2) (c % 2) (omega arith) (omega arith) (omega arith)
         ∙ ap (differ (a % 2)) (sym (xor-mod b c 1)))
@@ -65,7 +67,9 @@ cancel-xor : (k p q : ℕ) → cancel k (bitXor p q) ≡ bitXor (cancel k p) (ca
 cancel-xor k p q =
     ap (bitXor (bitXor p q))
     (ap (λ (x : ℕ). x * generator * 2 ^ k) (coefficient-xor p q (8 + k))
-    ∙ ap (λ (x : ℕ). x * 2 ^ k) (terms-xor (coefficient p (8 + k)) (coefficient q (8 + k)) generator (mod-lt _ (omega arith)) (mod-lt _ (omega arith)))
+    ∙ ap (λ (x : ℕ). x * 2 ^ k)
+    (terms-xor (coefficient p (8 + k)) (coefficient q (8 + k)) generator
+    (mod-lt _ (omega arith)) (mod-lt _ (omega arith)))
     ∙ shift (coefficient p (8 + k) * generator) (coefficient q (8 + k) * generator) k)
     ∙ xor-middle p q (coefficient p (8 + k) * generator * 2 ^ k) (coefficient q (8 + k) * generator * 2 ^ k)
 

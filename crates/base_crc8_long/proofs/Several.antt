@@ -35,7 +35,8 @@ crc-linear c (b ∷ bs) =
     let n = length bs in
     crc-linear (stepOf c b) bs
     ∙ ap (λ (x : ℕ). bitXor x (crcFrom 0 bs))
-    (ap (powerOf n) (remainder-xor c b) ∙ power-xor n (remainderOf c) (remainderOf b) ∙ ap (λ (x : ℕ). bitXor x (powerOf n (remainderOf b))) (sym (power-suc n c)))
+    (ap (powerOf n) (remainder-xor c b) ∙ power-xor n (remainderOf c) (remainderOf b)
+    ∙ ap (λ (x : ℕ). bitXor x (powerOf n (remainderOf b))) (sym (power-suc n c)))
     ∙ xor-assoc (powerOf (suc n) c) (powerOf n (remainderOf b)) (crcFrom 0 bs)
     ∙ ap (bitXor (powerOf (suc n) c)) (sym (crc-linear (stepOf 0 b) bs))
 
@@ -49,13 +50,17 @@ crc-at c bs i n e =
     ∙ ap (λ (x : ℕ). bitXor x (crcFrom 0 (drop (suc i) bs))) (sym (power-suc n (bitXor c (getD bs i 0))))
 
 pub eight-is : (c : ℕ) (b : List ℕ) → length b ≡ 8
-    → bitXor (powerOf 8 (bitXor c (getD b 0 0))) (bitXor (powerOf 7 (getD b 1 0)) (bitXor (powerOf 6 (getD b 2 0)) (bitXor (powerOf 5 (getD b 3 0))
-    (bitXor (powerOf 4 (getD b 4 0)) (bitXor (powerOf 3 (getD b 5 0)) (bitXor (powerOf 2 (getD b 6 0)) (powerOf 1 (getD b 7 0)))))))) ≡ crcFrom c b
+    → bitXor (powerOf 8 (bitXor c (getD b 0 0)))
+    (bitXor (powerOf 7 (getD b 1 0)) (bitXor (powerOf 6 (getD b 2 0)) (bitXor (powerOf 5 (getD b 3 0))
+    (bitXor (powerOf 4 (getD b 4 0))
+    (bitXor (powerOf 3 (getD b 5 0)) (bitXor (powerOf 2 (getD b 6 0)) (powerOf 1 (getD b 7 0))))))))
+    ≡ crcFrom c b
 eight-is c b h =
     let h8 : length b ≤ 8 = omega arith in
     let e8 : drop 8 b ≡ [] = drop-of-length-le b h8 in
     let l7 : crcFrom 0 (drop 7 b) ≡ powerOf 1 (getD b 7 0) =
-    crc-at 0 b 7 0 (omega arith) ∙ ap (λ (l : List ℕ). bitXor (powerOf 1 (getD b 7 0)) (crcFrom 0 l)) e8 ∙ xor-zero-r (powerOf 1 (getD b 7 0)) in
+    crc-at 0 b 7 0 (omega arith) ∙ ap (λ (l : List ℕ). bitXor (powerOf 1 (getD b 7 0)) (crcFrom 0 l)) e8
+    ∙ xor-zero-r (powerOf 1 (getD b 7 0)) in
     let l6 = crc-at 0 b 6 1 (omega arith) ∙ ap (bitXor (powerOf 2 (getD b 6 0))) l7 in
     let l5 = crc-at 0 b 5 2 (omega arith) ∙ ap (bitXor (powerOf 3 (getD b 5 0))) l6 in
     let l4 = crc-at 0 b 4 3 (omega arith) ∙ ap (bitXor (powerOf 4 (getD b 4 0))) l5 in

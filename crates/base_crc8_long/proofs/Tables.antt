@@ -34,11 +34,16 @@ module _ (tables : List ℕ) (t : isTables tables ≡ true) where
   before = upFrom 0 256 ++ take 1792 tables
 
   before-long : length before ≡ 2048
-  before-long = length-append (upFrom 0 256) (take 1792 tables) ∙ omega (arith, long, length-upFrom 0 256, length-take 1792 tables)
+  before-long =
+      length-append (upFrom 0 256) (take 1792 tables)
+      ∙ omega (arith, long, length-upFrom 0 256, length-take 1792 tables)
 
   entry : (i : ℕ) → i < 2048 → getD tables i 0 ≡ remainderOf (getD before i 0)
   unfolding isTables
-  entry i h = ap (λ (l : List ℕ). getD l i 0) (equal-eq tables (map remainderOf before) (rw (both (eqb (length tables) 2048) _ t .1) tt)) ∙ getD-map remainderOf before i 0 0 (omega (arith, before-long))
+  entry i h =
+      ap (λ (l : List ℕ). getD l i 0)
+      (equal-eq tables (map remainderOf before) (rw (both (eqb (length tables) 2048) _ t .1) tt))
+      ∙ getD-map remainderOf before i 0 0 (omega (arith, before-long))
 
   first : (b : ℕ) → b < 256 → getD before b 0 ≡ b
   first b h =
@@ -47,7 +52,8 @@ module _ (tables : List ℕ) (t : isTables tables ≡ true) where
 
   later : (i : ℕ) → i < 1792 → getD before (256 + i) 0 ≡ getD tables i 0
   later i h =
-      ap (λ (n : ℕ). getD before (n + i) 0) (sym (length-upFrom 0 256)) ∙ getD-append-add (upFrom 0 256) (take 1792 tables) i 0 ∙ getD-take 1792 tables i 0 h
+      ap (λ (n : ℕ). getD before (n + i) 0) (sym (length-upFrom 0 256))
+      ∙ getD-append-add (upFrom 0 256) (take 1792 tables) i 0 ∙ getD-take 1792 tables i 0 h
 
   pub tables-entry : (j b : ℕ) → j < 8 → b < 256 → getD tables (256 * j + b) 0 ≡ powerOf (suc j) b
   unfolding powerOf

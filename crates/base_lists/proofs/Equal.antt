@@ -15,7 +15,8 @@ pub equal-eq : (xs ys : List ℕ) → T (equal xs ys) → xs ≡ ys
 equal-eq [] [] t = refl
 equal-eq [] (y ∷ ys) t = absurd t
 equal-eq (x ∷ xs) [] t = absurd t
-equal-eq (x ∷ xs) (y ∷ ys) t = ap₂ _∷_ (eqb→eq x y (and-left (eqb x y) (equal xs ys) t)) (equal-eq xs ys (and-right (eqb x y) (equal xs ys) t))
+equal-eq (x ∷ xs) (y ∷ ys) t =
+    ap₂ _∷_ (eqb→eq x y (and-left (eqb x y) (equal xs ys) t)) (equal-eq xs ys (and-right (eqb x y) (equal xs ys) t))
 
 pub equal-refl : (xs : List ℕ) → equal xs xs ≡ true
 equal-refl [] = refl
@@ -42,7 +43,8 @@ equal-next (suc i) (x ∷ xs) (y ∷ ys) h k =
 -- ---- the first i of two lists, from their last on
 
 module _ (i : ℕ) (xs ys : List ℕ) (p : 0 < i) (h : i ≤ length xs) (k : i ≤ length ys) where
-  equal-last : equal (take i xs) (take i ys) ≡ (equal (take (i - 1) xs) (take (i - 1) ys) && eqb (getD xs (i - 1) 0) (getD ys (i - 1) 0))
+  equal-last : equal (take i xs) (take i ys)
+      ≡ (equal (take (i - 1) xs) (take (i - 1) ys) && eqb (getD xs (i - 1) 0) (getD ys (i - 1) 0))
   equal-last =
       let e : suc (i - 1) ≡ i = omega arith in
       rw e at (equal-next (i - 1) xs ys (omega arith) (omega arith))
@@ -50,5 +52,6 @@ module _ (i : ℕ) (xs ys : List ℕ) (p : 0 < i) (h : i ≤ length xs) (k : i �
   pub last-differs : (getD xs (i - 1) 0 ≡ getD ys (i - 1) 0 → ⊥) → equal (take i xs) (take i ys) ≡ false
   last-differs n = equal-last ∙ rw (ne-eqb _ _ n) (and-false (equal (take (i - 1) xs) (take (i - 1) ys)))
 
-  pub last-agrees : getD xs (i - 1) 0 ≡ getD ys (i - 1) 0 → equal (take i xs) (take i ys) ≡ equal (take (i - 1) xs) (take (i - 1) ys)
+  pub last-agrees : getD xs (i - 1) 0 ≡ getD ys (i - 1) 0
+      → equal (take i xs) (take i ys) ≡ equal (take (i - 1) xs) (take (i - 1) ys)
   last-agrees e = equal-last ∙ rw (eq-eqb _ _ e) (and-true (equal (take (i - 1) xs) (take (i - 1) ys)))

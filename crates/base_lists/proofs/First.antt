@@ -59,7 +59,8 @@ module _ {A : Type 0} (p : A → Bool) where
   any-first [] = refl
   any-first (x ∷ l) = go (p x) (any-first l)
     where
-      go : (b : Bool) → any p l ≡ ltb (firstOf p l) (length l) → (b || any p l) ≡ ltb (cond b 0 (suc (firstOf p l))) (suc (length l))
+      go : (b : Bool) → any p l ≡ ltb (firstOf p l) (length l)
+          → (b || any p l) ≡ ltb (cond b 0 (suc (firstOf p l))) (suc (length l))
       go true e = sym (lt-ltb 0 (suc (length l)) (omega arith))
       go false e = e ∙ shifted (firstOf p l) (length l)
 
@@ -98,14 +99,16 @@ module _ {A : Type 0} (p : A → Bool) (d : A) where
   first-before [] k h = absurd (not-suc-le-zero h)
   first-before (x ∷ l) k h = go (p x) refl k h (first-before l)
     where
-      go : (b : Bool) → p x ≡ b → (k : ℕ) → k < cond b 0 (suc (firstOf p l)) → ((k : ℕ) → k < firstOf p l → p (getD l k d) ≡ false)
+      go : (b : Bool) → p x ≡ b → (k : ℕ) → k < cond b 0 (suc (firstOf p l))
+          → ((k : ℕ) → k < firstOf p l → p (getD l k d) ≡ false)
           → p (getD (x ∷ l) k d) ≡ false
       go true e k h ih = absurd (not-suc-le-zero h)
       go false e zero h ih = e
       go false e (suc k) h ih = ih k (le-of-suc-le-suc h)
 
   -- an element that passes, with none before it, is what it names
-  pub first-is : (l : List A) (k : ℕ) → k < length l → p (getD l k d) ≡ true → ((j : ℕ) → j < k → p (getD l j d) ≡ false) → firstOf p l ≡ k
+  pub first-is : (l : List A) (k : ℕ) → k < length l → p (getD l k d) ≡ true
+      → ((j : ℕ) → j < k → p (getD l j d) ≡ false) → firstOf p l ≡ k
   first-is [] k h e f = absurd (not-suc-le-zero h)
   first-is (x ∷ l) zero h e f = rw e
   first-is (x ∷ l) (suc k) h e f =

@@ -9,13 +9,16 @@ use Rattle.base_lists.proofs.Choice.{both, cond-ap}
 module _ {A : Type 0} (p : A → Bool) where
   pub keep-append : (xs ys : List A) → keep p (xs ++ ys) ≡ keep p xs ++ keep p ys
   keep-append [] ys = refl
-  keep-append (x ∷ xs) ys = rw (keep-append xs ys) (sym (cond-ap (λ (l : List A). l ++ keep p ys) (p x) (x ∷ keep p xs) (keep p xs)))
+  keep-append (x ∷ xs) ys =
+      rw (keep-append xs ys) (sym (cond-ap (λ (l : List A). l ++ keep p ys) (p x) (x ∷ keep p xs) (keep p xs)))
 
   pub keep-map : {B : Type 0} (g : B → A) (xs : List B) → keep p (map g xs) ≡ map g (keep (λ x. p (g x)) xs)
   keep-map g [] = refl
-  keep-map g (x ∷ xs) = rw (keep-map g xs) (sym (cond-ap (map g) (p (g x)) (x ∷ keep (λ y. p (g y)) xs) (keep (λ y. p (g y)) xs)))
+  keep-map g (x ∷ xs) =
+      rw (keep-map g xs) (sym (cond-ap (map g) (p (g x)) (x ∷ keep (λ y. p (g y)) xs) (keep (λ y. p (g y)) xs)))
 
-  pub keep-flatMap : {B : Type 0} (g : B → List A) (xs : List B) → keep p (flatMap g xs) ≡ flatMap (λ x. keep p (g x)) xs
+  pub keep-flatMap : {B : Type 0} (g : B → List A) (xs : List B)
+      → keep p (flatMap g xs) ≡ flatMap (λ x. keep p (g x)) xs
   unfolding flatMap
   keep-flatMap g [] = refl
   keep-flatMap g (x ∷ xs) = rw (keep-append (g x), keep-flatMap g xs)
@@ -34,9 +37,11 @@ module _ {A : Type 0} (p : A → Bool) where
   keep-from [] m = absurd (List·Memᴰ·not-nil m)
   keep-from {x} (y ∷ ys) m = step (p y) refl m (λ (k : List·Memᴰ x (keep p ys)). keep-from ys k)
     where
-      step : (t : Bool) → p y ≡ t → List·Memᴰ x (cond t (y ∷ keep p ys) (keep p ys)) → (List·Memᴰ x (keep p ys) → List·Memᴰ x ys × (p x ≡ true)) → List·Memᴰ x (y ∷ ys) × (p x ≡ true)
+      step : (t : Bool) → p y ≡ t → List·Memᴰ x (cond t (y ∷ keep p ys) (keep p ys))
+          → (List·Memᴰ x (keep p ys) → List·Memᴰ x ys × (p x ≡ true)) → List·Memᴰ x (y ∷ ys) × (p x ≡ true)
       step true e k below =
-          ⊎-elim (λ q. (List·Memᴰ·head q, ap p q ∙ e)) (λ l. (List·Memᴰ·tail (below l .0), below l .1)) (List·Memᴰ·cases-cons k)
+          ⊎-elim (λ q. (List·Memᴰ·head q, ap p q ∙ e))
+          (λ l. (List·Memᴰ·tail (below l .0), below l .1)) (List·Memᴰ·cases-cons k)
       step false e k below = (List·Memᴰ·tail (below k .0), below k .1)
 
 -- two tests that agree keep the same

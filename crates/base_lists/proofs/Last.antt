@@ -35,9 +35,11 @@ module _ {A : Type 0} (p : A → Bool) where
       go false f = f
 
   -- an element that passes, with none after it, is what it names
-  pub last-is : (d : A) (l : List A) (k : ℕ) → k < length l → p (getD l k d) ≡ true → ((j : ℕ) → k < j → j < length l → p (getD l j d) ≡ false)
+  pub last-is : (d : A) (l : List A) (k : ℕ) → k < length l → p (getD l k d) ≡ true
+      → ((j : ℕ) → k < j → j < length l → p (getD l j d) ≡ false)
       → lastIndex p l ≡ k
   last-is d [] k h e f = absurd (not-suc-le-zero h)
   last-is d (x ∷ l) zero h e f = rw (none-at p d l (λ j m. f (suc j) (suc-le-suc zero-le) (suc-le-suc m)), e)
   last-is d (x ∷ l) (suc k) h e f =
-      rw (any-at d l k (le-of-suc-le-suc h) e) (ap suc (last-is d l k (le-of-suc-le-suc h) e (λ j m n. f (suc j) (suc-le-suc m) (suc-le-suc n))))
+      rw (any-at d l k (le-of-suc-le-suc h) e)
+      (ap suc (last-is d l k (le-of-suc-le-suc h) e (λ j m n. f (suc j) (suc-le-suc m) (suc-le-suc n))))

@@ -15,7 +15,11 @@ drop-replicate (suc k) (suc n) a = rw suc-sub-suc (drop-replicate k n a)
 
 pub padded-sets : (n : ℕ) (xs : List ℕ) → length xs ≤ n → sets (replicate n 0) 0 xs ≡ padded n xs
 padded-sets n xs h =
-    rw (sets-eq xs (replicate n 0) 0 (simp length-replicate (omega arith)), zero-add (length xs), drop-replicate (length xs) n 0)
+    rw (
+      sets-eq xs (replicate n 0) 0 (simp length-replicate (omega arith)),
+      zero-add (length xs),
+      drop-replicate (length xs) n 0,
+    )
 
 pub take-padded : (n : ℕ) (xs : List ℕ) → take (length xs) (padded n xs) ≡ xs
 take-padded n xs = take-append-seam xs (replicate (n - length xs) 0)

@@ -22,9 +22,11 @@ module _ {A : Type 0} (r : A → A → Bool) where
   pairwise-keep p [] s = refl
   pairwise-keep p (x ∷ xs) s =
       let w = both (all (r x) xs) (pairwise r xs) s in
-      step (p x) (pairwise-keep p xs (w .1)) (all-of (r x) (keep p xs) (λ y m. all-at (r x) (keep-from p xs m .0) (w .0)))
+      step (p x) (pairwise-keep p xs (w .1))
+      (all-of (r x) (keep p xs) (λ y m. all-at (r x) (keep-from p xs m .0) (w .0)))
     where
-      step : (t : Bool) → pairwise r (keep p xs) ≡ true → all (r x) (keep p xs) ≡ true → pairwise r (cond t (x ∷ keep p xs) (keep p xs)) ≡ true
+      step : (t : Bool) → pairwise r (keep p xs) ≡ true → all (r x) (keep p xs) ≡ true
+          → pairwise r (cond t (x ∷ keep p xs) (keep p xs)) ≡ true
       step true k l = rw l k
       step false k l = k
 
@@ -40,6 +42,8 @@ pub all-and : {A : Type 0} (p q : A → Bool) (l : List A) → all (λ x. p x &&
 all-and p q [] = refl
 all-and p q (x ∷ l) = rw (all-and p q l) (swapped (p x) (q x) (all p l) (all q l))
 
-pub pairwise-and : {A : Type 0} (r s : A → A → Bool) (l : List A) → pairwise (λ x y. r x y && s x y) l ≡ (pairwise r l && pairwise s l)
+pub pairwise-and : {A : Type 0} (r s : A → A → Bool) (l : List A)
+    → pairwise (λ x y. r x y && s x y) l ≡ (pairwise r l && pairwise s l)
 pairwise-and r s [] = refl
-pairwise-and r s (x ∷ l) = rw (all-and (r x) (s x) l, pairwise-and r s l) (swapped (all (r x) l) (all (s x) l) (pairwise r l) (pairwise s l))
+pairwise-and r s (x ∷ l) =
+    rw (all-and (r x) (s x) l, pairwise-and r s l) (swapped (all (r x) l) (all (s x) l) (pairwise r l) (pairwise s l))

@@ -16,4 +16,5 @@ drop-take (x ∷ l) (suc from) (suc end) = rw (suc-sub-suc end from) (drop-take 
 pub flatten-append : {A : Type 0} (xs ys : List (List A)) → flatten (xs ++ ys) ≡ flatten xs ++ flatten ys
 unfolding flatten
 flatten-append [] ys = refl
-flatten-append (x ∷ xs) ys = ap (λ (l : List _). x ++ l) (flatten-append xs ys) ∙ sym (append-assoc x (flatten xs) (flatten ys))
+flatten-append (x ∷ xs) ys =
+    ap (λ (l : List _). x ++ l) (flatten-append xs ys) ∙ sym (append-assoc x (flatten xs) (flatten ys))

@@ -11,9 +11,11 @@ use Rattle.base_lists.specs.Lists.{every, isTableOf}
 use Rattle.base_lists.proofs.Choice.{and-left, and-right}
 
 module _ {A : Type 0} where
-  from : (f : ℕ → A → Bool) (d : A) (xs : List A) (i : ℕ) → T (every f i xs) → (k : ℕ) → k < length xs → T (f (i + k) (getD xs k d))
+  from : (f : ℕ → A → Bool) (d : A) (xs : List A) (i : ℕ) → T (every f i xs)
+      → (k : ℕ) → k < length xs → T (f (i + k) (getD xs k d))
   from f d [] i t k h = absurd (not-suc-le-zero h)
-  from f d (x ∷ xs) i t zero h = subst (λ (m : ℕ). T (f m x)) (sym (add-zero i)) (and-left (f i x) (every f (suc i) xs) t)
+  from f d (x ∷ xs) i t zero h =
+      subst (λ (m : ℕ). T (f m x)) (sym (add-zero i)) (and-left (f i x) (every f (suc i) xs) t)
   from f d (x ∷ xs) i t (suc k) h =
       subst (λ (m : ℕ). T (f m (getD xs k d))) (suc-add i k ∙ sym (add-suc i k))
       (from f d xs (suc i) (and-right (f i x) (every f (suc i) xs) t) k (le-of-suc-le-suc h))
@@ -22,7 +24,8 @@ module _ {A : Type 0} where
   at f d xs t k h = subst (λ (m : ℕ). T (f m (getD xs k d))) (zero-add k) (from f d xs 0 t k h)
 
 -- what the test of a table of numbers says of each entry
-pub table-entry : (n : ℕ) (rule : ℕ → ℕ) (table : List ℕ) → isTableOf n rule table ≡ true → (k : ℕ) → k < n → getD table k 0 ≡ rule k
+pub table-entry : (n : ℕ) (rule : ℕ → ℕ) (table : List ℕ)
+    → isTableOf n rule table ≡ true → (k : ℕ) → k < n → getD table k 0 ≡ rule k
 unfolding isTableOf
 table-entry n rule table e k h =
     let long = eqb (length table) n in

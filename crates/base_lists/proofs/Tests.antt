@@ -18,7 +18,8 @@ pub and-true : {a b : Bool} → a ≡ true → b ≡ true → a && b ≡ true
 and-true p q = ap₂ _&&_ p q
 
 -- a property of a choice, by what its test says
-pub branch {ℓ} : {A : Type ℓ} (P : A → Type 0) (b : Bool) {x y : A} → (b ≡ true → P x) → (b ≡ false → P y) → P (cond b x y)
+pub branch {ℓ} : {A : Type ℓ} (P : A → Type 0) (b : Bool) {x y : A}
+    → (b ≡ true → P x) → (b ≡ false → P y) → P (cond b x y)
 branch P true p q = p refl
 branch P false p q = q refl
 
@@ -32,7 +33,8 @@ module _ {A : Type 0} where
   keep-keep p q h [] = refl
   keep-keep p q h (x ∷ l) = go (p x) (q x) refl (h x) (keep-keep p q h l)
     where
-      go : (b c : Bool) → p x ≡ b → (b ≡ true → c ≡ true) → keep p (keep q l) ≡ keep p l → keep p (cond c (x ∷ keep q l) (keep q l)) ≡ cond b (x ∷ keep p l) (keep p l)
+      go : (b c : Bool) → p x ≡ b → (b ≡ true → c ≡ true) → keep p (keep q l) ≡ keep p l
+          → keep p (cond c (x ∷ keep q l) (keep q l)) ≡ cond b (x ∷ keep p l) (keep p l)
       go b true e k ih = rw (e, ih)
       go true false e k ih = absurd (false≢true (k refl))
       go false false e k ih = ih
@@ -48,10 +50,12 @@ module _ {A : Type 0} where
       go true ih = omega arith
       go false ih = omega arith
 
-  pub all-both : (p q r : A → Bool) → ((x : A) → p x ≡ true → q x ≡ true → r x ≡ true) → (l : List A) → all p l ≡ true → all q l ≡ true → all r l ≡ true
+  pub all-both : (p q r : A → Bool) → ((x : A) → p x ≡ true → q x ≡ true → r x ≡ true)
+      → (l : List A) → all p l ≡ true → all q l ≡ true → all r l ≡ true
   all-both p q r h l e f = all-of r l (λ x m. h x (all-at p m e) (all-at q m f))
 
-  pub all-keep : (p q r : A → Bool) → ((x : A) → p x ≡ true → q x ≡ true → r x ≡ true) → (l : List A) → all p l ≡ true → all r (keep q l) ≡ true
+  pub all-keep : (p q r : A → Bool) → ((x : A) → p x ≡ true → q x ≡ true → r x ≡ true)
+      → (l : List A) → all p l ≡ true → all r (keep q l) ≡ true
   all-keep p q r h l e = all-of r (keep q l) (λ x m. let w = keep-from q l m in h x (all-at p (w .0) e) (w .1))
 
   pub all-append : (p : A → Bool) (xs ys : List A) → all p xs ≡ true → all p ys ≡ true → all p (xs ++ ys) ≡ true
@@ -65,7 +69,8 @@ module _ {A : Type 0} where
   none p [] e = refl
   none p (x ∷ l) e = go (p x) e (none p l)
     where
-      go : (b : Bool) → (b || any p l) ≡ false → (any p l ≡ false → all (λ y. not (p y)) l ≡ true) → (not b && all (λ y. not (p y)) l) ≡ true
+      go : (b : Bool) → (b || any p l) ≡ false → (any p l ≡ false → all (λ y. not (p y)) l ≡ true)
+          → (not b && all (λ y. not (p y)) l) ≡ true
       go true f k = absurd (false≢true (sym f))
       go false f k = k f
 
@@ -83,15 +88,18 @@ module _ {A : Type 0} where
       (and-true (w .0) (r .0), r .1)
 
   -- two lists put together: pairwise in the second, and across
-  pub pairwise-parts : (r : A → A → Bool) (xs ys : List A) → pairwise r (xs ++ ys) ≡ true → (pairwise r ys ≡ true) × (all (λ x. all (r x) ys) xs ≡ true)
+  pub pairwise-parts : (r : A → A → Bool) (xs ys : List A) → pairwise r (xs ++ ys) ≡ true
+      → (pairwise r ys ≡ true) × (all (λ x. all (r x) ys) xs ≡ true)
   pairwise-parts r [] ys e = (e, refl)
   pairwise-parts r (x ∷ xs) ys e =
       let w = both (all (r x) (xs ++ ys)) (pairwise r (xs ++ ys)) e in
       let p = pairwise-parts r xs ys (w .1) in
       (p .0, and-true (all-parts (r x) xs ys (w .0) .1) (p .1))
 
-  pub pairwise-last : (r : A → A → Bool) (l : List A) (x : A) → pairwise r l ≡ true → all (λ y. r y x) l ≡ true → pairwise r (l ++ (x ∷ [])) ≡ true
-  pairwise-last r l x e f = pairwise-append r l (x ∷ []) e refl (λ y z k m. ap (r y) (List·Memᴰ·eq-of-singleton m) ∙ all-at (λ w. r w x) k f)
+  pub pairwise-last : (r : A → A → Bool) (l : List A) (x : A) → pairwise r l ≡ true
+      → all (λ y. r y x) l ≡ true → pairwise r (l ++ (x ∷ [])) ≡ true
+  pairwise-last r l x e f =
+      pairwise-append r l (x ∷ []) e refl (λ y z k m. ap (r y) (List·Memᴰ·eq-of-singleton m) ∙ all-at (λ w. r w x) k f)
 
   -- two tests one after the other
   pub any-and : (p q : A → Bool) (l : List A) → any (λ x. p x && q x) l ≡ any q (keep p l)
@@ -115,13 +123,15 @@ module _ {A : Type 0} where
       go false e false f h = h
 
   -- a test is not passed by what another test, which it implies where r holds, leaves out
-  pub any-keep : (q p r : A → Bool) → ((x : A) → r x ≡ true → q x ≡ true → p x ≡ true) → (l : List A) → all r l ≡ true → any q (keep p l) ≡ any q l
+  pub any-keep : (q p r : A → Bool) → ((x : A) → r x ≡ true → q x ≡ true → p x ≡ true)
+      → (l : List A) → all r l ≡ true → any q (keep p l) ≡ any q l
   any-keep q p r h [] e = refl
   any-keep q p r h (x ∷ l) e =
       let w = both (r x) (all r l) e in
       go (p x) (q x) refl (h x (w .0)) (any-keep q p r h l (w .1))
     where
-      go : (b c : Bool) → q x ≡ c → (c ≡ true → b ≡ true) → any q (keep p l) ≡ any q l → any q (cond b (x ∷ keep p l) (keep p l)) ≡ (c || any q l)
+      go : (b c : Bool) → q x ≡ c → (c ≡ true → b ≡ true) → any q (keep p l) ≡ any q l
+          → any q (cond b (x ∷ keep p l) (keep p l)) ≡ (c || any q l)
       go true c f k ih = rw (f, ih)
       go false true f k ih = absurd (false≢true (k refl))
       go false false f k ih = ih
@@ -155,7 +165,8 @@ module _ {A B : Type 0} (g : A → B) where
   pairwise-mapped r (x ∷ l) = ap₂ _&&_ (all-map (r (g x)) l) (pairwise-mapped r l)
 
 -- an element of a map, whatever stands for one past the end
-pub getD-map : {A B : Type 0} (f : A → B) (l : List A) (i : ℕ) (d : A) (e : B) → i < length l → getD (map f l) i e ≡ f (getD l i d)
+pub getD-map : {A B : Type 0} (f : A → B) (l : List A) (i : ℕ) (d : A) (e : B)
+    → i < length l → getD (map f l) i e ≡ f (getD l i d)
 getD-map f [] i d e h = absurd (not-suc-le-zero h)
 getD-map f (x ∷ l) zero d e h = refl
 getD-map f (x ∷ l) (suc i) d e h = getD-map f l i d e (le-of-suc-le-suc h)

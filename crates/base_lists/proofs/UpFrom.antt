@@ -40,17 +40,21 @@ upFrom-in a (suc n) i h k =
 pub map-shift : {A : Type 0} (f : ℕ → A) (n a m : ℕ) → map f (upFrom (n + a) m) ≡ map (λ j. f (n + j)) (upFrom a m)
 unfolding upFrom
 map-shift f n a zero = refl
-map-shift f n a (suc m) = ap (λ (l : List _). f (n + a) ∷ l) (ap (λ (i : ℕ). map f (upFrom i m)) (sym (add-suc n a)) ∙ map-shift f n (suc a) m)
+map-shift f n a (suc m) =
+    ap (λ (l : List _). f (n + a) ∷ l)
+    (ap (λ (i : ℕ). map f (upFrom i m)) (sym (add-suc n a)) ∙ map-shift f n (suc a) m)
 
 -- two maps that agree, over numbers in a row from a on and from b on
-pub map-moved : {A : Type 0} (f g : ℕ → A) (a b n : ℕ) → ((i : ℕ) → i < n → f (a + i) ≡ g (b + i)) → map f (upFrom a n) ≡ map g (upFrom b n)
+pub map-moved : {A : Type 0} (f g : ℕ → A) (a b n : ℕ)
+    → ((i : ℕ) → i < n → f (a + i) ≡ g (b + i)) → map f (upFrom a n) ≡ map g (upFrom b n)
 unfolding upFrom
 map-moved f g a b zero h = refl
 map-moved f g a b (suc n) h =
     ap₂ _∷_ (rw (add-zero, add-zero) at (h 0 (omega arith)))
     (map-moved f g (suc a) (suc b) n (λ i k. rw (suc-add, suc-add, ← add-suc, ← add-suc) (h (suc i) (omega arith))))
 
-pub map-same : {A : Type 0} (f g : ℕ → A) (a n : ℕ) → ((i : ℕ) → a ≤ i → i < a + n → f i ≡ g i) → map f (upFrom a n) ≡ map g (upFrom a n)
+pub map-same : {A : Type 0} (f g : ℕ → A) (a n : ℕ)
+    → ((i : ℕ) → a ≤ i → i < a + n → f i ≡ g i) → map f (upFrom a n) ≡ map g (upFrom a n)
 map-same f g a n h = map-moved f g a a n (λ i k. h (a + i) (omega arith) (omega arith))
 
 -- ── keep ──
@@ -59,13 +63,15 @@ module _ (p : ℕ → Bool) where
   pub keep-none : (a n : ℕ) → ((i : ℕ) → a ≤ i → i < a + n → p i ≡ false) → keep p (upFrom a n) ≡ []
   unfolding upFrom
   keep-none a zero h = refl
-  keep-none a (suc n) h = rw (h a (omega arith) (omega arith)) (keep-none (suc a) n (λ i s t. h i (omega arith) (omega arith)))
+  keep-none a (suc n) h =
+      rw (h a (omega arith) (omega arith)) (keep-none (suc a) n (λ i s t. h i (omega arith) (omega arith)))
 
   pub keep-all : (a n : ℕ) → ((i : ℕ) → a ≤ i → i < a + n → p i ≡ true) → keep p (upFrom a n) ≡ upFrom a n
   unfolding upFrom
   keep-all a zero h = refl
   keep-all a (suc n) h =
-      rw (h a (omega arith) (omega arith)) (ap (λ (xs : List ℕ). a ∷ xs) (keep-all (suc a) n (λ i s t. h i (omega arith) (omega arith))))
+      rw (h a (omega arith) (omega arith))
+      (ap (λ (xs : List ℕ). a ∷ xs) (keep-all (suc a) n (λ i s t. h i (omega arith) (omega arith))))
 
   -- of the numbers lo to hi, a test that passes from x to y alone keeps these
   pub keep-between : (lo hi x y : ℕ) → lo ≤ x → x ≤ y → y ≤ hi → ((i : ℕ) → lo ≤ i → i < x → p i ≡ false)
@@ -89,15 +95,18 @@ module _ (p : ℕ → Bool) where
 
 -- ── blocks, one for each number ──
 
-pub flatMap-append : {A B : Type 0} (g : A → List B) (xs ys : List A) → flatMap g (xs ++ ys) ≡ flatMap g xs ++ flatMap g ys
+pub flatMap-append : {A B : Type 0} (g : A → List B) (xs ys : List A)
+    → flatMap g (xs ++ ys) ≡ flatMap g xs ++ flatMap g ys
 unfolding flatMap
 flatMap-append g [] ys = refl
 flatMap-append g (x ∷ xs) ys = rw (flatMap-append g xs ys, append-assoc)
 
-pub flatMap-same : {A : Type 0} (f g : ℕ → List A) (a n : ℕ) → ((i : ℕ) → a ≤ i → i < a + n → f i ≡ g i) → flatMap f (upFrom a n) ≡ flatMap g (upFrom a n)
+pub flatMap-same : {A : Type 0} (f g : ℕ → List A) (a n : ℕ)
+    → ((i : ℕ) → a ≤ i → i < a + n → f i ≡ g i) → flatMap f (upFrom a n) ≡ flatMap g (upFrom a n)
 unfolding flatMap upFrom
 flatMap-same f g a zero h = refl
-flatMap-same f g a (suc n) h = rw (h a (omega arith) (omega arith), flatMap-same f g (suc a) n (λ i s t. h i (omega arith) (omega arith)))
+flatMap-same f g a (suc n) h =
+    rw (h a (omega arith) (omega arith), flatMap-same f g (suc a) n (λ i s t. h i (omega arith) (omega arith)))
 
 module _ {A : Type 0} (g : ℕ → List A) where
   pub flatMap-in : {x : A} (a n i : ℕ) → a ≤ i → i < a + n → List·Memᴰ x (g i) → List·Memᴰ x (flatMap g (upFrom a n))
@@ -109,7 +118,8 @@ module _ {A : Type 0} (g : ℕ → List A) where
         | no l ↦ let e : i ≡ a = omega arith in Memᴰ·append-left _ (rw e at m)
       ]
 
-  pub flatMap-from : {x : A} (a n : ℕ) → List·Memᴰ x (flatMap g (upFrom a n)) → (i : ℕ) × (a ≤ i) × (i < a + n) × List·Memᴰ x (g i)
+  pub flatMap-from : {x : A} (a n : ℕ) → List·Memᴰ x (flatMap g (upFrom a n))
+      → (i : ℕ) × (a ≤ i) × (i < a + n) × List·Memᴰ x (g i)
   unfolding flatMap upFrom
   flatMap-from a zero m = absurd (List·Memᴰ·not-nil m)
   flatMap-from a (suc n) m =
@@ -133,7 +143,8 @@ map-blocks g [] = refl
 map-blocks g (x ∷ xs) = ap (λ (ys : List _). g x ∷ ys) (map-blocks g xs)
 
 -- what a map makes of numbers in a row is in order where it keeps their order
-pub pairwise-map : {A : Type 0} (g : ℕ → A) (r : A → A → Bool) → ((i j : ℕ) → i < j → r (g i) (g j) ≡ true) → (a n : ℕ) → pairwise r (map g (upFrom a n)) ≡ true
+pub pairwise-map : {A : Type 0} (g : ℕ → A) (r : A → A → Bool)
+    → ((i j : ℕ) → i < j → r (g i) (g j) ≡ true) → (a n : ℕ) → pairwise r (map g (upFrom a n)) ≡ true
 pairwise-map g r h a n =
     rw (map-blocks g (upFrom a n))
     (pairwise-flatMap (λ i. g i ∷ []) r (λ i. refl)

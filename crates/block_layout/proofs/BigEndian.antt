@@ -43,12 +43,16 @@ be-at zero n i h = absurd (omega arith)
 be-at (suc w) n i h = elim (decLt i w) [
   | yes l ↦
       let e : suc w - 1 - i ≡ suc (w - 1 - i) = omega arith in
-      List·getD-append (be w (n / 256)) (n % 256 ∷ []) 0 i (omega (arith, be-length w (n / 256))) ∙ be-at w (n / 256) i l
-      ∙ ap (λ (x : ℕ). x % 256) (div-div-eq-div-mul n 256 (256 ^ (w - 1 - i)) ∙ ap (λ (m : ℕ). n / m) (sym (pow-succ' 256 (w - 1 - i))) ∙ ap (λ (m : ℕ). n / 256 ^ m) (sym e))
+      List·getD-append (be w (n / 256)) (n % 256 ∷ []) 0 i (omega (arith, be-length w (n / 256)))
+      ∙ be-at w (n / 256) i l
+      ∙ ap (λ (x : ℕ). x % 256)
+      (div-div-eq-div-mul n 256 (256 ^ (w - 1 - i))
+      ∙ ap (λ (m : ℕ). n / m) (sym (pow-succ' 256 (w - 1 - i))) ∙ ap (λ (m : ℕ). n / 256 ^ m) (sym e))
   | no l ↦
       let e : i ≡ w = omega arith in
       let z : suc w - 1 - i ≡ 0 = omega arith in
-      ap (λ (m : ℕ). getD (be w (n / 256) ++ (n % 256 ∷ [])) m 0) e ∙ getD-at (be w (n / 256)) (n % 256) [] 0 w (be-length w (n / 256))
+      ap (λ (m : ℕ). getD (be w (n / 256) ++ (n % 256 ∷ [])) m 0) e
+      ∙ getD-at (be w (n / 256)) (n % 256) [] 0 w (be-length w (n / 256))
       ∙ ap (λ (x : ℕ). x % 256) (sym (div-one n)) ∙ ap (λ (m : ℕ). n / 256 ^ m % 256) (sym z)
 ]
 
@@ -62,13 +66,19 @@ unbe-be-lt (suc w) n =
 
 -- ---- a writer from the last byte to the first: after the bytes from i on, what is left of the number is n
 
-pub be-set : (i n : ℕ) (xs : List ℕ) → 0 < i → i ≤ length xs → be i n ++ drop i xs ≡ be (i - 1) (n / 256) ++ drop (i - 1) (set xs (i - 1) (n % 256))
+pub be-set : (i n : ℕ) (xs : List ℕ) → 0 < i → i ≤ length xs
+    → be i n ++ drop i xs ≡ be (i - 1) (n / 256) ++ drop (i - 1) (set xs (i - 1) (n % 256))
 unfolding be
 be-set zero n xs p h = absurd (not-suc-le-zero p)
 be-set (suc i) n xs p h =
     let h2 : i < length (set xs i (n % 256)) = rw length-set h in
     let e : suc i - 1 ≡ i = omega arith in
-    rw (e, drop-cons (set xs i (n % 256)) i 0 h2, getD-set-same xs i (n % 256) 0 h, drop-set-lt (suc i) xs i (n % 256) (omega arith))
+    rw (
+      e,
+      drop-cons (set xs i (n % 256)) i 0 h2,
+      getD-set-same xs i (n % 256) 0 h,
+      drop-set-lt (suc i) xs i (n % 256) (omega arith),
+    )
     (append-snoc (be i (n / 256)) (n % 256) (drop (suc i) xs))
 
 -- ---- a reader from the first byte to the last
@@ -99,7 +109,8 @@ spelled-lt (suc i) bs b = elim (decLt i (length bs)) [
       let low = digit-lt i (unbe (take i bs)) (getD bs i 0) (spelled-lt i bs b) (b i) in
       rw (add-one i) at (rw more at low))
   | no h ↦
-      (let low : unbe (take i bs) * 256 + 0 < 256 ^ (i + 1) = digit-lt i (unbe (take i bs)) 0 (spelled-lt i bs b) (omega arith) in
+      (let low : unbe (take i bs) * 256 + 0 < 256 ^ (i + 1) =
+      digit-lt i (unbe (take i bs)) 0 (spelled-lt i bs b) (omega arith) in
       let same : take (suc i) bs ≡ take i bs = take-all (suc i) bs (omega arith) ∙ sym (take-all i bs (omega arith)) in
       rw (same, ← add-one i) (omega arith))
 ]
@@ -121,7 +132,9 @@ be-unbe w bs e b = rw (take-all w bs (omega arith)) at (be-front w bs (omega ari
 bytes-take : (n : ℕ) (bs : List ℕ) → Bytes bs → Bytes (take n bs)
 bytes-take n bs b i = elim (decLt i n) [
   | yes h ↦ rw (getD-take n bs i 0 h) (b i)
-  | no h ↦ (let l : length (take n bs) ≤ i = rw (length-take n bs) (omega arith) in rw (List·getD-eq-default (take n bs) 0 l) (omega arith))
+  | no h ↦
+      (let l : length (take n bs) ≤ i = rw (length-take n bs) (omega arith) in
+      rw (List·getD-eq-default (take n bs) 0 l) (omega arith))
 ]
 
 bytes-drop : (a : ℕ) (bs : List ℕ) → Bytes bs → Bytes (drop a bs)

@@ -27,7 +27,8 @@ unfolding sealBlock
 seal-fits block h = overwritten-fits blockLength (sealed (take bodyLength block)) block h
 
 -- the CRC is stored behind what it covers
-pub seal-set : (block : List ℕ) → length block ≡ blockLength → set block bodyLength (crcOf (take bodyLength block)) ≡ sealBlock block
+pub seal-set : (block : List ℕ) → length block ≡ blockLength
+    → set block bodyLength (crcOf (take bodyLength block)) ≡ sealBlock block
 unfolding sealed
 seal-set block h =
     let l : bodyLength < length block = omega arith in
@@ -35,21 +36,27 @@ seal-set block h =
     rw (seal-fits block h, set-split block bodyLength (crcOf (take bodyLength block)) l, drop-of-length-le block e)
 
 -- a block that was written up to the CRC
-pub seal-front : (front : List ℕ) {orig xs : List ℕ} → Begun orig front bodyLength xs → length orig ≡ blockLength → sealBlock xs ≡ sealed front
+pub seal-front : (front : List ℕ) {orig xs : List ℕ} → Begun orig front bodyLength xs
+    → length orig ≡ blockLength → sealBlock xs ≡ sealed front
 seal-front front {orig} {xs} b l = seal-fits xs (begun-length b ∙ l) ∙ ap sealed (so-far b)
 
 -- the same, its cells in a part of their own
 pub seal-written : (header : List ℕ) (cells : List (List ℕ)) {orig xs : List ℕ} → length header ≡ headerLength
-    → Begun orig (header ++ padded (bodyLength - headerLength) (flatten cells)) bodyLength xs → length orig ≡ blockLength → sealBlock xs ≡ blockOf header cells
+    → Begun orig (header ++ padded (bodyLength - headerLength) (flatten cells)) bodyLength xs
+    → length orig ≡ blockLength → sealBlock xs ≡ blockOf header cells
 unfolding blockOf
 seal-written header cells {orig} {xs} h b l =
-    let e : bodyLength - headerLength - length (flatten cells) ≡ bodyLength - length (header ++ flatten cells) = rw length-append (omega arith) in
+    let e : bodyLength - headerLength - length (flatten cells) ≡ bodyLength - length (header ++ flatten cells) =
+    rw length-append (omega arith) in
     seal-fits xs (begun-length b ∙ l)
-    ∙ ap sealed (so-far b ∙ sym (append-assoc header (flatten cells) _) ∙ ap (λ (n : ℕ). header ++ flatten cells ++ replicate n 0) e)
+    ∙ ap sealed
+    (so-far b ∙ sym (append-assoc header (flatten cells) _)
+    ∙ ap (λ (n : ℕ). header ++ flatten cells ++ replicate n 0) e)
 
 -- ---- reading
 
-module _ (header : List ℕ) (cells : List (List ℕ)) (h : length header ≡ headerLength) (each : Each cellLength cells) (few : length cells ≤ cellsPerBlock) where
+module _ (header : List ℕ) (cells : List (List ℕ)) (h : length header ≡ headerLength)
+    (each : Each cellLength cells) (few : length cells ≤ cellsPerBlock) where
   -- what is used, and with the zeros
   abbrev used : List ℕ
   used = header ++ flatten cells
@@ -69,7 +76,9 @@ module _ (header : List ℕ) (cells : List (List ℕ)) (h : length header ≡ he
 
   pub block-crc : getD (blockOf header cells) bodyLength 0 ≡ crcOf (take bodyLength (blockOf header cells))
   unfolding blockOf sealed
-  block-crc = getD-at body (crcOf body) [] 0 bodyLength body-length ∙ ap crcOf (sym (take-at body (crcOf body ∷ []) bodyLength body-length))
+  block-crc =
+      getD-at body (crcOf body) [] 0 bodyLength body-length
+      ∙ ap crcOf (sym (take-at body (crcOf body ∷ []) bodyLength body-length))
 
   in-body : (a n : ℕ) → a + n ≤ bodyLength → part a n (blockOf header cells) ≡ part a n body
   unfolding blockOf sealed
@@ -77,11 +86,13 @@ module _ (header : List ℕ) (cells : List (List ℕ)) (h : length header ≡ he
 
   in-used : (a n : ℕ) → a + n ≤ length used → part a n (blockOf header cells) ≡ part a n used
   in-used a n k =
-      in-body a n (omega (arith, used-length)) ∙ left used (replicate (bodyLength - length used) 0) (length used) a n refl k
+      in-body a n (omega (arith, used-length))
+      ∙ left used (replicate (bodyLength - length used) 0) (length used) a n refl k
 
   pub block-header : blockHeader (blockOf header cells) ≡ header
   block-header =
-      in-used 0 headerLength (omega (arith, used-length)) ∙ left header (flatten cells) headerLength 0 headerLength h (omega arith)
+      in-used 0 headerLength (omega (arith, used-length))
+      ∙ left header (flatten cells) headerLength 0 headerLength h (omega arith)
       ∙ whole header headerLength h
 
   pub block-cell : (i : ℕ) → i < length cells → blockCell i (blockOf header cells) ≡ getD cells i []

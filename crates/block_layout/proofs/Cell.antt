@@ -28,11 +28,13 @@ module _ (time : ℕ) (bytes : List ℕ) (last : ℕ) (old : List ℕ) where
   module _ (fits : length bytes ≤ cellCapacity) where
     pub put-other : (length old ≡ cellLength → ⊥) → putCell time bytes last old ≡ old
     unfolding putCell
-    put-other h = rw (le-leb (length bytes) cellCapacity fits) (overwritten-not cellLength (cellOf time bytes last) old h)
+    put-other h =
+        rw (le-leb (length bytes) cellCapacity fits) (overwritten-not cellLength (cellOf time bytes last) old h)
 
     pub put-fits : length old ≡ cellLength → putCell time bytes last old ≡ cellOf time bytes last
     unfolding putCell
-    put-fits h = rw (le-leb (length bytes) cellCapacity fits) (overwritten-fits cellLength (cellOf time bytes last) old h)
+    put-fits h =
+        rw (le-leb (length bytes) cellCapacity fits) (overwritten-fits cellLength (cellOf time bytes last) old h)
 
 -- ---- reading
 
@@ -48,7 +50,9 @@ module _ (time : ℕ) (bytes : List ℕ) (end : ℕ) (fits : length bytes ≤ ce
   used-length = simp (length-append, be-length)
 
   field-length : length toField ≡ 30
-  field-length = length-append toUsed (padded cellCapacity bytes) ∙ omega (arith, used-length, padded-length cellCapacity bytes fits)
+  field-length =
+      length-append toUsed (padded cellCapacity bytes)
+      ∙ omega (arith, used-length, padded-length cellCapacity bytes fits)
 
   pub cell-length : length (cellOf time bytes end) ≡ cellLength
   unfolding cellOf
@@ -57,8 +61,10 @@ module _ (time : ℕ) (bytes : List ℕ) (end : ℕ) (fits : length bytes ≤ ce
   time-bytes : part 0 8 (cellOf time bytes end) ≡ be 8 time
   unfolding cellOf
   time-bytes =
-      left toField (be 2 end) 30 0 8 field-length (omega arith) ∙ left toUsed (padded cellCapacity bytes) 9 0 8 used-length (omega arith)
-      ∙ left (be 8 time) (length bytes ∷ []) 8 0 8 (be-length 8 time) (omega arith) ∙ whole (be 8 time) 8 (be-length 8 time)
+      left toField (be 2 end) 30 0 8 field-length (omega arith)
+      ∙ left toUsed (padded cellCapacity bytes) 9 0 8 used-length (omega arith)
+      ∙ left (be 8 time) (length bytes ∷ []) 8 0 8 (be-length 8 time) (omega arith)
+      ∙ whole (be 8 time) 8 (be-length 8 time)
 
   pub cell-time : time < 2 ^ 64 → cellTime (cellOf time bytes end) ≡ time
   cell-time h = ap unbe time-bytes ∙ unbe-be 8 time h
@@ -69,7 +75,8 @@ module _ (time : ℕ) (bytes : List ℕ) (end : ℕ) (fits : length bytes ≤ ce
   pub cell-used : cellUsed (cellOf time bytes end) ≡ length bytes
   unfolding cellOf
   cell-used =
-      List·getD-append toField (be 2 end) 0 8 (omega (arith, field-length)) ∙ List·getD-append toUsed (padded cellCapacity bytes) 0 8 (omega (arith, used-length))
+      List·getD-append toField (be 2 end) 0 8 (omega (arith, field-length))
+      ∙ List·getD-append toUsed (padded cellCapacity bytes) 0 8 (omega (arith, used-length))
       ∙ getD-at (be 8 time) (length bytes) [] 0 8 (be-length 8 time)
 
   pub cell-field : cellField (cellOf time bytes end) ≡ padded cellCapacity bytes

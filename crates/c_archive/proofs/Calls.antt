@@ -34,12 +34,14 @@ module _ (why : Refusal) (k old : ℕ) {n p : ℕ} (is : n ≡ numberOf why) (at
   pub append-not : (buffer : List ℕ) → refusedAppend n p buffer ≡ appendCall (refusedAppend (numberOf why) k buffer) old
   append-not buffer = rw (is, at)
 
-  pub remove-not : (freed : ℕ) (buffer : List ℕ) → removal n p freed buffer ≡ removeCall (removal (numberOf why) k 0 buffer) freed old
+  pub remove-not : (freed : ℕ) (buffer : List ℕ)
+      → removal n p freed buffer ≡ removeCall (removal (numberOf why) k 0 buffer) freed old
   remove-not freed buffer = rw (ne-eqb (numberOf why) 0 (refused-number why), is, at)
 
 -- ---- several rows
 
-module _ (n p : ℕ) {m : ℕ} {block : List ℕ} {a : Appended} (old : ℕ) (told : n ≡ m) (is : refusedAppend m p block ≡ a) where
+module _ (n p : ℕ) {m : ℕ} {block : List ℕ} {a : Appended} (old : ℕ)
+    (told : n ≡ m) (is : refusedAppend m p block ≡ a) where
   pub put-not : hasPlace n ≡ false → refusedAppend n old block ≡ putRowsCall a old
   put-not h = rw (← is, ← told, h)
 
@@ -73,19 +75,23 @@ module _ (buffer : List ℕ) (i : ℕ) (old : List ℕ) (was : ℕ) where
   row-other h = rw (ne-eqb (length old) rowLength h)
 
   module _ (h : length old ≡ rowLength) where
-    pub row-not : (number : ℕ) → number ≡ rowAtOf buffer i .number → (number ≡ 0 → ⊥) → rowAnswer number old was ≡ rowCall buffer i old was
+    pub row-not : (number : ℕ) → number ≡ rowAtOf buffer i .number
+        → (number ≡ 0 → ⊥) → rowAnswer number old was ≡ rowCall buffer i old was
     unfolding rowCall
-    row-not number is n = rw (eq-eqb (length old) rowLength h, ne-eqb (rowAtOf buffer i .number) 0 (λ z. n (is ∙ z)), is)
+    row-not number is n =
+        rw (eq-eqb (length old) rowLength h, ne-eqb (rowAtOf buffer i .number) 0 (λ z. n (is ∙ z)), is)
 
     pub row-done : rowAtOf buffer i .number ≡ 0
-        → rowAnswer (rowAtOf buffer i .number) (rowBytes (rowAtOf buffer i .row)) (rowAtOf buffer i .row .time) ≡ rowCall buffer i old was
+        → rowAnswer (rowAtOf buffer i .number) (rowBytes (rowAtOf buffer i .row)) (rowAtOf buffer i .row .time)
+        ≡ rowCall buffer i old was
     unfolding rowCall
     row-done z = rw (eq-eqb (length old) rowLength h, z)
 
 -- what is written of a row that was found
 module _ (buffer : List ℕ) (i flag number len time : ℕ) (xs : List ℕ) (loose : Bool) where
   pub row-are : flag ≡ flagByte loose → rowAtOf buffer i .number ≡ 0
-      → _≡_ {A = Shown} (record { number = number; len = len; bytes = xs; time = time; loose = loose }) (rowShown (rowAtOf buffer i) (cellAt i buffer))
+      → _≡_ {A = Shown} (record { number = number; len = len; bytes = xs; time = time; loose = loose })
+      (rowShown (rowAtOf buffer i) (cellAt i buffer))
       → rowAnswer number ((flag ∷ len ∷ []) ++ resized cellCapacity (take len xs)) time
       ≡ rowAnswer (rowAtOf buffer i .number) (rowBytes (rowAtOf buffer i .row)) (rowAtOf buffer i .row .time)
   unfolding frameBytes rowBytes

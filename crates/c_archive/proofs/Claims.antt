@@ -20,6 +20,8 @@ pub given-again : GivenAgain
 unfolding rowBytes frameBytes
 given-again r v =
     let short = check-facts (r .bytes) (eqb-true (checkOf (r .bytes)) 0 v) .high in
-    let bytes = ap (resized (length (r .bytes))) (resized-padded maxLength (r .bytes) short) ∙ resized-back maxLength (r .bytes) short in
+    let bytes =
+    ap (resized (length (r .bytes))) (resized-padded maxLength (r .bytes) short)
+    ∙ resized-back maxLength (r .bytes) short in
     let loose = flag-back (r .loose) in
     λ j. record { bytes = bytes j; time = r .time; loose = loose j }

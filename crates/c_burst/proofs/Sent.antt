@@ -29,20 +29,28 @@ use Rattle.c_burst.specs.Bytes.{receptionIn, replyBytes}
 use Rattle.c_burst.specs.Private.{Answered}
 
 pub sent-few : (setting : ℕ) (a : Shown) (s old : List ℕ) {out : List ℕ} {len : ℕ}
-    → _≡_ {A = Result} (record { number = 0; len = len; output = out }) (written (relayedFor setting a s) old) → len ≤ maxLength
+    → _≡_ {A = Result} (record { number = 0; len = len; output = out }) (written (relayedFor setting a s) old)
+    → len ≤ maxLength
 sent-few setting a s old e = omega (arith, ap (λ (r : Result). r .len) e, relayed-fits setting a s)
 
-module _ (setting : ℕ) (v : View) (ok : acceptable v ≡ true) (frame : List ℕ) (full : length frame ≡ frameLength) (time : ℕ) where
+module _ (setting : ℕ) (v : View) (ok : acceptable v ≡ true)
+    (frame : List ℕ) (full : length frame ≡ frameLength) (time : ℕ) where
   abbrev r : Reception
   r = receptionIn frame time
 
   -- what is told of the state is right
-  as-step : admittedWith setting true v r ≡ record { reply = replyWith setting (step v r .answer) r; next = step v r .next }
-  as-step = ap (λ (o : Outcome). record { reply = replyWith setting (o .answer) r; next = o .next }) (admission-fit v r true (sym ok))
+  as-step : admittedWith setting true v r
+      ≡ record { reply = replyWith setting (step v r .answer) r; next = step v r .next }
+  as-step =
+      ap (λ (o : Outcome). record { reply = replyWith setting (o .answer) r; next = o .next })
+      (admission-fit v r true (sym ok))
 
-  pub answered : (a a' : Columns) (bytes : List ℕ) → bytes ≡ part 0 (sizeOf (getD frame 0 0)) (drop 1 frame) → (o : Outcome)
-      → o ≡ admission true v (record { bytes = bytes; time = time }) → a' ≡ columnsAdmitted true v (record { bytes = bytes; time = time }) a → (len : ℕ) (out : List ℕ)
-      → _≡_ {A = Result} (record { number = 0; len = len; output = out }) (written (relayedFor setting (o .answer) bytes) (replicate maxLength 0))
+  pub answered : (a a' : Columns) (bytes : List ℕ)
+      → bytes ≡ part 0 (sizeOf (getD frame 0 0)) (drop 1 frame) → (o : Outcome)
+      → o ≡ admission true v (record { bytes = bytes; time = time })
+      → a' ≡ columnsAdmitted true v (record { bytes = bytes; time = time }) a → (len : ℕ) (out : List ℕ)
+      → _≡_ {A = Result} (record { number = 0; len = len; output = out })
+      (written (relayedFor setting (o .answer) bytes) (replicate maxLength 0))
       → (reply : List ℕ) → reply ≡ replyBytes (record { answer = o .answer; sent = record { len = len; bytes = out } })
       → Answered setting v a r reply (o .next) a'
   answered a a' bytes e o admits elements len out relays reply put = record {
@@ -60,9 +68,11 @@ module _ (setting : ℕ) (v : View) (ok : acceptable v ≡ true) (frame : List �
       whole-frame : length (drop 1 frame) ≡ maxLength
       whole-frame = length-drop 1 frame ∙ omega (arith, full)
 
-      whole : _≡_ {A = StepResult} (record { reply = record { answer = o .answer; sent = record { len = len; bytes = out } }; next = o .next })
+      whole : _≡_ {A = StepResult}
+          (record { reply = record { answer = o .answer; sent = record { len = len; bytes = out } }; next = o .next })
           (record { reply = replyWith setting (step v r .answer) r; next = step v r .next })
       whole =
-          sent-with setting true v (record { bytes = bytes; time = time }) o (record { len = len; bytes = out }) admits (frame-written _ relays)
+          sent-with setting true v (record { bytes = bytes; time = time }) o
+          (record { len = len; bytes = out }) admits (frame-written _ relays)
           ∙ ap (λ (l : List ℕ). admittedWith setting true v (record { bytes = l; time = time })) e
           ∙ handed setting true v handing whole-frame ∙ as-step

@@ -24,7 +24,8 @@ module _ (moments records : ℕ) where
 
   pub sized-same : records / 22 ≡ moments → eqb (records % 22) 0 ≡ isSized moments records
   sized-same e = by-test (eqb (records % 22) 0)
-      (λ t. let z : records % 22 ≡ 0 = eqb-true (records % 22) 0 t in t ∙ sym (eq-eqb records (22 * moments) (omega arith)))
+      (λ t. let z : records % 22 ≡ 0 = eqb-true (records % 22) 0 t in
+      t ∙ sym (eq-eqb records (22 * moments) (omega arith)))
       (λ t. t ∙ sym (ne-eqb records (22 * moments) (λ s. eqb-false (records % 22) 0 t (omega arith))))
 
   pub records-are : isSized moments records ≡ true → records ≡ frameLength * moments

@@ -57,7 +57,16 @@ module _ (setting : ℕ) (v : View) (a₀ : Columns) (rs : List Reception) (old 
     pub replied : front ++ bytesOf (repliesTo setting here (drop i rs)) ≡ bytesOf (repliesTo setting v rs)
 
   pub starts : Tested true v → Going 0 v a₀ old
-  starts t = record { within = zero-le; tested = t; state = refl; elements = refl; front = []; written = begin old; replied = refl }
+  starts t =
+      record {
+        within = zero-le;
+        tested = t;
+        state = refl;
+        elements = refl;
+        front = [];
+        written = begin old;
+        replied = refl;
+      }
 
   module _ {i : ℕ} {here : View} {a : Columns} {out : List ℕ} (g : Going i here a out) where
     module _ (h : i < length rs) (r : Reception) (e : getD rs i noReception ≡ r) where
@@ -65,9 +74,12 @@ module _ (setting : ℕ) (v : View) (a₀ : Columns) (rs : List Reception) (old 
       left : drop i rs ≡ r ∷ drop (i + 1) rs
       left = rw (add-one i) (drop-cons rs i noReception h ∙ ap (λ (x : Reception). x ∷ drop (suc i) rs) e)
 
-      pub turns : r .time < 2 ^ 64 → replyLength * length rs ≤ length old → (ys : List ℕ) (next : View) (a' : Columns) → Answered setting here a r ys next a'
+      pub turns : r .time < 2 ^ 64 → replyLength * length rs ≤ length old
+          → (ys : List ℕ) (next : View) (a' : Columns) → Answered setting here a r ys next a'
           → length ys ≡ length (part (replyLength * i) (replyLength * i + replyLength - replyLength * i) out)
-          → Going (i + 1) next a' (take (replyLength * i) out ++ (ys ++ drop (replyLength * i + replyLength - replyLength * i) (drop (replyLength * i) out)))
+          → Going (i + 1) next a'
+          (take (replyLength * i) out
+          ++ (ys ++ drop (replyLength * i + replyLength - replyLength * i) (drop (replyLength * i) out)))
       unfolding afterAll columnsAfterAll repliesTo flatten
       turns small room ys next a' k same = record {
         within = omega arith;
@@ -77,7 +89,8 @@ module _ (setting : ℕ) (v : View) (a₀ : Columns) (rs : List Reception) (old 
             ∙ ap (λ (l : List Reception). columnsAfterAll here l a) (sym left) ∙ g .elements;
         state = ap (λ (u : View). afterAll u (drop (i + 1) rs)) (k .stepped) ∙ ap (afterAll here) (sym left) ∙ g .state;
         front = g .front ++ ys;
-        written = rw more (lend (g .written) ys ys (replyLength * i + replyLength) refl same (omega arith) (omega arith));
+        written =
+            rw more (lend (g .written) ys ys (replyLength * i + replyLength) refl same (omega arith) (omega arith));
         replied =
             append-assoc (g .front) ys (bytesOf (repliesTo setting next (drop (i + 1) rs)))
             ∙ ap (λ (l : List ℕ). g .front ++ l) one
@@ -88,10 +101,13 @@ module _ (setting : ℕ) (v : View) (a₀ : Columns) (rs : List Reception) (old 
           more : replyLength * (i + 1) ≡ replyLength * i + replyLength
           more = omega arith
 
-          one : ys ++ bytesOf (repliesTo setting next (drop (i + 1) rs)) ≡ bytesOf (repliesTo setting here (r ∷ drop (i + 1) rs))
+          one : ys ++ bytesOf (repliesTo setting next (drop (i + 1) rs))
+              ≡ bytesOf (repliesTo setting here (r ∷ drop (i + 1) rs))
           one =
               ap (λ (l : List ℕ). l ++ bytesOf (repliesTo setting next (drop (i + 1) rs))) (k .replied)
-              ∙ ap (λ (u : View). replyBytes (replyWith setting (step here r .answer) r) ++ bytesOf (repliesTo setting u (drop (i + 1) rs))) (k .stepped)
+              ∙ ap (λ (u : View). replyBytes (replyWith setting (step here r .answer) r)
+              ++ bytesOf (repliesTo setting u (drop (i + 1) rs)))
+              (k .stepped)
 
     pub ends : length rs ≤ i → Delivered setting v a₀ rs old out here a
     unfolding afterAll columnsAfterAll repliesTo flatten
@@ -102,7 +118,9 @@ module _ (setting : ℕ) (v : View) (a₀ : Columns) (rs : List Reception) (old 
           replied =
               g .written .is
               ∙ ap (λ (l : List ℕ). l ++ drop (replyLength * i) old)
-              (sym (append-nil (g .front)) ∙ ap (λ (l : List Reception). g .front ++ bytesOf (repliesTo setting here l)) (sym none) ∙ g .replied)
+              (sym (append-nil (g .front))
+              ∙ ap (λ (l : List Reception). g .front ++ bytesOf (repliesTo setting here l)) (sym none)
+              ∙ g .replied)
               ∙ ap (λ (n : ℕ). bytesOf (repliesTo setting v rs) ++ drop (replyLength * n) old) all;
           stepped = ap (afterAll here) (sym none) ∙ g .state;
           elements = ap (λ (l : List Reception). columnsAfterAll here l a) (sym none) ∙ g .elements;

@@ -43,7 +43,8 @@ module _ (s : Arrays) (setting : ℕ) (moments records old : List ℕ) where
 
   pub wrong-size : acceptable v ≡ true → sized ≡ false → Gives wrongSize s old
   unfolding burstCall columnsAfterAll
-  wrong-size ok bad = record { result = rw (ok, bad); counted = λ e. absurd (wrong e); elements = refl; stays = λ _. refl }
+  wrong-size ok bad =
+      record { result = rw (ok, bad); counted = λ e. absurd (wrong e); elements = refl; stays = λ _. refl }
     where
       wrong : wrongSize ≡ 0 → ⊥
       wrong e = absurd (omega arith)
@@ -62,7 +63,10 @@ module _ (s : Arrays) (setting : ℕ) (moments records old : List ℕ) where
   module _ (fair : acceptable v && not sized ≡ false) where
     call-is : shown (burstNumber setting v (length moments) room) ≡ burstCall setting v moments records old
     unfolding burstCall shown
-    call-is = rw fair (ap₂ (λ (n m : ℕ). shown (burstNumber setting v n m)) (sym (receptions-count moments records)) (sym (length-replicate room anyPlace)))
+    call-is =
+        rw fair
+        (ap₂ (λ (n m : ℕ). shown (burstNumber setting v n m))
+        (sym (receptions-count moments records)) (sym (length-replicate room anyPlace)))
 
     -- nothing is taken beside a refusal
     refused : (n : ℕ) → n ≡ burstNumber setting v (length moments) room → (n ≡ 0 → ⊥) → Gives n s old
@@ -92,9 +96,11 @@ module _ (s : Arrays) (setting : ℕ) (moments records old : List ℕ) where
     pub refused-call : (n : ℕ) → n ≡ callNumber setting (length moments) room → (n ≡ 0 → ⊥) → Gives n s old
     refused-call n e = refused fair-call n (e ∙ same-number)
 
-    pub all-taken : callNumber setting (length moments) room ≡ 0 → (read : Summary) → read ≡ summaryIn (s .numbers) → (a : Columns) (next : Summary) (new : List ℕ)
+    pub all-taken : callNumber setting (length moments) room ≡ 0 → (read : Summary)
+        → read ≡ summaryIn (s .numbers) → (a : Columns) (next : Summary) (new : List ℕ)
         → Delivered setting (viewIn (columnsAt s) read) (columnsAt s) rs old new (viewIn a next) a
-        → (numbers : List ℕ) → numbers ≡ numbersIn next → Gives 0 (arrays (a .times) (a .lens) (a .bytes) (a .copies) numbers) new
+        → (numbers : List ℕ) → numbers ≡ numbersIn next
+        → Gives 0 (arrays (a .times) (a .lens) (a .bytes) (a .copies) numbers) new
     unfolding shown
     all-taken z read same a next new delivered numbers stored = record {
       result = whole;
@@ -104,17 +110,30 @@ module _ (s : Arrays) (setting : ℕ) (moments records old : List ℕ) where
     }
       where
         d : Delivered setting v (columnsAt s) rs old new (viewIn a next) a
-        d = subst (λ (x : Summary). Delivered setting (viewIn (columnsAt s) x) (columnsAt s) rs old new (viewIn a next) a) same delivered
+        d =
+            subst (λ (x : Summary). Delivered setting (viewIn (columnsAt s) x)
+            (columnsAt s) rs old new (viewIn a next) a)
+            same delivered
 
         done : shown 0 ≡ burstCall setting v moments records old
         done = ap shown (sym (sym same-number ∙ z)) ∙ call-is fair-call
 
-        fronts : take (length rs) (repliesTo setting v rs ++ drop (length rs) (replicate room anyPlace)) ≡ repliesTo setting v rs
-        fronts = take-at (repliesTo setting v rs) (drop (length rs) (replicate room anyPlace)) (length rs) (replies-to-length setting v rs)
+        fronts : take (length rs) (repliesTo setting v rs ++ drop (length rs) (replicate room anyPlace))
+            ≡ repliesTo setting v rs
+        fronts =
+            take-at (repliesTo setting v rs) (drop (length rs) (replicate room anyPlace))
+            (length rs) (replies-to-length setting v rs)
 
-        whole : record { number = 0; replies = new; next = viewIn a (summaryIn numbers) } ≡ burstCall setting v moments records old
+        whole : record { number = 0; replies = new; next = viewIn a (summaryIn numbers) }
+            ≡ burstCall setting v moments records old
         whole =
             ap (λ (l : List ℕ). record { number = 0; replies = new; next = viewIn a (summaryIn l) }) stored
             ∙ ap₂ (λ (l : List ℕ) (u : View). record { number = 0; replies = l; next = u }) (d .replied) (d .stepped)
-            ∙ ap (λ (l : List Replied). record { number = 0; replies = flatten (map replyBytes l) ++ drop (replyLength * length rs) old; next = afterAll v rs }) (sym fronts)
+            ∙ ap (λ (l : List Replied).
+            record {
+              number = 0;
+              replies = flatten (map replyBytes l) ++ drop (replyLength * length rs) old;
+              next = afterAll v rs;
+            })
+            (sym fronts)
             ∙ done

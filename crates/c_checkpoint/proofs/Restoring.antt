@@ -36,7 +36,8 @@ module _ (v : View) (ok : acceptable v ≡ true) (image : List ℕ) where
 
 module _ (s : Arrays) (bytes : List ℕ) where
   -- beside a refusal all stays
-  refused : record { number = numberOf NotAccepted; next = stateAt s } ≡ restoreOf (stateAt s) bytes → (n : ℕ) → n ≡ numberOf NotAccepted → Restores s bytes n s
+  refused : record { number = numberOf NotAccepted; next = stateAt s } ≡ restoreOf (stateAt s) bytes
+      → (n : ℕ) → n ≡ numberOf NotAccepted → Restores s bytes n s
   refused same n e = record {
     result = ap (λ (k : ℕ). restoreResult k s) e ∙ same;
     counted = λ z. absurd (refused-number NotAccepted (sym e ∙ z));
@@ -48,26 +49,36 @@ module _ (s : Arrays) (bytes : List ℕ) where
   refused-state bad = refused (restore-unacceptable (stateAt s) bad bytes)
 
   -- the image is restored to a fresh collector
-  module _ (ok : acceptable (stateAt s) ≡ true) (c : Collector) (new : viewOf c ≡ fresh) (r : Restored) (done : image.Restores c bytes r) where
+  module _ (ok : acceptable (stateAt s) ≡ true) (c : Collector)
+      (new : viewOf c ≡ fresh) (r : Restored) (done : image.Restores c bytes r) where
     result : image.restoreResult r ≡ restoreOf fresh bytes
     result = done .result ∙ ap (λ (v : View). restoreOf v bytes) new
 
     accepted : loadedNumber (r .answer) ≡ 0 → accepts bytes ≡ true
     accepted z = by-test (accepts bytes) (λ e. e)
-        (λ e. absurd (refused-number NotAccepted (ap (λ (x : RestoreResult). x .number) (kept fresh (good-acceptable good-fresh) bytes e ∙ sym result) ∙ z)))
+        (λ e.
+        absurd (refused-number NotAccepted
+        (ap (λ (x : RestoreResult). x .number) (kept fresh (good-acceptable good-fresh) bytes e ∙ sym result)
+        ∙ z)))
 
     not-accepted : (why : Refusal) → r .answer ≡ Refused why → accepts bytes ≡ false
     not-accepted why e = by-test (accepts bytes)
-        (λ t. absurd (refused-number why (ap loadedNumber (sym e) ∙ ap (λ (x : RestoreResult). x .number) (result ∙ held fresh (good-acceptable good-fresh) bytes t))))
+        (λ t.
+        absurd (refused-number why
+        (ap loadedNumber (sym e)
+        ∙ ap (λ (x : RestoreResult). x .number) (result ∙ held fresh (good-acceptable good-fresh) bytes t))))
         (λ t. t)
 
-    pub refused-image : (why : Refusal) → r .answer ≡ Refused why → (n : ℕ) → n ≡ numberOf NotAccepted → Restores s bytes n s
+    pub refused-image : (why : Refusal) → r .answer ≡ Refused why
+        → (n : ℕ) → n ≡ numberOf NotAccepted → Restores s bytes n s
     refused-image why e = refused (kept (stateAt s) ok bytes (not-accepted why e))
 
     pub restored : r .answer ≡ Done → (s' : Arrays) → s' ≡ arraysOf (r .next) → Restores s bytes 0 s'
     unfolding viewOf
     restored e s' put = record {
-      result = ap (restoreResult 0) put ∙ ap (λ (v : View). record { number = 0; next = v }) next ∙ sym (held (stateAt s) ok bytes yes);
+      result =
+          ap (restoreResult 0) put ∙ ap (λ (v : View). record { number = 0; next = v }) next
+          ∙ sym (held (stateAt s) ok bytes yes);
       counted = λ _. ap (λ (x : Arrays). x .numbers) put ∙ numbers-counted (columnsOf (r .next)) _ ∙ ap numbersOf next;
       elements = λ _. ap columnsAt put ∙ done .elements (ap loadedNumber e);
       stays = λ n. absurd (n refl);

@@ -30,16 +30,19 @@ module _ (s old : List ℕ) where
   unfolding readCall
   read-other h = rw (ne-eqb (length old) fieldsLength h)
 
-  pub read-done : length old ≡ fieldsLength → answered (readOf s .number) (fieldsBytes (readOf s .telegram)) old ≡ readCall s old
+  pub read-done : length old ≡ fieldsLength
+      → answered (readOf s .number) (fieldsBytes (readOf s .telegram)) old ≡ readCall s old
   unfolding readCall
   read-done h = rw (eq-eqb (length old) fieldsLength h)
 
 module _ (fields : List ℕ) (was : ℕ) (output : List ℕ) where
-  pub build-other : (length fields ≡ fieldsLength → ⊥) → (record { number = wrongSize; len = was; output = output }) ≡ buildCall fields was output
+  pub build-other : (length fields ≡ fieldsLength → ⊥)
+      → (record { number = wrongSize; len = was; output = output }) ≡ buildCall fields was output
   unfolding buildCall
   build-other h = rw (ne-eqb (length fields) fieldsLength h)
 
-  pub build-done : length fields ≡ fieldsLength → settled (buildOf (telegramIn fields) output) was ≡ buildCall fields was output
+  pub build-done : length fields ≡ fieldsLength
+      → settled (buildOf (telegramIn fields) output) was ≡ buildCall fields was output
   unfolding buildCall
   build-done h = rw (eq-eqb (length fields) fieldsLength h)
 
@@ -49,7 +52,8 @@ module _ (setting : ℕ) (s old : List ℕ) where
   repeat-other h = rw (ne-eqb (length old) frameLength h)
 
   pub repeat-done : length old ≡ frameLength
-      → answered (repeatResult setting s .number) (sentBytes (repeatResult setting s .sent)) old ≡ repeatCall setting s old
+      → answered (repeatResult setting s .number) (sentBytes (repeatResult setting s .sent)) old
+      ≡ repeatCall setting s old
   unfolding repeatCall
   repeat-done h = rw (eq-eqb (length old) frameLength h)
 
@@ -71,7 +75,8 @@ read-len s =
     branch (λ (t : Telegram). t .len ≤ maxData) (isValid s)
     (λ e.
     let v = check-facts s (eqb-true (checkOf s) 0 e) in
-    branch (λ (t : Telegram). t .len ≤ maxData) (isAddressed s) (λ a. omega (arith, v .high)) (λ a. omega (arith, v .high)))
+    branch (λ (t : Telegram). t .len ≤ maxData) (isAddressed s)
+    (λ a. omega (arith, v .high)) (λ a. omega (arith, v .high)))
     (λ e. zero-le)
 
 repeat-length : (setting : ℕ) (s : List ℕ) → length (repeatOf setting s) ≤ maxLength
@@ -81,13 +86,22 @@ repeat-length setting s =
 
 -- what is sent is no longer than a subtelegram
 pub sent-len : (setting : ℕ) (s : List ℕ) → repeatResult setting s .sent .len ≤ maxLength
-sent-len setting s = rw (repeat-sent setting s, frame-len (frameOf (repeatOf setting s)) (repeatOf setting s) refl) (repeat-length setting s)
+sent-len setting s =
+    rw (repeat-sent setting s, frame-len (frameOf (repeatOf setting s)) (repeatOf setting s) refl)
+    (repeat-length setting s)
 
 -- ---- fields
 
 -- what is written, part by part
 pub fields-are : (t : Telegram) (flag : ℕ) → flag ≡ flagByte (t .addressed) → Shaped t
-    → (t .rorg ∷ t .len ∷ flag ∷ t .status ∷ []) ++ resized 4 (t .destid) ++ resized 4 (t .txid) ++ resized 14 (t .payload) ≡ fieldsBytes t
+    → (t .rorg ∷ t .len ∷ flag ∷ t .status ∷ []) ++ resized 4 (t .destid)
+    ++ resized 4 (t .txid) ++ resized 14 (t .payload)
+    ≡ fieldsBytes t
 unfolding fieldsBytes
 fields-are t flag e s =
-    rw (e, resized-whole 4 (t .destid) (s .destid), resized-whole 4 (t .txid) (s .txid), resized-whole 14 (t .payload) (s .payload))
+    rw (
+      e,
+      resized-whole 4 (t .destid) (s .destid),
+      resized-whole 4 (t .txid) (s .txid),
+      resized-whole 14 (t .payload) (s .payload),
+    )

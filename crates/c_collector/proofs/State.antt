@@ -45,13 +45,15 @@ numbers-counted a s = ap (λ (n : ℕ). n ∷ s .latest ∷ totalNumbers (s .tot
 
 module _ (s : Arrays) (r : Reception) (fit : Bool) (old : Summary) (a : Columns) (d : Admitted) where
   pub told : length (s .numbers) ≡ 8 → old ≡ summaryIn (s .numbers) → Admits fit (columnsAt s) old r a d
-      → (answer : ℕ) → answer ≡ answerNumber (shownOf (d .answer)) → (numbers : List ℕ) → numbers ≡ numbersIn (d .summary)
+      → (answer : ℕ) → answer ≡ answerNumber (shownOf (d .answer))
+      → (numbers : List ℕ) → numbers ≡ numbersIn (d .summary)
       → TakesTold fit s r answer (arrays (a .times) (a .lens) (a .bytes) (a .copies) numbers)
   told eight read admits answer shown numbers stored = record {
     answered = shown ∙ ap (λ (o : Outcome). answerNumber (o .answer)) done;
     next = ap (λ (l : List ℕ). viewIn a (summaryIn l)) stored ∙ next;
     counted = stored ∙ numbers-counted a (d .summary) ∙ ap numbersOf next;
-    elements = admits .elements ∙ ap (λ (x : Summary). columnsAdmitted fit (viewIn (columnsAt s) x) r (columnsAt s)) read;
+    elements =
+        admits .elements ∙ ap (λ (x : Summary). columnsAdmitted fit (viewIn (columnsAt s) x) r (columnsAt s)) read;
     stays = λ e.
         let k = admits .stays (rw (← done) at e) in
         let same = stored ∙ ap numbersIn (k .1 ∙ read) ∙ numbers-back (s .numbers) eight in
@@ -65,7 +67,8 @@ module _ (s : Arrays) (r : Reception) (fit : Bool) (old : Summary) (a : Columns)
       next = ap (λ (o : Outcome). o .next) done
 
 -- told rightly, it is the step
-pub taken : (fit : Bool) (s s' : Arrays) (r : Reception) (n : ℕ) → fit ≡ acceptable (stateAt s) → TakesTold fit s r n s' → Takes s r n s'
+pub taken : (fit : Bool) (s s' : Arrays) (r : Reception) (n : ℕ)
+    → fit ≡ acceptable (stateAt s) → TakesTold fit s r n s' → Takes s r n s'
 taken fit s s' r n tested k =
     let step-is : admission fit (stateAt s) r ≡ step (stateAt s) r = admission-fit _ _ _ tested in
     record {
@@ -81,11 +84,13 @@ unfolding columnsAdmitted
 told-takes = record { isTake = taken; refused = λ fit s s' r n k e. k .elements ∙ rw e }
 
 module _ (v : View) (old : List ℕ) where
-  pub totals-refused : acceptable v ≡ false → _≡_ {A = TotalsCall} (record { number = numberOf NotAccepted; values = old }) (totalsCall v old)
+  pub totals-refused : acceptable v ≡ false
+      → _≡_ {A = TotalsCall} (record { number = numberOf NotAccepted; values = old }) (totalsCall v old)
   unfolding totalsCall
   totals-refused bad = rw bad
 
-  pub totals-shown : acceptable v ≡ true → _≡_ {A = TotalsCall} (record { number = 0; values = totalNumbers (v .totals) }) (totalsCall v old)
+  pub totals-shown : acceptable v ≡ true
+      → _≡_ {A = TotalsCall} (record { number = 0; values = totalNumbers (v .totals) }) (totalsCall v old)
   unfolding totalsCall
   totals-shown ok = rw ok
 

@@ -18,7 +18,8 @@ use Rattle.c_erp2.specs.Calls.{reading, readCall, buildCall}
 -- ---- sizes
 
 module _ (s old : List ℕ) (originator destination : ℕ) where
-  pub read-other : (length old ≡ fieldsLength → ⊥) → reading wrongSize old originator destination ≡ readCall s old originator destination
+  pub read-other : (length old ≡ fieldsLength → ⊥)
+      → reading wrongSize old originator destination ≡ readCall s old originator destination
   unfolding readCall
   read-other h = rw (ne-eqb (length old) fieldsLength h)
 
@@ -29,7 +30,8 @@ module _ (s old : List ℕ) (originator destination : ℕ) where
     read-not n = rw (eq-eqb (length old) fieldsLength h, ne-eqb (readOf s .number) 0 (λ z. n (is ∙ z)), is)
 
     pub read-done : number ≡ 0
-        → reading number (fieldsBytes (readOf s .telegram)) (readOf s .telegram .originator) (readOf s .telegram .destination .id)
+        → reading number (fieldsBytes (readOf s .telegram))
+        (readOf s .telegram .originator) (readOf s .telegram .destination .id)
         ≡ readCall s old originator destination
     unfolding readCall
     read-done z = rw (eq-eqb (length old) fieldsLength h, sym is ∙ z, z)
@@ -41,7 +43,8 @@ module _ (fields : List ℕ) (originator destination was : ℕ) (output : List �
   build-other h = rw (ne-eqb (length fields) fieldsLength h)
 
   pub build-done : length fields ≡ fieldsLength
-      → settled (buildOf (telegramIn fields originator destination) output) was ≡ buildCall fields originator destination was output
+      → settled (buildOf (telegramIn fields originator destination) output) was
+      ≡ buildCall fields originator destination was output
   unfolding buildCall
   build-done h = rw (eq-eqb (length fields) fieldsLength h)
 
@@ -53,9 +56,11 @@ read-len s h = branch (λ (t : Telegram). t .len < 256) (eqb (checkOf s) 0) (λ 
 
 -- ---- fields, part by part
 
-pub head-are : (t : Telegram) (a b c d : ℕ) → a ≡ flagByte (t .header .extended) → b ≡ flagByte (t .extension .present) → c ≡ flagByte (t .subtype .present)
+pub head-are : (t : Telegram) (a b c d : ℕ) → a ≡ flagByte (t .header .extended)
+    → b ≡ flagByte (t .extension .present) → c ≡ flagByte (t .subtype .present)
     → d ≡ flagByte (t .destination .present)
-    → t .short ∷ t .header .control ∷ a ∷ t .header .kind ∷ b ∷ t .extension .hops ∷ t .extension .announced ∷ c ∷ t .subtype .value ∷ d ∷ t .len ∷ []
+    → t .short ∷ t .header .control ∷ a ∷ t .header .kind ∷ b ∷ t .extension .hops
+    ∷ t .extension .announced ∷ c ∷ t .subtype .value ∷ d ∷ t .len ∷ []
     ≡ headBytes t
 unfolding headBytes
 head-are t a b c d ea eb ec ed = rw (ea, eb, ec, ed)

@@ -18,7 +18,8 @@ unfolding feedOf
 feed-report a piece = go (not (isAdding a)) (not (isPiece (a .tally .scan) piece))
   where
     go : (x y : Bool)
-        → cond x (fed (numberOf NotAccepted) a) (cond y (fed (numberOf Size) a) (fed 0 (adding (a .report) (addBlocks (a .tally) (blocksIn piece)))))
+        → cond x (fed (numberOf NotAccepted) a)
+        (cond y (fed (numberOf Size) a) (fed 0 (adding (a .report) (addBlocks (a .tally) (blocksIn piece)))))
         .next .report
         ≡ a .report
     go true y = refl
@@ -29,17 +30,22 @@ pub feed-kept : (a : Adding) (piece : List ℕ) → (feedOf a piece .number ≡ 
 unfolding feedOf
 feed-kept a piece n =
     by-test {X = feedOf a piece .next ≡ a} (isAdding a)
-    (λ g. by-test {X = feedOf a piece .next ≡ a} (isPiece (a .tally .scan) piece) (λ p. absurd (n (rw (g, p)))) (λ p. rw (g, p)))
+    (λ g. by-test {X = feedOf a piece .next ≡ a} (isPiece (a .tally .scan) piece)
+    (λ p. absurd (n (rw (g, p)))) (λ p. rw (g, p)))
     (λ g. rw g)
 
 pub end-kept : (a : Adding) → (endedOf a .number ≡ 0 → ⊥) → endedOf a .next ≡ a .report
 unfolding endedOf closing
-end-kept a n = by-test {X = endedOf a .next ≡ a .report} (isAdding a) (λ g. rw g (go (stageFound (a .tally .scan .stage)) (λ z. n (rw g z)))) (λ g. rw g)
+end-kept a n =
+    by-test {X = endedOf a .next ≡ a .report} (isAdding a)
+    (λ g. rw g (go (stageFound (a .tally .scan .stage)) (λ z. n (rw g z)))) (λ g. rw g)
   where
-    go : (f : Found) → (closed (a .report) (a .tally) f .number ≡ 0 → ⊥) → closed (a .report) (a .tally) f .next ≡ a .report
+    go : (f : Found) → (closed (a .report) (a .tally) f .number ≡ 0 → ⊥)
+        → closed (a .report) (a .tally) f .next ≡ a .report
     go (At k) n = refl
     go None n =
         by-test {X = closed (a .report) (a .tally) None .next ≡ a .report} (leb maxArchives (a .report .archives))
         (λ m. rw m)
         (λ m.
-        by-test {X = closed (a .report) (a .tally) None .next ≡ a .report} (a .tally .over) (λ o. rw (m, o)) (λ o. absurd (n (rw (m, o)))))
+        by-test {X = closed (a .report) (a .tally) None .next ≡ a .report}
+        (a .tally .over) (λ o. rw (m, o)) (λ o. absurd (n (rw (m, o)))))

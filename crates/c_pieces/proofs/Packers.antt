@@ -28,7 +28,8 @@ module _ (n : ℕ) {m count used next : ℕ} {pending output positions : List �
 abbrev pub finished : ℕ → ℕ → List ℕ → Finished
 finished number length output = record { number = number; length = length; output = output }
 
-module _ (n : ℕ) {m length : ℕ} {output : List ℕ} {a : Finished} (old : ℕ) (told : n ≡ m) (is : finished m length output ≡ a) where
+module _ (n : ℕ) {m length : ℕ} {output : List ℕ} {a : Finished}
+    (old : ℕ) (told : n ≡ m) (is : finished m length output ≡ a) where
   pub end-not : (n ≡ 0 → ⊥) → finished n old output ≡ endShown a old
   end-not h = rw (← is, ← told, ne-eqb n 0 h)
 

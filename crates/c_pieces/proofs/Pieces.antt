@@ -75,10 +75,12 @@ reached-end done numbers r =
     let found = ap (λ (s : Scan). stageFound (s .stage)) (r .is) ∙ scan-found done in
     rw (r .goes)
     (ap (λ (f : Found). openFound f (scanAt numbers .rows)) found
-    ∙ open-whole done (r .whole) (scanAt numbers .rows) (λ none. ap (λ (s : Scan). s .rows) (r .is) ∙ scan-rows done none))
+    ∙ open-whole done (r .whole) (scanAt numbers .rows)
+    (λ none. ap (λ (s : Scan). s .rows) (r .is) ∙ scan-rows done none))
 
 -- the numbers of a scan that was reached
-reached-as : (done : List ℕ) (s : Scan) → s ≡ scanBlocks startScan (blocksIn done) → isScan s ≡ true → isWhole (length done) ≡ true
+reached-as : (done : List ℕ) (s : Scan) → s ≡ scanBlocks startScan (blocksIn done)
+    → isScan s ≡ true → isWhole (length done) ≡ true
     → blockLength * s .blocks ≡ length done → Reached done (scanNumbers s)
 reached-as done s is goes whole blocks = record {
   is = scan-back s ∙ is;
@@ -104,14 +106,18 @@ reached-next done numbers p r h =
     let whole : isWhole (length (done ++ p)) ≡ true =
     and-true (eq-eqb (length (done ++ p) % blockLength) 0 (omega (arith, long, d, even)))
     (le-leb (length (done ++ p) / blockLength) maxBlocks (omega (arith, long, r .blocks, few, even))) in
-    reached-as (done ++ p) (scanBlocks s (blocksIn p)) is (more .0) whole (omega (arith, more .1, blocks-count p, long, r .blocks, even))
+    reached-as (done ++ p) (scanBlocks s (blocksIn p)) is (more .0) whole
+    (omega (arith, more .1, blocks-count p, long, r .blocks, even))
 
 -- a piece that is taken, and one that is not
-taken : (numbers p : List ℕ) (ps : List (List ℕ)) (next : Scan) → feedOf (scanAt numbers) p ≡ record { number = 0; next = next }
-    → (scanAll numbers (p ∷ ps) ≡ scanAll (scanNumbers next) ps) × (scanned numbers (p ∷ ps) ≡ p ∷ scanned (scanNumbers next) ps)
+taken : (numbers p : List ℕ) (ps : List (List ℕ)) (next : Scan)
+    → feedOf (scanAt numbers) p ≡ record { number = 0; next = next }
+    → (scanAll numbers (p ∷ ps) ≡ scanAll (scanNumbers next) ps)
+    × (scanned numbers (p ∷ ps) ≡ p ∷ scanned (scanNumbers next) ps)
 taken numbers p ps next e = (rw e, rw e)
 
-not-taken : (numbers p : List ℕ) (ps : List (List ℕ)) (next : Scan) → feedOf (scanAt numbers) p ≡ record { number = numberOf Size; next = next }
+not-taken : (numbers p : List ℕ) (ps : List (List ℕ)) (next : Scan)
+    → feedOf (scanAt numbers) p ≡ record { number = numberOf Size; next = next }
     → (scanAll numbers (p ∷ ps) ≡ scanAll numbers ps) × (scanned numbers (p ∷ ps) ≡ scanned numbers ps)
 not-taken numbers p ps next e = (rw e, rw e)
 
@@ -121,11 +127,13 @@ unfolding flatten
 pieces-from [] done numbers r = reached-end done numbers r ∙ ap openOf (sym (append-nil done))
 pieces-from (p ∷ ps) done numbers r =
     let s = scanAt numbers in
-    by-test {X = scanEnd (scanAt (scanAll numbers (p ∷ ps))) ≡ openOf (done ++ flatten (scanned numbers (p ∷ ps)))} (fits s p)
+    by-test {X = scanEnd (scanAt (scanAll numbers (p ∷ ps))) ≡ openOf (done ++ flatten (scanned numbers (p ∷ ps)))}
+    (fits s p)
     (λ t.
     let next = scanBlocks s (blocksIn p) in
     let one = taken numbers p ps next (feed-taken s p (r .goes) t) in
-    ap (λ (l : List ℕ). scanEnd (scanAt l)) (one .0) ∙ pieces-from ps (done ++ p) (scanNumbers next) (reached-next done numbers p r t)
+    ap (λ (l : List ℕ). scanEnd (scanAt l)) (one .0)
+    ∙ pieces-from ps (done ++ p) (scanNumbers next) (reached-next done numbers p r t)
     ∙ ap openOf (append-assoc done p (flatten (scanned (scanNumbers next) ps)))
     ∙ ap (λ (l : List (List ℕ)). openOf (done ++ flatten l)) (sym (one .1)))
     (λ f.
@@ -139,7 +147,8 @@ pieces-verified pieces = pieces-from pieces [] noBlocks first
 
 -- ---- which numbers are accepted
 
-accepted-from : (pieces : List (List ℕ)) (done numbers : List ℕ) → Reached done numbers → isScan (scanAt (scanAll numbers pieces)) ≡ true
+accepted-from : (pieces : List (List ℕ)) (done numbers : List ℕ)
+    → Reached done numbers → isScan (scanAt (scanAll numbers pieces)) ≡ true
 accepted-from [] done numbers r = r .goes
 accepted-from (p ∷ ps) done numbers r =
     let s = scanAt numbers in
@@ -163,16 +172,20 @@ one-block b l =
     rw e (ap (λ (x : List ℕ). x ∷ []) (take-all blockLength b (omega arith)))
 
 -- blocks that are handed over one by one
-by-blocks : (bs : List (List ℕ)) (s : Scan) → all isBlock bs ≡ true → isScan s ≡ true → s .blocks + length bs ≤ maxBlocks
+by-blocks : (bs : List (List ℕ)) (s : Scan) → all isBlock bs ≡ true
+    → isScan s ≡ true → s .blocks + length bs ≤ maxBlocks
     → scanAt (scanAll (scanNumbers s) bs) ≡ scanBlocks s bs
 unfolding scanBlocks
 by-blocks [] s are t h = scan-back s
 by-blocks (b ∷ bs) s are t h =
     let w = both (isBlock b) (all isBlock bs) are in
-    let long : length b ≡ blockLength = eqb-true (length b) blockLength (both (eqb (length b) blockLength) _ (w .0) .0) in
+    let long : length b ≡ blockLength =
+    eqb-true (length b) blockLength (both (eqb (length b) blockLength) _ (w .0) .0) in
     let even : length b % blockLength ≡ 0 = omega arith in
     let few : s .blocks + length b / blockLength ≤ maxBlocks = omega arith in
-    let yes = and-true (eq-eqb (length b % blockLength) 0 even) (le-leb (s .blocks + length b / blockLength) maxBlocks few) in
+    let yes =
+    and-true (eq-eqb (length b % blockLength) 0 even)
+    (le-leb (s .blocks + length b / blockLength) maxBlocks few) in
     let fed : feedOf (scanAt (scanNumbers s)) b ≡ record { number = 0; next = scanBlock s b } =
     ap (λ (x : Scan). feedOf x b) (scan-back s) ∙ feed-taken s b t yes
     ∙ ap (λ (l : List (List ℕ)). record { number = 0; next = scanBlocks s l }) (one-block b long) in
@@ -188,7 +201,12 @@ pub numbers-given : NumbersGiven
 numbers-given numbers h =
     let g = scan-given (scanAt numbers) h in
     let few : length (g .blocks) ≤ maxBlocks =
-    omega (arith, blocks-counted (g .blocks) startScan, ap (λ (s : Scan). s .blocks) (g .give), scan-facts (scanAt numbers) h .0) in (
+    omega (
+      arith,
+      blocks-counted (g .blocks) startScan,
+      ap (λ (s : Scan). s .blocks) (g .give),
+      scan-facts (scanAt numbers) h .0,
+    ) in (
       g .blocks,
       all-of areBytes (g .blocks) (λ b m. both (eqb (length b) blockLength) _ (all-at isBlock m (g .are)) .1),
       by-blocks (g .blocks) startScan (g .are) refl (omega (arith, few)) ∙ g .give,

@@ -42,20 +42,27 @@ none-found (suc (suc zero)) p h = refl
 none-found (suc (suc (suc s))) p h = absurd (omega arith)
 
 module _ (numbers : List ℕ) where
-  pub end-not : isScan (scanAt numbers) ≡ false → (record { number = numberOf NotAccepted; position = 0; rows = 0 }) ≡ scanEnd (scanAt numbers)
+  pub end-not : isScan (scanAt numbers) ≡ false
+      → (record { number = numberOf NotAccepted; position = 0; rows = 0 }) ≡ scanEnd (scanAt numbers)
   unfolding scanEnd
   end-not f = rw f
 
   module _ (t : isScan (scanAt numbers) ≡ true) where
-    pub end-wrong : 2 < getD numbers 2 0 → (record { number = numberOf Mismatch; position = getD numbers 3 0; rows = 0 }) ≡ scanEnd (scanAt numbers)
+    pub end-wrong : 2 < getD numbers 2 0
+        → (record { number = numberOf Mismatch; position = getD numbers 3 0; rows = 0 }) ≡ scanEnd (scanAt numbers)
     unfolding scanEnd
     end-wrong h =
-        let w = stage-wrong (getD numbers 2 0) (getD numbers 3 0) (λ e. omega arith) (λ e. omega arith) (λ e. omega arith) in
+        let w =
+        stage-wrong (getD numbers 2 0) (getD numbers 3 0)
+        (λ e. omega arith) (λ e. omega arith) (λ e. omega arith) in
         rw t (ap (λ (s : Stage). openFound (stageFound s) (getD numbers 1 0)) w)
 
-    pub end-done : getD numbers 2 0 ≤ 2 → (record { number = 0; position = 0; rows = getD numbers 1 0 }) ≡ scanEnd (scanAt numbers)
+    pub end-done : getD numbers 2 0 ≤ 2
+        → (record { number = 0; position = 0; rows = getD numbers 1 0 }) ≡ scanEnd (scanAt numbers)
     unfolding scanEnd
-    end-done h = rw t (ap (λ (f : Found). openFound f (getD numbers 1 0)) (sym (none-found (getD numbers 2 0) (getD numbers 3 0) h)))
+    end-done h =
+        rw t
+        (ap (λ (f : Found). openFound f (getD numbers 1 0)) (sym (none-found (getD numbers 2 0) (getD numbers 3 0) h)))
 
 -- what is written of a stage is read back
 pub stage-back : (s : Stage) → stageAt (stageNumber s) (stagePosition s) ≡ s
@@ -68,7 +75,8 @@ stage-back (Wrong k) = refl
 -- the answer n to a piece, as a fed scan says it
 module _ (numbers : List ℕ) (f : Feeding) (n : ℕ) (is : n ≡ f .number) where
   pub shown-kept : (n ≡ 0 → ⊥) → (record { number = n; numbers = numbers }) ≡ scanShown numbers f
-  shown-kept other = rw (ne-eqb (f .number) 0 (λ z. other (is ∙ z))) (ap (λ (x : ℕ). record { number = x; numbers = numbers }) is)
+  shown-kept other =
+      rw (ne-eqb (f .number) 0 (λ z. other (is ∙ z))) (ap (λ (x : ℕ). record { number = x; numbers = numbers }) is)
 
   pub shown-taken : n ≡ 0 → (record { number = n; numbers = scanNumbers (f .next) }) ≡ scanShown numbers f
   shown-taken z = rw (z, sym is ∙ z)

@@ -23,5 +23,6 @@ module _ (n : ℕ) (a : model.LineAnswer) (old : List ℕ) (is : n ≡ a .number
 abbrev pub sharing : ℕ → ℕ → model.Share
 sharing number thousandths = record { number = number; thousandths = thousandths }
 
-pub share-not : (why : Refusal) (n old : ℕ) → n ≡ numberOf why → sharing n old ≡ shareCall (sharing (numberOf why) 0) old
+pub share-not : (why : Refusal) (n old : ℕ) → n ≡ numberOf why
+    → sharing n old ≡ shareCall (sharing (numberOf why) 0) old
 share-not why n old is = rw (ne-eqb (numberOf why) 0 (refused-number why), is)

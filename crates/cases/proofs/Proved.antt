@@ -18,5 +18,7 @@ use Rattle.cases.specs.Cases.{cases, EveryCase}
 
 -- each row's two sides are equal
 pub every-case : EveryCase
-unfolding upFrom remainderOf stepOf hashOf checkOf isSame fieldsOf telegramBytes relayOf repeatOf plans candidates lawful fresh isCopyOf acceptable classify advance step be unbe unbeFrom erp2Check erp2Fields readOf telegramSize isUnholdable isAgainstHeader isMisfitting bodyOf erp2Bytes buildOf
+unfolding upFrom remainderOf stepOf hashOf checkOf isSame fieldsOf telegramBytes relayOf repeatOf
+    plans candidates lawful fresh isCopyOf acceptable classify advance step be unbe unbeFrom erp2Check
+    erp2Fields readOf telegramSize isUnholdable isAgainstHeader isMisfitting bodyOf erp2Bytes buildOf
 every-case k h d = equal-eq _ _ (at (λ i c. equal (c .got) (c .want)) d cases tt k h)

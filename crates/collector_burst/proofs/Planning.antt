@@ -26,11 +26,25 @@ module _ (c : Collector) (setting n m : ℕ) (fit : Bool) (e : fit ≡ acceptabl
 
   pub not-accepted : fit ≡ false → Planned c setting n m (plan 0 (Refused NotAccepted))
   unfolding burstNumber callNumber
-  not-accepted f = record { tested = tested; count = rw (sym e ∙ f); few = omega arith; placed = omega arith; answer = rw (sym e ∙ f) }
+  not-accepted f =
+      record {
+        tested = tested;
+        count = rw (sym e ∙ f);
+        few = omega arith;
+        placed = omega arith;
+        answer = rw (sym e ∙ f);
+      }
 
   pub no-room : fit ≡ true → m < n → Planned c setting n m (plan 0 (Refused ShortOutput))
   unfolding burstNumber callNumber
-  no-room f h = record { tested = tested; count = rw (sym e ∙ f, lt-ltb m n h); few = omega arith; placed = omega arith; answer = rw (sym e ∙ f, lt-ltb m n h) }
+  no-room f h =
+      record {
+        tested = tested;
+        count = rw (sym e ∙ f, lt-ltb m n h);
+        few = omega arith;
+        placed = omega arith;
+        answer = rw (sym e ∙ f, lt-ltb m n h);
+      }
 
   pub too-many : fit ≡ true → n ≤ m → maxBurst < n → Planned c setting n m (plan 0 (Refused Argument))
   unfolding burstNumber callNumber
@@ -42,7 +56,8 @@ module _ (c : Collector) (setting n m : ℕ) (fit : Bool) (e : fit ≡ acceptabl
     answer = rw (sym e ∙ f, le-ltb m n h, lt-ltb maxBurst n k);
   }
 
-  pub bad-setting : fit ≡ true → n ≤ m → n ≤ maxBurst → maxSetting < setting → Planned c setting n m (plan 0 (Refused Argument))
+  pub bad-setting : fit ≡ true → n ≤ m → n ≤ maxBurst → maxSetting < setting
+      → Planned c setting n m (plan 0 (Refused Argument))
   unfolding burstNumber callNumber
   bad-setting f h k l = record {
     tested = tested;

@@ -48,17 +48,25 @@ module _ (v : View) (r : view.Reception) where
   wrong-length e = refused-outcome (ap (λ (n : ℕ). eqb n 0) (length-number e)) ∙ ap (refusedBy v) (length-number e)
 
 -- nothing is sent for a refused reception, whatever its bytes
-alike : (setting : ℕ) (fit : Bool) (v : View) (r s : view.Reception) → isLengthWrong (r .bytes) ≡ true → isLengthWrong (s .bytes) ≡ true
+alike : (setting : ℕ) (fit : Bool) (v : View) (r s : view.Reception)
+    → isLengthWrong (r .bytes) ≡ true → isLengthWrong (s .bytes) ≡ true
     → admittedWith setting fit v r ≡ admittedWith setting fit v s
 unfolding admission sentFor
-alike setting fit v r s e f = rw (wrong-length v r e, wrong-length v s f) (go (fit && isSafe v) (leb maxCount (v .totals .received)))
+alike setting fit v r s e f =
+    rw (wrong-length v r e, wrong-length v s f) (go (fit && isSafe v) (leb maxCount (v .totals .received)))
   where
     outcome : Bool → Bool → Outcome
-    outcome b c = cond (not b) (notAdmitted refusal.NotAccepted v) (cond c (notAdmitted refusal.Full v) (refusedBy v (numberOf refusal.Length)))
+    outcome b c =
+        cond (not b) (notAdmitted refusal.NotAccepted v)
+        (cond c (notAdmitted refusal.Full v) (refusedBy v (numberOf refusal.Length)))
 
     shown : Bool → Bool → List ℕ → StepResult
     shown b c bytes = record {
-      reply = record { answer = outcome b c .answer; sent = frameOf (cond (isKept (outcome b c .answer)) (repeatOf setting bytes) []) };
+      reply =
+          record {
+            answer = outcome b c .answer;
+            sent = frameOf (cond (isKept (outcome b c .answer)) (repeatOf setting bytes) []);
+          };
       next = outcome b c .next;
     }
 
@@ -68,25 +76,37 @@ alike setting fit v r s e f = rw (wrong-length v r e, wrong-length v s f) (go (f
     go false c = refl
 
 -- nor does it change the columns
-wrong-stays : (fit : Bool) (v : View) (a : Columns) (r : view.Reception) → isLengthWrong (r .bytes) ≡ true → columnsAdmitted fit v r a ≡ a
+wrong-stays : (fit : Bool) (v : View) (a : Columns) (r : view.Reception)
+    → isLengthWrong (r .bytes) ≡ true → columnsAdmitted fit v r a ≡ a
 unfolding columnsAdmitted admission
 wrong-stays fit v a r e = rw (wrong-length v r e) (go (fit && isSafe v) (leb maxCount (v .totals .received)))
   where
     go : (b c : Bool)
-        → cond (isAccepted (cond (not b) (notAdmitted refusal.NotAccepted v) (cond c (notAdmitted refusal.Full v) (refusedBy v (numberOf refusal.Length))) .answer))
+        → cond
+        (isAccepted (cond (not b) (notAdmitted refusal.NotAccepted v)
+        (cond c (notAdmitted refusal.Full v) (refusedBy v (numberOf refusal.Length))) .answer))
         (columnsWith (answerOn v r) r (length (v .entries)) (leftAfter v r) a) a ≡ a
     go true true = refl
     go true false = refl
     go false c = refl
 
 -- what is sent for a reception that was admitted
-pub sent-with : (setting : ℕ) (fit : Bool) (v : View) (r : view.Reception) (o : Outcome) (sent : Frame) → o ≡ admission fit v r
+pub sent-with : (setting : ℕ) (fit : Bool) (v : View) (r : view.Reception) (o : Outcome) (sent : Frame)
+    → o ≡ admission fit v r
     → sent ≡ frameOf (relayedFor setting (o .answer) (r .bytes))
-    → _≡_ {A = StepResult} (record { reply = record { answer = o .answer; sent = sent }; next = o .next }) (admittedWith setting fit v r)
+    → _≡_ {A = StepResult} (record { reply = record { answer = o .answer; sent = sent }; next = o .next })
+    (admittedWith setting fit v r)
 sent-with setting fit v r o sent e f =
     ap (λ (x : Frame). record { reply = record { answer = o .answer; sent = x }; next = o .next }) f
-    ∙ ap (λ (x : Outcome). record { reply = record { answer = x .answer; sent = frameOf (relayedFor setting (x .answer) (r .bytes)) }; next = x .next }) e
-    ∙ ap (λ (x : Frame). record { reply = record { answer = admission fit v r .answer; sent = x }; next = admission fit v r .next }) (relayed-sent fit v r setting)
+    ∙ ap (λ (x : Outcome).
+    record {
+      reply = record { answer = x .answer; sent = frameOf (relayedFor setting (x .answer) (r .bytes)) };
+      next = x .next;
+    })
+    e
+    ∙ ap (λ (x : Frame).
+    record { reply = record { answer = admission fit v r .answer; sent = x }; next = admission fit v r .next })
+    (relayed-sent fit v r setting)
 
 -- a record, and the bytes that the code hands over of it
 module _ (r : Reception) where
@@ -116,5 +136,6 @@ module _ (setting : ℕ) (fit : Bool) (v : View) (r : Reception) (full : length 
 
   pub handed-columns : (a : Columns) → columnsAdmitted fit v (given r) a ≡ columnsAdmitted fit v (receptionOf r) a
   handed-columns a =
-      by-test (ltb maxLength (r .len)) (λ over. wrong-stays fit v a _ (given-wrong r over) ∙ sym (wrong-stays fit v a _ (record-wrong r over)))
+      by-test (ltb maxLength (r .len))
+      (λ over. wrong-stays fit v a _ (given-wrong r over) ∙ sym (wrong-stays fit v a _ (record-wrong r over)))
       (λ t. ap (λ (x : view.Reception). columnsAdmitted fit v x a) (given-same r full t))

@@ -30,7 +30,8 @@ noReception = record { bytes = []; len = 0; time = 0 }
 pub noReply : Reply
 noReply = record { answer = Kept; sent = frameOf [] }
 
-module _ (setting : ℕ) (fit : Bool) (a₀ : Columns) (s₀ : Summary) (rs : List Reception) (ys : List Reply) (n : ℕ) (in-rs : n ≤ length rs) (in-ys : n ≤ length ys) where
+module _ (setting : ℕ) (fit : Bool) (a₀ : Columns) (s₀ : Summary) (rs : List Reception)
+    (ys : List Reply) (n : ℕ) (in-rs : n ≤ length rs) (in-ys : n ≤ length ys) where
   abbrev v : View
   v = viewIn a₀ s₀
 
@@ -39,13 +40,23 @@ module _ (setting : ℕ) (fit : Bool) (a₀ : Columns) (s₀ : Summary) (rs : Li
     pub long : length zs ≡ length ys
     pub state : afterTested fit (viewIn a s) (drop i (take n rs)) ≡ afterTested fit v (take n rs)
     pub elements : columnsTested fit (viewIn a s) (drop i (take n rs)) a ≡ columnsTested fit v (take n rs) a₀
-    pub replied : map repliedOf (take i zs) ++ (replies setting fit (viewIn a s) (drop i (take n rs)) ++ map repliedOf (drop n zs))
+    pub replied : map repliedOf (take i zs)
+        ++ (replies setting fit (viewIn a s) (drop i (take n rs)) ++ map repliedOf (drop n zs))
         ≡ replies setting fit v (take n rs) ++ map repliedOf (drop n ys)
     pub timely : Timely (map receptionOf (drop i (take n rs))) → Timely (map receptionOf (take n rs))
     pub none : i ≡ 0 → (a ≡ a₀) × (s ≡ s₀)
 
   pub starts : Going 0 a₀ s₀ ys
-  starts = record { within = zero-le; long = refl; state = refl; elements = refl; replied = refl; timely = λ t. t; none = λ _. (refl, refl) }
+  starts =
+      record {
+        within = zero-le;
+        long = refl;
+        state = refl;
+        elements = refl;
+        replied = refl;
+        timely = λ t. t;
+        none = λ _. (refl, refl);
+      }
 
   -- what is left of the receptions begins with the next one
   left : (i : ℕ) → i < n → drop i (take n rs) ≡ getD rs i noReception ∷ drop (i + 1) (take n rs)
@@ -67,14 +78,26 @@ module _ (setting : ℕ) (fit : Bool) (a₀ : Columns) (s₀ : Summary) (rs : Li
           ∙ ap (λ (l : List Reception). columnsTested fit here l a) (sym (left i h))
           ∙ g .elements;
       replied =
-          ap (λ (l : List Reply). map repliedOf l ++ (replies setting fit (viewIn a' (r .summary)) rest ++ map repliedOf (drop n (set zs i (r .reply)))))
+          ap (λ (l : List Reply). map repliedOf l
+          ++ (replies setting fit (viewIn a' (r .summary)) rest ++ map repliedOf (drop n (set zs i (r .reply)))))
           (ap (λ (k : ℕ). take k (set zs i (r .reply))) (add-one i) ∙ take-suc-set zs i (r .reply) inside)
-          ∙ ap (λ (l : List Replied). l ++ (replies setting fit (viewIn a' (r .summary)) rest ++ map repliedOf (drop n (set zs i (r .reply))))) (map-append repliedOf (take i zs) (r .reply ∷ []))
-          ∙ ap (λ (l : List Reply). (map repliedOf (take i zs) ++ (repliedOf (r .reply) ∷ [])) ++ (replies setting fit (viewIn a' (r .summary)) rest ++ map repliedOf l)) (drop-set-lt n zs i (r .reply) h)
-          ∙ ap (λ (u : View). (map repliedOf (take i zs) ++ (repliedOf (r .reply) ∷ [])) ++ (replies setting fit u rest ++ map repliedOf (drop n zs))) next
-          ∙ append-assoc (map repliedOf (take i zs)) (repliedOf (r .reply) ∷ []) (replies setting fit (o .next) rest ++ map repliedOf (drop n zs))
-          ∙ ap (λ (b : Replied). map repliedOf (take i zs) ++ (b ∷ (replies setting fit (o .next) rest ++ map repliedOf (drop n zs)))) answered
-          ∙ ap (λ (l : List Reception). map repliedOf (take i zs) ++ (replies setting fit here l ++ map repliedOf (drop n zs))) (sym (left i h))
+          ∙ ap (λ (l : List Replied). l
+          ++ (replies setting fit (viewIn a' (r .summary)) rest ++ map repliedOf (drop n (set zs i (r .reply)))))
+          (map-append repliedOf (take i zs) (r .reply ∷ []))
+          ∙ ap (λ (l : List Reply). (map repliedOf (take i zs) ++ (repliedOf (r .reply) ∷ []))
+          ++ (replies setting fit (viewIn a' (r .summary)) rest ++ map repliedOf l))
+          (drop-set-lt n zs i (r .reply) h)
+          ∙ ap (λ (u : View). (map repliedOf (take i zs) ++ (repliedOf (r .reply) ∷ []))
+          ++ (replies setting fit u rest ++ map repliedOf (drop n zs)))
+          next
+          ∙ append-assoc (map repliedOf (take i zs)) (repliedOf (r .reply) ∷ [])
+          (replies setting fit (o .next) rest ++ map repliedOf (drop n zs))
+          ∙ ap (λ (b : Replied). map repliedOf (take i zs)
+          ++ (b ∷ (replies setting fit (o .next) rest ++ map repliedOf (drop n zs))))
+          answered
+          ∙ ap (λ (l : List Reception). map repliedOf (take i zs)
+          ++ (replies setting fit here l ++ map repliedOf (drop n zs)))
+          (sym (left i h))
           ∙ g .replied;
       timely = λ t. g .timely (subst (λ (l : List Reception). Timely (map receptionOf l)) (sym (left i h)) (small, t));
       none = λ e. absurd (omega arith);
@@ -106,7 +129,9 @@ module _ (setting : ℕ) (fit : Bool) (a₀ : Columns) (s₀ : Summary) (rs : Li
       replied =
           ap (map repliedOf) (sym (take-append-drop i zs)) ∙ map-append repliedOf (take i zs) (drop i zs)
           ∙ ap (λ (k : ℕ). map repliedOf (take i zs) ++ map repliedOf (drop k zs)) all
-          ∙ ap (λ (l : List Reception). map repliedOf (take i zs) ++ (replies setting fit (viewIn a s) l ++ map repliedOf (drop n zs))) (sym none)
+          ∙ ap (λ (l : List Reception). map repliedOf (take i zs)
+          ++ (replies setting fit (viewIn a s) l ++ map repliedOf (drop n zs)))
+          (sym none)
           ∙ g .replied;
       timely = g .timely (subst (λ (l : List Reception). Timely (map receptionOf l)) (sym none) tt);
       none = λ e. g .none (all ∙ e);

@@ -28,7 +28,8 @@ use Rattle.collector_burst.specs.Private.{afterTested, columnsTested, re
 
 -- ---- records one by one
 
-after-steps : (fit : Bool) (v : View) (rs : List Reception) → Tested fit v → Timely (map receptionOf rs) → afterTested fit v rs ≡ afterAll v (map receptionOf rs)
+after-steps : (fit : Bool) (v : View) (rs : List Reception) → Tested fit v
+    → Timely (map receptionOf rs) → afterTested fit v rs ≡ afterAll v (map receptionOf rs)
 unfolding afterTested afterAll
 after-steps fit v [] k t = refl
 after-steps fit v (r ∷ rs) k t =
@@ -40,14 +41,18 @@ columns-steps : (fit : Bool) (v : View) (rs : List Reception) (a : Columns) → 
 unfolding columnsTested columnsAfterAll
 columns-steps fit v [] a k t = refl
 columns-steps fit v (r ∷ rs) a k t =
-    ap₂ (λ (o : Outcome) (c : Columns). columnsTested fit (o .next) rs c) (admission-fit v (receptionOf r) fit (k .said)) (columns-fit v (receptionOf r) fit a (k .said))
-    ∙ columns-steps fit (step v (receptionOf r) .next) rs (columnsAfter v (receptionOf r) a) (tested-next fit (receptionOf r) k (t .0)) (t .1)
+    ap₂ (λ (o : Outcome) (c : Columns). columnsTested fit (o .next) rs c)
+    (admission-fit v (receptionOf r) fit (k .said)) (columns-fit v (receptionOf r) fit a (k .said))
+    ∙ columns-steps fit (step v (receptionOf r) .next) rs (columnsAfter v (receptionOf r) a)
+    (tested-next fit (receptionOf r) k (t .0)) (t .1)
 
-replies-steps : (setting : ℕ) (fit : Bool) (v : View) (rs : List Reception) → Tested fit v → Timely (map receptionOf rs) → replies setting fit v rs ≡ repliesTo setting v (map receptionOf rs)
+replies-steps : (setting : ℕ) (fit : Bool) (v : View) (rs : List Reception) → Tested fit v
+    → Timely (map receptionOf rs) → replies setting fit v rs ≡ repliesTo setting v (map receptionOf rs)
 unfolding replies repliesTo
 replies-steps setting fit v [] k t = refl
 replies-steps setting fit v (r ∷ rs) k t =
-    ap (λ (o : Outcome). replyWith setting (o .answer) (receptionOf r) ∷ replies setting fit (o .next) rs) (admission-fit v (receptionOf r) fit (k .said))
+    ap (λ (o : Outcome). replyWith setting (o .answer) (receptionOf r) ∷ replies setting fit (o .next) rs)
+    (admission-fit v (receptionOf r) fit (k .said))
     ∙ ap (λ (l : List Replied). replyWith setting (step v (receptionOf r) .answer) (receptionOf r) ∷ l)
     (replies-steps setting fit (step v (receptionOf r) .next) rs (tested-next fit (receptionOf r) k (t .0)) (t .1))
 
@@ -72,7 +77,9 @@ module _ (c : Collector) (setting : ℕ) (rs : List Reception) (ys : List Reply)
   places = map repliedOf ys
 
   same-number : burstNumber setting v (length given) (length places) ≡ number
-  same-number = ap (λ (n : ℕ). burstNumber setting v n (length places)) (length-map rs receptionOf) ∙ ap (burstNumber setting v (length rs)) (length-map ys repliedOf)
+  same-number =
+      ap (λ (n : ℕ). burstNumber setting v n (length places)) (length-map rs receptionOf)
+      ∙ ap (burstNumber setting v (length rs)) (length-map ys repliedOf)
 
   -- the receptions that it stands for are the first `count` records
   module _ (n : ℕ) (e : n ≡ cond (eqb number 0) (length rs) 0) where
@@ -92,11 +99,13 @@ module _ (c : Collector) (setting : ℕ) (rs : List Reception) (ys : List Reply)
         go true = sym (length-map rs receptionOf)
         go false = refl
 
-  pub whole : {p : Plan} {a : Columns} {s : Summary} {zs : List Reply} (r : Bursted) → Planned c setting (length rs) (length ys) p
+  pub whole : {p : Plan} {a : Columns} {s : Summary} {zs : List Reply} (r : Bursted)
+      → Planned c setting (length rs) (length ys) p
       → Delivered setting (p .fit) (columnsOf c) (c .summary) (p .count) rs ys a s zs → Finished a s (p .answer) r
       → Bursts c setting rs ys r zs
   unfolding viewOf
-  whole {p} {a} {s} {zs} r k d f = record { result = rw (number-is, replies-is, next-is); elements = elements; stays = stays }
+  whole {p} {a} {s} {zs} r k d f =
+      record { result = rw (number-is, replies-is, next-is); elements = elements; stays = stays }
     where
       t : List Reception
       t = take (p .count) rs
@@ -104,12 +113,18 @@ module _ (c : Collector) (setting : ℕ) (rs : List Reception) (ys : List Reply)
       number-is : handedNumber (r .answer) ≡ burstNumber setting v (length given) (length places)
       number-is = ap handedNumber (f .same) ∙ k .answer ∙ sym same-number
 
-      replies-is : map repliedOf zs ≡ repliesTo setting v (taken (burstNumber setting v (length given) (length places)) given) ++ drop (length (taken (burstNumber setting v (length given) (length places)) given)) places
+      replies-is : map repliedOf zs
+          ≡ repliesTo setting v (taken (burstNumber setting v (length given) (length places)) given)
+          ++ drop (length (taken (burstNumber setting v (length given) (length places)) given)) places
       replies-is =
           d .replied
-          ∙ ap (λ (l : List Replied). l ++ map repliedOf (drop (p .count) ys)) (replies-steps setting (p .fit) v t (k .tested) (d .timely))
-          ∙ ap (λ (l : List view.Reception). repliesTo setting v l ++ map repliedOf (drop (p .count) ys)) (front (p .count) (k .count))
-          ∙ ap (λ (l : List Replied). repliesTo setting v (taken (burstNumber setting v (length given) (length places)) given) ++ l)
+          ∙ ap (λ (l : List Replied). l ++ map repliedOf (drop (p .count) ys))
+          (replies-steps setting (p .fit) v t (k .tested) (d .timely))
+          ∙ ap (λ (l : List view.Reception). repliesTo setting v l ++ map repliedOf (drop (p .count) ys))
+          (front (p .count) (k .count))
+          ∙ ap (λ (l : List Replied). repliesTo setting v
+          (taken (burstNumber setting v (length given) (length places)) given)
+          ++ l)
           (drop-map repliedOf (p .count) ys ∙ ap (λ (n : ℕ). drop n places) (long (p .count) (k .count)))
 
       made : viewOf (r .next) ≡ viewIn a s
@@ -137,13 +152,17 @@ module _ (c : Collector) (setting : ℕ) (rs : List Reception) (ys : List Reply)
 
 -- ---- the first places of lists that are held by value
 
-pub within : (c : Collector) (setting n m : ℕ) (records : List Reception) (places zs : List Reply) (b : Bursted) (r : Within) → length zs ≡ m
-    → Bursts c setting (take n records) (take m places) b zs → (r .bursted ≡ b) × (r .replies ≡ zs ++ drop m places) → WithinOf c setting n m records places r
+pub within : (c : Collector) (setting n m : ℕ) (records : List Reception)
+    (places zs : List Reply) (b : Bursted) (r : Within)
+    → length zs ≡ m
+    → Bursts c setting (take n records) (take m places) b zs
+    → (r .bursted ≡ b) × (r .replies ≡ zs ++ drop m places) → WithinOf c setting n m records places r
 within c setting n m records places zs b r l said e = record {
   front =
       let first : take m (r .replies) ≡ zs =
       ap (take m) (e .1) ∙ ap (λ (k : ℕ). take k (zs ++ drop m places)) (sym l) ∙ take-append-seam zs (drop m places)
       in
       rw (first, e .0) said;
-  past = ap (drop m) (e .1) ∙ ap (λ (k : ℕ). drop k (zs ++ drop m places)) (sym l) ∙ drop-append-seam zs (drop m places);
+  past =
+      ap (drop m) (e .1) ∙ ap (λ (k : ℕ). drop k (zs ++ drop m places)) (sym l) ∙ drop-append-seam zs (drop m places);
 }

@@ -36,24 +36,34 @@ abbrev pub restoredWith : View → RestoreResult
 restoredWith v = record { number = 0; next = v }
 
 module _ (image : List ℕ) where
-  pub readable : isReadable image ≡ true → (length image ≡ imageLength) × (countIn image ≤ capacity) × (settingIn image ≤ maxSetting)
+  pub readable : isReadable image ≡ true
+      → (length image ≡ imageLength) × (countIn image ≤ capacity) × (settingIn image ≤ maxSetting)
   readable e =
       let a = both (eqb (length image) imageLength) _ e in
-      let b = both (leb (countIn image) capacity) (leb (settingIn image) maxSetting) (a .1) in
-      (eqb-true (length image) imageLength (a .0), leb-true (countIn image) capacity (b .0), leb-true (settingIn image) maxSetting (b .1))
+      let b = both (leb (countIn image) capacity) (leb (settingIn image) maxSetting) (a .1) in (
+        eqb-true (length image) imageLength (a .0),
+        leb-true (countIn image) capacity (b .0),
+        leb-true (settingIn image) maxSetting (b .1),
+      )
 
   accepted-readable : accepts image ≡ true → isReadable image ≡ true
   unfolding accepts acceptable parse
   accepted-readable e =
       let a = both (eqb (length image) imageLength) _ e in
       let b = both (leb (settingIn image) maxSetting) _ (a .1) in
-      let c = both (leb (length (entriesIn image (countIn image))) capacity) _ (both (acceptable (parse image)) _ (b .1) .0) in
-      and-true (a .0) (and-true (rw (length-map (upFrom 0 (countIn image)) (entryIn image), length-upFrom 0 (countIn image)) at (c .0)) (b .0))
+      let c =
+      both (leb (length (entriesIn image (countIn image))) capacity) _
+      (both (acceptable (parse image)) _ (b .1) .0) in
+      and-true (a .0)
+      (and-true (rw (length-map (upFrom 0 (countIn image)) (entryIn image), length-upFrom 0 (countIn image)) at
+      (c .0))
+      (b .0))
 
   unreadable : isReadable image ≡ false → accepts image ≡ false
   unreadable e = fails (accepts image) (λ ok. false≢true (sym e ∙ accepted-readable ok))
 
-  accepts-is : length image ≡ imageLength → settingIn image ≤ maxSetting → accepts image ≡ isImageOf (settingIn image) (parse image) image
+  accepts-is : length image ≡ imageLength → settingIn image ≤ maxSetting
+      → accepts image ≡ isImageOf (settingIn image) (parse image) image
   unfolding accepts
   accepts-is l s = rw (eq-eqb (length image) imageLength l, le-leb (settingIn image) maxSetting s)
 
@@ -70,12 +80,14 @@ module _ (image : List ℕ) where
       pub restore-other : isImageOf (settingIn image) (parse image) image ≡ false → refusedWith v ≡ restoreOf v image
       restore-other e = not-accepted (accepts-is long small ∙ e)
 
-      pub restore-done : isImageOf (settingIn image) (parse image) image ≡ true → restoredWith (parse image) ≡ restoreOf v image
+      pub restore-done : isImageOf (settingIn image) (parse image) image ≡ true
+          → restoredWith (parse image) ≡ restoreOf v image
       unfolding restoreOf
       restore-done e = rw (ok, accepts-is long small ∙ e)
 
 -- a refusal hands back what was handed in
-pub stayed : (c : Collector) (image : List ℕ) (r : Restored) → (r .next ≡ c) × (loadedNumber (r .answer) ≡ numberOf NotAccepted)
+pub stayed : (c : Collector) (image : List ℕ) (r : Restored)
+    → (r .next ≡ c) × (loadedNumber (r .answer) ≡ numberOf NotAccepted)
     → refusedWith (viewOf c) ≡ restoreOf (viewOf c) image → Restores c image r
 stayed c image r k e = record {
   result = (λ i. record { number = k .1 i; next = viewOf (k .0 i) }) ∙ e;

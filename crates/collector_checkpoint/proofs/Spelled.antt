@@ -32,7 +32,8 @@ use Rattle.collector_checkpoint.specs.Private.{cellIn, columnsOver, colu
 filled : (m k : ℕ) (xs ys : List ℕ) → xs ≡ ys → length ys ≡ k → xs ++ drop k (replicate m 0) ≡ padded m ys
 filled m k xs ys e l = ap₂ _++_ e (drop-replicate k m 0 ∙ ap (λ (j : ℕ). replicate (m - j) 0) (sym l))
 
-module _ (image : List ℕ) (ok : acceptable (parse image) ≡ true) (same : equal (imageWith (settingIn image) (parse image)) image ≡ true) where
+module _ (image : List ℕ) (ok : acceptable (parse image) ≡ true)
+    (same : equal (imageWith (settingIn image) (parse image)) image ≡ true) where
   abbrev n : ℕ
   n = countIn image
 
@@ -44,7 +45,8 @@ module _ (image : List ℕ) (ok : acceptable (parse image) ≡ true) (same : equ
   unfolding parse
   said-at i h = getD-upFrom (entryIn image) 0 n i noEntry h ∙ ap (entryIn image) (zero-add i)
 
-  short : (i : ℕ) → i < length (parse image .entries) → length (getD (parse image .entries) i noEntry .bytes) ≤ cellCapacity
+  short : (i : ℕ) → i < length (parse image .entries)
+      → length (getD (parse image .entries) i noEntry .bytes) ≤ cellCapacity
   short i h =
       valid-length (getD (parse image .entries) i noEntry .bytes)
       (entry-valid (parse image .latest) (getD (parse image .entries) i noEntry)
@@ -56,7 +58,8 @@ module _ (image : List ℕ) (ok : acceptable (parse image) ≡ true) (same : equ
   cell-said : (i : ℕ) → i < n → cellIn image i ≡ entryCell (entryIn image i)
   cell-said i h =
       ap (λ (l : List ℕ). cellIn l i) (sym (equal-eq (imageWith (settingIn image) (parse image)) image (rw same tt)))
-      ∙ cell-written (settingIn image) (parse image) short i (omega (arith, said-length)) (omega (arith, accepted-few (parse image) ok))
+      ∙ cell-written (settingIn image) (parse image) short i
+      (omega (arith, said-length)) (omega (arith, accepted-few (parse image) ok))
       ∙ ap entryCell (said-at i h)
 
   field-said : (i : ℕ) → i < n → cellField (cellIn image i) ≡ padded maxLength (entryIn image i .bytes)
@@ -72,12 +75,15 @@ module _ (image : List ℕ) (ok : acceptable (parse image) ≡ true) (same : equ
   module _ {A : Type 0} (f : Entry → A) (g : ℕ → A) (agrees : (i : ℕ) → i < n → g i ≡ f (entryIn image i)) where
     each-said : map g (upFrom 0 n) ≡ map f (parse image .entries)
     unfolding parse
-    each-said = map-same g (λ i. f (entryIn image i)) 0 n (λ i _ h. agrees i (omega (arith, h))) ∙ sym (map-map f (entryIn image) (upFrom 0 n))
+    each-said =
+        map-same g (λ i. f (entryIn image i)) 0 n (λ i _ h. agrees i (omega (arith, h)))
+        ∙ sym (map-map f (entryIn image) (upFrom 0 n))
 
   number-said : (f : Entry → ℕ) (g : ℕ → ℕ) → ((i : ℕ) → i < n → g i ≡ f (entryIn image i))
       → map g (upFrom 0 n) ++ drop n (replicate capacity 0) ≡ padded capacity (map f (parse image .entries))
   number-said f g agrees =
-      filled capacity n (map g (upFrom 0 n)) (map f (parse image .entries)) (each-said f g agrees) (length-map (parse image .entries) f ∙ said-length)
+      filled capacity n (map g (upFrom 0 n)) (map f (parse image .entries))
+      (each-said f g agrees) (length-map (parse image .entries) f ∙ said-length)
 
   abbrev fields : List (List ℕ)
   fields = map (λ e. padded maxLength (e .bytes)) (parse image .entries)
@@ -86,17 +92,23 @@ module _ (image : List ℕ) (ok : acceptable (parse image) ≡ true) (same : equ
   fields-length =
       flatten-length maxLength fields
       (λ i h.
-      let l : i < length (parse image .entries) = rw (length-map (parse image .entries) (λ e. padded maxLength (e .bytes))) at h in
+      let l : i < length (parse image .entries) =
+      rw (length-map (parse image .entries) (λ e. padded maxLength (e .bytes))) at h in
       ap length (getD-map (λ (e : Entry). padded maxLength (e .bytes)) (parse image .entries) i noEntry [] l)
       ∙ padded-length maxLength (getD (parse image .entries) i noEntry .bytes) (short i l))
-      ∙ ap (λ (k : ℕ). maxLength * k) (length-map (parse image .entries) (λ e. padded maxLength (e .bytes)) ∙ said-length)
+      ∙ ap (λ (k : ℕ). maxLength * k)
+      (length-map (parse image .entries) (λ e. padded maxLength (e .bytes)) ∙ said-length)
 
   pub spelled : columnsIn image ≡ columnsHolding (parse image .entries)
   unfolding columnsOver columnsHolding entryIn flatten
   spelled = λ j. record {
     times = number-said (λ e. e .time) (λ i. cellTime (cellIn image i)) (λ i _. refl) j;
     lens = number-said (λ e. length (e .bytes)) (λ i. cellUsed (cellIn image i)) (λ i _. used-said i) j;
-    bytes = filled (capacity * maxLength) (maxLength * n) (flatten (map (λ i. cellField (cellIn image i)) (upFrom 0 n))) (flatten fields)
-        (ap flatten (each-said (λ (e : Entry). padded maxLength (e .bytes)) (λ i. cellField (cellIn image i)) field-said)) fields-length j;
+    bytes =
+        filled (capacity * maxLength) (maxLength * n)
+        (flatten (map (λ i. cellField (cellIn image i)) (upFrom 0 n))) (flatten fields)
+        (ap flatten
+        (each-said (λ (e : Entry). padded maxLength (e .bytes)) (λ i. cellField (cellIn image i)) field-said))
+        fields-length j;
     copies = number-said (λ e. e .copies) (λ i. cellLast (cellIn image i)) (λ i _. refl) j;
   }

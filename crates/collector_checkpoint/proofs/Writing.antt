@@ -45,26 +45,39 @@ module _ (a : Columns) where
   unfolding entriesFrom
   entry-read first n i h = getD-upFrom (entryAt a) first n i noEntry h
 
-  pub cell-read : (first n i : ℕ) → i < n → getD (map entryCell (entriesFrom a first n)) i [] ≡ entryCell (entryAt a (first + i))
-  cell-read first n i h = getD-map entryCell (entriesFrom a first n) i noEntry [] (rw entries-length h) ∙ ap entryCell (entry-read first n i h)
+  pub cell-read : (first n i : ℕ) → i < n
+      → getD (map entryCell (entriesFrom a first n)) i [] ≡ entryCell (entryAt a (first + i))
+  cell-read first n i h =
+      getD-map entryCell (entriesFrom a first n) i noEntry [] (rw entries-length h)
+      ∙ ap entryCell (entry-read first n i h)
 
-  pub entries-part : (first n count : ℕ) → part first n (entriesAt a count) ≡ entriesFrom a first (min n (count - first))
+  pub entries-part : (first n count : ℕ)
+      → part first n (entriesAt a count) ≡ entriesFrom a first (min n (count - first))
   unfolding entriesAt entriesFrom
   entries-part first n count =
       let f = entryAt a in
-      let l : length (part first n (map f (upFrom 0 count))) ≡ min n (count - first) = simp (length-take, length-drop, length-map, length-upFrom) in
-      ext-getD noEntry (part first n (map f (upFrom 0 count))) (map f (upFrom first (min n (count - first)))) (l ∙ sym (length-map (upFrom first (min n (count - first))) f ∙ length-upFrom first (min n (count - first))))
+      let l : length (part first n (map f (upFrom 0 count))) ≡ min n (count - first) =
+      simp (length-take, length-drop, length-map, length-upFrom) in
+      ext-getD noEntry (part first n (map f (upFrom 0 count))) (map f (upFrom first (min n (count - first))))
+      (l ∙ sym (length-map (upFrom first (min n (count - first))) f ∙ length-upFrom first (min n (count - first))))
       (λ i h.
-      part-at first n (map f (upFrom 0 count)) i noEntry (omega arith) ∙ getD-upFrom f 0 count (first + i) noEntry (omega arith) ∙ ap f (zero-add (first + i))
+      part-at first n (map f (upFrom 0 count)) i noEntry (omega arith)
+      ∙ getD-upFrom f 0 count (first + i) noEntry (omega arith) ∙ ap f (zero-add (first + i))
       ∙ sym (getD-upFrom f first (min n (count - first)) i noEntry (omega arith)))
 
   pub block-written : (k x y count n : ℕ) → n ≡ min cellsPerBlock (count - cellsPerBlock * k)
-      → blockOf (headerOf k n x y) (map entryCell (entriesFrom a (cellsPerBlock * k) n)) ≡ blockWith k x y (entriesAt a count)
+      → blockOf (headerOf k n x y) (map entryCell (entriesFrom a (cellsPerBlock * k) n))
+      ≡ blockWith k x y (entriesAt a count)
   unfolding imageBlock
   block-written k x y count n e =
-      rw (e, entries-part (cellsPerBlock * k) cellsPerBlock count, entries-length (cellsPerBlock * k) (min cellsPerBlock (count - cellsPerBlock * k)))
+      rw (
+        e,
+        entries-part (cellsPerBlock * k) cellsPerBlock count,
+        entries-length (cellsPerBlock * k) (min cellsPerBlock (count - cellsPerBlock * k)),
+      )
 
-pub writable-part : (lens : List ℕ) (k count : ℕ) → k < blockCount → Writable lens 0 count → Writable lens (cellsPerBlock * k) (min cellsPerBlock (count - cellsPerBlock * k))
+pub writable-part : (lens : List ℕ) (k count : ℕ) → k < blockCount → Writable lens 0 count
+    → Writable lens (cellsPerBlock * k) (min cellsPerBlock (count - cellsPerBlock * k))
 writable-part lens k count h w = record {
   bound = omega (arith, w .bound);
   short = λ i l. rw zero-add at (w .short (cellsPerBlock * k + i) (omega arith));
@@ -87,8 +100,12 @@ module _ (a : Columns) (s : Summary) (ok : acceptable (viewIn a s) ≡ true) whe
 
   short : (i : ℕ) → i < s .count → getD (a .lens) i 0 ≤ maxLength
   short i h =
-      let valid = entry-valid (s .latest) (getD held i noEntry) (all-getD (isEntry (s .latest)) held i noEntry (few-each .1) (omega (arith, held-length))) in
-      rw (entry-get a (s .count) i h, resized-length (getD (a .lens) i 0) (part (maxLength * i) maxLength (a .bytes))) at (valid-length (getD held i noEntry .bytes) valid)
+      let valid =
+      entry-valid (s .latest) (getD held i noEntry)
+      (all-getD (isEntry (s .latest)) held i noEntry (few-each .1) (omega (arith, held-length))) in
+      rw (entry-get a (s .count) i h, resized-length (getD (a .lens) i 0) (part (maxLength * i) maxLength (a .bytes)))
+      at
+      (valid-length (getD held i noEntry .bytes) valid)
 
   pub writable-state : Writable (a .lens) 0 (s .count)
   writable-state = record {

@@ -26,7 +26,8 @@ cells-append : (xs ys : List Entry) → entryCells (xs ++ ys) ≡ entryCells xs 
 unfolding entryCells flatten
 cells-append [] ys = refl
 cells-append (x ∷ xs) ys =
-    ap (λ (l : List ℕ). entryCell x ++ l) (cells-append xs ys) ∙ sym (append-assoc (entryCell x) (entryCells xs) (entryCells ys))
+    ap (λ (l : List ℕ). entryCell x ++ l) (cells-append xs ys)
+    ∙ sym (append-assoc (entryCell x) (entryCells xs) (entryCells ys))
 
 one-cell : (e : Entry) (b : Bool) → entryCells (cond b (e ∷ []) []) ≡ cond b (entryCell e) []
 unfolding entryCells flatten
@@ -54,20 +55,23 @@ pub lent-printed : (out ys text : List ℕ) (at : ℕ) → ys ≡ text → lengt
     → Printed out at text 32 (take at out ++ (ys ++ drop (at + 32 - at) (drop at out))) (at + 32)
 lent-printed out ys text at e l h =
     let n : at + 32 - at ≡ 32 = omega arith in
-    let w : sets out at text ≡ take at out ++ text ++ drop (at + 32) out = rw l at (sets-eq text out at (omega arith)) in
+    let w : sets out at text ≡ take at out ++ text ++ drop (at + 32) out =
+    rw l at (sets-eq text out at (omega arith)) in
     record {
       bytes = rw (e, n, drop-drop 32 at out) (sym (w ∙ append-assoc (take at out) text (drop (at + 32) out)));
       next = omega arith;
       short = omega arith;
     }
 
-pub printed-length : {out text out' : List ℕ} {at most r : ℕ} → Printed out at text most out' r → length out' ≡ length out
+pub printed-length : {out text out' : List ℕ} {at most r : ℕ}
+    → Printed out at text most out' r → length out' ≡ length out
 printed-length {out} {text} {at = at} w = ap length (w .bytes) ∙ length-sets out at text
 
 -- ---- when a reception closes anything
 
 accepts : (fits full valid late known crowded : Bool) (n m k : ℕ)
-    → isAccepted (cond (not fits) (Refused n) (cond full (Refused m) (cond (not valid) (Refused k) (cond late (Refused 7)
+    → isAccepted (cond (not fits) (Refused n)
+    (cond full (Refused m) (cond (not valid) (Refused k) (cond late (Refused 7)
     (cond known Copy (cond crowded Loose Kept))))))
     ≡ fits && (not full && (not late && valid))
 accepts false full valid late known crowded n m k = refl
@@ -86,7 +90,8 @@ module _ (v : View) (r : Reception) where
   is-accepted : isAccepted (step v r .answer) ≡ taken
   unfolding step classify
   is-accepted =
-      accepts (acceptable v) (leb maxCount (v .totals .received)) (isValid (r .bytes)) (ltb (r .time) (v .latest)) (isKnown v r)
+      accepts (acceptable v) (leb maxCount (v .totals .received))
+      (isValid (r .bytes)) (ltb (r .time) (v .latest)) (isKnown v r)
       (isCrowded v r) 11 8 (checkOf (r .bytes))
 
   pub none-closed : taken ≡ false → [] ≡ closedCells v r

@@ -39,26 +39,33 @@ module _ (a : Columns) (i : ℕ) where
   abbrev entry : Entry
   entry = entryAt a i
 
-  pub telegrams-more : areTelegrams (entriesAt a i) ≡ true → isNewAt a i ≡ true → areTelegrams (entriesAt a (i + 1)) ≡ true
+  pub telegrams-more : areTelegrams (entriesAt a i) ≡ true
+      → isNewAt a i ≡ true → areTelegrams (entriesAt a (i + 1)) ≡ true
   unfolding areTelegrams isNewAt hasCopy
   telegrams-more h n =
-      let w = both (all (λ e. isValid (e .bytes)) before) (pairwise (λ e later. not (isCopyOf e (openedBy later))) before) h in
+      let w =
+      both (all (λ e. isValid (e .bytes)) before)
+      (pairwise (λ e later. not (isCopyOf e (openedBy later))) before) h in
       let v = both (isValid (entry .bytes)) (not (any (λ e. isCopyOf e (openedBy entry)) before)) n in
       rw (entries-more a i)
       (and-true (all-last (λ e. isValid (e .bytes)) before entry (w .0) (v .0))
-      (pairwise-last (λ e later. not (isCopyOf e (openedBy later))) before entry (w .1) (none (λ e. isCopyOf e (openedBy entry)) before (not-true _ (v .1)))))
+      (pairwise-last (λ e later. not (isCopyOf e (openedBy later))) before entry (w .1)
+      (none (λ e. isCopyOf e (openedBy entry)) before (not-true _ (v .1)))))
 
   pub telegrams-not : (count : ℕ) → i < count → isNewAt a i ≡ false → areTelegrams (entriesAt a count) ≡ false
   unfolding areTelegrams isNewAt hasCopy
   telegrams-not count k n = fails _ (λ h. false≢true (sym n ∙ new (entries-inside a i count k) h))
     where
-      new : (rest : List Entry) × (entriesAt a count ≡ before ++ (entry ∷ rest)) → areTelegrams (entriesAt a count) ≡ true → isNewAt a i ≡ true
+      new : (rest : List Entry) × (entriesAt a count ≡ before ++ (entry ∷ rest))
+          → areTelegrams (entriesAt a count) ≡ true → isNewAt a i ≡ true
       new s h =
           let g = rw (s .1) at h in
           let l = before ++ (entry ∷ s .0) in
-          let w = both (all (λ e. isValid (e .bytes)) l) (pairwise (λ e later. not (isCopyOf e (openedBy later))) l) g in
+          let w =
+          both (all (λ e. isValid (e .bytes)) l) (pairwise (λ e later. not (isCopyOf e (openedBy later))) l) g in
           and-true (all-inside (λ e. isValid (e .bytes)) before entry (s .0) (w .0))
-          (ap not (none-any (λ e. isCopyOf e (openedBy entry)) before (pairwise-inside (λ e later. not (isCopyOf e (openedBy later))) before entry (s .0) (w .1))))
+          (ap not (none-any (λ e. isCopyOf e (openedBy entry)) before
+          (pairwise-inside (λ e later. not (isCopyOf e (openedBy later))) before entry (s .0) (w .1))))
 
   -- by its parts
   pub new-not-valid : isValid (shownAt (a .lens) (a .bytes) i) ≡ false → isNewAt a i ≡ false
@@ -96,7 +103,8 @@ acceptable-by v =
       all-and (λ e. isValid (e .bytes)) (λ e. leb (e .time) (v .latest) && isOpen (v .latest) e) (v .entries),
       pairwise-and isOrdered (λ e later. not (isCopyOf e (openedBy later))) (v .entries),
     )
-    (arranged (all (λ e. isValid (e .bytes)) (v .entries)) (all (λ e. leb (e .time) (v .latest) && isOpen (v .latest) e) (v .entries))
+    (arranged (all (λ e. isValid (e .bytes)) (v .entries))
+    (all (λ e. leb (e .time) (v .latest) && isOpen (v .latest) e) (v .entries))
     (pairwise isOrdered (v .entries)) (pairwise (λ e later. not (isCopyOf e (openedBy later))) (v .entries)) _))
 
 -- each return of the test, in its order
@@ -105,7 +113,9 @@ module _ (v : View) (count : ℕ) (long : length (v .entries) ≡ count) where
   too-many h = sym (acceptable-by v ∙ rw (long, lt-leb _ _ h))
 
   module _ (b : count ≤ capacity) where
-    tested : acceptable v ≡ (areTimely (v .latest) (v .entries) && (areTelegrams (v .entries) && (isSummed (v .totals) && leb count (v .totals .kept))))
+    tested : acceptable v
+        ≡ (areTimely (v .latest) (v .entries)
+        && (areTelegrams (v .entries) && (isSummed (v .totals) && leb count (v .totals .kept))))
     tested = acceptable-by v ∙ rw (long, le-leb _ _ b)
 
     pub not-timely : areTimely (v .latest) (v .entries) ≡ false → false ≡ acceptable v
@@ -124,7 +134,8 @@ module _ (v : View) (count : ℕ) (long : length (v .entries) ≡ count) where
 
 -- ---- the totals
 
-pub summed-not : (n : Totals) → (n .received ≡ n .kept + n .copies + n .loose + n .damaged + n .late → ⊥) → false ≡ isSummed n
+pub summed-not : (n : Totals)
+    → (n .received ≡ n .kept + n .copies + n .loose + n .damaged + n .late → ⊥) → false ≡ isSummed n
 summed-not n h = sym (ne-eqb _ _ h)
 
 pub summed-left : (n : Totals) → n .kept + n .copies + n .loose + n .damaged ≤ n .received
@@ -135,10 +146,12 @@ summed-left n h =
     (λ e. eq-eqb _ _ (sum (eqb-true rest (n .late) e)))
     (λ e. eq-eqb rest (n .late) (left (eqb-true _ _ e)))
   where
-    sum : n .received - n .kept - n .copies - n .loose - n .damaged ≡ n .late → n .received ≡ n .kept + n .copies + n .loose + n .damaged + n .late
+    sum : n .received - n .kept - n .copies - n .loose - n .damaged ≡ n .late
+        → n .received ≡ n .kept + n .copies + n .loose + n .damaged + n .late
     sum e = omega arith
 
-    left : n .received ≡ n .kept + n .copies + n .loose + n .damaged + n .late → n .received - n .kept - n .copies - n .loose - n .damaged ≡ n .late
+    left : n .received ≡ n .kept + n .copies + n .loose + n .damaged + n .late
+        → n .received - n .kept - n .copies - n .loose - n .damaged ≡ n .late
     left e = omega arith
 
 -- ---- what is known of an acceptable state
@@ -148,7 +161,9 @@ module _ (v : View) (ok : acceptable v ≡ true) where
   unfolding acceptable
   accepted-few = leb-true _ _ (both (leb (length (v .entries)) capacity) _ ok .0)
 
-  listed : all (isEntry (v .latest)) (v .entries) && (pairwise mayFollow (v .entries) && (isSummed (v .totals) && leb (length (v .entries)) (v .totals .kept))) ≡ true
+  listed : all (isEntry (v .latest)) (v .entries)
+      && (pairwise mayFollow (v .entries) && (isSummed (v .totals) && leb (length (v .entries)) (v .totals .kept)))
+      ≡ true
   unfolding acceptable
   listed = both (leb (length (v .entries)) capacity) _ ok .1
 
@@ -156,7 +171,10 @@ module _ (v : View) (ok : acceptable v ≡ true) where
   accepted-each = both (all (isEntry (v .latest)) (v .entries)) _ listed .0
 
   pub accepted-order : pairwise mayFollow (v .entries) ≡ true
-  accepted-order = both (pairwise mayFollow (v .entries)) _ (both (all (isEntry (v .latest)) (v .entries)) _ listed .1) .0
+  accepted-order =
+      both (pairwise mayFollow (v .entries)) _ (both (all (isEntry (v .latest)) (v .entries)) _ listed .1) .0
 
   pub accepted-summed : isSummed (v .totals) ≡ true
-  accepted-summed = both (isSummed (v .totals)) _ (both (pairwise mayFollow (v .entries)) _ (both (all (isEntry (v .latest)) (v .entries)) _ listed .1) .1) .0
+  accepted-summed =
+      both (isSummed (v .totals)) _
+      (both (pairwise mayFollow (v .entries)) _ (both (all (isEntry (v .latest)) (v .entries)) _ listed .1) .1) .0

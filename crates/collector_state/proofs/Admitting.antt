@@ -42,7 +42,8 @@ unfolding receptionCheck
 passed-valid v r = go (isValid (r .bytes)) refl
   where
     go : (b : Bool) → isValid (r .bytes) ≡ b
-        → cond (not b) (checkOf (r .bytes)) (cond (ltb (r .time) (v .latest)) (numberOf refusal.Late) 0) ≡ 0 → isValid (r .bytes) ≡ true
+        → cond (not b) (checkOf (r .bytes)) (cond (ltb (r .time) (v .latest)) (numberOf refusal.Late) 0) ≡ 0
+        → isValid (r .bytes) ≡ true
     go true h z = h
     go false h z = rw z
 
@@ -51,12 +52,14 @@ pub valid-fits : (s : List ℕ) → isValid s ≡ true → (minLength ≤ length
 valid-fits s e = let f = check-facts s (eqb-true _ 0 e) in (f .low, f .high)
 
 -- only what passes them all, with room left, is kept
-pub kept-room : (v : View) (r : Reception) → isKept (answerOn v r) ≡ true → (length (leftAfter v r) < capacity) × (isValid (r .bytes) ≡ true)
+pub kept-room : (v : View) (r : Reception) → isKept (answerOn v r) ≡ true
+    → (length (leftAfter v r) < capacity) × (isValid (r .bytes) ≡ true)
 unfolding answerFor
 kept-room v r = go (eqb (numberOn v r) 0) (hasCopy (leftAfter v r) r) (leb capacity (length (leftAfter v r))) refl refl
   where
     go : (b k c : Bool) → eqb (numberOn v r) 0 ≡ b → leb capacity (length (leftAfter v r)) ≡ c
-        → isKept (cond b (cond k Copy (cond c Loose Kept)) (Refused (numberOn v r))) ≡ true → (length (leftAfter v r) < capacity) × (isValid (r .bytes) ≡ true)
+        → isKept (cond b (cond k Copy (cond c Loose Kept)) (Refused (numberOn v r))) ≡ true
+        → (length (leftAfter v r) < capacity) × (isValid (r .bytes) ≡ true)
     go true true c p q h = absurd (false≢true h)
     go true false true p q h = absurd (false≢true h)
     go true false false p q h = (leb-false _ _ q, passed-valid v r (eqb-true (numberOn v r) 0 p))
@@ -77,7 +80,8 @@ copy-known number known crowded = go (eqb number 0) known crowded
 number-received : (v : View) (r : Reception) → isReceived (Refused (numberOn v r)) ≡ true
 unfolding receptionCheck
 number-received v r =
-    by-test (isValid (r .bytes)) (λ e. rw e (valid (ltb (r .time) (v .latest)))) (λ e. rw e (failed (check-failed (r .bytes) e)))
+    by-test (isValid (r .bytes)) (λ e. rw e (valid (ltb (r .time) (v .latest))))
+    (λ e. rw e (failed (check-failed (r .bytes) e)))
   where
     valid : (late : Bool) → isReceived (Refused (cond late (numberOf refusal.Late) 0)) ≡ true
     valid true = refl
@@ -90,17 +94,21 @@ number-received v r =
     failed nested = refl
 
 -- and what passed those tests is KEPT, COPY or LOOSE
-is-accepted : (v : View) (r : Reception) → numberOn v r ≡ 0 → (isAccepted (answerOn v r) ≡ true) × (isReceived (answerOn v r) ≡ true)
+is-accepted : (v : View) (r : Reception) → numberOn v r ≡ 0
+    → (isAccepted (answerOn v r) ≡ true) × (isReceived (answerOn v r) ≡ true)
 unfolding answerFor
-is-accepted v r z = rw z (go (hasCopy (openFrom (r .time) (v .entries)) r) (leb capacity (length (openFrom (r .time) (v .entries)))))
+is-accepted v r z =
+    rw z (go (hasCopy (openFrom (r .time) (v .entries)) r) (leb capacity (length (openFrom (r .time) (v .entries)))))
   where
-    go : (k c : Bool) → (isAccepted (cond k Copy (cond c Loose Kept)) ≡ true) × (isReceived (cond k Copy (cond c Loose Kept)) ≡ true)
+    go : (k c : Bool)
+        → (isAccepted (cond k Copy (cond c Loose Kept)) ≡ true) × (isReceived (cond k Copy (cond c Loose Kept)) ≡ true)
     go true c = (refl, refl)
     go false true = (refl, refl)
     go false false = (refl, refl)
 
 -- the entries after an answer, by what it says
-by-answer : (shown : Shown) (r : Reception) (l : List Entry) → addIf (isKept shown) (opened r) (creditIf (isCopy shown) r l) ≡ entriesWith shown r l
+by-answer : (shown : Shown) (r : Reception) (l : List Entry)
+    → addIf (isKept shown) (opened r) (creditIf (isCopy shown) r l) ≡ entriesWith shown r l
 by-answer Kept r l = refl
 by-answer Copy r l = refl
 by-answer Loose r l = refl
@@ -125,19 +133,22 @@ module _ (fit : Bool) (a : Columns) (s : Summary) (r : Reception) where
       record { found = w .0; few = leb-true _ _ (u .0); summed = u .1 }
 
   -- the columns by whether the reception was accepted
-  stay-put : (o : Outcome) → o ≡ admission fit (viewIn a s) r → isAccepted (o .answer) ≡ false → a ≡ columnsAdmitted fit (viewIn a s) r a
+  stay-put : (o : Outcome) → o ≡ admission fit (viewIn a s) r
+      → isAccepted (o .answer) ≡ false → a ≡ columnsAdmitted fit (viewIn a s) r a
   unfolding columnsAdmitted
   stay-put o e n = rw (← e, n)
 
   are-changed : (o : Outcome) → o ≡ admission fit (viewIn a s) r → isAccepted (o .answer) ≡ true
-      → columnsWith (answerOn (viewIn a s) r) r (length (viewIn a s .entries)) (leftAfter (viewIn a s) r) a ≡ columnsAdmitted fit (viewIn a s) r a
+      → columnsWith (answerOn (viewIn a s) r) r (length (viewIn a s .entries)) (leftAfter (viewIn a s) r) a
+      ≡ columnsAdmitted fit (viewIn a s) r a
   unfolding columnsAdmitted
   are-changed o e n = rw (← e, n)
 
   -- at 8 and 11 nothing is changed
   pub admits-nothing : (why : Refusal) → notAdmitted why (viewIn a s) ≡ admission fit (viewIn a s) r
       → Admits fit a s r a (record { summary = s; answer = answer.Refused why })
-  admits-nothing why e = record { outcome = e; elements = stay-put _ e refl; refused = λ _. refl; stays = λ _. (refl, refl) }
+  admits-nothing why e =
+      record { outcome = e; elements = stay-put _ e refl; refused = λ _. refl; stays = λ _. (refl, refl) }
 
   -- one that is refused by the tests before the open telegrams are looked at is counted
   counted-outcome : (why : Refusal) → numberOf why ≡ numberOn (viewIn a s) r
@@ -145,17 +156,20 @@ module _ (fit : Bool) (a : Columns) (s : Summary) (r : Reception) where
   unfolding admitted answerFor
   counted-outcome why n = rw (← n, ne-eqb (numberOf why) 0 (refused-number why))
 
-  pub admits-refused : (why : Refusal) → numberOf why ≡ numberOn (viewIn a s) r → admitted (viewIn a s) r ≡ admission fit (viewIn a s) r
+  pub admits-refused : (why : Refusal) → numberOf why ≡ numberOn (viewIn a s) r
+      → admitted (viewIn a s) r ≡ admission fit (viewIn a s) r
       → Admits fit a s r a (record { summary = countedOnly s why; answer = answer.Refused why })
   admits-refused why n e = record {
     outcome = counted-outcome why n ∙ e;
     elements = stay-put _ (counted-outcome why n ∙ e) refl;
     refused = λ _. refl;
-    stays = λ f. absurd (false≢true (sym f ∙ ap (λ (k : ℕ). isReceived (Refused k)) n ∙ number-received (viewIn a s) r));
+    stays =
+        λ f. absurd (false≢true (sym f ∙ ap (λ (k : ℕ). isReceived (Refused k)) n ∙ number-received (viewIn a s) r));
   }
 
   -- nothing is moved where none goes
-  module _ {s' : Summary} {why : Refusal} (k : Admits fit a s r a (record { summary = s'; answer = answer.Refused why })) where
+  module _ {s' : Summary} {why : Refusal}
+      (k : Admits fit a s r a (record { summary = s'; answer = answer.Refused why })) where
     pub decides-refused : Decides fit a s r (unchanged s' why)
     unfolding moved
     decides-refused = record {
@@ -213,18 +227,22 @@ module _ {a : Columns} {s : Summary} {r : Reception} {gone : ℕ} (k : Looked a 
   latest-is : r .time ≡ latestAfter view r
   latest-is = rw (k .passed)
 
-  module _ (answer : Answer) {entry : ℕ} (by : JudgedBy (drop gone (entriesAt a (s .count))) r (shownOf answer) entry) where
+  module _ (answer : Answer) {entry : ℕ}
+      (by : JudgedBy (drop gone (entriesAt a (s .count))) r (shownOf answer) entry) where
     answer-said : shownOf answer ≡ answerOn view r
     answer-said =
         by .answer
         ∙ ap (λ (l : List Entry). answerFor 0 (hasCopy l r) (leb capacity (length l))) left-open
-        ∙ ap (λ (n : ℕ). answerFor n (hasCopy (leftAfter view r) r) (leb capacity (length (leftAfter view r)))) (sym (k .passed))
+        ∙ ap (λ (n : ℕ). answerFor n (hasCopy (leftAfter view r) r) (leb capacity (length (leftAfter view r))))
+        (sym (k .passed))
 
     -- a copy is one of an open telegram
     inside : isCopy (shownOf answer) ≡ true → entry < left
     inside e =
         let known = copy-known _ _ _ (ap isCopy (sym (by .answer)) ∙ e) in
-        rw (by .entry e) (ltb-true _ left (found-known (drop gone (entriesAt a (s .count))) left r (left-length a gone (s .count)) ∙ known))
+        rw (by .entry e)
+        (ltb-true _ left
+        (found-known (drop gone (entriesAt a (s .count))) left r (left-length a gone (s .count)) ∙ known))
 
     -- what is kept is valid, and there is room for it
     module _ {kept : Bool} (keeps : kept ≡ isKept (shownOf answer)) where
@@ -247,13 +265,16 @@ module _ {a : Columns} {s : Summary} {r : Reception} {gone : ℕ} (k : Looked a 
           answer = answer;
         }
 
-        next-entries : Whole a → entriesAt (changed decision r a) (plusIf kept left) ≡ entriesWith (shownOf answer) r (leftAfter view r)
+        next-entries : Whole a
+            → entriesAt (changed decision r a) (plusIf kept left) ≡ entriesWith (shownOf answer) r (leftAfter view r)
         next-entries whole =
             let below = k .expired .few in
             changed-entries a whole decision (s .count) (omega arith) few r room (λ e. by .entry (sym hears ∙ e))
             ∙ rw (keeps, hears, left-open) (by-answer (shownOf answer) r (leftAfter view r))
 
-        outcome : Whole a → admittedOf (changed decision r a) (record { summary = decision .summary; answer = answer }) ≡ admitted view r
+        outcome : Whole a
+            → admittedOf (changed decision r a) (record { summary = decision .summary; answer = answer })
+            ≡ admitted view r
         unfolding admitted
         outcome whole = rw (counts, tallies, ← latest-is, next-entries whole, answer-said)
 
@@ -263,7 +284,8 @@ module _ {a : Columns} {s : Summary} {r : Reception} {gone : ℕ} (k : Looked a 
         elements =
             let below = k .expired .few in
             let back : s .count - (s .count - gone) ≡ gone = omega arith in
-            ap (λ (l : List ℕ). columns (changed decision r a .times) (changed decision r a .lens) (changed decision r a .bytes) (setIf kept left 0 l))
+            ap (λ (l : List ℕ). columns (changed decision r a .times)
+            (changed decision r a .lens) (changed decision r a .bytes) (setIf kept left 0 l))
             (more-at heard entry (lastCopy (leftAfter view r) r) (moved gone left (a .copies))
             (λ e. by .entry (sym hears ∙ e) ∙ ap (λ (l : List Entry). lastCopy l r) left-open))
             ∙ rw (keeps, hears, answer-said, open-length, entries-length a (s .count), back)
@@ -279,10 +301,13 @@ module _ {a : Columns} {s : Summary} {r : Reception} {gone : ℕ} (k : Looked a 
 -- ---- what is decided is carried out, column by column
 
 pub carried-out : {fit : Bool} {a a' : Columns} {s : Summary} {r : Reception} {d : Decision} → Decides fit a s r d
-    → Becomes capacity (a .times) (a' .times) (changed d r a .times) → Becomes capacity (a .lens) (a' .lens) (changed d r a .lens)
-    → Becomes (maxLength * capacity) (a .bytes) (a' .bytes) (changed d r a .bytes) → Becomes capacity (a .copies) (a' .copies) (changed d r a .copies)
+    → Becomes capacity (a .times) (a' .times) (changed d r a .times)
+    → Becomes capacity (a .lens) (a' .lens) (changed d r a .lens)
+    → Becomes (maxLength * capacity) (a .bytes) (a' .bytes) (changed d r a .bytes)
+    → Becomes capacity (a .copies) (a' .copies) (changed d r a .copies)
     → Admits fit a s r a' (record { summary = d .summary; answer = d .answer })
 carried-out {fit} {a} {a'} {s} {r} {d} k times lens bytes copies =
-    let whole : Whole a = record { times = times .long; lens = lens .long; bytes = bytes .long; copies = copies .long } in
+    let whole : Whole a =
+    record { times = times .long; lens = lens .long; bytes = bytes .long; copies = copies .long } in
     let e : a' ≡ changed d r a = λ i. columns (times .is i) (lens .is i) (bytes .is i) (copies .is i) in
     rw e (k .admits whole)

@@ -30,17 +30,22 @@ use Rattle.collector_state.proofs.Inside.{any-last}
 
 -- the bytes of an entry, as the code lends them
 pub bytes-shown : (bytes : List ℕ) (e len : ℕ) → len ≤ maxLength → maxLength * e + maxLength ≤ length bytes
-    → part (maxLength * e) (maxLength * e + len - maxLength * e) bytes ≡ resized len (part (maxLength * e) maxLength bytes)
+    → part (maxLength * e) (maxLength * e + len - maxLength * e) bytes
+    ≡ resized len (part (maxLength * e) maxLength bytes)
 bytes-shown bytes e len short h =
-    let whole : length (part (maxLength * e) maxLength bytes) ≡ maxLength = part-length (maxLength * e) maxLength bytes h in
-    part-ends (maxLength * e) len bytes ∙ sym (resized-cut len (part (maxLength * e) maxLength bytes) (omega arith) ∙ take-take len maxLength (drop (maxLength * e) bytes) short)
+    let whole : length (part (maxLength * e) maxLength bytes) ≡ maxLength =
+    part-length (maxLength * e) maxLength bytes h in
+    part-ends (maxLength * e) len bytes
+    ∙ sym (resized-cut len (part (maxLength * e) maxLength bytes) (omega arith)
+    ∙ take-take len maxLength (drop (maxLength * e) bytes) short)
 
 -- whether the bytes of entry i are the same telegram: those of another length are not
 module _ (lens bytes : List ℕ) (i : ℕ) (xs : List ℕ) where
   pub longer-not-same : (getD lens i 0 ≡ length xs → ⊥) → isSame (shownAt lens bytes i) xs ≡ false
   longer-not-same n = sym (other-length _ _ (λ e. n (sym (resized-length (getD lens i 0) _) ∙ e)))
 
-  pub same-said : (telegram : List ℕ) → telegram ≡ resized (length xs) (part (maxLength * i) maxLength bytes) → getD lens i 0 ≡ length xs
+  pub same-said : (telegram : List ℕ)
+      → telegram ≡ resized (length xs) (part (maxLength * i) maxLength bytes) → getD lens i 0 ≡ length xs
       → isSame (shownAt lens bytes i) xs ≡ isSame telegram xs
   same-said telegram e l = rw (e, l)
 
@@ -82,16 +87,19 @@ module _ (a : Columns) where
     unfolding isCopyOf
     not-same e = rw e
 
-    pub same-echo : isSame (shownAt (a .lens) (a .bytes) i) (r .bytes) ≡ true → isCopyOf (entryAt a i) r ≡ isEcho (entryAt a i) r
+    pub same-echo : isSame (shownAt (a .lens) (a .bytes) i) (r .bytes) ≡ true
+        → isCopyOf (entryAt a i) r ≡ isEcho (entryAt a i) r
     unfolding isCopyOf
     same-echo e = rw e
 
-    pub echo-said : (original result : Bool) (from : ℕ) → original ≡ eqb (levelOf (r .bytes)) 0 → from ≡ getD (a .times) i 0
+    pub echo-said : (original result : Bool) (from : ℕ)
+        → original ≡ eqb (levelOf (r .bytes)) 0 → from ≡ getD (a .times) i 0
         → result ≡ (not original || leb (r .time - from) txMaturity) → isEcho (entryAt a i) r ≡ result
     echo-said original result from e f g = sym (g ∙ rw (e, f))
 
     -- whether one of the first is
-    pub has-more : hasCopy (entriesAt a i) r ≡ false → isCopyOf (entryAt a i) r ≡ false → hasCopy (entriesAt a (i + 1)) r ≡ false
+    pub has-more : hasCopy (entriesAt a i) r ≡ false
+        → isCopyOf (entryAt a i) r ≡ false → hasCopy (entriesAt a (i + 1)) r ≡ false
     unfolding hasCopy
     has-more h n = rw (entries-more i) (any-last (λ e. isCopyOf e r) (entriesAt a i) (entryAt a i) h n)
 
@@ -120,15 +128,18 @@ module _ (a : Columns) where
           let same : gone + (i - gone) ≡ i = omega arith in
           sym (last-is (λ x. isCopyOf x r) noEntry left (i - gone) (omega (arith, left-length))
           (rw (left-get (i - gone) (omega arith), same) e)
-          (λ j k l. let m : gone + j < count = omega (arith, left-length, l) in rw (left-get j m) (later (gone + j) (omega arith) m)))
+          (λ j k l. let m : gone + j < count = omega (arith, left-length, l) in
+          rw (left-get j m) (later (gone + j) (omega arith) m)))
 
-      pub none-found : ((j : ℕ) → gone ≤ j → j < count → isCopyOf (entryAt a j) r ≡ false) → count - gone ≡ lastCopy left r
+      pub none-found : ((j : ℕ) → gone ≤ j → j < count → isCopyOf (entryAt a j) r ≡ false)
+          → count - gone ≡ lastCopy left r
       unfolding lastCopy
       none-found each = sym (last-none (λ x. isCopyOf x r) left none ∙ left-length)
         where
           none : any (λ x. isCopyOf x r) left ≡ false
           none = none-at (λ x. isCopyOf x r) noEntry left
-              (λ j l. let m : gone + j < count = omega (arith, left-length, l) in rw (left-get j m) (each (gone + j) (omega arith) m))
+              (λ j l. let m : gone + j < count = omega (arith, left-length, l) in
+              rw (left-get j m) (each (gone + j) (omega arith) m))
 
 -- there is a copy where the index of the last is that of an entry
 pub found-known : (l : List Entry) (n : ℕ) (r : Reception) → length l ≡ n → ltb (lastCopy l r) n ≡ hasCopy l r

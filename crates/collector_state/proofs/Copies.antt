@@ -30,13 +30,17 @@ module _ (a b : List ℕ) (same : isSame a b ≡ true) where
     same-front : take (length a - 2) a ≡ take (length a - 2) b
     unfolding isSame
     same-front =
-        let e = both (eqb (upperOf (statusOf a)) (upperOf (statusOf b))) (equal (beforeStatus a) (beforeStatus b)) (both (eqb (length a) (length b)) _ same .1) .1 in
+        let e =
+        both (eqb (upperOf (statusOf a)) (upperOf (statusOf b)))
+        (equal (beforeStatus a) (beforeStatus b)) (both (eqb (length a) (length b)) _ same .1) .1 in
         let long = same-length in
         let f = equal-eq (beforeStatus a) (beforeStatus b) (subst T (sym e) tt) in
         sym (front-at a (omega arith)) ∙ f ∙ front-at b (omega arith) ∙ ap (λ (n : ℕ). take (n - 2) b) (sym long)
 
     pub same-at : (k : ℕ) → k < length a - 2 → getD a k 0 ≡ getD b k 0
-    same-at k h = sym (getD-take (length a - 2) a k 0 h) ∙ ap (λ (l : List ℕ). getD l k 0) same-front ∙ getD-take (length a - 2) b k 0 h
+    same-at k h =
+        sym (getD-take (length a - 2) a k 0 h)
+        ∙ ap (λ (l : List ℕ). getD l k 0) same-front ∙ getD-take (length a - 2) b k 0 h
 
 -- ---- a byte that an entry shows is the one that stands there, also past the array's end
 
@@ -45,7 +49,8 @@ unfolding resized
 resized-at n xs k h = getD-take n (padded n xs) k 0 h ∙ padded-at n xs k
 
 -- an entry with another byte before STATUS is another telegram, whatever its length is
-module _ (lens bytes : List ℕ) (i : ℕ) (xs : List ℕ) (low : minLength ≤ length xs) (high : length xs ≤ maxLength) (k : ℕ) (before : k < length xs - 2) where
+module _ (lens bytes : List ℕ) (i : ℕ) (xs : List ℕ) (low : minLength ≤ length xs)
+    (high : length xs ≤ maxLength) (k : ℕ) (before : k < length xs - 2) where
   pub other-byte : (getD bytes (maxLength * i + k) 0 ≡ getD xs k 0 → ⊥) → isSame (shownAt lens bytes i) xs ≡ false
   other-byte n = fails (isSame (shownAt lens bytes i) xs) differs
     where
@@ -53,5 +58,7 @@ module _ (lens bytes : List ℕ) (i : ℕ) (xs : List ℕ) (low : minLength ≤ 
       differs e =
           let long = same-length (shownAt lens bytes i) xs e in
           let len : length (shownAt lens bytes i) ≡ getD lens i 0 = resized-length (getD lens i 0) _ in
-          let shown = resized-at (getD lens i 0) (part (maxLength * i) maxLength bytes) k (omega arith) ∙ part-at (maxLength * i) maxLength bytes k 0 (omega arith) in
+          let shown =
+          resized-at (getD lens i 0) (part (maxLength * i) maxLength bytes) k (omega arith)
+          ∙ part-at (maxLength * i) maxLength bytes k 0 (omega arith) in
           n (sym shown ∙ same-at (shownAt lens bytes i) xs e (omega arith) k (omega arith))

@@ -30,17 +30,21 @@ each-small (x ∷ xs) [] s i = absurd s
 each-small (x ∷ xs) (u ∷ us) s zero = s .0 .1
 each-small (x ∷ xs) (u ∷ us) s (suc i) = each-small xs us (s .1) i
 
-pub small : (n : ℕ) (xs : List ℕ) (vs : List Val) → Is (Array u16 n) (map (λ (x : ℕ). x) xs) vs → (i : ℕ) → getD xs i 0 < 2 ^ 16
+pub small : (n : ℕ) (xs : List ℕ) (vs : List Val)
+    → Is (Array u16 n) (map (λ (x : ℕ). x) xs) vs → (i : ℕ) → getD xs i 0 < 2 ^ 16
 small n xs vs p i = rw (same xs) at (each-small (map (λ (x : ℕ). x) xs) (p .0) (p .1 .1) i)
 
 every : {A B : Type 0} (p : B → Bool) (f : A → B) → ((x : A) → p (f x) ≡ true) → (l : List A) → all p (map f l) ≡ true
 every p f h [] = refl
 every p f h (x ∷ l) = and-true (h x) (every p f h l)
 
-pub state-fits : (c : Collector) → c .summary .latest < 2 ^ 64 → c .summary .totals .received < 2 ^ 64 → ((i : ℕ) → getD (c .copies) i 0 < 2 ^ 16) → Fits (viewOf c)
+pub state-fits : (c : Collector) → c .summary .latest < 2 ^ 64 → c .summary .totals .received < 2 ^ 64
+    → ((i : ℕ) → getD (c .copies) i 0 < 2 ^ 16) → Fits (viewOf c)
 unfolding viewOf entriesAt
 state-fits c latest received copies = record {
   latest = latest;
   received = received;
-  copies = every (λ (e : Entry). leb (e .copies) ceiling) (entryAt (columnsOf c)) (λ i. le-leb (getD (c .copies) i 0) ceiling (omega (arith, copies i))) (upFrom 0 (c .summary .count));
+  copies =
+      every (λ (e : Entry). leb (e .copies) ceiling) (entryAt (columnsOf c))
+      (λ i. le-leb (getD (c .copies) i 0) ceiling (omega (arith, copies i))) (upFrom 0 (c .summary .count));
 }

@@ -17,7 +17,8 @@ use Rattle.collector_state.proofs.Arrays.{noEntry, entries-length, entr
 use Rattle.collector_state.proofs.Accepting.{accepted-few}
 
 module _ (c : Collector) (k : ℕ) where
-  pub heard-unacceptable : acceptable (viewOf c) ≡ false → record { number = numberOf NotAccepted; copies = 0 } ≡ copiesOf (viewOf c) k
+  pub heard-unacceptable : acceptable (viewOf c) ≡ false
+      → record { number = numberOf NotAccepted; copies = 0 } ≡ copiesOf (viewOf c) k
   unfolding copiesOf
   heard-unacceptable bad = rw bad
 
@@ -30,11 +31,14 @@ module _ (c : Collector) (k : ℕ) where
     unfolding copiesOf viewOf
     heard-closed h = rw (ok, entries-length (columnsOf c) (c .summary .count), le-leb (c .summary .count) k h)
 
-    counts : k < c .summary .count → getD (copiesIn (entriesAt (columnsOf c) (c .summary .count))) k 0 ≡ getD (c .copies) k 0
+    counts : k < c .summary .count
+        → getD (copiesIn (entriesAt (columnsOf c) (c .summary .count))) k 0 ≡ getD (c .copies) k 0
     counts h =
-        getD-map (λ (e : Entry). e .copies) (entriesAt (columnsOf c) (c .summary .count)) k noEntry 0 (rw entries-length h)
+        getD-map (λ (e : Entry). e .copies)
+        (entriesAt (columnsOf c) (c .summary .count)) k noEntry 0 (rw entries-length h)
         ∙ ap (λ (e : Entry). e .copies) (entry-get (columnsOf c) (c .summary .count) k h)
 
-    pub heard-open : k < c .summary .count → record { number = 0; copies = getD (c .copies) k 0 } ≡ copiesOf (viewOf c) k
+    pub heard-open : k < c .summary .count
+        → record { number = 0; copies = getD (c .copies) k 0 } ≡ copiesOf (viewOf c) k
     unfolding copiesOf viewOf
     heard-open h = rw (ok, entries-length (columnsOf c) (c .summary .count), lt-leb (c .summary .count) k h, counts h)

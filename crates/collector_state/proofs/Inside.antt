@@ -22,7 +22,8 @@ module _ {A : Type 0} where
   any-last p [] x e f = rw f
   any-last p (y ∷ xs) x e f = go (p y) e (λ h. any-last p xs x h f)
     where
-      go : (b : Bool) → (b || any p xs) ≡ false → (any p xs ≡ false → any p (xs ++ (x ∷ [])) ≡ false) → (b || any p (xs ++ (x ∷ []))) ≡ false
+      go : (b : Bool) → (b || any p xs) ≡ false → (any p xs ≡ false → any p (xs ++ (x ∷ [])) ≡ false)
+          → (b || any p (xs ++ (x ∷ []))) ≡ false
       go true h k = h
       go false h k = k h
 
@@ -30,7 +31,8 @@ module _ {A : Type 0} where
   all-inside p xs x ys e = all-at p (Memᴰ·append-right xs (List·Memᴰ·head refl)) e
 
   -- each element before it is in order with it
-  pub pairwise-inside : (r : A → A → Bool) (xs : List A) (x : A) (ys : List A) → pairwise r (xs ++ (x ∷ ys)) ≡ true → all (λ y. r y x) xs ≡ true
+  pub pairwise-inside : (r : A → A → Bool) (xs : List A) (x : A) (ys : List A)
+      → pairwise r (xs ++ (x ∷ ys)) ≡ true → all (λ y. r y x) xs ≡ true
   pairwise-inside r [] x ys e = refl
   pairwise-inside r (y ∷ xs) x ys e =
       let w = both (all (r y) (xs ++ (x ∷ ys))) (pairwise r (xs ++ (x ∷ ys))) e in
@@ -40,6 +42,7 @@ module _ {A : Type 0} where
   none-any p [] e = refl
   none-any p (x ∷ xs) e = go (p x) e (none-any p xs)
     where
-      go : (b : Bool) → (not b && all (λ y. not (p y)) xs) ≡ true → (all (λ y. not (p y)) xs ≡ true → any p xs ≡ false) → (b || any p xs) ≡ false
+      go : (b : Bool) → (not b && all (λ y. not (p y)) xs) ≡ true
+          → (all (λ y. not (p y)) xs ≡ true → any p xs ≡ false) → (b || any p xs) ≡ false
       go true h k = absurd (false≢true h)
       go false h k = k h

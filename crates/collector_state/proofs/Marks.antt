@@ -49,7 +49,10 @@ module _ (lens bytes : List ℕ) (i : ℕ) (seen : List ℕ) (m : Marked lens by
   pub marked-more : (mark : ℕ) → mark ≡ markAt i → mark < marks → Marked lens bytes (i + 1) (set seen mark 1)
   marked-more mark e h =
       let long = m .long in
-      record { long = length-set seen mark 1 ∙ m .long; each = λ j k. by-test (eqb (markAt j) mark) (λ q. hit j (eqb-true _ _ q)) (λ q. other j k (eqb-false _ _ q)) }
+      record {
+        long = length-set seen mark 1 ∙ m .long;
+        each = λ j k. by-test (eqb (markAt j) mark) (λ q. hit j (eqb-true _ _ q)) (λ q. other j k (eqb-false _ _ q));
+      }
     where
       hit : (j : ℕ) → markAt j ≡ mark → getD (set seen mark 1) (markAt j) 0 ≡ 1
       hit j q = let long = m .long in rw q (getD-set-same seen mark 1 0 (omega arith))
@@ -61,24 +64,30 @@ module _ (lens bytes : List ℕ) (i : ℕ) (seen : List ℕ) (m : Marked lens by
       ]
 
 -- a mark that was not seen is that of no copy
-module _ (a : Columns) (i : ℕ) (seen : List ℕ) (m : Marked (a .lens) (a .bytes) i seen) (valid : isValid (entryAt a i .bytes) ≡ true)
+module _ (a : Columns) (i : ℕ) (seen : List ℕ) (m : Marked (a .lens) (a .bytes) i seen)
+    (valid : isValid (entryAt a i .bytes) ≡ true)
     (unseen : getD seen (markOf (entryAt a i .bytes)) 0 ≡ 0) where
   low : minLength ≤ length (entryAt a i .bytes)
   low = check-facts (entryAt a i .bytes) (eqb-true _ 0 valid) .low
 
   no-copy-before : (j : ℕ) → j < i → isCopyOf (entryAt a j) (openedBy (entryAt a i)) ≡ false
-  no-copy-before j h = not-same a j (openedBy (entryAt a i)) (fails (isSame (entryAt a j .bytes) (entryAt a i .bytes)) seen-twice)
+  no-copy-before j h =
+      not-same a j (openedBy (entryAt a i)) (fails (isSame (entryAt a j .bytes) (entryAt a i .bytes)) seen-twice)
     where
       seen-twice : isSame (entryAt a j .bytes) (entryAt a i .bytes) ≡ true → ⊥
       seen-twice e =
           let long = same-length (entryAt a j .bytes) (entryAt a i .bytes) e in
           let enough = low in
-          let one : _≡_ {A = ℕ} 1 0 = sym (m .each j h) ∙ ap (λ (n : ℕ). getD seen n 0) (same-mark (entryAt a j .bytes) (entryAt a i .bytes) e (omega arith)) ∙ unseen in
+          let one : _≡_ {A = ℕ} 1 0 =
+          sym (m .each j h)
+          ∙ ap (λ (n : ℕ). getD seen n 0) (same-mark (entryAt a j .bytes) (entryAt a i .bytes) e (omega arith))
+          ∙ unseen in
           omega arith
 
   up-to : (k : ℕ) → k ≤ i → hasCopy (entriesAt a k) (openedBy (entryAt a i)) ≡ false
   up-to zero h = has-none a (openedBy (entryAt a i))
-  up-to (suc k) h = rw (← add-one) (has-more a k (openedBy (entryAt a i)) (up-to k (omega arith)) (no-copy-before k (omega arith)))
+  up-to (suc k) h =
+      rw (← add-one) (has-more a k (openedBy (entryAt a i)) (up-to k (omega arith)) (no-copy-before k (omega arith)))
 
   pub new-mark : isRepeatedAt a i ≡ false
   new-mark = up-to i (omega arith)
@@ -97,7 +106,8 @@ module _ (lens bytes : List ℕ) (i : ℕ) where
   shown-length = resized-length (getD lens i 0) (part (maxLength * i) maxLength bytes)
 
   pub long-not-valid : maxLength < getD lens i 0 → isValid (shownAt lens bytes i) ≡ false
-  long-not-valid h = fails (isValid (shownAt lens bytes i)) (λ e. omega (arith, valid-length (shownAt lens bytes i) e, shown-length))
+  long-not-valid h =
+      fails (isValid (shownAt lens bytes i)) (λ e. omega (arith, valid-length (shownAt lens bytes i) e, shown-length))
 
   pub valid-len : isValid (shownAt lens bytes i) ≡ true → (minLength ≤ getD lens i 0) × (getD lens i 0 ≤ maxLength)
   valid-len e =
@@ -108,7 +118,10 @@ module _ (lens bytes : List ℕ) (i : ℕ) where
 
 module _ {seen : ℕ} {known r : Bool} (q : Repeated seen known r) where
   pub is-known : r ≡ true → known ≡ true
-  is-known e = by-test (eqb seen 0) (λ z. absurd (false≢true (sym (q .new (eqb-true seen 0 z)) ∙ e))) (λ z. sym (q .old (eqb-false seen 0 z)) ∙ e)
+  is-known e =
+      by-test (eqb seen 0) (λ z. absurd (false≢true (sym (q .new (eqb-true seen 0 z)) ∙ e)))
+      (λ z. sym (q .old (eqb-false seen 0 z)) ∙ e)
 
   pub not-known : r ≡ false → (seen ≡ 0 → known ≡ false) → known ≡ false
-  not-known e unseen = by-test (eqb seen 0) (λ z. unseen (eqb-true seen 0 z)) (λ z. sym (q .old (eqb-false seen 0 z)) ∙ e)
+  not-known e unseen =
+      by-test (eqb seen 0) (λ z. unseen (eqb-true seen 0 z)) (λ z. sym (q .old (eqb-false seen 0 z)) ∙ e)

@@ -40,7 +40,8 @@ pub record Moving (from n i : ℕ) (old xs : List ℕ) : Type 0 where
 pub moving-none : (from n : ℕ) (old : List ℕ) → Moving from n 0 old old
 moving-none from n old = record { bounded = omega arith; long = refl; passed = refl; rest = refl }
 
-module _ (from n i : ℕ) (old xs : List ℕ) (m : Moving from n i old xs) (below : i < n) (fits : from + i < length old) where
+module _ (from n i : ℕ) (old xs : List ℕ) (m : Moving from n i old xs)
+    (below : i < n) (fits : from + i < length old) where
   unmoved : getD xs (from + i) 0 ≡ getD (drop from old) i 0
   unmoved =
       rw (getD-drop from old i 0, add-comm from i)
@@ -80,7 +81,8 @@ record Moved (gone n : ℕ) (old new : List ℕ) : Type 0 where
 module _ (gone n : ℕ) (l : List ℕ) (fits : gone + n ≤ length l) where
   moved-length : length (moved gone n l) ≡ length l
   unfolding moved
-  moved-length = length-front l (take n (drop gone l)) n (part-length gone n l fits ∙ sym (length-take-le n l (omega arith)))
+  moved-length =
+      length-front l (take n (drop gone l)) n (part-length gone n l fits ∙ sym (length-take-le n l (omega arith)))
 
   moved-front : Moved gone n l (moved gone n l)
   unfolding moved
@@ -89,18 +91,22 @@ module _ (gone n : ℕ) (l : List ℕ) (fits : gone + n ≤ length l) where
 module _ {gone n : ℕ} {old new : List ℕ} (m : Moved gone n old new) where
   moved-at : (i : ℕ) → i < n → getD new i 0 ≡ getD old (gone + i) 0
   moved-at i h =
-      sym (getD-take n new i 0 h) ∙ ap (λ (l : List ℕ). getD l i 0) (m .front) ∙ getD-take n (drop gone old) i 0 h ∙ getD-drop gone old i 0
+      sym (getD-take n new i 0 h) ∙ ap (λ (l : List ℕ). getD l i 0) (m .front)
+      ∙ getD-take n (drop gone old) i 0 h ∙ getD-drop gone old i 0
 
   moved-part : (a k : ℕ) → a + k ≤ n → part a k new ≡ part (gone + a) k old
   moved-part a k h =
-      sym (part-take a k n new h) ∙ ap (part a k) (m .front) ∙ part-take a k n (drop gone old) h ∙ ap (take k) (drop-drop a gone old)
+      sym (part-take a k n new h) ∙ ap (part a k) (m .front)
+      ∙ part-take a k n (drop gone old) h ∙ ap (take k) (drop-drop a gone old)
 
 -- the entries after the first `gone`, by their index
-entries-after : (a : Columns) (gone n count : ℕ) → gone + n ≡ count → drop gone (entriesAt a count) ≡ map (entryAt a) (upFrom gone n)
+entries-after : (a : Columns) (gone n count : ℕ) → gone + n ≡ count
+    → drop gone (entriesAt a count) ≡ map (entryAt a) (upFrom gone n)
 unfolding entriesAt
 entries-after a gone n count e =
     rw (← e, upFrom-add 0 gone n, zero-add, map-append)
-    (drop-at (map (entryAt a) (upFrom 0 gone)) (map (entryAt a) (upFrom gone n)) gone (length-map (upFrom 0 gone) (entryAt a) ∙ length-upFrom 0 gone))
+    (drop-at (map (entryAt a) (upFrom 0 gone)) (map (entryAt a) (upFrom gone n)) gone
+    (length-map (upFrom 0 gone) (entryAt a) ∙ length-upFrom 0 gone))
 
 -- n entries after the first `gone` stand at the front, column by column
 record MovedColumns (gone n : ℕ) (a a' : Columns) : Type 0 where
@@ -109,10 +115,12 @@ record MovedColumns (gone n : ℕ) (a a' : Columns) : Type 0 where
   bytes : Moved (maxLength * gone) (maxLength * n) (a .bytes) (a' .bytes)
   copies : Moved gone n (a .copies) (a' .copies)
 
-moved-entries : (gone n count : ℕ) (a a' : Columns) → gone + n ≡ count → MovedColumns gone n a a' → entriesAt a' n ≡ drop gone (entriesAt a count)
+moved-entries : (gone n count : ℕ) (a a' : Columns) → gone + n ≡ count
+    → MovedColumns gone n a a' → entriesAt a' n ≡ drop gone (entriesAt a count)
 unfolding entriesAt
 moved-entries gone n count a a' size m =
-    map-moved (entryAt a') (entryAt a) 0 gone n (λ i h. rw (zero-add) (same i h)) ∙ sym (entries-after a gone n count size)
+    map-moved (entryAt a') (entryAt a) 0 gone n (λ i h. rw (zero-add) (same i h))
+    ∙ sym (entries-after a gone n count size)
   where
     same : (i : ℕ) → i < n → entryAt a' i ≡ entryAt a (gone + i)
     same i h =
@@ -156,7 +164,9 @@ module _ (a : Columns) (i n : ℕ) (r : Reception) (long : n ≤ length (a .copi
       → entryAt (moreCopies true i a) k ≡ cond (eqb k i) (recount (λ c. capped (c + 1)) (entryAt a k)) (entryAt a k)
   credited-at k h =
       by-test (eqb k i)
-      (λ e. rw e (let same = eqb-true k i e in rw (same, getD-set-same (a .copies) i (capped (getD (a .copies) i 0 + 1)) 0 (omega arith))))
+      (λ e. rw e
+      (let same = eqb-true k i e in
+      rw (same, getD-set-same (a .copies) i (capped (getD (a .copies) i 0 + 1)) 0 (omega arith))))
       (λ e. rw (e, getD-set-other (a .copies) i k (capped (getD (a .copies) i 0 + 1)) 0 (eqb-false k i e)))
 
   credited-all : i ≡ lastCopy (entriesAt a n) r → entriesAt (moreCopies true i a) n ≡ creditIf true r (entriesAt a n)
@@ -189,14 +199,18 @@ record PutIf (test : Bool) (at : ℕ) (xs old new : List ℕ) : Type 0 where
 put-none : (at : ℕ) (xs old : List ℕ) → PutIf false at xs old old
 put-none at xs old = record { before = refl; stored = λ t. absurd (false≢true t) }
 
-set-put : (test : Bool) (i x : ℕ) (old : List ℕ) → (test ≡ true → i < length old) → PutIf test i (x ∷ []) old (setIf test i x old)
+set-put : (test : Bool) (i x : ℕ) (old : List ℕ) → (test ≡ true → i < length old)
+    → PutIf test i (x ∷ []) old (setIf test i x old)
 set-put true i x old h = record {
   before = take-set-le i old i x (le-refl i);
-  stored = λ _. rw (drop-cons (set old i x) i 0 (omega (arith, h refl, length-set old i x)), getD-set-same old i x 0 (h refl));
+  stored =
+      λ _.
+      rw (drop-cons (set old i x) i 0 (omega (arith, h refl, length-set old i x)), getD-set-same old i x 0 (h refl));
 }
 set-put false i x old h = put-none i (x ∷ []) old
 
-all-put : (test : Bool) (at : ℕ) (xs old : List ℕ) → (test ≡ true → at + length xs ≤ length old) → PutIf test at xs old (putIf test at xs old)
+all-put : (test : Bool) (at : ℕ) (xs old : List ℕ)
+    → (test ≡ true → at + length xs ≤ length old) → PutIf test at xs old (putIf test at xs old)
 all-put true at xs old h =
     let long : length (take at old) ≡ at = length-take-le at old (omega (arith, h refl)) in
     let rest = xs ++ drop (at + length xs) old in
@@ -215,7 +229,8 @@ put-copied at xs old ys h e =
     let mid = midOf at k old in
     let post = drop k (drop at old) in
     let long : length mid ≡ k = part-length at k old (omega arith) in
-    ap (λ (l : List ℕ). take at old ++ (l ++ post)) (e ∙ ap (λ (l : List ℕ). l ++ drop (length xs) mid) (take-length xs))
+    ap (λ (l : List ℕ). take at old ++ (l ++ post))
+    (e ∙ ap (λ (l : List ℕ). l ++ drop (length xs) mid) (take-length xs))
     ∙ ap (λ (l : List ℕ). take at old ++ l)
     (append-assoc xs (drop (length xs) mid) post
     ∙ ap (λ (l : List ℕ). xs ++ l)
@@ -224,7 +239,8 @@ put-copied at xs old ys h e =
     ∙ drop-drop (length xs) at old))
 
 -- a length that says how many bytes stand there
-resized-part : (n : ℕ) (xs ys : List ℕ) → n ≤ maxLength → length ys ≡ n → take n xs ≡ ys → resized n (take maxLength xs) ≡ ys
+resized-part : (n : ℕ) (xs ys : List ℕ) → n ≤ maxLength → length ys ≡ n
+    → take n xs ≡ ys → resized n (take maxLength xs) ≡ ys
 resized-part n xs ys h long e =
     let k : n ≤ length xs = omega (arith, length-take n xs, ap length e) in
     resized-cut n (take maxLength xs) (simp length-take (omega arith)) ∙ take-take n maxLength xs h ∙ e
@@ -248,7 +264,9 @@ module _ (kept : Bool) (n : ℕ) (r : Reception) (a a' : Columns)
       })
 
   one-at : (x : ℕ) (xs : List ℕ) → part n 1 xs ≡ x ∷ [] → getD xs n 0 ≡ x
-  one-at x xs e = sym (part-at n 1 xs 0 0 (omega arith) ∙ ap (λ (i : ℕ). getD xs i 0) (add-zero n)) ∙ ap (λ (y : List ℕ). getD y 0 0) e
+  one-at x xs e =
+      sym (part-at n 1 xs 0 0 (omega arith) ∙ ap (λ (i : ℕ). getD xs i 0) (add-zero n))
+      ∙ ap (λ (y : List ℕ). getD y 0 0) e
 
   put-entry : kept ≡ true → entryAt a' n ≡ opened r
   put-entry k =
@@ -256,7 +274,8 @@ module _ (kept : Bool) (n : ℕ) (r : Reception) (a a' : Columns)
         one-at (r .time) (a' .times) (p .times .stored k),
         one-at (length (r .bytes)) (a' .lens) (p .lens .stored k),
         one-at 0 (a' .copies) (p .copies .stored k),
-        resized-part (length (r .bytes)) (drop (maxLength * n) (a' .bytes)) (r .bytes) (short k) refl (p .bytes .stored k),
+        resized-part (length (r .bytes)) (drop (maxLength * n) (a' .bytes))
+            (r .bytes) (short k) refl (p .bytes .stored k),
       )
 
   put-entries : entriesAt a' (plusIf kept n) ≡ addIf kept (opened r) (entriesAt a n)
@@ -266,9 +285,11 @@ module _ (kept : Bool) (n : ℕ) (r : Reception) (a a' : Columns)
 
 abbrev movedTo : ℕ → ℕ → Columns → Columns
 movedTo gone n a =
-    columns (moved gone n (a .times)) (moved gone n (a .lens)) (moved (maxLength * gone) (maxLength * n) (a .bytes)) (moved gone n (a .copies))
+    columns (moved gone n (a .times)) (moved gone n (a .lens))
+    (moved (maxLength * gone) (maxLength * n) (a .bytes)) (moved gone n (a .copies))
 
-module _ (a : Columns) (whole : Whole a) (d : Decision) (count : ℕ) (size : d .gone + d .left ≡ count) (few : count ≤ capacity) (r : Reception) where
+module _ (a : Columns) (whole : Whole a) (d : Decision) (count : ℕ)
+    (size : d .gone + d .left ≡ count) (few : count ≤ capacity) (r : Reception) where
   abbrev front : Columns
   front = movedTo (d .gone) (d .left) a
 
@@ -286,7 +307,9 @@ module _ (a : Columns) (whole : Whole a) (d : Decision) (count : ℕ) (size : d 
   front-whole = record {
     times = moved-length (d .gone) (d .left) (a .times) (omega (arith, whole .times)) ∙ whole .times;
     lens = moved-length (d .gone) (d .left) (a .lens) (omega (arith, whole .lens)) ∙ whole .lens;
-    bytes = moved-length (maxLength * d .gone) (maxLength * d .left) (a .bytes) (omega (arith, whole .bytes)) ∙ whole .bytes;
+    bytes =
+        moved-length (maxLength * d .gone) (maxLength * d .left) (a .bytes) (omega (arith, whole .bytes))
+        ∙ whole .bytes;
     copies = moved-length (d .gone) (d .left) (a .copies) (omega (arith, whole .copies)) ∙ whole .copies;
   }
 
@@ -295,10 +318,16 @@ module _ (a : Columns) (whole : Whole a) (d : Decision) (count : ℕ) (size : d 
       → entriesAt (changed d r a) (plusIf (d .kept) (d .left))
       ≡ addIf (d .kept) (opened r) (creditIf (d .heard) r (drop (d .gone) (entriesAt a count)))
   changed-entries room last =
-      put-entries (d .kept) (d .left) r (moreCopies (d .heard) (d .entry) front) (changed d r a) (λ e. room e .1) (record {
-        times = set-put (d .kept) (d .left) (r .time) (front .times) (λ e. omega (arith, room e .0, front-whole .times));
-        lens = set-put (d .kept) (d .left) (length (r .bytes)) (front .lens) (λ e. omega (arith, room e .0, front-whole .lens));
-        bytes = all-put (d .kept) (maxLength * d .left) (r .bytes) (front .bytes) (λ e. omega (arith, room e .0, room e .1, front-whole .bytes));
+      put-entries (d .kept) (d .left) r (moreCopies (d .heard) (d .entry) front)
+      (changed d r a) (λ e. room e .1) (record {
+        times =
+            set-put (d .kept) (d .left) (r .time) (front .times) (λ e. omega (arith, room e .0, front-whole .times));
+        lens =
+            set-put (d .kept) (d .left) (length (r .bytes)) (front .lens)
+            (λ e. omega (arith, room e .0, front-whole .lens));
+        bytes =
+            all-put (d .kept) (maxLength * d .left) (r .bytes) (front .bytes)
+            (λ e. omega (arith, room e .0, room e .1, front-whole .bytes));
         copies =
             set-put (d .kept) (d .left) 0 (moreIf (d .heard) (d .entry) (front .copies))
             (λ e. omega (arith, room e .0, more-length (d .heard) (d .entry) (front .copies), front-whole .copies));
@@ -311,14 +340,16 @@ module _ (a : Columns) (whole : Whole a) (d : Decision) (count : ℕ) (size : d 
 -- ---- which are no longer open
 
 -- n entries that are not open at t are left out, up to one that is
-open-after : (f : ℕ → Entry) (t a n m : ℕ) → ((i : ℕ) → a ≤ i → i < a + n → isOpen t (f i) ≡ false) → (0 < m → isOpen t (f (a + n)) ≡ true)
+open-after : (f : ℕ → Entry) (t a n m : ℕ) → ((i : ℕ) → a ≤ i → i < a + n → isOpen t (f i) ≡ false)
+    → (0 < m → isOpen t (f (a + n)) ≡ true)
     → openFrom t (map f (upFrom a (n + m))) ≡ map f (upFrom (a + n) m)
 unfolding upFrom
 open-after f t a zero zero closed first = refl
 open-after f t a zero (suc m) closed first = rw (zero-add, add-zero, rw (add-zero) at (first (omega arith)))
 open-after f t a (suc n) m closed first =
     rw (suc-add n, add-suc, ← (suc-add a), closed a (omega arith) (omega arith))
-    (open-after f t (suc a) n m (λ i h k. closed i (omega arith) (omega arith)) (λ h. rw (suc-add a, ← add-suc) (first h)))
+    (open-after f t (suc a) n m (λ i h k. closed i (omega arith) (omega arith))
+    (λ h. rw (suc-add a, ← add-suc) (first h)))
 
 pub expired-open : (a : Columns) (count time gone : ℕ) → Expired (a .times) count time gone
     → openFrom time (entriesAt a count) ≡ drop gone (entriesAt a count)

@@ -24,7 +24,8 @@ use Rattle.collector_state.proofs.Admitting.{kept-room}
 -- ---- the two ways out of `relay_kept`
 
 module _ (setting : ℕ) (a : Shown) (bytes out : List ℕ) where
-  pub relay-nothing : isKept a ≡ false → record { number = 0; len = 0; output = out } ≡ written (relayedFor setting a bytes) out
+  pub relay-nothing : isKept a ≡ false
+      → record { number = 0; len = 0; output = out } ≡ written (relayedFor setting a bytes) out
   unfolding relayedFor
   relay-nothing e = rw e
 
@@ -44,12 +45,18 @@ module _ (fit : Bool) (v : View) (r : Reception) where
   unfolding admission admitted
   kept-valid = go (fit && isSafe v) (leb maxCount (v .totals .received))
     where
-      go : (b c : Bool) → isKept (cond (not b) (notAdmitted NotAccepted v) (cond c (notAdmitted Full v) (admitted v r)) .answer) ≡ true → isValid (r .bytes) ≡ true
+      go : (b c : Bool)
+          → isKept (cond (not b) (notAdmitted NotAccepted v) (cond c (notAdmitted Full v) (admitted v r)) .answer)
+          ≡ true
+          → isValid (r .bytes) ≡ true
       go true true h = absurd (false≢true h)
       go true false h = kept-room v r h .1
       go false c h = absurd (false≢true h)
 
-  pub relayed-sent : (setting : ℕ) → frameOf (relayedFor setting (admission fit v r .answer) (r .bytes)) ≡ sentFor setting (admission fit v r .answer) r
+  pub relayed-sent : (setting : ℕ)
+      → frameOf (relayedFor setting (admission fit v r .answer) (r .bytes))
+      ≡ sentFor setting (admission fit v r .answer) r
   unfolding relayedFor sentFor
   relayed-sent setting =
-      by-test (isKept (admission fit v r .answer)) (λ e. rw (e, ← repeat-valid setting (r .bytes) (eqb-true _ 0 (kept-valid e)))) (λ e. rw e)
+      by-test (isKept (admission fit v r .answer))
+      (λ e. rw (e, ← repeat-valid setting (r .bytes) (eqb-true _ 0 (kept-valid e)))) (λ e. rw e)

@@ -29,7 +29,11 @@ use Rattle.collector_state.proofs.Accepting.{accepted-few, accepted-ord
 later-open : (t : ℕ) (e later : Entry) → isOpen t e ≡ true → mayFollow e later ≡ true → isOpen t later ≡ true
 later-open t e later o f =
     le-leb (t - later .time) maturity
-    (omega (arith, leb-true (t - e .time) maturity o, leb-true (e .time) (later .time) (both (leb (e .time) (later .time)) (not (isCopyOf e (openedBy later))) f .0)))
+    (omega (
+      arith,
+      leb-true (t - e .time) maturity o,
+      leb-true (e .time) (later .time) (both (leb (e .time) (later .time)) (not (isCopyOf e (openedBy later))) f .0),
+    ))
 
 open-kept : (t : ℕ) (l : List Entry) → pairwise mayFollow l ≡ true → openFrom t l ≡ keep (isOpen t) l
 open-kept t [] order = refl
@@ -37,7 +41,8 @@ open-kept t (e ∷ l) order =
     let w = both (all (mayFollow e) l) (pairwise mayFollow l) order in
     by-test (isOpen t e)
     (λ o. rw o (ap (λ (m : List Entry). e ∷ m)
-    (sym (keep-every (isOpen t) l (all-both (mayFollow e) (mayFollow e) (isOpen t) (λ x p _. later-open t e x o p) l (w .0) (w .0))))))
+    (sym (keep-every (isOpen t) l
+    (all-both (mayFollow e) (mayFollow e) (isOpen t) (λ x p _. later-open t e x o p) l (w .0) (w .0))))))
     (λ o. rw o (open-kept t l (w .1)))
 
 -- ---- an acceptable view
@@ -51,7 +56,8 @@ module _ (v : View) (r : Reception) (ok : acceptable v ≡ true) where
   unfolding step classify advance
   full-step e = rw (ok, e)
 
-  classify-by : leb maxCount (v .totals .received) ≡ false → classify v r ≡ answerFor number (isKnown v r) (isCrowded v r)
+  classify-by : leb maxCount (v .totals .received) ≡ false
+      → classify v r ≡ answerFor number (isKnown v r) (isCrowded v r)
   unfolding classify receptionCheck answerFor
   classify-by a =
       by-test (isValid (r .bytes))
@@ -67,14 +73,25 @@ module _ (v : View) (r : Reception) (ok : acceptable v ≡ true) where
 
   advanced : (known crowded : Bool)
       → (let a = answerFor number known crowded in
-      record { latest = latestAfter v r; totals = tally a (v .totals); entries = entriesWith a r (leftAfter v r) } ≡ advance v r a)
+      record { latest = latestAfter v r; totals = tally a (v .totals); entries = entriesWith a r (leftAfter v r) }
+      ≡ advance v r a)
   unfolding advance answerFor
-  advanced known crowded = by-test (eqb number 0) (λ e. rw (e, left-kept (r .time)) (accepted known crowded)) (λ e. rw e)
+  advanced known crowded =
+      by-test (eqb number 0) (λ e. rw (e, left-kept (r .time)) (accepted known crowded)) (λ e. rw e)
     where
       accepted : (known crowded : Bool)
           → (let a = cond known Copy (cond crowded Loose Kept) in
-          _≡_ {A = View} (record { latest = r .time; totals = tally a (v .totals); entries = entriesWith a r (stillOpen (r .time) v) })
-          (record { latest = cond (isAccepted a) (r .time) (v .latest); totals = tally a (v .totals); entries = entriesAfter v r a }))
+          _≡_ {A = View}
+          (record {
+            latest = r .time;
+            totals = tally a (v .totals);
+            entries = entriesWith a r (stillOpen (r .time) v);
+          })
+          (record {
+            latest = cond (isAccepted a) (r .time) (v .latest);
+            totals = tally a (v .totals);
+            entries = entriesAfter v r a;
+          }))
       accepted true crowded = refl
       accepted false true = refl
       accepted false false = refl
@@ -86,7 +103,8 @@ module _ (v : View) (r : Reception) (ok : acceptable v ≡ true) where
   -- a refused reception leaves every entry where it stands, and another the open ones
   columns-stepped : (a : Columns)
       → cond (isAccepted (answerOn v r)) (columnsWith (answerOn v r) r (length (v .entries)) (leftAfter v r) a) a
-      ≡ cond (isAccepted (answerOn v r)) (columnsWith (answerOn v r) r (length (v .entries)) (stillOpen (r .time) v) a) a
+      ≡ cond (isAccepted (answerOn v r))
+      (columnsWith (answerOn v r) r (length (v .entries)) (stillOpen (r .time) v) a) a
   unfolding answerFor
   columns-stepped a = by-test (eqb number 0) (λ e. rw (e, left-kept (r .time))) (λ e. rw e)
 
@@ -100,7 +118,8 @@ module _ (v : View) (r : Reception) where
   unfolding admission
   admission-step =
       by-test (acceptable v)
-      (λ ok. by-test (leb maxCount (v .totals .received)) (λ e. rw (ok, safe v r ok, e) (full-step v r ok e)) (λ e. rw (ok, safe v r ok, e) (stepped v r ok e)))
+      (λ ok. by-test (leb maxCount (v .totals .received)) (λ e. rw (ok, safe v r ok, e) (full-step v r ok e))
+      (λ e. rw (ok, safe v r ok, e) (stepped v r ok e)))
       (λ bad. rw bad (step-unacceptable v bad r))
 
   pub admission-fit : (fit : Bool) → fit ≡ acceptable v → admission fit v r ≡ step v r
@@ -112,19 +131,29 @@ module _ (v : View) (r : Reception) where
   columns-fit fit a e =
       rw (admission-fit fit e)
       (by-test (acceptable v)
-      (λ ok. by-test (leb maxCount (v .totals .received)) (λ f. rw (← (full-step v r ok f))) (λ f. rw (← (stepped v r ok f)) (columns-stepped v r ok a)))
+      (λ ok. by-test (leb maxCount (v .totals .received)) (λ f. rw (← (full-step v r ok f)))
+      (λ f. rw (← (stepped v r ok f)) (columns-stepped v r ok a)))
       (λ bad. rw (← (step-unacceptable v bad r))))
 
 -- ---- a run of receptions, of which the first state alone is tested
 
-pub tested-next : (fit : Bool) {v : View} (r : Reception) → Tested fit v → r .time < 2 ^ 64 → Tested fit (step v r .next)
+pub tested-next : (fit : Bool) {v : View} (r : Reception)
+    → Tested fit v → r .time < 2 ^ 64 → Tested fit (step v r .next)
 unfolding step advance
 tested-next true {v} r k small =
     let g = good-advance v r (good-of v (sym (k .said)) (k .fits)) small (classified v r) in
-    record { said = sym (good-acceptable g); fits = record { latest = g .entries .fits; received = g .totals .fits; copies = g .entries .copies } }
+    record {
+      said = sym (good-acceptable g);
+      fits = record { latest = g .entries .fits; received = g .totals .fits; copies = g .entries .copies };
+    }
 tested-next false {v} r k small =
     let stays : step v r .next ≡ v = sym (ap (λ (o : Outcome). o .next) (step-unacceptable v (sym (k .said)) r)) in
     rw stays k
 
 pub told-rightly : ToldRightly
-told-rightly = record { isStep = λ fit v r e. admission-fit v r fit e; elements = λ fit v r a e. columns-fit v r fit a e; goesOn = λ fit v r k small. tested-next fit r k small }
+told-rightly =
+    record {
+      isStep = λ fit v r e. admission-fit v r fit e;
+      elements = λ fit v r a e. columns-fit v r fit a e;
+      goesOn = λ fit v r k small. tested-next fit r k small;
+    }

@@ -44,9 +44,11 @@ rising-says lo hi (e ∷ l) h =
     let rest = rising-says (e .time) hi l (w .1) in (
       omega arith,
       and-true (between e (rest .0) low)
-          (all-both (isBetween (e .time) hi) (isBetween (e .time) hi) (isBetween lo hi) (λ x p q. wider x low p) l (rest .1) (rest .1)),
+          (all-both (isBetween (e .time) hi) (isBetween (e .time) hi)
+          (isBetween lo hi) (λ x p q. wider x low p) l (rest .1) (rest .1)),
       and-true
-          (all-both (isBetween (e .time) hi) (isBetween (e .time) hi) (isOrdered e) (λ x p q. both (leb (x .time) hi) (leb (e .time) (x .time)) p .1) l (rest .1) (rest .1))
+          (all-both (isBetween (e .time) hi) (isBetween (e .time) hi) (isOrdered e)
+          (λ x p q. both (leb (x .time) hi) (leb (e .time) (x .time)) p .1) l (rest .1) (rest .1))
           (rest .2),
     )
   where
@@ -65,17 +67,21 @@ says-rising lo hi (e ∷ l) h a p =
     let q = both (all (isOrdered e) l) (pairwise isOrdered l) p in
     and-true (v .1)
     (says-rising (e .time) hi l (leb-true _ _ (v .0))
-    (all-both (isBetween lo hi) (isOrdered e) (isBetween (e .time) hi) (λ x s t. and-true (both (leb (x .time) hi) (leb lo (x .time)) s .0) t) l (w .1) (q .0))
+    (all-both (isBetween lo hi) (isOrdered e) (isBetween (e .time) hi)
+    (λ x s t. and-true (both (leb (x .time) hi) (leb lo (x .time)) s .0) t) l (w .1) (q .0))
     (q .1))
 
 -- the times of the first entries
-times-from : (times : List ℕ) (a n : ℕ) → a + n ≤ length times → map (λ i. getD times i 0) (upFrom a n) ≡ take n (drop a times)
+times-from : (times : List ℕ) (a n : ℕ) → a + n ≤ length times
+    → map (λ i. getD times i 0) (upFrom a n) ≡ take n (drop a times)
 unfolding upFrom
 times-from times a zero h = refl
 times-from times a (suc n) h =
-    rw (drop-cons times a 0 (omega arith)) (ap (λ (l : List ℕ). getD times a 0 ∷ l) (times-from times (suc a) n (omega arith)))
+    rw (drop-cons times a 0 (omega arith))
+    (ap (λ (l : List ℕ). getD times a 0 ∷ l) (times-from times (suc a) n (omega arith)))
 
-times-of : (a : Columns) (count : ℕ) → count ≤ length (a .times) → map timeOf (entriesAt a count) ≡ take count (a .times)
+times-of : (a : Columns) (count : ℕ) → count ≤ length (a .times)
+    → map timeOf (entriesAt a count) ≡ take count (a .times)
 unfolding entriesAt
 times-of a count h =
     map-map timeOf (entryAt a) (upFrom 0 count) ∙ times-from (a .times) 0 count (omega arith)
@@ -108,14 +114,16 @@ timely-by a count latest h = rw (← times-of a count h) (timely-rising latest (
 
 -- a turn of the loop over the times
 module _ (times : List ℕ) (i count lo hi : ℕ) (h : i < count) (k : count ≤ length times) where
-  rising-at : rising lo hi (slice i count times) ≡ (leb lo (getD times i 0) && rising (getD times i 0) hi (slice (i + 1) count times))
+  rising-at : rising lo hi (slice i count times)
+      ≡ (leb lo (getD times i 0) && rising (getD times i 0) hi (slice (i + 1) count times))
   unfolding rising
   rising-at = rw (add-one, slice-cons i count times 0 h k)
 
   pub rising-not : getD times i 0 < lo → rising lo hi (slice i count times) ≡ false
   rising-not n = rising-at ∙ rw (lt-leb lo (getD times i 0) n)
 
-  pub rising-more : lo ≤ getD times i 0 → rising lo hi (slice i count times) ≡ rising (getD times i 0) hi (slice (i + 1) count times)
+  pub rising-more : lo ≤ getD times i 0
+      → rising lo hi (slice i count times) ≡ rising (getD times i 0) hi (slice (i + 1) count times)
   rising-more n = rising-at ∙ rw (le-leb lo (getD times i 0) n)
 
 pub rising-end : (times : List ℕ) (count lo hi : ℕ) → rising lo hi (slice count count times) ≡ leb lo hi

@@ -47,11 +47,13 @@ module _ (t : ℕ) (bs : List ℕ) where
   answered : (a : Shown) → all isFit (rowFor a heard) ≡ true → Stored a
   unfolding flatten
   answered Kept e =
-      let short = le-leb (length bs) maxLength (fit-short (record { bytes = bs; time = t; loose = false }) (both _ _ e .0)) in
+      let short =
+      le-leb (length bs) maxLength (fit-short (record { bytes = bs; time = t; loose = false }) (both _ _ e .0)) in
       record { time = rw short; bytes = rw short (sym (append-nil _)) }
   answered Copy e = record { time = refl; bytes = refl }
   answered Loose e =
-      let short = le-leb (length bs) maxLength (fit-short (record { bytes = bs; time = t; loose = true }) (both _ _ e .0)) in
+      let short =
+      le-leb (length bs) maxLength (fit-short (record { bytes = bs; time = t; loose = true }) (both _ _ e .0)) in
       record { time = rw short; bytes = rw short (sym (append-nil _)) }
   answered (Refused n) e = record { time = refl; bytes = refl }
 
@@ -73,7 +75,8 @@ record OfLines (setting : ℕ) (v : View) (ls : List (List ℕ)) : Type 0 where
   records : textOf rowRecords (runningAt setting v) ls ≡ recordsOf (takenRows v ls)
 
 next-line : (setting : ℕ) (v : View) (a : Reading)
-    → afterLine modelCollector (record { setting = setting; view = v }) a ≡ record { setting = setting; view = viewAfter v a }
+    → afterLine modelCollector (record { setting = setting; view = v }) a
+    ≡ record { setting = setting; view = viewAfter v a }
 next-line setting v (reception t bs) = refl
 next-line setting v bad = refl
 
@@ -89,22 +92,32 @@ of-lines setting (l ∷ ls) v e =
     record {
       times =
           ap₂ (λ (x : List ℕ) (y : Receiver). x ++ textOf rowTimes (running y) ls) (one .time) (next-line setting v a)
-          ∙ ap (λ (x : List ℕ). timesOf (rowsFrom v a) ++ x) (rest .times) ∙ sym (times-append (rowsFrom v a) (takenRows (viewAfter v a) ls));
+          ∙ ap (λ (x : List ℕ). timesOf (rowsFrom v a) ++ x) (rest .times)
+          ∙ sym (times-append (rowsFrom v a) (takenRows (viewAfter v a) ls));
       records =
-          ap₂ (λ (x : List ℕ) (y : Receiver). x ++ textOf rowRecords (running y) ls) (one .bytes) (next-line setting v a)
-          ∙ ap (λ (x : List ℕ). recordsOf (rowsFrom v a) ++ x) (rest .records) ∙ sym (records-append (rowsFrom v a) (takenRows (viewAfter v a) ls));
+          ap₂ (λ (x : List ℕ) (y : Receiver). x ++ textOf rowRecords (running y) ls)
+          (one .bytes) (next-line setting v a)
+          ∙ ap (λ (x : List ℕ). recordsOf (rowsFrom v a) ++ x) (rest .records)
+          ∙ sym (records-append (rowsFrom v a) (takenRows (viewAfter v a) ls));
     }
 
 -- what the two texts of lines say
 abbrev saidBy : Phase Receiver → List (List ℕ) → List Row
 saidBy s ls = rowsGiven (textOf rowTimes s ls ++ []) (textOf rowRecords s ls ++ [])
 
-said-lines : (setting : ℕ) (past : List Reception) (ls : List (List ℕ)) → Good (modelView (logOf past)) → saidBy (runningAt setting (modelView (logOf past))) ls ≡ modelRows past ls
+said-lines : (setting : ℕ) (past : List Reception) (ls : List (List ℕ)) → Good (modelView (logOf past))
+    → saidBy (runningAt setting (modelView (logOf past))) ls ≡ modelRows past ls
 said-lines setting past ls g =
     let t = took-all ls past g in
     let v = modelView (logOf past) in
     let w = of-lines setting ls v (rw (t .rows) (t .fit)) in
-    rw (append-nil (textOf rowTimes (runningAt setting v) ls), append-nil (textOf rowRecords (runningAt setting v) ls), w .times, w .records, t .rows)
+    rw (
+      append-nil (textOf rowTimes (runningAt setting v) ls),
+      append-nil (textOf rowRecords (runningAt setting v) ls),
+      w .times,
+      w .records,
+      t .rows,
+    )
     (given-back (modelRows past ls) (t .fit))
 
 good-start : Good (modelView (logOf []))
@@ -117,16 +130,19 @@ lines-archived setting before input =
 
 -- ---- a log
 
-pub over-silent : (p : Program (Phase Receiver)) → ((l : List ℕ) → p .text over l ≡ []) → ((l : List ℕ) → p .next over l ≡ over) → (ls : List (List ℕ)) → textOf p over ls ≡ []
+pub over-silent : (p : Program (Phase Receiver)) → ((l : List ℕ) → p .text over l ≡ [])
+    → ((l : List ℕ) → p .next over l ≡ over) → (ls : List (List ℕ)) → textOf p over ls ≡ []
 unfolding textOf
 over-silent p t n [] = refl
 over-silent p t n (l ∷ ls) = rw (t l, n l) (over-silent p t n ls)
 
 behind-first : (x : Setting) (ls : List (List ℕ)) → saidBy (afterFirst modelCollector x) ls ≡ archivedWith x ls
 unfolding rowsGiven upFrom
-behind-first (Setting.Level n) ls = ap (λ (v : View). saidBy (runningAt n v) ls) fresh-model ∙ said-lines n [] ls good-start
+behind-first (Setting.Level n) ls =
+    ap (λ (v : View). saidBy (runningAt n v) ls) fresh-model ∙ said-lines n [] ls good-start
 behind-first Setting.Bad ls =
-    ap₂ (λ (x y : List ℕ). rowsGiven (x ++ []) (y ++ [])) (over-silent rowTimes (λ l. refl) (λ l. refl) ls) (over-silent rowRecords (λ l. refl) (λ l. refl) ls)
+    ap₂ (λ (x y : List ℕ). rowsGiven (x ++ []) (y ++ [])) (over-silent rowTimes (λ l. refl) (λ l. refl) ls)
+    (over-silent rowRecords (λ l. refl) (λ l. refl) ls)
 
 whole-log : (ls : List (List ℕ)) → saidBy starting ls ≡ archivedFor ls
 unfolding textOf rowsGiven upFrom
@@ -149,15 +165,23 @@ fit-lines (l ∷ ls) = fit-for (settingOf l) ls
 
 pub archived-storable : ArchivedStorable
 unfolding archivedOf
-archived-storable input = let e = fit-lines (linesOf input) in record { fit = e; checked = none-refused (archivedFor (linesOf input)) 0 e }
+archived-storable input = let e = fit-lines (linesOf input) in
+    record { fit = e; checked = none-refused (archivedFor (linesOf input)) 0 e }
 
 -- ---- a record for each time
 
 stored-sized : (a : Shown) (t : ℕ) (bs : List ℕ) → length (storedRecord a bs) ≡ rowLength * length (storedTime a t bs)
 stored-sized a t bs = go (isStored a bs) refl
   where
-    go : (s : Bool) → isStored a bs ≡ s → length (cond s (cond (isLoose a) 1 0 ∷ length bs ∷ padded maxLength bs) []) ≡ rowLength * length (cond s (t ∷ []) [])
-    go true e = omega (arith, padded-length maxLength bs (leb-true (length bs) maxLength (both (isKept a || isLoose a) (leb (length bs) maxLength) e .1)))
+    go : (s : Bool) → isStored a bs ≡ s
+        → length (cond s (cond (isLoose a) 1 0 ∷ length bs ∷ padded maxLength bs) [])
+        ≡ rowLength * length (cond s (t ∷ []) [])
+    go true e =
+        omega (
+          arith,
+          padded-length maxLength bs
+              (leb-true (length bs) maxLength (both (isKept a || isLoose a) (leb (length bs) maxLength) e .1)),
+        )
     go false e = omega arith
 
 line-sized : (c : Receiver) (a : Reading) → length (recordOfLine c a) ≡ rowLength * length (timeOfLine c a)
@@ -169,14 +193,22 @@ text-sized starting l = omega arith
 text-sized (running c) l = line-sized c (lineReading l)
 text-sized over l = omega arith
 
-lines-sized : (ls : List (List ℕ)) (s : Phase Receiver) → length (textOf rowRecords s ls) ≡ rowLength * length (textOf rowTimes s ls)
+lines-sized : (ls : List (List ℕ)) (s : Phase Receiver)
+    → length (textOf rowRecords s ls) ≡ rowLength * length (textOf rowTimes s ls)
 unfolding textOf
 lines-sized [] s = omega arith
 lines-sized (l ∷ ls) s =
     let n = rowTimes .next s l in
-    omega (arith, text-sized s l, lines-sized ls n, length-append (rowRecords .text s l) (textOf rowRecords n ls), length-append (rowTimes .text s l) (textOf rowTimes n ls))
+    omega (
+      arith,
+      text-sized s l,
+      lines-sized ls n,
+      length-append (rowRecords .text s l) (textOf rowRecords n ls),
+      length-append (rowTimes .text s l) (textOf rowTimes n ls),
+    )
 
 pub records-sized : RecordsSized
 unfolding outputOf
 records-sized s input =
-    rw (append-nil (textOf rowRecords s (linesOf input)), append-nil (textOf rowTimes s (linesOf input))) (lines-sized (linesOf input) s)
+    rw (append-nil (textOf rowRecords s (linesOf input)), append-nil (textOf rowTimes s (linesOf input)))
+    (lines-sized (linesOf input) s)

@@ -46,7 +46,8 @@ record-back r h = go (r .loose) refl
 
 -- ---- rows
 
-first-given : (t : ℕ) (ts r rs : List ℕ) → length r ≡ rowLength → rowsGiven (t ∷ ts) (r ++ rs) ≡ rowGiven t r ∷ rowsGiven ts rs
+first-given : (t : ℕ) (ts r rs : List ℕ) → length r ≡ rowLength
+    → rowsGiven (t ∷ ts) (r ++ rs) ≡ rowGiven t r ∷ rowsGiven ts rs
 unfolding rowsGiven upFrom
 first-given t ts r rs e =
     let f : ℕ → Row = λ i. rowGiven (getD (t ∷ ts) i 0) (part (rowLength * i) rowLength (r ++ rs)) in
@@ -54,7 +55,8 @@ first-given t ts r rs e =
     let front : part (rowLength * 0) rowLength (r ++ rs) ≡ r = rw (← e) (take-append-seam r rs) in
     let next : (i : ℕ) → i < length ts → f (1 + i) ≡ g (0 + i) = λ i k.
     let z : rowLength * (1 + i) ≡ length r + rowLength * i = omega arith in
-    let d : drop (rowLength * (1 + i)) (r ++ rs) ≡ drop (rowLength * i) rs = rw z (drop-append-add r rs (rowLength * i)) in
+    let d : drop (rowLength * (1 + i)) (r ++ rs) ≡ drop (rowLength * i) rs =
+    rw z (drop-append-add r rs (rowLength * i)) in
     let s : 1 + i ≡ suc i = omega arith in
     rw (d, s, zero-add i)
     in
@@ -85,7 +87,8 @@ given-back [] e = refl
 given-back (r ∷ rows) e =
     let w = both (isFit r) (all isFit rows) e in
     let h = fit-short r (w .0) in
-    first-given (r .time) (timesOf rows) (recordBytes r) (recordsOf rows) (record-long r h) ∙ ap₂ _∷_ (record-back r h) (given-back rows (w .1))
+    first-given (r .time) (timesOf rows) (recordBytes r) (recordsOf rows) (record-long r h)
+    ∙ ap₂ _∷_ (record-back r h) (given-back rows (w .1))
 
 pub times-append : (xs ys : List Row) → timesOf (xs ++ ys) ≡ timesOf xs ++ timesOf ys
 times-append [] ys = refl
@@ -94,7 +97,9 @@ times-append (x ∷ xs) ys = ap (λ (l : List ℕ). x .time ∷ l) (times-append
 pub records-append : (xs ys : List Row) → recordsOf (xs ++ ys) ≡ recordsOf xs ++ recordsOf ys
 unfolding flatten
 records-append [] ys = refl
-records-append (x ∷ xs) ys = ap (λ (l : List ℕ). recordBytes x ++ l) (records-append xs ys) ∙ sym (append-assoc (recordBytes x) (recordsOf xs) (recordsOf ys))
+records-append (x ∷ xs) ys =
+    ap (λ (l : List ℕ). recordBytes x ++ l) (records-append xs ys)
+    ∙ sym (append-assoc (recordBytes x) (recordsOf xs) (recordsOf ys))
 
 -- the check refuses none of them
 pub none-refused : (rows : List Row) (i : ℕ) → all isFit rows ≡ true → checkRows i rows .number ≡ 0

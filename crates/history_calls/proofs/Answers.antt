@@ -45,7 +45,8 @@ small s =
     by-test (isLengthWrong s) (λ a. rw a (omega arith))
     (λ a. by-test (not (isHashed s)) (λ b. rw (a, b) hash)
     (λ b. by-test (isAddressed s && ltb (length s) minAddressedLength) (λ c. rw (a, b, c) (omega arith))
-    (λ c. by-test (isAddressed s && isNested s) (λ d. rw (a, b, c, d) (omega arith)) (λ d. rw (a, b, c, d) (omega arith)))))
+    (λ c. by-test (isAddressed s && isNested s) (λ d. rw (a, b, c, d) (omega arith))
+    (λ d. rw (a, b, c, d) (omega arith)))))
   where
     hash : numberOf (wrongHash (statusOf s)) < 256
     hash = by-test (splitOf (statusOf s) .crc) (λ e. rw e (omega arith)) (λ e. rw e (omega arith))
@@ -86,7 +87,8 @@ pub record ProperReply (p : Replied) : Type 0 where
 
 repeat-fits : (setting : ℕ) (s : List ℕ) → length (repeatOf setting s) ≤ maxLength
 unfolding repeatOf
-repeat-fits setting s = branch (λ (l : List ℕ). length l ≤ maxLength) (isValid s) (λ _. relay-fits setting s) (λ _. omega arith)
+repeat-fits setting s =
+    branch (λ (l : List ℕ). length l ≤ maxLength) (isValid s) (λ _. relay-fits setting s) (λ _. omega arith)
 
 pub proper-reply : (setting : ℕ) (v : View) (r : Reception) → ProperReply (replyWith setting (step v r .answer) r)
 unfolding sentFor frameOf
@@ -96,12 +98,17 @@ proper-reply setting v r = record {
 }
   where
     sent-fits : length (cond (isKept (step v r .answer)) (repeatOf setting (r .bytes)) []) ≤ maxLength
-    sent-fits = by-test (isKept (step v r .answer)) (λ e. rw e (repeat-fits setting (r .bytes))) (λ e. rw e (omega arith))
+    sent-fits =
+        by-test (isKept (step v r .answer)) (λ e. rw e (repeat-fits setting (r .bytes))) (λ e. rw e (omega arith))
 
 pub reply-back : (p : Replied) → ProperReply p → repliedIn (replyBytes p) ≡ p
 unfolding replyBytes frameBytes
 reply-back p w =
-    λ i. record { answer = with-back (p .answer) (w .answer) i; sent = record { len = p .sent .len; bytes = resized-whole maxLength (p .sent .bytes) (w .long) i } }
+    λ i.
+    record {
+      answer = with-back (p .answer) (w .answer) i;
+      sent = record { len = p .sent .len; bytes = resized-whole maxLength (p .sent .bytes) (w .long) i };
+    }
 
 pub replies-back : RepliesBack
 replies-back setting v r = reply-back (replyWith setting (step v r .answer) r) (proper-reply setting v r)

@@ -50,7 +50,8 @@ module _ (bytes : List ℕ) where
   unfolding repliesIn
   replies-count = length-map (upFrom 0 (length bytes / replyLength)) at ∙ length-upFrom 0 (length bytes / replyLength)
 
-  pub reply-at : (i : ℕ) → i < length bytes / replyLength → getD (repliesIn bytes) i none ≡ repliedIn (part (replyLength * i) replyLength bytes)
+  pub reply-at : (i : ℕ) → i < length bytes / replyLength
+      → getD (repliesIn bytes) i none ≡ repliedIn (part (replyLength * i) replyLength bytes)
   unfolding repliesIn
   reply-at i h = getD-upFrom at 0 (length bytes / replyLength) i none h ∙ ap at (zero-add i)
 
@@ -58,7 +59,8 @@ reply-length : (p : Replied) → length (replyBytes p) ≡ replyLength
 unfolding replyBytes frameBytes
 reply-length p = simp resized-length
 
-module _ (ps : List Replied) (proper : (i : ℕ) → i < length ps → ProperReply (getD ps i none)) (old : List ℕ) (few : length ps ≤ length old / replyLength) where
+module _ (ps : List Replied) (proper : (i : ℕ) → i < length ps → ProperReply (getD ps i none))
+    (old : List ℕ) (few : length ps ≤ length old / replyLength) where
   abbrev cells : List (List ℕ)
   cells = map replyBytes ps
 
@@ -79,38 +81,50 @@ module _ (ps : List Replied) (proper : (i : ℕ) → i < length ps → ProperRep
   in-front : (i : ℕ) → i < length ps → repliedIn (part (replyLength * i) replyLength new) ≡ getD ps i none
   in-front i h =
       let k : i < length cells = rw length-map h in
-      ap repliedIn (left (flatten cells) _ (replyLength * length ps) (replyLength * i) replyLength front-length (omega arith)
+      ap repliedIn
+      (left (flatten cells) _ (replyLength * length ps) (replyLength * i) replyLength front-length (omega arith)
       ∙ flatten-part replyLength cells each i k ∙ getD-map replyBytes ps i none [] h)
       ∙ reply-back (getD ps i none) (proper i h)
 
-  behind : (j : ℕ) → part (replyLength * (length ps + j)) replyLength new ≡ part (replyLength * (length ps + j)) replyLength old
+  behind : (j : ℕ)
+      → part (replyLength * (length ps + j)) replyLength new ≡ part (replyLength * (length ps + j)) replyLength old
   behind j =
       let e : replyLength * (length ps + j) ≡ replyLength * length ps + replyLength * j = omega arith in
       let f : replyLength * j + replyLength * length ps ≡ replyLength * (length ps + j) = omega arith in
-      rw (e, right (flatten cells) (drop (replyLength * length ps) old) (replyLength * length ps) (replyLength * j) replyLength front-length)
+      rw (
+        e,
+        right (flatten cells) (drop (replyLength * length ps) old)
+            (replyLength * length ps) (replyLength * j) replyLength front-length,
+      )
       (ap (take replyLength) (drop-drop (replyLength * j) (replyLength * length ps) old))
 
   pub replies-over : repliesIn new ≡ ps ++ drop (length ps) (repliesIn old)
   replies-over =
-      ext-getD none (repliesIn new) (ps ++ drop (length ps) (repliesIn old)) same-length (λ i h. each-same i (rw (replies-count new, new-length) at h))
+      ext-getD none (repliesIn new) (ps ++ drop (length ps) (repliesIn old)) same-length
+      (λ i h. each-same i (rw (replies-count new, new-length) at h))
     where
       same-length : length (repliesIn new) ≡ length (ps ++ drop (length ps) (repliesIn old))
       same-length =
           replies-count new ∙ ap (λ n. n / replyLength) new-length
           ∙ sym (length-append ps _ ∙ rw (length-drop, replies-count old) (omega arith))
 
-      each-same : (i : ℕ) → i < length old / replyLength → getD (repliesIn new) i none ≡ getD (ps ++ drop (length ps) (repliesIn old)) i none
+      each-same : (i : ℕ) → i < length old / replyLength
+          → getD (repliesIn new) i none ≡ getD (ps ++ drop (length ps) (repliesIn old)) i none
       each-same i h = reply-at new i (rw new-length h) ∙ elim (decLt i (length ps)) [
         | yes k ↦ in-front i k ∙ sym (List·getD-append ps (drop (length ps) (repliesIn old)) none i k)
         | no k ↦
             (let e : length ps + (i - length ps) ≡ i = omega arith in
-            rw (← e) (ap repliedIn (behind (i - length ps)) ∙ sym (getD-append-add ps _ (i - length ps) none ∙ getD-drop (length ps) (repliesIn old) (i - length ps) none
+            rw (← e)
+            (ap repliedIn (behind (i - length ps))
+            ∙ sym (getD-append-add ps _ (i - length ps) none
+            ∙ getD-drop (length ps) (repliesIn old) (i - length ps) none
             ∙ reply-at old (length ps + (i - length ps)) (rw e h))))
       ]
 
 -- ---- the replies of a burst
 
-proper-all : (setting : ℕ) (v : View) (rs : List Reception) (i : ℕ) → i < length (repliesTo setting v rs) → ProperReply (getD (repliesTo setting v rs) i none)
+proper-all : (setting : ℕ) (v : View) (rs : List Reception) (i : ℕ)
+    → i < length (repliesTo setting v rs) → ProperReply (getD (repliesTo setting v rs) i none)
 unfolding repliesTo
 proper-all setting v [] i h = absurd (omega arith)
 proper-all setting v (r ∷ rs) zero h = proper-reply setting v r
@@ -164,18 +178,23 @@ module _ (setting : ℕ) (v : View) (rs : List Reception) (old : List ℕ) where
   abbrev decoded : BurstCall → BurstResult
   decoded c = record { number = c .number; replies = repliesIn (c .replies); next = c .next }
 
-  module _ (moments records : List ℕ) (are : receptionsIn moments records ≡ rs) (sized : isSized (length moments) (length records) ≡ true) where
+  module _ (moments records : List ℕ) (are : receptionsIn moments records ≡ rs)
+      (sized : isSized (length moments) (length records) ≡ true) where
     pub call-is : decoded (burstCall setting v moments records old) ≡ burstOf setting v rs (repliesIn old)
     unfolding burstCall
     call-is =
         let fair : acceptable v && not (isSized (length moments) (length records)) ≡ false =
         by-test (acceptable v) (λ ok. rw (ok, sized)) (λ bad. rw bad)
         in
-        rw (fair, are) ((λ i. record { number = number; replies = second-list i; next = afterAll v t }) ∙ ap with-number same-number)
+        rw (fair, are)
+        ((λ i. record { number = number; replies = second-list i; next = afterAll v t })
+        ∙ ap with-number same-number)
 
-pub bursts-are : {s s' : Arrays} {setting n : ℕ} {moments records old new : List ℕ} → isSized (length moments) (length records) ≡ true
+pub bursts-are : {s s' : Arrays} {setting n : ℕ} {moments records old new : List ℕ}
+    → isSized (length moments) (length records) ≡ true
     → Bursts s setting moments records old n s' new
-    → record { number = n; replies = repliesIn new; next = stateAt s' } ≡ burstOf setting (stateAt s) (receptionsIn moments records) (repliesIn old)
+    → record { number = n; replies = repliesIn new; next = stateAt s' }
+    ≡ burstOf setting (stateAt s) (receptionsIn moments records) (repliesIn old)
 bursts-are {s} {s'} {setting} {n} {moments} {records} {old} sized b =
     ap (λ (c : BurstCall). record { number = c .number; replies = repliesIn (c .replies); next = c .next }) (b .result)
     ∙ call-is setting (stateAt s) (receptionsIn moments records) old moments records refl sized

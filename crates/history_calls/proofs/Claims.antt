@@ -25,11 +25,13 @@ use Rattle.history_calls.proofs.Follow.{Followed, arrays-follow, values
 
 -- ---- of calls that follow the model
 
-module _ {State : Type 0} (view : State → View) (IsStart : State → Type 0) (Show : State → List Call → List Seen → State → Type 0)
+module _ {State : Type 0} (view : State → View) (IsStart : State → Type 0)
+    (Show : State → List Call → List Seen → State → Type 0)
     (starts : (c : State) → IsStart c → view c ≡ fresh)
     (follow : (c e : State) (h : List Call) (l : List Seen) → Show c h l e → Followed view c h l e) where
   agree : Agree view IsStart Show
-  agree h ok c d c' d' p q l m t u = states-agree view h ok c d (starts c p) (starts d q) l m (follow c c' h l t .0) (follow d d' _ m u .0)
+  agree h ok c d c' d' p q l m t u =
+      states-agree view h ok c d (starts c p) (starts d q) l m (follow c c' h l t .0) (follow d d' _ m u .0)
 
   divide : Divide view IsStart Show
   divide h h' ok ok' e c d c' d' p q l m t u =
@@ -48,7 +50,8 @@ module _ {State : Type 0} (view : State → View) (IsStart : State → Type 0) (
       record {
         replies = is .replies;
         entries = λ newest.
-            sym (ap (λ (s : State). keep (isEntryOf x) (view s .entries)) (f .1)) ∙ is .entries newest ∙ ap (λ (s : State). view s .entries) (g .1);
+            sym (ap (λ (s : State). keep (isEntryOf x) (view s .entries)) (f .1))
+            ∙ is .entries newest ∙ ap (λ (s : State). view s .entries) (g .1);
       }
 
 -- ---- on lent arrays
@@ -73,14 +76,16 @@ arrays-isolated = isolate stateAt Fresh ArraysShow arrays-start arrays-followed
 
 lent-elements : {s e : Arrays} {h : List Call} {l : List Seen} → ArraysShow s h l e → e ≡ arraysAfterAll s h
 lent-elements lent.ended = refl
-lent-elements (lent.received {setting = setting} {h = h} k t u) = lent-elements u ∙ ap (λ (s : Arrays). arraysAfterAll s h) (took setting k)
+lent-elements (lent.received {setting = setting} {h = h} k t u) =
+    lent-elements u ∙ ap (λ (s : Arrays). arraysAfterAll s h) (took setting k)
 lent-elements (lent.told {s = s} {s' = s'} {setting = setting} {n = n} {r = r} {h = h} ok k t u) =
     lent-elements u ∙ ap (λ (x : Arrays). arraysAfterAll x h) (took setting (taken true s s' r n (sym ok) k))
 lent-elements (lent.saved k t u) = lent-elements u
 lent-elements (lent.restored {h = h} k t u) = lent-elements u ∙ ap (λ (s : Arrays). arraysAfterAll s h) (restored k)
 lent-elements (lent.resumed {s = s} {output = output} {h = h} k t z q w u) =
     lent-elements u ∙ ap (λ (x : Arrays). arraysAfterAll x h) (resumed s output k z q)
-lent-elements (lent.delivered {h = h} sized k t u) = lent-elements u ∙ ap (λ (s : Arrays). arraysAfterAll s h) (bursted sized k)
+lent-elements (lent.delivered {h = h} sized k t u) =
+    lent-elements u ∙ ap (λ (s : Arrays). arraysAfterAll s h) (bursted sized k)
 lent-elements (lent.asked a t u) = lent-elements u
 lent-elements (lent.looked t u) = lent-elements u
 
@@ -107,14 +112,18 @@ values-left = left viewOf IsFresh ValuesShow values-start values-followed
 pub values-isolated : ValuesIsolated
 values-isolated = isolate viewOf IsFresh ValuesShow values-start values-followed
 
-value-elements : {c e : Collector} {h : List Call} {l : List Seen} → ValuesShow c h l e → arraysOf e ≡ arraysAfterAll (arraysOf c) h
+value-elements : {c e : Collector} {h : List Call} {l : List Seen}
+    → ValuesShow c h l e → arraysOf e ≡ arraysAfterAll (arraysOf c) h
 value-elements value.ended = refl
-value-elements (value.received {setting = setting} {h = h} t q k sent u) = value-elements u ∙ ap (λ (s : Arrays). arraysAfterAll s h) (took-value setting k)
+value-elements (value.received {setting = setting} {h = h} t q k sent u) =
+    value-elements u ∙ ap (λ (s : Arrays). arraysAfterAll s h) (took-value setting k)
 value-elements (value.saved s k u) = value-elements u
-value-elements (value.restored {h = h} q k u) = value-elements u ∙ ap (λ (s : Arrays). arraysAfterAll s h) (restored-value k)
+value-elements (value.restored {h = h} q k u) =
+    value-elements u ∙ ap (λ (s : Arrays). arraysAfterAll s h) (restored-value k)
 value-elements (value.resumed {c = c} {output = output} {h = h} s q k z w u) =
     value-elements u ∙ ap (λ (x : Arrays). arraysAfterAll x h) (resumed-value c output k z w)
-value-elements (value.delivered {h = h} b k u) = value-elements u ∙ ap (λ (s : Arrays). arraysAfterAll s h) (bursted-value k)
+value-elements (value.delivered {h = h} b k u) =
+    value-elements u ∙ ap (λ (s : Arrays). arraysAfterAll s h) (bursted-value k)
 value-elements (value.asked a k u) = value-elements u
 value-elements (value.looked u) = value-elements u
 

@@ -51,7 +51,8 @@ chosen s false a b f g = g refl
 
 -- ---- on lent arrays
 
-pub took : {s s' : Arrays} {r : Reception} {n : ℕ} (setting : ℕ) → Takes s r n s' → s' ≡ arraysAfter s (Receive setting r)
+pub took : {s s' : Arrays} {r : Reception} {n : ℕ} (setting : ℕ)
+    → Takes s r n s' → s' ≡ arraysAfter s (Receive setting r)
 took {s} {s'} {r} setting k =
     let v = stateAt s in
     chosen s' (isReceived (step v r .answer)) (arraysWith (columnsAfter v r (columnsAt s)) (step v r .next)) s
@@ -73,12 +74,15 @@ pub other-collector : {d : Arrays} {after written : List ℕ} → Fresh d → af
     → restoredArrays d (take imageLength after) ≡ restoredArrays freshArrays (take imageLength written)
 other-collector f w = ap₂ (λ (x : Arrays) (l : List ℕ). restoredArrays x (take imageLength l)) (f .zero) w
 
-pub resumed : (s : Arrays) (output : List ℕ) {d s' : Arrays} {after : List ℕ} {n m : ℕ} → record { number = n; output = after } ≡ checkpointOf (stateAt s) output
+pub resumed : (s : Arrays) (output : List ℕ) {d s' : Arrays} {after : List ℕ} {n m : ℕ}
+    → record { number = n; output = after } ≡ checkpointOf (stateAt s) output
     → Fresh d → Restores d (take imageLength after) m s' → s' ≡ arraysAfter s (Cut output)
 resumed s output e f k = restored k ∙ other-collector f (ap (λ (p : CheckpointResult). p .output) e)
 
-pub bursted : {s s' : Arrays} {setting n : ℕ} {moments records old new : List ℕ} → isSized (length moments) (length records) ≡ true
-    → Bursts s setting moments records old n s' new → s' ≡ arraysAfter s (Burst setting (receptionsIn moments records) (repliesIn old))
+pub bursted : {s s' : Arrays} {setting n : ℕ} {moments records old new : List ℕ}
+    → isSized (length moments) (length records) ≡ true
+    → Bursts s setting moments records old n s' new
+    → s' ≡ arraysAfter s (Burst setting (receptionsIn moments records) (repliesIn old))
 bursted {s} {s'} {setting} {n} {moments} {records} {old} sized k =
     let rs = receptionsIn moments records in
     let b = burstOf setting (stateAt s) rs (repliesIn old) in
@@ -90,7 +94,8 @@ bursted {s} {s'} {setting} {n} {moments} {records} {old} sized k =
     let z : n ≡ 0 = same ∙ eqb-true (b .number) 0 yes in
     joined s' a (b .next)
     (k .elements ∙ ap (λ (x : ℕ). columnsAfterAll (stateAt s) (taken x rs) (columnsAt s)) z)
-    (k .counted z ∙ ap (λ (c : BurstCall). numbersOf (c .next)) (sym (k .result)) ∙ ap (λ (x : BurstResult). numbersOf (x .next)) is))
+    (k .counted z ∙ ap (λ (c : BurstCall). numbersOf (c .next)) (sym (k .result))
+    ∙ ap (λ (x : BurstResult). numbersOf (x .next)) is))
     (λ no. k .stays (λ z. eqb-false (b .number) 0 no (sym same ∙ z)))
 
 -- ---- by value
@@ -107,7 +112,8 @@ took-value {c} {r} {t} setting k =
     let v = viewOf c in
     let a = columnsAfter v r (columnsOf c) in
     chosen (arraysOf (t .next)) (isReceived (step v r .answer)) (arraysWith a (step v r .next)) (arraysOf c)
-    (λ yes. joined (arraysOf (t .next)) a (step v r .next) (k .elements) (counted (t .next) (step v r .next) (ap (λ (o : Outcome). o .next) (k .outcome))))
+    (λ yes. joined (arraysOf (t .next)) a (step v r .next) (k .elements)
+    (counted (t .next) (step v r .next) (ap (λ (o : Outcome). o .next) (k .outcome))))
     (λ no. ap arraysOf (k .stays (ap (λ (o : Outcome). isReceived (o .answer)) (k .outcome) ∙ no)))
 
 -- a restore that is done gives what the image says
@@ -118,7 +124,8 @@ restore-done v image =
     (λ bad. rw bad (λ z. absurd (refused-number NotAccepted z)))
     (λ good. rw good (λ z. refl))
 
-pub restored-value : {c : Collector} {image : List ℕ} {q : Restored} → images.Restores c image q → arraysOf (q .next) ≡ restoredArrays (arraysOf c) image
+pub restored-value : {c : Collector} {image : List ℕ} {q : Restored}
+    → images.Restores c image q → arraysOf (q .next) ≡ restoredArrays (arraysOf c) image
 unfolding viewOf
 restored-value {c} {image} {q} k =
     let m = restoreOf (viewOf c) image .number in
@@ -128,7 +135,8 @@ restored-value {c} {image} {q} k =
     (λ yes.
     let z = eqb-true m 0 yes in
     joined (arraysOf (q .next)) a (parse image) (k .elements (same ∙ z))
-    (counted (q .next) (parse image) (ap (λ (x : RestoreResult). x .next) (k .result) ∙ restore-done (viewOf c) image z)))
+    (counted (q .next) (parse image)
+    (ap (λ (x : RestoreResult). x .next) (k .result) ∙ restore-done (viewOf c) image z)))
     (λ no. ap arraysOf (k .stays (λ z. eqb-false m 0 no (sym same ∙ z))))
 
 pub fresh-value : {d : Collector} → IsFresh d → arraysOf d ≡ freshArrays
@@ -139,12 +147,15 @@ pub other-value : {d : Collector} {after written : List ℕ} → IsFresh d → a
     → restoredArrays (arraysOf d) (take imageLength after) ≡ restoredArrays freshArrays (take imageLength written)
 other-value f w = ap₂ (λ (x : Arrays) (l : List ℕ). restoredArrays x (take imageLength l)) (fresh-value f) w
 
-pub resumed-value : (c : Collector) (output : List ℕ) {d : Collector} {after : List ℕ} {n : ℕ} {q : Restored} → record { number = n; output = after } ≡ checkpointOf (viewOf c) output
-    → IsFresh d → images.Restores d (take imageLength after) q → arraysOf (q .next) ≡ arraysAfter (arraysOf c) (Cut output)
+pub resumed-value : (c : Collector) (output : List ℕ) {d : Collector} {after : List ℕ} {n : ℕ} {q : Restored}
+    → record { number = n; output = after } ≡ checkpointOf (viewOf c) output
+    → IsFresh d → images.Restores d (take imageLength after) q
+    → arraysOf (q .next) ≡ arraysAfter (arraysOf c) (Cut output)
 unfolding viewOf
 resumed-value c output e f k = restored-value k ∙ other-value f (ap (λ (p : CheckpointResult). p .output) e)
 
-pub bursted-value : {c : Collector} {setting : ℕ} {rs : List reception.Reception} {places after : List Reply} {b : Bursted}
+pub bursted-value : {c : Collector} {setting : ℕ}
+    {rs : List reception.Reception} {places after : List Reply} {b : Bursted}
     → burst.Bursts c setting rs places b after
     → arraysOf (b .next) ≡ arraysAfter (arraysOf c) (Burst setting (map receptionOf rs) (map repliedOf places))
 unfolding viewOf

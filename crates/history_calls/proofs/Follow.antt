@@ -62,17 +62,21 @@ kept-zero Copy p = refl
 kept-zero Loose p = refl
 kept-zero (Refused n) p = ne-eqb (256 * 0 + n) 0 (λ z. omega (arith, p .0))
 
-pub answered : {s s' : Arrays} {r : Reception} {n : ℕ} → Takes s r n s' → record { answer = shownIn n; next = stateAt s' } ≡ step (stateAt s) r
+pub answered : {s s' : Arrays} {r : Reception} {n : ℕ} → Takes s r n s'
+    → record { answer = shownIn n; next = stateAt s' } ≡ step (stateAt s) r
 answered {s} {s'} {r} k =
-    ap₂ (λ (a : Shown) (v : View). record { answer = a; next = v }) (ap shownIn (k .answered) ∙ answers-back (stateAt s) r) (k .next)
+    ap₂ (λ (a : Shown) (v : View). record { answer = a; next = v })
+    (ap shownIn (k .answered) ∙ answers-back (stateAt s) r) (k .next)
 
-pub sends : {s s' : Arrays} {r : Reception} {n : ℕ} (setting : ℕ) → Takes s r n s' → sentAt setting n r ≡ sentFor setting (shownIn n) r
+pub sends : {s s' : Arrays} {r : Reception} {n : ℕ} (setting : ℕ)
+    → Takes s r n s' → sentAt setting n r ≡ sentFor setting (shownIn n) r
 unfolding sentFor
 sends {s} {s'} {r} {n} setting k =
     let a = step (stateAt s) r .answer in
     let is : shownIn n ≡ a = ap (λ (o : Outcome). o .answer) (answered k) in
     let test : eqb n 0 ≡ isKept a = ap (λ (x : ℕ). eqb x 0) (k .answered) ∙ kept-zero a (answer-proper (stateAt s) r) in
-    let e : repeatResult setting (r .bytes) .sent ≡ frameOf (repeatOf setting (r .bytes)) = repeat-sent setting (r .bytes) in
+    let e : repeatResult setting (r .bytes) .sent ≡ frameOf (repeatOf setting (r .bytes)) =
+    repeat-sent setting (r .bytes) in
     rw (is, test, e) (by-test (isKept a) (λ y. rw y) (λ y. rw y))
 
 copies-zero : (v : View) (k : ℕ) → copiesCall v k 0 ≡ copiesOf v k
@@ -81,45 +85,62 @@ copies-zero v k =
     by-test (not (acceptable v)) (λ a. rw a)
     (λ a. by-test (leb (length (v .entries)) k) (λ b. rw (a, b)) (λ b. rw (a, b)))
 
-pub heard : (v : View) (k : ℕ) {n copies : ℕ} → record { number = n; copies = copies } ≡ copiesCall v k 0 → record { number = n; copies = copies } ≡ copiesOf v k
+pub heard : (v : View) (k : ℕ) {n copies : ℕ} → record { number = n; copies = copies } ≡ copiesCall v k 0
+    → record { number = n; copies = copies } ≡ copiesOf v k
 heard v k e = e ∙ copies-zero v k
 
 -- ---- one after the other
 
 -- a reception before what follows it
-before : {s s' e : Arrays} {setting n : ℕ} {r : Reception} {t : Totals} {h : List Call} {l : List Seen} → Takes s r n s' → TotalsSeen s' t
-    → Followed stateAt s' h l e → Followed stateAt s (Receive setting r ∷ h) (Answered (shownIn n) (sentAt setting n r) t ∷ l) e
+before : {s s' e : Arrays} {setting n : ℕ} {r : Reception} {t : Totals} {h : List Call} {l : List Seen}
+    → Takes s r n s' → TotalsSeen s' t
+    → Followed stateAt s' h l e
+    → Followed stateAt s (Receive setting r ∷ h) (Answered (shownIn n) (sentAt setting n r) t ∷ l) e
 before {s} {s'} {e} {setting} {n} {r} {t} {h} {l} k seen f =
-    subst (λ (x : Totals). Followed stateAt s (Receive setting r ∷ h) (Answered (shownIn n) (sentAt setting n r) x ∷ l) e) (sym (totals-seen seen))
+    subst (λ (x : Totals). Followed stateAt s (Receive setting r ∷ h)
+    (Answered (shownIn n) (sentAt setting n r) x ∷ l) e)
+    (sym (totals-seen seen))
     (shows.received (answered k) (sends setting k) (f .0), f .1)
 
 pub arrays-follow : {s e : Arrays} {h : List Call} {l : List Seen} → ArraysShow s h l e → Followed stateAt s h l e
 arrays-follow lent.ended = (shows.ended, refl)
 arrays-follow (lent.received k t u) = before k t (arrays-follow u)
-arrays-follow (lent.told {s = s} {s' = s'} {n = n} {r = r} ok k t u) = before (taken true s s' r n (sym ok) k) t (arrays-follow u)
+arrays-follow (lent.told {s = s} {s' = s'} {n = n} {r = r} ok k t u) =
+    before (taken true s s' r n (sym ok) k) t (arrays-follow u)
 arrays-follow (lent.saved {s = s} {e = e} {output = output} {after = after} {n = n} {h = h} {l = l} k t u) =
     let f = arrays-follow u in
-    subst (λ (x : Totals). Followed stateAt s (Checkpoint output ∷ h) (Wrote n after x ∷ l) e) (sym (totals-seen t)) (shows.saved k (f .0), f .1)
+    subst (λ (x : Totals). Followed stateAt s (Checkpoint output ∷ h) (Wrote n after x ∷ l) e)
+    (sym (totals-seen t)) (shows.saved k (f .0), f .1)
 arrays-follow (lent.restored {s = s} {e = e} {image = image} {n = n} {h = h} {l = l} k t u) =
     let f = arrays-follow u in
-    subst (λ (x : Totals). Followed stateAt s (Restore image ∷ h) (Restored n x ∷ l) e) (sym (totals-seen t)) (shows.restored (k .result) (f .0), f .1)
-arrays-follow (lent.resumed {s = s} {d = d} {e = e} {output = output} {after = after} {n = n} {m = m} {u = u} {h = h} {l = l} k t z q w rest) =
+    subst (λ (x : Totals). Followed stateAt s (Restore image ∷ h) (Restored n x ∷ l) e)
+    (sym (totals-seen t)) (shows.restored (k .result) (f .0), f .1)
+arrays-follow (lent.resumed {s = s} {d = d} {e = e} {output = output}
+    {after = after} {n = n} {m = m} {u = u} {h = h} {l = l} k t z q w rest) =
     let f = arrays-follow rest in
-    subst (λ (x : Totals). Followed stateAt s (Cut output ∷ h) (Wrote n after x ∷ Restored m u ∷ l) e) (sym (totals-seen t))
-    (subst (λ (x : Totals). Followed stateAt s (Cut output ∷ h) (Wrote n after (stateAt s .totals) ∷ Restored m x ∷ l) e) (sym (totals-seen w))
+    subst (λ (x : Totals). Followed stateAt s (Cut output ∷ h) (Wrote n after x ∷ Restored m u ∷ l) e)
+    (sym (totals-seen t))
+    (subst (λ (x : Totals). Followed stateAt s (Cut output ∷ h)
+    (Wrote n after (stateAt s .totals) ∷ Restored m x ∷ l) e)
+    (sym (totals-seen w))
     (shows.resumed {d = d} k (z .state) (q .result) (f .0), f .1))
-arrays-follow (lent.delivered {s = s} {e = e} {setting = setting} {n = n} {moments = moments} {records = records} {old = old} {new = new} {h = h} {l = l}
+arrays-follow (lent.delivered {s = s} {e = e} {setting = setting} {n = n}
+    {moments = moments} {records = records} {old = old} {new = new} {h = h} {l = l}
     sized k t u) =
     let f = arrays-follow u in
     let rs = receptionsIn moments records in
-    subst (λ (x : Totals). Followed stateAt s (Burst setting rs (repliesIn old) ∷ h) (Delivered n (repliesIn new) x ∷ l) e) (sym (totals-seen t))
+    subst (λ (x : Totals). Followed stateAt s (Burst setting rs (repliesIn old) ∷ h)
+    (Delivered n (repliesIn new) x ∷ l) e)
+    (sym (totals-seen t))
     (shows.delivered {rs = rs} {places = repliesIn old} (bursts-are sized k) (f .0), f .1)
 arrays-follow (lent.asked {s = s} {e = e} {k = k} {n = n} {copies = copies} {h = h} {l = l} a t u) =
     let f = arrays-follow u in
-    subst (λ (x : Totals). Followed stateAt s (Ask k ∷ h) (Heard n copies x ∷ l) e) (sym (totals-seen t)) (shows.asked (heard (stateAt s) k a) (f .0), f .1)
+    subst (λ (x : Totals). Followed stateAt s (Ask k ∷ h) (Heard n copies x ∷ l) e)
+    (sym (totals-seen t)) (shows.asked (heard (stateAt s) k a) (f .0), f .1)
 arrays-follow (lent.looked {s = s} {e = e} {h = h} {l = l} t u) =
     let f = arrays-follow u in
-    subst (λ (x : Totals). Followed stateAt s (Look ∷ h) (Looked x ∷ l) e) (sym (totals-seen t)) (shows.looked (f .0), f .1)
+    subst (λ (x : Totals). Followed stateAt s (Look ∷ h) (Looked x ∷ l) e)
+    (sym (totals-seen t)) (shows.looked (f .0), f .1)
 
 pub values-follow : {c e : Collector} {h : List Call} {l : List Seen} → ValuesShow c h l e → Followed viewOf c h l e
 unfolding sentFor

@@ -54,37 +54,47 @@ heard-as {s} {s'} {n} e k = subst (λ (r : Reception). Takes s r n s') e k
 pub restored-as : {s s' : Arrays} {n : ℕ} {x y : List ℕ} → x ≡ y → Restores s x n s' → Restores s y n s'
 restored-as {s} {s'} {n} e k = subst (λ (l : List ℕ). Restores s l n s') e k
 
-pub made-as : {s s' : Arrays} {setting n : ℕ} {old new : List ℕ} {x y : List Reception} → x ≡ y → BurstMade s setting x old n s' new → BurstMade s setting y old n s' new
-made-as {s} {s'} {setting} {n} {old} {new} e k = subst (λ (rs : List Reception). BurstMade s setting rs old n s' new) e k
+pub made-as : {s s' : Arrays} {setting n : ℕ} {old new : List ℕ} {x y : List Reception}
+    → x ≡ y → BurstMade s setting x old n s' new → BurstMade s setting y old n s' new
+made-as {s} {s'} {setting} {n} {old} {new} e k =
+    subst (λ (rs : List Reception). BurstMade s setting rs old n s' new) e k
 
-pub totals-done : (s : Arrays) (old values : List ℕ) (number : ℕ) (n : Totals) → record { number = number; values = values } ≡ totalsCall (stateAt s) old
+pub totals-done : (s : Arrays) (old values : List ℕ) (number : ℕ) (n : Totals)
+    → record { number = number; values = values } ≡ totalsCall (stateAt s) old
     → number ≡ 0 → n ≡ totalsIn values → n ≡ stateAt s .totals
 totals-done s old values number n e z is =
     follow.totals-seen {s = s} (record { old = old; values = values; number = number; called = e; seen = is ∙ rw z })
 
 module _ {s s' : Arrays} {n : ℕ} {t : Totals} {exit : List ℕ} (seen : t ≡ stateAt s' .totals) where
   pub received : {r : Reception} (setting : ℕ) → Takes s r n s' → (sent : Frame) (form number : ℕ)
-      → sent ≡ cond (eqb n 0) (repeatResult setting (r .bytes) .sent) (frameOf []) → form ≡ formOf (shownIn n) → number ≡ n % 256
+      → sent ≡ cond (eqb n 0) (repeatResult setting (r .bytes) .sent) (frameOf [])
+      → form ≡ formOf (shownIn n) → number ≡ n % 256
       → exit ≡ headOf receiving number t ++ replyCell form number sent → Called s (Receive setting r) exit s'
   received {r} setting k sent form number e f g put = record {
     bytes =
-        put ∙ making.answered (stateAt s) setting r (record { answer = shownIn n; next = stateAt s' }) sent form number t (follow.answered k)
+        put
+        ∙ making.answered (stateAt s) setting r
+        (record { answer = shownIn n; next = stateAt s' }) sent form number t (follow.answered k)
         (e ∙ follow.sends setting k) f (g ∙ sym (number-in (n / 256) (n % 256))) seen;
     state = k .next;
     elements = elements.took setting k;
   }
 
-  pub restored : {image : List ℕ} → Restores s image n s' → exit ≡ headOf restoring n t → Called s (Restore image) exit s'
+  pub restored : {image : List ℕ} → Restores s image n s'
+      → exit ≡ headOf restoring n t → Called s (Restore image) exit s'
   unfolding seenBytes
   restored {image} k put = record {
-    bytes = put ∙ ap (headOf restoring n) seen ∙ making.loaded (stateAt s) image (record { number = n; next = stateAt s' }) (k .result);
+    bytes =
+        put ∙ ap (headOf restoring n) seen
+        ∙ making.loaded (stateAt s) image (record { number = n; next = stateAt s' }) (k .result);
     state = ap (λ (q : RestoreResult). q .next) (k .result);
     elements = elements.restored k;
   }
 
   -- the first cell is of the checkpoint
   pub resumed : (output after : List ℕ) {d : Arrays} → after ≡ checkpointOf (stateAt s) output .output → Fresh d
-      → Restores d (take imageLength after) n s' → exit ≡ seenBytes (wroteOf (stateAt s) output) ++ headOf restoring n t → Called s (Cut output) exit s'
+      → Restores d (take imageLength after) n s'
+      → exit ≡ seenBytes (wroteOf (stateAt s) output) ++ headOf restoring n t → Called s (Cut output) exit s'
   unfolding seenBytes
   resumed output after {d} w f k put = record {
     bytes =
@@ -94,17 +104,24 @@ module _ {s s' : Arrays} {n : ℕ} {t : Totals} {exit : List ℕ} (seen : t ≡ 
     elements = elements.restored k ∙ elements.other-collector f w;
   }
     where
-      back : record { number = n; next = stateAt s' } ≡ restoreOf fresh (take imageLength (checkpointOf (stateAt s) output .output))
+      back : record { number = n; next = stateAt s' }
+          ≡ restoreOf fresh (take imageLength (checkpointOf (stateAt s) output .output))
       back = k .result ∙ ap₂ (λ (v : View) (l : List ℕ). restoreOf v (take imageLength l)) (f .state) w
 
-  pub delivered : (setting : ℕ) (rs : List Reception) (old new : List ℕ) (places : List Replied) (m : ℕ) → BurstMade s setting rs old n s' new
-      → repliesIn old ≡ places → length (repliesIn new) ≡ m → exit ≡ headOf delivering n t ++ be 8 m ++ flatten (map replyOf (repliesIn new))
+  pub delivered : (setting : ℕ) (rs : List Reception) (old new : List ℕ) (places : List Replied) (m : ℕ)
+      → BurstMade s setting rs old n s' new
+      → repliesIn old ≡ places → length (repliesIn new) ≡ m
+      → exit ≡ headOf delivering n t ++ be 8 m ++ flatten (map replyOf (repliesIn new))
       → Called s (Burst setting rs places) exit s'
   unfolding seenBytes
   delivered setting rs old new places m k e long put = record {
     bytes =
-        put ∙ ap₂ (λ (x : Totals) (y : ℕ). headOf delivering n x ++ be 8 y ++ flatten (map replyOf (repliesIn new))) seen (sym long)
-        ∙ making.delivered (stateAt s) setting rs places (record { number = n; replies = repliesIn new; next = stateAt s' }) is;
+        put
+        ∙ ap₂ (λ (x : Totals) (y : ℕ). headOf delivering n x ++ be 8 y ++ flatten (map replyOf (repliesIn new)))
+        seen
+        (sym long)
+        ∙ making.delivered (stateAt s) setting rs places
+        (record { number = n; replies = repliesIn new; next = stateAt s' }) is;
     state = ap (λ (b : BurstResult). b .next) is;
     elements = k .elements ∙ ap (λ (l : List Replied). arraysAfter s (Burst setting rs l)) e;
   }
@@ -113,7 +130,8 @@ module _ {s s' : Arrays} {n : ℕ} {t : Totals} {exit : List ℕ} (seen : t ≡ 
       is = k .result ∙ ap (burstOf setting (stateAt s) rs) e
 
 module _ {s : Arrays} {exit : List ℕ} where
-  pub heard : (k n copies : ℕ) (t : Totals) → record { number = n; copies = copies } ≡ copiesCall (stateAt s) k 0 → t ≡ stateAt s .totals
+  pub heard : (k n copies : ℕ) (t : Totals)
+      → record { number = n; copies = copies } ≡ copiesCall (stateAt s) k 0 → t ≡ stateAt s .totals
       → exit ≡ headOf asking n t ++ be 8 copies → Called s (Ask k) exit s
   unfolding seenBytes
   heard k n copies t e seen put = record {
@@ -129,7 +147,8 @@ module _ {s : Arrays} {exit : List ℕ} where
 
   pub looked : (t : Totals) → t ≡ stateAt s .totals → exit ≡ headOf looking 0 t → Called s Look exit s
   unfolding seenBytes
-  looked t seen put = record { bytes = put ∙ ap (headOf looking 0) seen ∙ making.seen (stateAt s); state = refl; elements = refl }
+  looked t seen put =
+      record { bytes = put ∙ ap (headOf looking 0) seen ∙ making.seen (stateAt s); state = refl; elements = refl }
 
 -- ---- by value
 
@@ -138,35 +157,47 @@ pub state-of : {c : Collector} → IsFresh c → stateAt (arraysOf c) ≡ fresh
 unfolding viewOf
 state-of f = f .state
 
-pub heard-as-value : {c : Collector} {t : Taken} {x y : Reception} → x ≡ y → collector.Takes c x t → collector.Takes c y t
+pub heard-as-value : {c : Collector} {t : Taken} {x y : Reception}
+    → x ≡ y → collector.Takes c x t → collector.Takes c y t
 heard-as-value {c} {t} e k = subst (λ (r : Reception). collector.Takes c r t) e k
 
-pub restored-as-value : {c : Collector} {q : loaded.Restored} {x y : List ℕ} → x ≡ y → images.Restores c x q → images.Restores c y q
+pub restored-as-value : {c : Collector} {q : loaded.Restored} {x y : List ℕ}
+    → x ≡ y → images.Restores c x q → images.Restores c y q
 restored-as-value {c} {q} e k = subst (λ (l : List ℕ). images.Restores c l q) e k
 
-pub given-as : {c : Collector} {setting m : ℕ} {rs rs' : List Reception} {ps ps' : List Replied} {w : Within} → rs ≡ rs' → ps ≡ ps'
+pub given-as : {c : Collector} {setting m : ℕ} {rs rs' : List Reception} {ps ps' : List Replied} {w : Within}
+    → rs ≡ rs' → ps ≡ ps'
     → BurstGiven c setting rs ps m w → BurstGiven c setting rs' ps' m w
 given-as {c} {setting} {m} {rs} {rs'} {ps} {ps'} {w} e f k =
-    subst (λ (l : List Replied). BurstGiven c setting rs' l m w) f (subst (λ (l : List Reception). BurstGiven c setting l ps m w) e k)
+    subst (λ (l : List Replied). BurstGiven c setting rs' l m w) f
+    (subst (λ (l : List Reception). BurstGiven c setting l ps m w) e k)
 
-pub given-length : {c : Collector} {setting m : ℕ} {rs : List Reception} {ps : List Replied} {w : Within} → BurstGiven c setting rs ps m w → length ps ≡ m
+pub given-length : {c : Collector} {setting m : ℕ} {rs : List Reception} {ps : List Replied} {w : Within}
+    → BurstGiven c setting rs ps m w → length ps ≡ m
     → length (map repliedOf (take m (w .replies))) ≡ m
-given-length {c} {setting} {m} {rs} {ps} k e = ap (λ (b : BurstResult). length (b .replies)) (k .result) ∙ burst-length setting (viewOf c) rs ps ∙ e
+given-length {c} {setting} {m} {rs} {ps} k e =
+    ap (λ (b : BurstResult). length (b .replies)) (k .result) ∙ burst-length setting (viewOf c) rs ps ∙ e
 
 module _ {c : Collector} {exit : List ℕ} where
-  pub received-value : {r : Reception} {t : Taken} (setting : ℕ) → collector.Takes c r t → (sent : Frame) (form number : ℕ)
-      → sent ≡ sentFor setting (shownOf (t .answer)) r → form ≡ formOf (shownOf (t .answer)) → number ≡ shownNumber (shownOf (t .answer))
+  pub received-value : {r : Reception} {t : Taken} (setting : ℕ)
+      → collector.Takes c r t → (sent : Frame) (form number : ℕ)
+      → sent ≡ sentFor setting (shownOf (t .answer)) r → form ≡ formOf (shownOf (t .answer))
+      → number ≡ shownNumber (shownOf (t .answer))
       → exit ≡ headOf receiving number (t .next .summary .totals) ++ replyCell form number sent
       → Called (arraysOf c) (Receive setting r) exit (arraysOf (t .next))
   unfolding viewOf
   received-value {r} {t} setting k sent form number e f g put = record {
-    bytes = put ∙ making.answered (viewOf c) setting r (outcomeOf t) sent form number (t .next .summary .totals) (k .outcome) e f g refl;
+    bytes =
+        put
+        ∙ making.answered (viewOf c) setting r (outcomeOf t) sent form number
+        (t .next .summary .totals) (k .outcome) e f g refl;
     state = ap (λ (o : Outcome). o .next) (k .outcome);
     elements = elements.took-value setting k;
   }
 
   pub restored-value : {image : List ℕ} {q : loaded.Restored} → images.Restores c image q
-      → exit ≡ headOf restoring (images.loadedNumber (q .answer)) (q .next .summary .totals) → Called (arraysOf c) (Restore image) exit (arraysOf (q .next))
+      → exit ≡ headOf restoring (images.loadedNumber (q .answer)) (q .next .summary .totals)
+      → Called (arraysOf c) (Restore image) exit (arraysOf (q .next))
   unfolding viewOf seenBytes
   restored-value {image} {q} k put = record {
     bytes = put ∙ making.loaded (viewOf c) image (images.restoreResult q) (k .result);
@@ -174,9 +205,12 @@ module _ {c : Collector} {exit : List ℕ} where
     elements = elements.restored-value k;
   }
 
-  pub resumed-value : (output after : List ℕ) {d : Collector} {q : loaded.Restored} → after ≡ checkpointOf (viewOf c) output .output → IsFresh d
+  pub resumed-value : (output after : List ℕ) {d : Collector} {q : loaded.Restored}
+      → after ≡ checkpointOf (viewOf c) output .output → IsFresh d
       → images.Restores d (take imageLength after) q
-      → exit ≡ seenBytes (wroteOf (viewOf c) output) ++ headOf restoring (images.loadedNumber (q .answer)) (q .next .summary .totals)
+      → exit
+      ≡ seenBytes (wroteOf (viewOf c) output)
+      ++ headOf restoring (images.loadedNumber (q .answer)) (q .next .summary .totals)
       → Called (arraysOf c) (Cut output) exit (arraysOf (q .next))
   unfolding viewOf seenBytes
   resumed-value output after {d} {q} w f k put = record {
@@ -188,7 +222,8 @@ module _ {c : Collector} {exit : List ℕ} where
       back : images.restoreResult q ≡ restoreOf fresh (take imageLength (checkpointOf (viewOf c) output .output))
       back = k .result ∙ ap₂ (λ (v : View) (l : List ℕ). restoreOf v (take imageLength l)) (f .state) w
 
-  pub delivered-value : (setting : ℕ) (rs : List Reception) (places : List Replied) (m : ℕ) {w : Within} → BurstGiven c setting rs places m w
+  pub delivered-value : (setting : ℕ) (rs : List Reception) (places : List Replied) (m : ℕ) {w : Within}
+      → BurstGiven c setting rs places m w
       → length (map repliedOf (take m (w .replies))) ≡ m
       → exit ≡ headOf delivering (handedNumber (w .bursted .answer)) (w .bursted .next .summary .totals) ++ be 8 m
       ++ flatten (map replyOf (map repliedOf (take m (w .replies))))
@@ -197,13 +232,18 @@ module _ {c : Collector} {exit : List ℕ} where
   delivered-value setting rs places m {w} k long put = record {
     bytes =
         let l = map repliedOf (take m (w .replies)) in
-        put ∙ ap (λ (y : ℕ). headOf delivering (handedNumber (w .bursted .answer)) (w .bursted .next .summary .totals) ++ be 8 y ++ flatten (map replyOf l)) (sym long)
+        put
+        ∙ ap (λ (y : ℕ). headOf delivering (handedNumber (w .bursted .answer)) (w .bursted .next .summary .totals)
+        ++ be 8 y ++ flatten (map replyOf l))
+        (sym long)
         ∙ making.delivered (viewOf c) setting rs places (burstedOf (w .bursted) (take m (w .replies))) (k .result);
     state = ap (λ (b : BurstResult). b .next) (k .result);
     elements = k .elements;
   }
 
   pub heard-value : (k : ℕ) (a : Heard) → heardOf a ≡ copiesOf (viewOf c) k
-      → exit ≡ headOf asking (askedNumber (a .answer)) (c .summary .totals) ++ be 8 (a .copies) → Called (arraysOf c) (Ask k) exit (arraysOf c)
+      → exit ≡ headOf asking (askedNumber (a .answer)) (c .summary .totals) ++ be 8 (a .copies)
+      → Called (arraysOf c) (Ask k) exit (arraysOf c)
   unfolding viewOf seenBytes
-  heard-value k a e put = record { bytes = put ∙ making.heard (viewOf c) k (heardOf a) e; state = refl; elements = refl }
+  heard-value k a e put =
+      record { bytes = put ∙ making.heard (viewOf c) k (heardOf a) e; state = refl; elements = refl }

@@ -33,9 +33,11 @@ module _ {A B : Type 0} (is : A → B) (at : ℕ → B) (d : A) where
     pub long : length all ≡ listed
     pub read : map is (take i all) ≡ map at (upFrom 0 i)
 
-  pub filled-start : (s : List ℕ) (n : ℕ) (all : List A) → n ≤ listed → callLength * n ≤ length s → length all ≡ listed → Filled s n all 0
+  pub filled-start : (s : List ℕ) (n : ℕ) (all : List A) → n ≤ listed
+      → callLength * n ≤ length s → length all ≡ listed → Filled s n all 0
   unfolding upFrom
-  filled-start s n all few whole long = record { least = omega arith; few = few; whole = whole; long = long; read = refl }
+  filled-start s n all few whole long =
+      record { least = omega arith; few = few; whole = whole; long = long; read = refl }
 
   module _ (s : List ℕ) (n : ℕ) (all : List A) (i : ℕ) (f : Filled s n all i) where
     next-number : upFrom 0 (i + 1) ≡ upFrom 0 i ++ (i ∷ [])
@@ -48,7 +50,8 @@ module _ {A B : Type 0} (is : A → B) (at : ℕ → B) (d : A) where
         let within : i < length (set all i x) = rw (length-set all i x) inside in
         let front : take (i + 1) (set all i x) ≡ take i all ++ (x ∷ []) =
         ap (λ (k : ℕ). take k (set all i x)) (add-one i) ∙ take-suc (set all i x) i d within
-        ∙ ap₂ (λ (l : List A) (y : A). l ++ (y ∷ [])) (take-set-le i all i x (omega arith)) (getD-set-same all i x d inside)
+        ∙ ap₂ (λ (l : List A) (y : A). l ++ (y ∷ []))
+        (take-set-le i all i x (omega arith)) (getD-set-same all i x d inside)
         in
         record {
           least = omega arith;
@@ -85,7 +88,8 @@ map-same [] = refl
 map-same (n ∷ l) = ap (λ (k : List ℕ). n ∷ k) (map-same l)
 
 -- as many as the bytes say
-pub receptions-are : (s : List ℕ) (all : List Reception) (n : ℕ) → n ≡ countIn s → map receptionOf (take n all) ≡ map (receptionAt s) (upFrom 0 n)
+pub receptions-are : (s : List ℕ) (all : List Reception) (n : ℕ) → n ≡ countIn s
+    → map receptionOf (take n all) ≡ map (receptionAt s) (upFrom 0 n)
     → map receptionOf (take n all) ≡ receptionsIn s
 unfolding receptionsIn
 receptions-are s all n e h = h ∙ ap (λ (k : ℕ). map (receptionAt s) (upFrom 0 k)) e
@@ -96,10 +100,12 @@ map-replicate : (p : Reply) (n : ℕ) → map repliedOf (replicate n p) ≡ repl
 map-replicate p zero = refl
 map-replicate p (suc n) = ap (λ (l : List Replied). repliedOf p ∷ l) (map-replicate p n)
 
-pub places-are : (r : List ℕ) (all : List Reply) (p : Reply) (m : ℕ) → m ≤ listed → all ≡ replicate listed p → repliedOf p ≡ placeIn r
+pub places-are : (r : List ℕ) (all : List Reply) (p : Reply) (m : ℕ)
+    → m ≤ listed → all ≡ replicate listed p → repliedOf p ≡ placeIn r
     → map repliedOf (take m all) ≡ replicate m (placeIn r)
 places-are r all p m h e is =
-    ap (λ (l : List Reply). map repliedOf (take m l)) e ∙ ap (map repliedOf) (part-replicate 0 m listed p (omega arith)) ∙ map-replicate p m
+    ap (λ (l : List Reply). map repliedOf (take m l)) e
+    ∙ ap (map repliedOf) (part-replicate 0 m listed p (omega arith)) ∙ map-replicate p m
     ∙ ap (replicate m) is
 
 -- ---- the first m places, as they are written

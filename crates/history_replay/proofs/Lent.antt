@@ -45,7 +45,8 @@ pub number-in : (kind number : ℕ) → shownNumber (shownWith kind number) ≡ 
 number-in kind number =
     by-test (eqb number 0)
     (λ z. rw z (by-test (eqb kind 0) (λ a. rw a (sym (eqb-true number 0 z)))
-    (λ a. by-test (eqb kind 1) (λ b. rw (a, b) (sym (eqb-true number 0 z))) (λ b. rw (a, b) (sym (eqb-true number 0 z))))))
+    (λ a. by-test (eqb kind 1) (λ b. rw (a, b) (sym (eqb-true number 0 z)))
+    (λ b. rw (a, b) (sym (eqb-true number 0 z))))))
     (λ z. rw z)
 
 -- ---- segments
@@ -57,12 +58,15 @@ pub record Laid (segs : List (List ℕ)) (w n : ℕ) (orig xs : List ℕ) (i : �
   pub room : w * n ≤ length orig
   pub begun : Begun orig (flatten (take i segs)) (w * i) xs
 
-pub laid-start : (segs : List (List ℕ)) (w n : ℕ) (orig : List ℕ) → length segs ≡ n → w * n ≤ length orig → Laid segs w n orig orig 0
+pub laid-start : (segs : List (List ℕ)) (w n : ℕ) (orig : List ℕ)
+    → length segs ≡ n → w * n ≤ length orig → Laid segs w n orig orig 0
 unfolding flatten
-laid-start segs w n orig many room = record { least = omega arith; many = many; room = room; begun = rw mul-zero (begin orig) }
+laid-start segs w n orig many room =
+    record { least = omega arith; many = many; room = room; begun = rw mul-zero (begin orig) }
 
 module _ (segs : List (List ℕ)) (w n : ℕ) (orig xs : List ℕ) (i : ℕ) (l : Laid segs w n orig xs i) where
-  pub laid-next : i < n → w * i + w ≤ length orig → (ys : List ℕ) → ys ≡ getD segs i [] → length ys ≡ length (part (w * i) (w * i + w - w * i) xs)
+  pub laid-next : i < n → w * i + w ≤ length orig → (ys : List ℕ)
+      → ys ≡ getD segs i [] → length ys ≡ length (part (w * i) (w * i + w - w * i) xs)
       → Laid segs w n orig (take (w * i) xs ++ (ys ++ drop (w * i + w - w * i) (drop (w * i) xs))) (i + 1)
   laid-next h fits ys e k = record {
     least = omega arith;
@@ -90,7 +94,8 @@ module _ (s : List ℕ) (n : ℕ) where
   frame-at i h = getD-upFrom (λ i. frameIn (recordAt s i)) 0 n i [] h ∙ ap (λ i. frameIn (recordAt s i)) (zero-add i)
 
   moment-at : (i : ℕ) → i < n → getD moments i 0 ≡ numberAt 1 (recordAt s i)
-  moment-at i h = getD-upFrom (λ i. numberAt 1 (recordAt s i)) 0 n i 0 h ∙ ap (λ i. numberAt 1 (recordAt s i)) (zero-add i)
+  moment-at i h =
+      getD-upFrom (λ i. numberAt 1 (recordAt s i)) 0 n i 0 h ∙ ap (λ i. numberAt 1 (recordAt s i)) (zero-add i)
 
   pub moments-count : length moments ≡ n
   moments-count = length-map (upFrom 0 n) _ ∙ length-upFrom 0 n
@@ -108,13 +113,18 @@ module _ (s : List ℕ) (n : ℕ) where
     pub receptions-lent : n ≡ countIn s → c_burst.receptionsIn moments (flatten frames) ≡ receptionsIn s
     unfolding c_burst.receptionsIn receptionsIn
     receptions-lent e =
-        ap (λ k. map (λ i. c_burst.receptionIn (part (frameLength * i) frameLength (flatten frames)) (getD moments i 0)) (upFrom 0 k)) moments-count
+        ap (λ k. map (λ i. c_burst.receptionIn (part (frameLength * i) frameLength (flatten frames)) (getD moments i 0))
+        (upFrom 0 k))
+        moments-count
         ∙ map-same _ _ 0 n (λ i low h. same i (omega arith))
         ∙ ap (λ k. map (λ i. c_burst.receptionIn (frameIn (recordAt s i)) (numberAt 1 (recordAt s i))) (upFrom 0 k)) e
       where
-        same : (i : ℕ) → i < n → c_burst.receptionIn (part (frameLength * i) frameLength (flatten frames)) (getD moments i 0)
+        same : (i : ℕ) → i < n
+            → c_burst.receptionIn (part (frameLength * i) frameLength (flatten frames)) (getD moments i 0)
             ≡ c_burst.receptionIn (frameIn (recordAt s i)) (numberAt 1 (recordAt s i))
-        same i h = ap₂ c_burst.receptionIn (flatten-part frameLength frames each i (omega (arith, frames-count)) ∙ frame-at i h) (moment-at i h)
+        same i h =
+            ap₂ c_burst.receptionIn
+            (flatten-part frameLength frames each i (omega (arith, frames-count)) ∙ frame-at i h) (moment-at i h)
 
 -- ---- the places
 
@@ -133,7 +143,9 @@ module _ (r : List ℕ) (m : ℕ) (whole : length r ≡ callLength) where
   bytes = flatten (old r m)
 
   each-old : Each c_burst.replyLength (old r m)
-  each-old i h = ap length (old-at r m i (omega (arith, old-count r m))) ∙ ap (λ k. suc (suc (suc k))) (part-length 27 maxLength r (omega arith))
+  each-old i h =
+      ap length (old-at r m i (omega (arith, old-count r m)))
+      ∙ ap (λ k. suc (suc (suc k))) (part-length 27 maxLength r (omega arith))
 
   pub old-length : length (flatten (old r m)) ≡ c_burst.replyLength * m
   old-length = flatten-length c_burst.replyLength (old r m) each-old ∙ ap (λ k. c_burst.replyLength * k) (old-count r m)
@@ -152,7 +164,8 @@ module _ (r : List ℕ) (m : ℕ) (whole : length r ≡ callLength) where
       same : (i : ℕ) → i < m → getD (repliesIn bytes) i none ≡ getD (replicate m (placeIn r)) i none
       same i h =
           reply-at bytes i (omega (arith, room))
-          ∙ ap repliedIn (flatten-part c_burst.replyLength (old r m) each-old i (omega (arith, old-count r m)) ∙ old-at r m i h)
+          ∙ ap repliedIn
+          (flatten-part c_burst.replyLength (old r m) each-old i (omega (arith, old-count r m)) ∙ old-at r m i h)
           ∙ sym (getD-replicate m i (placeIn r) none h)
 
 -- ---- a burst of them
@@ -168,10 +181,14 @@ module _ (records : List ℕ) (n : ℕ) (e : n ≡ countIn records) where
   whole-records = omega (arith, e)
 
   sized : c_burst.isSized (length (moments records n)) (length (flatten (frames records n))) ≡ true
-  sized = rw (moments-count records n, frames-length records n whole-records) (eq-eqb (frameLength * n) (frameLength * n) refl)
+  sized =
+      rw (moments-count records n, frames-length records n whole-records)
+      (eq-eqb (frameLength * n) (frameLength * n) refl)
 
-  pub made : {s s' : Arrays} {setting k : ℕ} {old new : List ℕ} (ms fs : List ℕ) → take n ms ≡ moments records n → take (frameLength * n) fs ≡ flatten (frames records n)
-      → Bursts s setting (part 0 (n - 0) ms) (part 0 (frameLength * n - 0) fs) old k s' new → BurstMade s setting (receptionsIn records) old k s' new
+  pub made : {s s' : Arrays} {setting k : ℕ} {old new : List ℕ} (ms fs : List ℕ)
+      → take n ms ≡ moments records n → take (frameLength * n) fs ≡ flatten (frames records n)
+      → Bursts s setting (part 0 (n - 0) ms) (part 0 (frameLength * n - 0) fs) old k s' new
+      → BurstMade s setting (receptionsIn records) old k s' new
   made {s} {s'} {setting} {k} {old} {new} ms fs f g b = record {
     result = bursts-are sized is ∙ ap (λ (rs : List Reception). burstOf setting (stateAt s) rs (repliesIn old)) said;
     elements = bursted sized is ∙ ap (λ (rs : List Reception). arraysAfter s (Burst setting rs (repliesIn old))) said;
@@ -179,7 +196,8 @@ module _ (records : List ℕ) (n : ℕ) (e : n ≡ countIn records) where
     where
       is : Bursts s setting (moments records n) (flatten (frames records n)) old k s' new
       is = subst (λ (l : List ℕ). Bursts s setting l (flatten (frames records n)) old k s' new) (front n ms ∙ f)
-          (subst (λ (l : List ℕ). Bursts s setting (part 0 (n - 0) ms) l old k s' new) (front (frameLength * n) fs ∙ g) b)
+          (subst (λ (l : List ℕ). Bursts s setting (part 0 (n - 0) ms) l old k s' new)
+          (front (frameLength * n) fs ∙ g) b)
 
       said : c_burst.receptionsIn (moments records n) (flatten (frames records n)) ≡ receptionsIn records
       said = receptions-lent records n whole-records e
@@ -206,7 +224,8 @@ cells places = map replyOf (repliesIn places)
 
 -- one place: its bytes in the record
 pub place-cell : (place : List ℕ) → length place ≡ c_burst.replyLength → (form len : ℕ) (bytes : List ℕ)
-    → form ≡ formOf (shownWith (getD place 0 0) (getD place 1 0)) → len ≡ getD place 2 0 → bytes ≡ resized maxLength (part 3 maxLength place)
+    → form ≡ formOf (shownWith (getD place 0 0) (getD place 1 0))
+    → len ≡ getD place 2 0 → bytes ≡ resized maxLength (part 3 maxLength place)
     → replyCell form (getD place 1 0) (record { len = len; bytes = bytes }) ≡ replyOf (repliedIn place)
 unfolding replyOf
 place-cell place whole form len bytes e f g =
@@ -225,5 +244,8 @@ module _ (places : List ℕ) (m : ℕ) (whole : length places ≡ c_burst.replyL
   pub cells-count : length (cells places) ≡ m
   cells-count = length-map (repliesIn places) replyOf ∙ count
 
-  pub cell-at : (i : ℕ) → i < m → getD (cells places) i [] ≡ replyOf (repliedIn (part (c_burst.replyLength * i) c_burst.replyLength places))
-  cell-at i h = getD-map replyOf (repliesIn places) i none [] (omega (arith, count)) ∙ ap replyOf (reply-at places i (omega (arith, room)))
+  pub cell-at : (i : ℕ) → i < m
+      → getD (cells places) i [] ≡ replyOf (repliedIn (part (c_burst.replyLength * i) c_burst.replyLength places))
+  cell-at i h =
+      getD-map replyOf (repliesIn places) i none [] (omega (arith, count))
+      ∙ ap replyOf (reply-at places i (omega (arith, room)))

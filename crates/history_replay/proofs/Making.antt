@@ -31,23 +31,29 @@ use Rattle.history_replay.specs.Private.{wroteOf, replyCell}
 module _ (v : View) where
   -- by the form and the number of the answer
   pub answered : (setting : ℕ) (r : Reception) (o : Outcome) (sent : Frame) (form number : ℕ) (n : Totals)
-      → o ≡ step v r → sent ≡ sentFor setting (o .answer) r → form ≡ formOf (o .answer) → number ≡ shownNumber (o .answer) → n ≡ o .next .totals
+      → o ≡ step v r → sent ≡ sentFor setting (o .answer) r → form ≡ formOf (o .answer)
+      → number ≡ shownNumber (o .answer) → n ≡ o .next .totals
       → headOf receiving number n ++ replyCell form number sent ≡ recordOf (run v (Receive setting r ∷ []))
   unfolding seenBytes replyOf
   answered setting r o sent form number n e f g k t =
       ap₂ (λ (x y : ℕ). headOf receiving y n ++ replyCell x y sent) g k
       ∙ ap₂ (λ (s : Frame) (m : Totals). seenBytes (Answered (o .answer) s m)) f t
-      ∙ ap (λ (p : Outcome). seenBytes (Answered (p .answer) (sentFor setting (p .answer) r) (p .next .totals))) e ∙ record-one _
+      ∙ ap (λ (p : Outcome). seenBytes (Answered (p .answer) (sentFor setting (p .answer) r) (p .next .totals))) e
+      ∙ record-one _
 
   pub loaded : (image : List ℕ) (q : RestoreResult) → q ≡ restoreOf v image
       → seenBytes (Restored (q .number) (q .next .totals)) ≡ recordOf (run v (Restore image ∷ []))
   loaded image q e = ap (λ (p : RestoreResult). seenBytes (Restored (p .number) (p .next .totals))) e ∙ record-one _
 
-  pub delivered : (setting : ℕ) (rs : List Reception) (places : List Replied) (b : BurstResult) → b ≡ burstOf setting v rs places
-      → seenBytes (Delivered (b .number) (b .replies) (b .next .totals)) ≡ recordOf (run v (Burst setting rs places ∷ []))
-  delivered setting rs places b e = ap (λ (p : BurstResult). seenBytes (Delivered (p .number) (p .replies) (p .next .totals))) e ∙ record-one _
+  pub delivered : (setting : ℕ) (rs : List Reception) (places : List Replied) (b : BurstResult)
+      → b ≡ burstOf setting v rs places
+      → seenBytes (Delivered (b .number) (b .replies) (b .next .totals))
+      ≡ recordOf (run v (Burst setting rs places ∷ []))
+  delivered setting rs places b e =
+      ap (λ (p : BurstResult). seenBytes (Delivered (p .number) (p .replies) (p .next .totals))) e ∙ record-one _
 
-  pub heard : (k : ℕ) (a : HeardResult) → a ≡ copiesOf v k → seenBytes (Heard (a .number) (a .copies) (v .totals)) ≡ recordOf (run v (Ask k ∷ []))
+  pub heard : (k : ℕ) (a : HeardResult) → a ≡ copiesOf v k
+      → seenBytes (Heard (a .number) (a .copies) (v .totals)) ≡ recordOf (run v (Ask k ∷ []))
   heard k a e = ap (λ (p : HeardResult). seenBytes (Heard (p .number) (p .copies) (v .totals))) e ∙ record-one _
 
   pub seen : seenBytes (Looked (v .totals)) ≡ recordOf (run v (Look ∷ []))
@@ -59,9 +65,11 @@ module _ (v : View) where
   saved output = record-one _
 
 -- the output that a record says is as long as what stands behind the head of its cell
-pub output-is : (r entry : List ℕ) → length entry ≡ 58 + length (outputIn r) → replicate (length entry - 58) (getD r 9 0) ≡ outputIn r
+pub output-is : (r entry : List ℕ) → length entry ≡ 58 + length (outputIn r)
+    → replicate (length entry - 58) (getD r 9 0) ≡ outputIn r
 output-is r entry h =
-    let e : length entry - 58 ≡ min (numberAt 1 r) maxOutput = omega (arith, length-replicate (min (numberAt 1 r) maxOutput) (getD r 9 0)) in
+    let e : length entry - 58 ≡ min (numberAt 1 r) maxOutput =
+    omega (arith, length-replicate (min (numberAt 1 r) maxOutput) (getD r 9 0)) in
     ap (λ (n : ℕ). replicate n (getD r 9 0)) e
 
 -- the output is lent first, and then the head before it
@@ -83,13 +91,15 @@ module _ (v : View) (entry ys : List ℕ) (fill number : ℕ) (room : 58 ≤ len
       drop-at (take 58 entry) _ 58 (length-take-le 58 entry room)
       ∙ ap (λ (l : List ℕ). ys ++ l) (drop-drop (58 + rest - 58) 58 entry ∙ drop-of-length-le entry k) ∙ append-nil ys
 
-  pub saved-output : record { number = number; output = ys } ≡ checkpointOf v (replicate (length (part 58 (58 + rest - 58) entry)) fill)
+  pub saved-output : record { number = number; output = ys }
+      ≡ checkpointOf v (replicate (length (part 58 (58 + rest - 58) entry)) fill)
       → length ys ≡ length (part 58 (58 + rest - 58) entry) → (exit : List ℕ)
       → Begun lent-output (headOf saving number (v .totals) ++ be 8 rest) 58 exit
       → exit ≡ seenBytes (wroteOf v (replicate rest fill))
   unfolding seenBytes
   saved-output e q exit b =
-      let l : length (part 58 (58 + rest - 58) entry) ≡ rest = part-length 58 (58 + rest - 58) entry (omega arith) ∙ omega arith in
+      let l : length (part 58 (58 + rest - 58) entry) ≡ rest =
+      part-length 58 (58 + rest - 58) entry (omega arith) ∙ omega arith in
       let f : record { number = number; output = ys } ≡ checkpointOf v (replicate rest fill) = rw l at e in
       let k : rest ≡ length ys = sym (q ∙ l) in
       b .is ∙ ap (λ (x : List ℕ). headOf saving number (v .totals) ++ be 8 rest ++ x) past-head
@@ -100,7 +110,8 @@ module _ (v : View) (entry ys : List ℕ) (fill number : ℕ) (room : 58 ≤ len
 
 module _ (v : View) (output : List ℕ) where
   -- the image in the first cell, as the code lends it
-  pub image-lent : (rest xs : List ℕ) (m : ℕ) → xs ≡ seenBytes (wroteOf v output) ++ rest → m ≡ min imageLength (length output)
+  pub image-lent : (rest xs : List ℕ) (m : ℕ)
+      → xs ≡ seenBytes (wroteOf v output) ++ rest → m ≡ min imageLength (length output)
       → part 58 (58 + m - 58) xs ≡ take imageLength (checkpointOf v output .output)
   unfolding seenBytes
   image-lent rest xs m w e =
@@ -113,6 +124,8 @@ module _ (v : View) (output : List ℕ) where
       (take-append-le (min imageLength (length p)) p rest (omega arith) ∙ take-clamped imageLength p)
 
   pub cut-made : (q : RestoreResult) → q ≡ restoreOf fresh (take imageLength (checkpointOf v output .output))
-      → seenBytes (wroteOf v output) ++ seenBytes (Restored (q .number) (q .next .totals)) ≡ recordOf (run v (Cut output ∷ []))
+      → seenBytes (wroteOf v output) ++ seenBytes (Restored (q .number) (q .next .totals))
+      ≡ recordOf (run v (Cut output ∷ []))
   cut-made q e =
-      ap (λ (p : RestoreResult). seenBytes (wroteOf v output) ++ seenBytes (Restored (p .number) (p .next .totals))) e ∙ record-two _ _
+      ap (λ (p : RestoreResult). seenBytes (wroteOf v output) ++ seenBytes (Restored (p .number) (p .next .totals))) e
+      ∙ record-two _ _

@@ -36,14 +36,17 @@ use Rattle.history_replay.specs.Calls.{callLength, recordAt, settingIn, 
 pub bytes-lent : (r : List ℕ) (n m : ℕ) → m ≡ min n 53 → part 10 (10 + m - 10) r ≡ take n (part 10 53 r)
 bytes-lent r n m e = part-ends 10 m r ∙ elim (decLt n 53) [
   | yes h ↦ (let k : m ≡ n = omega arith in rw k (sym (take-take n 53 (drop 10 r) (omega arith))))
-  | no h ↦ (let k : m ≡ 53 = omega arith in rw k (sym (take-all n (part 10 53 r) (omega (arith, length-take 53 (drop 10 r))))))
+  | no h ↦
+      (let k : m ≡ 53 = omega arith in
+      rw k (sym (take-all n (part 10 53 r) (omega (arith, length-take 53 (drop 10 r))))))
 ]
 
 pub number-is : (r : List ℕ) (a : ℕ) → unbe (take 8 (part a (a + 8 - a) r)) ≡ unbe (part a 8 r)
 number-is r a = rw (part-ends a 8 r) (ap unbe (take-take 8 8 (drop a r) (omega arith)))
 
 -- 21 bytes, copied into an array of 21
-pub field-lent : (r : List ℕ) (a : ℕ) → a + maxLength ≤ length r → resized maxLength (part a maxLength r) ≡ part a maxLength r
+pub field-lent : (r : List ℕ) (a : ℕ) → a + maxLength ≤ length r
+    → resized maxLength (part a maxLength r) ≡ part a maxLength r
 field-lent r a h = resized-whole maxLength (part a maxLength r) (part-length a maxLength r h)
 
 drop-clamped : (a : ℕ) (s : List ℕ) → drop (min a (length s)) s ≡ drop a s
@@ -85,7 +88,8 @@ module _ (lent r : List ℕ) where
   unfolding callIn
   call-restore e = rw e
 
-  pub call-burst : getD r 0 0 ≡ delivering → callIn lent r ≡ Burst (settingIn r) (receptionsIn (lentIn lent r)) (placesIn r)
+  pub call-burst : getD r 0 0 ≡ delivering
+      → callIn lent r ≡ Burst (settingIn r) (receptionsIn (lentIn lent r)) (placesIn r)
   unfolding callIn
   call-burst e = rw e
 
@@ -134,7 +138,8 @@ lentRecord calls i = part (callLength * i) (callLength * i + callLength - callLe
 pub lent-record : (calls : List ℕ) (i : ℕ) → lentRecord calls i ≡ recordAt calls i
 lent-record calls i = part-ends (callLength * i) callLength calls
 
-pub record-length : (calls : List ℕ) (i : ℕ) → callLength * i + callLength ≤ length calls → length (lentRecord calls i) ≡ callLength
+pub record-length : (calls : List ℕ) (i : ℕ) → callLength * i + callLength ≤ length calls
+    → length (lentRecord calls i) ≡ callLength
 record-length calls i h = ap length (lent-record calls i) ∙ part-length (callLength * i) callLength calls h
 
 module _ (lent calls : List ℕ) where
@@ -147,9 +152,12 @@ module _ (lent calls : List ℕ) where
 
   call-is : (i : ℕ) → i < count → getD (callsIn lent calls) i Look ≡ callIn lent (recordAt calls i)
   unfolding callsIn
-  call-is i h = getD-upFrom (λ (j : ℕ). callIn lent (recordAt calls j)) 0 count i Look h ∙ ap (λ (j : ℕ). callIn lent (recordAt calls j)) (zero-add i)
+  call-is i h =
+      getD-upFrom (λ (j : ℕ). callIn lent (recordAt calls j)) 0 count i Look h
+      ∙ ap (λ (j : ℕ). callIn lent (recordAt calls j)) (zero-add i)
 
-  pub calls-more : (i : ℕ) → i < count → take (i + 1) (callsIn lent calls) ≡ take i (callsIn lent calls) ++ (callIn lent (recordAt calls i) ∷ [])
+  pub calls-more : (i : ℕ) → i < count
+      → take (i + 1) (callsIn lent calls) ≡ take i (callsIn lent calls) ++ (callIn lent (recordAt calls i) ∷ [])
   calls-more i h =
       let l : i < length (callsIn lent calls) = rw calls-length h in
       rw (add-one, take-suc (callsIn lent calls) i Look l, call-is i h)
@@ -158,14 +166,16 @@ module _ (lent calls : List ℕ) where
   calls-all i e = take-all i (callsIn lent calls) (omega (arith, calls-length))
 
 -- how long the record of the first i + 1 calls is
-pub sizes-more : (calls : List ℕ) (i size : ℕ) → i < length calls / callLength → size ≡ callSize (callIn [] (lentRecord calls i))
+pub sizes-more : (calls : List ℕ) (i size : ℕ) → i < length calls / callLength
+    → size ≡ callSize (callIn [] (lentRecord calls i))
     → sizeOfAll (take (i + 1) (callsIn [] calls)) ≡ sizeOfAll (take i (callsIn [] calls)) + size
 sizes-more calls i size h e =
     let k = callIn [] (recordAt calls i) in
     ap sizeOfAll (calls-more [] calls i h) ∙ size-append (take i (callsIn [] calls)) (k ∷ [])
     ∙ rw (e, lent-record calls i) (omega arith)
 
-sizes-same : (lent calls xs : List ℕ) → sizeOfAll (map (λ (i : ℕ). callIn lent (recordAt calls i)) xs) ≡ sizeOfAll (map (λ (i : ℕ). callIn []
+sizes-same : (lent calls xs : List ℕ)
+    → sizeOfAll (map (λ (i : ℕ). callIn lent (recordAt calls i)) xs) ≡ sizeOfAll (map (λ (i : ℕ). callIn []
     (recordAt calls i)) xs)
 sizes-same lent calls [] = refl
 sizes-same lent calls (i ∷ xs) = ap₂ _+_ (size-lent lent (recordAt calls i)) (sizes-same lent calls xs)

@@ -37,7 +37,8 @@ pub record Made (s : Arrays) (h : List Call) (entry xs : List ℕ) (at : ℕ) (s
   pub elements : s' ≡ arraysAfterAll s h
 
 -- at a turn of the loop over the calls
-pub record Calling (calls lent : List ℕ) (s : Arrays) (i i-end : ℕ) (entry out : List ℕ) (at : ℕ) (s' : Arrays) : Type 0 where
+pub record Calling (calls lent : List ℕ) (s : Arrays) (i i-end : ℕ)
+    (entry out : List ℕ) (at : ℕ) (s' : Arrays) : Type 0 where
   pub bounded : i ≤ i-end
   pub end : i-end ≡ length calls / callLength
   pub made : Made s (take i (callsIn lent calls)) entry out at s'
@@ -72,9 +73,11 @@ module _ (lent calls : List ℕ) where
       → Made s (take i (callsIn lent calls)) entry xs at c
       → (ys : List ℕ) (d : Arrays) → Called c (callIn lent (lentRecord calls i)) ys d
       → (m : ℕ) → length ys ≡ length (part at (at + m - at) xs) → at + m ≤ length entry
-      → Made s (take (i + 1) (callsIn lent calls)) entry (take at xs ++ (ys ++ drop (at + m - at) (drop at xs))) (at + m) d
+      → Made s (take (i + 1) (callsIn lent calls)) entry
+      (take at xs ++ (ys ++ drop (at + m - at) (drop at xs))) (at + m) d
   turn i h b ys d q m l room =
-      rw (calls-more lent calls i h) (one-more b (callIn lent (recordAt calls i)) ys d (rw (lent-record calls i) at q) m l room)
+      rw (calls-more lent calls i h)
+      (one-more b (callIn lent (recordAt calls i)) ys d (rw (lent-record calls i) at q) m l room)
 
   -- and there is room for it where there is for all
   pub enough : {s : Arrays} {entry xs : List ℕ} {at : ℕ} {c : Arrays} (i size : ℕ) → i < length calls / callLength
@@ -83,15 +86,19 @@ module _ (lent calls : List ℕ) where
   enough {s} i size h b e room =
       let l = callsIn lent calls in
       let k = callIn lent (recordAt calls i) in
-      let is : size ≡ callSize k = e ∙ ap (λ (r : List ℕ). callSize (callIn [] r)) (lent-record calls i) ∙ sym (size-lent lent (recordAt calls i)) in
-      let one : sizeOfAll (take (i + 1) l) ≡ sizeOfAll (take i l) + (callSize k + 0) = ap sizeOfAll (calls-more lent calls i h)
+      let is : size ≡ callSize k =
+      e ∙ ap (λ (r : List ℕ). callSize (callIn [] r)) (lent-record calls i)
+      ∙ sym (size-lent lent (recordAt calls i)) in
+      let one : sizeOfAll (take (i + 1) l) ≡ sizeOfAll (take i l) + (callSize k + 0) =
+      ap sizeOfAll (calls-more lent calls i h)
       ∙ size-append (take i l) (k ∷ []) in
       omega (arith, b .begun .long, sized (stateAt s) (take i l), size-part (i + 1) l, sizes-lent lent calls)
 
 -- ---- the end
 
 module _ {s : Arrays} {h : List Call} {entry exit : List ℕ} where
-  pub ran : {at : ℕ} {c : Arrays} → Made s h entry exit at c → Resumes s h entry exit (record { written = at; answer = Done }) c
+  pub ran : {at : ℕ} {c : Arrays} → Made s h entry exit at c
+      → Resumes s h entry exit (record { written = at; answer = Done }) c
   unfolding putRecord
   ran {at} {c} b = record {
     result =
@@ -102,7 +109,8 @@ module _ {s : Arrays} {h : List Call} {entry exit : List ℕ} where
     elements = b .elements;
   }
 
-  pub refused : length entry < sizeOfAll h → exit ≡ entry → Resumes s h entry exit (record { written = 0; answer = Refused ShortOutput }) s
+  pub refused : length entry < sizeOfAll h → exit ≡ entry
+      → Resumes s h entry exit (record { written = 0; answer = Refused ShortOutput }) s
   unfolding putRecord
   refused short same = record {
     result =
@@ -113,14 +121,18 @@ module _ {s : Arrays} {h : List Call} {entry exit : List ℕ} where
     elements = refl;
   }
 
-pub replays : {h : List Call} {entry exit : List ℕ} (s s' : Arrays) (r : Replayed) → s ≡ freshArrays → stateAt s ≡ fresh → Resumes s h entry exit r s'
+pub replays : {h : List Call} {entry exit : List ℕ} (s s' : Arrays) (r : Replayed)
+    → s ≡ freshArrays → stateAt s ≡ fresh → Resumes s h entry exit r s'
     → Replays h entry exit r s'
 replays {h} {entry} {exit} s s' r zero e b =
-    let m : replayedOf r exit ≡ putRecord (recordOf (run fresh h)) entry = b .result ∙ ap (λ (v : View). putRecord (recordOf (run v h)) entry) e in
+    let m : replayedOf r exit ≡ putRecord (recordOf (run fresh h)) entry =
+    b .result ∙ ap (λ (v : View). putRecord (recordOf (run v h)) entry) e in
     record {
       shown = subst (λ (x : Arrays). Resumes x h entry exit r s') zero b;
       reference = λ ok. m ∙ ap (λ (l : List _). putRecord (recordOf l) entry) (whole-history h ok .reference);
       uncutRun = λ g ok is.
           let w = whole-history g ok in
-          m ∙ ap (λ (l : List _). putRecord (recordOf l) entry) (ap (run fresh) is ∙ sym (w .uncutRun) ∙ ap common (w .reference));
+          m
+          ∙ ap (λ (l : List _). putRecord (recordOf l) entry)
+          (ap (run fresh) is ∙ sym (w .uncutRun) ∙ ap common (w .reference));
     }

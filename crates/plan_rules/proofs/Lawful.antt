@@ -34,7 +34,8 @@ abbrev isClear : ℕ → ℕ → Bool
 isClear rule level =
     leb 2 (offerOf rule level .fewest)
     && (leb (offerOf rule level .most) 3
-    && (ltb (offerOf rule level .most) 3 || (not (empty (thirdOf rule level)) && ltb (thirdOf rule level .last) noSlot)))
+    && (ltb (offerOf rule level .most) 3
+    || (not (empty (thirdOf rule level)) && ltb (thirdOf rule level .last) noSlot)))
 
 rows-clear : all (λ rule. all (isClear rule) (upFrom 0 3)) (upFrom 0 3) ≡ true
 unfolding upFrom
@@ -43,7 +44,9 @@ rows-clear = refl
 clear : (rule level : ℕ) → isKnown rule level ≡ true → isClear rule level ≡ true
 clear rule level e =
     let k = known rule level e in
-    let row = all-at (λ rule. all (isClear rule) (upFrom 0 3)) (upFrom-in 0 3 rule (omega arith) (omega (arith, k .rule-known))) rows-clear in
+    let row =
+    all-at (λ rule. all (isClear rule) (upFrom 0 3))
+    (upFrom-in 0 3 rule (omega arith) (omega (arith, k .rule-known))) rows-clear in
     all-at (isClear rule) (upFrom-in 0 3 level (omega arith) (omega (arith, k .level-known))) row
 
 -- what the test says
@@ -57,7 +60,9 @@ clear-row rule level e =
     let most = offerOf rule level .most in
     let filled = not (empty (thirdOf rule level)) in
     let short = ltb (thirdOf rule level .last) noSlot in
-    let u = both (leb 2 (offerOf rule level .fewest)) (leb most 3 && (ltb most 3 || (filled && short))) (clear rule level e) in
+    let u =
+    both (leb 2 (offerOf rule level .fewest))
+    (leb most 3 && (ltb most 3 || (filled && short))) (clear rule level e) in
     let v = both (leb most 3) (ltb most 3 || (filled && short)) (u .1) in
     record {
       least = leb-true 2 (offerOf rule level .fewest) (u .0);
@@ -69,11 +74,14 @@ clear-row rule level e =
 
 -- ---- the third slot says how many transmissions there are
 
-module _ (rule level n d : ℕ) (p : SlotPlan) (t : isDuration d ≡ true) (k : isKnown rule level ≡ true) (o : isOffered rule level n ≡ true) (l : lawful (ruleOf rule level n) d p ≡ true) where
+module _ (rule level n d : ℕ) (p : SlotPlan) (t : isDuration d ≡ true) (k : isKnown rule level ≡ true)
+    (o : isOffered rule level n ≡ true) (l : lawful (ruleOf rule level n) d p ≡ true) where
   two : eqb n 2 ≡ true → transmissionsOf p ≡ n
   two e =
       let no-range : empty (cond (eqb n 2) none (thirdOf rule level)) ≡ true = rw e in
-      let c = no-third (ruleOf rule level n) d (p .second) (p .third) (parts (ruleOf rule level n) d p l .third-follows) no-range in
+      let c =
+      no-third (ruleOf rule level n) d (p .second) (p .third)
+      (parts (ruleOf rule level n) d p l .third-follows) no-range in
       rw (eq-eqb (p .third) noSlot c) (sym (eqb-true n 2 e))
 
   three : eqb n 2 ≡ false → transmissionsOf p ≡ n
@@ -86,9 +94,12 @@ module _ (rule level n d : ℕ) (p : SlotPlan) (t : isDuration d ≡ true) (k : 
       let s = row .slots (omega arith) in
       let a-range : empty (cond (eqb n 2) none (thirdOf rule level)) ≡ false = rw e (s .0) in
       let c : within (cond (eqb n 2) none (thirdOf rule level)) (p .third) ≡ true
-      = third-after (ruleOf rule level n) d (p .second) (p .third) (parts (ruleOf rule level n) d p l .third-follows) a-range .0 in
+      = third-after (ruleOf rule level n) d (p .second) (p .third)
+      (parts (ruleOf rule level n) d p l .third-follows) a-range .0 in
       let inside : within (thirdOf rule level) (p .third) ≡ true = rw e at c in
-      let below : p .third ≤ thirdOf rule level .last = leb-true _ _ (both (leb (thirdOf rule level .first) (p .third)) (leb (p .third) (thirdOf rule level .last)) inside .1) in
+      let below : p .third ≤ thirdOf rule level .last =
+      leb-true _ _
+      (both (leb (thirdOf rule level .first) (p .third)) (leb (p .third) (thirdOf rule level .last)) inside .1) in
       rw (ne-eqb (p .third) noSlot (λ z. omega (arith, s .1))) (sym is-three)
 
   asked : transmissionsOf p ≡ n
@@ -97,20 +108,27 @@ module _ (rule level n d : ℕ) (p : SlotPlan) (t : isDuration d ≡ true) (k : 
   lawful-by : isLawfulBy rule level d p ≡ true
   unfolding isLawfulBy
   lawful-by =
-      subst (λ (m : ℕ). isDuration d && (isKnown rule level && (isOffered rule level m && lawful (ruleOf rule level m) d p)) ≡ true) (sym asked)
+      subst (λ (m : ℕ). isDuration d
+      && (isKnown rule level && (isOffered rule level m && lawful (ruleOf rule level m) d p))
+      ≡ true)
+      (sym asked)
       (and-true t (and-true k (and-true o l)))
 
 -- ---- the theorems
 
 -- where the answer is a plan nothing was wrong with the arguments
-pub picked-allowed : (rule level n d draw : ℕ) (p : SlotPlan) → planBy rule level n d draw ≡ planned p → isAllowed rule level n d ≡ true
+pub picked-allowed : (rule level n d draw : ℕ) (p : SlotPlan)
+    → planBy rule level n d draw ≡ planned p → isAllowed rule level n d ≡ true
 picked-allowed rule level n d draw p e =
     by-test (isAllowed rule level n d) (λ a. a)
-    (λ a. absurd (refused-number Argument (ap (λ (x : Answer). x .number) (sym (plan-by-chosen rule level n d draw .argument a) ∙ e))))
+    (λ a.
+    absurd (refused-number Argument
+    (ap (λ (x : Answer). x .number) (sym (plan-by-chosen rule level n d draw .argument a) ∙ e))))
 
 -- and it is lawful under the rule for so many transmissions
 picked : (rule level n d draw : ℕ) (p : SlotPlan) → planBy rule level n d draw ≡ planned p
-    → (isDuration d ≡ true) × (isKnown rule level ≡ true) × (isOffered rule level n ≡ true) × (lawful (ruleOf rule level n) d p ≡ true)
+    → (isDuration d ≡ true) × (isKnown rule level ≡ true)
+    × (isOffered rule level n ≡ true) × (lawful (ruleOf rule level n) d p ≡ true)
 picked rule level n d draw p e =
     let a = picked-allowed rule level n d draw p e in
     let w = both (isDuration d) (isKnown rule level && isOffered rule level n) a in
@@ -118,16 +136,19 @@ picked rule level n d draw p e =
     (w .0, v .0, v .1, chosen-lawful (ruleOf rule level n) d (plan-by-chosen rule level n d draw .chosen a) p e)
 
 pub plan-by-lawful : PlanByLawful
-plan-by-lawful rule level n d draw p e = let w = picked rule level n d draw p e in lawful-by rule level n d p (w .0) (w .1) (w .2) (w .3)
+plan-by-lawful rule level n d draw p e = let w = picked rule level n d draw p e in
+    lawful-by rule level n d p (w .0) (w .1) (w .2) (w .3)
 
 pub plan-by-asked : PlanByAsked
-plan-by-asked rule level n d draw p e = let w = picked rule level n d draw p e in asked rule level n d p (w .0) (w .1) (w .2) (w .3)
+plan-by-asked rule level n d draw p e = let w = picked rule level n d draw p e in
+    asked rule level n d p (w .0) (w .1) (w .2) (w .3)
 
 pub lawful-picked : LawfulPicked
 unfolding isLawfulBy planBy
 lawful-picked rule level d p e =
     let n = transmissionsOf p in
-    let t = both (isDuration d) (isKnown rule level && (isOffered rule level n && lawful (ruleOf rule level n) d p)) e in
+    let t =
+    both (isDuration d) (isKnown rule level && (isOffered rule level n && lawful (ruleOf rule level n) d p)) e in
     let u = both (isKnown rule level) (isOffered rule level n && lawful (ruleOf rule level n) d p) (t .1) in
     let v = both (isOffered rule level n) (lawful (ruleOf rule level n) d p) (u .1) in
     let w = lawful-drawn (ruleOf rule level n) d p (v .1) in

@@ -13,7 +13,8 @@ use Rattle.plan_rules.specs.Claims.{PlanByChosen, StandardSame, Compress
 
 pub plan-by-chosen : PlanByChosen
 unfolding planBy
-plan-by-chosen rule level n d draw = record { argument = λ e. rw e; chosen = λ e. rw e (drawn-chosen (ruleOf rule level n) d draw) }
+plan-by-chosen rule level n d draw =
+    record { argument = λ e. rw e; chosen = λ e. rw e (drawn-chosen (ruleOf rule level n) d draw) }
 
 pub standard-same : StandardSame
 unfolding planBy planOf

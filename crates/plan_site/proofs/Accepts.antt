@@ -29,7 +29,8 @@ use Rattle.plan_site.specs.Claims.{apart, Fits, AcceptsExactly}
 -- ---- one repeater: a lawful plan keeps its transmissions apart
 
 -- two transmissions, the one over before the other starts
-before : (d n m : ℕ) → endOf d n ≤ startOf m → apart (record { slot = n; duration = d }) (record { slot = m; duration = d }) ≡ true
+before : (d n m : ℕ) → endOf d n ≤ startOf m
+    → apart (record { slot = n; duration = d }) (record { slot = m; duration = d }) ≡ true
 before d n m h = ap not (and-no (ltb (startOf n) (endOf d m)) (le-ltb (startOf m) (endOf d n) h))
   where
     and-no : (a : Bool) {b : Bool} → b ≡ false → a && b ≡ false
@@ -45,25 +46,39 @@ module _ (r : Rule) (d : ℕ) (p : SlotPlan) (l : lawful r d p ≡ true) where
   later : eqb (p .third) noSlot ≡ false → endOf d (p .second) ≤ startOf (p .third)
   later n =
       by-test (empty (rangeAt r 2))
-      (λ z. absurd (eqb-false (p .third) noSlot n (no-third r d (p .second) (p .third) (parts r d p l .third-follows) z)))
+      (λ z.
+      absurd (eqb-false (p .third) noSlot n
+      (no-third r d (p .second) (p .third) (parts r d p l .third-follows) z)))
       (λ z. third-after r d (p .second) (p .third) (parts r d p l .third-follows) z .1)
 
-  plan-apart : (x : Bool) → eqb (p .third) noSlot ≡ x → pairwise apart (sentIn d (p .first ∷ p .second ∷ cond x [] (p .third ∷ []))) ≡ true
+  plan-apart : (x : Bool) → eqb (p .third) noSlot ≡ x
+      → pairwise apart (sentIn d (p .first ∷ p .second ∷ cond x [] (p .third ∷ []))) ≡ true
   plan-apart true e = rw (before d (p .first) (p .second) second-after)
   plan-apart false e =
       let h = second-after in
       let k = later e in
-      rw (before d (p .first) (p .second) h, before d (p .first) (p .third) (omega arith), before d (p .second) (p .third) k)
+      rw (
+        before d (p .first) (p .second) h,
+        before d (p .first) (p .third) (omega arith),
+        before d (p .second) (p .third) k,
+      )
 
 own-apart : (a : Assignment) → hasLawfulPlan a ≡ true → pairwise apart (sentBy a) ≡ true
 unfolding isLawfulBy
 own-apart a e =
     let n = transmissionsOf (a .slots) in
-    let t = both (isDuration (a .duration)) (isKnown (a .rule) (a .level) && (isOffered (a .rule) (a .level) n && lawful (ruleOf (a .rule) (a .level) n) (a .duration) (a .slots)))
+    let t =
+    both (isDuration (a .duration))
+    (isKnown (a .rule) (a .level)
+    && (isOffered (a .rule) (a .level) n && lawful (ruleOf (a .rule) (a .level) n) (a .duration) (a .slots)))
     e in
-    let u = both (isKnown (a .rule) (a .level)) (isOffered (a .rule) (a .level) n && lawful (ruleOf (a .rule) (a .level) n) (a .duration) (a .slots))
+    let u =
+    both (isKnown (a .rule) (a .level))
+    (isOffered (a .rule) (a .level) n && lawful (ruleOf (a .rule) (a .level) n) (a .duration) (a .slots))
     (t .1) in
-    let v = both (isOffered (a .rule) (a .level) n) (lawful (ruleOf (a .rule) (a .level) n) (a .duration) (a .slots)) (u .1) in
+    let v =
+    both (isOffered (a .rule) (a .level) n)
+    (lawful (ruleOf (a .rule) (a .level) n) (a .duration) (a .slots)) (u .1) in
     plan-apart (ruleOf (a .rule) (a .level) n) (a .duration) (a .slots) (v .1) (eqb (a .slots .third) noSlot) refl
 
 -- ---- repeaters that do not clash, pair by pair, are transmissions that are apart, pair by pair
@@ -74,14 +89,16 @@ peace a b = not (clash a b)
 abbrev air : List Assignment → List Transmission
 air l = flatMap sentBy l
 
-across : (a b : Assignment) → clash a b ≡ false → (t u : Transmission) → List·Memᴰ t (sentBy a) → List·Memᴰ u (sentBy b) → apart t u ≡ true
+across : (a b : Assignment) → clash a b ≡ false → (t u : Transmission)
+    → List·Memᴰ t (sentBy a) → List·Memᴰ u (sentBy b) → apart t u ≡ true
 unfolding clash
 across a b e t u m k =
     let w = none (λ t. any (overlap t) (sentBy b)) (sentBy a) e in
     let y = not-true _ (all-at (λ t. not (any (overlap t) (sentBy b))) m w) in
     all-at (apart t) k (none (overlap t) (sentBy b) y)
 
-air-apart : (a : Assignment) (t : Transmission) → List·Memᴰ t (sentBy a) → (l : List Assignment) → all (peace a) l ≡ true
+air-apart : (a : Assignment) (t : Transmission) → List·Memᴰ t (sentBy a)
+    → (l : List Assignment) → all (peace a) l ≡ true
     → all (apart t) (air l) ≡ true
 unfolding flatMap
 air-apart a t m [] e = refl
@@ -91,7 +108,8 @@ air-apart a t m (b ∷ l) e =
     (all-of (apart t) (sentBy b) (λ u k. across a b (not-true _ (w .0)) t u m k))
     (air-apart a t m l (w .1))
 
-peace-apart : (l : List Assignment) → all hasLawfulPlan l ≡ true → pairwise peace l ≡ true → pairwise apart (air l) ≡ true
+peace-apart : (l : List Assignment) → all hasLawfulPlan l ≡ true
+    → pairwise peace l ≡ true → pairwise apart (air l) ≡ true
 unfolding flatMap
 peace-apart [] e f = refl
 peace-apart (a ∷ l) e f =
@@ -109,7 +127,8 @@ clash-none a b e =
     (all-of (λ t. not (any (overlap t) (sentBy b))) (sentBy a)
     (λ t m. ap not (none-back (overlap t) (sentBy b) (all-at (λ t. all (apart t) (sentBy b)) m e)))))
 
-apart-air : (a : Assignment) (l : List Assignment) → all (λ t. all (apart t) (air l)) (sentBy a) ≡ true → all (peace a) l ≡ true
+apart-air : (a : Assignment) (l : List Assignment)
+    → all (λ t. all (apart t) (air l)) (sentBy a) ≡ true → all (peace a) l ≡ true
 unfolding flatMap
 apart-air a [] e = refl
 apart-air a (b ∷ l) e =
@@ -117,7 +136,8 @@ apart-air a (b ∷ l) e =
     (clash-none a b (all-of (λ t. all (apart t) (sentBy b)) (sentBy a) (λ t m. halves t m .0)))
     (apart-air a l (all-of (λ t. all (apart t) (air l)) (sentBy a) (λ t m. halves t m .1)))
   where
-    halves : (t : Transmission) → List·Memᴰ t (sentBy a) → (all (apart t) (sentBy b) ≡ true) × (all (apart t) (air l) ≡ true)
+    halves : (t : Transmission) → List·Memᴰ t (sentBy a)
+        → (all (apart t) (sentBy b) ≡ true) × (all (apart t) (air l) ≡ true)
     halves t m = all-parts (apart t) (sentBy b) (air l) (all-at (λ t. all (apart t) (air (b ∷ l))) m e)
 
 apart-peace : (l : List Assignment) → pairwise apart (air l) ≡ true → pairwise peace l ≡ true
@@ -140,7 +160,8 @@ none-pair i [] e = refl
 none-pair i (a ∷ l) e = go (any (clash a) l) refl (λ f. none-pair (suc i) l f) e
   where
     go : (x : Bool) → any (clash a) l ≡ x → (pairOf (suc i) l .number ≡ 0 → pairwise peace l ≡ true)
-        → cond x (answer (numberOf refusal.Overlap) i (suc i + firstOf (clash a) l)) (pairOf (suc i) l) .number ≡ 0 → pairwise peace (a ∷ l) ≡ true
+        → cond x (answer (numberOf refusal.Overlap) i (suc i + firstOf (clash a) l)) (pairOf (suc i) l) .number ≡ 0
+        → pairwise peace (a ∷ l) ≡ true
     go true k ih f = absurd (refused-number refusal.Overlap f)
     go false k ih f = and-true (none (clash a) l k) (ih f)
 
@@ -151,7 +172,8 @@ module _ (count : ℕ) (repeaters : List Assignment) where
   fits-accepted : Fits count repeaters → siteOf count repeaters ≡ answer 0 0 0
   unfolding siteOf
   fits-accepted f =
-      rw (le-ltb maxRepeaters count (f .in-range .few), f .in-range .known, f .lawful) (pair-none 0 site (apart-peace site (f .apart)))
+      rw (le-ltb maxRepeaters count (f .in-range .few), f .in-range .known, f .lawful)
+      (pair-none 0 site (apart-peace site (f .apart)))
 
   -- a choice whose number is 0 is not the refusal
   past : (x : Bool) (a b : Answer) → (a .number ≡ 0 → ⊥) → cond x a b .number ≡ 0 → (x ≡ false) × (b .number ≡ 0)

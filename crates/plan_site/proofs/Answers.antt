@@ -20,7 +20,8 @@ module _ (count : ℕ) (repeaters : List Assignment) where
   too-many h = simp (lt-ltb maxRepeaters count h)
 
   module _ (few : count ≤ maxRepeaters) where
-    pub out-of-range : all isInRange (take count repeaters) ≡ false → answer (numberOf refusal.Argument) 0 0 ≡ siteOf count repeaters
+    pub out-of-range : all isInRange (take count repeaters) ≡ false
+        → answer (numberOf refusal.Argument) 0 0 ≡ siteOf count repeaters
     unfolding siteOf
     out-of-range e = simp (e, or-true)
 
@@ -34,7 +35,8 @@ module _ (count : ℕ) (repeaters : List Assignment) where
       unlawful h =
           let some : not (all hasLawfulPlan (take count repeaters)) ≡ true
           = not-all hasLawfulPlan (take count repeaters) ∙ any-first (λ b. not (hasLawfulPlan b)) (take count repeaters)
-          ∙ lt-ltb (firstOf (λ b. not (hasLawfulPlan b)) (take count repeaters)) (length (take count repeaters)) (omega (arith, known-length)) in
+          ∙ lt-ltb (firstOf (λ b. not (hasLawfulPlan b)) (take count repeaters))
+          (length (take count repeaters)) (omega (arith, known-length)) in
           simp (le-ltb maxRepeaters count few, known, not-true (all hasLawfulPlan (take count repeaters)) some, e)
 
       pub lawful-pairs : count ≤ i → pairOf 0 (take count repeaters) ≡ siteOf count repeaters
@@ -42,5 +44,6 @@ module _ (count : ℕ) (repeaters : List Assignment) where
       lawful-pairs h =
           let no : not (all hasLawfulPlan (take count repeaters)) ≡ false
           = not-all hasLawfulPlan (take count repeaters) ∙ any-first (λ b. not (hasLawfulPlan b)) (take count repeaters)
-          ∙ le-ltb (firstOf (λ b. not (hasLawfulPlan b)) (take count repeaters)) (length (take count repeaters)) (omega (arith, known-length)) in
+          ∙ le-ltb (firstOf (λ b. not (hasLawfulPlan b)) (take count repeaters))
+          (length (take count repeaters)) (omega (arith, known-length)) in
           simp (le-ltb maxRepeaters count few, known, not-false (all hasLawfulPlan (take count repeaters)) no)

@@ -34,7 +34,8 @@ module _ (p : Assignment → Bool) (count : ℕ) (repeaters : List Assignment) (
   outside : count ≤ length repeaters → count ≤ i → length (take count repeaters) ≤ i
   outside r h = rw (length-take-le count repeaters r) h
 
-  same-one : (x : Bool) → i < count → p (getD repeaters i noAssignment) ≡ x → p (getD (take count repeaters) i noAssignment) ≡ x
+  same-one : (x : Bool) → i < count → p (getD repeaters i noAssignment) ≡ x
+      → p (getD (take count repeaters) i noAssignment) ≡ x
   same-one x h e = ap p (getD-take count repeaters i noAssignment h) ∙ e
 
   module _ (t : Tested p count repeaters i) where
@@ -46,7 +47,8 @@ module _ (p : Assignment → Bool) (count : ℕ) (repeaters : List Assignment) (
     }
 
     pub tested-stop : i < count → p (getD repeaters i noAssignment) ≡ false → false ≡ all p (take count repeaters)
-    tested-stop h e = sym (t .whole ∙ all-stop p (take count repeaters) i noAssignment (inside (t .enough) h) (same-one false h e))
+    tested-stop h e =
+        sym (t .whole ∙ all-stop p (take count repeaters) i noAssignment (inside (t .enough) h) (same-one false h e))
 
     pub tested-end : count ≤ i → true ≡ all p (take count repeaters)
     tested-end h = sym (t .whole ∙ all-end p (take count repeaters) i noAssignment (outside (t .enough) h))
@@ -59,8 +61,10 @@ module _ (p : Assignment → Bool) (count : ℕ) (repeaters : List Assignment) (
       whole = t .whole ∙ first-next p (take count repeaters) i noAssignment (inside (t .enough) h) (same-one false h e);
     }
 
-    pub sought-stop : i < count → p (getD repeaters i noAssignment) ≡ true → i ≡ a + firstOf p (drop a (take count repeaters))
-    sought-stop h e = sym (t .whole ∙ first-stop p (take count repeaters) i noAssignment (inside (t .enough) h) (same-one true h e))
+    pub sought-stop : i < count → p (getD repeaters i noAssignment) ≡ true
+        → i ≡ a + firstOf p (drop a (take count repeaters))
+    sought-stop h e =
+        sym (t .whole ∙ first-stop p (take count repeaters) i noAssignment (inside (t .enough) h) (same-one true h e))
 
     pub sought-end : count ≤ i → count ≡ a + firstOf p (drop a (take count repeaters))
     sought-end h =
@@ -78,7 +82,9 @@ module _ (count : ℕ) (repeaters : List Assignment) (i : ℕ) (t : Paired count
   rest = drop (i + 1) (take count repeaters)
 
   rest-length : length rest ≡ count - (i + 1)
-  rest-length = length-drop (i + 1) (take count repeaters) ∙ ap (λ (n : ℕ). n - (i + 1)) (length-take-le count repeaters (t .enough))
+  rest-length =
+      length-drop (i + 1) (take count repeaters)
+      ∙ ap (λ (n : ℕ). n - (i + 1)) (length-take-le count repeaters (t .enough))
 
   module _ (h : i < count) (j : ℕ) (e : j ≡ i + 1 + firstOf (clash (getD repeaters i noAssignment)) rest) where
     abbrev one : Assignment
@@ -86,7 +92,8 @@ module _ (count : ℕ) (repeaters : List Assignment) (i : ℕ) (t : Paired count
 
     turn : pairOf i (drop i (take count repeaters)) ≡ pairOf i (one ∷ rest)
     turn =
-        ap (pairOf i) (drop-cons (take count repeaters) i noAssignment (rw (length-take-le count repeaters (t .enough)) h)
+        ap (pairOf i)
+        (drop-cons (take count repeaters) i noAssignment (rw (length-take-le count repeaters (t .enough)) h)
         ∙ ap (λ (l : List Assignment). getD (take count repeaters) i noAssignment ∷ l)
         (ap (λ (n : ℕ). drop n (take count repeaters)) (sym (add-one i)))
         ∙ ap (λ (b : Assignment). b ∷ rest) (getD-take count repeaters i noAssignment h))

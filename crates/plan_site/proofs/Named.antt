@@ -28,7 +28,8 @@ record Pair (l : List Assignment) (i j : ℕ) : Type 0 where
   order : i < j
   inside : j < length l
   clashes : clash (getD l i noAssignment) (getD l j noAssignment) ≡ true
-  no-smaller-first : (k m : ℕ) → k < i → k < m → m < length l → clash (getD l k noAssignment) (getD l m noAssignment) ≡ false
+  no-smaller-first : (k m : ℕ) → k < i → k < m → m < length l
+      → clash (getD l k noAssignment) (getD l m noAssignment) ≡ false
   no-smaller-second : (m : ℕ) → i < m → m < j → clash (getD l i noAssignment) (getD l m noAssignment) ≡ false
 
 -- a pair from repeater s on, by indices into the whole and into the list
@@ -39,7 +40,8 @@ record PairFrom (s : ℕ) (l : List Assignment) (i j : ℕ) : Type 0 where
   second-from : j ≡ s + to
   pair : Pair l from to
 
-overlap-at : {i j k l : ℕ} → answer (numberOf refusal.Overlap) i j ≡ answer (numberOf refusal.Overlap) k l → (k ≡ i) × (l ≡ j)
+overlap-at : {i j k l : ℕ}
+    → answer (numberOf refusal.Overlap) i j ≡ answer (numberOf refusal.Overlap) k l → (k ≡ i) × (l ≡ j)
 overlap-at e = (sym (ap (λ (a : Answer). a .repeater) e), sym (ap (λ (a : Answer). a .other) e))
 
 other-number : {n m : ℕ} {i j k l : ℕ} → (n ≡ m → ⊥) → answer n i j ≡ answer m k l → ⊥
@@ -62,7 +64,8 @@ module _ (a : Assignment) (l : List Assignment) where
 
   free : any (clash a) l ≡ false → (m : ℕ) → 0 < m → m < suc (length l) → clash a (getD (a ∷ l) m noAssignment) ≡ false
   free e zero h k = absurd (not-suc-le-zero h)
-  free e (suc m) h k = not-true _ (all-getD (λ b. not (clash a b)) l m noAssignment (none (clash a) l e) (le-of-suc-le-suc k))
+  free e (suc m) h k =
+      not-true _ (all-getD (λ b. not (clash a b)) l m noAssignment (none (clash a) l e) (le-of-suc-le-suc k))
 
   -- it clashes with none, and the pair stands behind it
   pair-behind : any (clash a) l ≡ false → (i j : ℕ) → Pair l i j → Pair (a ∷ l) (suc i) (suc j)
@@ -74,22 +77,26 @@ module _ (a : Assignment) (l : List Assignment) where
     no-smaller-second = second;
   }
     where
-      first : (k m : ℕ) → k < suc i → k < m → m < suc (length l) → clash (getD (a ∷ l) k noAssignment) (getD (a ∷ l) m noAssignment) ≡ false
+      first : (k m : ℕ) → k < suc i → k < m → m < suc (length l)
+          → clash (getD (a ∷ l) k noAssignment) (getD (a ∷ l) m noAssignment) ≡ false
       first zero m h n o = free e m n o
       first (suc k) zero h n o = absurd (not-suc-le-zero n)
-      first (suc k) (suc m) h n o = p .no-smaller-first k m (le-of-suc-le-suc h) (le-of-suc-le-suc n) (le-of-suc-le-suc o)
+      first (suc k) (suc m) h n o =
+          p .no-smaller-first k m (le-of-suc-le-suc h) (le-of-suc-le-suc n) (le-of-suc-le-suc o)
 
       second : (m : ℕ) → suc i < m → m < suc j → clash (getD l i noAssignment) (getD (a ∷ l) m noAssignment) ≡ false
       second zero h k = absurd (not-suc-le-zero h)
       second (suc m) h k = p .no-smaller-second m (le-of-suc-le-suc h) (le-of-suc-le-suc k)
 
 -- what `pairOf` names is the first pair
-pair-named : (s : ℕ) (l : List Assignment) (i j : ℕ) → pairOf s l ≡ answer (numberOf refusal.Overlap) i j → PairFrom s l i j
+pair-named : (s : ℕ) (l : List Assignment) (i j : ℕ)
+    → pairOf s l ≡ answer (numberOf refusal.Overlap) i j → PairFrom s l i j
 pair-named s [] i j e = absurd (other-number (λ h. omega arith) e)
 pair-named s (a ∷ l) i j e = go (any (clash a) l) refl e (pair-named (suc s) l i j)
   where
     go : (x : Bool) → any (clash a) l ≡ x
-        → cond x (answer (numberOf refusal.Overlap) s (suc s + firstOf (clash a) l)) (pairOf (suc s) l) ≡ answer (numberOf refusal.Overlap) i j
+        → cond x (answer (numberOf refusal.Overlap) s (suc s + firstOf (clash a) l)) (pairOf (suc s) l)
+        ≡ answer (numberOf refusal.Overlap) i j
         → (pairOf (suc s) l ≡ answer (numberOf refusal.Overlap) i j → PairFrom (suc s) l i j) → PairFrom s (a ∷ l) i j
     go true k f ih =
         let w = overlap-at f in
@@ -111,7 +118,8 @@ pair-named s (a ∷ l) i j e = go (any (clash a) l) refl e (pair-named (suc s) l
         }
 
 -- the first pair is what `pairOf` names
-named-pair : (s : ℕ) (l : List Assignment) (i j : ℕ) → Pair l i j → pairOf s l ≡ answer (numberOf refusal.Overlap) (s + i) (s + j)
+named-pair : (s : ℕ) (l : List Assignment) (i j : ℕ) → Pair l i j
+    → pairOf s l ≡ answer (numberOf refusal.Overlap) (s + i) (s + j)
 named-pair s [] i j p = absurd (not-suc-le-zero (p .inside))
 named-pair s (a ∷ l) i zero p = absurd (not-suc-le-zero (p .order))
 named-pair s (a ∷ l) zero (suc j) p =
@@ -122,7 +130,8 @@ named-pair s (a ∷ l) zero (suc j) p =
     rw (some, f) (ap₂ (answer (numberOf refusal.Overlap)) (omega arith) (omega arith))
 named-pair s (a ∷ l) (suc i) (suc j) p =
     let no : any (clash a) l ≡ false
-    = none-at (clash a) noAssignment l (λ k h. p .no-smaller-first 0 (suc k) (suc-le-suc zero-le) (suc-le-suc zero-le) (suc-le-suc h)) in
+    = none-at (clash a) noAssignment l
+    (λ k h. p .no-smaller-first 0 (suc k) (suc-le-suc zero-le) (suc-le-suc zero-le) (suc-le-suc h)) in
     let behind : Pair l i j = record {
       order = le-of-suc-le-suc (p .order);
       inside = le-of-suc-le-suc (p .inside);
@@ -138,7 +147,8 @@ pair-overlap s [] i j e = other-number (λ h. omega arith) e
 pair-overlap s (a ∷ l) i j e = go (any (clash a) l) e (pair-overlap (suc s) l i j)
   where
     go : (x : Bool)
-        → cond x (answer (numberOf refusal.Overlap) s (suc s + firstOf (clash a) l)) (pairOf (suc s) l) ≡ answer (numberOf refusal.Unlawful) i j
+        → cond x (answer (numberOf refusal.Overlap) s (suc s + firstOf (clash a) l)) (pairOf (suc s) l)
+        ≡ answer (numberOf refusal.Unlawful) i j
         → (pairOf (suc s) l ≡ answer (numberOf refusal.Unlawful) i j → ⊥) → ⊥
     go true f ih = other-number (λ h. omega arith) f
     go false f ih = ih f
@@ -164,7 +174,8 @@ module _ (count : ℕ) (repeaters : List Assignment) where
   in-ranges : InRange count repeaters → out-of-range ≡ false
   in-ranges r = rw (le-ltb maxRepeaters count (r .few), r .known)
 
-  is-unlawful : (i : ℕ) → siteOf count repeaters ≡ answer (numberOf refusal.Unlawful) i 0 → FirstUnlawful count repeaters i
+  is-unlawful : (i : ℕ) → siteOf count repeaters ≡ answer (numberOf refusal.Unlawful) i 0
+      → FirstUnlawful count repeaters i
   unfolding siteOf
   is-unlawful i e =
       let u = cond-no out-of-range (other-number (λ h. omega arith)) e in
@@ -175,19 +186,25 @@ module _ (count : ℕ) (repeaters : List Assignment) where
         in-range = ranged (u .0);
         inside = rw first at (ltb-true (firstOf unlawful site) (length site) (sym (any-first unlawful site) ∙ some));
         unlawful =
-            rw first at (not-true (hasLawfulPlan (getD site (firstOf unlawful site) noAssignment)) (first-passes unlawful noAssignment site some));
+            rw first at
+            (not-true (hasLawfulPlan (getD site (firstOf unlawful site) noAssignment))
+            (first-passes unlawful noAssignment site some));
         before = λ k h. not-false _ (first-before unlawful noAssignment site k (rw first h));
       }
 
-  first-unlawful : (i : ℕ) → FirstUnlawful count repeaters i → siteOf count repeaters ≡ answer (numberOf refusal.Unlawful) i 0
+  first-unlawful : (i : ℕ) → FirstUnlawful count repeaters i
+      → siteOf count repeaters ≡ answer (numberOf refusal.Unlawful) i 0
   unfolding siteOf
   first-unlawful i f =
-      let first = first-is unlawful noAssignment site i (f .inside) (ap not (f .unlawful)) (λ k h. ap not (f .before k h)) in
+      let first =
+      first-is unlawful noAssignment site i (f .inside) (ap not (f .unlawful)) (λ k h. ap not (f .before k h)) in
       let some : not (all hasLawfulPlan site) ≡ true
-      = not-all hasLawfulPlan site ∙ any-first unlawful site ∙ lt-ltb (firstOf unlawful site) (length site) (rw first (f .inside)) in
+      = not-all hasLawfulPlan site ∙ any-first unlawful site
+      ∙ lt-ltb (firstOf unlawful site) (length site) (rw first (f .inside)) in
       rw (in-ranges (f .in-range), some, first)
 
-  is-overlap : (i j : ℕ) → siteOf count repeaters ≡ answer (numberOf refusal.Overlap) i j → FirstOverlap count repeaters i j
+  is-overlap : (i j : ℕ) → siteOf count repeaters ≡ answer (numberOf refusal.Overlap) i j
+      → FirstOverlap count repeaters i j
   unfolding siteOf
   is-overlap i j e =
       let u = cond-no out-of-range (other-number (λ h. omega arith)) e in
@@ -206,7 +223,8 @@ module _ (count : ℕ) (repeaters : List Assignment) where
         no-smaller-second = pair .no-smaller-second;
       }
 
-  first-overlap : (i j : ℕ) → FirstOverlap count repeaters i j → siteOf count repeaters ≡ answer (numberOf refusal.Overlap) i j
+  first-overlap : (i j : ℕ) → FirstOverlap count repeaters i j
+      → siteOf count repeaters ≡ answer (numberOf refusal.Overlap) i j
   unfolding siteOf
   first-overlap i j f =
       let pair : Pair site i j = record {
@@ -216,10 +234,12 @@ module _ (count : ℕ) (repeaters : List Assignment) where
         no-smaller-first = f .no-smaller-first;
         no-smaller-second = f .no-smaller-second;
       } in
-      rw (in-ranges (f .in-range), f .lawful) (named-pair 0 site i j pair ∙ ap₂ (answer (numberOf refusal.Overlap)) (omega arith) (omega arith))
+      rw (in-ranges (f .in-range), f .lawful)
+      (named-pair 0 site i j pair ∙ ap₂ (answer (numberOf refusal.Overlap)) (omega arith) (omega arith))
 
   pub names-the-first : NamesTheFirst count repeaters
-  names-the-first = record { unlawful = first-unlawful; is-unlawful = is-unlawful; overlap = first-overlap; is-overlap = is-overlap }
+  names-the-first =
+      record { unlawful = first-unlawful; is-unlawful = is-unlawful; overlap = first-overlap; is-overlap = is-overlap }
 
 -- ---- a repeater that is named has a small index
 
@@ -241,7 +261,8 @@ site-small count repeaters =
     branch Small (ltb maxRepeaters count || not (all isInRange l))
     (λ e. record { repeater = zero-le; other = zero-le })
     (λ e.
-    let few : count ≤ 32 = ltb-false maxRepeaters count (neither (ltb maxRepeaters count) (not (all isInRange l)) e .0) in
+    let few : count ≤ 32 =
+    ltb-false maxRepeaters count (neither (ltb maxRepeaters count) (not (all isInRange l)) e .0) in
     let short : length l ≤ 32 = omega (arith, length-take count repeaters) in
     branch Small (not (all hasLawfulPlan l))
     (λ f. record { repeater = omega (arith, first-least (λ a. not (hasLawfulPlan a)) l); other = zero-le })
@@ -252,6 +273,7 @@ site-small count repeaters =
 pub drawn-accepted : DrawnAccepted
 unfolding siteOf
 drawn-accepted rule level n d draw p rest e =
-    let u = both (isDuration d) (isKnown rule level && isOffered rule level n) (picked-allowed rule level n d draw p e) in
+    let u =
+    both (isDuration d) (isKnown rule level && isOffered rule level n) (picked-allowed rule level n d draw p e) in
     let v = both (isKnown rule level) (isOffered rule level n) (u .1) in
     rw (and-true (v .0) (u .0), plan-by-lawful rule level n d draw p e)

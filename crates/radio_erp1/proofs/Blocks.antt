@@ -22,13 +22,16 @@ use Rattle.radio_erp1.specs.Private.{Agrees}
 pub agrees-none : (a b : List ℕ) (from : ℕ) → Agrees a b from 0 true
 agrees-none a b from = record { same = λ t k h. absurd (omega arith); all = λ h. refl }
 
-pub agrees-next : {a b : List ℕ} {from k : ℕ} {r : Bool} → Agrees a b from k r → Agrees a b from (k + 1) (r && eqb (getD a (from + k) 0) (getD b (from + k) 0))
+pub agrees-next : {a b : List ℕ} {from k : ℕ} {r : Bool} → Agrees a b from k r
+    → Agrees a b from (k + 1) (r && eqb (getD a (from + k) 0) (getD b (from + k) 0))
 agrees-next {a} {b} {from} {k} {r} w =
     record {
       same = λ t.
           let u = both r (eqb (getD a (from + k) 0) (getD b (from + k) 0)) t in
           below-more _ k (w .same (u .0)) (eqb-true (getD a (from + k) 0) (getD b (from + k) 0) (u .1));
-      all = λ h. and-true (w .all (λ j i. h j (omega arith))) (eq-eqb (getD a (from + k) 0) (getD b (from + k) 0) (h k (omega arith)));
+      all =
+          λ h. and-true (w .all (λ j i. h j (omega arith)))
+          (eq-eqb (getD a (from + k) 0) (getD b (from + k) 0) (h k (omega arith)));
     }
 
 -- ---- two blocks, the last bytes and the first
@@ -39,12 +42,15 @@ module _ (a b : List ℕ) (n w : ℕ) (la : n ≤ length a) (lb : n ≤ length b
 
   pub differ : {from : ℕ} → from + w ≤ n → Agrees a b from w false → false ≡ equal (take n a) (take n b)
   differ {from} f d =
-      sym (equal-said false (take n a) (take n b) ((λ t. absurd (false≢true t)), (λ e. d .all (λ k h. at e (from + k) (omega arith)))))
+      sym (equal-said false (take n a) (take n b)
+      ((λ t. absurd (false≢true t)), (λ e. d .all (λ k h. at e (from + k) (omega arith)))))
 
-  pub agreed : {r : Bool} → w ≤ n → n ≤ w + w → Agrees a b (n - w) w true → Agrees a b 0 w r → r ≡ equal (take n a) (take n b)
+  pub agreed : {r : Bool} → w ≤ n → n ≤ w + w → Agrees a b (n - w) w true
+      → Agrees a b 0 w r → r ≡ equal (take n a) (take n b)
   agreed {r} few many back front =
       sym (equal-said r (take n a) (take n b) (
-        (λ t. ext-getD 0 (take n a) (take n b) (length-take-le n a la ∙ sym (length-take-le n b lb)) (λ k h. each t k (size k h))),
+        (λ t. ext-getD 0 (take n a) (take n b)
+            (length-take-le n a la ∙ sym (length-take-le n b lb)) (λ k h. each t k (size k h))),
         (λ e. front .all (λ k h. at e (0 + k) (omega arith))),
       ))
     where

@@ -85,11 +85,13 @@ module _ (s : List ℕ) where
 
         pub check-nested : minAddressedLength ≤ length s → getD s 1 0 ≡ addressed → numberOf Nested ≡ checkOf s
         unfolding checkOf
-        check-nested l h = simp (le-ltb _ _ low, le-ltb _ _ high, eq-eqb _ _ hashed, eq-eqb _ _ first, le-ltb _ _ l, eq-eqb _ _ h)
+        check-nested l h =
+            simp (le-ltb _ _ low, le-ltb _ _ high, eq-eqb _ _ hashed, eq-eqb _ _ first, le-ltb _ _ l, eq-eqb _ _ h)
 
         pub check-addressed : minAddressedLength ≤ length s → (getD s 1 0 ≡ addressed → ⊥) → 0 ≡ checkOf s
         unfolding checkOf
-        check-addressed l h = simp (le-ltb _ _ low, le-ltb _ _ high, eq-eqb _ _ hashed, eq-eqb _ _ first, le-ltb _ _ l, ne-eqb _ _ h)
+        check-addressed l h =
+            simp (le-ltb _ _ low, le-ltb _ _ high, eq-eqb _ _ hashed, eq-eqb _ _ first, le-ltb _ _ l, ne-eqb _ _ h)
 
 pub check-facts : (s : List ℕ) → checkOf s ≡ 0 → Sound s
 unfolding checkOf

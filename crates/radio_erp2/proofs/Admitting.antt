@@ -48,7 +48,8 @@ module _ (t : Telegram) where
   admits-against e = simp (e, or-true)
 
   module _ (u : isUnholdable t ≡ false) (a : isAgainstHeader t ≡ false) where
-    pub admits-reserved : (not (isShortForm t) && isReserved (t .header)) ≡ true → numberOf ReservedAddress ≡ admissionOf t
+    pub admits-reserved : (not (isShortForm t) && isReserved (t .header)) ≡ true
+        → numberOf ReservedAddress ≡ admissionOf t
     unfolding admissionOf
     admits-reserved e = simp (u, a, e)
 
@@ -75,7 +76,8 @@ module _ (t : Telegram) where
   by-form-short : isUnholdable t ≡ false → (x : Bool) → isShortForm t ≡ x → t .short ≤ 6
   unfolding isUnholdable
   by-form-short u true f =
-      ltb-false 6 (t .short) (neither (leb (256 ^ shortSizes (t .short) .originator) (t .originator)) (ltb 6 (t .short)) (rw f at u) .1)
+      ltb-false 6 (t .short)
+      (neither (leb (256 ^ shortSizes (t .short) .originator) (t .originator)) (ltb 6 (t .short)) (rw f at u) .1)
   by-form-short u false f = omega (arith, eqb-true (t .short) 0 (not-false (eqb (t .short) 0) f))
 
   pub short-most : isUnholdable t ≡ false → t .short ≤ 6
@@ -87,7 +89,8 @@ module _ (t : Telegram) where
   unfolding isMisfitting telegramSize
   by-form-long-data s h true f =
       let n : eqb (overhead (shortSizes (t .short)) + t .len) (t .short) ≡ false
-      = ne-eqb (overhead (shortSizes (t .short)) + t .len) (t .short) (λ (e : overhead (shortSizes (t .short)) + t .len ≡ t .short). omega arith) in
+      = ne-eqb (overhead (shortSizes (t .short)) + t .len) (t .short)
+      (λ (e : overhead (shortSizes (t .short)) + t .len ≡ t .short). omega arith) in
       rw (f, n)
   by-form-long-data s h false f =
       let o = originator-low (t .header .control) in

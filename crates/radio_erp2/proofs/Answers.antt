@@ -11,10 +11,12 @@ use Rattle.radio_erp2_model.specs.declared.Telegram.{Telegram}
 use Rattle.radio_erp2_model.specs.Reading.{checkOf, fieldsOf, noTelegram, shownErp2Reading, readOf}
 
 module _ (s : List ℕ) (t : Telegram) where
-  pub read-valid : checkOf s ≡ 0 → t ≡ fieldsOf s → shownErp2Reading (record { checked = Valid; telegram = t }) ≡ readOf s
+  pub read-valid : checkOf s ≡ 0 → t ≡ fieldsOf s
+      → shownErp2Reading (record { checked = Valid; telegram = t }) ≡ readOf s
   unfolding readOf
   read-valid e f = rw (e, f)
 
-  pub read-refused : (why : Refusal) → numberOf why ≡ checkOf s → t ≡ noTelegram → shownErp2Reading (record { checked = Refused why; telegram = t }) ≡ readOf s
+  pub read-refused : (why : Refusal) → numberOf why ≡ checkOf s → t ≡ noTelegram
+      → shownErp2Reading (record { checked = Refused why; telegram = t }) ≡ readOf s
   unfolding readOf
   read-refused why e f = rw (ne-eqb (checkOf s) 0 (λ z. refused-number why (e ∙ z)), e, f)

@@ -33,14 +33,17 @@ chain false true c n out rest z e = ap (λ (m : ℕ). refused m out) e
 chain false false true n out rest z e = ap (λ (m : ℕ). refused m out) e
 chain false false false n out rest z e = absurd (z e)
 
-pub build-refused : (t : Telegram) (out : List ℕ) (why : Refusal) → numberOf why ≡ admissionOf t → refused (numberOf why) out ≡ buildOf t out
+pub build-refused : (t : Telegram) (out : List ℕ) (why : Refusal)
+    → numberOf why ≡ admissionOf t → refused (numberOf why) out ≡ buildOf t out
 unfolding admissionOf buildOf
 build-refused t out why e =
-    chain (isUnholdable t || isAgainstHeader t) (not (isShortForm t) && isReserved (t .header)) (isMisfitting t) (numberOf why) out _
+    chain (isUnholdable t || isAgainstHeader t)
+    (not (isShortForm t) && isReserved (t .header)) (isMisfitting t) (numberOf why) out _
     (refused-number why) e
 
 module _ (t : Telegram) (v : Buildable t) (out : List ℕ) where
-  admitted-build : buildOf t out ≡ cond (ltb (length out) (1 + telegramSize t)) (refused (numberOf ShortOutput) out) (written (erp2Bytes t) out)
+  admitted-build : buildOf t out
+      ≡ cond (ltb (length out) (1 + telegramSize t)) (refused (numberOf ShortOutput) out) (written (erp2Bytes t) out)
   unfolding buildOf
   admitted-build = rw (v .holds, v .agrees, v .allowed, v .fits)
 
@@ -64,11 +67,13 @@ module _ (t : Telegram) (v : Buildable t) (out : List ℕ) where
     unfolding rowWritten erp2Bytes bodyOf telegramSize
     row-built =
         let n : 1 + overhead (sizesFor t) + t .len ≡ length (erp2Bytes t) = omega (arith, built-length t lengths) in
-        ap (λ (x : List ℕ). ((overhead (sizesFor t) + t .len) ∷ (rowBytes t (sizesFor t) ++ x)) ++ drop (1 + overhead (sizesFor t) + t .len) out)
+        ap (λ (x : List ℕ). ((overhead (sizesFor t) + t .len) ∷ (rowBytes t (sizesFor t) ++ x))
+        ++ drop (1 + overhead (sizesFor t) + t .len) out)
         (by-form-seal (isShortForm t) refl)
         ∙ ap (λ (m : ℕ). ((overhead (sizesFor t) + t .len) ∷ (rowBytes t (sizesFor t) ++ sealOf t)) ++ drop m out) n
 
-    pub build-done : 1 + telegramSize t ≤ length out → (n : ℕ) → n ≡ 1 + telegramSize t → (last : List ℕ) → last ≡ rowWritten t (sizesFor t) out
+    pub build-done : 1 + telegramSize t ≤ length out → (n : ℕ) → n ≡ 1 + telegramSize t
+        → (last : List ℕ) → last ≡ rowWritten t (sizesFor t) out
         → record { number = 0; len = n; output = last } ≡ buildOf t out
     build-done h n e last f =
         let l = built-length t lengths in
@@ -95,7 +100,8 @@ module _ (t : Telegram) (v : Buildable t) (n : ℕ) (room : 1 + telegramSize t �
       let m : overhead (sizesFor t) + t .len ≤ 255 = w .high in
       let k : overhead (longSizes (t .header) (t .extension .announced)) + t .len ≤ 255 = rw f at m in
       let o = originator-low (t .header .control) in
-      let p : cond (t .header .extended) (t .extension .announced) 0 ≤ 15 = rw (w .extension) at (optional-high t w (t .extension .present) refl) in
+      let p : cond (t .header .extended) (t .extension .announced) 0 ≤ 15 =
+      rw (w .extension) at (optional-high t w (t .extension .present) refl) in
       record {
         size = m;
         room = omega arith;

@@ -21,7 +21,8 @@ use Rattle.radio_erp2.specs.Private.{headBytes, idBytes, dataBytes, rowW
 seven : (A B C D E F G : List ℕ) → (A ++ B ++ C) ++ (D ++ E) ++ (F ++ G) ≡ A ++ B ++ C ++ D ++ E ++ F ++ G
 seven A B C D E F G = simp append-assoc
 
-joined : (s : ℕ) (A B C D E F G : List ℕ) → ((s ∷ []) ++ A ++ B ++ C) ++ (D ++ E) ++ (F ++ G) ≡ s ∷ (A ++ B ++ C ++ D ++ E ++ F ++ G)
+joined : (s : ℕ) (A B C D E F G : List ℕ)
+    → ((s ∷ []) ++ A ++ B ++ C) ++ (D ++ E) ++ (F ++ G) ≡ s ∷ (A ++ B ++ C ++ D ++ E ++ F ++ G)
 joined s A B C D E F G = ap (λ (l : List ℕ). s ∷ l) (seven A B C D E F G)
 
 width : (a w : ℕ) → a + w - a ≡ w
@@ -41,11 +42,20 @@ module _ (t : Telegram) (z : Sizes) where
       ≡ headBytes t z size
   unfolding headBytes
   head-is size h e v p q r =
-      rw (p, q, r, width 1 (z .header), width (1 + z .header) (z .extension), width (1 + z .header + z .extension) (z .subtype))
+      rw (
+        p,
+        q,
+        r,
+        width 1 (z .header),
+        width (1 + z .header) (z .extension),
+        width (1 + z .header + z .extension) (z .subtype),
+      )
 
   -- data of its own length, and optional data
-  module _ (payload : length (t .payload) ≡ 250) (optional : length (t .optional) ≡ 15) (n : t .len ≤ 250) (p : z .optional ≤ 15) where
-    pub data-is : [] ++ resized (t .len - 0) (part 0 (t .len - 0) (t .payload)) ++ resized (t .len + z .optional - t .len)
+  module _ (payload : length (t .payload) ≡ 250) (optional : length (t .optional) ≡ 15)
+      (n : t .len ≤ 250) (p : z .optional ≤ 15) where
+    pub data-is : [] ++ resized (t .len - 0) (part 0 (t .len - 0) (t .payload))
+        ++ resized (t .len + z .optional - t .len)
         (part 0 (t .len + z .optional - t .len - 0) (t .optional)) ≡ dataBytes t z
     unfolding dataBytes
     data-is =
@@ -56,21 +66,26 @@ module _ (t : Telegram) (z : Sizes) where
           a,
           width (t .len) (z .optional),
           resized-whole (t .len) (take (t .len) (t .payload)) (length-take-le (t .len) (t .payload) (omega arith)),
-          resized-whole (z .optional) (take (z .optional) (t .optional)) (length-take-le (z .optional) (t .optional) (omega arith)),
+          resized-whole (z .optional) (take (z .optional) (t .optional))
+              (length-take-le (z .optional) (t .optional) (omega arith)),
         )
 
   -- the three parts are the length byte and the row
   pub row-is : (size : ℕ) → headBytes t z size ++ idBytes t z ++ dataBytes t z ≡ size ∷ rowBytes t z
   unfolding headBytes idBytes dataBytes
   row-is size =
-      joined size (be (z .header) (headerByte (t .header))) (be (z .extension) (extensionByte (t .extension))) (be (z .subtype) (t .subtype .value))
-      (be (z .originator) (t .originator)) (be (z .destination) (t .destination .id)) (take (t .len) (t .payload)) (take (z .optional) (t .optional))
+      joined size (be (z .header) (headerByte (t .header)))
+      (be (z .extension) (extensionByte (t .extension))) (be (z .subtype) (t .subtype .value))
+      (be (z .originator) (t .originator)) (be (z .destination) (t .destination .id))
+      (take (t .len) (t .payload)) (take (z .optional) (t .optional))
 
   -- ---- what the output then holds
 
-  module _ (orig xs front : List ℕ) (size end : ℕ) (e : size ≡ overhead z + t .len) (f : front ≡ size ∷ rowBytes t z) (b : Begun orig front end xs) where
+  module _ (orig xs front : List ℕ) (size end : ℕ) (e : size ≡ overhead z + t .len)
+      (f : front ≡ size ∷ rowBytes t z) (b : Begun orig front end xs) where
     pub plain-is : z .crc ≤ 1 → (z .crc ≡ 1 → ⊥) → end
-        ≡ 1 + z .header + z .extension + z .subtype + z .originator + z .destination + t .len + z .optional → xs ≡ rowWritten t z orig
+        ≡ 1 + z .header + z .extension + z .subtype + z .originator + z .destination + t .len + z .optional
+        → xs ≡ rowWritten t z orig
     unfolding rowWritten
     plain-is h n k =
         let c : z .crc ≡ 0 = omega arith in

@@ -147,8 +147,10 @@ module _ (t u : Telegram) (same : isSameTelegram t u ≡ true) where
   pub same-txid : t .txid ≡ u .txid
   same-txid = agreed .txid
 
-  heads : (f g : Bool) → t .addressed ≡ f → u .addressed ≡ g → cond f (g && equal (t .destid) (u .destid)) (not g) ≡ true → frontOf t ≡ frontOf u
-  heads true true p q e = rw (p, q, agreed .payload, agreed .txid, equal-lists {xs = t .destid} {ys = u .destid} e, agreed .rorg)
+  heads : (f g : Bool) → t .addressed ≡ f → u .addressed ≡ g
+      → cond f (g && equal (t .destid) (u .destid)) (not g) ≡ true → frontOf t ≡ frontOf u
+  heads true true p q e =
+      rw (p, q, agreed .payload, agreed .txid, equal-lists {xs = t .destid} {ys = u .destid} e, agreed .rorg)
   heads true false p q e = absurd (false≢true e)
   heads false true p q e = absurd (false≢true e)
   heads false false p q e = rw (p, q, agreed .payload, agreed .txid, agreed .rorg)
@@ -164,8 +166,10 @@ module _ (a b : List ℕ) (va : Sound a) (vb : Sound b) where
   agree e =
       let front = equal-lists e in
       let fronts = front-fields a va ∙ front ∙ sym (front-fields b vb) in
-      let long : length a ≡ length b = sym (front-length a va) ∙ ap (λ (l : List ℕ). length l + 2) fronts ∙ front-length b vb in
-      rw (eq-eqb (length a) (length b) long, e, by-upper a b va vb front) (and-true (eqb (upperOf (statusOf a)) (upperOf (statusOf b))))
+      let long : length a ≡ length b =
+      sym (front-length a va) ∙ ap (λ (l : List ℕ). length l + 2) fronts ∙ front-length b vb in
+      rw (eq-eqb (length a) (length b) long, e, by-upper a b va vb front)
+      (and-true (eqb (upperOf (statusOf a)) (upperOf (statusOf b))))
 
   differ : equal (beforeStatus a) (beforeStatus b) ≡ false → isSame a b ≡ isSameTelegram (fieldsOf a) (fieldsOf b)
   unfolding isSame

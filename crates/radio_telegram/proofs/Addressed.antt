@@ -29,10 +29,12 @@ module _ (s out : List ℕ) where
     decapsulate-refused = rw (not-valid s why e, e)
 
   -- an answer 0 says that s is valid, and whether it is addressed
-  checked : (r : Result) → cond (not (isValid s)) (refused (checkOf s) out) r .number ≡ 0 → (checkOf s ≡ 0) × (r .number ≡ 0)
+  checked : (r : Result) → cond (not (isValid s)) (refused (checkOf s) out) r .number ≡ 0
+      → (checkOf s ≡ 0) × (r .number ≡ 0)
   checked r e = go (isValid s) refl e
     where
-      go : (b : Bool) → isValid s ≡ b → cond (not b) (refused (checkOf s) out) r .number ≡ 0 → (checkOf s ≡ 0) × (r .number ≡ 0)
+      go : (b : Bool) → isValid s ≡ b → cond (not b) (refused (checkOf s) out) r .number ≡ 0
+          → (checkOf s ≡ 0) × (r .number ≡ 0)
       go true v z = (eqb-true _ _ v, z)
       go false v z = absurd (eqb-false (checkOf s) 0 v z)
 
@@ -44,7 +46,8 @@ module _ (s out : List ℕ) where
       let q = unrefused (isAddressed s) _ out (putOf (encapsulated s to) out) (refused-number Nested) (p .1) in
       (p .0, q .0, q .1)
 
-  pub decapsulate-facts : decapsulateOf s out .number ≡ 0 → (checkOf s ≡ 0) × (isAddressed s ≡ true) × (putOf (decapsulated s) out .number ≡ 0)
+  pub decapsulate-facts : decapsulateOf s out .number ≡ 0
+      → (checkOf s ≡ 0) × (isAddressed s ≡ true) × (putOf (decapsulated s) out .number ≡ 0)
   unfolding decapsulateOf
   decapsulate-facts e =
       let p = checked _ e in
@@ -52,7 +55,8 @@ module _ (s out : List ℕ) where
       (p .0, not-false _ (q .0), q .1)
 
   module _ (valid : checkOf s ≡ 0) where
-    pub encapsulate-nested : (to : List ℕ) → isAddressed s ≡ true → resultOf (Refused Nested) out ≡ encapsulateOf s to out
+    pub encapsulate-nested : (to : List ℕ) → isAddressed s ≡ true
+        → resultOf (Refused Nested) out ≡ encapsulateOf s to out
     unfolding encapsulateOf
     encapsulate-nested to a = rw (valid, a)
 
@@ -70,7 +74,8 @@ module _ (s out : List ℕ) where
 
     -- the fields u that were read are built with another address, as t
     module _ (t u : Telegram) (read : u ≡ fieldsOf s) where
-      pub encapsulate-built : (to : List ℕ) → t ≡ addressedTo u to → isAddressed s ≡ false → buildOf t out ≡ encapsulateOf s to out
+      pub encapsulate-built : (to : List ℕ) → t ≡ addressedTo u to
+          → isAddressed s ≡ false → buildOf t out ≡ encapsulateOf s to out
       unfolding buildOf isUnbuildable
       encapsulate-built to made a = rw (made, read, fields-fit s (check-facts s valid)) (encapsulate-put to a)
 

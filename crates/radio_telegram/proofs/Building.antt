@@ -76,7 +76,12 @@ module _ (t : Telegram) where
   buildable-fields e h =
       let first = neither (ltb (t .len) 1 || ltb maxData (t .len)) (eqb (t .rorg) addressed) e in
       let long = neither (ltb (t .len) 1) (ltb maxData (t .len)) (first .0) in
-      record { low = ltb-false _ _ (long .0); high = ltb-false _ _ (long .1); inner = eqb-false _ _ (first .1); fits = h }
+      record {
+        low = ltb-false _ _ (long .0);
+        high = ltb-false _ _ (long .1);
+        inner = eqb-false _ _ (first .1);
+        fits = h;
+      }
 
   pub buildable : admissionOf t ≡ 0 → Buildable t
   unfolding admissionOf
@@ -91,7 +96,8 @@ module _ (t : Telegram) (out : List ℕ) where
   unfolding admissionOf buildOf putOf
   build-refused why e = go (isUnbuildable t) (ltb maxLength (length (telegramBytes t))) refl refl
     where
-      go : (a b : Bool) → isUnbuildable t ≡ a → ltb maxLength (length (telegramBytes t)) ≡ b → resultOf (Refused why) out ≡ buildOf t out
+      go : (a b : Bool) → isUnbuildable t ≡ a → ltb maxLength (length (telegramBytes t)) ≡ b
+          → resultOf (Refused why) out ≡ buildOf t out
       go true b p q = let n : numberOf why ≡ numberOf Argument = rw p at e in rw (p, n)
       go false true p q = let n : numberOf why ≡ numberOf TooLong = rw (p, q) at e in rw (p, q, n)
       go false false p q = let n : numberOf why ≡ 0 = rw (p, q) at e in absurd (refused-number why n)

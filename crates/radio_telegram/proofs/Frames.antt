@@ -31,15 +31,30 @@ take-replicate n a = take-all n (replicate n a) (le-of-eq (length-replicate n a)
 
 module _ (m : ℕ) (xs : List ℕ) where
   pub padded-push : (b : ℕ) → length xs < m → set (padded m xs) (length xs) b ≡ padded m (xs ++ (b ∷ []))
-  padded-push b h = rw (replicate-cons (m - length xs) 0 (omega arith), set-append-seam) (simp (append-assoc, length-append, sub-add-eq))
+  padded-push b h =
+      rw (replicate-cons (m - length xs) 0 (omega arith), set-append-seam)
+      (simp (append-assoc, length-append, sub-add-eq))
 
   pub padded-append : (ys : List ℕ) → length xs + length ys ≤ m
-      → putMid (length xs) (m - length xs) (padded m xs) (take (length ys) ys ++ drop (length ys) (midOf (length xs) (m - length xs) (padded m xs)))
+      → putMid (length xs) (m - length xs) (padded m xs)
+      (take (length ys) ys ++ drop (length ys) (midOf (length xs) (m - length xs) (padded m xs)))
       ≡ padded m (xs ++ ys)
   padded-append ys h =
-      simp (take-append-seam, drop-append-seam, take-length, take-replicate, drop-replicate, sub-self, length-append, sub-add-eq, append-assoc, append-nil)
+      simp (
+        take-append-seam,
+        drop-append-seam,
+        take-length,
+        take-replicate,
+        drop-replicate,
+        sub-self,
+        length-append,
+        sub-add-eq,
+        append-assoc,
+        append-nil,
+      )
 
-pub frame-push : (f : Frame) (b : ℕ) → f .len < 21 → Extended f (record { len = f .len + 1; bytes = set (f .bytes) (f .len) b }) (b ∷ [])
+pub frame-push : (f : Frame) (b : ℕ) → f .len < 21
+    → Extended f (record { len = f .len + 1; bytes = set (f .bytes) (f .len) b }) (b ∷ [])
 unfolding frameOf
 frame-push f b h = record {
   len = refl;
@@ -82,7 +97,8 @@ module _ (xs out : List ℕ) where
 
   module _ {n : ℕ} (e : length xs ≡ n) where
     -- one byte more
-    pub written-push : (b : ℕ) → n < length out → set (written xs out .output) n b ≡ written (xs ++ (b ∷ [])) out .output
+    pub written-push : (b : ℕ) → n < length out
+        → set (written xs out .output) n b ≡ written (xs ++ (b ∷ [])) out .output
     written-push b h =
         rw (← e, drop-cons out (length xs) 0 (rw e h), set-append-seam)
         (simp (append-assoc, length-append, add-one))
@@ -91,7 +107,8 @@ module _ (xs out : List ℕ) where
     written-front = rw (← e) (take-append-seam xs (drop (length xs) out))
 
 -- what was written to an empty frame
-pub frame-written : (xs : List ℕ) {n : ℕ} {out : List ℕ} → record { number = 0; len = n; output = out } ≡ written xs (replicate maxLength 0)
+pub frame-written : (xs : List ℕ) {n : ℕ} {out : List ℕ}
+    → record { number = 0; len = n; output = out } ≡ written xs (replicate maxLength 0)
     → record { len = n; bytes = out } ≡ frameOf xs
 unfolding frameOf
 frame-written xs e =
@@ -100,7 +117,8 @@ frame-written xs e =
 -- ---- the answers of a write
 
 -- an answer 0 did not take a refusal's way
-pub unrefused : (b : Bool) (n : ℕ) (out : List ℕ) (r : Result) → (n ≡ 0 → ⊥) → cond b (refused n out) r .number ≡ 0 → (b ≡ false) × (r .number ≡ 0)
+pub unrefused : (b : Bool) (n : ℕ) (out : List ℕ) (r : Result) → (n ≡ 0 → ⊥)
+    → cond b (refused n out) r .number ≡ 0 → (b ≡ false) × (r .number ≡ 0)
 unrefused true n out r z e = absurd (z e)
 unrefused false n out r z e = (refl, e)
 

@@ -45,7 +45,8 @@ read-built t shape out e =
     let made = build-fields t out (f .0) ∙ put-written (telegramBytes t) out (p .0) (p .1) in
     let b = buildable-fields t (f .0) (p .0) in
     ap (λ (r : Result). readOf (resultBytes r)) made ∙ ap readOf (written-bytes (telegramBytes t) out)
-    ∙ read-fields (telegramBytes t) (built-valid t shape b) ∙ ap (λ (u : Telegram). record { number = 0; telegram = u }) (built-reads t shape b)
+    ∙ read-fields (telegramBytes t) (built-valid t shape b)
+    ∙ ap (λ (u : Telegram). record { number = 0; telegram = u }) (built-reads t shape b)
 
 -- what is read builds the same bytes
 pub build-read : BuildRead
@@ -53,18 +54,22 @@ build-read s out e h =
     let v = check-facts s (read-number s e) in
     let same = read-builds s v in
     ap (λ (t : Telegram). buildOf t out) (ap (λ (r : Read). r .telegram) (read-fields s (read-number s e)))
-    ∙ build-fields (fieldsOf s) out (fields-fit s v) ∙ ap (λ (xs : List ℕ). putOf xs out) same ∙ put-written s out (v .high) h
+    ∙ build-fields (fieldsOf s) out (fields-fit s v)
+    ∙ ap (λ (xs : List ℕ). putOf xs out) same ∙ put-written s out (v .high) h
 
 -- ---- encapsulating, and removing
 
 -- what was written is removed from, and encapsulated again
-module _ (t : Telegram) (shape : Shaped t) (b : Buildable t) (s last : List ℕ) (high : length s ≤ maxLength) (h : length s ≤ length last) where
-  removed : t .addressed ≡ true → telegramBytes (unaddressed t) ≡ s → decapsulateOf (telegramBytes t) last ≡ written s last
+module _ (t : Telegram) (shape : Shaped t) (b : Buildable t) (s last : List ℕ)
+    (high : length s ≤ maxLength) (h : length s ≤ length last) where
+  removed : t .addressed ≡ true → telegramBytes (unaddressed t) ≡ s
+      → decapsulateOf (telegramBytes t) last ≡ written s last
   removed a e =
       sym (decapsulate-put (telegramBytes t) last (built-valid t shape b) (built-flag t shape b ∙ a))
       ∙ ap (λ (xs : List ℕ). putOf xs last) (built-decapsulated t shape b ∙ e) ∙ put-written s last high h
 
-  addressed-again : (to : List ℕ) → t .addressed ≡ false → telegramBytes (addressedTo t to) ≡ s → encapsulateOf (telegramBytes t) to last ≡ written s last
+  addressed-again : (to : List ℕ) → t .addressed ≡ false → telegramBytes (addressedTo t to) ≡ s
+      → encapsulateOf (telegramBytes t) to last ≡ written s last
   addressed-again to a e =
       sym (encapsulate-put (telegramBytes t) last (built-valid t shape b) to (built-flag t shape b ∙ a))
       ∙ ap (λ (xs : List ℕ). putOf xs last) (built-encapsulated t shape b to ∙ e) ∙ put-written s last high h
@@ -77,7 +82,8 @@ decapsulate-encapsulated s to out last four e h =
     let p = put-facts (encapsulated s to) out (f .2) in
     let made = sym (encapsulate-put s out (f .0) to (f .1)) ∙ put-written (encapsulated s to) out (p .0) (p .1) in
     let v = check-facts s (f .0) in
-    let shape : Shaped (addressedTo (fieldsOf s) to) = record { payload = read-shaped s v .payload; destid = four; txid = read-shaped s v .txid } in
+    let shape : Shaped (addressedTo (fieldsOf s) to) =
+    record { payload = read-shaped s v .payload; destid = four; txid = read-shaped s v .txid } in
     let b = buildable-fields (addressedTo (fieldsOf s) to) (fields-fit s v) (p .0) in
     ap (λ (r : Result). decapsulateOf (resultBytes r) last) made
     ∙ ap (λ (xs : List ℕ). decapsulateOf xs last) (written-bytes (encapsulated s to) out)
@@ -92,7 +98,8 @@ encapsulate-decapsulated s out last e h =
     let made = sym (decapsulate-put s out (f .0) (f .1)) ∙ put-written (decapsulated s) out (p .0) (p .1) in
     let v = check-facts s (f .0) in
     let to = fieldsOf s .destid in
-    let shape : Shaped (unaddressed (fieldsOf s)) = record { payload = read-shaped s v .payload; destid = refl; txid = read-shaped s v .txid } in
+    let shape : Shaped (unaddressed (fieldsOf s)) =
+    record { payload = read-shaped s v .payload; destid = refl; txid = read-shaped s v .txid } in
     let b = buildable-fields (unaddressed (fieldsOf s)) (fields-fit s v) (p .0) in
     ap (λ (r : Result). encapsulateOf (resultBytes r) to last) made
     ∙ ap (λ (xs : List ℕ). encapsulateOf xs to last) (written-bytes (decapsulated s) out)
@@ -107,7 +114,8 @@ repeated setting s byte some = go (isValid s) (repeats setting (levelOf s)) refl
     go : (a b : Bool) → isValid s ≡ a → repeats setting (levelOf s) ≡ b → RaisedFrom s (repeatOf setting s)
     go true true v r =
         let f = check-facts s (eqb-true _ _ v) in
-        rw (← repeat-valid setting s (eqb-true _ _ v), ← relay-sent setting s (f .low) (f .high) r) (raised-from s f byte (repeats-low setting (levelOf s) r))
+        rw (← repeat-valid setting s (eqb-true _ _ v), ← relay-sent setting s (f .low) (f .high) r)
+        (raised-from s f byte (repeats-low setting (levelOf s) r))
     go true false v r =
         let f = check-facts s (eqb-true _ _ v) in
         absurd (some (sym (relay-none setting s (f .low) (f .high) r ∙ repeat-valid setting s (eqb-true _ _ v))))
@@ -118,5 +126,6 @@ pub repeat-sent : CallSends
 unfolding repeatResult repeatOf
 repeat-sent setting s =
     by-test (ltb maxSetting setting)
-    (λ h. by-test (isValid s) (λ v. rw (h, v, relay-argument setting s (ltb-true maxSetting setting h))) (λ v. rw (h, v)))
+    (λ h. by-test (isValid s)
+    (λ v. rw (h, v, relay-argument setting s (ltb-true maxSetting setting h))) (λ v. rw (h, v)))
     (λ h. by-test (isValid s) (λ v. rw (h, v)) (λ v. rw (h, v)))

@@ -49,7 +49,8 @@ module _ (H D E X : List ℕ) (st : ℕ) where
 
   pub laid-destid : (a b : ℕ) → length H + length D ≡ a → a + length E ≡ b → between a b laid ≡ E
   unfolding laid
-  laid-destid a b e k = part-at (H ++ D) E (X ++ (st ∷ hashOf bodyLaid ∷ [])) laid a b (simp append-assoc) (length-append H D ∙ e) k
+  laid-destid a b e k =
+      part-at (H ++ D) E (X ++ (st ∷ hashOf bodyLaid ∷ [])) laid a b (simp append-assoc) (length-append H D ∙ e) k
 
   pub laid-txid : (a b : ℕ) → length H + length D + length E ≡ a → a + length X ≡ b → between a b laid ≡ X
   unfolding laid

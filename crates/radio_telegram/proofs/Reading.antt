@@ -19,7 +19,8 @@ use Rattle.radio_telegram.specs.declared.fields.Reading.{Reading}
 use Rattle.radio_telegram.specs.Fields.{maxData, isUnbuildable, plainFields, addressedFields, fieldsOf, noTelegram, Read, shownReading, readOf}
 
 -- a copy into zeros
-pub padded-copy : (m : ℕ) (xs last : List ℕ) → last ≡ take (length xs) xs ++ drop (length xs) (replicate m 0) → last ≡ padded m xs
+pub padded-copy : (m : ℕ) (xs last : List ℕ)
+    → last ≡ take (length xs) xs ++ drop (length xs) (replicate m 0) → last ≡ padded m xs
 padded-copy m xs last e = e ∙ simp (take-length, drop-replicate)
 
 module _ (s : List ℕ) where
@@ -40,7 +41,8 @@ module _ (s : List ℕ) where
       go true = refl
       go false = refl
 
-  pub read-valid : (t : Telegram) → checkOf s ≡ 0 → t ≡ fieldsOf s → shownReading (record { checked = Valid; telegram = t }) ≡ readOf s
+  pub read-valid : (t : Telegram) → checkOf s ≡ 0 → t ≡ fieldsOf s
+      → shownReading (record { checked = Valid; telegram = t }) ≡ readOf s
   unfolding readOf
   read-valid t e f = rw (e, f)
 
@@ -71,13 +73,22 @@ module _ (s : List ℕ) where
 module _ (s : List ℕ) (v : Sound s) where
   plain-fit : (getD s 0 0 ≡ addressed → ⊥) → isUnbuildable (plainFields s) ≡ false
   unfolding isUnbuildable
-  plain-fit n = rw (le-ltb (length s - 7) 1 (omega (arith, v .low)), le-ltb maxData (length s - 7) (omega (arith, v .high)), ne-eqb _ _ n)
+  plain-fit n =
+      rw (
+        le-ltb (length s - 7) 1 (omega (arith, v .low)),
+        le-ltb maxData (length s - 7) (omega (arith, v .high)),
+        ne-eqb _ _ n,
+      )
 
   addressed-fit : getD s 0 0 ≡ addressed → isUnbuildable (addressedFields s) ≡ false
   unfolding isUnbuildable
   addressed-fit a =
       let i = v .inner a in
-      rw (le-ltb (length s - 12) 1 (omega (arith, i .0)), le-ltb maxData (length s - 12) (omega (arith, v .high)), ne-eqb _ _ (i .1))
+      rw (
+        le-ltb (length s - 12) 1 (omega (arith, i .0)),
+        le-ltb maxData (length s - 12) (omega (arith, v .high)),
+        ne-eqb _ _ (i .1),
+      )
 
   pub fields-fit : isUnbuildable (fieldsOf s) ≡ false
   fields-fit = go (isAddressed s) refl

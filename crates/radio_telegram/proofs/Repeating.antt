@@ -72,11 +72,13 @@ module _ (setting : ℕ) (s : List ℕ) where
   unfolding repeatResult
   call-argument h = rw (lt-ltb maxSetting setting h)
 
-  pub call-refused : setting ≤ maxSetting → (why : Refusal) → numberOf why ≡ checkOf s → notRepeated (numberOf why) ≡ repeatResult setting s
+  pub call-refused : setting ≤ maxSetting → (why : Refusal) → numberOf why ≡ checkOf s
+      → notRepeated (numberOf why) ≡ repeatResult setting s
   unfolding repeatResult
   call-refused h why e = rw (le-ltb maxSetting setting h, not-valid s why e, e)
 
-  pub call-sent : setting ≤ maxSetting → checkOf s ≡ 0 → record { number = 0; sent = frameOf (relayOf setting s) } ≡ repeatResult setting s
+  pub call-sent : setting ≤ maxSetting → checkOf s ≡ 0
+      → record { number = 0; sent = frameOf (relayOf setting s) } ≡ repeatResult setting s
   unfolding repeatResult
   call-sent h e = rw (le-ltb maxSetting setting h, e)
 
@@ -93,15 +95,21 @@ pub relay-fits : (setting : ℕ) (s : List ℕ) → length (relayOf setting s) �
 unfolding relayOf
 relay-fits setting s = go (ltb (length s) minLength) (ltb maxLength (length s)) (repeats setting (levelOf s)) refl refl
   where
-    go : (a b t : Bool) → ltb (length s) minLength ≡ a → ltb maxLength (length s) ≡ b → length (cond (not (a || b) && t) (raisedOf s) []) ≤ maxLength
+    go : (a b t : Bool) → ltb (length s) minLength ≡ a → ltb maxLength (length s) ≡ b
+        → length (cond (not (a || b) && t) (raisedOf s) []) ≤ maxLength
     go true b t e f = omega arith
     go false true t e f = omega arith
     go false false true e f =
-        omega (arith, raised-length s (omega (arith, ltb-false (length s) minLength e)), ltb-false maxLength (length s) f)
+        omega (
+          arith,
+          raised-length s (omega (arith, ltb-false (length s) minLength e)),
+          ltb-false maxLength (length s) f,
+        )
     go false false false e f = omega arith
 
 -- the code's three steps: all before STATUS is copied, STATUS and HASH are put behind it
-module _ (s out : List ℕ) (at : ℕ) (low : at + 2 ≡ length s) (fits : length s ≤ length out) {copied : List ℕ} {status : ℕ}
+module _ (s out : List ℕ) (at : ℕ) (low : at + 2 ≡ length s)
+    (fits : length s ≤ length out) {copied : List ℕ} {status : ℕ}
     (copy : copied ≡ take (length (take (at - 0) s)) (take (at - 0) s) ++ drop (length (take (at - 0) s)) out)
     (raises : status ≡ joinOf (raise (splitOf (getD s at 0)))) where
   abbrev body : List ℕ
@@ -121,7 +129,8 @@ module _ (s out : List ℕ) (at : ℕ) (low : at + 2 ≡ length s) (fits : lengt
   pub put-long : length (set copied at status) ≡ length out
   put-long = rw status-put (written-length body out (omega (arith, body-long)))
 
-  pub raised-put : {hash : ℕ} → hash ≡ hashOf (take (at + 1 - 0) (set copied at status)) → set (set copied at status) (at + 1) hash ≡ written (raisedOf s) out .output
+  pub raised-put : {hash : ℕ} → hash ≡ hashOf (take (at + 1 - 0) (set copied at status))
+      → set (set copied at status) (at + 1) hash ≡ written (raisedOf s) out .output
   raised-put {hash} e =
       let two : length s - 2 ≡ at = omega arith in
       let sealed : sealedOf body ≡ raisedOf s = rw raises (rw two at (raised-at s (omega arith))) in
@@ -136,7 +145,8 @@ repeats-low setting level e = go (leb level 1) refl
     go true h = leb-true level 1 h
     go false h =
         let high = ne-eqb level 0 (λ z. omega (arith, leb-false level 1 h, z)) in
-        let none : repeats setting level ≡ false = rw (high, h, and-false (eqb setting 1)) (and-false (eqb setting 2)) in
+        let none : repeats setting level ≡ false =
+        rw (high, h, and-false (eqb setting 1)) (and-false (eqb setting 2)) in
         absurd (true≢false (sym e ∙ none))
 
 raised-byte : (b : ℕ) → b < 256 → b % 16 ≤ 1
@@ -146,7 +156,8 @@ raised-byte b h l = go (eqb (b / 128) 1) refl
     next : (b % 16 + 1) % 16 ≡ b % 16 + 1
     next = omega arith
 
-    go : (t : Bool) → eqb (b / 128) 1 ≡ t → (upperOf (joinOf (raise (splitOf b))) ≡ upperOf b) × (joinOf (raise (splitOf b)) % 16 ≡ b % 16 + 1)
+    go : (t : Bool) → eqb (b / 128) 1 ≡ t
+        → (upperOf (joinOf (raise (splitOf b))) ≡ upperOf b) × (joinOf (raise (splitOf b)) % 16 ≡ b % 16 + 1)
     go true e =
         let f : 128 + b / 16 % 8 % 8 * 16 ≡ b / 16 * 16 = omega (arith, eqb-true (b / 128) 1 e) in
         rw (e, next) (omega arith)
@@ -180,7 +191,8 @@ module _ (s : List ℕ) (v : Sound s) where
   raised-at-same : (k : ℕ) → k < length s - 2 → getD (raisedOf s) k 0 ≡ getD s k 0
   raised-at-same k h =
       rw (append-assoc front (sent ∷ []))
-      (List·getD-append front _ 0 k (omega (arith, front-long)) ∙ rw (front-at s (omega (arith, v .low))) (getD-take (length s - 2) s k 0 h))
+      (List·getD-append front _ 0 k (omega (arith, front-long))
+      ∙ rw (front-at s (omega (arith, v .low))) (getD-take (length s - 2) s k 0 h))
 
   raised-valid : checkOf (raisedOf s) ≡ 0
   raised-valid = go (isAddressed s) refl
@@ -191,12 +203,14 @@ module _ (s : List ℕ) (v : Sound s) where
           let f = raised-at-same 0 (omega (arith, v .low)) in
           let g = raised-at-same 1 (omega (arith, v .low)) in
           let a = v .inner (eqb-true _ _ e) in
-          sym (check-addressed (raisedOf s) (omega (arith, v .low)) (omega (arith, v .high)) (sealed-hashed (front ++ (sent ∷ []))) (f ∙ eqb-true _ _ e)
+          sym (check-addressed (raisedOf s) (omega (arith, v .low)) (omega (arith, v .high))
+          (sealed-hashed (front ++ (sent ∷ []))) (f ∙ eqb-true _ _ e)
           (omega (arith, a .0)) (λ h. a .1 (sym g ∙ h)))
       go false e =
           let n = long in
           let f = raised-at-same 0 (omega (arith, v .low)) in
-          sym (check-plain (raisedOf s) (omega (arith, v .low)) (omega (arith, v .high)) (sealed-hashed (front ++ (sent ∷ []))) (λ h. eqb-false _ _ e (sym f ∙ h)))
+          sym (check-plain (raisedOf s) (omega (arith, v .low)) (omega (arith, v .high))
+          (sealed-hashed (front ++ (sent ∷ []))) (λ h. eqb-false _ _ e (sym f ∙ h)))
 
   pub raised-from : statusOf s < 256 → levelOf s ≤ 1 → RaisedFrom s (raisedOf s)
   unfolding isSame
@@ -205,6 +219,15 @@ module _ (s : List ℕ) (v : Sound s) where
       record {
         valid = raised-valid;
         long = long;
-        same = rw (raised-front, raised-status, long, r .0, eq-eqb (length s) (length s) refl, eq-eqb (upperOf (statusOf s)) _ refl) (equal-refl front);
+        same =
+            rw (
+              raised-front,
+              raised-status,
+              long,
+              r .0,
+              eq-eqb (length s) (length s) refl,
+              eq-eqb (upperOf (statusOf s)) _ refl,
+            )
+            (equal-refl front);
         level = rw raised-status (r .1);
       }

@@ -29,7 +29,15 @@ module _ (rorg : ℕ) (D X : List ℕ) (st : ℕ) (low : 1 ≤ length D) (x : le
       check-plain plainLaid (omega arith) (omega arith) (laid-hashed (rorg ∷ []) D [] X st) (λ e. inner (sym r ∙ e))
 
   plain-fields : fieldsOf plainLaid
-      ≡ record { rorg = rorg; payload = padded maxData D; len = length D; addressed = false; destid = replicate 4 0; txid = X; status = st }
+      ≡ record {
+        rorg = rorg;
+        payload = padded maxData D;
+        len = length D;
+        addressed = false;
+        destid = replicate 4 0;
+        txid = X;
+        status = st;
+      }
   plain-fields =
       let s = plainLaid in
       let n = laid-length (rorg ∷ []) D [] X st in
@@ -41,7 +49,8 @@ module _ (rorg : ℕ) (D X : List ℕ) (st : ℕ) (low : 1 ≤ length D) (x : le
       let t = status-at s (omega arith) ∙ laid-status (rorg ∷ []) D [] X st (length s - 2) (omega arith) in
       cc
 
-module _ (rorg : ℕ) (D E X : List ℕ) (st : ℕ) (low : 1 ≤ length D) (y : length E ≡ 4) (x : length X ≡ 4) (inner : rorg ≡ addressed → ⊥) where
+module _ (rorg : ℕ) (D E X : List ℕ) (st : ℕ) (low : 1 ≤ length D)
+    (y : length E ≡ 4) (x : length X ≡ 4) (inner : rorg ≡ addressed → ⊥) where
   abbrev addressedLaid : List ℕ
   addressedLaid = laid (addressed ∷ rorg ∷ []) D E X st
 
@@ -53,7 +62,15 @@ module _ (rorg : ℕ) (D E X : List ℕ) (st : ℕ) (low : 1 ≤ length D) (y : 
       (laid-first addressed (rorg ∷ []) D E X st) (omega arith) (λ e. inner (sym r ∙ e))
 
   addressed-fields : fieldsOf addressedLaid
-      ≡ record { rorg = rorg; payload = padded maxData D; len = length D; addressed = true; destid = E; txid = X; status = st }
+      ≡ record {
+        rorg = rorg;
+        payload = padded maxData D;
+        len = length D;
+        addressed = true;
+        destid = E;
+        txid = X;
+        status = st;
+      }
   addressed-fields =
       let s = addressedLaid in
       let n = laid-length (addressed ∷ rorg ∷ []) D E X st in
@@ -76,7 +93,8 @@ module _ (t : Telegram) (shape : Shaped t) (a : Buildable t) where
   unfolding telegramBytes laid
   laid-plain e = rw e
 
-  laid-addressed : t .addressed ≡ true → telegramBytes t ≡ laid (addressed ∷ t .rorg ∷ []) (dataOf t) (t .destid) (t .txid) (t .status)
+  laid-addressed : t .addressed ≡ true
+      → telegramBytes t ≡ laid (addressed ∷ t .rorg ∷ []) (dataOf t) (t .destid) (t .txid) (t .status)
   unfolding telegramBytes laid
   laid-addressed e = rw e
 
@@ -87,10 +105,12 @@ module _ (t : Telegram) (shape : Shaped t) (a : Buildable t) where
       go : (b : Bool) → t .addressed ≡ b → checkOf (telegramBytes t) ≡ 0
       go false e =
           rw (laid-plain e)
-          (sym (plain-valid (t .rorg) (dataOf t) (t .txid) (t .status) (omega (arith, long, a .low)) (shape .txid) (a .inner) (omega (arith, long, a .high))))
+          (sym (plain-valid (t .rorg) (dataOf t) (t .txid) (t .status) (omega (arith, long, a .low))
+          (shape .txid) (a .inner) (omega (arith, long, a .high))))
       go true e =
           rw (laid-addressed e)
-          (sym (addressed-valid (t .rorg) (dataOf t) (t .destid) (t .txid) (t .status) (omega (arith, long, a .low)) (shape .destid) (shape .txid) (a .inner)
+          (sym (addressed-valid (t .rorg) (dataOf t) (t .destid) (t .txid) (t .status)
+          (omega (arith, long, a .low)) (shape .destid) (shape .txid) (a .inner)
           (omega (arith, long, a .fits, bytes-addressed t shape (a .high) e))))
 
   -- and reads back
@@ -99,9 +119,23 @@ module _ (t : Telegram) (shape : Shaped t) (a : Buildable t) where
     where
       go : (b : Bool) → t .addressed ≡ b → fieldsOf (telegramBytes t) ≡ normalOf t
       go false e =
-          rw (laid-plain e, plain-fields (t .rorg) (dataOf t) (t .txid) (t .status) (omega (arith, long, a .low)) (shape .txid) (a .inner), long, e) refl
+          rw (
+            laid-plain e,
+            plain-fields (t .rorg) (dataOf t) (t .txid) (t .status)
+                (omega (arith, long, a .low)) (shape .txid) (a .inner),
+            long,
+            e,
+          )
+          refl
       go true e =
-          rw (laid-addressed e, addressed-fields (t .rorg) (dataOf t) (t .destid) (t .txid) (t .status) (omega (arith, long, a .low)) (shape .destid) (shape .txid) (a .inner), long, e) refl
+          rw (
+            laid-addressed e,
+            addressed-fields (t .rorg) (dataOf t) (t .destid) (t .txid) (t .status)
+                (omega (arith, long, a .low)) (shape .destid) (shape .txid) (a .inner),
+            long,
+            e,
+          )
+          refl
 
 -- ---- read, then built
 padded-length : (m : ℕ) (xs : List ℕ) → length xs ≤ m → length (padded m xs) ≡ m
@@ -110,13 +144,16 @@ padded-length m xs h = simp (length-append, length-replicate) (omega arith)
 part-length : (p q : ℕ) (s : List ℕ) → p ≤ q → q ≤ length s → length (between p q s) ≡ q - p
 part-length p q s h k = length-take-le (q - p) (drop p s) (simp length-drop (omega arith))
 
-data-is : (p q n : ℕ) (s : List ℕ) → n ≡ q - p → p ≤ q → q ≤ length s → take n (padded maxData (between p q s)) ≡ between p q s
+data-is : (p q n : ℕ) (s : List ℕ) → n ≡ q - p → p ≤ q → q ≤ length s
+    → take n (padded maxData (between p q s)) ≡ between p q s
 data-is p q n s e h k = take-at (between p q s) _ n (part-length p q s h k ∙ sym e)
 
 module _ (s : List ℕ) (v : Sound s) where
   -- all bytes but the last, and the last
   whole : bodyOf s ++ (lastOf s ∷ []) ≡ s
-  whole = take-next (length s - 1) (length s) s (omega (arith, v .low)) (omega (arith, v .low)) ∙ take-all (length s) s (omega arith)
+  whole =
+      take-next (length s - 1) (length s) s (omega (arith, v .low)) (omega (arith, v .low))
+      ∙ take-all (length s) s (omega arith)
 
   body-is : (body : List ℕ) → body ≡ bodyOf s → sealedOf body ≡ s
   body-is body e = rw (e, ← v .hashed) whole
@@ -146,12 +183,16 @@ module _ (s : List ℕ) (v : Sound s) where
 
   module _ (first : getD s 0 0 ≡ addressed) where
     -- the head, DATA and DESTID
-    addressed-front : ((addressed ∷ getD s 1 0 ∷ []) ++ dataOf (addressedFields s)) ++ between (length s - 10) (length s - 6) s ≡ take (length s - 6) s
+    addressed-front : ((addressed ∷ getD s 1 0 ∷ []) ++ dataOf (addressedFields s))
+        ++ between (length s - 10) (length s - 6) s
+        ≡ take (length s - 6) s
     addressed-front =
         let l = v .inner first .0 in
         rw (data-is 2 (length s - 10) (length s - 12) s (omega arith) (omega arith) (omega arith))
-        (ap (λ (l : List ℕ). (l ++ between 2 (length s - 10) s) ++ between (length s - 10) (length s - 6) s) (rw first at two)
-        ∙ ap (λ (l : List ℕ). l ++ between (length s - 10) (length s - 6) s) (take-part 2 (length s - 10) s (omega arith))
+        (ap (λ (l : List ℕ). (l ++ between 2 (length s - 10) s) ++ between (length s - 10) (length s - 6) s)
+        (rw first at two)
+        ∙ ap (λ (l : List ℕ). l ++ between (length s - 10) (length s - 6) s)
+        (take-part 2 (length s - 10) s (omega arith))
         ∙ take-part (length s - 10) (length s - 6) s (omega arith))
 
     addressed-bytes : telegramBytes (addressedFields s) ≡ s
@@ -159,7 +200,8 @@ module _ (s : List ℕ) (v : Sound s) where
     addressed-bytes =
         body-is _
         (ap (λ (l : List ℕ). l ++ (statusOf s ∷ []))
-        (sym (append-assoc ((addressed ∷ getD s 1 0 ∷ []) ++ dataOf (addressedFields s)) (between (length s - 10) (length s - 6) s) (between (length s - 6) (length s - 2) s)))
+        (sym (append-assoc ((addressed ∷ getD s 1 0 ∷ []) ++ dataOf (addressedFields s))
+        (between (length s - 10) (length s - 6) s) (between (length s - 6) (length s - 2) s)))
         ∙ tail-is _ addressed-front)
 
   -- what is read builds the same bytes
@@ -178,14 +220,18 @@ module _ (s : List ℕ) (v : Sound s) where
       go true e =
           let l = v .inner (eqb-true _ _ e) .0 in
           rw (← fields-addressed s (eqb-true _ _ e)) (record {
-            payload = padded-length maxData (between 2 (length s - 10) s) (rw (part-length 2 (length s - 10) s (omega arith) (omega arith)) (omega (arith, v .high)));
+            payload =
+                padded-length maxData (between 2 (length s - 10) s)
+                (rw (part-length 2 (length s - 10) s (omega arith) (omega arith)) (omega (arith, v .high)));
             destid = part-length (length s - 10) (length s - 6) s (omega arith) (omega arith) ∙ omega arith;
             txid = part-length (length s - 6) (length s - 2) s (omega arith) (omega arith) ∙ omega arith;
           })
       go false e =
           let l = v .low in
           rw (← fields-plain s (eqb-false _ _ e)) (record {
-            payload = padded-length maxData (between 1 (length s - 6) s) (rw (part-length 1 (length s - 6) s (omega arith) (omega arith)) (omega (arith, v .high)));
+            payload =
+                padded-length maxData (between 1 (length s - 6) s)
+                (rw (part-length 1 (length s - 6) s (omega arith) (omega arith)) (omega (arith, v .high)));
             destid = refl;
             txid = part-length (length s - 6) (length s - 2) s (omega arith) (omega arith) ∙ omega arith;
           })
@@ -214,7 +260,8 @@ module _ (t : Telegram) where
 
     pub built-encapsulated : (to : List ℕ) → encapsulated (telegramBytes t) to ≡ telegramBytes (addressedTo t to)
     unfolding telegramBytes
-    built-encapsulated to = ap (λ (u : Telegram). telegramBytes (addressedTo u to)) (built-reads t shape a) ∙ rw normal-data
+    built-encapsulated to =
+        ap (λ (u : Telegram). telegramBytes (addressedTo u to)) (built-reads t shape a) ∙ rw normal-data
 
 -- a subtelegram with its own address, or none, is itself
 module _ (s : List ℕ) (v : Sound s) where

@@ -29,7 +29,8 @@ module _ (f : Format) where
     pub bad-text : lineReading l ≡ bad → textIn f (running c) l ≡ badIn f
     bad-text e = rw e
 
-    pub said-text : {t : ℕ} {bs time sent : List ℕ} (o : Outcome) → lineReading l ≡ reception t bs → o ≡ takenAt (c .view) t bs
+    pub said-text : {t : ℕ} {bs time sent : List ℕ} (o : Outcome)
+        → lineReading l ≡ reception t bs → o ≡ takenAt (c .view) t bs
         → time ≡ decimalText t → sent ≡ sentBytes (sentFor (c .setting) (o .answer) (receptionAt t bs))
         → textIn f (running c) l ≡ rowIn f time (printedRow (o .answer)) bs sent (sourceOf bs)
     said-text o e k d s = rw (e, s, d, k)

@@ -45,7 +45,8 @@ said-small l e = let w = said l e in rw (w .saysTime) at (time-small (w .digits)
 
 -- what is written for lines and at the end
 abbrev writtenFrom : Phase Receiver → List (List ℕ) → List ℕ
-writtenFrom s ls = textOf (collect modelCollector) s ls ++ phaseEnd modelCollector (stateAfter (collect modelCollector) s ls)
+writtenFrom s ls =
+    textOf (collect modelCollector) s ls ++ phaseEnd modelCollector (stateAfter (collect modelCollector) s ls)
 
 module _ (setting : ℕ) where
   -- the run where the reference model was handed these receptions
@@ -58,7 +59,8 @@ module _ (setting : ℕ) where
     next : afterLine modelCollector (at past) a ≡ at (pastAfterLine past a)
     good : Good (modelView (logOf (pastAfterLine past a)))
 
-  took : (past : List Reception) (l : List ℕ) → Good (modelView (logOf past)) → (a : Reading) → lineReading l ≡ a → Took past a
+  took : (past : List Reception) (l : List ℕ) → Good (modelView (logOf past))
+      → (a : Reading) → lineReading l ≡ a → Took past a
   took past l g bad e = record { row = refl; next = refl; good = g }
   took past l g (reception t bs) e =
       let r = receptionAt t bs in
@@ -78,7 +80,8 @@ module _ (setting : ℕ) where
 
   -- all of them: their rows, and the totals
   rows : (ls : List (List ℕ)) (past : List Reception) → Good (modelView (logOf past))
-      → writtenFrom (running (at past)) ls ≡ joined (rowsAfter setting past ls) ++ totalsLine (totalsOf (logOf (pastAfterLines past ls)))
+      → writtenFrom (running (at past)) ls
+      ≡ joined (rowsAfter setting past ls) ++ totalsLine (totalsOf (logOf (pastAfterLines past ls)))
   unfolding textOf stateAfter joined rowsAfter pastAfterLines
   rows [] past g = no-lines past
   rows (l ∷ ls) past g =
@@ -86,11 +89,14 @@ module _ (setting : ℕ) where
       let w = took past l g a refl in
       let more = pastAfterLine past a in
       let row = rowAfter setting past a in
-      ap₂ (λ (x : List ℕ) (c : Receiver). (x ++ textOf (collect modelCollector) (running c) ls) ++ phaseEnd modelCollector (stateAfter (collect modelCollector) (running c) ls))
+      ap₂ (λ (x : List ℕ) (c : Receiver). (x ++ textOf (collect modelCollector) (running c) ls)
+      ++ phaseEnd modelCollector (stateAfter (collect modelCollector) (running c) ls))
       (w .row) (w .next)
-      ∙ append-assoc row (textOf (collect modelCollector) (running (at more)) ls) (phaseEnd modelCollector (stateAfter (collect modelCollector) (running (at more)) ls))
+      ∙ append-assoc row (textOf (collect modelCollector) (running (at more)) ls)
+      (phaseEnd modelCollector (stateAfter (collect modelCollector) (running (at more)) ls))
       ∙ ap (λ (x : List ℕ). row ++ x) (rows ls more (w .good))
-      ∙ sym (append-assoc row (joined (rowsAfter setting more ls)) (totalsLine (totalsOf (logOf (pastAfterLines more ls)))))
+      ∙ sym (append-assoc row (joined (rowsAfter setting more ls))
+      (totalsLine (totalsOf (logOf (pastAfterLines more ls)))))
 
 -- ---- the first line
 
@@ -104,9 +110,11 @@ first-line : (s : Setting) (ls : List (List ℕ))
     ++ phaseEnd modelCollector (stateAfter (collect modelCollector) (afterFirst modelCollector s) ls)
     ≡ printedWith s ls
 first-line (Setting.Level n) ls =
-    ap (λ (v : View). writtenFrom (running (record { setting = n; view = v })) ls) fresh-model ∙ rows n ls [] (rw fresh-model at good-fresh)
+    ap (λ (v : View). writtenFrom (running (record { setting = n; view = v })) ls) fresh-model
+    ∙ rows n ls [] (rw fresh-model at good-fresh)
 first-line Setting.Bad ls =
-    append-assoc badText (textOf (collect modelCollector) over ls) (phaseEnd modelCollector (stateAfter (collect modelCollector) over ls))
+    append-assoc badText (textOf (collect modelCollector) over ls)
+    (phaseEnd modelCollector (stateAfter (collect modelCollector) over ls))
     ∙ ap (λ (x : List ℕ). badText ++ x) (over-silent ls)
 
 whole-input : (ls : List (List ℕ)) → writtenFrom starting ls ≡ printedFor ls

@@ -81,11 +81,13 @@ module _ (f : Format) where
         let more = pastAfterLine past a in
         let row = rowAfterIn f setting past a in
         let text = textOf (collectIn f) (running (at more)) ls in
-        ap₂ (λ (x : List ℕ) (c : Receiver). (x ++ textOf (collectIn f) (running c) ls) ++ endIn f (stateAfter (collectIn f) (running c) ls))
+        ap₂ (λ (x : List ℕ) (c : Receiver). (x ++ textOf (collectIn f) (running c) ls)
+        ++ endIn f (stateAfter (collectIn f) (running c) ls))
         (w .row) (w .next)
         ∙ append-assoc row text (endIn f (stateAfter (collectIn f) (running (at more)) ls))
         ∙ ap (λ (x : List ℕ). row ++ x) (rows ls more (w .good))
-        ∙ sym (append-assoc row (joined (rowsAfterIn f setting more ls)) (totalsIn f (totalsOf (logOf (pastAfterLines more ls)))))
+        ∙ sym (append-assoc row (joined (rowsAfterIn f setting more ls))
+        (totalsIn f (totalsOf (logOf (pastAfterLines more ls)))))
 
   over-silent : (ls : List (List ℕ)) → writtenFrom over ls ≡ []
   unfolding textOf stateAfter
@@ -133,7 +135,8 @@ text-rows setting past (l ∷ ls) =
 text-with : (s : Setting) (ls : List (List ℕ)) → printedWithIn Format.Text s ls ≡ printedWith s ls
 unfolding headingIn badIn
 text-with (Setting.Level n) ls =
-    ap (λ (rows : List (List ℕ)). joined rows ++ totalsLine (totalsOf (logOf (pastAfterLines [] ls)))) (text-rows n [] ls)
+    ap (λ (rows : List (List ℕ)). joined rows ++ totalsLine (totalsOf (logOf (pastAfterLines [] ls))))
+    (text-rows n [] ls)
 text-with Setting.Bad ls = refl
 
 text-for : (ls : List (List ℕ)) → printedForIn Format.Text ls ≡ printedFor ls

@@ -50,15 +50,27 @@ padded-at n k xs h = elim (decLt k (length xs)) [
 module _ (bytes : List ℕ) (len : ℕ) (fill : bytes ≡ padded 64 (take len bytes)) where
   pub front-long : len ≤ 64 → length (take len bytes) ≡ len
   front-long few =
-      omega (arith, length-take len bytes, ap length fill, length-append (take len bytes) (replicate (64 - length (take len bytes)) 0), length-replicate {A = ℕ} (64 - length (take len bytes)) 0)
+      omega (
+        arith,
+        length-take len bytes,
+        ap length fill,
+        length-append (take len bytes) (replicate (64 - length (take len bytes)) 0),
+        length-replicate {A = ℕ} (64 - length (take len bytes)) 0,
+      )
 
-  module _ (flag : ℕ) {record' : List ℕ} (few : len ≤ 21) (copied : CopiedPart bytes 0 21 (flag ∷ len ∷ replicate 21 0) 2 record') where
+  module _ (flag : ℕ) {record' : List ℕ} (few : len ≤ 21)
+      (copied : CopiedPart bytes 0 21 (flag ∷ len ∷ replicate 21 0) 2 record') where
     abbrev said : List ℕ
     said = flag ∷ len ∷ padded 21 (take len bytes)
 
     said-long : length said ≡ 23
     said-long =
-        omega (arith, length-take len bytes, length-append (take len bytes) (replicate (21 - length (take len bytes)) 0), length-replicate {A = ℕ} (21 - length (take len bytes)) 0)
+        omega (
+          arith,
+          length-take len bytes,
+          length-append (take len bytes) (replicate (21 - length (take len bytes)) 0),
+          length-replicate {A = ℕ} (21 - length (take len bytes)) 0,
+        )
 
     each : (k : ℕ) → k < length record' → getD record' k 0 ≡ getD said k 0
     each zero h = copied .outside 0 (λ x y. omega arith)
@@ -66,13 +78,16 @@ module _ (bytes : List ℕ) (len : ℕ) (fill : bytes ≡ padded 64 (take len by
     each (suc (suc k)) h =
         let s : k < 21 = omega (arith, copied .long) in
         let e : suc (suc k) ≡ 2 + k = omega arith in
-        let w : getD bytes (0 + k) 0 ≡ getD (padded 64 (take len bytes)) k 0 = rw zero-add (ap (λ l. getD l k 0) fill) in
-        rw e (copied .inside k s) ∙ w ∙ padded-at 64 k (take len bytes) (omega arith) ∙ sym (padded-at 21 k (take len bytes) s)
+        let w : getD bytes (0 + k) 0 ≡ getD (padded 64 (take len bytes)) k 0 =
+        rw zero-add (ap (λ l. getD l k 0) fill) in
+        rw e (copied .inside k s) ∙ w ∙ padded-at 64 k (take len bytes) (omega arith)
+        ∙ sym (padded-at 21 k (take len bytes) s)
 
     record-said : record' ≡ said
     record-said = ext-getD 0 record' said (copied .long ∙ sym said-long) each
 
-    pub record-printed : (n : ℕ) {rows rows' : List ℕ} → 23 * n + 23 ≤ length rows → CopiedPart record' 0 23 rows (23 * n) rows'
+    pub record-printed : (n : ℕ) {rows rows' : List ℕ}
+        → 23 * n + 23 ≤ length rows → CopiedPart record' 0 23 rows (23 * n) rows'
         → Printed rows (23 * n) said 23 rows' (23 * (n + 1))
     record-printed n {rows} fits put =
         record {
@@ -87,7 +102,8 @@ printed-none out at most = record { bytes = refl; next = omega arith; short = om
 
 -- ---- the programs can tell a line by its front
 
-next-front : (s : Phase Receiver) (l : List ℕ) → nextPhase modelCollector s (take lineLimit l) ≡ nextPhase modelCollector s l
+next-front : (s : Phase Receiver) (l : List ℕ)
+    → nextPhase modelCollector s (take lineLimit l) ≡ nextPhase modelCollector s l
 next-front s l = bounded modelCollector .next s l
 
 times-front : (s : Phase Receiver) (l : List ℕ) → timesIn s (take lineLimit l) ≡ timesIn s l
@@ -111,7 +127,8 @@ records-bounded = record { next = next-front; text = records-front }
 pub rows-line : {S : Type 0} (p : Program S) → Bounded p lineLimit → {s₀ s s' : S} {out₀ out out' text : List ℕ}
     {to most r : ℕ} (input : List ℕ) (at used : ℕ)
     → Fed p s₀ (take at input) out₀ s out to
-    → (indexOf newline (drop at input) < length (drop at input)) × (used ≡ indexOf newline (drop at input) + 1) → at ≤ length input → r ≤ length out₀
+    → (indexOf newline (drop at input) < length (drop at input)) × (used ≡ indexOf newline (drop at input) + 1)
+    → at ≤ length input → r ≤ length out₀
     → p .text s (lineAt input at) ≡ text → p .next s (lineAt input at) ≡ s' → Printed out to text most out' r
     → Fed p s₀ (take (at + used) input) out₀ s' out' r
 rows-line p b {s = s} {out = out} {out' = out'} {to = to} {most = most} {r = r} input at used f h l fits text next q =
@@ -136,11 +153,13 @@ module _ (c : Receiver) (l : List ℕ) where
     pub bad-records : recordsIn (running c) l ≡ []
     bad-records = rw e
 
-  module _ {t : ℕ} {bs : List ℕ} (o : Outcome) (e : lineReading l ≡ reception t bs) (k : o ≡ takenAt (c .view) t bs) where
+  module _ {t : ℕ} {bs : List ℕ} (o : Outcome)
+      (e : lineReading l ≡ reception t bs) (k : o ≡ takenAt (c .view) t bs) where
     pub said-next : nextPhase modelCollector (running c) l ≡ running (record { setting = c .setting; view = o .next })
     said-next = rw (e, k)
 
-    pub said-text : {time sent : List ℕ} → time ≡ decimalText t → sent ≡ sentBytes (sentFor (c .setting) (o .answer) (receptionAt t bs))
+    pub said-text : {time sent : List ℕ} → time ≡ decimalText t
+        → sent ≡ sentBytes (sentFor (c .setting) (o .answer) (receptionAt t bs))
         → phaseText modelCollector (running c) l ≡ rowBehind time (printedRow (o .answer)) sent
     said-text f g = rw (e, f, g, k)
 
@@ -151,7 +170,8 @@ module _ (c : Receiver) (l : List ℕ) where
     said-records = rw (e, k)
 
 -- what `parse` writes is zero filled
-pub said-padded : (text : List ℕ) {bytes : List ℕ} {r : Line} → (r ≡ lineOf (frontOf text)) × (bytes ≡ bytesIn (frontOf text)) → r .ok ≡ true
+pub said-padded : (text : List ℕ) {bytes : List ℕ} {r : Line}
+    → (r ≡ lineOf (frontOf text)) × (bytes ≡ bytesIn (frontOf text)) → r .ok ≡ true
     → bytes ≡ padded 64 (take (r .len) bytes)
 said-padded text e f =
     rw (e .0, e .1)
@@ -166,11 +186,16 @@ said-padded text e f =
 pub ticks-bounded : Bounded lineTicks lineLimit
 ticks-bounded = record { next = next-front; text = λ s l. refl }
 
-pub tick : (most left : ℕ) → left ≤ most → (left ≡ 0 → ⊥) → Printed (replicate most 0) (most - left) (0 ∷ []) 1 (replicate most 0) (most - (left - 1))
+pub tick : (most left : ℕ) → left ≤ most → (left ≡ 0 → ⊥)
+    → Printed (replicate most 0) (most - left) (0 ∷ []) 1 (replicate most 0) (most - (left - 1))
 tick most left few some =
     let i = most - left in
     let h : i < most = omega arith in
-    record { bytes = sym (rw (getD-replicate {A = ℕ} most i 0 0 h) at (set-getD {A = ℕ} (replicate most 0) i 0)); next = omega arith; short = omega arith }
+    record {
+      bytes = sym (rw (getD-replicate {A = ℕ} most i 0 0 h) at (set-getD {A = ℕ} (replicate most 0) i 0));
+      next = omega arith;
+      short = omega arith;
+    }
 
 -- ---- however the input is cut
 

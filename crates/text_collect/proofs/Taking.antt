@@ -39,18 +39,27 @@ use Rattle.text_collect.specs.Session.{Receiver, modelCollector, phaseOf
 
 -- ---- none
 
-pub none-taken : {s : Phase Receiver} {x : Session} {r : Progress} (input out : List ℕ) → phaseOf x ≡ s → r ≡ record { session = x; used = 0; written = 0 }
+pub none-taken : {s : Phase Receiver} {x : Session} {r : Progress} (input out : List ℕ)
+    → phaseOf x ≡ s → r ≡ record { session = x; used = 0; written = 0 }
     → (longestLine ≤ length out → isUnended input ≡ true) → Ran s input out out r
-none-taken {s} input out e k h = rw k (record { within = omega arith; fed = rw e (fed-none (collect modelCollector) (bounded modelCollector) s out); rest = λ z l. h l })
+none-taken {s} input out e k h =
+    rw k
+    (record {
+      within = omega arith;
+      fed = rw e (fed-none (collect modelCollector) (bounded modelCollector) s out);
+      rest = λ z l. h l;
+    })
 
 -- nothing is written for no line
-pub none-written : {s s' : Phase Receiver} {out out' : List ℕ} {n : ℕ} (input : List ℕ) {at : ℕ} → Fed (collect modelCollector) s (take at input) out s' out' n
+pub none-written : {s s' : Phase Receiver} {out out' : List ℕ} {n : ℕ} (input : List ℕ) {at : ℕ}
+    → Fed (collect modelCollector) s (take at input) out s' out' n
     → at ≡ 0 → n ≡ 0
 unfolding feedText
 none-written input f e = (rw e at f) .output .next
 
 -- a search from the start of the input found no newline
-pub no-line : (input : List ℕ) {n : ℕ} → n ≡ 0 + indexOf newline (slice 0 (length input) input) → length input ≤ n → isUnended input ≡ true
+pub no-line : (input : List ℕ) {n : ℕ} → n ≡ 0 + indexOf newline (slice 0 (length input) input)
+    → length input ≤ n → isUnended input ≡ true
 no-line input e h = let k = found input 0 e in open-whole input (omega arith)
 
 -- what is left from the start on is all
@@ -60,11 +69,13 @@ open-from-start input at e o = rw e at o
 -- ---- one
 
 -- the first line of the input
-pub one-line : (s : Phase Receiver) {out out' : List ℕ} {most r : ℕ} (input : List ℕ) {n : ℕ} → n ≡ 0 + indexOf newline (slice 0 (length input) input)
+pub one-line : (s : Phase Receiver) {out out' : List ℕ} {most r : ℕ} (input : List ℕ) {n : ℕ}
+    → n ≡ 0 + indexOf newline (slice 0 (length input) input)
     → n < length input → Printed out 0 (phaseText modelCollector s (take (n - 0) input)) most out' r → r ≤ length out
     → Fed (collect modelCollector) s (take (n + 1) input) out (nextPhase modelCollector s (take (n - 0) input)) out' r
 one-line s {out} input {n} e h q fits =
-    fed-next (collect modelCollector) (bounded modelCollector) input 0 n (fed-none (collect modelCollector) (bounded modelCollector) s out) (found input 0 e) h (omega arith) q fits
+    fed-next (collect modelCollector) (bounded modelCollector) input 0 n
+    (fed-none (collect modelCollector) (bounded modelCollector) s out) (found input 0 e) h (omega arith) q fits
 
 -- the line from `at` on
 abbrev pub lineAt : List ℕ → ℕ → List ℕ
@@ -75,7 +86,8 @@ lineAt input at = take (indexOf newline (drop at input)) (drop at input)
 module _ (text : List ℕ) (k : ℕ) {t : ℕ} {bs : List ℕ} (within : k ≤ length text) (w : Said (take k text) t bs) where
   parts-long : k ≡ length (w .digits) + (1 + 2 * length bs)
   parts-long =
-      let hex : 2 * length bs ≡ length (w .hex) = ap (λ (l : List ℕ). 2 * length l) (sym (w .saysBytes)) ∙ leading-hex (w .hex) [] (w .isRight) .1 in
+      let hex : 2 * length bs ≡ length (w .hex) =
+      ap (λ (l : List ℕ). 2 * length l) (sym (w .saysBytes)) ∙ leading-hex (w .hex) [] (w .isRight) .1 in
       omega (arith, hex, length-take-le k text within, ap length (w .parts), length-append (w .digits) (space ∷ w .hex))
 
   pub time-room : 2 * length bs + 1 ≤ k
@@ -91,9 +103,12 @@ module _ (text : List ℕ) (k : ℕ) {t : ℕ} {bs : List ℕ} (within : k ≤ l
       let n : k - (2 * length bs + 1) ≡ length (w .digits) = omega (arith, parts-long) in
       let d = length (w .digits) in
       let front : take d text ≡ take d (take k text) =
-      ap (take d) (sym (take-append-drop k text)) ∙ take-append-le d (take k text) (drop k text) (omega (arith, parts-long, length-take-le k text within))
+      ap (take d) (sym (take-append-drop k text))
+      ∙ take-append-le d (take k text) (drop k text) (omega (arith, parts-long, length-take-le k text within))
       in
-      rw n (front ∙ ap (take d) (w .parts) ∙ take-append-seam (w .digits) (space ∷ w .hex) ∙ sym (time-back (w .digits) (w .isTimely)) ∙ ap decimalText (w .saysTime))
+      rw n
+      (front ∙ ap (take d) (w .parts) ∙ take-append-seam (w .digits) (space ∷ w .hex)
+      ∙ sym (time-back (w .digits) (w .isTimely)) ∙ ap decimalText (w .saysTime))
 
 -- ---- what is written
 
@@ -106,7 +121,8 @@ silent true out at = record { bytes = refl; next = omega arith; short = omega ar
 silent false out at = record { bytes = refl; next = omega arith; short = omega arith }
 
 -- what is sent stands at the front of the array
-pub sent-front : (xs out : List ℕ) {out' : List ℕ} {n : ℕ} → record { number = 0; len = n; output = out' } ≡ written xs out → (n ≡ length xs) × (take n out' ≡ xs)
+pub sent-front : (xs out : List ℕ) {out' : List ℕ} {n : ℕ}
+    → record { number = 0; len = n; output = out' } ≡ written xs out → (n ≡ length xs) × (take n out' ≡ xs)
 sent-front xs out e =
     let l = ap (λ (r : Result). r .len) e in
     let o = ap (λ (r : Result). r .output) e in
@@ -117,6 +133,10 @@ pub sent-bytes : (xs : List ℕ) → sentBytes (frameOf xs) ≡ xs
 unfolding frameOf
 sent-bytes xs = take-append-seam xs _
 
-pub relayed-bytes : (setting : ℕ) (fit : Bool) (v : View) (r : view.Reception) (a : Shown) → a ≡ admission fit v r .answer
+pub relayed-bytes : (setting : ℕ) (fit : Bool) (v : View) (r : view.Reception) (a : Shown)
+    → a ≡ admission fit v r .answer
     → relayedFor setting a (r .bytes) ≡ sentBytes (sentFor setting a r)
-relayed-bytes setting fit v r a e = rw e (sym (sent-bytes (relayedFor setting (admission fit v r .answer) (r .bytes))) ∙ ap sentBytes (relayed-sent fit v r setting))
+relayed-bytes setting fit v r a e =
+    rw e
+    (sym (sent-bytes (relayedFor setting (admission fit v r .answer) (r .bytes)))
+    ∙ ap sentBytes (relayed-sent fit v r setting))

@@ -59,7 +59,8 @@ pub record Taken (p : Program (Phase Receiver)) (Ready : List ℕ → Type 0) (a
   pub records : Fed rowRecords (runningAt setting v₀) (take at input) rows₀ (runningAt setting v) rows (23 * n)
   pub spare : 32 * k ≤ length closed
   pub same-closed : length closed ≡ length closed₀
-  pub closes : Fed (lineClosings asked) (runningAt setting v₀) (take at input) closed₀ (runningAt setting v) closed (32 * k)
+  pub closes : Fed (lineClosings asked) (runningAt setting v₀)
+      (take at input) closed₀ (runningAt setting v) closed (32 * k)
   pub ticks : Fed lineTicks (runningAt setting v₀) (take at input) (replicate most 0) (runningAt setting v)
       (replicate most 0) (most - left)
 
@@ -91,7 +92,8 @@ nothing true = refl
 nothing false = refl
 
 module _ (asked : Bool) where
-  closed-front : (s : Phase Receiver) (l : List ℕ) → lineClosings asked .text s (take lineLimit l) ≡ lineClosings asked .text s l
+  closed-front : (s : Phase Receiver) (l : List ℕ)
+      → lineClosings asked .text s (take lineLimit l) ≡ lineClosings asked .text s l
   closed-front starting l = refl
   closed-front (running c) l = rw (fronts-tell l .reading)
   closed-front over l = refl
@@ -282,7 +284,8 @@ cond-nothing : (text : List ℕ) {closed closed' : List ℕ} {at most r : ℕ}
     → Printed closed at (cond false text []) most closed' r → r ≡ at
 cond-nothing text g = omega (arith, g .next)
 
-pub room-left : (k r : ℕ) (text : List ℕ) {closed closed' : List ℕ} → hasRoom (length closed) k ≡ true → 32 * k ≤ length closed
+pub room-left : (k r : ℕ) (text : List ℕ) {closed closed' : List ℕ}
+    → hasRoom (length closed) k ≡ true → 32 * k ≤ length closed
     → Printed closed (32 * k) (cond (isAsked closed) text []) 2048 closed' (32 * r) → 32 * r ≤ length closed
 room-left k r text {closed} {closed'} h s g = go (eqb (length closed) 0) h g
   where

@@ -56,10 +56,13 @@ module _ (text : List ℕ) where
         (rw (e .0) at u)
         (rw (e .0) at f)
 
-    pub said-reception : r .ok ≡ true → lineReading (take (indexOf newline text) text) ≡ reception (r .time) (take (r .len) bytes)
+    pub said-reception : r .ok ≡ true
+        → lineReading (take (indexOf newline text) text) ≡ reception (r .time) (take (r .len) bytes)
     said-reception f =
         rw (e .0, e .1)
-        (by-cases text (λ x. lineOf x .ok ≡ true → lineReading line ≡ reception (lineOf x .time) (take (lineOf x .len) (bytesIn x)))
+        (by-cases text
+        (λ x. lineOf x .ok ≡ true
+        → lineReading line ≡ reception (lineOf x .time) (take (lineOf x .len) (bytesIn x)))
         (λ h g. absurd (false≢true g))
         (λ h q g. absurd (false≢true g))
         (λ t bs h q g. q ∙ rw (take-padded 64 bs))

@@ -38,10 +38,12 @@ decimal-last (d ∷ s) c =
     let a = d - digit0 in
     let p = 10 ^ length s in
     let l : length (s ++ (c ∷ [])) ≡ suc (length s) = simp length-append (omega arith) in
-    let e : a * 10 ^ suc (length s) ≡ a * p * 10 = rw (pow-succ' 10 (length s), mul-comm 10 p) (sym (mul-assoc a p 10)) in
+    let e : a * 10 ^ suc (length s) ≡ a * p * 10 =
+    rw (pow-succ' 10 (length s), mul-comm 10 p) (sym (mul-assoc a p 10)) in
     rw l (omega (arith, e, decimal-last s c))
 
-pub decimal-next : (text : List ℕ) (k : ℕ) → k < length text → decimalOf (take (k + 1) text) ≡ decimalOf (take k text) * 10 + (getD text k 0 - digit0)
+pub decimal-next : (text : List ℕ) (k : ℕ) → k < length text
+    → decimalOf (take (k + 1) text) ≡ decimalOf (take k text) * 10 + (getD text k 0 - digit0)
 decimal-next text k h = rw (add-one k, take-suc text k 0 h) (decimal-last (take k text) (getD text k 0))
 
 -- so many digits say less than a power of ten
@@ -71,7 +73,9 @@ module _ {text : List ℕ} (w : Thirteen text) where
   size = length-take-le 13 text (omega (arith, w .long))
 
   are-digits : all isDigit front ≡ true
-  are-digits = all-places isDigit front (λ k h. rw (getD-take 13 text k 0 (omega (arith, size))) (w .digits k (omega (arith, size))))
+  are-digits =
+      all-places isDigit front
+      (λ k h. rw (getD-take 13 text k 0 (omega (arith, size))) (w .digits k (omega (arith, size))))
 
   is-time : isTime front ≡ true
   unfolding isTime isNumber

@@ -51,7 +51,8 @@ module _ (s c v b : List ℕ) (i o : ℕ) (within : o + 8 ≤ 16)
 -- ---- what all pairs before a newline say
 
 -- pair i of digits
-hex-at : (h : List ℕ) (i : ℕ) → 2 * i + 1 < length h → getD (hexBytes h) i 0 ≡ nibbleOf (getD h (2 * i) 0) * 16 + nibbleOf (getD h (2 * i + 1) 0)
+hex-at : (h : List ℕ) (i : ℕ) → 2 * i + 1 < length h
+    → getD (hexBytes h) i 0 ≡ nibbleOf (getD h (2 * i) 0) * 16 + nibbleOf (getD h (2 * i + 1) 0)
 unfolding hexBytes
 hex-at [] i l = absurd (omega arith)
 hex-at (a ∷ []) i l = absurd (omega arith)
@@ -61,7 +62,8 @@ hex-at (a ∷ b ∷ h) (suc i) l =
     let f : suc (suc (2 * i)) + 1 ≡ suc (suc (2 * i + 1)) = omega arith in
     rw (e, f) (hex-at h i (omega arith))
 
-covered-later : {s bytes bytes' : List ℕ} {k : ℕ} → Covered s bytes k → getD bytes' k 0 ≡ getD bytes k 0 → Covered s bytes' k
+covered-later : {s bytes bytes' : List ℕ} {k : ℕ} → Covered s bytes k
+    → getD bytes' k 0 ≡ getD bytes k 0 → Covered s bytes' k
 covered-later w e = record { high = w .high; low = w .low; value = e ∙ w .value }
 
 module _ (s bytes : List ℕ) (n : ℕ) (end : Ended s n) (long : length bytes ≡ 64)
@@ -86,7 +88,13 @@ module _ (s bytes : List ℕ) (n : ℕ) (end : Ended s n) (long : length bytes �
       ])
 
   right : isHex hex ≡ true
-  right = is-hex (record { short = omega (arith, size, end .most); even = omega (arith, size); digits = all-places isHexDigit hex digit })
+  right =
+      is-hex
+      (record {
+        short = omega (arith, size, end .most);
+        even = omega (arith, size);
+        digits = all-places isHexDigit hex digit;
+      })
 
   parts : s ≡ hex ++ (newline ∷ drop (suc (2 * n)) s)
   parts = rw (end .ends) at (split-at s (2 * n) 0 (omega (arith, end .most, end .long)))
@@ -113,7 +121,8 @@ module _ (s bytes : List ℕ) (n : ℕ) (end : Ended s n) (long : length bytes �
 
   pub decoded-at-once : Decoded s bytes n
   decoded-at-once =
-      let l : length bytes ≡ length (padded 64 (hexBytes hex)) = simp (length-append, length-replicate) (omega (arith, count, end .most)) in
+      let l : length bytes ≡ length (padded 64 (hexBytes hex)) =
+      simp (length-append, length-replicate) (omega (arith, count, end .most)) in
       record {
         answer = rw (leads .0) (sym count);
         written = rw (leads .0) (ext-getD 0 bytes (padded 64 (hexBytes hex)) l same);
@@ -135,12 +144,15 @@ module _ {s c0 c1 c2 old mid new : List ℕ} {i j : ℕ} {r : Bool} (v b : List 
   at-second : r ≡ true → (k : ℕ) → j ≤ k → k < j + 8 → Covered s new k
   at-second t k l h =
       let e : j + (k - j) ≡ k = omega arith in
-      rw e at (covered s c2 v b j 8 (omega arith) (back .inside) values (small t) bytes new (k - j) (omega arith) (second .inside (k - j) (omega arith)))
+      rw e at
+      (covered s c2 v b j 8 (omega arith) (back .inside) values (small t) bytes new
+      (k - j) (omega arith) (second .inside (k - j) (omega arith)))
 
   alone : r ≡ true → (k : ℕ) → i ≤ k → k < i + 8 → (j ≤ k → k < j + 8 → ⊥) → Covered s new k
   alone t k l h other =
       let e : i + (k - i) ≡ k = omega arith in
-      let w : getD new (i + (k - i)) 0 ≡ getD b (0 + (k - i)) 0 = rw e (second .outside k other) ∙ (rw e at (first .inside (k - i) (omega arith))) in
+      let w : getD new (i + (k - i)) 0 ≡ getD b (0 + (k - i)) 0 =
+      rw e (second .outside k other) ∙ (rw e at (first .inside (k - i) (omega arith))) in
       rw e at (covered s c2 v b i 0 (omega arith) front-chars values (small t) bytes new (k - i) (omega arith) w)
 
   at-first : r ≡ true → (k : ℕ) → i ≤ k → k < i + 8 → Covered s new k
@@ -177,14 +189,17 @@ module _ {s old : List ℕ} {n : ℕ} (end : Ended s n) (blank : old ≡ replica
       ])
       (λ k l h. p .other k (λ x y. omega (arith, end .least)) (λ x y. omega (arith, end .least)) ∙ blank-at k h)
 
-  pub decoded-three : {mid new : List ℕ} {q r : Bool} → 16 < n → PutTwo s 0 8 old mid q → q ≡ true → PutTwo s 8 (n - 8) mid new r → r ≡ true → Decoded s new n
+  pub decoded-three : {mid new : List ℕ} {q r : Bool} → 16 < n → PutTwo s 0 8 old mid q
+      → q ≡ true → PutTwo s 8 (n - 8) mid new r → r ≡ true → Decoded s new n
   decoded-three {mid} {new} many p u q t =
       decoded-at-once s new n end (q .long ∙ p .long ∙ blank-long)
       (λ k h. elim (decLt k 8) [
-        | yes l ↦ covered-later (p .first u k (omega arith) (omega arith)) (q .other k (λ x y. omega arith) (λ x y. omega arith))
+        | yes l ↦ covered-later (p .first u k (omega arith) (omega arith))
+            (q .other k (λ x y. omega arith) (λ x y. omega arith))
         | no l ↦ elim (decLt k 16) [
           | yes m ↦ q .first t k (omega arith) (omega arith)
           | no m ↦ q .second t k (omega (arith, end .most)) (omega arith)
         ]
       ])
-      (λ k l h. q .other k (λ x y. omega arith) (λ x y. omega arith) ∙ p .other k (λ x y. omega arith) (λ x y. omega arith) ∙ blank-at k h)
+      (λ k l h. q .other k (λ x y. omega arith) (λ x y. omega arith)
+      ∙ p .other k (λ x y. omega arith) (λ x y. omega arith) ∙ blank-at k h)

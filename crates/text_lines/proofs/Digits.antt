@@ -66,15 +66,20 @@ module _ (n c : ℕ) (s : List ℕ) where
           → numberIf ((t && all isDigit s) && ltb (valueAfter w s) (2 ^ 64)) (valueAfter w s) ≡ Number.Bad
       go true true p e = cc
       go true false p e =
-          rw (le-ltb (valueAfter w s) (2 ^ 64) (omega (arith, value-grows w s, ltb-false w (2 ^ 64) p)), and-false (all isDigit s))
+          rw (
+            le-ltb (valueAfter w s) (2 ^ 64) (omega (arith, value-grows w s, ltb-false w (2 ^ 64) p)),
+            and-false (all isDigit s),
+          )
       go false u p e = refl
 
 pub append-fits : (n c : ℕ) {m : ℕ} → appended n c ≡ Number.Value m → m < 2 ^ 64
 unfolding appended
 append-fits n c {m} = go (isDigit c) (ltb (n * 10 + (c - digit0)) (2 ^ 64)) refl
   where
-    go : (t u : Bool) → ltb (n * 10 + (c - digit0)) (2 ^ 64) ≡ u → numberIf (t && u) (n * 10 + (c - digit0)) ≡ Number.Value m → m < 2 ^ 64
-    go true true p e = let h : n * 10 + (c - digit0) ≡ m = cc in omega (arith, ltb-true (n * 10 + (c - digit0)) (2 ^ 64) p)
+    go : (t u : Bool) → ltb (n * 10 + (c - digit0)) (2 ^ 64) ≡ u
+        → numberIf (t && u) (n * 10 + (c - digit0)) ≡ Number.Value m → m < 2 ^ 64
+    go true true p e = let h : n * 10 + (c - digit0) ≡ m = cc in
+        omega (arith, ltb-true (n * 10 + (c - digit0)) (2 ^ 64) p)
     go true false p e = let z : _≡_ {A = ℕ} 0 1 = cc in absurd (omega arith)
     go false u p e = let z : _≡_ {A = ℕ} 0 1 = cc in absurd (omega arith)
 

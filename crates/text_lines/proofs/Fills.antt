@@ -18,7 +18,8 @@ filled-next f l k x h done e j i = elim (decLt j k) [
 ]
 
 -- the same from a place on
-pub filled-from : (f : ℕ → ℕ) (l : List ℕ) (to k x : ℕ) → to + k < length l → ((j : ℕ) → j < k → getD l (to + j) 0 ≡ f j) → x ≡ f k
+pub filled-from : (f : ℕ → ℕ) (l : List ℕ) (to k x : ℕ) → to + k < length l
+    → ((j : ℕ) → j < k → getD l (to + j) 0 ≡ f j) → x ≡ f k
     → (j : ℕ) → j < k + 1 → getD (set l (to + k) x) (to + j) 0 ≡ f j
 filled-from f l to k x h done e j i = elim (decLt j k) [
   | yes b ↦ (getD-set-other l (to + k) (to + j) x 0 (λ z. omega arith) ∙ done j b)

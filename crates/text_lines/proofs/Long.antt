@@ -41,7 +41,11 @@ long-time (c ∷ d ∷ s) h = go (eqb c digit0) refl (leb digit0 c) refl
     go false p false q = and-false (some && true)
     go false p true q =
         let big = first-value c (d ∷ s) 20 (omega (arith, eqb-false c 48 p, leb-true 48 c q)) (omega arith) in
-        rw (le-ltb (decimalOf (c ∷ d ∷ s)) (2 ^ 64) (omega (arith, big)), and-false (ltb c 58 && all isDigit (d ∷ s)), and-false (some && true))
+        rw (
+          le-ltb (decimalOf (c ∷ d ∷ s)) (2 ^ 64) (omega (arith, big)),
+          and-false (ltb c 58 && all isDigit (d ∷ s)),
+          and-false (some && true),
+        )
 
 long-line : (l : List ℕ) → lineLimit ≤ length l → lineReading l ≡ bad
 unfolding lineReading
@@ -51,7 +55,9 @@ long-line l h = go (ltb k (length l)) refl (ltb k 21) refl
     k = indexOf space l
 
     go : (t : Bool) → ltb k (length l) ≡ t → (u : Bool) → ltb k 21 ≡ u
-        → cond (t && isTime (take k l) && isHex (drop (suc k) l)) (reception (decimalOf (take k l)) (hexBytes (drop (suc k) l))) bad ≡ bad
+        → cond (t && isTime (take k l) && isHex (drop (suc k) l))
+        (reception (decimalOf (take k l)) (hexBytes (drop (suc k) l))) bad
+        ≡ bad
     go false p u q = refl
     go true p true q =
         let e : 128 < length (drop (suc k) l) = simp length-drop (omega (arith, ltb-true k 21 q)) in
@@ -70,10 +76,15 @@ other-length (x ∷ xs) (y ∷ ys) n = rw (other-length xs ys (λ e. n (ap suc e
 long-setting : (l : List ℕ) → lineLimit ≤ length l → settingOf l ≡ Setting.Bad
 unfolding settingOf
 long-setting l h =
-    rw (other-length l (levelLine 0) (λ e. omega arith), other-length l (levelLine 1) (λ e. omega arith), other-length l (levelLine 2) (λ e. omega arith))
+    rw (
+      other-length l (levelLine 0) (λ e. omega arith),
+      other-length l (levelLine 1) (λ e. omega arith),
+      other-length l (levelLine 2) (λ e. omega arith),
+    )
 
 -- a definition that is the same for all long lines
-front : {A : Type 0} (f : List ℕ → A) (v : A) → ((l : List ℕ) → lineLimit ≤ length l → f l ≡ v) → (l : List ℕ) → f (take lineLimit l) ≡ f l
+front : {A : Type 0} (f : List ℕ → A) (v : A) → ((l : List ℕ) → lineLimit ≤ length l → f l ≡ v)
+    → (l : List ℕ) → f (take lineLimit l) ≡ f l
 front f v long l = go (ltb (length l) lineLimit) refl
   where
     go : (t : Bool) → ltb (length l) lineLimit ≡ t → f (take lineLimit l) ≡ f l
@@ -86,4 +97,5 @@ pub long-lines : LongLines
 long-lines l h = record { reading = long-line l h; setting = long-setting l h }
 
 pub fronts-tell : FrontsTell
-fronts-tell l = record { reading = front lineReading bad long-line l; setting = front settingOf Setting.Bad long-setting l }
+fronts-tell l =
+    record { reading = front lineReading bad long-line l; setting = front settingOf Setting.Bad long-setting l }

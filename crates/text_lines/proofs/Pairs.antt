@@ -56,7 +56,8 @@ length-leading (suc n) [] = omega arith
 length-leading (suc n) (a ∷ []) = omega arith
 length-leading (suc n) (a ∷ b ∷ s) = go (isHexDigit a && isHexDigit b) (length-leading n s)
   where
-    go : (t : Bool) → length (leadingBytes n s) ≤ n → length (cond t ((nibbleOf a * 16 + nibbleOf b) ∷ leadingBytes n s) []) ≤ suc n
+    go : (t : Bool) → length (leadingBytes n s) ≤ n
+        → length (cond t ((nibbleOf a * 16 + nibbleOf b) ∷ leadingBytes n s) []) ≤ suc n
     go true ih = omega arith
     go false ih = omega arith
 
@@ -68,7 +69,8 @@ no-pair (suc n) (a ∷ []) h = refl
 no-pair (suc n) (a ∷ b ∷ s) h = absurd (omega arith)
 
 -- n pairs at most, and a newline behind them
-leading-all : (n m : ℕ) (h r : List ℕ) → m ≤ n → length h ≡ m + m → all isHexDigit h ≡ true → leadingBytes n (h ++ (newline ∷ r)) ≡ hexBytes h
+leading-all : (n m : ℕ) (h r : List ℕ) → m ≤ n → length h ≡ m + m
+    → all isHexDigit h ≡ true → leadingBytes n (h ++ (newline ∷ r)) ≡ hexBytes h
 unfolding leadingBytes hexBytes nibbleOf
 leading-all zero m [] r l e a = refl
 leading-all (suc n) m [] [] l e a = refl
@@ -82,11 +84,14 @@ leading-all (suc n) (suc m) (x ∷ y ∷ h) r l e a =
     rw (p .0, q .0, leading-all n m h r (omega arith) (omega arith) (q .1))
 
 -- bytes, and a newline behind them
-pub leading-hex : (h r : List ℕ) → isHex h ≡ true → (leadingBytes 64 (h ++ (newline ∷ r)) ≡ hexBytes h) × (2 * length (hexBytes h) ≡ length h)
+pub leading-hex : (h r : List ℕ) → isHex h ≡ true
+    → (leadingBytes 64 (h ++ (newline ∷ r)) ≡ hexBytes h) × (2 * length (hexBytes h) ≡ length h)
 leading-hex h r e =
     let w = hexed h e in
-    let pairs : length h ≡ length h / 2 + length h / 2 = omega arith in
-    (leading-all 64 (length h / 2) h r (omega arith) pairs (w .digits), omega (arith, length-bytes h (length h / 2) pairs))
+    let pairs : length h ≡ length h / 2 + length h / 2 = omega arith in (
+      leading-all 64 (length h / 2) h r (omega arith) pairs (w .digits),
+      omega (arith, length-bytes h (length h / 2) pairs),
+    )
 
 -- the digits of these pairs
 pub record Leading (n : ℕ) (s : List ℕ) : Type 0 where
@@ -118,7 +123,13 @@ leading (suc n) (a ∷ b ∷ s) =
     (λ t. record { hex = []; rest = a ∷ b ∷ s; parts = refl; digits = refl; count = rw t; says = rw t })
 
 pub leading-right : {s : List ℕ} (w : Leading 64 s) → isHex (w .hex) ≡ true
-leading-right {s} w = is-hex (record { short = omega (arith, w .count, length-leading 64 s); even = omega (arith, w .count); digits = w .digits })
+leading-right {s} w =
+    is-hex
+    (record {
+      short = omega (arith, w .count, length-leading 64 s);
+      even = omega (arith, w .count);
+      digits = w .digits;
+    })
 
 -- ---- storing their bytes
 

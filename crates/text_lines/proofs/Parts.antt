@@ -49,12 +49,16 @@ module _ (text : List ℕ) {t k : ℕ} (timed : Timed.At t k ≡ timedOf text) w
     front = take k text ++ (space ∷ pairs .hex)
 
     size : length front ≡ k + 1 + 2 * m
-    size = simp length-append (omega (arith, length-take-le k text (omega (arith, time .within)), pairs .count, decoded .answer))
+    size =
+        simp length-append
+        (omega (arith, length-take-le k text (omega (arith, time .within)), pairs .count, decoded .answer))
 
     whole : text ≡ front ++ pairs .rest
     whole =
-        let split : text ≡ take k text ++ (space ∷ behind) = split-at text k 0 (time .within) ∙ rw (time .behind, add-one k) in
-        split ∙ ap (λ (l : List ℕ). take k text ++ (space ∷ l)) (pairs .parts) ∙ sym (append-assoc (take k text) (space ∷ pairs .hex) (pairs .rest))
+        let split : text ≡ take k text ++ (space ∷ behind) =
+        split-at text k 0 (time .within) ∙ rw (time .behind, add-one k) in
+        split ∙ ap (λ (l : List ℕ). take k text ++ (space ∷ l)) (pairs .parts)
+        ∙ sym (append-assoc (take k text) (space ∷ pairs .hex) (pairs .rest))
 
     pub read-within : k + 1 + 2 * m ≤ length text
     read-within = omega (arith, size, ap length whole ∙ length-append front (pairs .rest))
@@ -67,9 +71,12 @@ module _ (text : List ℕ) {t k : ℕ} (timed : Timed.At t k ≡ timedOf text) w
         let left = w .hex ++ (newline ∷ w .rest) in
         let after : behind ≡ left = rw (w .parts, here) (drop-append-add (w .digits) (space ∷ left) 1) in
         let x = leading-hex (w .hex) (w .rest) (w .isRight) in
-        let same : m ≡ length (hexBytes (w .hex)) = decoded .answer ∙ ap (λ (s : List ℕ). length (leadingBytes 64 s)) after ∙ ap length (x .0) in
-        let at : length (line w) ≡ k + 1 + 2 * m = omega (arith, length-line w) in
-        (rw (line-first w) (simp length-append (omega arith)), rw (line-first w) (getD-at (line w) newline (w .rest) 0 (k + 1 + 2 * m) at))
+        let same : m ≡ length (hexBytes (w .hex)) =
+        decoded .answer ∙ ap (λ (s : List ℕ). length (leadingBytes 64 s)) after ∙ ap length (x .0) in
+        let at : length (line w) ≡ k + 1 + 2 * m = omega (arith, length-line w) in (
+          rw (line-first w) (simp length-append (omega arith)),
+          rw (line-first w) (getD-at (line w) newline (w .rest) 0 (k + 1 + 2 * m) at),
+        )
 
     pub no-end : length text ≤ k + 1 + 2 * m → Starts text → ⊥
     no-end h w = omega (arith, newline-next w .0)
@@ -87,11 +94,17 @@ module _ (text : List ℕ) {t k : ℕ} (timed : Timed.At t k ≡ timedOf text) w
             digits = take k text;
             hex = pairs .hex;
             rest = drop 1 r;
-            parts = whole ∙ ap (λ (l : List ℕ). front ++ l) first ∙ append-assoc (take k text) (space ∷ pairs .hex) (newline ∷ drop 1 r);
+            parts =
+                whole ∙ ap (λ (l : List ℕ). front ++ l) first
+                ∙ append-assoc (take k text) (space ∷ pairs .hex) (newline ∷ drop 1 r);
             isTimely = time .right;
             isRight = leading-right pairs;
           }
 
-      pub answer : (record { ok = true; time = t; len = m; used = k + 1 + 2 * m + 1 } ≡ lineOf (frontOf text)) × (bytes ≡ bytesIn (frontOf text))
+      pub answer : (record { ok = true; time = t; len = m; used = k + 1 + 2 * m + 1 } ≡ lineOf (frontOf text))
+          × (bytes ≡ bytesIn (frontOf text))
       unfolding starts
-      answer = (rw (front-reception starts, size, time .says, pairs .says, decoded .answer), rw (front-reception starts, pairs .says) (decoded .written))
+      answer = (
+        rw (front-reception starts, size, time .says, pairs .says, decoded .answer),
+        rw (front-reception starts, pairs .says) (decoded .written),
+      )

@@ -44,15 +44,23 @@ module _ {text : List ℕ} (w : Starts text) where
   newline-behind =
       let behind = newline ∷ w .rest in
       let past-hex = index-past newline isHexDigit refl (w .hex) behind (hexed (w .hex) (w .isRight) .digits) in
-      let past-digits = index-past newline isDigit refl (w .digits) (space ∷ (w .hex ++ behind)) (time-digits (w .digits) (w .isTimely)) in
+      let past-digits =
+      index-past newline isDigit refl (w .digits)
+      (space ∷ (w .hex ++ behind)) (time-digits (w .digits) (w .isTimely)) in
       rw (w .parts, past-digits, past-hex) (omega (arith, length-line))
 
   pub front-reception : frontOf text ≡ ended (length line) (reception (decimalOf (w .digits)) (hexBytes (w .hex)))
   unfolding frontOf
   front-reception =
       let short : length line < length text = rw line-first (simp length-append (omega arith)) in
-      let front : take (length line) text ≡ line = rw line-first (take-at line (newline ∷ w .rest) (length line) refl) in
-      rw (newline-behind, lt-ltb (length line) (length text) short, front, joined (w .digits) (w .hex) (w .isTimely) (w .isRight))
+      let front : take (length line) text ≡ line =
+      rw line-first (take-at line (newline ∷ w .rest) (length line) refl) in
+      rw (
+        newline-behind,
+        lt-ltb (length line) (length text) short,
+        front,
+        joined (w .digits) (w .hex) (w .isTimely) (w .isRight),
+      )
 
   pub time-first : timedOf text ≡ Timed.At (decimalOf (w .digits)) (length (w .digits))
   time-first = rw (w .parts) (timed-joined (w .digits) (w .hex ++ (newline ∷ w .rest)) (w .isTimely))
@@ -64,12 +72,16 @@ module _ (text : List ℕ) where
   n = indexOf newline text
 
   -- what holds in each of them holds
-  pub by-cases : (P : Front → Type 0) → (length text ≤ n → P unended) → (n < length text → lineReading (take n text) ≡ bad → P (ended n bad))
-      → ((t : ℕ) (bs : List ℕ) → n < length text → lineReading (take n text) ≡ reception t bs → P (ended n (reception t bs))) → P (frontOf text)
+  pub by-cases : (P : Front → Type 0) → (length text ≤ n → P unended)
+      → (n < length text → lineReading (take n text) ≡ bad → P (ended n bad))
+      → ((t : ℕ) (bs : List ℕ) → n < length text
+      → lineReading (take n text) ≡ reception t bs → P (ended n (reception t bs)))
+      → P (frontOf text)
   unfolding frontOf
   by-cases P a b c = go (ltb n (length text)) refl (lineReading (take n text)) refl
     where
-      go : (t : Bool) → ltb n (length text) ≡ t → (x : Reading) → lineReading (take n text) ≡ x → P (cond t (ended n x) unended)
+      go : (t : Bool) → ltb n (length text) ≡ t → (x : Reading)
+          → lineReading (take n text) ≡ x → P (cond t (ended n x) unended)
       go false p x q = a (ltb-false n (length text) p)
       go true p bad q = b (ltb-true n (length text) p) q
       go true p (reception t bs) q = c t bs (ltb-true n (length text) p) q
@@ -105,7 +117,8 @@ module _ (text : List ℕ) {n : ℕ} (found : n ≡ indexOf newline text) where
   unfolding badFront
   ended-bad h = rw (sym found, lt-ltb n (length text) h)
 
-pub answer-bad : {text bytes : List ℕ} {r : Line} → (Starts text → ⊥) → (r ≡ lineOf (badFront text)) × (bytes ≡ replicate 64 0)
+pub answer-bad : {text bytes : List ℕ} {r : Line} → (Starts text → ⊥)
+    → (r ≡ lineOf (badFront text)) × (bytes ≡ replicate 64 0)
     → (r ≡ lineOf (frontOf text)) × (bytes ≡ bytesIn (frontOf text))
 answer-bad {text} {bytes} {r} other e =
     by-cases text (λ x. (r ≡ lineOf x) × (bytes ≡ bytesIn x))

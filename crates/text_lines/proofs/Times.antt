@@ -39,7 +39,12 @@ pub record Begun (text : List ℕ) (n i : ℕ) : Type 0 where
       ≡ numberIf (isNumber (take (indexOf space text) text)) (decimalOf (take (indexOf space text) text))
 
 pub begun-none : (text : List ℕ) → Begun text 0 0
-begun-none text = record { fits = lit< tt; before = sym (zero-add (indexOf space text)); value = number-whole (take (indexOf space text) text) }
+begun-none text =
+    record {
+      fits = lit< tt;
+      before = sym (zero-add (indexOf space text));
+      value = number-whole (take (indexOf space text) text);
+    }
 
 -- no space follows
 pub all-passed : {text : List ℕ} {n i : ℕ} → Begun text n i → length text ≤ i → Timed.Bad ≡ timedOf text
@@ -71,7 +76,8 @@ module _ {text : List ℕ} {n i : ℕ} (b : Begun text n i) (more : i < length t
     unfolding isTime
     wrong-digit e =
         let t = take (indexOf space text) text in
-        let f : isNumber t ≡ false = cond-no (isNumber t) value≢bad (sym value-next ∙ append-bad n c (take (indexOf space rest) rest) e) .0 in
+        let f : isNumber t ≡ false =
+        cond-no (isNumber t) value≢bad (sym value-next ∙ append-bad n c (take (indexOf space rest) rest) e) .0 in
         no-time text (rw f (and-false (ltb 0 (length t) && not (hasLeadingZero t))))
 
   pub begun-next : {m : ℕ} → appended n (getD text i 0) ≡ Number.Value m → Begun text m (i + 1)
@@ -102,7 +108,8 @@ module _ {text : List ℕ} {n i : ℕ} (b : Begun text n i) (more : i < length t
     no-digit e = no-time text (rw index-here (time-none (take i text) (size ∙ e)))
 
     module _ (some : i ≡ 0 → ⊥) where
-      same-zero : {t : Bool} → ltb 1 i && eqb (getD text 0 0) digit0 ≡ t → ltb 1 (length (take i text)) && eqb (getD (take i text) 0 0) digit0 ≡ t
+      same-zero : {t : Bool} → ltb 1 i && eqb (getD text 0 0) digit0 ≡ t
+          → ltb 1 (length (take i text)) && eqb (getD (take i text) 0 0) digit0 ≡ t
       same-zero e = rw (size, getD-take i text 0 0 (omega arith)) e
 
       pub zero-first : ltb 1 i && eqb (getD text 0 0) digit0 ≡ true → Timed.Bad ≡ timedOf text
@@ -113,7 +120,8 @@ module _ {text : List ℕ} {n i : ℕ} (b : Begun text n i) (more : i < length t
       timed e =
           let y = cond-yes (isNumber (take i text)) (λ x. value≢bad (sym x)) value-here in
           let value : decimalOf (take i text) ≡ n = let z = y .1 in cc in
-          let right : isTime (take i text) ≡ true = time-number (take i text) (λ z. some (sym size ∙ z)) (same-zero e) ∙ y .0 in
+          let right : isTime (take i text) ≡ true =
+          time-number (take i text) (λ z. some (sym size ∙ z)) (same-zero e) ∙ y .0 in
           rw (index-here, lt-ltb i (length text) more, right, value)
 
 -- ---- both ways
@@ -147,4 +155,9 @@ timely text {t} {k} e =
 pub timed-joined : (s r : List ℕ) → isTime s ≡ true → timedOf (s ++ (space ∷ r)) ≡ Timed.At (decimalOf s) (length s)
 unfolding timedOf
 timed-joined s r e =
-    rw (space-behind s r e, lt-ltb (length s) (length (s ++ (space ∷ r))) (simp length-append (omega arith)), take-append-seam s (space ∷ r), e)
+    rw (
+      space-behind s r e,
+      lt-ltb (length s) (length (s ++ (space ∷ r))) (simp length-append (omega arith)),
+      take-append-seam s (space ∷ r),
+      e,
+    )

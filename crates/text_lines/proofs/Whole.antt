@@ -31,7 +31,8 @@ found-at b (x ∷ l) h = go (eqb x b) refl (found-at b l) h
     go false p ih h = ih (omega arith)
 
 -- behind characters that pass a test which b does not pass
-pub index-past : (b : ℕ) (p : ℕ → Bool) → p b ≡ false → (s t : List ℕ) → all p s ≡ true → indexOf b (s ++ t) ≡ length s + indexOf b t
+pub index-past : (b : ℕ) (p : ℕ → Bool) → p b ≡ false → (s t : List ℕ)
+    → all p s ≡ true → indexOf b (s ++ t) ≡ length s + indexOf b t
 unfolding indexOf indexAfter
 index-past b p fails [] t a = sym (zero-add (indexOf b t))
 index-past b p fails (c ∷ s) t a =
@@ -54,7 +55,8 @@ space-behind s h e = index-past space isDigit refl s (space ∷ h) (time-digits 
 
 -- ---- both ways
 
-pub joined : (s h : List ℕ) → isTime s ≡ true → isHex h ≡ true → lineReading (s ++ (space ∷ h)) ≡ reception (decimalOf s) (hexBytes h)
+pub joined : (s h : List ℕ) → isTime s ≡ true → isHex h ≡ true
+    → lineReading (s ++ (space ∷ h)) ≡ reception (decimalOf s) (hexBytes h)
 unfolding lineReading
 joined s h t x =
     let l = s ++ (space ∷ h) in

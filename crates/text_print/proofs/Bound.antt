@@ -66,7 +66,8 @@ first-bound : (x : Setting) → length (firstText modelCollector x) ≤ 4
 first-bound (Setting.Level n) = omega arith
 first-bound Setting.Bad = omega arith
 
-row-bound : (c : Receiver) (l : List ℕ) (x : Reading) → lineReading l ≡ x → length (lineText modelCollector c x) ≤ 15 * (length l + 1)
+row-bound : (c : Receiver) (l : List ℕ) (x : Reading) → lineReading l ≡ x
+    → length (lineText modelCollector c x) ≤ 15 * (length l + 1)
 row-bound c l (reception t bs) e =
     let a = takenAt (c .view) t bs .answer in
     let out = sent (c .setting) a t bs in
@@ -86,18 +87,27 @@ line-bound over l = omega arith
 
 -- ---- a text
 
-module _ {S : Type 0} (p : Program S) (limit : ℕ) (b : (s : S) (l : List ℕ) → length (p .text s l) ≤ 15 * (length l + 1)) where
+module _ {S : Type 0} (p : Program S) (limit : ℕ)
+    (b : (s : S) (l : List ℕ) → length (p .text s l) ≤ 15 * (length l + 1)) where
   text-bound : (x : List ℕ) (a : Position S) → length (feedText p limit a x) ≤ 15 * (length (a .line) + length x)
   unfolding feedText
   text-bound [] a = omega arith
-  text-bound (c ∷ x) a = go (eqb c newline) (text-bound x (atLineStart (p .next (a .state) (a .line)))) (text-bound x (inLine (a .state) (take limit (a .line ++ (c ∷ [])))))
+  text-bound (c ∷ x) a =
+      go (eqb c newline) (text-bound x (atLineStart (p .next (a .state) (a .line))))
+      (text-bound x (inLine (a .state) (take limit (a .line ++ (c ∷ [])))))
     where
       go : (t : Bool) → length (feedText p limit (atLineStart (p .next (a .state) (a .line))) x) ≤ 15 * (0 + length x)
-          → length (feedText p limit (inLine (a .state) (take limit (a .line ++ (c ∷ [])))) x) ≤ 15 * (length (take limit (a .line ++ (c ∷ []))) + length x)
-          → length (cond t (p .text (a .state) (a .line)) [] ++ feedText p limit (cond t (atLineStart (p .next (a .state) (a .line))) (inLine (a .state) (take limit (a .line ++ (c ∷ []))))) x)
+          → length (feedText p limit (inLine (a .state) (take limit (a .line ++ (c ∷ [])))) x)
+          ≤ 15 * (length (take limit (a .line ++ (c ∷ []))) + length x)
+          → length (cond t (p .text (a .state) (a .line)) []
+          ++ feedText p limit
+          (cond t (atLineStart (p .next (a .state) (a .line)))
+          (inLine (a .state) (take limit (a .line ++ (c ∷ [])))))
+          x)
           ≤ 15 * (length (a .line) + suc (length x))
       go true e f = simp length-append (omega (arith, e, b (a .state) (a .line)))
       go false e f = omega (arith, f, length-take limit (a .line ++ (c ∷ [])), length-append (a .line) (c ∷ []))
 
-pub printed-bound : (s : Phase Receiver) (text : List ℕ) → length (feedText (collect modelCollector) lineLimit (atLineStart s) text) ≤ 15 * length text
+pub printed-bound : (s : Phase Receiver) (text : List ℕ)
+    → length (feedText (collect modelCollector) lineLimit (atLineStart s) text) ≤ 15 * length text
 printed-bound s text = omega (arith, text-bound (collect modelCollector) lineLimit line-bound text (atLineStart s))

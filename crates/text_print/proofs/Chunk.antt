@@ -59,48 +59,72 @@ module _ (buffer : List ℕ) (used end : ℕ) (fits : end ≤ length buffer) (or
         rw (kept-count, carried, sets-eq keptOf buffer 0 h) (take-append-seam keptOf (drop (0 + length keptOf) buffer))
 
   -- where the run stands after the chunk, and what was printed for it
-  pub chunk-taken : (s₀ s : Phase Receiver) → feed (collect modelCollector) lineLimit (atLineStart s₀) (take used (take end buffer)) ≡ atLineStart s → isUnended leftOver ≡ true
+  pub chunk-taken : (s₀ s : Phase Receiver)
+      → feed (collect modelCollector) lineLimit (atLineStart s₀) (take used (take end buffer)) ≡ atLineStart s
+      → isUnended leftOver ≡ true
       → (positionAfter s₀ (take end buffer) ≡ inLine s keptOf)
       × (feedText (collect modelCollector) lineLimit (atLineStart s₀) (take end buffer)
       ≡ feedText (collect modelCollector) lineLimit (atLineStart s₀) (take used (take end buffer)))
   chunk-taken s₀ s e o =
       let t = take end buffer in
-      let d : Drained (collect modelCollector) lineLimit s₀ (take used t) s (feedText (collect modelCollector) lineLimit (atLineStart s₀) (take used t)) =
+      let d : Drained (collect modelCollector) lineLimit s₀ (take used t) s
+      (feedText (collect modelCollector) lineLimit (atLineStart s₀) (take used t)) =
       record { state = e; text = refl }
       in
       rw (take-append-drop used t) at (left (collect modelCollector) lineLimit d (drop used t) o)
 
   -- ---- the step
 
-  module _ {buffer' : List ℕ} {kept : ℕ} (k : Carried buffer used end buffer' kept) (few : end ≤ chunk) {s₀ : Phase Receiver} (session : Session) {out out' : List ℕ} {written : ℕ}
-      (f : Fed (collect modelCollector) s₀ (take used (take end buffer)) out (phaseOf session) out' written) (o : isUnended leftOver ≡ true) (size : length out ≡ capacity) where
+  module _ {buffer' : List ℕ} {kept : ℕ} (k : Carried buffer used end buffer' kept)
+      (few : end ≤ chunk) {s₀ : Phase Receiver} (session : Session) {out out' : List ℕ} {written : ℕ}
+      (f : Fed (collect modelCollector) s₀ (take used (take end buffer)) out (phaseOf session) out' written)
+      (o : isUnended leftOver ≡ true) (size : length out ≡ capacity) where
     stands : positionAfter s₀ (take end buffer) ≡ inLine (phaseOf session) keptOf
     stands = chunk-taken s₀ (phaseOf session) (f .state) o .0
 
-    printed : Printed out 0 (feedText (collect modelCollector) lineLimit (atLineStart s₀) (take end buffer)) (length out) out' written
+    printed : Printed out 0 (feedText (collect modelCollector) lineLimit (atLineStart s₀) (take end buffer))
+        (length out) out' written
     printed = rw (chunk-taken s₀ (phaseOf session) (f .state) o .1) (f .output)
 
     pub room-left : written + 512 ≤ length out'
     room-left =
-        omega (arith, printed .next, printed-bound s₀ (take end buffer), length-take-le end buffer fits, same-length (f .output))
+        omega (
+          arith,
+          printed .next,
+          printed-bound s₀ (take end buffer),
+          length-take-le end buffer fits,
+          same-length (f .output),
+        )
 
-    pub stepped : SteppedOver s₀ (take end buffer) buffer false out buffer' out' (record { session = session; kept = kept; written = written; ended = isOver (phaseOf session) })
+    pub stepped : SteppedOver s₀ (take end buffer) buffer false out buffer' out'
+        (record { session = session; kept = kept; written = written; ended = isOver (phaseOf session) })
     stepped = record {
       state = rw stands;
       kept = rw stands (kept-count k);
       few = omega (arith, kept-count k, kept-few);
       unended = rw stands (kept-open o);
       line = rw stands (carried k);
-      output = rw (append-nil (feedText (collect modelCollector) lineLimit (atLineStart s₀) (take end buffer))) (rw size at printed);
+      output =
+          rw (append-nil (feedText (collect modelCollector) lineLimit (atLineStart s₀) (take end buffer)))
+          (rw size at printed);
       ended = rw stands;
     }
 
     pub ended : {part' : List ℕ} {more : ℕ}
-        → Printed (take (length out' - written) (drop written out')) 0 (endText (collect modelCollector) (inLine (phaseOf session) (take kept buffer'))) longestFinish part' more
+        → Printed (take (length out' - written) (drop written out')) 0
+        (endText (collect modelCollector) (inLine (phaseOf session) (take kept buffer'))) longestFinish part' more
         → SteppedOver s₀ (take end buffer) buffer true out buffer' (putMid written (length out' - written) out' part')
         (record { session = session; kept = kept; written = written + more; ended = true })
     ended {part'} {more} q =
-        let e = put-part out' written (omega (arith, room-left)) (rw (kept-front k) at q) (omega (arith, room-left, q .next, q .short, ap (λ (x : List ℕ). length (endText (collect modelCollector) (inLine (phaseOf session) x))) (kept-front k))) in
+        let e =
+        put-part out' written (omega (arith, room-left)) (rw (kept-front k) at q)
+        (omega (
+          arith,
+          room-left,
+          q .next,
+          q .short,
+          ap (λ (x : List ℕ). length (endText (collect modelCollector) (inLine (phaseOf session) x))) (kept-front k),
+        )) in
         let t = then printed e in
         record {
           state = rw stands;
@@ -108,6 +132,12 @@ module _ (buffer : List ℕ) (used end : ℕ) (fits : end ≤ length buffer) (or
           few = omega (arith, kept-count k, kept-few);
           unended = rw stands (kept-open o);
           line = rw stands (carried k);
-          output = rw stands (record { bytes = t .bytes; next = t .next; short = omega (arith, room-left, q .short, same-length (f .output)) });
+          output =
+              rw stands
+              (record {
+                bytes = t .bytes;
+                next = t .next;
+                short = omega (arith, room-left, q .short, same-length (f .output));
+              });
           ended = refl;
         }

@@ -39,7 +39,12 @@ later-short : (c : Receiver) (x : Reading) → length (lineText modelCollector c
 later-short c (reception t bs) =
     let a = takenAt (c .view) t bs .answer in
     let sent = sentFor (c .setting) a (receptionAt t bs) in
-    omega (arith, row-short (decimalText t) (printedRow a) (sentBytes sent), digits-short 20 t, sent-short (c .setting) a t bs)
+    omega (
+      arith,
+      row-short (decimalText t) (printedRow a) (sentBytes sent),
+      digits-short 20 t,
+      sent-short (c .setting) a t bs,
+    )
 later-short c bad = omega arith
 
 line-short : (s : Phase Receiver) (l : List ℕ) → length (phaseText modelCollector s l) ≤ longestLine
@@ -54,8 +59,10 @@ end-short over = omega arith
 
 -- ---- nothing is kept
 
-pub no-line-kept : (s : Phase Receiver) (l : List ℕ) {out out' : List ℕ} {r : ℕ} → length l ≡ 0 → longestFinish ≤ length out
-    → PrintedIfFits out 0 (longestEnd s) (phaseEnd modelCollector s) out' r → Printed out 0 (endText (collect modelCollector) (inLine s l)) longestFinish out' r
+pub no-line-kept : (s : Phase Receiver) (l : List ℕ) {out out' : List ℕ} {r : ℕ}
+    → length l ≡ 0 → longestFinish ≤ length out
+    → PrintedIfFits out 0 (longestEnd s) (phaseEnd modelCollector s) out' r
+    → Printed out 0 (endText (collect modelCollector) (inLine s l)) longestFinish out' r
 unfolding lastText
 no-line-kept s [] e h p =
     let b = end-short s in
@@ -76,14 +83,16 @@ not-open (c ∷ l) = go (eqb c newline) (not-open l)
     go false e = e
 
 -- a part of a line is no whole line
-part-is-none : (s s' : Phase Receiver) (l : List ℕ) → isUnended l ≡ true → feed (collect modelCollector) lineLimit (atLineStart s) l ≡ atLineStart s' → length l ≡ 0
+part-is-none : (s s' : Phase Receiver) (l : List ℕ) → isUnended l ≡ true
+    → feed (collect modelCollector) lineLimit (atLineStart s) l ≡ atLineStart s' → length l ≡ 0
 part-is-none s s' l o e =
     let f = rw (take-nil {A = ℕ} lineLimit) at (feed-open (collect modelCollector) lineLimit l [] s o) in
     let k : take lineLimit l ≡ [] = ap (λ (a : Position (Phase Receiver)). a .line) (sym f ∙ e) in
     let n = ap length k in
     omega (arith, length-take lineLimit l)
 
-module _ (s : Phase Receiver) (l : List ℕ) (o : isUnended l ≡ true) (full : 0 < length l) {out out₁ : List ℕ} (p : Progress)
+module _ (s : Phase Receiver) (l : List ℕ) (o : isUnended l ≡ true)
+    (full : 0 < length l) {out out₁ : List ℕ} (p : Progress)
     (capacity : longestLine ≤ length out) (r : Ran s (l ++ (newline ∷ [])) out out₁ p) where
   -- the line is taken
   all-used : p .used ≡ suc (length l)
@@ -92,7 +101,8 @@ module _ (s : Phase Receiver) (l : List ℕ) (o : isUnended l ≡ true) (full : 
       go : (t : Bool) → leb (p .used) (length l) ≡ t → p .used ≡ suc (length l)
       go true e =
           let h = leb-true (p .used) (length l) e in
-          let part : feed (collect modelCollector) lineLimit (atLineStart s) (take (p .used) l) ≡ atLineStart (phaseOf (p .session)) =
+          let part : feed (collect modelCollector) lineLimit (atLineStart s) (take (p .used) l)
+          ≡ atLineStart (phaseOf (p .session)) =
           rw (take-append-le (p .used) l (newline ∷ []) h) at (r .fed .state)
           in
           let n = part-is-none s (phaseOf (p .session)) (take (p .used) l) (open-front (p .used) l o) part in
@@ -105,8 +115,10 @@ module _ (s : Phase Receiver) (l : List ℕ) (o : isUnended l ≡ true) (full : 
   whole : take (p .used) (l ++ (newline ∷ [])) ≡ l ++ (newline ∷ [])
   whole = rw all-used (take-all (suc (length l)) (l ++ (newline ∷ [])) (omega (arith, length-append l (newline ∷ []))))
 
-  taken : Drained (collect modelCollector) lineLimit s (l ++ (newline ∷ [])) (nextPhase modelCollector s l) (phaseText modelCollector s l)
-  taken = more (collect modelCollector) lineLimit (bounded modelCollector) (none (collect modelCollector) lineLimit s) l o
+  taken : Drained (collect modelCollector) lineLimit s (l ++ (newline ∷ []))
+      (nextPhase modelCollector s l) (phaseText modelCollector s l)
+  taken =
+      more (collect modelCollector) lineLimit (bounded modelCollector) (none (collect modelCollector) lineLimit s) l o
 
   next-taken : phaseOf (p .session) ≡ nextPhase modelCollector s l
   next-taken = ap (λ (a : Position (Phase Receiver)). a .state) (sym (rw whole at (r .fed .state)) ∙ taken .state)
@@ -115,8 +127,10 @@ module _ (s : Phase Receiver) (l : List ℕ) (o : isUnended l ≡ true) (full : 
   text-taken = rw (taken .text) at (rw whole at (r .fed .output))
 
   then-end : {out₂ : List ℕ} {n : ℕ} → longestFinish ≤ length out
-      → PrintedIfFits out₁ (p .written) (longestEnd (phaseOf (p .session))) (phaseEnd modelCollector (phaseOf (p .session))) out₂ n
-      → Printed out 0 (phaseText modelCollector s l ++ phaseEnd modelCollector (nextPhase modelCollector s l)) longestFinish out₂ n
+      → PrintedIfFits out₁ (p .written) (longestEnd (phaseOf (p .session)))
+      (phaseEnd modelCollector (phaseOf (p .session))) out₂ n
+      → Printed out 0
+      (phaseText modelCollector s l ++ phaseEnd modelCollector (nextPhase modelCollector s l)) longestFinish out₂ n
   then-end room q =
       let same = same-length text-taken in
       let short = end-short (phaseOf (p .session)) in
@@ -127,22 +141,28 @@ module _ (s : Phase Receiver) (l : List ℕ) (o : isUnended l ≡ true) (full : 
       rw (sym next-taken) (record { bytes = t .bytes; next = t .next; short = omega (arith, e .short) })
 
 last-full : (s : Phase Receiver) (l : List ℕ) → 0 < length l
-    → lastText (collect modelCollector) s l ≡ phaseText modelCollector s l ++ phaseEnd modelCollector (nextPhase modelCollector s l)
+    → lastText (collect modelCollector) s l
+    ≡ phaseText modelCollector s l ++ phaseEnd modelCollector (nextPhase modelCollector s l)
 unfolding lastText
 last-full s [] h = absurd (omega arith)
 last-full s (c ∷ l) h = refl
 
-pub line-kept : (s : Phase Receiver) (l : List ℕ) {n : ℕ} {out out₁ out₂ : List ℕ} (p : Progress) → isUnended l ≡ true → (length l ≡ 0 → ⊥) → longestFinish ≤ length out
+pub line-kept : (s : Phase Receiver) (l : List ℕ) {n : ℕ} {out out₁ out₂ : List ℕ} (p : Progress)
+    → isUnended l ≡ true → (length l ≡ 0 → ⊥) → longestFinish ≤ length out
     → Ran s (l ++ (newline ∷ [])) out out₁ p
-    → PrintedIfFits out₁ (p .written) (longestEnd (phaseOf (p .session))) (phaseEnd modelCollector (phaseOf (p .session))) out₂ n
+    → PrintedIfFits out₁ (p .written) (longestEnd (phaseOf (p .session)))
+    (phaseEnd modelCollector (phaseOf (p .session))) out₂ n
     → Printed out 0 (endText (collect modelCollector) (inLine s l)) longestFinish out₂ n
-line-kept s l p o some room r q = rw (last-full s l (omega arith)) (then-end s l o (omega arith) p (omega arith) r room q)
+line-kept s l p o some room r q =
+    rw (last-full s l (omega arith)) (then-end s l o (omega arith) p (omega arith) r room q)
 
 -- the line in an array of zeros, with a newline behind it
-pub with-newline : (l zeros whole : List ℕ) → length l < length zeros → whole ≡ take (length l) l ++ drop (length l) zeros
+pub with-newline : (l zeros whole : List ℕ) → length l < length zeros
+    → whole ≡ take (length l) l ++ drop (length l) zeros
     → take (length l + 1 - 0) (set whole (length l) newline) ≡ l ++ (newline ∷ [])
 with-newline l zeros whole h e =
     let n : length l + 1 - 0 ≡ suc (length l) = omega arith in
     let f : whole ≡ l ++ drop (length l) zeros = e ∙ rw (take-length l) in
-    let fits : length l < length whole = omega (arith, ap length f, length-append l (drop (length l) zeros), length-drop (length l) zeros) in
+    let fits : length l < length whole =
+    omega (arith, ap length f, length-append l (drop (length l) zeros), length-drop (length l) zeros) in
     rw (n, take-suc-set whole (length l) newline fits, f, take-append-seam l (drop (length l) zeros))

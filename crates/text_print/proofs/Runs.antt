@@ -19,7 +19,8 @@ use Rattle.text_print.specs.Claims.{Moment, Made, IsRun, readIn, written
 use Rattle.text_print.proofs.Whole.{placeAfter, textAfter, printed-whole, more-stands, more-printed, at-over}
 use Rattle.text_print.proofs.Turning.{front-there, or-false, or-true}
 
-module _ (x : List ℕ) (s : Phase Receiver) (kept : List ℕ) (here : placeAfter x ≡ inLine s kept) (o : isUnended kept ≡ true) (few : length kept ≤ lineLimit) (m : Moment)
+module _ (x : List ℕ) (s : Phase Receiver) (kept : List ℕ) (here : placeAfter x ≡ inLine s kept)
+    (o : isUnended kept ≡ true) (few : length kept ≤ lineLimit) (m : Moment)
     (k : Made s kept m) where
   abbrev y : List ℕ
   y = m .piece
@@ -30,7 +31,8 @@ module _ (x : List ℕ) (s : Phase Receiver) (kept : List ℕ) (here : placeAfte
   wrote : take (m .turn .written) (m .out') ≡ printedFrom s (kept ++ y) (eqb (length y) 0)
   wrote =
       let p = k .step .output in
-      front-there (m .out) (printedFrom s (kept ++ y) (eqb (length y) 0)) (p .next ∙ zero-add _) (omega (arith, p .short, k .outLong)) (p .bytes)
+      front-there (m .out) (printedFrom s (kept ++ y) (eqb (length y) 0))
+      (p .next ∙ zero-add _) (omega (arith, p .short, k .outLong)) (p .bytes)
 
   stands : placeAfter (x ++ y) ≡ positionAfter s (kept ++ y)
   stands = more-stands x y s kept here o few
@@ -44,9 +46,12 @@ module _ (x : List ℕ) (s : Phase Receiver) (kept : List ℕ) (here : placeAfte
     where
       go : (t : Bool) → eqb (length y) 0 ≡ t → textAfter x ++ printedFrom s (kept ++ y) t ≡ printedOf (x ++ y)
       go true e =
-          sym (printed-whole (x ++ y) ∙ rw (printed, stands) (append-assoc (textAfter x) given (endText (collect modelCollector) (positionAfter s (kept ++ y)))))
+          sym (printed-whole (x ++ y)
+          ∙ rw (printed, stands)
+          (append-assoc (textAfter x) given (endText (collect modelCollector) (positionAfter s (kept ++ y)))))
       go false e =
-          let over = or-true (eqb (length y) 0) (isOver (positionAfter s (kept ++ y) .state)) (sym (k .step .ended) ∙ d) e in
+          let over =
+          or-true (eqb (length y) 0) (isOver (positionAfter s (kept ++ y) .state)) (sym (k .step .ended) ∙ d) e in
           let all = take-length (x ++ y) in
           let q = rw all at (at-over (x ++ y) (length (x ++ y)) (rw (all, stands) over)) in
           rw (append-nil given) (sym (q ∙ printed))
@@ -61,7 +66,8 @@ module _ (x : List ℕ) (s : Phase Receiver) (kept : List ℕ) (here : placeAfte
 
     kept-then : take (m .turn .kept) (m .buffer') ≡ positionAfter s (kept ++ y) .line
     kept-then =
-        front-there (m .buffer) (positionAfter s (kept ++ y) .line) (k .step .kept) (omega (arith, k .step .few, k .bufferLong)) (k .step .line)
+        front-there (m .buffer) (positionAfter s (kept ++ y) .line) (k .step .kept)
+        (omega (arith, k .step .few, k .bufferLong)) (k .step .line)
 
     stands-then : placeAfter (x ++ y) ≡ inLine (phaseOf (m .turn .session)) (take (m .turn .kept) (m .buffer'))
     stands-then = rw (kept-then, k .step .state) stands
@@ -72,15 +78,20 @@ module _ (x : List ℕ) (s : Phase Receiver) (kept : List ℕ) (here : placeAfte
     few-then : length (take (m .turn .kept) (m .buffer')) ≤ lineLimit
     few-then = rw kept-then (omega (arith, k .step .kept, k .step .few))
 
-from-here : (ms : List Moment) (x : List ℕ) (s : Phase Receiver) (kept : List ℕ) → placeAfter x ≡ inLine s kept → isUnended kept ≡ true → length kept ≤ lineLimit → IsRun s kept ms
+from-here : (ms : List Moment) (x : List ℕ) (s : Phase Receiver) (kept : List ℕ)
+    → placeAfter x ≡ inLine s kept → isUnended kept ≡ true → length kept ≤ lineLimit → IsRun s kept ms
     → textAfter x ++ writtenIn ms ≡ printedOf (x ++ readIn ms)
 unfolding IsRun joined
 from-here [] x s kept here o few r = absurd r
-from-here (m ∷ []) x s kept here o few r = rw (append-nil (m .piece), append-nil (take (m .turn .written) (m .out'))) (ends x s kept here o few m (r .0) (r .1))
+from-here (m ∷ []) x s kept here o few r =
+    rw (append-nil (m .piece), append-nil (take (m .turn .written) (m .out')))
+    (ends x s kept here o few m (r .0) (r .1))
 from-here (m ∷ n ∷ ms) x s kept here o few r =
     let k = r .0 in
     let d = r .1 in
-    let rest = from-here (n ∷ ms) (x ++ m .piece) (phaseOf (m .turn .session)) (take (m .turn .kept) (m .buffer')) (stands-then x s kept here o few m k d)
+    let rest =
+    from-here (n ∷ ms) (x ++ m .piece) (phaseOf (m .turn .session))
+    (take (m .turn .kept) (m .buffer')) (stands-then x s kept here o few m k d)
     (unended-then x s kept here o few m k d) (few-then x s kept here o few m k d) (r .2)
     in
     sym (append-assoc (textAfter x) (take (m .turn .written) (m .out')) (writtenIn (n ∷ ms)))

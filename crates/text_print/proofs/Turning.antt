@@ -23,7 +23,8 @@ use Rattle.text_print.specs.Private.{Passed}
 use Rattle.text_print.proofs.Whole.{placeAfter, textAfter, then-stands, then-printed, at-end, at-over, front-short}
 
 -- the input up to `at` was gone through, what it gives has `to` characters and was written where it was to be, and `kept` is left of a line
-pub record Passing (write : Bool) (input out₀ out : List ℕ) (s : Phase Receiver) (kept : List ℕ) (at to : ℕ) : Type 0 where
+pub record Passing (write : Bool) (input out₀ out : List ℕ)
+    (s : Phase Receiver) (kept : List ℕ) (at to : ℕ) : Type 0 where
   pub inside : at ≤ length input
   pub stands : placeAfter (take at input) ≡ inLine s kept
   pub unended : isUnended kept ≡ true
@@ -32,23 +33,51 @@ pub record Passing (write : Bool) (input out₀ out : List ℕ) (s : Phase Recei
   pub room : to ≤ length out₀
   pub text : out ≡ cond write (sets out₀ 0 (textAfter (take at input))) out₀
 
-pub begins : (write : Bool) (input out₀ : List ℕ) {s : Phase Receiver} → s ≡ starting → Passing write input out₀ out₀ s [] 0 0
+pub begins : (write : Bool) (input out₀ : List ℕ) {s : Phase Receiver}
+    → s ≡ starting → Passing write input out₀ out₀ s [] 0 0
 unfolding feed feedText isUnended
-begins true input out₀ e = record { inside = omega arith; stands = rw e; unended = refl; few = omega arith; count = refl; room = omega arith; text = refl }
-begins false input out₀ e = record { inside = omega arith; stands = rw e; unended = refl; few = omega arith; count = refl; room = omega arith; text = refl }
+begins true input out₀ e =
+    record {
+      inside = omega arith;
+      stands = rw e;
+      unended = refl;
+      few = omega arith;
+      count = refl;
+      room = omega arith;
+      text = refl;
+    }
+begins false input out₀ e =
+    record {
+      inside = omega arith;
+      stands = rw e;
+      unended = refl;
+      few = omega arith;
+      count = refl;
+      room = omega arith;
+      text = refl;
+    }
 
 -- the piece stands behind what is kept
-pub chunk-there : (buffer input : List ℕ) (kept at n : ℕ) {buffer' : List ℕ} → kept + n ≤ chunk → length buffer ≡ chunk → at + n ≤ length input
-    → buffer' ≡ take kept buffer ++ (take n (drop at input) ++ drop (kept + n) buffer) → take (min (kept + n) chunk) buffer' ≡ take kept buffer ++ take n (drop at input)
+pub chunk-there : (buffer input : List ℕ) (kept at n : ℕ) {buffer' : List ℕ}
+    → kept + n ≤ chunk → length buffer ≡ chunk → at + n ≤ length input
+    → buffer' ≡ take kept buffer ++ (take n (drop at input) ++ drop (kept + n) buffer)
+    → take (min (kept + n) chunk) buffer' ≡ take kept buffer ++ take n (drop at input)
 chunk-there buffer input kept at n fits size within e =
     let k = take kept buffer in
     let x = take n (drop at input) in
-    let long : length (k ++ x) ≡ kept + n = omega (arith, length-append k x, length-take-le kept buffer (omega arith), length-take-le n (drop at input) (omega (arith, length-drop at input))) in
+    let long : length (k ++ x) ≡ kept + n =
+    omega (
+      arith,
+      length-append k x,
+      length-take-le kept buffer (omega arith),
+      length-take-le n (drop at input) (omega (arith, length-drop at input)),
+    ) in
     let m : min (kept + n) chunk ≡ length (k ++ x) = omega (arith, long) in
     rw (e, m, sym (append-assoc k x (drop (kept + n) buffer))) (take-append-seam (k ++ x) (drop (kept + n) buffer))
 
 -- what a step keeps stands at the front of the buffer
-pub front-there : (buffer line : List ℕ) {buffer' : List ℕ} {kept : ℕ} → kept ≡ length line → kept ≤ length buffer → buffer' ≡ sets buffer 0 line → take kept buffer' ≡ line
+pub front-there : (buffer line : List ℕ) {buffer' : List ℕ} {kept : ℕ} → kept ≡ length line
+    → kept ≤ length buffer → buffer' ≡ sets buffer 0 line → take kept buffer' ≡ line
 front-there buffer line e fits f =
     rw (e, f, sets-eq line buffer 0 (omega arith)) (take-append-seam line (drop (0 + length line) buffer))
 
@@ -60,9 +89,11 @@ pub or-true : (a b : Bool) → (a || b) ≡ true → a ≡ false → b ≡ true
 or-true true b e f = absurd (true≢false f)
 or-true false b e f = e
 
-module _ (write : Bool) (input out₀ : List ℕ) {out : List ℕ} {s : Phase Receiver} {kept : List ℕ} {at to : ℕ} (i : Passing write input out₀ out s kept at to) (n : ℕ)
+module _ (write : Bool) (input out₀ : List ℕ) {out : List ℕ} {s : Phase Receiver}
+    {kept : List ℕ} {at to : ℕ} (i : Passing write input out₀ out s kept at to) (n : ℕ)
     (size : n ≡ min (length input - at) (chunk - length kept)) {buffer text buffer' text' : List ℕ} (r : Turn)
-    (k : SteppedOver s (kept ++ take n (drop at input)) buffer (eqb n 0) text buffer' text' r) (long : length text ≡ capacity) where
+    (k : SteppedOver s (kept ++ take n (drop at input)) buffer (eqb n 0) text buffer' text' r)
+    (long : length text ≡ capacity) where
   abbrev taken : List ℕ
   taken = kept ++ take n (drop at input)
 
@@ -85,13 +116,18 @@ module _ (write : Bool) (input out₀ : List ℕ) {out : List ℕ} {s : Phase Re
   text-fits = omega (arith, k .output .short, long, ap length (k .output .bytes), length-sets text 0 all)
 
   text-front : take (r .written) text' ≡ all
-  text-front = front-there text all (k .output .next ∙ zero-add (length all)) (omega (arith, k .output .short, long)) (k .output .bytes)
+  text-front =
+      front-there text all (k .output .next ∙ zero-add (length all))
+      (omega (arith, k .output .short, long)) (k .output .bytes)
 
   -- what is printed up to here: the end is printed where the input ends
-  to-end : n ≡ 0 → printedOf input ≡ textAfter (take at input) ++ (given ++ endText (collect modelCollector) (positionAfter s taken))
+  to-end : n ≡ 0
+      → printedOf input
+      ≡ textAfter (take at input) ++ (given ++ endText (collect modelCollector) (positionAfter s taken))
   to-end z =
       at-end input (at + n) (omega (arith, size, i .few, i .inside))
-      ∙ rw (printed-then, stands-then) (append-assoc (textAfter (take at input)) given (endText (collect modelCollector) (positionAfter s taken)))
+      ∙ rw (printed-then, stands-then)
+      (append-assoc (textAfter (take at input)) given (endText (collect modelCollector) (positionAfter s taken)))
 
   reach : to + r .written ≤ length (printedOf input)
   reach = go (eqb n 0) refl
@@ -99,10 +135,24 @@ module _ (write : Bool) (input out₀ : List ℕ) {out : List ℕ} {s : Phase Re
       go : (t : Bool) → eqb n 0 ≡ t → to + r .written ≤ length (printedOf input)
       go true e =
           let w = rw e at (k .output .next) in
-          omega (arith, w, i .count, ap length (to-end (eqb-true n 0 e)), length-append (textAfter (take at input)) (given ++ endText (collect modelCollector) (positionAfter s taken)))
+          omega (
+            arith,
+            w,
+            i .count,
+            ap length (to-end (eqb-true n 0 e)),
+            length-append (textAfter (take at input))
+                (given ++ endText (collect modelCollector) (positionAfter s taken)),
+          )
       go false e =
           let w = rw (e, append-nil given) at (k .output .next) in
-          omega (arith, w, i .count, front-short input (at + n), ap length printed-then, length-append (textAfter (take at input)) given)
+          omega (
+            arith,
+            w,
+            i .count,
+            front-short input (at + n),
+            ap length printed-then,
+            length-append (textAfter (take at input)) given,
+          )
 
   whole : r .ended ≡ true → printedOf input ≡ textAfter (take at input) ++ all
   whole d = go (eqb n 0) refl
@@ -125,14 +175,16 @@ module _ (write : Bool) (input out₀ : List ℕ) {out : List ℕ} {s : Phase Re
     text = λ e f. absurd (false≢true f);
   }
 
-  module _ {out' : List ℕ} (room : to + r .written ≤ length out₀) (put : out' ≡ cond write (sets out to (take (r .written) text')) out) where
+  module _ {out' : List ℕ} (room : to + r .written ≤ length out₀)
+      (put : out' ≡ cond write (sets out to (take (r .written) text')) out) where
     quiet-still : write ≡ false → out' ≡ out₀
     quiet-still e = (rw e at put) ∙ quiet-so-far e
 
     -- what was written before and what is written now are one text
     written-on : write ≡ true → out' ≡ sets out₀ 0 (textAfter (take at input) ++ all)
     written-on e =
-        let before : Printed out₀ 0 (textAfter (take at input)) to out to = record { bytes = rw e at (i .text); next = omega (arith, i .count); short = omega arith } in
+        let before : Printed out₀ 0 (textAfter (take at input)) to out to =
+        record { bytes = rw e at (i .text); next = omega (arith, i .count); short = omega arith } in
         let now : Printed out to all (r .written) out' (to + r .written) =
         record { bytes = rw (e, text-front) at put; next = omega (arith, k .output .next); short = omega arith }
         in
@@ -140,7 +192,14 @@ module _ (write : Bool) (input out₀ : List ℕ) {out : List ℕ} {s : Phase Re
 
     pub done : r .ended ≡ true → Passed write input out₀ out' (record { fits = true; written = to + r .written })
     done d =
-        let size-all : length (printedOf input) ≡ to + r .written = omega (arith, ap length (whole d), length-append (textAfter (take at input)) all, i .count, k .output .next) in
+        let size-all : length (printedOf input) ≡ to + r .written =
+        omega (
+          arith,
+          ap length (whole d),
+          length-append (textAfter (take at input)) all,
+          i .count,
+          k .output .next,
+        ) in
         record {
           fits = sym (le-leb (length (printedOf input)) (length out₀) (omega arith));
           quiet = quiet-still;
@@ -148,7 +207,8 @@ module _ (write : Bool) (input out₀ : List ℕ) {out : List ℕ} {s : Phase Re
           text = λ e f. rw (whole d) (written-on e);
         }
 
-    pub goes-on : r .ended ≡ false → Passing write input out₀ out' (phaseOf (r .session)) (positionAfter s taken .line) (at + n) (to + r .written)
+    pub goes-on : r .ended ≡ false
+        → Passing write input out₀ out' (phaseOf (r .session)) (positionAfter s taken .line) (at + n) (to + r .written)
     goes-on d =
         let more = or-false (eqb n 0) (isOver (positionAfter s taken .state)) (sym (k .ended) ∙ d) in
         let w = rw (more, append-nil given) at (k .output .next) in
@@ -162,7 +222,8 @@ module _ (write : Bool) (input out₀ : List ℕ) {out : List ℕ} {s : Phase Re
           text = go write refl more;
         }
       where
-        go : (t : Bool) → write ≡ t → eqb n 0 ≡ false → out' ≡ cond t (sets out₀ 0 (textAfter (take (at + n) input))) out₀
+        go : (t : Bool) → write ≡ t → eqb n 0 ≡ false
+            → out' ≡ cond t (sets out₀ 0 (textAfter (take (at + n) input))) out₀
         go true e f = (rw (f, append-nil given) at (written-on e)) ∙ rw printed-then
         go false e f = quiet-still e
 

@@ -25,33 +25,42 @@ abbrev pub textAfter : List ℕ → List ℕ
 textAfter text = feedText (collect modelCollector) lineLimit (atLineStart starting) text
 
 -- all that is printed: what the input gives, and the end
-pub printed-whole : (input : List ℕ) → printedOf input ≡ textAfter input ++ endText (collect modelCollector) (placeAfter input)
+pub printed-whole : (input : List ℕ)
+    → printedOf input ≡ textAfter input ++ endText (collect modelCollector) (placeAfter input)
 unfolding feedAllText feedAll joined
 printed-whole input = sym (rw (append-nil input, append-nil (textAfter input)) at (collect-prints (input ∷ [])))
 
 -- ---- one piece more, behind what is kept of a line
 
-module _ (x y : List ℕ) (s : Phase Receiver) (kept : List ℕ) (here : placeAfter x ≡ inLine s kept) (o : isUnended kept ≡ true) (few : length kept ≤ lineLimit) where
+module _ (x y : List ℕ) (s : Phase Receiver) (kept : List ℕ) (here : placeAfter x ≡ inLine s kept)
+    (o : isUnended kept ≡ true) (few : length kept ≤ lineLimit) where
   pub more-stands : placeAfter (x ++ y) ≡ positionAfter s (kept ++ y)
   more-stands =
-      rw (feed-append (collect modelCollector) lineLimit x y (atLineStart starting), here) (sym (feed-kept (collect modelCollector) lineLimit kept y s o few))
+      rw (feed-append (collect modelCollector) lineLimit x y (atLineStart starting), here)
+      (sym (feed-kept (collect modelCollector) lineLimit kept y s o few))
 
-  pub more-printed : textAfter (x ++ y) ≡ textAfter x ++ feedText (collect modelCollector) lineLimit (atLineStart s) (kept ++ y)
+  pub more-printed : textAfter (x ++ y)
+      ≡ textAfter x ++ feedText (collect modelCollector) lineLimit (atLineStart s) (kept ++ y)
   more-printed =
-      rw (text-append (collect modelCollector) lineLimit x y (atLineStart starting), here) (rw (text-kept (collect modelCollector) lineLimit kept y s o few))
+      rw (text-append (collect modelCollector) lineLimit x y (atLineStart starting), here)
+      (rw (text-kept (collect modelCollector) lineLimit kept y s o few))
 
-module _ (input : List ℕ) (at n : ℕ) (s : Phase Receiver) (kept : List ℕ) (here : placeAfter (take at input) ≡ inLine s kept) (o : isUnended kept ≡ true) (few : length kept ≤ lineLimit) where
+module _ (input : List ℕ) (at n : ℕ) (s : Phase Receiver)
+    (kept : List ℕ) (here : placeAfter (take at input) ≡ inLine s kept)
+    (o : isUnended kept ≡ true) (few : length kept ≤ lineLimit) where
   pub then-stands : placeAfter (take (at + n) input) ≡ positionAfter s (kept ++ take n (drop at input))
   then-stands = rw (take-add at n input) (more-stands (take at input) (take n (drop at input)) s kept here o few)
 
   pub then-printed : textAfter (take (at + n) input)
-      ≡ textAfter (take at input) ++ feedText (collect modelCollector) lineLimit (atLineStart s) (kept ++ take n (drop at input))
+      ≡ textAfter (take at input)
+      ++ feedText (collect modelCollector) lineLimit (atLineStart s) (kept ++ take n (drop at input))
   then-printed = rw (take-add at n input) (more-printed (take at input) (take n (drop at input)) s kept here o few)
 
 -- ---- the end
 
 -- nothing is left
-pub at-end : (input : List ℕ) (at : ℕ) → length input ≤ at → printedOf input ≡ textAfter (take at input) ++ endText (collect modelCollector) (placeAfter (take at input))
+pub at-end : (input : List ℕ) (at : ℕ) → length input ≤ at
+    → printedOf input ≡ textAfter (take at input) ++ endText (collect modelCollector) (placeAfter (take at input))
 at-end input at h = rw (take-all at input h) (printed-whole input)
 
 -- a wrong first line ended the run
@@ -64,16 +73,20 @@ module _ (input : List ℕ) (at : ℕ) where
   abbrev rest : List ℕ
   rest = drop at input
 
-  split-printed : textAfter input ≡ textAfter (take at input) ++ feedText (collect modelCollector) lineLimit (placeAfter (take at input)) rest
+  split-printed : textAfter input
+      ≡ textAfter (take at input) ++ feedText (collect modelCollector) lineLimit (placeAfter (take at input)) rest
   split-printed =
-      ap textAfter (sym (take-append-drop at input)) ∙ text-append (collect modelCollector) lineLimit (take at input) rest (atLineStart starting)
+      ap textAfter (sym (take-append-drop at input))
+      ∙ text-append (collect modelCollector) lineLimit (take at input) rest (atLineStart starting)
 
   pub at-over : isOver (placeAfter (take at input) .state) ≡ true → printedOf input ≡ textAfter (take at input)
   at-over e =
       let line = placeAfter (take at input) .line in
-      let q : placeAfter (take at input) ≡ inLine over line = ap (λ (s : Phase Receiver). inLine s line) (is-over (placeAfter (take at input) .state) e) in
+      let q : placeAfter (take at input) ≡ inLine over line =
+      ap (λ (s : Phase Receiver). inLine s line) (is-over (placeAfter (take at input) .state) e) in
       let ends : placeAfter input ≡ feed (collect modelCollector) lineLimit (inLine over line) rest =
-      ap placeAfter (sym (take-append-drop at input)) ∙ feed-append (collect modelCollector) lineLimit (take at input) rest (atLineStart starting)
+      ap placeAfter (sym (take-append-drop at input))
+      ∙ feed-append (collect modelCollector) lineLimit (take at input) rest (atLineStart starting)
       ∙ ap (λ (a : Position (Phase Receiver)). feed (collect modelCollector) lineLimit a rest) q
       in
       let none = stays-ended modelCollector line rest in
@@ -87,4 +100,11 @@ module _ (input : List ℕ) (at : ℕ) where
   front-short =
       let x = ap length (printed-whole input) in
       let y = ap length split-printed in
-      omega (arith, x, y, length-append (textAfter input) (endText (collect modelCollector) (placeAfter input)), length-append (textAfter (take at input)) (feedText (collect modelCollector) lineLimit (placeAfter (take at input)) rest))
+      omega (
+        arith,
+        x,
+        y,
+        length-append (textAfter input) (endText (collect modelCollector) (placeAfter input)),
+        length-append (textAfter (take at input))
+            (feedText (collect modelCollector) lineLimit (placeAfter (take at input)) rest),
+      )

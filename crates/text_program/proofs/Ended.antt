@@ -19,7 +19,10 @@ module _ {C : Type 0} (m : Collector C) where
     where
       go : (t : Bool) → feedText (collect m) lineLimit (atLineStart over) x ≡ []
           → feedText (collect m) lineLimit (inLine over (take lineLimit (l ++ (c ∷ [])))) x ≡ []
-          → cond t [] [] ++ feedText (collect m) lineLimit (cond t (atLineStart over) (inLine over (take lineLimit (l ++ (c ∷ []))))) x ≡ []
+          → cond t [] []
+          ++ feedText (collect m) lineLimit
+          (cond t (atLineStart over) (inLine over (take lineLimit (l ++ (c ∷ []))))) x
+          ≡ []
       go true e f = e
       go false e f = f
 
@@ -35,7 +38,9 @@ module _ {C : Type 0} (m : Collector C) where
     where
       go : (t : Bool) → endText (collect m) (feed (collect m) lineLimit (atLineStart over) x) ≡ []
           → endText (collect m) (feed (collect m) lineLimit (inLine over (take lineLimit (l ++ (c ∷ [])))) x) ≡ []
-          → endText (collect m) (feed (collect m) lineLimit (cond t (atLineStart over) (inLine over (take lineLimit (l ++ (c ∷ []))))) x) ≡ []
+          → endText (collect m)
+          (feed (collect m) lineLimit (cond t (atLineStart over) (inLine over (take lineLimit (l ++ (c ∷ []))))) x)
+          ≡ []
       go true e f = e
       go false e f = f
 

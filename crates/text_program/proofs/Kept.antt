@@ -32,17 +32,22 @@ module _ (buffer : List ℕ) (from end : ℕ) where
   -- n characters of a part that the buffer has
   module _ (within : end ≤ length buffer) (ordered : from ≤ end) {n r : ℕ} {new : List ℕ}
       (moved : (new ≡ sets buffer 0 (take n (drop from buffer))) × (r ≡ n)) (fits : from + n ≤ end) where
-    something : take lineLimit (take (end - from) (drop from buffer)) ≡ take n (drop from buffer) → Carried buffer from end new r
+    something : take lineLimit (take (end - from) (drop from buffer)) ≡ take n (drop from buffer)
+        → Carried buffer from end new r
     unfolding keptLine
     something e =
-        let l : length (take n (drop from buffer)) ≡ n = length-take-le n (drop from buffer) (simp length-drop (omega arith)) in
+        let l : length (take n (drop from buffer)) ≡ n =
+        length-take-le n (drop from buffer) (simp length-drop (omega arith)) in
         record {
           bytes = rw (le-leb end (length buffer) within, le-leb from end ordered, e) (moved .0);
           count = rw (le-leb end (length buffer) within, le-leb from end ordered, e, l) (moved .1);
         }
 
     pub all-kept : n ≡ end - from → n ≤ lineLimit → Carried buffer from end new r
-    all-kept e h = something (rw (sym e) (take-all lineLimit (take n (drop from buffer)) (rw (length-take-le n (drop from buffer) (simp length-drop (omega arith))) h)))
+    all-kept e h =
+        something (rw (sym e)
+        (take-all lineLimit (take n (drop from buffer))
+        (rw (length-take-le n (drop from buffer) (simp length-drop (omega arith))) h)))
 
     pub front-kept : n ≡ lineLimit → Carried buffer from end new r
     front-kept e = something (rw e (take-take lineLimit (end - from) (drop from buffer) (omega arith)))

@@ -39,10 +39,13 @@ glued-prepend r c (l ∷ ls) = rw (append-assoc r (c ∷ []) l)
 lines-from : (s r : List ℕ) → linesFrom r s ≡ glued r (linesOf s)
 unfolding linesFrom linesOf glued
 lines-from [] r = refl
-lines-from (c ∷ s) r = go (eqb c newline) (lines-from s [] ∙ glued-none (linesOf s)) (lines-from s (r ++ (c ∷ [])) ∙ glued-prepend r c (linesOf s))
+lines-from (c ∷ s) r =
+    go (eqb c newline) (lines-from s [] ∙ glued-none (linesOf s))
+    (lines-from s (r ++ (c ∷ [])) ∙ glued-prepend r c (linesOf s))
   where
     go : (t : Bool) → linesFrom [] s ≡ linesOf s → linesFrom (r ++ (c ∷ [])) s ≡ glued r (prepend c (linesOf s))
-        → cond t (r ∷ linesFrom [] s) (linesFrom (r ++ (c ∷ [])) s) ≡ glued r (cond t ([] ∷ linesOf s) (prepend c (linesOf s)))
+        → cond t (r ∷ linesFrom [] s) (linesFrom (r ++ (c ∷ [])) s)
+        ≡ glued r (cond t ([] ∷ linesOf s) (prepend c (linesOf s)))
     go true e f = rw (e, append-nil r)
     go false e f = f
 
@@ -61,12 +64,14 @@ module _ {S : Type 0} (p : Program S) (limit : ℕ) where
   feed-append [] y a = refl
   feed-append (c ∷ x) y a = feed-append x y (fed p limit a c)
 
-  pub text-append : (x y : List ℕ) (a : Position S) → feedText p limit a (x ++ y) ≡ feedText p limit a x ++ feedText p limit (feed p limit a x) y
+  pub text-append : (x y : List ℕ) (a : Position S)
+      → feedText p limit a (x ++ y) ≡ feedText p limit a x ++ feedText p limit (feed p limit a x) y
   unfolding feed feedText
   text-append [] y a = refl
   text-append (c ∷ x) y a =
       rw (text-append x y (fed p limit a c))
-      (sym (append-assoc (fedText p limit a c) (feedText p limit (fed p limit a c) x) (feedText p limit (feed p limit (fed p limit a c) x) y)))
+      (sym (append-assoc (fedText p limit a c) (feedText p limit (fed p limit a c) x)
+      (feedText p limit (feed p limit (fed p limit a c) x) y)))
 
   feed-joined : (xs : List (List ℕ)) (a : Position S) → feedAll p limit a xs ≡ feed p limit a (joined xs)
   unfolding feedAll joined feed
@@ -93,13 +98,15 @@ module _ {S : Type 0} (p : Program S) (n : ℕ) (b : Bounded p (suc n)) where
   ends s [] = refl
   ends s (x ∷ r) = rw (b .next s (x ∷ r), b .text s (x ∷ r), append-nil (p .text s (x ∷ r)))
 
-  position-next : (a : Position S) (c : ℕ) (input : List ℕ) → fromPosition a (c ∷ input) ≡ fedText p (suc n) a c ++ fromPosition (fed p (suc n) a c) input
+  position-next : (a : Position S) (c : ℕ) (input : List ℕ)
+      → fromPosition a (c ∷ input) ≡ fedText p (suc n) a c ++ fromPosition (fed p (suc n) a c) input
   unfolding fromPosition feed feedText
   position-next a c input =
       let d = fed p (suc n) a c in
       append-assoc (fedText p (suc n) a c) (feedText p (suc n) d input) (endText p (feed p (suc n) d input))
 
-  lines-next : (s : S) (l : List ℕ) (ls : List (List ℕ)) → forLines s (l ∷ ls) ≡ p .text s l ++ forLines (p .next s l) ls
+  lines-next : (s : S) (l : List ℕ) (ls : List (List ℕ))
+      → forLines s (l ∷ ls) ≡ p .text s l ++ forLines (p .next s l) ls
   unfolding forLines textOf stateAfter
   lines-next s l ls = append-assoc (p .text s l) (textOf p (p .next s l) ls) (p .end (stateAfter p (p .next s l) ls))
 
@@ -107,22 +114,28 @@ module _ {S : Type 0} (p : Program S) (n : ℕ) (b : Bounded p (suc n)) where
   unfolding linesFrom
   whole [] r s = ends s r
   whole (c ∷ input) r s =
-      position-next (inLine s (take (suc n) r)) c input ∙ go (eqb c newline) (whole input [] (p .next s r)) (whole input (r ++ (c ∷ [])) s)
+      position-next (inLine s (take (suc n) r)) c input
+      ∙ go (eqb c newline) (whole input [] (p .next s r)) (whole input (r ++ (c ∷ [])) s)
     where
       k : List ℕ
       k = take (suc n) r
 
       go : (t : Bool) → fromPosition (atLineStart (p .next s r)) input ≡ forLines (p .next s r) (linesFrom [] input)
           → fromPosition (inLine s (take (suc n) (r ++ (c ∷ [])))) input ≡ forLines s (linesFrom (r ++ (c ∷ [])) input)
-          → cond t (p .text s k) [] ++ fromPosition (cond t (atLineStart (p .next s k)) (inLine s (take (suc n) (k ++ (c ∷ []))))) input
+          → cond t (p .text s k) []
+          ++ fromPosition (cond t (atLineStart (p .next s k)) (inLine s (take (suc n) (k ++ (c ∷ []))))) input
           ≡ forLines s (cond t (r ∷ linesFrom [] input) (linesFrom (r ++ (c ∷ [])) input))
       go true e f = rw (b .text s r, b .next s r, e) (sym (lines-next s r (linesFrom [] input)))
       go false e f = rw (front-more (suc n) r c) f
 
-  pub one-piece : (s : S) (input : List ℕ) → feedText p (suc n) (atLineStart s) input ++ endText p (feed p (suc n) (atLineStart s) input) ≡ outputOf p s input
+  pub one-piece : (s : S) (input : List ℕ)
+      → feedText p (suc n) (atLineStart s) input ++ endText p (feed p (suc n) (atLineStart s) input)
+      ≡ outputOf p s input
   unfolding outputOf fromPosition forLines
   one-piece s input = whole input [] s ∙ rw (lines-from input [], glued-none (linesOf input))
 
 pub in-pieces : {S : Type 0} (p : Program S) (limit : ℕ) → InPieces p limit
 in-pieces p zero h b s xs = absurd (omega arith)
-in-pieces p (suc n) h b s xs = rw (text-joined p (suc n) xs (atLineStart s), feed-joined p (suc n) xs (atLineStart s)) (one-piece p n b s (joined xs))
+in-pieces p (suc n) h b s xs =
+    rw (text-joined p (suc n) xs (atLineStart s), feed-joined p (suc n) xs (atLineStart s))
+    (one-piece p n b s (joined xs))

@@ -23,7 +23,8 @@ unfolding indexOf indexAfter isUnended
 open-before [] = refl
 open-before (c ∷ l) = go (eqb c newline) refl (open-before l)
   where
-    go : (t : Bool) → eqb c newline ≡ t → isUnended (take (indexOf newline l) l) ≡ true → isUnended (take (indexAfter t (indexOf newline l)) (c ∷ l)) ≡ true
+    go : (t : Bool) → eqb c newline ≡ t → isUnended (take (indexOf newline l) l) ≡ true
+        → isUnended (take (indexAfter t (indexOf newline l)) (c ∷ l)) ≡ true
     go true e ih = refl
     go false e ih = rw e ih
 
@@ -47,14 +48,18 @@ up-to-newline input at k found more =
 
 module _ {S : Type 0} (p : Program S) (limit : ℕ) where
   -- without a newline: more of the line
-  pub feed-open : (l r : List ℕ) (s : S) → isUnended l ≡ true → feed p limit (inLine s (take limit r)) l ≡ inLine s (take limit (r ++ l))
+  pub feed-open : (l r : List ℕ) (s : S) → isUnended l ≡ true
+      → feed p limit (inLine s (take limit r)) l ≡ inLine s (take limit (r ++ l))
   unfolding feed isUnended
   feed-open [] r s o = rw (append-nil r)
   feed-open (c ∷ l) r s o = go (eqb c newline) o (λ h. feed-open l (r ++ (c ∷ [])) s h)
     where
       go : (t : Bool) → cond t false (isUnended l) ≡ true
-          → (isUnended l ≡ true → feed p limit (inLine s (take limit (r ++ (c ∷ [])))) l ≡ inLine s (take limit ((r ++ (c ∷ [])) ++ l)))
-          → feed p limit (cond t (atLineStart (p .next s (take limit r))) (inLine s (take limit (take limit r ++ (c ∷ []))))) l ≡ inLine s (take limit (r ++ (c ∷ l)))
+          → (isUnended l ≡ true
+          → feed p limit (inLine s (take limit (r ++ (c ∷ [])))) l ≡ inLine s (take limit ((r ++ (c ∷ [])) ++ l)))
+          → feed p limit
+          (cond t (atLineStart (p .next s (take limit r))) (inLine s (take limit (take limit r ++ (c ∷ []))))) l
+          ≡ inLine s (take limit (r ++ (c ∷ l)))
       go true o ih = cc
       go false o ih = rw (front-more limit r c) (ih o ∙ rw (append-assoc r (c ∷ []) l))
 
@@ -66,7 +71,8 @@ module _ {S : Type 0} (p : Program S) (limit : ℕ) where
       go : (t : Bool) → cond t false (isUnended l) ≡ true
           → (isUnended l ≡ true → feedText p limit (inLine s (take limit (r ++ (c ∷ [])))) l ≡ [])
           → cond t (p .text s (take limit r)) []
-          ++ feedText p limit (cond t (atLineStart (p .next s (take limit r))) (inLine s (take limit (take limit r ++ (c ∷ []))))) l
+          ++ feedText p limit
+          (cond t (atLineStart (p .next s (take limit r))) (inLine s (take limit (take limit r ++ (c ∷ []))))) l
           ≡ []
       go true o ih = cc
       go false o ih = rw (front-more limit r c) (ih o)
@@ -95,13 +101,21 @@ module _ {S : Type 0} (p : Program S) (limit : ℕ) where
   none s = record { state = refl; text = refl }
 
   -- one line more
-  pub more : Bounded p limit → {s₀ s : S} {x output : List ℕ} → Drained s₀ x s output → (l : List ℕ) → isUnended l ≡ true
+  pub more : Bounded p limit → {s₀ s : S} {x output : List ℕ}
+      → Drained s₀ x s output → (l : List ℕ) → isUnended l ≡ true
       → Drained s₀ (x ++ (l ++ (newline ∷ []))) (p .next s l) (output ++ p .text s l)
   unfolding feed feedText
   more b {s₀} {s} {x} {output} d l o =
       let line = l ++ (newline ∷ []) in
       record {
-        state = rw (feed-append p limit x line (atLineStart s₀), d .state, feed-append p limit l (newline ∷ []) (atLineStart s), feed-start l s o, b .next s l);
+        state =
+            rw (
+              feed-append p limit x line (atLineStart s₀),
+              d .state,
+              feed-append p limit l (newline ∷ []) (atLineStart s),
+              feed-start l s o,
+              b .next s l,
+            );
         text =
             rw (
               text-append p limit x line (atLineStart s₀),
@@ -117,14 +131,16 @@ module _ {S : Type 0} (p : Program S) (limit : ℕ) where
 
   -- what is left has no newline, and is kept
   pub left : {s₀ s : S} {x output : List ℕ} → Drained s₀ x s output → (l : List ℕ) → isUnended l ≡ true
-      → (feed p limit (atLineStart s₀) (x ++ l) ≡ inLine s (take limit l)) × (feedText p limit (atLineStart s₀) (x ++ l) ≡ output)
+      → (feed p limit (atLineStart s₀) (x ++ l) ≡ inLine s (take limit l))
+      × (feedText p limit (atLineStart s₀) (x ++ l) ≡ output)
   left {s₀} {s} {x} {output} d l o = (
     rw (feed-append p limit x l (atLineStart s₀), d .state, feed-start l s o),
     rw (text-append p limit x l (atLineStart s₀), d .state, d .text, text-start l s o, append-nil output),
   )
 
   -- lines, and then more lines
-  pub both : {s₀ s s' : S} {x y output output' : List ℕ} → Drained s₀ x s output → Drained s y s' output' → Drained s₀ (x ++ y) s' (output ++ output')
+  pub both : {s₀ s s' : S} {x y output output' : List ℕ} → Drained s₀ x s output
+      → Drained s y s' output' → Drained s₀ (x ++ y) s' (output ++ output')
   both {s₀} {s} {s'} {x} {y} d e =
       record {
         state = rw (feed-append p limit x y (atLineStart s₀), d .state) (e .state);
@@ -134,7 +150,8 @@ module _ {S : Type 0} (p : Program S) (limit : ℕ) where
   -- A turn of the program: k was kept, x was read behind it, the lines of the first n characters were taken, and no newline is left.
   pub turn : {s₀ s : S} {output : List ℕ} (k x : List ℕ) (n : ℕ) → isUnended k ≡ true → length k ≤ limit
       → Drained s₀ (take n (k ++ x)) s output → isUnended (drop n (k ++ x)) ≡ true
-      → (feed p limit (inLine s₀ k) x ≡ inLine s (take limit (drop n (k ++ x)))) × (feedText p limit (inLine s₀ k) x ≡ output)
+      → (feed p limit (inLine s₀ k) x ≡ inLine s (take limit (drop n (k ++ x))))
+      × (feedText p limit (inLine s₀ k) x ≡ output)
   turn {s₀} k x n o h d rest =
       let b = k ++ x in
       let l = rw (take-append-drop n b) at (left d (drop n b) rest) in
@@ -147,6 +164,7 @@ open-front zero l o = refl
 open-front (suc n) [] o = refl
 open-front (suc n) (c ∷ l) o = go (eqb c newline) o (open-front n l)
   where
-    go : (t : Bool) → cond t false (isUnended l) ≡ true → (isUnended l ≡ true → isUnended (take n l) ≡ true) → cond t false (isUnended (take n l)) ≡ true
+    go : (t : Bool) → cond t false (isUnended l) ≡ true
+        → (isUnended l ≡ true → isUnended (take n l) ≡ true) → cond t false (isUnended (take n l)) ≡ true
     go true o ih = o
     go false o ih = ih o

@@ -65,20 +65,25 @@ module _ (i n : ℕ) (stored : List ℕ) (within : i ≤ length stored) (h : 10 
   at = omega arith
 
   pub spell-pair : 100 ≤ n
-      → digitsOf i n ++ drop i stored ≡ digitsOf (i - 2) (n / 100) ++ drop (i - 2) (set (set stored (i - 1) (48 + n % 100 % 10)) (i - 2) (48 + n % 100 / 10))
+      → digitsOf i n ++ drop i stored
+      ≡ digitsOf (i - 2) (n / 100)
+      ++ drop (i - 2) (set (set stored (i - 1) (48 + n % 100 % 10)) (i - 2) (48 + n % 100 / 10))
   spell-pair more =
       let last : n % 100 % 10 ≡ n % 10 = omega arith in
       let tens : n / 10 ≡ 10 * (n / 100) + n % 100 / 10 = omega arith in
       let rest : n / 100 ≡ n / 10 / 10 = omega (arith, tens) in
       let other : n % 100 / 10 ≡ n / 10 % 10 = omega (arith, tens, rest) in
       spell-next i n stored within h k
-      ∙ spell-next (i - 1) (n / 10) (set stored (i - 1) (48 + n % 10)) (simp length-set (omega arith)) (omega arith) (shorter i n h k .small)
+      ∙ spell-next (i - 1) (n / 10) (set stored (i - 1) (48 + n % 10))
+      (simp length-set (omega arith)) (omega arith) (shorter i n h k .small)
       ∙ rw (last, other, rest, at)
 
-  pub spell-two : n < 100 → digitsOf i n ++ drop i stored ≡ drop (i - 2) (set (set stored (i - 1) (48 + n % 10)) (i - 2) (48 + n / 10))
+  pub spell-two : n < 100
+      → digitsOf i n ++ drop i stored ≡ drop (i - 2) (set (set stored (i - 1) (48 + n % 10)) (i - 2) (48 + n / 10))
   spell-two small =
       spell-next i n stored within h k
-      ∙ spell-last (i - 1) (n / 10) (set stored (i - 1) (48 + n % 10)) (simp length-set (omega arith)) (omega (arith, shorter i n h k .several)) (omega arith)
+      ∙ spell-last (i - 1) (n / 10) (set stored (i - 1) (48 + n % 10))
+      (simp length-set (omega arith)) (omega (arith, shorter i n h k .several)) (omega arith)
       ∙ rw at
 
 pub spell-start : (text stored : List ℕ) → length stored ≡ 20 → text ≡ text ++ drop 20 stored

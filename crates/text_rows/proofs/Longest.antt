@@ -15,7 +15,8 @@ unfolding digitsOf
 digits-short zero n = omega arith
 digits-short (suc k) n = go (ltb n 10) (digits-short k (n / 10))
   where
-    go : (t : Bool) → length (digitsOf k (n / 10)) ≤ k → length (cond t ((48 + n) ∷ []) (digitsOf k (n / 10) ++ ((48 + n % 10) ∷ []))) ≤ suc k
+    go : (t : Bool) → length (digitsOf k (n / 10)) ≤ k
+        → length (cond t ((48 + n) ∷ []) (digitsOf k (n / 10) ++ ((48 + n % 10) ∷ []))) ≤ suc k
     go true h = omega arith
     go false h = simp length-append (omega arith)
 
@@ -27,6 +28,7 @@ answer-short Row.Copy sent = omega arith
 answer-short Row.Loose sent = omega arith
 answer-short (Row.Refused n) sent = omega (arith, digits-short 20 n)
 
-pub row-short : (time : List ℕ) (row : Row) (sent : List ℕ) → length (rowBehind time row sent) ≤ longestRow (length time) (length sent)
+pub row-short : (time : List ℕ) (row : Row) (sent : List ℕ)
+    → length (rowBehind time row sent) ≤ longestRow (length time) (length sent)
 unfolding rowBehind
 row-short time row sent = simp length-append (omega (arith, answer-short row sent))

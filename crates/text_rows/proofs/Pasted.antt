@@ -16,11 +16,14 @@ use Rattle.text_rows.specs.Private.{DigitsOf}
 sets-out : (vs l : List ℕ) (i k : ℕ) → (i ≤ k → k < i + length vs → ⊥) → getD (sets l i vs) k 0 ≡ getD l k 0
 sets-out [] l i k h = refl
 sets-out (v ∷ vs) l i k h =
-    sets-out vs (set l i v) (suc i) k (λ a b. h (omega arith) (omega arith)) ∙ getD-set-other l i k v 0 (λ e. h (omega arith) (omega arith))
+    sets-out vs (set l i v) (suc i) k (λ a b. h (omega arith) (omega arith))
+    ∙ getD-set-other l i k v 0 (λ e. h (omega arith) (omega arith))
 
-sets-in : (vs l : List ℕ) (i k : ℕ) → i + length vs ≤ length l → k < length vs → getD (sets l i vs) (i + k) 0 ≡ getD vs k 0
+sets-in : (vs l : List ℕ) (i k : ℕ) → i + length vs ≤ length l
+    → k < length vs → getD (sets l i vs) (i + k) 0 ≡ getD vs k 0
 sets-in [] l i k h m = absurd (omega arith)
-sets-in (v ∷ vs) l i zero h m = rw add-zero (sets-out vs (set l i v) (suc i) i (λ a b. omega arith) ∙ getD-set-same l i v 0 (omega arith))
+sets-in (v ∷ vs) l i zero h m =
+    rw add-zero (sets-out vs (set l i v) (suc i) i (λ a b. omega arith) ∙ getD-set-same l i v 0 (omega arith))
 sets-in (v ∷ vs) l i (suc k) h m =
     let e : i + suc k ≡ suc i + k = omega arith in
     rw e (sets-in vs (set l i v) (suc i) k (simp length-set (omega arith)) (omega arith))
@@ -36,7 +39,8 @@ pub paste-first : {src out new : List ℕ} {at w : ℕ} → CopiedPart src 0 w o
 paste-first b = record { long = b .long; inside = λ k h. rw zero-add at (b .inside k h); outside = b .outside }
 
 -- a block that begins where the text is written, or before, and ends where it is not, or there
-pub paste-next : {src out mid new : List ℕ} {at p f w : ℕ} → Pasting src out at p mid → f ≤ p → p ≤ f + w → CopiedPart src f w mid (at + f) new
+pub paste-next : {src out mid new : List ℕ} {at p f w : ℕ} → Pasting src out at p mid
+    → f ≤ p → p ≤ f + w → CopiedPart src f w mid (at + f) new
     → Pasting src out at (f + w) new
 paste-next {at = at} {f = f} a l m b =
     record {
@@ -48,10 +52,13 @@ paste-next {at = at} {f = f} a l m b =
             let g : f + (k - f) ≡ k = omega arith in
             rw (e, g) at (b .inside (k - f) (omega arith)))
       ];
-      outside = λ k h. b .outside k (λ x y. h (omega arith) (omega arith)) ∙ a .outside k (λ x y. h (omega arith) (omega arith));
+      outside =
+          λ k h. b .outside k (λ x y. h (omega arith) (omega arith))
+          ∙ a .outside k (λ x y. h (omega arith) (omega arith));
     }
 
-pub pasted : {src out new : List ℕ} {at p : ℕ} → Pasting src out at p new → length src ≡ p → at + p ≤ length out → new ≡ sets out at src
+pub pasted : {src out new : List ℕ} {at p : ℕ} → Pasting src out at p new
+    → length src ≡ p → at + p ≤ length out → new ≡ sets out at src
 pasted {src} {out} {new} {at} {p} a size fits =
     ext-getD 0 new (sets out at src) (a .long ∙ sym (length-sets out at src))
     (λ k h. elim (decLt k at) [
@@ -59,13 +66,15 @@ pasted {src} {out} {new} {at} {p} a size fits =
       | no l ↦ elim (decLt k (at + p)) [
         | yes m ↦
             (let e : at + (k - at) ≡ k = omega arith in
-            (rw e at (a .inside (k - at) (omega arith))) ∙ sym (rw e at (sets-in src out at (k - at) (omega arith) (omega arith))))
+            (rw e at (a .inside (k - at) (omega arith)))
+            ∙ sym (rw e at (sets-in src out at (k - at) (omega arith) (omega arith))))
         | no m ↦ (a .outside k (λ x y. omega arith) ∙ sym (sets-out src out at k (λ x y. omega arith)))
       ]
     ])
 
 -- by an array
-pub through : {s c d out new : List ℕ} {from n at : ℕ} → CopiedPart s from n c 0 d → CopiedPart d 0 n out at new → CopiedPart s from n out at new
+pub through : {s c d out new : List ℕ} {from n at : ℕ} → CopiedPart s from n c 0 d
+    → CopiedPart d 0 n out at new → CopiedPart s from n out at new
 through a b = record { long = b .long; inside = λ k h. b .inside k h ∙ a .inside k h; outside = b .outside }
 
 -- ---- digits
@@ -86,7 +95,8 @@ text-low (b ∷ s) (suc m) h =
     let e : 2 * suc m + 1 ≡ suc (suc (2 * m + 1)) = omega arith in
     rw e (text-low s m (omega arith))
 
-pub digits-put : {s d out new : List ℕ} {from at : ℕ} → from + 8 ≤ length s → DigitsOf s from d → CopiedPart d 0 16 out at new
+pub digits-put : {s d out new : List ℕ} {from at : ℕ} → from + 8 ≤ length s
+    → DigitsOf s from d → CopiedPart d 0 16 out at new
     → CopiedPart (hexText s) (2 * from) 16 out at new
 digits-put {s} {d} {from = from} fits w b =
     record {
@@ -109,7 +119,8 @@ digits-put {s} {d} {from = from} fits w b =
 
 -- two stores a turn
 module _ (f : ℕ → ℕ) (d : List ℕ) (k x y : ℕ) (fits : 2 * k + 1 < length d) where
-  pub high-next : ((j : ℕ) → j < k → getD d (2 * j) 0 ≡ f j) → x ≡ f k → (j : ℕ) → j < k + 1 → getD (set (set d (2 * k) x) (2 * k + 1) y) (2 * j) 0 ≡ f j
+  pub high-next : ((j : ℕ) → j < k → getD d (2 * j) 0 ≡ f j) → x ≡ f k → (j : ℕ)
+      → j < k + 1 → getD (set (set d (2 * k) x) (2 * k + 1) y) (2 * j) 0 ≡ f j
   high-next done e j h =
       getD-set-other (set d (2 * k) x) (2 * k + 1) (2 * j) y 0 (λ z. omega arith)
       ∙ elim (decLt j k) [
@@ -119,7 +130,8 @@ module _ (f : ℕ → ℕ) (d : List ℕ) (k x y : ℕ) (fits : 2 * k + 1 < leng
             rw s (getD-set-same d (2 * k) x 0 (omega arith) ∙ e))
       ]
 
-  pub low-next : ((j : ℕ) → j < k → getD d (2 * j + 1) 0 ≡ f j) → y ≡ f k → (j : ℕ) → j < k + 1 → getD (set (set d (2 * k) x) (2 * k + 1) y) (2 * j + 1) 0 ≡ f j
+  pub low-next : ((j : ℕ) → j < k → getD d (2 * j + 1) 0 ≡ f j) → y ≡ f k → (j : ℕ)
+      → j < k + 1 → getD (set (set d (2 * k) x) (2 * k + 1) y) (2 * j + 1) 0 ≡ f j
   low-next done e j h = elim (decLt j k) [
     | yes l ↦
         (getD-set-other (set d (2 * k) x) (2 * k + 1) (2 * j + 1) y 0 (λ z. omega arith)

@@ -79,7 +79,8 @@ spelled (suc k) n h = go (ltb n 10) refl (λ p. spelled k (n / 10) p)
     go : (t : Bool) → ltb n 10 ≡ t → (n / 10 < 10 ^ suc k → Spelled (n / 10) (digitsOf (suc k) (n / 10)))
         → Spelled n (cond t ((48 + n) ∷ []) (digitsOf (suc k) (n / 10) ++ ((48 + n % 10) ∷ [])))
     go true p ih = spelled-one n (ltb-true n 10 p)
-    go false p ih = spelled-more n (digitsOf (suc k) (n / 10)) (ltb-false n 10 p) (ih (omega (arith, pow-succ' 10 (suc k))))
+    go false p ih =
+        spelled-more n (digitsOf (suc k) (n / 10)) (ltb-false n 10 p) (ih (omega (arith, pow-succ' 10 (suc k))))
 
 no-leading-zero : (n : ℕ) (s : List ℕ) → Spelled n s → hasLeadingZero s ≡ false
 no-leading-zero n s w = go (ltb n 10) refl
@@ -87,7 +88,11 @@ no-leading-zero n s w = go (ltb n 10) refl
     go : (t : Bool) → ltb n 10 ≡ t → hasLeadingZero s ≡ false
     go true p = rw (leading-zero s, w .alone (ltb-true n 10 p))
     go false p =
-        rw (leading-zero s, ne-eqb (getD s 0 0) 48 (w .first (omega (arith, ltb-false n 10 p))), and-false (ltb 1 (length s)))
+        rw (
+          leading-zero s,
+          ne-eqb (getD s 0 0) 48 (w .first (omega (arith, ltb-false n 10 p))),
+          and-false (ltb 1 (length s)),
+        )
 
 pub numbers-back : NumbersBack
 unfolding isTime isNumber
@@ -116,7 +121,8 @@ module _ (f : ℕ) (r : List ℕ) (digits : all isDigit (f ∷ r) ≡ true) (fir
       (leb-true _ _ (w .0), ltb-true _ _ (w .1))
 
   -- the front of them, up to each
-  spelled-front : (j k : ℕ) → j < length whole → j ≤ k → digitsOf (suc k) (decimalOf (take (suc j) whole)) ≡ take (suc j) whole
+  spelled-front : (j k : ℕ) → j < length whole → j ≤ k
+      → digitsOf (suc k) (decimalOf (take (suc j) whole)) ≡ take (suc j) whole
   spelled-front zero k h l =
       let d = digit-at 0 h in
       let same : 48 + (f - 48) ≡ f = omega (arith, d .0) in
@@ -128,7 +134,8 @@ module _ (f : ℕ) (r : List ℕ) (digits : all isDigit (f ∷ r) ≡ true) (fir
       let n = m * 10 + (c - 48) in
       let d = digit-at (suc j) h in
       let more : take (suc (suc j)) whole ≡ take (suc j) whole ++ (c ∷ []) = take-suc whole (suc j) 0 h in
-      let some : 1 ≤ m = first-value f (take j r) 0 (omega (arith, digit-at 0 (omega arith) .0, first (omega arith))) (omega arith) in
+      let some : 1 ≤ m =
+      first-value f (take j r) 0 (omega (arith, digit-at 0 (omega arith) .0, first (omega arith))) (omega arith) in
       let tenth : n / 10 ≡ m = omega (arith, d .0, d .1) in
       let last : 48 + n % 10 ≡ c = omega (arith, d .0, d .1) in
       ap (digitsOf (suc (suc k))) (ap decimalOf more ∙ decimal-snoc (take (suc j) whole) c)
@@ -142,9 +149,13 @@ time-back (f ∷ r) e =
     let s = f ∷ r in
     let t = both (ltb 0 (length s) && not (hasLeadingZero s)) (isNumber s) e in
     let n = both (all isDigit s) (ltb (decimalOf s) (2 ^ 64)) (t .1) in
-    let zero-first : hasLeadingZero s ≡ false = not-true _ (both (ltb 0 (length s)) (not (hasLeadingZero s)) (t .0) .1) in
-    let few : length s ≤ 20 = by-test (ltb 20 (length s)) (λ h. absurd (false≢true (sym (long-time s (ltb-true _ _ h)) ∙ e))) (λ h. ltb-false _ _ h) in
-    let leads : 0 < length r → f ≡ 48 → hasLeadingZero s ≡ true = λ h z. leading-zero s ∙ and-true (lt-ltb 1 (length s) (omega arith)) (eq-eqb f 48 z) in
+    let zero-first : hasLeadingZero s ≡ false =
+    not-true _ (both (ltb 0 (length s)) (not (hasLeadingZero s)) (t .0) .1) in
+    let few : length s ≤ 20 =
+    by-test (ltb 20 (length s))
+    (λ h. absurd (false≢true (sym (long-time s (ltb-true _ _ h)) ∙ e))) (λ h. ltb-false _ _ h) in
+    let leads : 0 < length r → f ≡ 48 → hasLeadingZero s ≡ true =
+    λ h z. leading-zero s ∙ and-true (lt-ltb 1 (length s) (omega arith)) (eq-eqb f 48 z) in
     let first : 0 < length r → f ≡ 48 → ⊥ = λ h z. false≢true (sym zero-first ∙ leads h z) in
     rw take-length at (spelled-front f r (n .0) first (length r) 19 (omega arith) (omega arith))
 
@@ -165,7 +176,8 @@ bytes-back [] t = refl
 bytes-back (b ∷ bs) t =
     let h = ltb→lt b 256 (and-left (ltb b 256) (areBytes bs) t) in
     let e : b / 16 * 16 + b % 16 ≡ b = omega arith in
-    rw (digit-back (b / 16) (omega arith), digit-back (b % 16) (omega arith)) (ap₂ _∷_ e (bytes-back bs (and-right (ltb b 256) (areBytes bs) t)))
+    rw (digit-back (b / 16) (omega arith), digit-back (b % 16) (omega arith))
+    (ap₂ _∷_ e (bytes-back bs (and-right (ltb b 256) (areBytes bs) t)))
 
 digits-hex : (bs : List ℕ) → T (areBytes bs) → all isHexDigit (hexText bs) ≡ true
 unfolding hexText
@@ -185,7 +197,12 @@ unfolding isHex
 bytes-read bs t h =
     let n = length (hexText bs) in
     record {
-      hex = rw (le-leb n 128 (omega (arith, hex-length bs)), eq-eqb (n % 2) 0 (omega (arith, hex-length bs)), digits-hex bs (told (areBytes bs) t));
+      hex =
+          rw (
+            le-leb n 128 (omega (arith, hex-length bs)),
+            eq-eqb (n % 2) 0 (omega (arith, hex-length bs)),
+            digits-hex bs (told (areBytes bs) t),
+          );
       value = bytes-back bs (told (areBytes bs) t);
     }
 

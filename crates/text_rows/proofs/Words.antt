@@ -12,7 +12,8 @@ use Rattle.text_rows.specs.declared.Row.{Row}
 
 pub hex-next : (out s : List ℕ) (to i : ℕ) → i < length s
     → sets out to (hexText (drop i s))
-    ≡ sets (set (set out to (hexDigitOf (getD s i 0 / 16))) (to + 1) (hexDigitOf (getD s i 0 % 16))) (to + 2) (hexText (drop (i + 1) s))
+    ≡ sets (set (set out to (hexDigitOf (getD s i 0 / 16))) (to + 1) (hexDigitOf (getD s i 0 % 16)))
+    (to + 2) (hexText (drop (i + 1) s))
 unfolding hexText
 hex-next out s to i h =
     let e : to + 2 ≡ suc (suc to) = omega arith in
@@ -29,7 +30,8 @@ unfolding answerText
 kept-alone [] e = refl
 kept-alone (b ∷ bs) e = absurd (omega arith)
 
-pub kept-sends : (sent : List ℕ) → (length sent ≡ 0 → ⊥) → answerText Row.Kept sent ≡ keptWord ++ (space ∷ sendWord ++ (space ∷ hexText sent))
+pub kept-sends : (sent : List ℕ) → (length sent ≡ 0 → ⊥)
+    → answerText Row.Kept sent ≡ keptWord ++ (space ∷ sendWord ++ (space ∷ hexText sent))
 unfolding answerText
 kept-sends [] n = absurd (n refl)
 kept-sends (b ∷ bs) n = refl

@@ -10,14 +10,16 @@ use Rattle.archive_file.proofs.after_block.Tie as tie
 
 -- the stage that an arm is for
 at : (c : tie.Start) (s : Stage) → c .args .stage ≡ s
-    → buffer.stageAfter (stageOf s) (c .args .k) (now (c .args .block)) ≡ buffer.stageAfter (stageOf (c .args .stage)) (c .args .k) (now (c .args .block))
+    → buffer.stageAfter (stageOf s) (c .args .k) (now (c .args .block))
+    ≡ buffer.stageAfter (stageOf (c .args .stage)) (c .args .k) (now (c .args .block))
 at c s e = ap (λ (t : Stage). buffer.stageAfter (stageOf t) (c .args .k) (now (c .args .block))) (sym e)
 
 filling : tie.Need-returns
 filling c = c .next-stage .ensures ∙ at (c .before .before .before .before) _ (c .before .enum-told .given .1)
 
 short : tie.Need-returns-2
-short c = ap buffer.Wrong (c .before2 .ensures) ∙ at (c .before .before .before .before) _ (c .before .enum-told2 .given .1)
+short c =
+    ap buffer.Wrong (c .before2 .ensures) ∙ at (c .before .before .before .before) _ (c .before .enum-told2 .given .1)
 
 ended : tie.Need-returns-3
 ended c = at (c .before .before .before) _ (c .enum-told3 .given .1)

@@ -16,21 +16,24 @@ opened-rows c =
     let s = o .before .before .before .before in
     let a = s .args in
     p .append-at .ensures
-    ∙ append-rows (now (a .buffer)) (rowOf (now (a .bytes)) (a .time) (a .loose)) (k .rows .given .0 .0) (sym (ap openResult (k .rows .given .1)) ∙ o .«open» .ensures) (omega (arith, s .fits .time))
+    ∙ append-rows (now (a .buffer)) (rowOf (now (a .bytes)) (a .time) (a .loose)) (k .rows .given .0 .0)
+    (sym (ap openResult (k .rows .given .1)) ∙ o .«open» .ensures) (omega (arith, s .fits .time))
 
 damaged : tie.Need-returns-2
 damaged c =
     let k = c .before in
     let o = k .before .before in
     let a = o .before .before .before .before .args in
-    append-damaged (now (a .buffer)) (rowOf (now (a .bytes)) (a .time) (a .loose)) (k .rows2 .given .0 .0) (sym (ap openResult (k .rows2 .given .1)) ∙ o .«open» .ensures)
+    append-damaged (now (a .buffer)) (rowOf (now (a .bytes)) (a .time) (a .loose))
+    (k .rows2 .given .0 .0) (sym (ap openResult (k .rows2 .given .1)) ∙ o .«open» .ensures)
 
 refused : tie.Need-returns-3
 refused c =
     let k = c .before in
     let o = k .before .before in
     let a = o .before .before .before .before .args in
-    append-refused (now (a .buffer)) (rowOf (now (a .bytes)) (a .time) (a .loose)) (k .rows3 .given .0 .0) (sym (ap openResult (k .rows3 .given .1)) ∙ o .«open» .ensures)
+    append-refused (now (a .buffer)) (rowOf (now (a .bytes)) (a .time) (a .loose))
+    (k .rows3 .given .0 .0) (sym (ap openResult (k .rows3 .given .1)) ∙ o .«open» .ensures)
 
 pub append-spec : {M : Type 1} → statement M
 append-spec =

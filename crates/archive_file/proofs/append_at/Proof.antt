@@ -15,7 +15,8 @@ use Rattle.archive_file.proofs.append_at.Tie as tie
 size : tie.Need-returns
 size c =
     let a = c .before .before .before .before .args in
-    at-size (now (a .buffer)) (a .n) (rowOf (now (a .bytes)) (a .time) (a .loose)) (sym (c .before .is-whole .ensures) ∙ not-true _ (c .if1 .taken))
+    at-size (now (a .buffer)) (a .n) (rowOf (now (a .bytes)) (a .time) (a .loose))
+    (sym (c .before .is-whole .ensures) ∙ not-true _ (c .if1 .taken))
 
 whole : (c : tie.Else1) → isWhole (length (now (c .before .before .before .before .args .buffer))) ≡ true
 whole c = sym (c .before .is-whole .ensures) ∙ not-false _ (c .if1 .left)
@@ -24,7 +25,9 @@ out : tie.Need-returns-2
 out c =
     let e = c .before .before in
     let a = e .before .before .before .before .args in
-    c .no-block .ensures (now (a .buffer)) ∙ at-out (now (a .buffer)) (a .n) (rowOf (now (a .bytes)) (a .time) (a .loose)) (whole e) (c .before .if2 .taken)
+    c .no-block .ensures (now (a .buffer))
+    ∙ at-out (now (a .buffer)) (a .n)
+    (rowOf (now (a .bytes)) (a .time) (a .loose)) (whole e) (c .before .if2 .taken)
 
 put : tie.Need-returns-3
 put c =
@@ -32,7 +35,8 @@ put c =
     let e2 = p .before .before in
     let e = e2 .before in
     let a = e .before .before .before .before .args in
-    at-put (now (a .buffer)) (a .n) (rowOf (now (a .bytes)) (a .time) (a .loose)) (whole e) (e2 .if2 .left) (p .put-row .result) _ (p .put-row .ensures)
+    at-put (now (a .buffer)) (a .n) (rowOf (now (a .bytes)) (a .time) (a .loose))
+    (whole e) (e2 .if2 .left) (p .put-row .result) _ (p .put-row .ensures)
 
 pub append-at-spec : {M : Type 1} → statement M
 append-at-spec =

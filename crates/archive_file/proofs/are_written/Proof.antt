@@ -29,23 +29,31 @@ abbrev μ-loop : tie.MeasureT-loop
 is-written-requires : tie.Need-is-written-requires Inv-loop μ-loop
 is-written-requires c κs =
     let at = c .before .before in
-    rw (c .cell-at .ensures) (part-length (headerLength + cellLength * at .loop .i) cellLength (now (at .before .before .args .block)) (omega arith))
+    rw (c .cell-at .ensures)
+    (part-length (headerLength + cellLength * at .loop .i) cellLength
+    (now (at .before .before .args .block)) (omega arith))
 
 -- what was told of cell i
 told : (c : tie.After-is-written Inv-loop μ-loop) (b : Bool) → c .is-written .result ≡ b
-    → isWritten (blockCell (c .before .before .before .loop .i) (now (c .before .before .before .before .before .args .block))) ≡ b
+    → isWritten (blockCell (c .before .before .before .loop .i)
+    (now (c .before .before .before .before .before .args .block)))
+    ≡ b
 told c b e = sym (c .is-written .ensures ∙ ap isWritten (c .before .cell-at .ensures)) ∙ e
 
 -- so cell i and what is left after it decide
 decide : (c : tie.After-is-written Inv-loop μ-loop) (b : Bool) → c .is-written .result ≡ b
     → all isWritten (cellsFrom (now (c .before .before .before .before .before .args .block)) 0 (c .before .before .before .before .before .args .used))
-    ≡ b && all isWritten (cellsFrom (now (c .before .before .before .before .before .args .block)) (c .before .before .before .loop .i + 1)
+    ≡ b
+    && all isWritten
+    (cellsFrom (now (c .before .before .before .before .before .args .block))
+    (c .before .before .before .loop .i + 1)
     (c .before .before .before .before .before .args .used - (c .before .before .before .loop .i + 1)))
 decide c b e =
     let at = c .before .before .before in
     let a = at .before .before .args in
     sym (at .loop .inv .rest) ∙ cells-next (now (a .block)) (a .used) (at .loop .i) (omega arith)
-    ∙ ap (λ (b : Bool). b && all isWritten (cellsFrom (now (a .block)) (at .loop .i + 1) (a .used - (at .loop .i + 1)))) (told c b e)
+    ∙ ap (λ (b : Bool). b && all isWritten (cellsFrom (now (a .block)) (at .loop .i + 1) (a .used - (at .loop .i + 1))))
+    (told c b e)
 
 loop-again : tie.Need-loop-again Inv-loop μ-loop
 loop-again c = record { bounded = omega arith; rest = sym (decide (c .before) true (not-false _ (c .if1 .left))) }

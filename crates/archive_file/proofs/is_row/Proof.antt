@@ -15,11 +15,16 @@ long : tie.Need-returns
 long c = long-row (now (c .before .before .before .args .cell)) (omega (arith, c .before .cell-used .ensures))
 
 -- what the check says of the cell's bytes
-checked : (c : tie.After-check) → checkedNumber (c .check .result) ≡ checkOf (cellBytes (now (c .before .before .before .before .before .args .cell)))
+checked : (c : tie.After-check)
+    → checkedNumber (c .check .result)
+    ≡ checkOf (cellBytes (now (c .before .before .before .before .before .args .cell)))
 checked c =
     let at = c .before .before .before in
     let s = at .before .before in
-    c .check .ensures ∙ ap checkOf (bytes-shown (now (s .args .cell)) (at .cell-used .result) (s .pre) (at .cell-used .ensures) (c .before .before .if1 .left))
+    c .check .ensures
+    ∙ ap checkOf
+    (bytes-shown (now (s .args .cell)) (at .cell-used .result)
+    (s .pre) (at .cell-used .ensures) (c .before .before .if1 .left))
 
 valid : tie.Need-returns-2
 valid c = sym (eq-eqb _ 0 (told-valid _ _ (checked (c .before .before)) (c .enum-told .given .1)))

@@ -10,7 +10,8 @@ use Rattle.archive_file.proofs.is_stage.Statement.{statement}
 use Rattle.archive_file.proofs.is_stage.Tie as tie
 
 told : (c : tie.Start) (s : Stage) → c .args .stage ≡ s
-    → isStage (stageOf s) (c .args .blocks) (c .args .rows) ≡ isStage (stageOf (c .args .stage)) (c .args .blocks) (c .args .rows)
+    → isStage (stageOf s) (c .args .blocks) (c .args .rows)
+    ≡ isStage (stageOf (c .args .stage)) (c .args .blocks) (c .args .rows)
 told c s e = ap (λ (x : Stage). isStage (stageOf x) (c .args .blocks) (c .args .rows)) (sym e)
 
 pub is-stage-spec : {M : Type 1} → statement M

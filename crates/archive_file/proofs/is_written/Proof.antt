@@ -28,9 +28,11 @@ blank-told : (c : tie.After-is-blank) (b : Bool) → c .is-blank .result ≡ b
 blank-told c b e =
     let at = c .before .before .before in
     let cell = now (at .before .before .args .cell) in
-    ap (λ (n : ℕ). isBlank (part (9 + n) (30 - (9 + n)) cell)) (sym (at .cell-used .ensures)) ∙ sym (c .is-blank .ensures) ∙ e
+    ap (λ (n : ℕ). isBlank (part (9 + n) (30 - (9 + n)) cell)) (sym (at .cell-used .ensures))
+    ∙ sym (c .is-blank .ensures) ∙ e
 
-last-told : (c : tie.After-cell-last) (b : Bool) → not (eqb (c .cell-last .result) 0) && not (eqb (c .cell-last .result) 256) ≡ b
+last-told : (c : tie.After-cell-last) (b : Bool)
+    → not (eqb (c .cell-last .result) 0) && not (eqb (c .cell-last .result) 256) ≡ b
     → not (eqb (cellLast (now (c .before .before .before .before .before .before .before .args .cell))) 0)
     && not (eqb (cellLast (now (c .before .before .before .before .before .before .before .args .cell))) 256) ≡ b
 last-told c b e = ap (λ (n : ℕ). not (eqb n 0) && not (eqb n 256)) (sym (c .cell-last .ensures)) ∙ e
@@ -38,13 +40,15 @@ last-told c b e = ap (λ (n : ℕ). not (eqb n 0) && not (eqb n 256)) (sym (c .c
 rest : tie.Need-returns-2
 rest c =
     let s = c .before .before .before .before .before .before in
-    written-rest (now (s .args .cell)) (s .pre) (short (c .before .before .before)) (blank-told (c .before) false (not-true _ (c .if2 .taken)))
+    written-rest (now (s .args .cell)) (s .pre) (short (c .before .before .before))
+    (blank-told (c .before) false (not-true _ (c .if2 .taken)))
 
 last : tie.Need-returns-3
 last c =
     let e = c .before .before in
     let s = e .before .before .before .before .before .before in
-    written-last (now (s .args .cell)) (s .pre) (short (e .before .before .before)) (last-told (c .before) true (c .if3 .taken))
+    written-last (now (s .args .cell)) (s .pre) (short (e .before .before .before))
+    (last-told (c .before) true (c .if3 .taken))
 
 row : tie.Need-returns-4
 row c =
@@ -52,7 +56,8 @@ row c =
     let e = g .before .before in
     let s = e .before .before .before .before .before .before in
     c .is-row .ensures
-    ∙ written-row (now (s .args .cell)) (s .pre) (short (e .before .before .before)) (λ i. omega (arith, e .before .before .before .before .before .shared-slice-known .given i))
+    ∙ written-row (now (s .args .cell)) (s .pre) (short (e .before .before .before))
+    (λ i. omega (arith, e .before .before .before .before .before .shared-slice-known .given i))
     (blank-told (e .before) true (not-false _ (e .if2 .left))) (last-told (g .before) false (g .if3 .left))
 
 pub is-written-spec : {M : Type 1} → statement M

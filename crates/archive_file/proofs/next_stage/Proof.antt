@@ -24,7 +24,8 @@ other c =
     stage-number (now (a .block)) (a .k) (some e) (λ k. c .if2 .taken (c .before .number-of .ensures ∙ k))
 
 -- where the number is right
-same : (c : tie.Else2) → blockNumber (now (c .before .before .before .before .args .block)) ≡ c .before .before .before .before .args .k
+same : (c : tie.Else2)
+    → blockNumber (now (c .before .before .before .before .args .block)) ≡ c .before .before .before .before .args .k
 same c = sym (c .before .number-of .ensures) ∙ c .if2 .left
 
 short : tie.Need-returns-3

@@ -18,4 +18,6 @@ number-of-spec =
     (λ c. search needs)
     (λ c. search needs)
     (λ c κs. search needs)
-    (λ c. c .read-number .ensures ∙ ap unbe (take-all 8 (part 0 4 (now (c .before .before .before .args .block))) (rw length-take (omega arith)))))
+    (λ c. c .read-number .ensures
+    ∙ ap unbe
+    (take-all 8 (part 0 4 (now (c .before .before .before .args .block))) (rw length-take (omega arith)))))

@@ -14,7 +14,9 @@ use Rattle.archive_file.proofs.open.Statement.{statement}
 use Rattle.archive_file.proofs.open.Tie as tie
 
 size : tie.Need-returns
-size c = open-size (now (c .before .before .before .args .buffer)) (sym (c .before .is-whole .ensures) ∙ not-true _ (c .if1 .taken))
+size c =
+    open-size (now (c .before .before .before .args .buffer))
+    (sym (c .before .is-whole .ensures) ∙ not-true _ (c .if1 .taken))
 
 whole : (c : tie.Else1) → buffer.isWhole (length (now (c .before .before .before .args .buffer))) ≡ true
 whole c = sym (c .before .is-whole .ensures) ∙ not-false _ (c .if1 .left)
@@ -30,10 +32,14 @@ returns-2 c =
     let sc = c .before in
     let e = sc .before .before in
     let a = now (e .before .before .before .args .buffer) in
-    let is = sc .scan-blocks .ensures ∙ ap (λ (s : buffer.Scan). buffer.scanBlocks s (buffer.blocksIn a)) (sc .before .start .ensures) in
+    let is =
+    sc .scan-blocks .ensures
+    ∙ ap (λ (s : buffer.Scan). buffer.scanBlocks s (buffer.blocksIn a)) (sc .before .start .ensures) in
     c .rows-found .ensures
-    ∙ ap (λ (f : buffer.Found). openFound f (sc .scan-blocks .result .rows)) (ap (λ (s : buffer.Scan). buffer.stageFound (s .stage)) is ∙ scan-found a)
-    ∙ open-whole a (whole e) (sc .scan-blocks .result .rows) (λ none. ap (λ (s : buffer.Scan). s .rows) is ∙ scan-rows a none)
+    ∙ ap (λ (f : buffer.Found). openFound f (sc .scan-blocks .result .rows))
+    (ap (λ (s : buffer.Scan). buffer.stageFound (s .stage)) is ∙ scan-found a)
+    ∙ open-whole a (whole e) (sc .scan-blocks .result .rows)
+    (λ none. ap (λ (s : buffer.Scan). s .rows) is ∙ scan-rows a none)
 
 pub open-spec : {M : Type 1} → statement M
 open-spec =

@@ -13,13 +13,15 @@ step1 c =
     let a = c .before .before .before .args in
     packed
     (store
-    (lend-sized (begin (now (a .out))) _ (λ w. be w (a .k)) 4 (c .put-number .ensures) (c .put-number .kept .0) (omega arith) (omega arith))
+    (lend-sized (begin (now (a .out))) _ (λ w. be w (a .k)) 4 (c .put-number .ensures)
+    (c .put-number .kept .0) (omega arith) (omega arith))
     (a .count)
     (omega arith))
 
 abbrev step2 : tie.After-clear → Writing 24
 step2 c =
-    packed (lend-sized (step1 (c .before .before .before .before) .begun) _ (λ w. replicate w 0) 24 (c .clear .ensures) (c .clear .kept .0) (omega arith) (omega arith))
+    packed (lend-sized (step1 (c .before .before .before .before) .begun) _ (λ w. replicate w 0) 24
+    (c .clear .ensures) (c .clear .kept .0) (omega arith) (omega arith))
 
 pub put-head-spec : {M : Type 1} → statement M
 put-head-spec =

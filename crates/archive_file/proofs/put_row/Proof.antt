@@ -26,12 +26,16 @@ other : tie.Need-returns-3
 other c =
     let e = c .before .before .before in
     let a = e .before .before .before .before .args in
-    put-other (now (a .block)) (a .n) (rowOf (now (a .bytes)) (a .time) (a .loose)) (e .before .if1 .left) (e .if2 .left) (next-told (a .n) (now (a .block)) (e .before .if1 .left) (sym (c .before .is-next .ensures) ∙ not-true _ (c .if3 .taken)))
+    put-other (now (a .block)) (a .n) (rowOf (now (a .bytes)) (a .time) (a .loose))
+    (e .before .if1 .left) (e .if2 .left)
+    (next-told (a .n) (now (a .block)) (e .before .if1 .left)
+    (sym (c .before .is-next .ensures) ∙ not-true _ (c .if3 .taken)))
 
 next : (c : tie.Else3) → isNext (c .before .before .before .before .before .before .before .args .n) (now (c .before .before .before .before .before .before .before .args .block)) ≡ true
 next c =
     let a = c .before .before .before .before .before .before .before .args in
-    next-told (a .n) (now (a .block)) (c .before .before .before .before .if1 .left) (sym (c .before .is-next .ensures) ∙ not-false _ (c .if3 .left))
+    next-told (a .n) (now (a .block)) (c .before .before .before .before .if1 .left)
+    (sym (c .before .is-next .ensures) ∙ not-false _ (c .if3 .left))
 
 invalid : tie.Need-returns-4
 invalid c =
@@ -40,7 +44,8 @@ invalid c =
     let e = e3 .before .before .before in
     let a = e .before .before .before .before .args in
     let why = c .before .checked .given .0 .0 in
-    put-invalid (now (a .block)) (a .n) (rowOf (now (a .bytes)) (a .time) (a .loose)) (e .before .if1 .left) (e .if2 .left) (next e3) why
+    put-invalid (now (a .block)) (a .n) (rowOf (now (a .bytes)) (a .time) (a .loose))
+    (e .before .if1 .left) (e .if2 .left) (next e3) why
     (told-refused _ _ (ch .check .ensures) why (c .before .checked .given .1))
 
 write-row-requires : tie.Need-write-row-requires
@@ -59,7 +64,8 @@ done c =
     let e = e3 .before .before .before in
     let a = e .before .before .before .before .args in
     ap stored (wr .write-row .ensures)
-    ∙ put-done (now (a .block)) (a .n) (rowOf (now (a .bytes)) (a .time) (a .loose)) (e .before .if1 .left) (e .if2 .left) (next e3) (told-valid _ _ (ch .check .ensures) (t .enum-told .given .1))
+    ∙ put-done (now (a .block)) (a .n) (rowOf (now (a .bytes)) (a .time) (a .loose)) (e .before .if1 .left)
+    (e .if2 .left) (next e3) (told-valid _ _ (ch .check .ensures) (t .enum-told .given .1))
 
 pub put-row-spec : {M : Type 1} → statement M
 put-row-spec =

@@ -43,7 +43,8 @@ cell-is c =
 in-block : (c : tie.After-cell-at) → cellRow (cell c) ≡ rowInBlock (now (start c .args .block)) (start c .args .i)
 in-block c =
     let a = start c .args in
-    let h : a .i < rowCount (now (a .block)) = omega (arith, c .before .before .byte-at .ensures, c .before .if1 .left) in
+    let h : a .i < rowCount (now (a .block)) =
+    omega (arith, c .before .before .byte-at .ensures, c .before .if1 .left) in
     ap cellRow (c .cell-at .ensures) ∙ (rw (lt-ltb (a .i) (rowCount (now (a .block))) h))
 
 abbrev shown : tie.After-cell-at → ReadRow → Shown
@@ -53,11 +54,15 @@ long : tie.Need-returns-2
 long c =
     let u = c .before .before in
     let at = u .before in
-    c .no-row2 .ensures (blockCell (start at .args .i) (now (start at .args .block))) ∙ ap (shown at) (sym (cell-long (cell at) (omega (arith, u .cell-used .ensures, c .before .if2 .taken))) ∙ in-block at)
+    c .no-row2 .ensures (blockCell (start at .args .i) (now (start at .args .block)))
+    ∙ ap (shown at)
+    (sym (cell-long (cell at) (omega (arith, u .cell-used .ensures, c .before .if2 .taken))) ∙ in-block at)
 
 -- what is read of a cell
-read : (cell bytes : List ℕ) (time len : ℕ) (loose : Bool) → len ≡ cellUsed cell → len ≤ cellCapacity → time ≡ cellTime cell → loose ≡ rowIn cell .loose
-    → bytes ≡ cellField cell → (record { number = 0; len = len; bytes = bytes; time = time; loose = loose }) ≡ rowShown (cellRow cell) cell
+read : (cell bytes : List ℕ) (time len : ℕ) (loose : Bool) → len ≡ cellUsed cell
+    → len ≤ cellCapacity → time ≡ cellTime cell → loose ≡ rowIn cell .loose
+    → bytes ≡ cellField cell
+    → (record { number = 0; len = len; bytes = bytes; time = time; loose = loose }) ≡ rowShown (cellRow cell) cell
 read cell bytes time len loose u h t o b =
     let short : cellUsed cell ≤ cellCapacity = omega arith in
     rw (cell-found cell short, b, used-is cell, t, o, u)
@@ -69,7 +74,10 @@ found c =
     let e = cf .before .before in
     let u = e .before in
     let at = u .before in
-    let field = cf .copy-field .ensures ∙ resized-whole cellCapacity (cellField (cell at)) (part-length 9 cellCapacity (cell at) (omega (arith, cell-is at))) in
+    let field =
+    cf .copy-field .ensures
+    ∙ resized-whole cellCapacity (cellField (cell at))
+    (part-length 9 cellCapacity (cell at) (omega (arith, cell-is at))) in
     read (cell at) _ _ _ _ (u .cell-used .ensures) (e .if2 .left) (ti .cell-time .ensures) (c .is-loose .ensures) field
     ∙ ap₂ rowShown (in-block at) (at .cell-at .ensures)
 

@@ -26,7 +26,9 @@ size : tie.Need-returns
 size c =
     let w = c .before .before in
     let a = w .before .before .args in
-    c .no-row .ensures (cellAt (a .i) (now (a .buffer))) ∙ ap (shown (w .before .before)) (row-size (now (a .buffer)) (a .i) (sym (w .is-whole .ensures) ∙ not-true _ (c .before .if1 .taken)))
+    c .no-row .ensures (cellAt (a .i) (now (a .buffer)))
+    ∙ ap (shown (w .before .before))
+    (row-size (now (a .buffer)) (a .i) (sym (w .is-whole .ensures) ∙ not-true _ (c .before .if1 .taken)))
 
 whole : (c : tie.Else1) → isWhole (length (now (c .before .before .before .args .buffer))) ≡ true
 whole c = sym (c .before .is-whole .ensures) ∙ not-false _ (c .if1 .left)
@@ -35,13 +37,17 @@ out : tie.Need-returns-2
 out c =
     let e = c .before .before in
     let a = e .before .before .before .args in
-    c .no-row2 .ensures (cellAt (a .i) (now (a .buffer))) ∙ ap (shown (e .before .before .before)) (row-out (now (a .buffer)) (a .i) (whole e) (c .before .if2 .taken))
+    c .no-row2 .ensures (cellAt (a .i) (now (a .buffer)))
+    ∙ ap (shown (e .before .before .before)) (row-out (now (a .buffer)) (a .i) (whole e) (c .before .if2 .taken))
 
 read-row-requires : tie.Need-read-row-requires
 read-row-requires c κs =
     let a = c .before .before .before .before .before .args in
-    let k = a .i / cellsPerBlock in
-    (ap length (part-ends (blockLength * k) blockLength (now (a .buffer))) ∙ part-length (blockLength * k) blockLength (now (a .buffer)) (omega arith), omega arith)
+    let k = a .i / cellsPerBlock in (
+      ap length (part-ends (blockLength * k) blockLength (now (a .buffer)))
+          ∙ part-length (blockLength * k) blockLength (now (a .buffer)) (omega arith),
+      omega arith,
+    )
 
 within : tie.Need-returns-3
 within c =
@@ -49,7 +55,9 @@ within c =
     let e = e2 .before in
     let a = e .before .before .before .args in
     let k = a .i / cellsPerBlock in
-    c .read-row .ensures ∙ ap (λ (l : List ℕ). rowShown (rowInBlock l (a .i % cellsPerBlock)) (blockCell (a .i % cellsPerBlock) l)) (part-ends (blockLength * k) blockLength (now (a .buffer)))
+    c .read-row .ensures
+    ∙ ap (λ (l : List ℕ). rowShown (rowInBlock l (a .i % cellsPerBlock)) (blockCell (a .i % cellsPerBlock) l))
+    (part-ends (blockLength * k) blockLength (now (a .buffer)))
     ∙ ap (shown (e .before .before .before)) (row-in (now (a .buffer)) (a .i) (whole e) (e2 .if2 .left))
 
 pub row-at-spec : {M : Type 1} → statement M

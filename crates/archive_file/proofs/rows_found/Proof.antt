@@ -8,7 +8,9 @@ use Rattle.archive_file.proofs.rows_found.Statement.{statement}
 use Rattle.archive_file.proofs.rows_found.Tie as tie
 
 -- the stage that an arm is for
-at : (c : tie.Start) (s : Stage) → c .args .stage ≡ s → openFound (buffer.stageFound (stageOf s)) (c .args .rows) ≡ openFound (buffer.stageFound (stageOf (c .args .stage))) (c .args .rows)
+at : (c : tie.Start) (s : Stage) → c .args .stage ≡ s
+    → openFound (buffer.stageFound (stageOf s)) (c .args .rows)
+    ≡ openFound (buffer.stageFound (stageOf (c .args .stage))) (c .args .rows)
 at c s e = ap (λ (t : Stage). openFound (buffer.stageFound (stageOf t)) (c .args .rows)) (sym e)
 
 pub rows-found-spec : {M : Type 1} → statement M

@@ -10,15 +10,20 @@ use Rattle.archive_file.proofs.scan_block.Tie as tie
 
 blank : tie.Need-returns
 blank c =
-    let s = c .before .before .before .before in
-    (scanned-blank (now (s .args .block)) (scanOf (s .args .s)) (stageOf (c .after-blank .result)) (sym (c .before .before .is-blank .ensures) ∙ c .before .if1 .taken) (c .after-blank .ensures), omega arith)
+    let s = c .before .before .before .before in (
+      scanned-blank (now (s .args .block)) (scanOf (s .args .s)) (stageOf (c .after-blank .result))
+          (sym (c .before .before .is-blank .ensures) ∙ c .before .if1 .taken) (c .after-blank .ensures),
+      omega arith,
+    )
 
 other : tie.Need-returns-2
 other c =
     let so = c .before .before in
     let e = so .before in
     let s = e .before .before .before in (
-      scanned (now (s .args .block)) (scanOf (s .args .s)) (stageOf (c .after-block .result)) (sym (e .before .is-blank .ensures) ∙ e .if1 .left) (c .after-block .ensures) (so .sound .result) (so .sound .ensures),
+      scanned (now (s .args .block)) (scanOf (s .args .s)) (stageOf (c .after-block .result))
+          (sym (e .before .is-blank .ensures) ∙ e .if1 .left)
+          (c .after-block .ensures) (so .sound .result) (so .sound .ensures),
       omega (arith, so .sound .ensures, sound-le (now (s .args .block))),
     )
 
@@ -32,6 +37,11 @@ scan-block-spec =
     blank
     (λ c κs. search needs)
     (λ c. search needs)
-    (λ c. omega (arith, c .before .sound .ensures, sound-le (now (c .before .before .before .before .before .args .block))))
+    (λ c.
+    omega (
+      arith,
+      c .before .sound .ensures,
+      sound-le (now (c .before .before .before .before .before .args .block)),
+    ))
     (λ c κs. search needs)
     other)

@@ -20,7 +20,8 @@ record Scanning (piece : List ℕ) (at₀ : Scan) (i-end : ℕ) (at : Scan) (i :
   ends : i-end ≡ length piece / blockLength
   passed : at .blocks ≡ at₀ .blocks + i
   few : at .rows ≤ cellsPerBlock * at .blocks
-  rest : buffer.scanBlocks (scanOf at) (blocksFrom piece i (i-end - i)) ≡ buffer.scanBlocks (scanOf at₀) (buffer.blocksIn piece)
+  rest : buffer.scanBlocks (scanOf at) (blocksFrom piece i (i-end - i))
+      ≡ buffer.scanBlocks (scanOf at₀) (buffer.blocksIn piece)
 
 abbrev Inv-loop : tie.InvT-loop
 Inv-loop piece at₀ i₀ i-end at i = Scanning piece at₀ i-end at i
@@ -42,8 +43,12 @@ loop-holds c =
 scan-block-requires : tie.Need-scan-block-requires Inv-loop μ-loop
 scan-block-requires c κs =
     let at = c .before .before in
-    let piece = now (at .before .before .args .piece) in
-    (ap length (part-ends (blockLength * at .loop .i) blockLength piece) ∙ part-length (blockLength * at .loop .i) blockLength piece (omega arith), omega arith, omega arith)
+    let piece = now (at .before .before .args .piece) in (
+      ap length (part-ends (blockLength * at .loop .i) blockLength piece)
+          ∙ part-length (blockLength * at .loop .i) blockLength piece (omega arith),
+      omega arith,
+      omega arith,
+    )
 
 loop-again : tie.Need-loop-again Inv-loop μ-loop
 loop-again c =
@@ -51,20 +56,27 @@ loop-again c =
     let a = at .before .before .args in
     let i = at .loop .i in
     let piece = now (a .piece) in
-    let e = c .scan-block .ensures .0 ∙ ap (buffer.scanBlock (scanOf (at .loop .at))) (part-ends (blockLength * i) blockLength piece) in
+    let e =
+    c .scan-block .ensures .0
+    ∙ ap (buffer.scanBlock (scanOf (at .loop .at))) (part-ends (blockLength * i) blockLength piece) in
     record {
       bounded = omega arith;
       ends = omega arith;
       passed = omega (arith, blocks-next _ _ _ e);
       few = c .scan-block .ensures .1;
-      rest = ap (λ (s : buffer.Scan). buffer.scanBlocks s (blocksFrom piece (i + 1) (length piece / blockLength - (i + 1)))) e
-          ∙ sym (rest-next piece (scanOf (at .loop .at)) (length piece / blockLength) i (omega arith)) ∙ at .loop .inv .rest;
+      rest =
+          ap (λ (s : buffer.Scan). buffer.scanBlocks s
+          (blocksFrom piece (i + 1) (length piece / blockLength - (i + 1))))
+          e
+          ∙ sym (rest-next piece (scanOf (at .loop .at)) (length piece / blockLength) i (omega arith))
+          ∙ at .loop .inv .rest;
     }
 
 returns : tie.Need-returns Inv-loop μ-loop
 returns c =
     let at = c .before .loop in
-    sym (rest-none (now (c .before .before .before .args .piece)) (scanOf (at .at)) _ (at .i) (omega arith)) ∙ at .inv .rest
+    sym (rest-none (now (c .before .before .before .args .piece)) (scanOf (at .at)) _ (at .i) (omega arith))
+    ∙ at .inv .rest
 
 pub scan-blocks-spec : {M : Type 1} → statement M
 scan-blocks-spec =

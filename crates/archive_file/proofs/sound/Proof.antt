@@ -18,24 +18,39 @@ use Rattle.archive_file.proofs.sound.Tie as tie
 
 -- ---- what was told of the zeros of the header, the cells, and the zeros behind them
 
-gap-told : (c : tie.After-is-blank) (b : Bool) → c .is-blank .result ≡ b → isBlank (part 5 19 (now (c .before .before .before .before .before .before .before .args .block))) ≡ b
+gap-told : (c : tie.After-is-blank) (b : Bool) → c .is-blank .result ≡ b
+    → isBlank (part 5 19 (now (c .before .before .before .before .before .before .before .args .block))) ≡ b
 gap-told c b e = sym (c .is-blank .ensures) ∙ e
 
 cells-told : (c : tie.After-are-written) (b : Bool) → c .are-written .result ≡ b
-    → all isWritten (cellsFrom (now (c .before .before .before .before .before .before .before .before .before .args .block)) 0
+    → all isWritten
+    (cellsFrom (now (c .before .before .before .before .before .before .before .before .before .args .block)) 0
     (rowCount (now (c .before .before .before .before .before .before .before .before .before .args .block)))) ≡ b
 cells-told c b e =
     let at = c .before .before .before .before .before .before in
-    ap (λ (n : ℕ). all isWritten (cellsFrom (now (at .before .before .before .args .block)) 0 n)) (sym (at .byte-at .ensures)) ∙ sym (c .are-written .ensures) ∙ e
+    ap (λ (n : ℕ). all isWritten (cellsFrom (now (at .before .before .before .args .block)) 0 n))
+    (sym (at .byte-at .ensures))
+    ∙ sym (c .are-written .ensures) ∙ e
 
 zeros-told : (c : tie.After-is-blank2) (b : Bool) → c .is-blank2 .result ≡ b
-    → isBlank (part (headerLength + cellLength * rowCount (now (c .before .before .before .before .before .before .before .before .before .before .before .before .args .block)))
-    (bodyLength - (headerLength + cellLength * rowCount (now (c .before .before .before .before .before .before .before .before .before .before .before .before .args .block))))
-    (now (c .before .before .before .before .before .before .before .before .before .before .before .before .args .block))) ≡ b
+    → isBlank
+    (part (headerLength
+    + cellLength
+    * rowCount
+    (now (c .before .before .before .before .before .before .before .before .before .before .before .before .args .block)))
+    (bodyLength
+    - (headerLength
+    + cellLength
+    * rowCount
+    (now (c .before .before .before .before .before .before .before .before .before .before .before .before .args .block))))
+    (now (c .before .before .before .before .before .before .before .before .before .before .before .before .args .block)))
+    ≡ b
 zeros-told c b e =
     let at = c .before .before .before .before .before .before .before .before .before in
     let block = now (at .before .before .before .args .block) in
-    ap (λ (n : ℕ). isBlank (part (headerLength + cellLength * n) (bodyLength - (headerLength + cellLength * n)) block)) (sym (at .byte-at .ensures)) ∙ sym (c .is-blank2 .ensures) ∙ e
+    ap (λ (n : ℕ). isBlank (part (headerLength + cellLength * n) (bodyLength - (headerLength + cellLength * n)) block))
+    (sym (at .byte-at .ensures))
+    ∙ sym (c .is-blank2 .ensures) ∙ e
 
 -- ---- a block that fails a test
 
@@ -57,14 +72,16 @@ cells : tie.Need-returns-5
 cells c =
     let at = c .before .before .before .before .before .before .before in
     let block = now (at .before .before .before .args .block) in
-    fails block (all isWritten (cellsFrom block 0 (rowCount block))) (sound-cells block) (cells-told (c .before) false (not-true _ (c .if5 .taken)))
+    fails block (all isWritten (cellsFrom block 0 (rowCount block)))
+    (sound-cells block) (cells-told (c .before) false (not-true _ (c .if5 .taken)))
 
 zeros : tie.Need-returns-6
 zeros c =
     let at = c .before .before .before .before .before .before .before .before .before .before in
     let block = now (at .before .before .before .args .block) in
     let a = headerLength + cellLength * rowCount block in
-    fails block (isBlank (part a (bodyLength - a) block)) (sound-zeros block) (zeros-told (c .before) false (not-true _ (c .if6 .taken)))
+    fails block (isBlank (part a (bodyLength - a) block)) (sound-zeros block)
+    (zeros-told (c .before) false (not-true _ (c .if6 .taken)))
 
 crc : tie.Need-returns-7
 crc c =
@@ -83,8 +100,11 @@ done c =
     let e4 = e5 .before .before in
     let at = e4 .before .before .before .before .before in
     let block = now (at .before .before .before .args .block) in
-    let is = tested block (omega arith) (λ i. omega (arith, at .before .before .shared-slice-known .given i)) (omega (arith, at .byte-at .ensures)) (omega (arith, at .byte-at .ensures))
-    (gap-told (e4 .before) true (not-false _ (e4 .if4 .left))) (cells-told (e5 .before) true (not-false _ (e5 .if5 .left)))
+    let is =
+    tested block (omega arith) (λ i. omega (arith, at .before .before .shared-slice-known .given i))
+    (omega (arith, at .byte-at .ensures)) (omega (arith, at .byte-at .ensures))
+    (gap-told (e4 .before) true (not-false _ (e4 .if4 .left)))
+    (cells-told (e5 .before) true (not-false _ (e5 .if5 .left)))
     (zeros-told (e6 .before) true (not-false _ (e6 .if6 .left))) (sym (told .crc8-long .ensures) ∙ c .if7 .left) in
     at .byte-at .ensures ∙ ap (λ (t : Bool). cond t (rowCount block) 0) (sym is)
 

@@ -26,7 +26,9 @@ abbrev headed : (c : tie.After-put-head) → Writing (at (c .before .before .bef
 headed c =
     let a = c .before .before .before .before .args in
     packed
-    (skip (lend (begin (now (a .block))) _ _ headerLength (c .put-head .ensures) (c .put-head .kept .0) (omega arith) (omega arith)) (at (a .n)) (omega arith) (omega arith))
+    (skip (lend (begin (now (a .block))) _ _ headerLength (c .put-head .ensures)
+    (c .put-head .kept .0) (omega arith) (omega arith))
+    (at (a .n)) (omega arith) (omega arith))
 
 abbrev start : tie.After-put-cell → tie.Start
 start c = c .before .before .before .before .before .before .before .before .before
@@ -39,13 +41,16 @@ celled c =
     packed
     (skip
     (lend b _ (cellOf (a .time) (now (a .bytes)) (c .before .last-of .result)) (at (a .n) + cellLength)
-    (c .put-cell .ensures ∙ put-fits (a .time) (now (a .bytes)) (c .before .last-of .result) _ (s .pre .1) (lent b cellLength (at (a .n) + cellLength) refl (omega arith)))
+    (c .put-cell .ensures
+    ∙ put-fits (a .time) (now (a .bytes)) (c .before .last-of .result) _
+    (s .pre .1) (lent b cellLength (at (a .n) + cellLength) refl (omega arith)))
     (c .put-cell .kept .0) (omega arith) (omega arith))
     bodyLength (omega arith) (omega arith))
 
 put-is : (block : List ℕ) (n : ℕ) (bytes : List ℕ) (time : ℕ) (loose : Bool) (last : ℕ) → last ≡ rowLast loose
     → sealed
-    (rowsHeader (n / cellsPerBlock) (n % cellsPerBlock + 1) ++ part headerLength (at n - headerLength) block ++ cellOf time bytes last
+    (rowsHeader (n / cellsPerBlock) (n % cellsPerBlock + 1)
+    ++ part headerLength (at n - headerLength) block ++ cellOf time bytes last
     ++ part (at n + cellLength) (bodyLength - (at n + cellLength)) block)
     ≡ putRow n (rowOf bytes time loose) block
 unfolding putRow
@@ -60,7 +65,8 @@ returns c =
     let s = start put in
     let a = s .args in
     c .before .before .seal .ensures ∙ seal-front _ (celled put .begun) (s .pre .0)
-    ∙ put-is (now (a .block)) (a .n) (now (a .bytes)) (a .time) (a .loose) (put .before .last-of .result) (put .before .last-of .ensures)
+    ∙ put-is (now (a .block)) (a .n) (now (a .bytes)) (a .time) (a .loose)
+    (put .before .last-of .result) (put .before .last-of .ensures)
 
 pub write-row-spec : {M : Type 1} → statement M
 write-row-spec =

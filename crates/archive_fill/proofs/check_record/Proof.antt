@@ -16,7 +16,9 @@ checked c =
     let e = c .before .before in
     let b = e .before in
     let s = b .before .before in
-    c .check .ensures ∙ ap checkOf (bytes-shown 0 (now (s .args .given)) (b .byte-at .result) (s .pre) (b .byte-at .ensures) (e .if1 .left))
+    c .check .ensures
+    ∙ ap checkOf
+    (bytes-shown 0 (now (s .args .given)) (b .byte-at .result) (s .pre) (b .byte-at .ensures) (e .if1 .left))
 
 pub check-record-spec : {M : Type 1} → statement M
 check-record-spec =

@@ -46,7 +46,8 @@ abbrev turn-of : tie.After-check-record Inv-loop μ-loop → ℕ
 turn-of c = c .before .before .before .loop .i
 
 -- what the check told of row i
-told : (c : tie.After-check-record Inv-loop μ-loop) → checkedNumber (c .check-record .result) ≡ checkOf (getD (given c) (turn-of c) noRow .bytes)
+told : (c : tie.After-check-record Inv-loop μ-loop)
+    → checkedNumber (c .check-record .result) ≡ checkOf (getD (given c) (turn-of c) noRow .bytes)
 told c =
     let a = start c .args in
     let i = turn-of c in
@@ -61,7 +62,8 @@ returns c =
     let why = known .checked .given .0 .0 in
     let count = rows-count (now (start ch .args .times)) (now (start ch .args .rows)) in
     c .refused .ensures
-    ∙ check-stop (given ch) (turn-of ch) (omega (arith, count)) why (told-refused _ _ (told ch) why (known .checked .given .1))
+    ∙ check-stop (given ch) (turn-of ch) (omega (arith, count)) why
+    (told-refused _ _ (told ch) why (known .checked .given .1))
     ∙ ch .before .before .before .loop .inv .rest
 
 loop-again : tie.Need-loop-again Inv-loop μ-loop
@@ -69,7 +71,8 @@ loop-again c =
     let ch = c .before .before in
     let i = turn-of ch in
     let count = rows-count (now (start ch .args .times)) (now (start ch .args .rows)) in
-    let valid = eq-eqb (checkOf (getD (given ch) i noRow .bytes)) 0 (told-valid _ _ (told ch) (c .enum-told .given .1)) in
+    let valid =
+    eq-eqb (checkOf (getD (given ch) i noRow .bytes)) 0 (told-valid _ _ (told ch) (c .enum-told .given .1)) in
     record {
       bounded = omega arith;
       rest = sym (check-next (given ch) i (omega (arith, count)) valid) ∙ ch .before .before .before .loop .inv .rest;
@@ -80,7 +83,8 @@ returns-2 c =
     let at = c .before .before in
     let a = at .before .before .before .args in
     let rows = rowsGiven (now (a .times)) (now (a .rows)) in
-    c .done .ensures ∙ check-end rows (at .loop .i) (omega (arith, rows-count (now (a .times)) (now (a .rows)))) ∙ at .loop .inv .rest
+    c .done .ensures ∙ check-end rows (at .loop .i) (omega (arith, rows-count (now (a .times)) (now (a .rows))))
+    ∙ at .loop .inv .rest
 
 pub check-rows-spec : {M : Type 1} → statement M
 check-rows-spec =

@@ -16,12 +16,14 @@ returns-2 c =
 returns-3 : tie.Need-returns-3
 returns-3 c =
     let a = c .before .before .before .args in
-    given-other (a .block) (a .n) (a .times) (a .rows) (c .before .before .if1 .left) (c .before .if2 .left) (c .if3 .taken)
+    given-other (a .block) (a .n) (a .times) (a .rows)
+    (c .before .before .if1 .left) (c .before .if2 .left) (c .if3 .taken)
 
 returns-4 : tie.Need-returns-4
 returns-4 c =
     let a = c .before .before .before .args in
-    given-same (a .block) (a .n) (a .times) (a .rows) (c .before .before .if1 .left) (c .before .if2 .left) (c .if3 .left)
+    given-same (a .block) (a .n) (a .times) (a .rows)
+    (c .before .before .if1 .left) (c .before .if2 .left) (c .if3 .left)
 
 pub is-given-spec : {M : Type 1} → statement M
 is-given-spec = tie.close (tie.spec returns returns-2 returns-3 returns-4)

@@ -26,7 +26,9 @@ cells-count times rows = length-map (rowsGiven times rows) rowCell ∙ rows-coun
 cell-get : (times rows : List ℕ) (i : ℕ) → i < length times
     → getD (cells times rows) i [] ≡ rowCell (rowGiven (getD times i 0) (part (rowLength * i) rowLength rows))
 unfolding cells
-cell-get times rows i h = getD-map rowCell (rowsGiven times rows) i noRow [] (omega (arith, rows-count times rows)) ∙ ap rowCell (row-get times rows i h)
+cell-get times rows i h =
+    getD-map rowCell (rowsGiven times rows) i noRow [] (omega (arith, rows-count times rows))
+    ∙ ap rowCell (row-get times rows i h)
 
 record Putting (out₀ times rows out : List ℕ) (i : ℕ) : Type 0 where
   bounded : i ≤ length times
@@ -72,11 +74,14 @@ loop-again c =
     let times = now (s .args .times) in
     let rows = now (s .args .rows) in
     let is =
-    put .put-record .ensures ∙ ap (λ (l : List ℕ). rowCell (rowGiven (getD times i 0) l)) (part-ends (rowLength * i) rowLength rows)
+    put .put-record .ensures
+    ∙ ap (λ (l : List ℕ). rowCell (rowGiven (getD times i 0) l)) (part-ends (rowLength * i) rowLength rows)
     ∙ sym (cell-get times rows i (omega arith)) in
     record {
       bounded = omega arith;
-      begun = turn _ _ cellLength i _ _ (at .loop .inv .begun) (omega (arith, cells-count times rows)) is (put .put-record .kept .0) (omega (arith, s .pre .0));
+      begun =
+          turn _ _ cellLength i _ _ (at .loop .inv .begun) (omega (arith, cells-count times rows)) is
+          (put .put-record .kept .0) (omega (arith, s .pre .0));
     }
 
 returns : tie.Need-returns Inv-loop μ-loop
@@ -85,7 +90,9 @@ returns c =
     let at = c .before in
     let s = start at in
     let times = now (s .args .times) in
-    done (turned _ _ cellLength (length times) (at .loop .i) _ (at .loop .inv .begun) (omega arith) (cells-count times (now (s .args .rows)))) (s .pre .0)
+    done (turned _ _ cellLength (length times) (at .loop .i) _ (at .loop .inv .begun)
+    (omega arith) (cells-count times (now (s .args .rows))))
+    (s .pre .0)
 
 pub put-cells-spec : {M : Type 1} → statement M
 put-cells-spec =

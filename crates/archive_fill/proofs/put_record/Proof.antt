@@ -36,7 +36,13 @@ returns c =
     let a = s .args in
     let is = bytes-shown (a .time) (now (a .given)) (b .byte-at .result) (s .pre .1) (b .byte-at .ensures) (short b) in
     let few : length (part 2 (2 + b .byte-at .result - 2) (now (a .given))) ≤ maxLength
-    = rw is (omega (arith, short b, b .byte-at .ensures, resized-length (getD (now (a .given)) 1 0) (drop 2 (now (a .given))))) in
+    = rw is
+    (omega (
+      arith,
+      short b,
+      b .byte-at .ensures,
+      resized-length (getD (now (a .given)) 1 0) (drop 2 (now (a .given))),
+    )) in
     put .put-cell .ensures ∙ put-fits (a .time) _ (l .last-of .result) _ few (s .pre .0)
     ∙ ap₂ (λ (bytes : List ℕ) (last : ℕ). cellOf (a .time) bytes last) is
     (l .last-of .ensures ∙ ap (λ (flag : ℕ). rowLast (not (eqb flag 0))) (b2 .byte-at2 .ensures))

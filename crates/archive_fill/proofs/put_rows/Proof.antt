@@ -49,14 +49,17 @@ abbrev first : tie.Else2 → tie.Else1
 first c = c .before .before .before
 
 next : (c : tie.Else2) → isNext (start (first c .before) .args .n) (block (first c .before)) ≡ true
-next c = next-told (start (first c .before) .args .n) (block (first c .before)) (facts (first c) .0) (sym (c .before .is-next .ensures) ∙ not-false _ (c .if2 .left))
+next c =
+    next-told (start (first c .before) .args .n) (block (first c .before))
+    (facts (first c) .0) (sym (c .before .is-next .ensures) ∙ not-false _ (c .if2 .left))
 
 abbrev second : tie.After-enum-told2 → tie.Else2
 second c = c .before .before .before
 
 valid : (c : tie.After-enum-told2) → checkRows 0 (rows (first (second c) .before)) .number ≡ 0
 valid c =
-    sym (ap (λ (v : Verdict). v .number) (c .before .before .check-rows .ensures)) ∙ ap takenNumber (c .enum-told2 .given .1)
+    sym (ap (λ (v : Verdict). v .number) (c .before .before .check-rows .ensures))
+    ∙ ap takenNumber (c .enum-told2 .given .1)
 
 -- the returns
 
@@ -64,7 +67,8 @@ size : tie.Need-returns
 size c =
     let g = c .before .before in
     ap (beside (block g)) (c .refused .ensures)
-    ∙ put-size (block g) (start g .args .n) (times g) (records g) (sym (g .is-given .ensures) ∙ not-true _ (c .before .if1 .taken))
+    ∙ put-size (block g) (start g .args .n) (times g) (records g)
+    (sym (g .is-given .ensures) ∙ not-true _ (c .before .if1 .taken))
 
 other : tie.Need-returns-2
 other c =
@@ -72,7 +76,9 @@ other c =
     let e = t .before .before .before in
     let g = e .before in
     ap (beside (block g)) (c .refused2 .ensures)
-    ∙ put-other (block g) (start g .args .n) (times g) (records g) (facts e) (next-told (start g .args .n) (block g) (facts e .0) (sym (t .before .is-next .ensures) ∙ not-true _ (t .if2 .taken)))
+    ∙ put-other (block g) (start g .args .n) (times g) (records g) (facts e)
+    (next-told (start g .args .n) (block g) (facts e .0)
+    (sym (t .before .is-next .ensures) ∙ not-true _ (t .if2 .taken)))
 
 invalid : tie.Need-returns-3
 invalid c =
@@ -80,9 +86,11 @@ invalid c =
     let e = ch .before in
     let g = first e .before in
     let why = c .enum-told .given .0 .0 in
-    let number = sym (ap takenNumber (c .enum-told .given .1)) ∙ ap (λ (v : Verdict). v .number) (ch .check-rows .ensures) in
+    let number =
+    sym (ap takenNumber (c .enum-told .given .1)) ∙ ap (λ (v : Verdict). v .number) (ch .check-rows .ensures) in
     ap (beside (block g)) (ch .check-rows .ensures)
-    ∙ put-invalid (block g) (start g .args .n) (times g) (records g) (facts (first e)) (next e) (λ z. refused-number why (number ∙ z))
+    ∙ put-invalid (block g) (start g .args .n) (times g) (records g)
+    (facts (first e)) (next e) (λ z. refused-number why (number ∙ z))
 
 many : tie.Need-returns-4
 many c =
@@ -90,7 +98,8 @@ many c =
     let e = second t in
     let g = first e .before in
     ap (beside (block g)) (c .refused3 .ensures)
-    ∙ put-many (block g) (start g .args .n) (times g) (records g) (facts (first e)) (next e) (valid t) (omega (arith, c .before .if3 .taken))
+    ∙ put-many (block g) (start g .args .n) (times g) (records g) (facts (first e))
+    (next e) (valid t) (omega (arith, c .before .if3 .taken))
 
 none : tie.Need-returns-5
 none c =
@@ -98,7 +107,8 @@ none c =
     let e = second t in
     let g = first e .before in
     ap (beside (block g)) (c .done .ensures)
-    ∙ put-none (block g) (start g .args .n) (times g) (records g) (facts (first e)) (next e) (valid t) (c .before .if4 .taken)
+    ∙ put-none (block g) (start g .args .n) (times g) (records g)
+    (facts (first e)) (next e) (valid t) (c .before .if4 .taken)
 
 write-rows-requires : tie.Need-write-rows-requires
 write-rows-requires c κs =
@@ -123,7 +133,8 @@ done c =
     let e = second t in
     let g = first e .before in
     ap₂ (λ (b : List ℕ) (v : Verdict). beside b v) (w .write-rows .ensures) (c .done2 .ensures)
-    ∙ put-done (block g) (start g .args .n) (times g) (records g) (facts (first e)) (next e) (valid t) (omega (arith, f .before .if3 .left))
+    ∙ put-done (block g) (start g .args .n) (times g) (records g)
+    (facts (first e)) (next e) (valid t) (omega (arith, f .before .if3 .left))
 
 pub put-rows-spec : {M : Type 1} → statement M
 put-rows-spec =

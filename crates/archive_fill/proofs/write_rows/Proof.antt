@@ -35,7 +35,8 @@ numbered c =
     let a = start c .args in
     packed
     (store
-    (lend-sized (begin (now (a .block))) _ (λ w. be w (a .n / cellsPerBlock)) 4 (c .put-number .ensures) (c .put-number .kept .0)
+    (lend-sized (begin (now (a .block))) _ (λ w. be w (a .n / cellsPerBlock)) 4
+    (c .put-number .ensures) (c .put-number .kept .0)
     (omega arith) (omega arith))
     (a .n % cellsPerBlock + length (now (a .times)))
     (omega arith))
@@ -45,7 +46,8 @@ headed c =
     let s = start (c .before .before .before .before) in
     packed
     (skip
-    (lend-sized (numbered (c .before .before .before .before) .begun) _ (λ w. replicate w 0) headerLength (c .clear .ensures) (c .clear .kept .0)
+    (lend-sized (numbered (c .before .before .before .before) .begun) _
+    (λ w. replicate w 0) headerLength (c .clear .ensures) (c .clear .kept .0)
     (omega arith) (omega arith))
     (at s) (omega arith) (omega (arith, s .pre .few)))
 
@@ -56,7 +58,8 @@ abbrev celled : tie.After-put-cells → Writing bodyLength
 celled c =
     let s = start (before-cells c .before .before .before .before) in
     packed
-    (skip (lend (headed (before-cells c) .begun) _ _ (end s) (c .put-cells .ensures) (c .put-cells .kept .0) (omega arith) (omega (arith, s .pre .few)))
+    (skip (lend (headed (before-cells c) .begun) _ _ (end s) (c .put-cells .ensures)
+    (c .put-cells .kept .0) (omega arith) (omega (arith, s .pre .few)))
     bodyLength (omega (arith, s .pre .few)) (omega arith))
 
 put-cells-requires : tie.Need-put-cells-requires
@@ -66,7 +69,8 @@ put-cells-requires c κs =
     (lent (headed cl .begun) _ (end s) (omega arith) (omega (arith, s .pre .few)), s .pre .sized, s .pre .valid)
 
 put-is : (block : List ℕ) (n : ℕ) (times rows : List ℕ) → Ready block n times rows
-    → (at end : ℕ) → at ≡ headerLength + cellLength * (n % cellsPerBlock) → end ≡ headerLength + cellLength * (n % cellsPerBlock + length times)
+    → (at end : ℕ) → at ≡ headerLength + cellLength * (n % cellsPerBlock)
+    → end ≡ headerLength + cellLength * (n % cellsPerBlock + length times)
     → sealed
     (rowsHeader (n / cellsPerBlock) (n % cellsPerBlock + length times) ++ part headerLength (at - headerLength) block
     ++ flatten (map rowCell (rowsGiven times rows)) ++ part end (bodyLength - end) block)
@@ -109,8 +113,10 @@ write-rows-spec =
     (λ c κs. search needs)
     (λ c. search needs)
     (λ c. search needs)
-    (λ c. within (headed (c .before .before) .begun) _ (omega (arith, start (c .before .before .before .before .before .before) .pre .few)))
+    (λ c. within (headed (c .before .before) .begun) _
+    (omega (arith, start (c .before .before .before .before .before .before) .pre .few)))
     put-cells-requires
     (λ c κs. search needs)
-    (λ c. c .before .before .seal .kept .0 ∙ begun-length (celled (c .before .before .before .before .before .before) .begun))
+    (λ c. c .before .before .seal .kept .0
+    ∙ begun-length (celled (c .before .before .before .before .before .before) .begun))
     returns)

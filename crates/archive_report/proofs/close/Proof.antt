@@ -12,18 +12,31 @@ use Rattle.archive_report.proofs.close.Tie as tie
 
 -- the stage that an arm is for
 at : (c : tie.Start) (s : Stage) → c .args .t .scan .stage ≡ s
-    → closed (reportOf (c .args .before)) (tallyOf (c .args .t) (c .args .lines)) (stageFound (stageOf s)) ≡ closing (reportOf (c .args .before)) (tallyOf (c .args .t) (c .args .lines))
+    → closed (reportOf (c .args .before)) (tallyOf (c .args .t) (c .args .lines)) (stageFound (stageOf s))
+    ≡ closing (reportOf (c .args .before)) (tallyOf (c .args .t) (c .args .lines))
 unfolding closing
-at c s e = ap (λ (t : Stage). closed (reportOf (c .args .before)) (tallyOf (c .args .t) (c .args .lines)) (stageFound (stageOf t))) (sym e)
+at c s e =
+    ap (λ (t : Stage). closed (reportOf (c .args .before))
+    (tallyOf (c .args .t) (c .args .lines)) (stageFound (stageOf t)))
+    (sym e)
 
 returns : tie.Need-returns
-returns c = (c .sum-up .ensures .0 ∙ at (c .before .before .before .before) _ (c .before .enum-told .given .1), c .sum-up .ensures .1)
+returns c = (
+  c .sum-up .ensures .0 ∙ at (c .before .before .before .before) _ (c .before .enum-told .given .1),
+  c .sum-up .ensures .1,
+)
 
 returns-2 : tie.Need-returns-2
-returns-2 c = (c .sum-up2 .ensures .0 ∙ at (c .before .before .before .before) _ (c .before .enum-told2 .given .1), c .sum-up2 .ensures .1)
+returns-2 c = (
+  c .sum-up2 .ensures .0 ∙ at (c .before .before .before .before) _ (c .before .enum-told2 .given .1),
+  c .sum-up2 .ensures .1,
+)
 
 returns-3 : tie.Need-returns-3
-returns-3 c = (c .sum-up3 .ensures .0 ∙ at (c .before .before .before .before) _ (c .before .enum-told3 .given .1), c .sum-up3 .ensures .1)
+returns-3 c = (
+  c .sum-up3 .ensures .0 ∙ at (c .before .before .before .before) _ (c .before .enum-told3 .given .1),
+  c .sum-up3 .ensures .1,
+)
 
 pub close-spec : {M : Type 1} → statement M
 close-spec =

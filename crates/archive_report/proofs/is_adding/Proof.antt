@@ -31,35 +31,47 @@ abbrev start : tie.Else2 → tie.Start
 start c = c .before .before .before .before .before .before
 
 -- and there are no more lines than there may be
-short : (c : tie.Else3) → length (linesAt (start (c .before) .args .t1 .lines) (start (c .before) .args .t1 .count)) ≤ maxLines
-short c = omega (arith, lines-count (start (c .before) .args .t1 .lines) 0 (start (c .before) .args .t1 .count), c .if3 .left)
+short : (c : tie.Else3)
+    → length (linesAt (start (c .before) .args .t1 .lines) (start (c .before) .args .t1 .count)) ≤ maxLines
+short c =
+    omega (
+      arith,
+      lines-count (start (c .before) .args .t1 .lines) 0 (start (c .before) .args .t1 .count),
+      c .if3 .left,
+    )
 
-few : (c : tie.Else2) → start c .args .t1 .before .kept + start c .args .t1 .before .loose + start c .args .t1 .scan .rows < 2 ^ 62
+few : (c : tie.Else2)
+    → start c .args .t1 .before .kept + start c .args .t1 .before .loose + start c .args .t1 .scan .rows < 2 ^ 62
 few c =
     let a = start c .args .t1 in
     let p = facts (reportOf (a .before)) (yes (c .before .before .before)) in
     omega (arith, p .rows, p .archives, scan-few (scanOf (a .scan)) (scanned c))
 
 returns : tie.Need-returns
-returns c = adding-report (addingOf (c .before .before .before .args .t1)) (sym (c .before .is-report .ensures) ∙ not-true _ (c .if1 .taken))
+returns c =
+    adding-report (addingOf (c .before .before .before .args .t1))
+    (sym (c .before .is-report .ensures) ∙ not-true _ (c .if1 .taken))
 
 returns-2 : tie.Need-returns-2
 returns-2 c =
     let e = c .before .before .before in
-    adding-scan (addingOf (e .before .before .before .args .t1)) (yes e) (sym (c .before .is-scan .ensures) ∙ not-true _ (c .if2 .taken))
+    adding-scan (addingOf (e .before .before .before .args .t1)) (yes e)
+    (sym (c .before .is-scan .ensures) ∙ not-true _ (c .if2 .taken))
 
 returns-3 : tie.Need-returns-3
 returns-3 c =
     let d = c .before in
     let a = start d .args .t1 in
-    adding-lines (addingOf a) (yes (d .before .before .before)) (scanned d) (omega (arith, lines-count (a .lines) 0 (a .count), c .if3 .taken))
+    adding-lines (addingOf a) (yes (d .before .before .before)) (scanned d)
+    (omega (arith, lines-count (a .lines) 0 (a .count), c .if3 .taken))
 
 returns-4 : tie.Need-returns-4
 returns-4 c =
     let r = c .before in
     let l = r .before .before in
     let d = l .before in
-    adding-rows (addingOf (start d .args .t1)) (yes (d .before .before .before)) (scanned d) (short l) (λ e. omega (arith, e, r .rows-of .ensures, c .if4 .taken))
+    adding-rows (addingOf (start d .args .t1)) (yes (d .before .before .before))
+    (scanned d) (short l) (λ e. omega (arith, e, r .rows-of .ensures, c .if4 .taken))
 
 returns-5 : tie.Need-returns-5
 returns-5 c =
@@ -80,15 +92,23 @@ are-lines-requires c κs =
     let r = e .before .before in
     let l = r .before .before in
     let a = start (l .before) .args .t1 in
-    let long : length (a .lines) ≡ 1280 = search needs in
-    (l .if3 .left, long, omega (arith, few-so-far (a .over) (a .kept + a .loose) (a .before .kept + a .before .loose + a .scan .rows) (equal e), few (l .before)))
+    let long : length (a .lines) ≡ 1280 = search needs in (
+      l .if3 .left,
+      long,
+      omega (
+        arith,
+        few-so-far (a .over) (a .kept + a .loose) (a .before .kept + a .before .loose + a .scan .rows) (equal e),
+        few (l .before),
+      ),
+    )
 
 returns-6 : tie.Need-returns-6
 returns-6 c =
     let e = c .before .before .before .before in
     let l = e .before .before .before .before in
     let d = l .before in
-    c .are-lines .ensures ∙ adding-tally (addingOf (start d .args .t1)) (yes (d .before .before .before)) (scanned d) (short l) (equal e)
+    c .are-lines .ensures
+    ∙ adding-tally (addingOf (start d .args .t1)) (yes (d .before .before .before)) (scanned d) (short l) (equal e)
 
 pub is-adding-spec : {M : Type 1} → statement M
 is-adding-spec =

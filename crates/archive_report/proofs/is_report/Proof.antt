@@ -13,13 +13,20 @@ use Rattle.archive_report.proofs.is_report.Statement.{statement}
 use Rattle.archive_report.proofs.is_report.Tie as tie
 
 -- no more lines than there may be
-short : (c : tie.Else2) → length (linesAt (c .before .before .args .t1 .lines) (c .before .before .args .t1 .count)) ≤ maxLines
-short c = omega (arith, lines-count (c .before .before .args .t1 .lines) 0 (c .before .before .args .t1 .count), c .if2 .left)
+short : (c : tie.Else2)
+    → length (linesAt (c .before .before .args .t1 .lines) (c .before .before .args .t1 .count)) ≤ maxLines
+short c =
+    omega (
+      arith,
+      lines-count (c .before .before .args .t1 .lines) 0 (c .before .before .args .t1 .count),
+      c .if2 .left,
+    )
 
 returns-2 : tie.Need-returns-2
 returns-2 c =
     let a = c .before .before .args in
-    report-lines (reportOf (a .t1)) (c .before .if1 .left) (omega (arith, lines-count (a .t1 .lines) 0 (a .t1 .count), c .if2 .taken))
+    report-lines (reportOf (a .t1)) (c .before .if1 .left)
+    (omega (arith, lines-count (a .t1 .lines) 0 (a .t1 .count), c .if2 .taken))
 
 returns-3 : tie.Need-returns-3
 returns-3 c =
@@ -29,13 +36,16 @@ returns-3 c =
 returns-4 : tie.Need-returns-4
 returns-4 c =
     let e = c .before .before in
-    report-rows (reportOf (e .before .before .args .t1)) (e .before .if1 .left) (short e) (omega (arith, c .before .if3 .left, c .if4 .taken))
+    report-rows (reportOf (e .before .before .args .t1)) (e .before .if1 .left)
+    (short e) (omega (arith, c .before .if3 .left, c .if4 .taken))
 
 returns-5 : tie.Need-returns-5
 returns-5 c =
     let f = c .before .before .before .before in
     let e = f .before .before in
-    c .are-lines .ensures ∙ report-tally (reportOf (e .before .before .args .t1)) (e .before .if1 .left) (short e) (omega (arith, f .before .if3 .left, f .if4 .left))
+    c .are-lines .ensures
+    ∙ report-tally (reportOf (e .before .before .args .t1)) (e .before .if1 .left)
+    (short e) (omega (arith, f .before .if3 .left, f .if4 .left))
 
 pub is-report-spec : {M : Type 1} → statement M
 is-report-spec =

@@ -6,7 +6,15 @@ use Rattle.archive_report.proofs.start.Statement.{statement}
 use Rattle.archive_report.proofs.start.Tie as tie
 
 returns : tie.Need-returns
-returns c = λ lines i. record { lines = linesAt lines (c .before .args .count); kept = c .before .args .kept; loose = c .before .args .loose; over = false; scan = c .start .ensures i }
+returns c =
+    λ lines i.
+    record {
+      lines = linesAt lines (c .before .args .count);
+      kept = c .before .args .kept;
+      loose = c .before .args .loose;
+      over = false;
+      scan = c .start .ensures i;
+    }
 
 pub start-spec : {M : Type 1} → statement M
 start-spec =

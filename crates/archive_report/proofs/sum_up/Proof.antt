@@ -13,14 +13,18 @@ returns : tie.Need-returns
 returns c =
     let a = c .before .before .args in (
       c .kept .ensures .0 ∙ closed-full (reportOf (a .before)) (tallyOf (a .t) (a .lines)) (c .before .if1 .taken),
-      stay (addedResult (c .kept .result) .number) Argument (a .lines) (a .before .lines) (ap (λ (x : Addition). x .number) (c .kept .ensures .0)) (c .kept .ensures .1),
+      stay (addedResult (c .kept .result) .number) Argument (a .lines) (a .before .lines)
+          (ap (λ (x : Addition). x .number) (c .kept .ensures .0)) (c .kept .ensures .1),
     )
 
 returns-2 : tie.Need-returns-2
 returns-2 c =
     let a = c .before .before .before .args in (
-      c .kept2 .ensures .0 ∙ closed-over (reportOf (a .before)) (tallyOf (a .t) (a .lines)) (c .before .before .if1 .left) (c .before .if2 .taken),
-      stay (addedResult (c .kept2 .result) .number) Transmitters (a .lines) (a .before .lines) (ap (λ (x : Addition). x .number) (c .kept2 .ensures .0)) (c .kept2 .ensures .1),
+      c .kept2 .ensures .0
+          ∙ closed-over (reportOf (a .before)) (tallyOf (a .t) (a .lines))
+          (c .before .before .if1 .left) (c .before .if2 .taken),
+      stay (addedResult (c .kept2 .result) .number) Transmitters (a .lines) (a .before .lines)
+          (ap (λ (x : Addition). x .number) (c .kept2 .ensures .0)) (c .kept2 .ensures .1),
     )
 
 returns-3 : tie.Need-returns-3

@@ -15,7 +15,8 @@ record Calling (buffer₀ out₀ list₀ buffer out list : List ℕ) (n : ℕ) :
   small : n ≤ 24576
 
 abbrev Inv-loop : tie.InvT-loop
-Inv-loop buffer₀ out₀ list₀ most report₀ n₀ left₀ buffer out list report n left = Calling buffer₀ out₀ list₀ buffer out list n
+Inv-loop buffer₀ out₀ list₀ most report₀ n₀ left₀ buffer out list report n left =
+    Calling buffer₀ out₀ list₀ buffer out list n
 
 abbrev μ-loop : tie.MeasureT-loop
 μ-loop buffer₀ out₀ list₀ most report₀ n₀ left₀ buffer out list report n left = left

@@ -30,7 +30,9 @@ eight-more : (bytes : List ℕ) (i crc : ℕ) → 8 ≤ length bytes - i
     → crcFrom crc (drop i bytes) ≡ crcFrom (crcFrom crc (take (i + 8 - i) (drop i bytes))) (drop (i + 8) bytes)
 eight-more bytes i crc h =
     let e : i + 8 - i ≡ 8 = omega arith in
-    rw e (ap (crcFrom crc) (sym (take-append-drop 8 (drop i bytes))) ∙ crc-part crc (take 8 (drop i bytes)) (drop 8 (drop i bytes))
+    rw e
+    (ap (crcFrom crc) (sym (take-append-drop 8 (drop i bytes)))
+    ∙ crc-part crc (take 8 (drop i bytes)) (drop 8 (drop i bytes))
     ∙ ap (crcFrom (crcFrom crc (take 8 (drop i bytes)))) (drop-drop 8 i bytes))
 
 rest-is : (bytes : List ℕ) (i : ℕ) → i ≤ length bytes → take (length bytes - i) (drop i bytes) ≡ drop i bytes
@@ -50,7 +52,8 @@ returns : tie.Need-returns Inv-loop μ-loop
 returns c =
     let a = c .before .before .before in
     let bytes = now (a .before .before .args .bytes) in
-    c .rest .ensures ∙ ap (crcFrom (a .loop .crc)) (rest-is bytes (a .loop .i) (a .loop .inv .bounded)) ∙ a .loop .inv .rest
+    c .rest .ensures ∙ ap (crcFrom (a .loop .crc)) (rest-is bytes (a .loop .i) (a .loop .inv .bounded))
+    ∙ a .loop .inv .rest
 
 pub by-eight-spec : {M : Type 1} → statement M
 by-eight-spec =

@@ -15,8 +15,10 @@ use Rattle.base_buffers.proofs.Segments.{part-clamped}
 use Rattle.block_layout.proofs.cell_last.Statement.{statement}
 use Rattle.block_layout.proofs.cell_last.Tie as tie
 
-both : (start end : ℕ) (cell : List ℕ) → start ≡ min 30 (length cell) → end ≡ min 32 (length cell) → take 8 (take (end - start) (drop start cell)) ≡ part 30 2 cell
-both start end cell s e = rw (s, e) (ap (take 8) (part-clamped 30 2 cell) ∙ take-all 8 (part 30 2 cell) (rw length-take (omega arith)))
+both : (start end : ℕ) (cell : List ℕ) → start ≡ min 30 (length cell)
+    → end ≡ min 32 (length cell) → take 8 (take (end - start) (drop start cell)) ≡ part 30 2 cell
+both start end cell s e =
+    rw (s, e) (ap (take 8) (part-clamped 30 2 cell) ∙ take-all 8 (part 30 2 cell) (rw length-take (omega arith)))
 
 -- what is read: two bytes at most
 abbrev start : tie.After-read-number → tie.Start
@@ -25,7 +27,8 @@ start c = c .before .before .before .before .before
 read : (c : tie.After-read-number) → c .read-number .result ≡ cellLast (now (start c .args .cell))
 read c =
     let at = c .before .before in
-    c .read-number .ensures ∙ ap unbe (both _ _ (now (start c .args .cell)) (at .before .least .ensures) (at .least2 .ensures))
+    c .read-number .ensures
+    ∙ ap unbe (both _ _ (now (start c .args .cell)) (at .before .least .ensures) (at .least2 .ensures))
 
 cast-result : tie.Need-cast-result
 cast-result c =

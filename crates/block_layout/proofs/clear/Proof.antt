@@ -21,7 +21,12 @@ abbrev μ-loop : tie.MeasureT-loop
 μ-loop out₀ i₀ i-end out i = i-end - i
 
 loop-again : tie.Need-loop-again Inv-loop μ-loop
-loop-again c = record { bounded = omega arith; ends = omega arith; begun = fill _ 0 _ _ (c .before .loop .inv .begun) (omega arith) }
+loop-again c =
+    record {
+      bounded = omega arith;
+      ends = omega arith;
+      begun = fill _ 0 _ _ (c .before .loop .inv .begun) (omega arith);
+    }
 
 returns : tie.Need-returns Inv-loop μ-loop
 returns c =

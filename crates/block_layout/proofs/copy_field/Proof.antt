@@ -11,7 +11,8 @@ use Rattle.base_buffers.proofs.Segments.{part-clamped}
 use Rattle.block_layout.proofs.copy_field.Statement.{statement}
 use Rattle.block_layout.proofs.copy_field.Tie as tie
 
-field : (start end : ℕ) (cell : List ℕ) → start ≡ min 9 (length cell) → end ≡ min 30 (length cell) → take (end - start) (drop start cell) ≡ cellField cell
+field : (start end : ℕ) (cell : List ℕ) → start ≡ min 9 (length cell)
+    → end ≡ min 30 (length cell) → take (end - start) (drop start cell) ≡ cellField cell
 field start end cell s e = rw (s, e) (part-clamped 9 21 cell)
 
 returns : tie.Need-returns
@@ -19,7 +20,9 @@ returns c =
     let put = c .before .before in
     let at = put .before .before .before in
     let a = at .before .before .before .before .args in
-    put .put-bytes .ensures ∙ ap (λ (l : List ℕ). resized (length (now (a .out))) l) (field _ _ (now (a .cell)) (at .before .least .ensures) (at .least2 .ensures))
+    put .put-bytes .ensures
+    ∙ ap (λ (l : List ℕ). resized (length (now (a .out))) l)
+    (field _ _ (now (a .cell)) (at .before .least .ensures) (at .least2 .ensures))
 
 pub copy-field-spec : {M : Type 1} → statement M
 copy-field-spec =

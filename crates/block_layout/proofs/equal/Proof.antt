@@ -29,7 +29,8 @@ regrouped true t u = refl
 regrouped false t u = refl
 
 equal-next : (s : Bool) (xs ys : List ℕ) (i : ℕ) → i < length xs → i < length ys
-    → s && equal (drop i xs) (drop i ys) ≡ (s && eqb (getD xs i 0) (getD ys i 0)) && equal (drop (i + 1) xs) (drop (i + 1) ys)
+    → s && equal (drop i xs) (drop i ys)
+    ≡ (s && eqb (getD xs i 0) (getD ys i 0)) && equal (drop (i + 1) xs) (drop (i + 1) ys)
 equal-next s xs ys i h k = rw (add-one, drop-cons xs i 0 h, drop-cons ys i 0 k) (regrouped s _ _)
 
 -- no byte is left
@@ -55,7 +56,9 @@ loop-again c =
     record {
       bounded = omega arith;
       ends = omega arith;
-      rest = sym (equal-next (at .loop .same) (now (args .a)) (now (args .b)) (at .loop .i) (omega arith) (omega arith)) ∙ at .loop .inv .rest;
+      rest =
+          sym (equal-next (at .loop .same) (now (args .a)) (now (args .b)) (at .loop .i) (omega arith) (omega arith))
+          ∙ at .loop .inv .rest;
     }
 
 returns-2 : tie.Need-returns-2 Inv-loop μ-loop

@@ -21,7 +21,8 @@ regrouped : (s t u : Bool) → s && (t && u) ≡ (s && t) && u
 regrouped true t u = refl
 regrouped false t u = refl
 
-next : (s : Bool) (xs : List ℕ) (i : ℕ) → i < length xs → s && zeros (drop i xs) ≡ (s && eqb (getD xs i 0) 0) && zeros (drop (i + 1) xs)
+next : (s : Bool) (xs : List ℕ) (i : ℕ) → i < length xs
+    → s && zeros (drop i xs) ≡ (s && eqb (getD xs i 0) 0) && zeros (drop (i + 1) xs)
 next s xs i h = rw (add-one, drop-cons xs i 0 h) (regrouped s _ _)
 
 ended : (s : Bool) (xs : List ℕ) (i : ℕ) → length xs ≤ i → s && zeros (drop i xs) ≡ s

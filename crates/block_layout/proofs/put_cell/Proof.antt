@@ -34,7 +34,8 @@ step1 c =
     let a = start c .args in
     packed
     (store
-    (lend-sized (begin (now (a .out))) _ (λ w. be w (a .time)) 8 (c .put-number .ensures) (c .put-number .kept .0) (omega arith) (omega arith))
+    (lend-sized (begin (now (a .out))) _ (λ w. be w (a .time)) 8
+    (c .put-number .ensures) (c .put-number .kept .0) (omega arith) (omega arith))
     (length (now (a .bytes)))
     (omega arith))
 
@@ -42,13 +43,15 @@ abbrev step2 : tie.After-put-bytes → Writing 30
 step2 c =
     let at = c .before .before .before .before in
     packed
-    (lend-sized (step1 at .begun) _ (λ w. resized w (now (start at .args .bytes))) 30 (c .put-bytes .ensures) (c .put-bytes .kept .0) (omega arith) (omega arith))
+    (lend-sized (step1 at .begun) _ (λ w. resized w (now (start at .args .bytes))) 30
+    (c .put-bytes .ensures) (c .put-bytes .kept .0) (omega arith) (omega arith))
 
 abbrev step3 : tie.After-put-number2 → Writing 32
 step3 c =
     let at = c .before .before .before .before in
     let a = start (at .before .before .before .before) .args in
-    packed (lend-sized (step2 at .begun) _ (λ w. be w (a .last)) 32 (c .put-number2 .ensures) (c .put-number2 .kept .0) (omega arith) (omega arith))
+    packed (lend-sized (step2 at .begun) _ (λ w. be w (a .last)) 32
+    (c .put-number2 .ensures) (c .put-number2 .kept .0) (omega arith) (omega arith))
 
 cell-is : (time : ℕ) (bytes : List ℕ) (last : ℕ) → length bytes ≤ cellCapacity
     → be 8 time ++ (length bytes ∷ []) ++ resized 21 bytes ++ be 2 last ≡ cellOf time bytes last

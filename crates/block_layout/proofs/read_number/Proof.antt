@@ -39,7 +39,11 @@ cast-n c = omega (arith, c .shared-slice-known2 .given (c .before .before .loop 
 add-n : tie.Need-add-n Inv-loop μ-loop
 add-n c =
     let at = c .before .before .loop in
-    record { fits = eight-lt (at .i + 1) _ (omega arith) (digit-lt (at .i) (at .n) _ (at .inv .small) (omega (arith, c .shared-slice-known2 .given (at .i)))) }
+    record {
+      fits =
+          eight-lt (at .i + 1) _ (omega arith)
+          (digit-lt (at .i) (at .n) _ (at .inv .small) (omega (arith, c .shared-slice-known2 .given (at .i))));
+    }
 
 loop-again : tie.Need-loop-again Inv-loop μ-loop
 loop-again c =

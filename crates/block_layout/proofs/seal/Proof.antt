@@ -11,7 +11,8 @@ refused : tie.Need-returns
 refused c = sym (seal-not (now (c .before .before .args .block)) (c .if1 .taken))
 
 sealed : tie.Need-returns-2
-sealed c = rw (c .crc8-long .ensures) (seal-set (now (c .before .before .before .before .before .args .block)) (omega arith))
+sealed c =
+    rw (c .crc8-long .ensures) (seal-set (now (c .before .before .before .before .before .args .block)) (omega arith))
 
 pub seal-spec : {M : Type 1} → statement M
 seal-spec =

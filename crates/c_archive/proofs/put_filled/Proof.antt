@@ -49,7 +49,8 @@ loop-again c =
     let s = at .before .before in
     let bytes = take (s .args .n) (now (s .args .bytes)) in
     let e : resized (at .loop .i) bytes ++ (c .byte-below .result ∷ []) ≡ resized (at .loop .i + 1) bytes =
-    rw (c .byte-below .ensures ∙ shown (now (s .args .bytes)) (s .args .n) (at .loop .i)) (resized-more (at .loop .i) bytes) in
+    rw (c .byte-below .ensures ∙ shown (now (s .args .bytes)) (s .args .n) (at .loop .i))
+    (resized-more (at .loop .i) bytes) in
     record {
       bounded = omega arith;
       begun = named (store (at .loop .inv .begun) (c .byte-below .result) (omega (arith, s .pre))) _ e;
@@ -70,7 +71,12 @@ put-filled-spec =
     loop-holds
     (λ c. omega arith)
     (λ c κs. search needs)
-    (λ c. omega (arith, begun-length (c .before .before .before .loop .inv .begun), c .before .before .before .before .before .pre))
+    (λ c.
+    omega (
+      arith,
+      begun-length (c .before .before .before .loop .inv .begun),
+      c .before .before .before .before .before .pre,
+    ))
     (λ c. omega arith)
     (λ c. omega arith)
     loop-again

@@ -14,7 +14,8 @@ returns : tie.Need-returns
 returns c =
     let r = let s = c .before .before in s .before .before .before in
     let a = start r .args in
-    c .settle-removed .ensures _ ∙ ap (λ (x : Removed). removeCall x (now (a .freed)) (now (a .position))) (r .remove .ensures)
+    c .settle-removed .ensures _
+    ∙ ap (λ (x : Removed). removeCall x (now (a .freed)) (now (a .position))) (r .remove .ensures)
 
 pub remove-spec : {M : Type 1} → statement M
 remove-spec =

@@ -32,7 +32,8 @@ refused : tie.Need-returns-2
 refused c =
     let n = c .before in
     let a = start (n .before) .args in
-    row-not (now (a .buffer)) (a .i) (now (a .row)) (now (a .time)) (n .before .before .if1 .left) (n .found-number .result) (number n) (c .if2 .taken)
+    row-not (now (a .buffer)) (a .i) (now (a .row)) (now (a .time))
+    (n .before .before .if1 .left) (n .found-number .result) (number n) (c .if2 .taken)
 
 -- what is written, after each step
 abbrev found : tie.After-flag-byte → tie.After-found-number
@@ -42,7 +43,8 @@ long : (c : tie.After-flag-byte) → length (now (start (found c .before) .args 
 long c = let r = found c .before in r .before .if1 .left
 
 abbrev flagged : tie.After-flag-byte → Writing 1
-flagged c = packed (store (begin (now (start (found c .before) .args .row))) (c .flag-byte .result) (omega (arith, long c)))
+flagged c =
+    packed (store (begin (now (start (found c .before) .args .row))) (c .flag-byte .result) (omega (arith, long c)))
 
 abbrev step1 : tie.After-flag-byte → Writing 2
 step1 c = packed (store (flagged c .begun) (found c .before .row-at .result .len) (omega (arith, long c)))
@@ -52,7 +54,8 @@ step2 c =
     let at = c .before .before .before .before in
     let r = found at .before .row-at .result in
     packed
-    (lend (step1 at .begun) _ (resized cellCapacity (take (r .len) (r .bytes))) 23 (c .put-filled .ensures) (c .put-filled .kept .0) (omega arith) (omega (arith, long at)))
+    (lend (step1 at .begun) _ (resized cellCapacity (take (r .len) (r .bytes))) 23
+    (c .put-filled .ensures) (c .put-filled .kept .0) (omega arith) (omega (arith, long at)))
 
 written : tie.Need-returns-3
 written c =
@@ -64,7 +67,8 @@ written c =
     let r = at .row-at .result in
     let none : expected at .number ≡ 0 = sym (number n) ∙ fl .before .before .if2 .left in
     rw (n .found-number .ensures, done (step2 pf .begun) (long fl))
-    (row-are (now (a .buffer)) (a .i) _ (foundNumber (r .answer)) (r .len) (r .time) (r .bytes) (r .loose) (fl .flag-byte .ensures) none (at .row-at .ensures)
+    (row-are (now (a .buffer)) (a .i) _ (foundNumber (r .answer)) (r .len) (r .time)
+    (r .bytes) (r .loose) (fl .flag-byte .ensures) none (at .row-at .ensures)
     ∙ row-done (now (a .buffer)) (a .i) (now (a .row)) (now (a .time)) (long fl) none)
 
 pub row-at-spec : {M : Type 1} → statement M

@@ -15,14 +15,16 @@ refused : tie.Need-returns
 refused c =
     let t = c .before in
     let s = salvaged t in
-    salvage-not (t .taken-number .result) (now (start s .args .dropped)) (now (start s .args .rows)) (t .taken-number .ensures) (s .salvage .ensures)
+    salvage-not (t .taken-number .result) (now (start s .args .dropped))
+    (now (start s .args .rows)) (t .taken-number .ensures) (s .salvage .ensures)
     (c .if1 .taken)
 
 done : tie.Need-returns-2
 done c =
     let t = c .before in
     let s = salvaged t in
-    salvage-done (t .taken-number .result) (now (start s .args .dropped)) (now (start s .args .rows)) (t .taken-number .ensures) (s .salvage .ensures)
+    salvage-done (t .taken-number .result) (now (start s .args .dropped))
+    (now (start s .args .rows)) (t .taken-number .ensures) (s .salvage .ensures)
     (c .if1 .left)
 
 pub salvage-spec : {M : Type 1} → statement M

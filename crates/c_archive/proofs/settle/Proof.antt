@@ -14,7 +14,8 @@ use Rattle.c_archive.proofs.settle.Tie as tie
 
 -- what an outcome shows
 told : (c : tie.Start) (o : Outcome) (buffer : List ℕ) → c .args .outcome ≡ o
-    → appendCall (appendResult o buffer) (now (c .args .position)) ≡ appendCall (appendResult (c .args .outcome) buffer) (now (c .args .position))
+    → appendCall (appendResult o buffer) (now (c .args .position))
+    ≡ appendCall (appendResult (c .args .outcome) buffer) (now (c .args .position))
 told c o buffer e = ap (λ (x : Outcome). appendCall (appendResult x buffer) (now (c .args .position))) (sym e)
 
 done : tie.Need-returns
@@ -24,13 +25,17 @@ damaged : tie.Need-returns-2
 damaged c buffer =
     let o = c .before .before .before in
     let at = o .before .before in
-    append-not Mismatch (o .outcome .given .0 .0) (now (at .args .position)) (c .refuse .ensures .0) (c .refuse .ensures .1) buffer ∙ told at _ buffer (o .outcome .given .1)
+    append-not Mismatch (o .outcome .given .0 .0) (now (at .args .position))
+    (c .refuse .ensures .0) (c .refuse .ensures .1) buffer
+    ∙ told at _ buffer (o .outcome .given .1)
 
 refused : tie.Need-returns-3
 refused c buffer =
     let o = c .before .before .before in
     let at = o .before .before in
-    append-not (o .outcome2 .given .0 .0) 0 (now (at .args .position)) (c .refuse2 .ensures .0) (c .refuse2 .ensures .1) buffer ∙ told at _ buffer (o .outcome2 .given .1)
+    append-not (o .outcome2 .given .0 .0) 0 (now (at .args .position))
+    (c .refuse2 .ensures .0) (c .refuse2 .ensures .1) buffer
+    ∙ told at _ buffer (o .outcome2 .given .1)
 
 pub settle-spec : {M : Type 1} → statement M
 settle-spec =

@@ -16,7 +16,8 @@ use Rattle.c_archive.proofs.settle_removed.Tie as tie
 abbrev shown : tie.Start → Removed → List ℕ → model.Removed
 shown c r buffer = removeCall (removeResult r buffer) (now (c .args .freed)) (now (c .args .position))
 
-told : (c : tie.Start) (r : Removed) (buffer : List ℕ) → c .args .removed ≡ r → shown c r buffer ≡ shown c (c .args .removed) buffer
+told : (c : tie.Start) (r : Removed) (buffer : List ℕ) → c .args .removed ≡ r
+    → shown c r buffer ≡ shown c (c .args .removed) buffer
 told c r buffer e = ap (λ (x : Removed). shown c x buffer) (sym e)
 
 done : tie.Need-returns
@@ -26,14 +27,16 @@ damaged : tie.Need-returns-2
 damaged c buffer =
     let r = c .before .before .before in
     let at = r .before .before in
-    remove-not Mismatch (r .removed2 .given .0 .0) (now (at .args .position)) (c .refuse .ensures .0) (c .refuse .ensures .1) (now (at .args .freed)) buffer
+    remove-not Mismatch (r .removed2 .given .0 .0) (now (at .args .position))
+    (c .refuse .ensures .0) (c .refuse .ensures .1) (now (at .args .freed)) buffer
     ∙ told at _ buffer (r .removed2 .given .1)
 
 refused : tie.Need-returns-3
 refused c buffer =
     let r = c .before .before .before in
     let at = r .before .before in
-    remove-not (r .removed3 .given .0 .0) 0 (now (at .args .position)) (c .refuse2 .ensures .0) (c .refuse2 .ensures .1) (now (at .args .freed)) buffer
+    remove-not (r .removed3 .given .0 .0) 0 (now (at .args .position))
+    (c .refuse2 .ensures .0) (c .refuse2 .ensures .1) (now (at .args .freed)) buffer
     ∙ told at _ buffer (r .removed3 .given .1)
 
 pub settle-removed-spec : {M : Type 1} → statement M

@@ -18,8 +18,10 @@ abbrev answer : tie.After-open → Opening → Opening
 answer c a = openCall a (now (start c .args .rows)) (now (start c .args .position))
 
 -- what an answer of `open` shows
-told : (c : tie.After-open) (o : Opened) → c .«open» .result ≡ o → answer c (openResult o) ≡ answer c (openOf (now (start c .args .buffer)))
-told c o e = ap (λ (x : Opened). answer c (openResult x)) (sym e) ∙ ap (λ (a : Opening). answer c a) (c .«open» .ensures)
+told : (c : tie.After-open) (o : Opened) → c .«open» .result ≡ o
+    → answer c (openResult o) ≡ answer c (openOf (now (start c .args .buffer)))
+told c o e =
+    ap (λ (x : Opened). answer c (openResult x)) (sym e) ∙ ap (λ (a : Opening). answer c a) (c .«open» .ensures)
 
 rows : tie.Need-returns
 rows c = let o = c .before in told (o .before .before) _ (o .opened .given .1)
@@ -29,14 +31,18 @@ damaged c =
     let o = c .before .before .before in
     let at = o .before .before in
     let a = start at .args in
-    open-not Mismatch (o .opened2 .given .0 .0) (now (a .position)) (c .refuse .ensures .0) (c .refuse .ensures .1) (now (a .rows)) ∙ told at _ (o .opened2 .given .1)
+    open-not Mismatch (o .opened2 .given .0 .0) (now (a .position))
+    (c .refuse .ensures .0) (c .refuse .ensures .1) (now (a .rows))
+    ∙ told at _ (o .opened2 .given .1)
 
 refused : tie.Need-returns-3
 refused c =
     let o = c .before .before .before in
     let at = o .before .before in
     let a = start at .args in
-    open-not (o .opened3 .given .0 .0) 0 (now (a .position)) (c .refuse2 .ensures .0) (c .refuse2 .ensures .1) (now (a .rows)) ∙ told at _ (o .opened3 .given .1)
+    open-not (o .opened3 .given .0 .0) 0 (now (a .position))
+    (c .refuse2 .ensures .0) (c .refuse2 .ensures .1) (now (a .rows))
+    ∙ told at _ (o .opened3 .given .1)
 
 pub verify-spec : {M : Type 1} → statement M
 verify-spec =

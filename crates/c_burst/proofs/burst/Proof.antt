@@ -39,14 +39,16 @@ acceptable-here c = sym (c .before .is-acceptable .ensures _) ∙ not-false _ (c
 abbrev entry2 : tie.Else2 → tie.Start
 entry2 c = entry1 (c .before .before)
 
-sized : (c : tie.Else2) → let a = entry2 c .args in isSized (length (now (a .moments))) (length (now (a .records))) ≡ true
+sized : (c : tie.Else2) → let a = entry2 c .args in
+    isSized (length (now (a .moments))) (length (now (a .records))) ≡ true
 sized c = sym (c .before .is-sized .ensures) ∙ not-false _ (c .if2 .left)
 
 -- no call is refused after the third
 abbrev after-tests : tie.After-summary-of → tie.Else3
 after-tests c = c .before .before .before .before
 
-allowed : (c : tie.Else3) → let a = entry2 (c .before .before) .args in callNumber (a .setting) (length (now (a .moments))) (length (now (a .replies)) / replyLength) ≡ 0
+allowed : (c : tie.Else3) → let a = entry2 (c .before .before) .args in
+    callNumber (a .setting) (length (now (a .moments))) (length (now (a .replies)) / replyLength) ≡ 0
 allowed c = sym (c .before .call-number .ensures) ∙ c .if3 .left
 
 abbrev entry3 : tie.After-summary-of → tie.Start
@@ -75,7 +77,8 @@ returns-2 c =
 returns-3 : tie.Need-returns-3
 returns-3 c =
     let e = c .before .before in
-    refused-call (lent (entry2 e)) (entry2 e .args .setting) _ _ _ (acceptable-here (e .before .before)) (sized e) _ (c .before .call-number .ensures) (c .if3 .taken)
+    refused-call (lent (entry2 e)) (entry2 e .args .setting) _ _ _ (acceptable-here (e .before .before))
+    (sized e) _ (c .before .call-number .ensures) (c .if3 .taken)
 
 deliver-requires : tie.Need-deliver-requires
 deliver-requires c κs =
@@ -92,7 +95,8 @@ returns-4 c =
     let e = after-tests k in
     let s = entry3 k in
     let a = s .args in
-    all-taken (lent s) (a .setting) (now (a .moments)) (now (a .records)) (now (a .replies)) (acceptable-here (e .before .before .before .before)) (sized (e .before .before)) (allowed e) _
+    all-taken (lent s) (a .setting) (now (a .moments)) (now (a .records)) (now (a .replies))
+    (acceptable-here (e .before .before .before .before)) (sized (e .before .before)) (allowed e) _
     (k .summary-of .ensures .0) _ _ _ (d .deliver .ensures) _ (c .store .ensures)
 
 pub burst-spec : {M : Type 1} → statement M

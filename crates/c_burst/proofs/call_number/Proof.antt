@@ -20,7 +20,9 @@ returns-3 : tie.Need-returns-3
 returns-3 c =
     let e = c .before .before in
     let a = e .before .before .args in
-    c .number3 .ensures ∙ call-setting (a .setting) (a .receptions) (a .places) (e .before .if1 .left) (e .if2 .left) (c .before .if3 .taken)
+    c .number3 .ensures
+    ∙ call-setting (a .setting) (a .receptions) (a .places)
+    (e .before .if1 .left) (e .if2 .left) (c .before .if3 .taken)
 
 returns-4 : tie.Need-returns-4
 returns-4 c =
@@ -30,4 +32,5 @@ returns-4 c =
 
 pub call-number-spec : {M : Type 1} → statement M
 call-number-spec =
-    tie.close (tie.spec (λ c κs. search needs) returns (λ c κs. search needs) returns-2 (λ c κs. search needs) returns-3 returns-4)
+    tie.close (tie.spec (λ c κs. search needs) returns
+    (λ c κs. search needs) returns-2 (λ c κs. search needs) returns-3 returns-4)

@@ -15,18 +15,23 @@ use Rattle.c_burst.proofs.Turns.{Going, starts, turns, ends, receptions
 use Rattle.c_burst.proofs.deliver.Statement.{statement}
 use Rattle.c_burst.proofs.deliver.Tie as tie
 
-record Delivering (setting : ℕ) (v : View) (a₀ : Columns) (moments records old : List ℕ) (i : ℕ) (here : View) (a : Columns) (out : List ℕ) : Type 0 where
+record Delivering (setting : ℕ) (v : View) (a₀ : Columns) (moments records old : List ℕ)
+    (i : ℕ) (here : View) (a : Columns) (out : List ℕ) : Type 0 where
   bounded : i ≤ length moments
   few : length moments ≤ maxBurst
   going : Going setting v a₀ (receptionsIn moments records) old i here a out
 
 abbrev Inv-loop : tie.InvT-loop
-Inv-loop times₀ lengths₀ bytes₀ copies₀ setting moments records replies₀ s₀ i₀ i-end times lengths bytes copies replies s i =
-    Delivering setting (viewIn (columns times₀ lengths₀ bytes₀ copies₀) s₀) (columns times₀ lengths₀ bytes₀ copies₀) moments records replies₀ i
+Inv-loop times₀ lengths₀ bytes₀ copies₀ setting moments records
+    replies₀ s₀ i₀ i-end times lengths bytes copies replies s i =
+    Delivering setting (viewIn (columns times₀ lengths₀ bytes₀ copies₀) s₀)
+    (columns times₀ lengths₀ bytes₀ copies₀) moments records replies₀ i
     (viewIn (columns times lengths bytes copies) s) (columns times lengths bytes copies) replies
 
 abbrev μ-loop : tie.MeasureT-loop
-μ-loop times₀ lengths₀ bytes₀ copies₀ setting moments records replies₀ s₀ i₀ i-end times lengths bytes copies replies s i = length moments - i
+μ-loop times₀ lengths₀ bytes₀ copies₀ setting moments records
+    replies₀ s₀ i₀ i-end times lengths bytes copies replies s i =
+    length moments - i
 
 loop-holds : tie.Need-loop-holds Inv-loop μ-loop
 loop-holds c =
@@ -38,8 +43,11 @@ take-frame-requires c κs =
     let at = c .before .before .before .before .before .before .before .before in
     let s = at .before .before .before .before in
     let from = frameLength * at .loop .i in
-    let records = s .args .records .now in
-    (ap length (part-ends from frameLength records) ∙ part-length from frameLength records (omega (arith, s .pre .1)), lent (at .loop .inv .going .written) replyLength _ refl (omega (arith, s .pre .2)), sym (at .loop .inv .going .tested .said))
+    let records = s .args .records .now in (
+      ap length (part-ends from frameLength records) ∙ part-length from frameLength records (omega (arith, s .pre .1)),
+      lent (at .loop .inv .going .written) replyLength _ refl (omega (arith, s .pre .2)),
+      sym (at .loop .inv .going .tested .said),
+    )
 
 loop-again : tie.Need-loop-again Inv-loop μ-loop
 loop-again c =
@@ -56,7 +64,9 @@ loop-again c =
       bounded = omega arith;
       few = at .loop .inv .few;
       going = turns _ _ _ _ _ (at .loop .inv .going) (omega (arith, count)) _
-          (reception-get moments records i (omega arith) ∙ ap (λ (f : List ℕ). receptionIn f (getD moments i 0)) (sym (part-ends (frameLength * i) frameLength records)))
+          (reception-get moments records i (omega arith)
+          ∙ ap (λ (f : List ℕ). receptionIn f (getD moments i 0))
+          (sym (part-ends (frameLength * i) frameLength records)))
           (omega (arith, known .shared-slice-known3 .given i))
           (omega (arith, count, s .pre .2))
           _

@@ -22,7 +22,8 @@ headed c =
     let s = c .before .before .before in
     packed
     (store
-    (store (store (begin (now (s .args .reply))) (c .before .kind-of .result) (omega (arith, long s))) (c .number-of .result)
+    (store (store (begin (now (s .args .reply))) (c .before .kind-of .result) (omega (arith, long s)))
+    (c .number-of .result)
     (omega (arith, long s)))
     (s .args .len)
     (omega (arith, long s)))
@@ -50,7 +51,12 @@ returns c =
     let put = c .before .before in
     let at = put .before .before .before in
     let s = at .before .before .before in
-    rw (done (replied put .begun) (long s), at .before .kind-of .ensures, at .number-of .ensures, resized-whole maxLength (now (s .args .sent)) (sized (put .before .before)))
+    rw (
+      done (replied put .begun) (long s),
+      at .before .kind-of .ensures,
+      at .number-of .ensures,
+      resized-whole maxLength (now (s .args .sent)) (sized (put .before .before)),
+    )
 
 pub put-reply-spec : {M : Type 1} → statement M
 put-reply-spec =

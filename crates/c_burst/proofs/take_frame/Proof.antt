@@ -24,7 +24,9 @@ returns c =
     let a = admitted k in
     let t = a .before .before .before .before .before in
     let s = start k in
-    answered (s .args .setting) _ (s .pre .2) (now (s .args .frame)) (s .pre .0) (s .args .time) _ _ _ (t .telegram-in .ensures) _ (a .admit .ensures .outcome) (a .admit .ensures .elements) _ _ (k .relay-kept .ensures) _
+    answered (s .args .setting) _ (s .pre .2) (now (s .args .frame)) (s .pre .0)
+    (s .args .time) _ _ _ (t .telegram-in .ensures) _ (a .admit .ensures .outcome)
+    (a .admit .ensures .elements) _ _ (k .relay-kept .ensures) _
     (p .put-reply .ensures)
 
 pub take-frame-spec : {M : Type 1} → statement M

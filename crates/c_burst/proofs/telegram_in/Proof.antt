@@ -12,13 +12,19 @@ use Rattle.c_burst.proofs.telegram_in.Tie as tie
 returns : tie.Need-returns
 returns c =
     let w = c .before .before in
-    rw (lt-ltb 21 (getD (now (w .before .before .before .args .frame)) 0 0) (omega (arith, c .before .if1 .taken, w .wide .ensures .0)))
+    rw (lt-ltb 21 (getD (now (w .before .before .before .args .frame)) 0 0)
+    (omega (arith, c .before .if1 .taken, w .wide .ensures .0)))
 
 returns-2 : tie.Need-returns-2
 returns-2 c =
     let w = c .before .before in
-    let n : 1 + w .wide .result - 1 ≡ getD (now (w .before .before .before .args .frame)) 0 0 = omega (arith, w .wide .ensures .0) in
-    rw (le-ltb 21 (getD (now (w .before .before .before .args .frame)) 0 0) (omega (arith, c .before .if1 .left, w .wide .ensures .0)), n)
+    let n : 1 + w .wide .result - 1 ≡ getD (now (w .before .before .before .args .frame)) 0 0 =
+    omega (arith, w .wide .ensures .0) in
+    rw (
+      le-ltb 21 (getD (now (w .before .before .before .args .frame)) 0 0)
+          (omega (arith, c .before .if1 .left, w .wide .ensures .0)),
+      n,
+    )
 
 pub telegram-in-spec : {M : Type 1} → statement M
 telegram-in-spec =

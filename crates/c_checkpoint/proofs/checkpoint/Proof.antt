@@ -15,7 +15,10 @@ returns c =
     let a = read .before .before .args in
     rw (c .saved-number .ensures)
     (done .checkpoint-at .ensures
-    ∙ ap (λ (s : Summary). checkpointOf (viewIn (columns (now (a .times)) (now (a .lengths)) (now (a .bytes)) (now (a .copies))) s) (now (a .out))) (read .summary-in .ensures .0))
+    ∙ ap (λ (s : Summary).
+    checkpointOf (viewIn (columns (now (a .times)) (now (a .lengths)) (now (a .bytes)) (now (a .copies))) s)
+    (now (a .out)))
+    (read .summary-in .ensures .0))
 
 pub checkpoint-spec : {M : Type 1} → statement M
 checkpoint-spec =

@@ -26,14 +26,16 @@ returns-2 : tie.Need-returns-2
 returns-2 c =
     let r = c .before .before .before in
     let e = r .before .before in
-    refused-image (lent (e .before)) _ (passed e) _ (r .before .fresh .ensures .state) _ (r .restore .ensures) _ (c .before .enum-told .given .1) _ (c .number2 .ensures)
+    refused-image (lent (e .before)) _ (passed e) _ (r .before .fresh .ensures .state) _
+    (r .restore .ensures) _ (c .before .enum-told .given .1) _ (c .number2 .ensures)
 
 returns-3 : tie.Need-returns-3
 returns-3 c =
     let m = c .before .before .before .before .before .before in
     let r = m .before .before in
     let e = r .before .before in
-    restored (lent (e .before)) _ (passed e) _ (r .before .fresh .ensures .state) _ (r .restore .ensures) (m .enum-told2 .given .1) _ (c .put-state .ensures)
+    restored (lent (e .before)) _ (passed e) _ (r .before .fresh .ensures .state) _
+    (r .restore .ensures) (m .enum-told2 .given .1) _ (c .put-state .ensures)
 
 pub restore-spec : {M : Type 1} → statement M
 restore-spec =

@@ -15,7 +15,9 @@ returns c =
     let e = c .before .before .before .before in
     let i = e .before .before in
     let a = i .before .before .before .args in
-    let is = e .encapsulate .ensures ∙ ap (λ (to : List ℕ). encapsulateOf (now (a .bytes)) to (now (a .out))) (i .id-bytes .ensures) in
+    let is =
+    e .encapsulate .ensures
+    ∙ ap (λ (to : List ℕ). encapsulateOf (now (a .bytes)) to (now (a .out))) (i .id-bytes .ensures) in
     c .settle .ensures _ ∙ ap (λ (r : Result). settled r (now (a .length))) is
 
 pub encapsulate-spec : {M : Type 1} → statement M

@@ -17,7 +17,8 @@ step1 c =
     let long = c .before .before .before .before .before .before .pre .0 in
     packed
     (store
-    (store (store (store (begin (now (a .out))) (a .t .rorg) (omega (arith, long))) (a .t .len) (omega (arith, long))) (c .flag-byte .result) (omega (arith, long)))
+    (store (store (store (begin (now (a .out))) (a .t .rorg) (omega (arith, long))) (a .t .len) (omega (arith, long)))
+    (c .flag-byte .result) (omega (arith, long)))
     (a .t .status)
     (omega (arith, long)))
 
@@ -26,31 +27,43 @@ step2 c =
     let at = c .before .before .before in
     let a = at .before .before .before .before .before .before .args in
     packed
-    (lend-sized (step1 at .begun) _ (λ w. resized w (a .t .destid)) 8 (c .put-bytes .ensures) (c .put-bytes .kept .0) (omega arith) (omega (arith, at .before .before .before .before .before .before .pre .0)))
+    (lend-sized (step1 at .begun) _ (λ w. resized w (a .t .destid)) 8 (c .put-bytes .ensures) (c .put-bytes .kept .0)
+    (omega arith) (omega (arith, at .before .before .before .before .before .before .pre .0)))
 
 abbrev step3 : tie.After-put-bytes2 → Writing 12
 step3 c =
     let at = c .before .before .before .before .before in
     let a = at .before .before .before .before .before .before .before .before .before .args in
     packed
-    (lend-sized (step2 at .begun) _ (λ w. resized w (a .t .txid)) 12 (c .put-bytes2 .ensures) (c .put-bytes2 .kept .0) (omega arith) (omega (arith, at .before .before .before .before .before .before .before .before .before .pre .0)))
+    (lend-sized (step2 at .begun) _ (λ w. resized w (a .t .txid)) 12
+    (c .put-bytes2 .ensures) (c .put-bytes2 .kept .0) (omega arith)
+    (omega (arith, at .before .before .before .before .before .before .before .before .before .pre .0)))
 
 abbrev step4 : tie.After-put-bytes3 → Writing 26
 step4 c =
     let at = c .before .before .before .before .before in
-    let a = at .before .before .before .before .before .before .before .before .before .before .before .before .before .before .args in
+    let a =
+    at .before .before .before .before .before .before .before .before .before .before .before .before .before .before .args in
     packed
-    (lend-sized (step3 at .begun) _ (λ w. resized w (a .t .payload)) 26 (c .put-bytes3 .ensures) (c .put-bytes3 .kept .0) (omega arith) (omega (arith, at .before .before .before .before .before .before .before .before .before .before .before .before .before .before .pre .0)))
+    (lend-sized (step3 at .begun) _ (λ w. resized w (a .t .payload)) 26
+    (c .put-bytes3 .ensures) (c .put-bytes3 .kept .0) (omega arith)
+    (omega (
+      arith,
+      at .before .before .before .before .before .before .before .before .before .before .before .before .before .before .pre .0,
+    )))
 
 written : tie.Need-returns
 written c =
-    let start = c .before .before .before .before .before .before .before .before .before .before .before .before .before .before .before .before .before .before .before .before .before in
+    let start =
+    c .before .before .before .before .before .before .before .before .before .before .before .before .before .before .before .before .before .before .before .before .before in
     let t = start .args .t in
     let destid : length (t .destid) ≡ 4 = search needs in
     let txid : length (t .txid) ≡ 4 = search needs in
     let payload : length (t .payload) ≡ 14 = search needs in
     done (step4 (c .before .before) .begun) (start .pre .0)
-    ∙ fields-are t _ (c .before .before .before .before .before .before .before .before .before .before .before .before .before .before .before .flag-byte .ensures) (record { payload = payload; destid = destid; txid = txid })
+    ∙ fields-are t _
+    (c .before .before .before .before .before .before .before .before .before .before .before .before .before .before .before .flag-byte .ensures)
+    (record { payload = payload; destid = destid; txid = txid })
 
 pub put-fields-spec : {M : Type 1} → statement M
 put-fields-spec =
@@ -69,12 +82,20 @@ put-fields-spec =
     (λ c κs. search needs)
     (λ c. search needs)
     (λ c. search needs)
-    (λ c. within (step2 (c .before .before) .begun) 12 (omega (arith, c .before .before .before .before .before .before .before .before .before .before .before .pre .0)))
+    (λ c. within (step2 (c .before .before) .begun) 12
+    (omega (
+      arith,
+      c .before .before .before .before .before .before .before .before .before .before .before .pre .0,
+    )))
     (λ c. search needs)
     (λ c κs. search needs)
     (λ c. search needs)
     (λ c. search needs)
-    (λ c. within (step3 (c .before .before) .begun) 26 (omega (arith, c .before .before .before .before .before .before .before .before .before .before .before .before .before .before .before .before .pre .0)))
+    (λ c. within (step3 (c .before .before) .begun) 26
+    (omega (
+      arith,
+      c .before .before .before .before .before .before .before .before .before .before .before .before .before .before .before .before .pre .0,
+    )))
     (λ c. search needs)
     (λ c κs. search needs)
     (λ c. begun-length (step4 (c .before .before) .begun))

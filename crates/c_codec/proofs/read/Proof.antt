@@ -11,7 +11,9 @@ use Rattle.c_codec.proofs.read.Statement.{statement}
 use Rattle.c_codec.proofs.read.Tie as tie
 
 other-size : tie.Need-returns
-other-size c = read-other (now (c .before .before .before .args .bytes)) (now (c .before .before .before .args .fields)) (c .if1 .taken)
+other-size c =
+    read-other (now (c .before .before .before .args .bytes))
+    (now (c .before .before .before .args .fields)) (c .if1 .taken)
 
 abbrev start : tie.After-checked-number → tie.Start
 start c = let e = c .before .before in e .before .before .before
@@ -26,7 +28,8 @@ refused : tie.Need-returns-2
 refused c =
     let n = c .before in
     let a = start n .args in
-    answered-not (n .checked-number .result) (expected n .number) [] (fieldsBytes (expected n .telegram)) (now (a .fields)) (number n) (c .if2 .taken)
+    answered-not (n .checked-number .result) (expected n .number) []
+    (fieldsBytes (expected n .telegram)) (now (a .fields)) (number n) (c .if2 .taken)
     ∙ read-done (now (a .bytes)) (now (a .fields)) (n .before .before .if1 .left)
 
 put-fields-requires : tie.Need-put-fields-requires
@@ -43,7 +46,8 @@ is-read c =
     let n = l .before in
     let a = start n .args in
     let written = p .put-fields .ensures ∙ ap (λ (r : Read). fieldsBytes (r .telegram)) (n .before .read .ensures) in
-    answered-is (n .checked-number .result) (expected n .number) _ (fieldsBytes (expected n .telegram)) (now (a .fields)) (number n) (l .if2 .left) written
+    answered-is (n .checked-number .result) (expected n .number) _
+    (fieldsBytes (expected n .telegram)) (now (a .fields)) (number n) (l .if2 .left) written
     ∙ read-done (now (a .bytes)) (now (a .fields)) (n .before .before .if1 .left)
 
 pub read-spec : {M : Type 1} → statement M

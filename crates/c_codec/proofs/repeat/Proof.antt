@@ -30,7 +30,8 @@ refused : tie.Need-returns-2
 refused c =
     let n = c .before in
     let a = start n .args in
-    answered-not (n .checked-number .result) (expected n .number) [] (sentBytes (expected n .sent)) (now (a .sent)) (number n) (c .if2 .taken)
+    answered-not (n .checked-number .result) (expected n .number) []
+    (sentBytes (expected n .sent)) (now (a .sent)) (number n) (c .if2 .taken)
     ∙ repeat-done (a .setting) (now (a .bytes)) (now (a .sent)) (n .before .before .if1 .left)
 
 cast-put-frame : tie.Need-cast-put-frame
@@ -49,8 +50,11 @@ sent c =
     let n = l .before in
     let a = start n .args in
     let long = n .before .before .if1 .left in
-    let written = p .put-frame .ensures ∙ overwritten-fits frameLength _ (now (a .sent)) long ∙ ap (λ (r : RepeatResult). sentBytes (r .sent)) (n .before .repeat .ensures) in
-    answered-is (n .checked-number .result) (expected n .number) _ (sentBytes (expected n .sent)) (now (a .sent)) (number n) (l .if2 .left) written
+    let written =
+    p .put-frame .ensures ∙ overwritten-fits frameLength _ (now (a .sent)) long
+    ∙ ap (λ (r : RepeatResult). sentBytes (r .sent)) (n .before .repeat .ensures) in
+    answered-is (n .checked-number .result) (expected n .number) _
+    (sentBytes (expected n .sent)) (now (a .sent)) (number n) (l .if2 .left) written
     ∙ repeat-done (a .setting) (now (a .bytes)) (now (a .sent)) long
 
 pub repeat-spec : {M : Type 1} → statement M

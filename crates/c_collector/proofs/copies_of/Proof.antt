@@ -25,7 +25,8 @@ use Rattle.c_collector.proofs.copies_of.Tie as tie
 abbrev state : tie.Start → Collector
 state s =
     let a = s .args in
-    collectorOf (columns (now (a .times)) (now (a .lengths)) (now (a .bytes)) (now (a .copies))) (summaryIn (now (a .numbers)))
+    collectorOf (columns (now (a .times)) (now (a .lengths)) (now (a .bytes)) (now (a .copies)))
+    (summaryIn (now (a .numbers)))
 
 tested : (c : tie.After-is-acceptable) → c .is-acceptable .result ≡ acceptable (viewOf (state (c .before)))
 unfolding viewOf
@@ -39,7 +40,8 @@ unfolding viewOf
 returns c =
     let s = c .before .before .before in
     rw (c .number .ensures) (copies-refused _ _ _ (numberOf NotAccepted) (refused-number NotAccepted)
-    (heard-unacceptable (state s) (s .args .entry) (sym (tested (c .before .before)) ∙ not-true _ (c .before .if1 .taken))))
+    (heard-unacceptable (state s) (s .args .entry)
+    (sym (tested (c .before .before)) ∙ not-true _ (c .before .if1 .taken))))
 
 returns-2 : tie.Need-returns-2
 unfolding viewOf

@@ -12,7 +12,8 @@ returns : tie.Need-returns
 returns c = λ copies.
     let a = c .before .before .args in
     c .is-acceptable .ensures copies
-    ∙ ap (λ (s : Summary). acceptable (viewIn (columns (now (a .times)) (now (a .lengths)) (now (a .bytes)) copies) s)) (c .before .summary-in .ensures .0)
+    ∙ ap (λ (s : Summary). acceptable (viewIn (columns (now (a .times)) (now (a .lengths)) (now (a .bytes)) copies) s))
+    (c .before .summary-in .ensures .0)
 
 pub is-acceptable-spec : {M : Type 1} → statement M
 is-acceptable-spec = tie.close (tie.spec (λ c κs. search needs) (λ c κs. search needs) returns)

@@ -7,7 +7,8 @@ use Rattle.c_collector.proofs.number_of.Statement.{statement}
 use Rattle.c_collector.proofs.number_of.Tie as tie
 
 returns : tie.Need-returns-4
-returns c = c .number .ensures ∙ ap (λ (a : Answer). shownNumber (shownOf a)) (sym (c .before .before .answer .given .1))
+returns c =
+    c .number .ensures ∙ ap (λ (a : Answer). shownNumber (shownOf a)) (sym (c .before .before .answer .given .1))
 
 pub number-of-spec : {M : Type 1} → statement M
 number-of-spec =

@@ -14,25 +14,31 @@ abbrev step1 : tie.After-put-head → Writing 11
 step1 c =
     let a = c .before .before .before .before .before .args in
     packed
-    (lend (begin (now (a .out))) _ (headBytes (a .t)) 11 (c .put-head .ensures) (c .put-head .kept .0) (omega arith) (omega (arith, c .before .before .before .before .before .pre .0)))
+    (lend (begin (now (a .out))) _ (headBytes (a .t)) 11 (c .put-head .ensures) (c .put-head .kept .0)
+    (omega arith) (omega (arith, c .before .before .before .before .before .pre .0)))
 
 abbrev step2 : tie.After-put-bytes → Writing 261
 step2 c =
     let at = c .before .before .before .before .before in
     let a = at .before .before .before .before .before .args in
     packed
-    (lend-sized (step1 at .begun) _ (λ w. resized w (a .t .payload)) 261 (c .put-bytes .ensures) (c .put-bytes .kept .0) (omega arith) (omega (arith, at .before .before .before .before .before .pre .0)))
+    (lend-sized (step1 at .begun) _ (λ w. resized w (a .t .payload)) 261 (c .put-bytes .ensures)
+    (c .put-bytes .kept .0) (omega arith) (omega (arith, at .before .before .before .before .before .pre .0)))
 
 abbrev step3 : tie.After-put-bytes2 → Writing 276
 step3 c =
     let at = c .before .before .before .before .before in
     let a = at .before .before .before .before .before .before .before .before .before .before .args in
     packed
-    (lend-sized (step2 at .begun) _ (λ w. resized w (a .t .optional)) 276 (c .put-bytes2 .ensures) (c .put-bytes2 .kept .0) (omega arith) (omega (arith, at .before .before .before .before .before .before .before .before .before .before .pre .0)))
+    (lend-sized (step2 at .begun) _ (λ w. resized w (a .t .optional)) 276
+    (c .put-bytes2 .ensures) (c .put-bytes2 .kept .0) (omega arith)
+    (omega (arith, at .before .before .before .before .before .before .before .before .before .before .pre .0)))
 
 written : tie.Need-returns
 unfolding fieldsBytes
-written c = done (step3 (c .before .before) .begun) (c .before .before .before .before .before .before .before .before .before .before .before .before .before .before .before .before .before .pre .0)
+written c =
+    done (step3 (c .before .before) .begun)
+    (c .before .before .before .before .before .before .before .before .before .before .before .before .before .before .before .before .before .pre .0)
 
 pub put-fields-spec : {M : Type 1} → statement M
 put-fields-spec =
@@ -44,12 +50,17 @@ put-fields-spec =
     (λ c κs. search needs)
     (λ c. search needs)
     (λ c. search needs)
-    (λ c. within (step1 (c .before .before) .begun) 261 (omega (arith, c .before .before .before .before .before .before .before .pre .0)))
+    (λ c. within (step1 (c .before .before) .begun) 261
+    (omega (arith, c .before .before .before .before .before .before .before .pre .0)))
     (λ c. search needs)
     (λ c κs. search needs)
     (λ c. search needs)
     (λ c. search needs)
-    (λ c. within (step2 (c .before .before) .begun) 276 (omega (arith, c .before .before .before .before .before .before .before .before .before .before .before .before .pre .0)))
+    (λ c. within (step2 (c .before .before) .begun) 276
+    (omega (
+      arith,
+      c .before .before .before .before .before .before .before .before .before .before .before .before .pre .0,
+    )))
     (λ c. search needs)
     (λ c κs. search needs)
     (λ c. begun-length (step3 (c .before .before) .begun))

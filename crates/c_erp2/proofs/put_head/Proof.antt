@@ -16,7 +16,9 @@ step4 c =
     let long = c .before .before .before .before .before .pre .0 in
     packed
     (store
-    (store (store (store (begin (now (a .out))) (a .t .short) (omega (arith, long))) (a .t .header .control) (omega (arith, long))) (c .before .before .before .flag-byte .result) (omega (arith, long)))
+    (store (store (store (begin (now (a .out))) (a .t .short) (omega (arith, long)))
+    (a .t .header .control) (omega (arith, long)))
+    (c .before .before .before .flag-byte .result) (omega (arith, long)))
     (a .t .header .kind)
     (omega (arith, long)))
 
@@ -26,7 +28,9 @@ step8 c =
     let long = c .before .before .before .before .before .pre .0 in
     packed
     (store
-    (store (store (store (step4 c .begun) (c .before .before .flag-byte2 .result) (omega (arith, long))) (a .t .extension .hops) (omega (arith, long))) (a .t .extension .announced) (omega (arith, long)))
+    (store (store (store (step4 c .begun) (c .before .before .flag-byte2 .result) (omega (arith, long)))
+    (a .t .extension .hops) (omega (arith, long)))
+    (a .t .extension .announced) (omega (arith, long)))
     (c .before .flag-byte3 .result)
     (omega (arith, long)))
 
@@ -35,13 +39,17 @@ step11 c =
     let a = c .before .before .before .before .before .args in
     let long = c .before .before .before .before .before .pre .0 in
     packed
-    (store (store (store (step8 c .begun) (a .t .subtype .value) (omega (arith, long))) (c .flag-byte4 .result) (omega (arith, long))) (a .t .len) (omega (arith, long)))
+    (store (store (store (step8 c .begun) (a .t .subtype .value) (omega (arith, long)))
+    (c .flag-byte4 .result) (omega (arith, long)))
+    (a .t .len) (omega (arith, long)))
 
 written : tie.Need-returns
 written c =
     let start = c .before .before .before .before .before .before in
     done (step11 (c .before) .begun) (start .pre .0)
-    ∙ head-are (start .args .t) _ _ _ _ (c .before .before .before .before .flag-byte .ensures) (c .before .before .before .flag-byte2 .ensures) (c .before .before .flag-byte3 .ensures) (c .before .flag-byte4 .ensures)
+    ∙ head-are (start .args .t) _ _ _ _ (c .before .before .before .before .flag-byte .ensures)
+    (c .before .before .before .flag-byte2 .ensures)
+    (c .before .before .flag-byte3 .ensures) (c .before .flag-byte4 .ensures)
 
 pub put-head-spec : {M : Type 1} → statement M
 put-head-spec =

@@ -26,7 +26,8 @@ refused : tie.Need-returns-2
 refused c =
     let n = c .before in
     let a = start n .args in
-    read-not (now (a .bytes)) (now (a .fields)) (now (a .originator)) (now (a .destination)) (n .checked-number .result) (n .before .before .if1 .left) (number n) (c .if2 .taken)
+    read-not (now (a .bytes)) (now (a .fields)) (now (a .originator)) (now (a .destination))
+    (n .checked-number .result) (n .before .before .if1 .left) (number n) (c .if2 .taken)
 
 put-fields-requires : tie.Need-put-fields-requires
 put-fields-requires c κs =
@@ -45,8 +46,11 @@ is-read c =
     let n = l .before in
     let a = start n .args in
     rw (p .put-fields .ensures)
-    (ap (λ (r : Read). reading (n .checked-number .result) (fieldsBytes (r .telegram)) (r .telegram .originator) (r .telegram .destination .id)) (n .before .read .ensures)
-    ∙ read-done (now (a .bytes)) (now (a .fields)) (now (a .originator)) (now (a .destination)) (n .checked-number .result) (n .before .before .if1 .left) (number n) (l .if2 .left))
+    (ap (λ (r : Read). reading (n .checked-number .result) (fieldsBytes (r .telegram))
+    (r .telegram .originator) (r .telegram .destination .id))
+    (n .before .read .ensures)
+    ∙ read-done (now (a .bytes)) (now (a .fields)) (now (a .originator)) (now (a .destination))
+    (n .checked-number .result) (n .before .before .if1 .left) (number n) (l .if2 .left))
 
 pub read-spec : {M : Type 1} → statement M
 read-spec =

@@ -9,4 +9,5 @@ returns : tie.Need-returns-2
 returns c = c .number .ensures ∙ ap checkedNumber (sym (c .before .before .checked .given .1))
 
 pub checked-number-spec : {M : Type 1} → statement M
-checked-number-spec = tie.close (tie.spec (λ c. search needs) (λ c. search needs) (λ c κs. search needs) (λ c. search needs) returns)
+checked-number-spec =
+    tie.close (tie.spec (λ c. search needs) (λ c. search needs) (λ c κs. search needs) (λ c. search needs) returns)

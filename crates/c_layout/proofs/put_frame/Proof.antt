@@ -23,14 +23,16 @@ abbrev step2 : tie.After-put-bytes → Writing 22
 step2 c =
     let at = c .before .before in
     let a = at .before .before .before .args in
-    packed (lend-sized (step1 at .begun) _ (λ w. resized w (now (a .bytes))) 22 (c .put-bytes .ensures) (c .put-bytes .kept .0) (omega arith) (omega arith))
+    packed (lend-sized (step1 at .begun) _ (λ w. resized w (now (a .bytes))) 22
+    (c .put-bytes .ensures) (c .put-bytes .kept .0) (omega arith) (omega arith))
 
 written : tie.Need-returns-2
 unfolding frameBytes
 written c =
     let at = c .before .before in
     let a = at .before .before .before .before .before .args in
-    done (step2 at .begun) (omega arith) ∙ sym (overwritten-fits frameLength (frameBytes (a .len) (now (a .bytes))) (now (a .out)) (omega arith))
+    done (step2 at .begun) (omega arith)
+    ∙ sym (overwritten-fits frameLength (frameBytes (a .len) (now (a .bytes))) (now (a .out)) (omega arith))
 
 pub put-frame-spec : {M : Type 1} → statement M
 put-frame-spec =

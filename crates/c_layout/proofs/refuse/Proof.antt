@@ -28,8 +28,10 @@ is c =
 other : tie.Need-returns-2
 other c =
     let n = c .before .before in
-    let a = n .before .args in
-    (n .number .ensures, mismatch-not (numberOf (a .why)) (a .at) (now (a .position)) (λ e. c .if1 .left (told (c .before) e)))
+    let a = n .before .args in (
+      n .number .ensures,
+      mismatch-not (numberOf (a .why)) (a .at) (now (a .position)) (λ e. c .if1 .left (told (c .before) e)),
+    )
 
 pub refuse-spec : {M : Type 1} → statement M
 refuse-spec = tie.close (tie.spec (λ c κs. search needs) (λ c κs. search needs) is other)

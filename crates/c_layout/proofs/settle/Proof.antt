@@ -17,7 +17,9 @@ abbrev answered : ℕ → ℕ → List ℕ → Result
 answered number len output = record { number = number; len = len; output = output }
 
 returns : tie.Need-returns
-returns c output = ap (λ (b : Built). settled (resultOf b output) (now (c .before .before .before .args .length))) (sym (c .before .built .given .1))
+returns c output =
+    ap (λ (b : Built). settled (resultOf b output) (now (c .before .before .before .args .length)))
+    (sym (c .before .built .given .1))
 
 returns-2 : tie.Need-returns-2
 returns-2 c output =

@@ -62,7 +62,8 @@ number-requires c κs = search needs
 returns : tie.Need-returns
 returns c =
     let t = c .before .before in
-    let e : acceptable (stateAt (lent (start t))) ≡ false = sym (t .is-acceptable .ensures _) ∙ not-true _ (c .before .if1 .taken) in
+    let e : acceptable (stateAt (lent (start t))) ≡ false =
+    sym (t .is-acceptable .ensures _) ∙ not-true _ (c .before .if1 .taken) in
     record { answer = rw e (c .number .ensures); taken = λ z. absurd (omega (arith, c .number .ensures)); stays = λ n. (refl, refl, refl, refl, refl) }
 
 is-sized-requires : tie.Need-is-sized-requires
@@ -81,7 +82,8 @@ returns-3 : tie.Need-returns-3
 returns-3 c =
     let e = c .before .before in
     record {
-      answer = rw (acceptable-here (e .before .before), sized e, lt-ltb 2 _ (c .before .if3 .taken)) (c .number2 .ensures);
+      answer =
+          rw (acceptable-here (e .before .before), sized e, lt-ltb 2 _ (c .before .if3 .taken)) (c .number2 .ensures);
       taken = λ z. absurd (omega (arith, c .number2 .ensures));
       stays = λ n. (refl, refl, refl, refl, refl);
     }
@@ -108,7 +110,8 @@ same-length-3 c = search needs
 
 returns-4 : tie.Need-returns-4
 returns-4 c =
-    let k = c .before .before .before .before .before .before .before .before .before .before .before .before .before .before .before .before .before .before in
+    let k =
+    c .before .before .before .before .before .before .before .before .before .before .before .before .before .before .before .before .before .before in
     let e = after-tests k .before in
     record {
       answer = rw (acceptable-here (e .before .before), sized e, le-ltb 2 _ (after-tests k .if3 .left));

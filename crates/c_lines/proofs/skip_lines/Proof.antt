@@ -47,12 +47,15 @@ loop-again c =
     record {
       inside = omega arith;
       few = omega arith;
-      ticks = fed-next lineTicks ticks-bounded input (l .loop .at) (c .before .find .result) (i .ticks) e (omega arith) (i .inside)
+      ticks =
+          fed-next lineTicks ticks-bounded input (l .loop .at)
+          (c .before .find .result) (i .ticks) e (omega arith) (i .inside)
           (tick (a .most) (l .loop .left) (i .few) (omega arith)) (simp length-replicate (omega (arith, i .few)));
     }
 
 -- where it stopped before it had passed over `most`, no newline was found
-ended-there : (c : tie.Left-loop Inv-loop μ-loop) → (let l = c .before .loop in let s = c .before .before .before .args in
+ended-there : (c : tie.Left-loop Inv-loop μ-loop)
+    → (let l = c .before .loop in let s = c .before .before .before .args in
     s .most - l .left < s .most → isUnended (drop (l .at) (now (s .input))) ≡ true)
 ended-there c x =
     let l = c .before in

@@ -26,7 +26,8 @@ returns c = (
       let copies = now (c .before .before .args .copies) in
       let a = columns times lengths bytes copies in
       subst (λ (s : Summary). Fits (viewIn a s)) (c .summary-in .ensures .0)
-      (state-fits (collectorOf a (c .summary-in .result)) (latest c) (received c) (λ i. omega (arith, c .before .shared-slice-known .given i))),
+      (state-fits (collectorOf a (c .summary-in .result)) (latest c) (received c)
+      (λ i. omega (arith, c .before .shared-slice-known .given i))),
 )
 
 pub summary-of-spec : {M : Type 1} → statement M

@@ -26,13 +26,17 @@ abbrev place : ℕ → model.Addition → ℕ
 place old x = ifMismatch (x .number) (x .position) old
 
 is : (c : tie.After-add) → addedResult (c .add .result) ≡ expected c
-is c = c .add .ensures .0 ∙ ap (λ (r : model.Report). model.addOf r (now (start c .args .buffer))) (c .before .report-in .ensures .0)
+is c =
+    c .add .ensures .0
+    ∙ ap (λ (r : model.Report). model.addOf r (now (start c .args .buffer))) (c .before .report-in .ensures .0)
 
 -- every number of the lines
 lines : (c : tie.After-add) → c .add .result .next .lines ≡ linesAdded (expected c) (now (start c .args .lines))
 lines c =
     let r = c .before .report-in .ensures in
-    c .add .ensures .1 ∙ ap₂ (λ (x : model.Report) (l : List ℕ). linesAdded (model.addOf x (now (start c .args .buffer))) l) (r .0) (r .1)
+    c .add .ensures .1
+    ∙ ap₂ (λ (x : model.Report) (l : List ℕ). linesAdded (model.addOf x (now (start c .args .buffer))) l)
+    (r .0) (r .1)
 
 number : (c : tie.After-settle) → c .settle .result ≡ expected (c .before .before) .number
 number c = c .settle .ensures .0 ∙ ap (λ (x : model.Addition). x .number) (is (c .before .before))

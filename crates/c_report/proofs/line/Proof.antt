@@ -19,7 +19,8 @@ expected c = let a = start c .args in model.lineOfReport (reportAt (now (a .numb
 is : (c : tie.After-looked-number) → lineResult (c .before .line .result) ≡ expected c
 is c =
     let l = c .before in
-    l .line .ensures ∙ ap (λ (r : model.Report). model.lineOfReport r (start c .args .i)) (l .before .report-in .ensures .0)
+    l .line .ensures
+    ∙ ap (λ (r : model.Report). model.lineOfReport r (start c .args .i)) (l .before .report-in .ensures .0)
 
 number : (c : tie.After-looked-number) → c .looked-number .result ≡ expected c .number
 number c = c .looked-number .ensures ∙ ap (λ (a : model.LineAnswer). a .number) (is c)
@@ -33,7 +34,8 @@ found : tie.Need-returns-2
 found c =
     let e = c .before in
     let n = e .before in
-    line-done (n .looked-number .result) (expected n) (now (start n .args .line)) (number n) (e .if1 .left) _ (ap (λ (a : model.LineAnswer). lineNumbers (a .line)) (is n))
+    line-done (n .looked-number .result) (expected n) (now (start n .args .line)) (number n)
+    (e .if1 .left) _ (ap (λ (a : model.LineAnswer). lineNumbers (a .line)) (is n))
 
 pub line-spec : {M : Type 1} → statement M
 line-spec =

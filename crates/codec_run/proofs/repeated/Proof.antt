@@ -27,8 +27,12 @@ repeated-spec =
     μ-loop
     (λ c. search needs)
     (λ c. search needs)
-    (λ c. let m : c .before .loop .i % c .before .before .args .p < c .before .before .args .p = mod-lt _ (omega arith) in omega arith)
-    (λ c. let m : c .before .before .loop .i % c .before .before .before .args .p < c .before .before .before .args .p = mod-lt _ (omega arith) in omega arith)
+    (λ c. let m : c .before .loop .i % c .before .before .args .p < c .before .before .args .p =
+    mod-lt _ (omega arith) in
+    omega arith)
+    (λ c. let m : c .before .before .loop .i % c .before .before .before .args .p < c .before .before .before .args .p =
+    mod-lt _ (omega arith) in
+    omega arith)
     (λ c. search needs)
     (λ c. search needs)
     (λ c. search needs)

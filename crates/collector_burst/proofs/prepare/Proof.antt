@@ -46,18 +46,21 @@ returns-2 c =
 returns-3 : tie.Need-returns-3
 returns-3 c =
     let a = c .before .before .before in
-    too-many _ _ _ _ _ (tested a) (numbers (start a)) (not-false _ (c .before .before .if1 .left)) (c .before .if2 .left) (c .if3 .taken)
+    too-many _ _ _ _ _ (tested a) (numbers (start a))
+    (not-false _ (c .before .before .if1 .left)) (c .before .if2 .left) (c .if3 .taken)
 
 returns-4 : tie.Need-returns-4
 returns-4 c =
     let a = c .before .before .before .before in
-    bad-setting _ _ _ _ _ (tested a) (numbers (start a)) (not-false _ (c .before .before .before .if1 .left)) (c .before .before .if2 .left) (c .before .if3 .left)
+    bad-setting _ _ _ _ _ (tested a) (numbers (start a)) (not-false _ (c .before .before .before .if1 .left))
+    (c .before .before .if2 .left) (c .before .if3 .left)
     (c .if4 .taken)
 
 returns-5 : tie.Need-returns-5
 returns-5 c =
     let a = c .before .before .before .before in
-    all-right _ _ _ _ _ (tested a) (numbers (start a)) (not-false _ (c .before .before .before .if1 .left)) (c .before .before .if2 .left) (c .before .if3 .left)
+    all-right _ _ _ _ _ (tested a) (numbers (start a)) (not-false _ (c .before .before .before .if1 .left))
+    (c .before .before .if2 .left) (c .before .if3 .left)
     (c .if4 .left)
 
 pub prepare-spec : {M : Type 1} → statement M

@@ -36,12 +36,17 @@ returns c =
     let n = sub-zero _ ∙ z .size .ensures .0 in
     record {
       said =
-          sent-with (x .setting) (x .fit) _ _ _ _ (k .admit .ensures .outcome) (frame-written _ (c .relay-kept .ensures))
-          ∙ ap (λ (n : ℕ). admittedWith (x .setting) (x .fit) (viewIn a (x .summary)) (record { bytes = part 0 n (x .reception .bytes); time = x .reception .time })) n
+          sent-with (x .setting) (x .fit) _ _ _ _ (k .admit .ensures .outcome)
+          (frame-written _ (c .relay-kept .ensures))
+          ∙ ap (λ (n : ℕ). admittedWith (x .setting) (x .fit) (viewIn a (x .summary))
+          (record { bytes = part 0 n (x .reception .bytes); time = x .reception .time }))
+          n
           ∙ handed (x .setting) (x .fit) _ (x .reception) (full z);
       elements =
           k .admit .ensures .elements
-          ∙ ap (λ (n : ℕ). columnsAdmitted (x .fit) (viewIn a (x .summary)) (record { bytes = part 0 n (x .reception .bytes); time = x .reception .time }) a) n
+          ∙ ap (λ (n : ℕ). columnsAdmitted (x .fit) (viewIn a (x .summary))
+          (record { bytes = part 0 n (x .reception .bytes); time = x .reception .time }) a)
+          n
           ∙ handed-columns (x .setting) (x .fit) _ (x .reception) (full z) a;
     }
 

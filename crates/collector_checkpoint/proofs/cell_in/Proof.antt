@@ -15,7 +15,9 @@ use Rattle.collector_checkpoint.proofs.cell_in.Tie as tie
 part-result-end : tie.Need-part-result-end
 part-result-end c =
     let s = c .before .before in
-    let long : length (now (c .block-in .result)) ≡ blockLength = ap length (c .block-in .ensures) ∙ block-long (now (s .args .image)) (s .args .i / cellsPerBlock) (s .pre .0) (omega arith) in
+    let long : length (now (c .block-in .result)) ≡ blockLength =
+    ap length (c .block-in .ensures)
+    ∙ block-long (now (s .args .image)) (s .args .i / cellsPerBlock) (s .pre .0) (omega arith) in
     omega arith
 
 pub cell-in-spec : {M : Type 1} → statement M
@@ -29,4 +31,5 @@ cell-in-spec =
     (λ c. search needs)
     (λ c. search needs)
     part-result-end
-    (λ c. part-ends (headerLength + cellLength * (c .before .before .before .args .i % cellsPerBlock)) cellLength _ ∙ ap (blockCell (c .before .before .before .args .i % cellsPerBlock)) (c .before .block-in .ensures)))
+    (λ c. part-ends (headerLength + cellLength * (c .before .before .before .args .i % cellsPerBlock)) cellLength _
+    ∙ ap (blockCell (c .before .before .before .args .i % cellsPerBlock)) (c .before .block-in .ensures)))

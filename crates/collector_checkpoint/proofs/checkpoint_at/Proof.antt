@@ -40,7 +40,8 @@ returns-3 : tie.Need-returns-3
 returns-3 c =
     let put = c .before .before in
     let room = put .before .before in
-    ap (checkpointResult saved.Done) (put .put-image .ensures) ∙ checkpoint-written _ (passed (room .before)) _ (room .if2 .left)
+    ap (checkpointResult saved.Done) (put .put-image .ensures)
+    ∙ checkpoint-written _ (passed (room .before)) _ (room .if2 .left)
 
 pub checkpoint-at-spec : {M : Type 1} → statement M
 checkpoint-at-spec =

@@ -10,7 +10,8 @@ returns c =
     let d = c .before .before in
     ap₂ _+_
     (ap₂ _+_
-    (ap₂ _+_ (ap₂ _+_ (d .before .before .used-in .ensures .0) (d .before .used-in2 .ensures .0)) (d .used-in3 .ensures .0))
+    (ap₂ _+_ (ap₂ _+_ (d .before .before .used-in .ensures .0) (d .before .used-in2 .ensures .0))
+    (d .used-in3 .ensures .0))
     (c .before .used-in4 .ensures .0))
     (c .used-in5 .ensures .0)
 

@@ -7,4 +7,5 @@ use Rattle.collector_checkpoint.proofs.first_in.Tie as tie
 
 pub first-in-spec : {M : Type 1} → statement M
 first-in-spec =
-    tie.close (tie.spec (λ c κs. search needs) (λ c κs. search needs) (λ c. c .number-at .ensures ∙ ap headerFirst (c .before .header-in .ensures)))
+    tie.close (tie.spec (λ c κs. search needs) (λ c κs. search needs)
+    (λ c. c .number-at .ensures ∙ ap headerFirst (c .before .header-in .ensures)))

@@ -39,7 +39,11 @@ returns-2 c =
     let put = c .before .before .before in
     let e = put .before .before in
     let image = now (e .before .before .before .args .image) in
-    rw (passed e) (c .equal .ensures ∙ ap (λ (ys : List ℕ). equal ys image) (put .put-image .ensures ∙ append-nil (imageWith (e .before .before .before .args .setting) (said (e .before)))))
+    rw (passed e)
+    (c .equal .ensures
+    ∙ ap (λ (ys : List ℕ). equal ys image)
+    (put .put-image .ensures
+    ∙ append-nil (imageWith (e .before .before .before .args .setting) (said (e .before)))))
 
 pub is-image-of-spec : {M : Type 1} → statement M
 is-image-of-spec =

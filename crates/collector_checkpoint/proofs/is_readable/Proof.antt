@@ -20,7 +20,9 @@ returns-2 : tie.Need-returns-2
 returns-2 c =
     let image = now (c .before .before .before .before .args .image) in
     rw (eq-eqb (length image) imageLength (c .before .before .if1 .left))
-    (ap₂ _&&_ (ap (λ (n : ℕ). leb n capacity) (c .count-in .ensures)) (ap (λ (n : ℕ). leb n maxSetting) (c .before .second-in .ensures)))
+    (ap₂ _&&_ (ap (λ (n : ℕ). leb n capacity) (c .count-in .ensures))
+    (ap (λ (n : ℕ). leb n maxSetting) (c .before .second-in .ensures)))
 
 pub is-readable-spec : {M : Type 1} → statement M
-is-readable-spec = tie.close (tie.spec returns (λ c κs. search needs) (λ c κs. search needs) (λ c. search needs) returns-2)
+is-readable-spec =
+    tie.close (tie.spec returns (λ c κs. search needs) (λ c κs. search needs) (λ c. search needs) returns-2)

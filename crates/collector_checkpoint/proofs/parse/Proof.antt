@@ -27,7 +27,9 @@ returns c =
         totals = c .totals-in .ensures i;
         entries = (read .read-entries .ensures .entries ∙ ap (entriesIn image) (n .count-in .ensures)) i;
       };
-      elements = read .read-entries .ensures .elements ∙ ap (λ (k : ℕ). columnsOver image k (columnsHolding [])) (n .count-in .ensures);
+      elements =
+          read .read-entries .ensures .elements
+          ∙ ap (λ (k : ℕ). columnsOver image k (columnsHolding [])) (n .count-in .ensures);
     }
 
 pub parse-spec : {M : Type 1} → statement M

@@ -28,8 +28,12 @@ put-cells-requires : tie.Need-put-cells-requires
 put-cells-requires c κs =
     let u = c .before .before .before .before .before .before in
     let s = start u in
-    let a = s .args in
-    (omega arith, search needs, omega arith, rw (u .used-from .ensures) (writable-part (now (a .lens)) (a .k) (a .count) (s .pre .1) (s .pre .2)))
+    let a = s .args in (
+      omega arith,
+      search needs,
+      omega arith,
+      rw (u .used-from .ensures) (writable-part (now (a .lens)) (a .k) (a .count) (s .pre .1) (s .pre .2)),
+    )
 
 -- after the header, and after the cells
 abbrev headed : tie.After-put-header → Writing headerLength
@@ -39,12 +43,14 @@ headed c =
     let b = begin (now (a .out)) in
     packed
     (lend b _ (headerOf (a .k) (u .used-from .result) (a .a) (a .b)) headerLength
-    (c .put-header .ensures ∙ overwritten-fits headerLength _ _ (lent b headerLength headerLength (omega arith) (omega arith)))
+    (c .put-header .ensures
+    ∙ overwritten-fits headerLength _ _ (lent b headerLength headerLength (omega arith) (omega arith)))
     (c .put-header .kept .0) (omega arith) (omega arith))
 
 abbrev filled : tie.After-put-cells → Writing bodyLength
 filled c =
-    packed (lend (headed (c .before .before .before .before .before) .begun) _ _ bodyLength (c .put-cells .ensures) (c .put-cells .kept .0) (omega arith) (omega arith))
+    packed (lend (headed (c .before .before .before .before .before) .begun) _ _ bodyLength
+    (c .put-cells .ensures) (c .put-cells .kept .0) (omega arith) (omega arith))
 
 returns : tie.Need-returns
 returns c =
@@ -55,7 +61,8 @@ returns c =
     let a = s .args in
     let used = u .used-from .result in
     sealed .seal .ensures
-    ∙ seal-written (headerOf (a .k) used (a .a) (a .b)) (map entryCell (entriesFrom (table s) (cellsPerBlock * a .k) used))
+    ∙ seal-written (headerOf (a .k) used (a .a) (a .b))
+    (map entryCell (entriesFrom (table s) (cellsPerBlock * a .k) used))
     (header-length (a .k) used (a .a) (a .b)) (filled put .begun) (s .pre .0)
     ∙ block-written (table s) (a .k) (a .a) (a .b) (a .count) used (u .used-from .ensures)
 

@@ -33,7 +33,8 @@ record Putting (out₀ : List ℕ) (a : Columns) (first used : ℕ) (out : List 
   begun : Begun out₀ (flatten (take i (cells a first used))) (cellLength * i) out
 
 abbrev Inv-loop : tie.InvT-loop
-Inv-loop out₀ times lens bytes copies first used i₀ out i = Putting out₀ (columns times lens bytes copies) first used out i
+Inv-loop out₀ times lens bytes copies first used i₀ out i =
+    Putting out₀ (columns times lens bytes copies) first used out i
 
 abbrev μ-loop : tie.MeasureT-loop
 μ-loop out₀ times lens bytes copies first used i₀ out i = used - i
@@ -49,7 +50,8 @@ turn-of c = c .before .before
 abbrev start : tie.After-len Inv-loop μ-loop → tie.Start Inv-loop μ-loop
 start c = turn-of c .before .before .before
 
-short : (c : tie.After-len Inv-loop μ-loop) → getD (now (start c .args .lens)) (start c .args .first + turn-of c .loop .i) 0 ≤ maxLength
+short : (c : tie.After-len Inv-loop μ-loop)
+    → getD (now (start c .args .lens)) (start c .args .first + turn-of c .loop .i) 0 ≤ maxLength
 short c = start c .pre .3 .short (turn-of c .loop .i) (omega arith)
 
 loop-again : tie.Need-loop-again Inv-loop μ-loop
@@ -69,17 +71,23 @@ loop-again c =
     let w =
     put .put-cell .ensures ∙ put-fits time shown count _ l (lent (at .loop .inv .begun) cellLength _ refl (omega arith))
     ∙ ap (λ (b : List ℕ). cellOf time b count) is
-    ∙ sym (cell-read (columns (now (a .times)) (now (a .lens)) (now (a .bytes)) (now (a .copies))) (a .first) (a .used) (at .loop .i) (omega arith)) in
+    ∙ sym (cell-read (columns (now (a .times)) (now (a .lens)) (now (a .bytes)) (now (a .copies)))
+    (a .first) (a .used) (at .loop .i) (omega arith)) in
     record {
       bounded = omega arith;
-      begun = turn _ _ cellLength (at .loop .i) _ _ (at .loop .inv .begun) (rw cells-length (omega arith)) w (put .put-cell .kept .0) (omega arith);
+      begun =
+          turn _ _ cellLength (at .loop .i) _ _ (at .loop .inv .begun)
+          (rw cells-length (omega arith)) w (put .put-cell .kept .0) (omega arith);
     }
 
 -- what is written, after the clearing
 abbrev all : tie.After-clear Inv-loop μ-loop → Writing cellsLength
 all c =
     let at = c .before .before .before in
-    packed (wipe (turned _ _ cellLength _ (at .loop .i) _ (at .loop .inv .begun) (omega arith) (cells-length _ _ _)) _ cellsLength (c .clear .ensures) (c .clear .kept .0) (omega arith) (omega arith))
+    packed
+    (wipe (turned _ _ cellLength _ (at .loop .i) _ (at .loop .inv .begun) (omega arith) (cells-length _ _ _))
+    _ cellsLength
+    (c .clear .ensures) (c .clear .kept .0) (omega arith) (omega arith))
 
 returns : tie.Need-returns Inv-loop μ-loop
 unfolding cells

@@ -21,26 +21,31 @@ step1 c =
     packed (store (store (begin (now (a .out))) (a .k) (omega arith)) (a .used) (omega arith))
 
 abbrev step2 : tie.After-clear → Writing 8
-step2 c = packed (wipe (step1 (c .before .before) .begun) _ 8 (c .clear .ensures) (c .clear .kept .0) (omega arith) (omega arith))
+step2 c =
+    packed (wipe (step1 (c .before .before) .begun) _ 8
+    (c .clear .ensures) (c .clear .kept .0) (omega arith) (omega arith))
 
 abbrev step3 : tie.After-put-number → Writing 16
 step3 c =
     let at = c .before .before .before .before in
     let a = at .before .before .before .before .args in
-    packed (lend-sized (step2 at .begun) _ (λ w. be w (a .a)) 16 (c .put-number .ensures) (c .put-number .kept .0) (omega arith) (omega arith))
+    packed (lend-sized (step2 at .begun) _ (λ w. be w (a .a)) 16
+    (c .put-number .ensures) (c .put-number .kept .0) (omega arith) (omega arith))
 
 abbrev step4 : tie.After-put-number2 → Writing 24
 step4 c =
     let at = c .before .before .before .before in
     let a = at .before .before .before .before .before .before .before .before .args in
-    packed (lend-sized (step3 at .begun) _ (λ w. be w (a .b)) 24 (c .put-number2 .ensures) (c .put-number2 .kept .0) (omega arith) (omega arith))
+    packed (lend-sized (step3 at .begun) _ (λ w. be w (a .b)) 24
+    (c .put-number2 .ensures) (c .put-number2 .kept .0) (omega arith) (omega arith))
 
 written : tie.Need-returns-2
 unfolding headerOf
 written c =
     let at = c .before .before in
     let a = at .before .before .before .before .before .before .before .before .before .before .before .before .args in
-    done (step4 at .begun) (omega arith) ∙ sym (overwritten-fits headerLength (headerOf (a .k) (a .used) (a .a) (a .b)) (now (a .out)) (omega arith))
+    done (step4 at .begun) (omega arith)
+    ∙ sym (overwritten-fits headerLength (headerOf (a .k) (a .used) (a .a) (a .b)) (now (a .out)) (omega arith))
 
 pub put-header-spec : {M : Type 1} → statement M
 put-header-spec =

@@ -25,7 +25,8 @@ blocks firsts seconds l =
     ∷ blockWith 4 (getD firsts 4 0) (getD seconds 4 0) l
     ∷ []
 
-block-of : (firsts seconds : List ℕ) (l : List Entry) (k : ℕ) → k < 5 → blockWith k (getD firsts k 0) (getD seconds k 0) l ≡ getD (blocks firsts seconds l) k []
+block-of : (firsts seconds : List ℕ) (l : List Entry) (k : ℕ) → k < 5
+    → blockWith k (getD firsts k 0) (getD seconds k 0) l ≡ getD (blocks firsts seconds l) k []
 unfolding blocks
 block-of firsts seconds l zero h = refl
 block-of firsts seconds l (suc zero) h = refl
@@ -35,11 +36,14 @@ block-of firsts seconds l (suc (suc (suc (suc zero)))) h = refl
 block-of firsts seconds l (suc (suc (suc (suc (suc k))))) h = absurd (omega arith)
 
 -- a turn: p is what the block writer ensures, and q what it keeps
-one-more : (firsts seconds : List ℕ) (l : List Entry) {orig xs : List ℕ} (k : ℕ) (ys : List ℕ) → Begun orig (flatten (take k (blocks firsts seconds l))) (blockLength * k) xs
-    → k < 5 → ys ≡ blockWith k (getD firsts k 0) (getD seconds k 0) l → length ys ≡ length (part (blockLength * k) (blockLength * k + blockLength - blockLength * k) xs)
+one-more : (firsts seconds : List ℕ) (l : List Entry) {orig xs : List ℕ} (k : ℕ) (ys : List ℕ)
+    → Begun orig (flatten (take k (blocks firsts seconds l))) (blockLength * k) xs
+    → k < 5 → ys ≡ blockWith k (getD firsts k 0) (getD seconds k 0) l
+    → length ys ≡ length (part (blockLength * k) (blockLength * k + blockLength - blockLength * k) xs)
     → blockLength * 5 ≤ length orig
     → Begun orig (flatten (take (k + 1) (blocks firsts seconds l))) (blockLength * (k + 1))
-    (take (blockLength * k) xs ++ (ys ++ drop (blockLength * k + blockLength - blockLength * k) (drop (blockLength * k) xs)))
+    (take (blockLength * k) xs
+    ++ (ys ++ drop (blockLength * k + blockLength - blockLength * k) (drop (blockLength * k) xs)))
 unfolding blocks
 one-more firsts seconds l k ys b h p q room =
     turn _ _ blockLength k _ ys b h (p ∙ block-of firsts seconds l k h) q (omega arith)
@@ -70,7 +74,9 @@ loop-again c =
     let at = put .before .before .before in
     record {
       bounded = omega arith;
-      begun = one-more _ _ _ (at .loop .k) _ (at .loop .inv .begun) (omega arith) (put .put-block .ensures) (put .put-block .kept .0) (omega arith);
+      begun =
+          one-more _ _ _ (at .loop .k) _ (at .loop .inv .begun) (omega arith)
+          (put .put-block .ensures) (put .put-block .kept .0) (omega arith);
     }
 
 returns : tie.Need-returns Inv-loop μ-loop

@@ -33,7 +33,8 @@ loop-again c =
     let s = at .before .before .before .before .before .before in
     let cell = shown .cell-in .ensures in
     reading-more _ _ (s .pre .4) (s .pre .5) _ (at .loop .i) _ (at .loop .inv) _ _ _ _
-    (used .before .cell-time .ensures ∙ ap cellTime cell) (used .cell-used .ensures ∙ ap cellUsed cell) (last .cell-last .ensures ∙ ap cellLast cell)
+    (used .before .cell-time .ensures ∙ ap cellTime cell)
+    (used .cell-used .ensures ∙ ap cellUsed cell) (last .cell-last .ensures ∙ ap cellLast cell)
     (copied .copy-field .ensures ∙ ap₂ resized refl (ap cellField cell)) (copied .copy-field .kept .0)
     (omega arith) (s .pre .0) (s .pre .1) (s .pre .2) (s .pre .3)
 

@@ -48,7 +48,9 @@ returns-2 c =
 read : (c : tie.Else2) →
     let image = image-of (c .before .before .before) in
     (length image ≡ imageLength) × (countIn image ≤ capacity) × (settingIn image ≤ maxSetting)
-read c = readable (image-of (c .before .before .before)) (sym (c .before .is-readable .ensures) ∙ not-false _ (c .if2 .left))
+read c =
+    readable (image-of (c .before .before .before))
+    (sym (c .before .is-readable .ensures) ∙ not-false _ (c .if2 .left))
 
 -- what the last test says of the image
 abbrev parsed : tie.After-is-image-of → tie.After-parse
@@ -61,7 +63,8 @@ unfolding viewOf
 compared c =
     let p = parsed c in
     let image = image-of (p .before .before .before .before .before) in
-    c .is-image-of .ensures ∙ ap₂ (λ (n : ℕ) (v : View). isImageOf n v image) (p .before .second-in .ensures) (p .parse .ensures .state)
+    c .is-image-of .ensures
+    ∙ ap₂ (λ (n : ℕ) (v : View). isImageOf n v image) (p .before .second-in .ensures) (p .parse .ensures .state)
 
 returns-3 : tie.Need-returns-3
 returns-3 c =
@@ -77,10 +80,13 @@ returns-4 c =
     record {
       result =
           ap restoredWith (p .parse .ensures .state)
-          ∙ restore-done _ _ (passed (e .before .before)) (read e .0) (read e .2) (sym (compared (c .before)) ∙ not-false _ (c .if3 .left));
+          ∙ restore-done _ _ (passed (e .before .before)) (read e .0) (read e .2)
+          (sym (compared (c .before)) ∙ not-false _ (c .if3 .left));
       elements = λ _.
           let image = image-of (e .before .before .before) in
-          let w = both (acceptable (parse image)) (equal (imageWith (settingIn image) (parse image)) image) (sym (compared (c .before)) ∙ not-false _ (c .if3 .left)) in
+          let w =
+          both (acceptable (parse image)) (equal (imageWith (settingIn image) (parse image)) image)
+          (sym (compared (c .before)) ∙ not-false _ (c .if3 .left)) in
           p .parse .ensures .elements ∙ spelled image (w .0) (w .1);
       stays = λ n. absurd (n refl);
     }

@@ -7,4 +7,5 @@ use Rattle.collector_checkpoint.proofs.second_in.Tie as tie
 
 pub second-in-spec : {M : Type 1} → statement M
 second-in-spec =
-    tie.close (tie.spec (λ c κs. search needs) (λ c κs. search needs) (λ c. c .number-at .ensures ∙ ap headerSecond (c .before .header-in .ensures)))
+    tie.close (tie.spec (λ c κs. search needs) (λ c κs. search needs)
+    (λ c. c .number-at .ensures ∙ ap headerSecond (c .before .header-in .ensures)))

@@ -48,7 +48,8 @@ put-past-requires : tie.Need-put-past-requires
 put-past-requires c κs =
     let e = c .before .before in
     let s = entry (e .before) in
-    let ok : acceptable (view s) ≡ true = both (acceptable (view s)) _ (sym (said (e .before)) ∙ not-false _ (e .if1 .left)) .0 in
+    let ok : acceptable (view s) ≡ true =
+    both (acceptable (view s)) _ (sym (said (e .before)) ∙ not-false _ (e .if1 .left)) .0 in
     (writable-state (held s) (s .args .summary) ok, search needs, s .pre .1)
 
 closes : tie.Need-returns-2

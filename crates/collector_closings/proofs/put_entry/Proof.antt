@@ -14,7 +14,9 @@ use Rattle.collector_closings.proofs.put_entry.Statement.{statement}
 use Rattle.collector_closings.proofs.put_entry.Tie as tie
 
 still-open : tie.Need-returns
-still-open c = rw (sym (c .before .is-past .ensures) ∙ not-true _ (c .if1 .taken)) (record { bytes = refl; next = omega arith; short = omega arith })
+still-open c =
+    rw (sym (c .before .is-past .ensures) ∙ not-true _ (c .if1 .taken))
+    (record { bytes = refl; next = omega arith; short = omega arith })
 
 past : tie.Need-returns-2
 past c =
@@ -30,7 +32,8 @@ past c =
     let cell = put-fits (a .opened) (now (a .bytes)) (a .copies) (part at (at + 32 - at) out) (s .pre .0) old in
     let next : 32 * (a .k + 1) ≡ at + 32 = omega arith in
     rw (sym (t .is-past .ensures) ∙ not-false _ (e .if1 .left), next)
-    (lent-printed out _ _ at (p .put-cell .ensures ∙ cell) (cell-length (a .opened) (now (a .bytes)) (a .copies) (s .pre .0)) (s .pre .1))
+    (lent-printed out _ _ at (p .put-cell .ensures ∙ cell)
+    (cell-length (a .opened) (now (a .bytes)) (a .copies) (s .pre .0)) (s .pre .1))
 
 pub put-entry-spec : {M : Type 1} → statement M
 put-entry-spec =

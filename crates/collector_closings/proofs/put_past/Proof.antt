@@ -76,7 +76,8 @@ shows c =
     bytes-shown (now (a .bytes)) i (getD (now (a .lens)) i 0) (short c) (omega (arith, entry c .pre .1))
 
 inside : (c : tie.After-len Inv-loop μ-loop)
-    → (let i = turn c .loop .i in let a = entry c .args in maxLength * i + getD (now (a .lens)) i 0 ≤ length (now (a .bytes)))
+    → (let i = turn c .loop .i in let a = entry c .args in
+    maxLength * i + getD (now (a .lens)) i 0 ≤ length (now (a .bytes)))
 inside c = omega (arith, short c, few c, entry c .pre .1)
 
 put-entry-requires : tie.Need-put-entry-requires Inv-loop μ-loop

@@ -28,29 +28,39 @@ abbrev start : tie.At-loop Inv-loop μ-loop → tie.Start Inv-loop μ-loop
 start c = c .before .before
 
 -- in a turn there is a whole record
-record-in : (c : tie.In-loop Inv-loop μ-loop) → callLength * c .before .loop .i + callLength ≤ length (now (start (c .before) .args .calls))
+record-in : (c : tie.In-loop Inv-loop μ-loop)
+    → callLength * c .before .loop .i + callLength ≤ length (now (start (c .before) .args .calls))
 record-in c = omega arith
 
 -- how long the record of one call more is
 more : (c : tie.After-size-in Inv-loop μ-loop)
-    → sizeOfAll (take (c .before .before .before .loop .i + 1) (callsIn [] (now (start (c .before .before .before) .args .calls))))
-    ≡ sizeOfAll (take (c .before .before .before .loop .i) (callsIn [] (now (start (c .before .before .before) .args .calls)))) + c .size-in .result
+    → sizeOfAll (take (c .before .before .before .loop .i + 1)
+    (callsIn [] (now (start (c .before .before .before) .args .calls))))
+    ≡ sizeOfAll (take (c .before .before .before .loop .i)
+    (callsIn [] (now (start (c .before .before .before) .args .calls))))
+    + c .size-in .result
 more c =
     let t = c .before .before in
-    sizes-more (now (start (t .before) .args .calls)) (t .before .loop .i) (c .size-in .result) (omega arith) (c .size-in .ensures)
+    sizes-more (now (start (t .before) .args .calls)) (t .before .loop .i)
+    (c .size-in .result) (omega arith) (c .size-in .ensures)
 
 returns : tie.Need-returns Inv-loop μ-loop
 returns c =
     let s = c .before in
     let t = s .before .before in
     let h = callsIn [] (now (start (t .before) .args .calls)) in
-    sym (lt-leb (sizeOfAll h) _ (omega (arith, t .before .loop .inv .whole, c .if1 .taken, more s, size-part (t .before .loop .i + 1) h)))
+    sym (lt-leb (sizeOfAll h) _
+    (omega (arith, t .before .loop .inv .whole, c .if1 .taken, more s, size-part (t .before .loop .i + 1) h)))
 
 loop-again : tie.Need-loop-again Inv-loop μ-loop
 loop-again c =
     let s = c .before in
     let t = s .before .before in
-    record { bounded = omega arith; end = omega arith; whole = omega (arith, t .before .loop .inv .whole, c .if1 .left, more s) }
+    record {
+      bounded = omega arith;
+      end = omega arith;
+      whole = omega (arith, t .before .loop .inv .whole, c .if1 .left, more s);
+    }
 
 returns-2 : tie.Need-returns-2 Inv-loop μ-loop
 returns-2 c =

@@ -5,10 +5,12 @@ use Rattle.history_run.proofs.histories.Statement.{statement}
 use Rattle.history_run.proofs.histories.Tie as tie
 
 abbrev Inv-loop : tie.InvT-loop
-Inv-loop most times₀ lengths₀ bytes₀ copies₀ numbers₀ session₀ left₀ times lengths bytes copies numbers session left = Unit {0}
+Inv-loop most times₀ lengths₀ bytes₀ copies₀ numbers₀ session₀ left₀ times lengths bytes copies numbers session left =
+    Unit {0}
 
 abbrev μ-loop : tie.MeasureT-loop
-μ-loop most times₀ lengths₀ bytes₀ copies₀ numbers₀ session₀ left₀ times lengths bytes copies numbers session left = left
+μ-loop most times₀ lengths₀ bytes₀ copies₀ numbers₀ session₀ left₀ times lengths bytes copies numbers session left =
+    left
 
 pub histories-spec : {M : Type 1} → statement M
 histories-spec =

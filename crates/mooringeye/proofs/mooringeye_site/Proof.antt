@@ -18,21 +18,31 @@ use Rattle.mooringeye.proofs.mooringeye_site.Tie as tie
 
 small : (s : List ℕ) → Small (siteIn s)
 small s =
-    branch Small (eqb (length s % size) 0) (λ e. site-small (length s / size) (assignmentsIn s)) (λ e. record { repeater = zero-le; other = zero-le })
+    branch Small (eqb (length s % size) 0) (λ e. site-small (length s / size) (assignmentsIn s))
+    (λ e. record { repeater = zero-le; other = zero-le })
 
 unlawful : (c : tie.After-number2) → let arm = c .before .before in
-    answer (numberOf refusal.Unlawful) (arm .i .given .0 .0) 0 ≡ siteIn (arm .before .before .before .before .args .repeaters .now)
-unlawful c = ap verdictOf (sym (c .before .before .i .given .1)) ∙ c .before .before .before .before .check-bytes .ensures
+    answer (numberOf refusal.Unlawful) (arm .i .given .0 .0) 0
+    ≡ siteIn (arm .before .before .before .before .args .repeaters .now)
+unlawful c =
+    ap verdictOf (sym (c .before .before .i .given .1)) ∙ c .before .before .before .before .check-bytes .ensures
 
 unlawful-small : (c : tie.After-number2) → c .before .before .i .given .0 .0 ≤ 32
-unlawful-small c = subst Small (sym (unlawful c)) (small (c .before .before .before .before .before .before .args .repeaters .now)) .repeater
+unlawful-small c =
+    subst Small (sym (unlawful c))
+    (small (c .before .before .before .before .before .before .args .repeaters .now)) .repeater
 
 overlaps : (c : tie.After-number3) → let arm = c .before .before in
-    answer (numberOf refusal.Overlap) (arm .i2 .given .0 .0) (arm .i2 .given .0 .1 .0) ≡ siteIn (arm .before .before .before .before .args .repeaters .now)
-overlaps c = ap verdictOf (sym (c .before .before .i2 .given .1)) ∙ c .before .before .before .before .check-bytes .ensures
+    answer (numberOf refusal.Overlap) (arm .i2 .given .0 .0) (arm .i2 .given .0 .1 .0)
+    ≡ siteIn (arm .before .before .before .before .args .repeaters .now)
+overlaps c =
+    ap verdictOf (sym (c .before .before .i2 .given .1)) ∙ c .before .before .before .before .check-bytes .ensures
 
-overlap-small : (c : tie.After-number3) → Small (answer (numberOf refusal.Overlap) (c .before .before .i2 .given .0 .0) (c .before .before .i2 .given .0 .1 .0))
-overlap-small c = subst Small (sym (overlaps c)) (small (c .before .before .before .before .before .before .args .repeaters .now))
+overlap-small : (c : tie.After-number3)
+    → Small (answer (numberOf refusal.Overlap)
+    (c .before .before .i2 .given .0 .0) (c .before .before .i2 .given .0 .1 .0))
+overlap-small c =
+    subst Small (sym (overlaps c)) (small (c .before .before .before .before .before .before .args .repeaters .now))
 
 returns : tie.Need-returns
 returns c = ap packedSite (ap verdictOf (sym (c .enum-told .given .1)) ∙ c .before .before .check-bytes .ensures)
@@ -42,7 +52,8 @@ returns-2 c =
     let e : c .number .result * 65_536 ≡ packedSite (answer (c .number .result) 0 0) = omega arith in
     e
     ∙ ap (λ (n : ℕ). packedSite (answer n 0 0)) (c .number .ensures)
-    ∙ ap packedSite (ap verdictOf (sym (c .before .enum-told2 .given .1)) ∙ c .before .before .before .check-bytes .ensures)
+    ∙ ap packedSite
+    (ap verdictOf (sym (c .before .enum-told2 .given .1)) ∙ c .before .before .before .check-bytes .ensures)
 
 returns-3 : tie.Need-returns-3
 returns-3 c =
@@ -54,7 +65,8 @@ returns-3 c =
 
 returns-4 : tie.Need-returns-4
 returns-4 c =
-    ap (λ (n : ℕ). packedSite (answer n (c .before .before .i2 .given .0 .0) (c .before .before .i2 .given .0 .1 .0))) (c .number3 .ensures)
+    ap (λ (n : ℕ). packedSite (answer n (c .before .before .i2 .given .0 .0) (c .before .before .i2 .given .0 .1 .0)))
+    (c .number3 .ensures)
     ∙ ap packedSite (overlaps c)
 
 pub mooringeye-site-spec : {M : Type 1} → statement M

@@ -32,7 +32,8 @@ returns-3 c =
     simp (no, and-false)
 
 rule-of-requires : tie.Need-rule-of-requires
-rule-of-requires c κs = known _ _ (sym (c .before .before .before .is-known .ensures) ∙ not-false _ (c .before .before .if2 .left))
+rule-of-requires c κs =
+    known _ _ (sym (c .before .before .before .is-known .ensures) ∙ not-false _ (c .before .before .if2 .left))
 
 returns-4 : tie.Need-returns-4
 unfolding planBy
@@ -40,9 +41,11 @@ returns-4 c =
     let asked = c .before .before in
     let a = asked .before .before .before .before .before .args in
     let timed : isDuration (a .duration) ≡ true = not-false _ (asked .before .before .before .before .if1 .left) in
-    let named = sym (asked .before .before .before .is-known .ensures) ∙ not-false _ (asked .before .before .if2 .left) in
+    let named =
+    sym (asked .before .before .before .is-known .ensures) ∙ not-false _ (asked .before .before .if2 .left) in
     let offered = sym (asked .before .offers .ensures) ∙ not-false _ (asked .if3 .left) in
-    simp (timed, named, offered) (c .choose .ensures ∙ ap (λ (r : Rule). drawn (plans r (a .duration)) (a .draw)) (c .before .rule-of .ensures))
+    simp (timed, named, offered)
+    (c .choose .ensures ∙ ap (λ (r : Rule). drawn (plans r (a .duration)) (a .draw)) (c .before .rule-of .ensures))
 
 pub plan-by-spec : {M : Type 1} → statement M
 plan-by-spec =

@@ -8,13 +8,26 @@ use Rattle.plan_site.proofs.clashes.Tie as tie
 
 returns : tie.Need-returns
 unfolding clash
-returns c = simp (c .before .before .before .hits .ensures, c .before .before .hits2 .ensures, eq-eqb _ _ (c .if1 .taken), or-false)
+returns c =
+    simp (
+      c .before .before .before .hits .ensures,
+      c .before .before .hits2 .ensures,
+      eq-eqb _ _ (c .if1 .taken),
+      or-false,
+    )
 
 returns-2 : tie.Need-returns-2
 unfolding clash
 returns-2 c =
     let two = c .before .before .before in
-    simp (two .before .hits .ensures, two .hits2 .ensures, c .hits3 .ensures, ne-eqb _ _ (c .before .if1 .left), or-false)
+    simp (
+      two .before .hits .ensures,
+      two .hits2 .ensures,
+      c .hits3 .ensures,
+      ne-eqb _ _ (c .before .if1 .left),
+      or-false,
+    )
 
 pub clashes-spec : {M : Type 1} → statement M
-clashes-spec = tie.close (tie.spec (λ c κs. search needs) (λ c κs. search needs) returns (λ c κs. search needs) returns-2)
+clashes-spec =
+    tie.close (tie.spec (λ c κs. search needs) (λ c κs. search needs) returns (λ c κs. search needs) returns-2)

@@ -7,7 +7,9 @@ use Rattle.plan_site.proofs.is_in_range.Statement.{statement}
 use Rattle.plan_site.proofs.is_in_range.Tie as tie
 
 returns : tie.Need-returns
-returns c = ap (λ (known : Bool). known && isDuration (c .before .before .before .args .b .duration)) (c .before .before .is-known .ensures)
+returns c =
+    ap (λ (known : Bool). known && isDuration (c .before .before .before .args .b .duration))
+    (c .before .before .is-known .ensures)
 
 pub is-in-range-spec : {M : Type 1} → statement M
 is-in-range-spec = tie.close (tie.spec (λ c κs. search needs) returns)

@@ -37,21 +37,27 @@ returns c =
     (rw (not-true (c .before .agree-eight .result) (c .if2 .taken)) at (c .before .agree-eight .ensures))
 
 agree-eight-requires-2 : tie.Need-agree-eight-requires-2
-agree-eight-requires-2 c κs = let r = eight-range (c .before .before .before .before .before .args .n) (c .before .before .if1 .taken) in search needs
+agree-eight-requires-2 c κs = let r =
+    eight-range (c .before .before .before .before .before .args .n) (c .before .before .if1 .taken) in
+    search needs
 
 returns-2 : tie.Need-returns-2
 returns-2 c =
-    let r = eight-range (c .before .before .before .before .before .before .args .n) (c .before .before .before .if1 .taken) in
+    let r =
+    eight-range (c .before .before .before .before .before .before .args .n)
+    (c .before .before .before .if1 .taken) in
     let s = c .before .before .before .before .before .before in
     agreed (now (s .args .a)) (now (s .args .b)) (s .args .n) 8 (s .pre .0) (s .pre .1) (omega arith) (omega arith)
-    (rw (not-false (c .before .before .agree-eight .result) (c .before .if2 .left)) at (c .before .before .agree-eight .ensures))
+    (rw (not-false (c .before .before .agree-eight .result) (c .before .if2 .left)) at
+    (c .before .before .agree-eight .ensures))
     (c .agree-eight2 .ensures)
 
 sub-agree-four : tie.Need-sub-agree-four
 sub-agree-four c = four-range (c .before .before .before .before .args .n) (c .if3 .taken) .0
 
 agree-four-requires : tie.Need-agree-four-requires
-agree-four-requires c κs = let r = four-range (c .before .before .before .before .args .n) (c .if3 .taken) in search needs
+agree-four-requires c κs = let r = four-range (c .before .before .before .before .args .n) (c .if3 .taken) in
+    search needs
 
 returns-3 : tie.Need-returns-3
 returns-3 c =
@@ -61,14 +67,19 @@ returns-3 c =
     (rw (not-true (c .before .agree-four .result) (c .if4 .taken)) at (c .before .agree-four .ensures))
 
 agree-four-requires-2 : tie.Need-agree-four-requires-2
-agree-four-requires-2 c κs = let r = four-range (c .before .before .before .before .before .before .args .n) (c .before .before .if3 .taken) in search needs
+agree-four-requires-2 c κs = let r =
+    four-range (c .before .before .before .before .before .before .args .n) (c .before .before .if3 .taken) in
+    search needs
 
 returns-4 : tie.Need-returns-4
 returns-4 c =
-    let r = four-range (c .before .before .before .before .before .before .before .args .n) (c .before .before .before .if3 .taken) in
+    let r =
+    four-range (c .before .before .before .before .before .before .before .args .n)
+    (c .before .before .before .if3 .taken) in
     let s = c .before .before .before .before .before .before .before in
     agreed (now (s .args .a)) (now (s .args .b)) (s .args .n) 4 (s .pre .0) (s .pre .1) (omega arith) (omega arith)
-    (rw (not-false (c .before .before .agree-four .result) (c .before .if4 .left)) at (c .before .before .agree-four .ensures))
+    (rw (not-false (c .before .before .agree-four .result) (c .before .if4 .left)) at
+    (c .before .before .agree-four .ensures))
     (c .agree-four2 .ensures)
 
 agree-each-requires : tie.Need-agree-each-requires

@@ -7,10 +7,12 @@ use Rattle.radio_erp1.proofs.hash.Statement.{statement}
 use Rattle.radio_erp1.proofs.hash.Tie as tie
 
 returns-2 : tie.Need-returns-2
-returns-2 c = c .crc8 .ensures ∙ hash-crc _ (eqb-true _ _ (rw (c .before .before .split .ensures) at (c .before .if2 .taken)))
+returns-2 c =
+    c .crc8 .ensures ∙ hash-crc _ (eqb-true _ _ (rw (c .before .before .split .ensures) at (c .before .if2 .taken)))
 
 returns-3 : tie.Need-returns-3
-returns-3 c = c .sum .ensures ∙ hash-sum _ (eqb-false _ _ (rw (c .before .before .split .ensures) at (c .before .if2 .left)))
+returns-3 c =
+    c .sum .ensures ∙ hash-sum _ (eqb-false _ _ (rw (c .before .before .split .ensures) at (c .before .if2 .left)))
 
 pub hash-spec : {M : Type 1} → statement M
 hash-spec =

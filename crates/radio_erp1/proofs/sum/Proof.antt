@@ -14,7 +14,8 @@ use Rattle.radio_erp1.proofs.sum.Statement.{statement}
 use Rattle.radio_erp1.proofs.sum.Tie as tie
 
 -- the next byte
-sum-next : (bytes : List ℕ) (i : ℕ) → i < length bytes → sumOf (drop i bytes) ≡ getD bytes i 0 + sumOf (drop (i + 1) bytes)
+sum-next : (bytes : List ℕ) (i : ℕ) → i < length bytes
+    → sumOf (drop i bytes) ≡ getD bytes i 0 + sumOf (drop (i + 1) bytes)
 sum-next bytes i h = rw (add-one, drop-cons bytes i 0)
 
 record Summing (bytes : List ℕ) (i-end sum i : ℕ) : Type 0 where
@@ -38,7 +39,8 @@ returns : tie.Need-returns Inv-loop μ-loop
 returns c =
     let bytes = now (c .before .before .before .args .bytes) in
     let h : length bytes ≤ c .before .loop .i = omega arith in
-    let e : (c .before .loop .sum + 0) % 256 ≡ sumOf bytes % 256 = rw (drop-of-length-le bytes h) at (c .before .loop .inv .rest) in
+    let e : (c .before .loop .sum + 0) % 256 ≡ sumOf bytes % 256 =
+    rw (drop-of-length-le bytes h) at (c .before .loop .inv .rest) in
     omega arith
 
 pub sum-spec : {M : Type 1} → statement M

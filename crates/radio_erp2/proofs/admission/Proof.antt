@@ -20,7 +20,9 @@ returns-2 : tie.Need-returns-2
 returns-2 c = admits-against _ (sym (c .before .is-against-header .ensures) ∙ c .if2 .taken)
 
 returns-3 : tie.Need-returns-3
-returns-3 c = admits-reserved _ (holds (c .before .before .before .before .before)) (agrees (c .before .before .before)) (c .if3 .taken)
+returns-3 c =
+    admits-reserved _ (holds (c .before .before .before .before .before))
+    (agrees (c .before .before .before)) (c .if3 .taken)
 
 is-misfitting-requires : tie.Need-is-misfitting-requires
 is-misfitting-requires c κs = short-most _ (holds (c .before .before .before .before .before))
@@ -28,15 +30,18 @@ is-misfitting-requires c κs = short-most _ (holds (c .before .before .before .b
 returns-4 : tie.Need-returns-4
 returns-4 c =
     let at = c .before .before in
-    admits-misfit _ (holds (at .before .before .before .before .before)) (agrees (at .before .before .before)) (at .if3 .left)
+    admits-misfit _ (holds (at .before .before .before .before .before))
+    (agrees (at .before .before .before)) (at .if3 .left)
     (sym (c .before .is-misfitting .ensures) ∙ c .if4 .taken)
 
 returns-5 : tie.Need-returns-5
 returns-5 c =
     let at = c .before .before in
-    admits-all _ (holds (at .before .before .before .before .before)) (agrees (at .before .before .before)) (at .if3 .left)
+    admits-all _ (holds (at .before .before .before .before .before))
+    (agrees (at .before .before .before)) (at .if3 .left)
     (sym (c .before .is-misfitting .ensures) ∙ c .if4 .left)
 
 pub admission-spec : {M : Type 1} → statement M
 admission-spec =
-    tie.close (tie.spec (λ c κs. search needs) returns (λ c κs. search needs) returns-2 returns-3 is-misfitting-requires returns-4 returns-5)
+    tie.close (tie.spec (λ c κs. search needs) returns
+    (λ c κs. search needs) returns-2 returns-3 is-misfitting-requires returns-4 returns-5)

@@ -8,7 +8,9 @@ use Rattle.radio_erp2.proofs.build.Statement.{statement}
 use Rattle.radio_erp2.proofs.build.Tie as tie
 
 emit-requires : tie.Need-emit-requires
-emit-requires c κs = admitted _ (sym (c .before .before .before .admission .ensures) ∙ ap checkedNumber (c .before .enum-told .given .1))
+emit-requires c κs =
+    admitted _
+    (sym (c .before .before .before .admission .ensures) ∙ ap checkedNumber (c .before .enum-told .given .1))
 
 returns : tie.Need-returns
 returns c =

@@ -60,10 +60,13 @@ known c = c .before .before .before .before .before
 abbrev whole : tie.After-overhead → List ℕ
 whole c = text (known c .before .before .before .before .before .before .before .before .before)
 
-overhead-is : (c : tie.After-overhead) → c .overhead .result ≡ overhead (longSizes (headerIn (whole c)) (getD (whole c) 2 0 % 16))
+overhead-is : (c : tie.After-overhead)
+    → c .overhead .result ≡ overhead (longSizes (headerIn (whole c)) (getD (whole c) 2 0 % 16))
 overhead-is c =
     c .overhead .ensures
-    ∙ ap overhead (c .before .long-sizes .ensures ∙ ap (λ (h : Header). longSizes h (getD (whole c) 2 0 % 16)) (control-is (known c)))
+    ∙ ap overhead
+    (c .before .long-sizes .ensures
+    ∙ ap (λ (h : Header). longSizes h (getD (whole c) 2 0 % 16)) (control-is (known c)))
 
 returns : tie.Need-returns
 returns c = check-empty _ (c .if1 .taken)
@@ -75,7 +78,9 @@ returns-3 : tie.Need-returns-3
 returns-3 c = check-mismatch _ (λ e. c .if3 .taken (e ∙ sym (ap (λ (x : ℕ). 1 + x) (l-is (c .before .before)))))
 
 returns-4 : tie.Need-returns-4
-returns-4 c = check-short _ (some (c .before .before)) (long (c .before)) (rw (l-is (c .before .before .before)) at (c .if4 .taken))
+returns-4 c =
+    check-short _ (some (c .before .before)) (long (c .before))
+    (rw (l-is (c .before .before .before)) at (c .if4 .taken))
 
 returns-5 : tie.Need-returns-5
 returns-5 c =
@@ -93,11 +98,20 @@ returns-6 c =
 overhead-requires : tie.Need-overhead-requires
 overhead-requires c κs =
     let h = c .before .before .before .before .header-of .result in
-    let a = getD (text (c .before .before .before .before .before .before .before .before .before .before .before .before .before)) 2 0 % 16 in
+    let a =
+    getD
+    (text
+    (c .before .before .before .before .before .before .before .before .before .before .before .before .before))
+    2 0
+    % 16 in
     let e : c .long-sizes .result ≡ longSizes h a = c .long-sizes .ensures in
     rw e
     (long-small h a
-    (low-bits (getD (text (c .before .before .before .before .before .before .before .before .before .before .before .before .before)) 2 0)))
+    (low-bits
+    (getD
+    (text
+    (c .before .before .before .before .before .before .before .before .before .before .before .before .before))
+    2 0)))
 
 returns-7 : tie.Need-returns-7
 returns-7 c =

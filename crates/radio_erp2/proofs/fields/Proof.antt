@@ -32,8 +32,13 @@ unfolding fieldsOf
 returns c =
     let s = now (c .before .before .before .before .before .before .before .before .args .s) in
     let w = c .before .before .before .before .before .wide .ensures in
-    rw
-    (c .row .ensures, c .before .before .before .overhead .ensures, c .before .before .before .before .sizes-in .ensures, w .0, c .before .short-of .ensures)
+    rw (
+      c .row .ensures,
+      c .before .before .before .overhead .ensures,
+      c .before .before .before .before .sizes-in .ensures,
+      w .0,
+      c .before .short-of .ensures,
+    )
 
 pub fields-spec : {M : Type 1} → statement M
 fields-spec =

@@ -17,10 +17,13 @@ returns c = long-data _ (c .before .before .pre) (c .if1 .taken)
 overhead-requires : tie.Need-overhead-requires
 overhead-requires c κs = rw (c .sizes-for .ensures) (for-small (c .before .before .before .args .t) (search needs))
 
-size-is : (c : tie.After-overhead) → c .overhead .result + c .before .before .before .before .args .t .len ≡ telegramSize
+size-is : (c : tie.After-overhead)
+    → c .overhead .result + c .before .before .before .before .args .t .len ≡ telegramSize
     (c .before .before .before .before .args .t)
 unfolding telegramSize
-size-is c = ap (λ (n : ℕ). n + c .before .before .before .before .args .t .len) (c .overhead .ensures ∙ ap overhead (c .before .sizes-for .ensures))
+size-is c =
+    ap (λ (n : ℕ). n + c .before .before .before .before .args .t .len)
+    (c .overhead .ensures ∙ ap overhead (c .before .sizes-for .ensures))
 
 add-size : tie.Need-add-size
 add-size c =
@@ -33,12 +36,16 @@ add-size c =
 returns-2 : tie.Need-returns-2
 returns-2 c =
     rw (size-is (c .before .before .before .before), c .wide .ensures .0)
-    (short-misfit (c .before .before .before .before .before .before .before .before .args .t) (ap not (ne-eqb _ _ (c .before .if2 .taken))))
+    (short-misfit (c .before .before .before .before .before .before .before .before .args .t)
+    (ap not (ne-eqb _ _ (c .before .if2 .taken))))
 
 returns-3 : tie.Need-returns-3
 returns-3 c =
     rw (size-is (c .before .before .before))
-    (long-misfit (c .before .before .before .before .before .before .before .args .t) (ap not (eq-eqb _ _ (c .if2 .left))))
+    (long-misfit (c .before .before .before .before .before .before .before .args .t)
+    (ap not (eq-eqb _ _ (c .if2 .left))))
 
 pub is-misfitting-spec : {M : Type 1} → statement M
-is-misfitting-spec = tie.close (tie.spec returns (λ c κs. search needs) overhead-requires add-size (λ c κs. search needs) returns-2 returns-3)
+is-misfitting-spec =
+    tie.close (tie.spec returns (λ c κs. search needs) overhead-requires add-size
+    (λ c κs. search needs) returns-2 returns-3)

@@ -24,7 +24,8 @@ abbrev step1 : (c : tie.After-put-bytes) → Writing (start c .args .t .len)
 step1 c =
     let a = start c .args in
     packed
-    (lend-sized (begin (now (a .out))) _ (λ w. resized w (part 0 (a .t .len - 0) (a .t .payload))) (a .t .len) (c .put-bytes .ensures)
+    (lend-sized (begin (now (a .out))) _ (λ w. resized w (part 0 (a .t .len - 0) (a .t .payload)))
+    (a .t .len) (c .put-bytes .ensures)
     (c .put-bytes .kept .0) (omega arith)
     (omega (arith, start c .pre .0)))
 
@@ -35,7 +36,8 @@ step2 c =
     let at = c .before .before .before .before .before .before in
     let a = start at .args in
     packed
-    (lend-sized (step1 at .begun) _ (λ w. resized w (part 0 (a .t .len + a .z .optional - a .t .len - 0) (a .t .optional)))
+    (lend-sized (step1 at .begun) _
+    (λ w. resized w (part 0 (a .t .len + a .z .optional - a .t .len - 0) (a .t .optional)))
     (a .t .len + a .z .optional) (c .put-bytes2 .ensures)
     (c .put-bytes2 .kept .0) (omega arith) (omega (arith, start at .pre .0)))
 
@@ -45,7 +47,8 @@ returns c =
     let at = last .before .before .before .before .before .before in
     let a = start at .args in
     let v = start at .pre in
-    done (step2 last .begun) (v .0) ∙ data-is (a .t) (a .z) (payload-long (start at)) (optional-long (start at)) (v .1) (v .2)
+    done (step2 last .begun) (v .0)
+    ∙ data-is (a .t) (a .z) (payload-long (start at)) (optional-long (start at)) (v .1) (v .2)
 
 pub put-data-spec : {M : Type 1} → statement M
 put-data-spec =

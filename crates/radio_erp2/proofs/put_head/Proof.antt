@@ -33,25 +33,31 @@ step1 c =
     let at = c .before .before .before in
     let a = first at .args in
     packed
-    (lend-sized (step0 at .begun) _ (λ w. be w (c .before .header-byte .result)) (extensionAt (a .z)) (c .put-number .ensures)
+    (lend-sized (step0 at .begun) _ (λ w. be w (c .before .header-byte .result))
+    (extensionAt (a .z)) (c .put-number .ensures)
     (c .put-number .kept .0) (omega arith) (omega (arith, first at .pre)))
 
-abbrev step2 : (c : tie.After-put-number2) → Writing (subtypeAt (first (c .before .before .before .before .before .before .before .before) .args .z))
+abbrev step2 : (c : tie.After-put-number2)
+    → Writing (subtypeAt (first (c .before .before .before .before .before .before .before .before) .args .z))
 step2 c =
     let at = c .before .before .before .before .before in
     let from = at .before .before .before in
     packed
-    (lend-sized (step1 at .begun) _ (λ w. be w (c .before .extension-byte .result)) (subtypeAt (first from .args .z)) (c .put-number2 .ensures)
+    (lend-sized (step1 at .begun) _ (λ w. be w (c .before .extension-byte .result))
+    (subtypeAt (first from .args .z)) (c .put-number2 .ensures)
     (c .put-number2 .kept .0) (omega arith)
     (omega (arith, first from .pre)))
 
 abbrev step3 : (c : tie.After-put-number3) → Writing
-    (endAt (first (c .before .before .before .before .before .before .before .before .before .before .before .before .before) .args .z))
+    (endAt
+    (first
+    (c .before .before .before .before .before .before .before .before .before .before .before .before .before) .args .z))
 step3 c =
     let at = c .before .before .before .before .before in
     let from = at .before .before .before .before .before .before .before .before in
     packed
-    (lend-sized (step2 at .begun) _ (λ w. be w (c .before .byte-number .result)) (endAt (first from .args .z)) (c .put-number3 .ensures)
+    (lend-sized (step2 at .begun) _ (λ w. be w (c .before .byte-number .result))
+    (endAt (first from .args .z)) (c .put-number3 .ensures)
     (c .put-number3 .kept .0) (omega arith)
     (omega (arith, first from .pre)))
 
@@ -81,12 +87,17 @@ put-head-spec =
     (λ c κs. search needs)
     (λ c. search needs)
     (λ c. search needs)
-    (λ c. within (step1 (c .before .before) .begun) _ (omega (arith, first (c .before .before .before .before .before) .pre)))
+    (λ c. within (step1 (c .before .before) .begun) _
+    (omega (arith, first (c .before .before .before .before .before) .pre)))
     (λ c κs. search needs)
     (λ c κs. search needs)
     (λ c. search needs)
     (λ c. search needs)
-    (λ c. within (step2 (c .before .before) .begun) _ (omega (arith, first (c .before .before .before .before .before .before .before .before .before .before) .pre)))
+    (λ c. within (step2 (c .before .before) .begun) _
+    (omega (
+      arith,
+      first (c .before .before .before .before .before .before .before .before .before .before) .pre,
+    )))
     (λ c κs. search needs)
     (λ c κs. search needs)
     (λ c. begun-length (step3 (c .before .before) .begun))

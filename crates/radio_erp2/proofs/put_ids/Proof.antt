@@ -17,7 +17,8 @@ abbrev step1 : (c : tie.After-put-number) → Writing (start c .args .z .origina
 step1 c =
     let a = start c .args in
     packed
-    (lend-sized (begin (now (a .out))) _ (λ w. be w (a .t .originator)) (a .z .originator) (c .put-number .ensures) (c .put-number .kept .0)
+    (lend-sized (begin (now (a .out))) _ (λ w. be w (a .t .originator))
+    (a .z .originator) (c .put-number .ensures) (c .put-number .kept .0)
     (omega arith) (omega (arith, start c .pre)))
 
 abbrev step2 : (c : tie.After-put-number2) → Writing
@@ -26,7 +27,8 @@ step2 c =
     let at = c .before .before .before .before .before in
     let a = start at .args in
     packed
-    (lend-sized (step1 at .begun) _ (λ w. be w (c .before .id-number .result)) (a .z .originator + a .z .destination) (c .put-number2 .ensures)
+    (lend-sized (step1 at .begun) _ (λ w. be w (c .before .id-number .result))
+    (a .z .originator + a .z .destination) (c .put-number2 .ensures)
     (c .put-number2 .kept .0) (omega arith)
     (omega (arith, start at .pre)))
 

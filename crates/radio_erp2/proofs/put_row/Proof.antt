@@ -27,44 +27,53 @@ abbrev start : tie.After-put-head → tie.Start
 start c = c .before .before .before .before .before .before .before .before .before .before .before .before
 
 abbrev size : tie.After-put-head → ℕ
-size c = c .before .before .before .before .before .before .before .before .before .before .overhead .result + start c .args .t .len
+size c =
+    c .before .before .before .before .before .before .before .before .before .before .overhead .result
+    + start c .args .t .len
 
 abbrev step1 : (c : tie.After-put-head) → Writing (idsAt (start c .args .z))
 step1 c =
     let a = start c .args in
     packed
-    (lend (begin (now (a .out))) _ (headBytes (a .t) (a .z) (size c)) (idsAt (a .z)) (c .put-head .ensures) (c .put-head .kept .0) (omega arith)
+    (lend (begin (now (a .out))) _ (headBytes (a .t) (a .z) (size c))
+    (idsAt (a .z)) (c .put-head .ensures) (c .put-head .kept .0) (omega arith)
     (omega (arith, start c .pre .room)))
 
 abbrev step2 : (c : tie.After-put-ids) → Writing (dataAt (start (c .before .before .before .before) .args .z))
 step2 c =
     let at = c .before .before .before .before in
     let a = start at .args in
-    packed (lend (step1 at .begun) _ (idBytes (a .t) (a .z)) (dataAt (a .z)) (c .put-ids .ensures) (c .put-ids .kept .0) (omega arith) (omega (arith, start at .pre .room)))
+    packed (lend (step1 at .begun) _ (idBytes (a .t) (a .z)) (dataAt (a .z)) (c .put-ids .ensures)
+    (c .put-ids .kept .0) (omega arith) (omega (arith, start at .pre .room)))
 
 abbrev step3 : (c : tie.After-put-data) → Writing (endAt (start (c .before .before .before .before .before .before .before .before) .args .t) (start (c .before .before .before .before .before .before .before .before) .args .z))
 step3 c =
     let at = c .before .before .before .before in
     let from = at .before .before .before .before in
     let a = start from .args in
-    packed (lend (step2 at .begun) _ (dataBytes (a .t) (a .z)) (endAt (a .t) (a .z)) (c .put-data .ensures) (c .put-data .kept .0) (omega arith) (omega (arith, start from .pre .room)))
+    packed (lend (step2 at .begun) _ (dataBytes (a .t) (a .z)) (endAt (a .t) (a .z)) (c .put-data .ensures)
+    (c .put-data .kept .0) (omega arith) (omega (arith, start from .pre .room)))
 
 size-is : (c : tie.After-put-head) → size c ≡ overhead (start c .args .z) + start c .args .t .len
-size-is c = ap (λ (n : ℕ). n + start c .args .t .len) (c .before .before .before .before .before .before .before .before .before .before .overhead .ensures)
+size-is c =
+    ap (λ (n : ℕ). n + start c .args .t .len)
+    (c .before .before .before .before .before .before .before .before .before .before .overhead .ensures)
 
 returns : tie.Need-returns
 returns c =
     let last = c .before .before .before .before in
     let from = last .before .before .before .before .before .before .before .before in
     let a = start from .args in
-    plain-is (a .t) (a .z) (now (a .out)) _ _ (size from) (endAt (a .t) (a .z)) (size-is from) (row-is (a .t) (a .z) (size from)) (step3 last .begun) (start from .pre .crc) (c .if1 .taken) refl
+    plain-is (a .t) (a .z) (now (a .out)) _ _ (size from) (endAt (a .t) (a .z)) (size-is from)
+    (row-is (a .t) (a .z) (size from)) (step3 last .begun) (start from .pre .crc) (c .if1 .taken) refl
 
 returns-2 : tie.Need-returns-2
 returns-2 c =
     let last = c .before .before .before .before .before .before .before in
     let from = last .before .before .before .before .before .before .before .before in
     let a = start from .args in
-    sealed-is (a .t) (a .z) (now (a .out)) _ _ (size from) (endAt (a .t) (a .z)) (size-is from) (row-is (a .t) (a .z) (size from)) (step3 last .begun) (c .before .before .before .if1 .left)
+    sealed-is (a .t) (a .z) (now (a .out)) _ _ (size from) (endAt (a .t) (a .z)) (size-is from)
+    (row-is (a .t) (a .z) (size from)) (step3 last .begun) (c .before .before .before .if1 .left)
     (omega (arith, start from .pre .room, c .before .before .before .if1 .left)) refl _ (c .crc8 .ensures)
 
 pub put-row-spec : {M : Type 1} → statement M
@@ -91,15 +100,18 @@ put-row-spec =
     (λ c κs.
     let at = c .before .before .before in
     let a = start at .args in
-    lent (step1 at .begun) (a .z .originator + a .z .destination) (dataAt (a .z)) (omega arith) (omega (arith, start at .pre .room)))
+    lent (step1 at .begun) (a .z .originator + a .z .destination)
+    (dataAt (a .z)) (omega arith) (omega (arith, start at .pre .room)))
     (λ c. search needs)
     (λ c. search needs)
-    (λ c. within (step2 (c .before .before) .begun) _ (omega (arith, start (c .before .before .before .before .before .before) .pre .room)))
+    (λ c. within (step2 (c .before .before) .begun) _
+    (omega (arith, start (c .before .before .before .before .before .before) .pre .room)))
     (λ c κs.
     let at = c .before .before .before in
     let from = at .before .before .before .before in
     let a = start from .args in (
-      lent (step2 at .begun) (a .t .len + a .z .optional) (endAt (a .t) (a .z)) (omega arith) (omega (arith, start from .pre .room)),
+      lent (step2 at .begun) (a .t .len + a .z .optional) (endAt (a .t) (a .z))
+          (omega arith) (omega (arith, start from .pre .room)),
       start from .pre .payload,
       start from .pre .optional,
     ))

@@ -20,7 +20,8 @@ fields-requires c κs =
 returns : tie.Need-returns
 returns c =
     let told = c .before .before in
-    read-refused _ _ (told .checked .given .0 .0) (sym (ap checkedNumber (told .checked .given .1)) ∙ told .before .before .check .ensures)
+    read-refused _ _ (told .checked .given .0 .0)
+    (sym (ap checkedNumber (told .checked .given .1)) ∙ told .before .before .check .ensures)
     (c .none .ensures)
 
 returns-2 : tie.Need-returns-2

@@ -45,7 +45,9 @@ returns c =
     let short = take-short (z .originator) 8 (drop (originatorAt z) s) (first .pre .originator) in
     let f : from .read-number .result ≡ unbe (part (originatorAt z) (z .originator) s)
     = from .read-number .ensures
-    ∙ ap unbe (ap (take 8) (part-ends (originatorAt z) (z .originator) s) ∙ take-all 8 (part (originatorAt z) (z .originator) s) short) in
+    ∙ ap unbe
+    (ap (take 8) (part-ends (originatorAt z) (z .originator) s)
+    ∙ take-all 8 (part (originatorAt z) (z .originator) s) short) in
     let i : id .middle .result ≡ unbe (part (destinationAt z) (z .destination) s)
     = id .middle .ensures ∙ ap unbe (part-ends (destinationAt z) (z .destination) s) in
     let p : payload .payload-of .result ≡ padded 250 (part (payloadAt z) (a .n) s)

@@ -27,8 +27,11 @@ returns-2 c =
     let at = c .before .before .before .before .before in
     let s = now (c .before .before .before .before .before .before .before .before .args .s) in
     let l : at .wide .result ≡ lengthByte s = at .wide .ensures .0 in
-    let h : leb (lengthByte s) 6 ≡ false = lt-leb (lengthByte s) 6 (rw l at (c .before .before .before .before .if1 .left)) in
-    rw h (c .long-sizes .ensures ∙ ap (λ (x : Header). longSizes x (getD s 2 0 % 16)) (c .before .before .header-of .ensures))
+    let h : leb (lengthByte s) 6 ≡ false =
+    lt-leb (lengthByte s) 6 (rw l at (c .before .before .before .before .if1 .left)) in
+    rw h
+    (c .long-sizes .ensures
+    ∙ ap (λ (x : Header). longSizes x (getD s 2 0 % 16)) (c .before .before .header-of .ensures))
 
 pub sizes-in-spec : {M : Type 1} → statement M
 sizes-in-spec =
@@ -44,6 +47,11 @@ sizes-in-spec =
     (λ c κs. search needs)
     (λ c.
     let l = c .before .before .before .before .wide .ensures .0 in
-    omega (arith, c .before .before .before .before .before .before .before .pre .long, l, c .before .before .before .if1 .left))
+    omega (
+      arith,
+      c .before .before .before .before .before .before .before .pre .long,
+      l,
+      c .before .before .before .if1 .left,
+    ))
     (λ c κs. search needs)
     returns-2)

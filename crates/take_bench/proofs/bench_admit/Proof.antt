@@ -14,10 +14,12 @@ record Admitting (cells : List ℕ) (i-end i : ℕ) : Type 0 where
   few : length cells / 32 < 2 ^ 64
 
 abbrev Inv-loop : tie.InvT-loop
-Inv-loop cells times₀ lens₀ entries₀ copies₀ summary₀ figure₀ i₀ i-end times lens entries copies summary figure i = Admitting cells i-end i
+Inv-loop cells times₀ lens₀ entries₀ copies₀ summary₀ figure₀ i₀ i-end times lens entries copies summary figure i =
+    Admitting cells i-end i
 
 abbrev μ-loop : tie.MeasureT-loop
-μ-loop cells times₀ lens₀ entries₀ copies₀ summary₀ figure₀ i₀ i-end times lens entries copies summary figure i = length cells / 32 - i
+μ-loop cells times₀ lens₀ entries₀ copies₀ summary₀ figure₀ i₀ i-end times lens entries copies summary figure i =
+    length cells / 32 - i
 
 -- in the turn that ends
 abbrev turn : tie.After-wrapping-add-u64 Inv-loop μ-loop → tie.In-loop Inv-loop μ-loop

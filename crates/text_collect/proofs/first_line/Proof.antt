@@ -17,7 +17,8 @@ returns c =
 returns-2 : tie.Need-returns-2
 returns-2 c =
     let s = c .before .before .before .before .before .before .before in
-    none-taken (now (s .args .input)) (now (s .args .out)) (c .before .start2 .ensures) (c .nothing2 .ensures) (λ h. absurd (omega arith))
+    none-taken (now (s .args .input)) (now (s .args .out)) (c .before .start2 .ensures)
+    (c .nothing2 .ensures) (λ h. absurd (omega arith))
 
 returns-3 : tie.Need-returns-3
 returns-3 c =
@@ -28,7 +29,9 @@ returns-3 c =
     let k = rw (p .parse-setting .ensures) at (w .put-first .ensures) in
     record {
       within = omega arith;
-      fed = rw (c .begin .ensures, p .parse-setting .ensures) (one-line starting input (g .find .ensures .0) (omega arith) k (omega arith));
+      fed =
+          rw (c .begin .ensures, p .parse-setting .ensures)
+          (one-line starting input (g .find .ensures .0) (omega arith) k (omega arith));
       rest = λ e. absurd (omega arith);
     }
 

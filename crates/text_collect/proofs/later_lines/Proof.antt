@@ -8,13 +8,18 @@ use Rattle.text_collect.proofs.later_lines.Tie as tie
 
 -- the numbers of a state have 64 bits by their types, and its counts 16
 numbers : (c : tie.Start) → Fits (viewOf (c .args .c))
-numbers c = state-fits (c .args .c) (search needs) (search needs) (small 64 (c .args .c .copies) _ (c .good .1 .0 .1 .1 .1 .1 .1 .0))
+numbers c =
+    state-fits (c .args .c) (search needs) (search needs)
+    (small 64 (c .args .c .copies) _ (c .good .1 .0 .1 .1 .1 .1 .1 .0))
 
 merge-lines-requires : tie.Need-merge-lines-requires
 unfolding viewOf
 merge-lines-requires c κs =
     let a = c .before .before .before .before .before in
-    record { said = a .is-acceptable .ensures _; fits = numbers (a .before .before .before .before .before .before .before .before .before .before .before) }
+    record {
+      said = a .is-acceptable .ensures _;
+      fits = numbers (a .before .before .before .before .before .before .before .before .before .before .before);
+    }
 
 returns : tie.Need-returns
 unfolding viewOf

@@ -33,7 +33,8 @@ use Rattle.text_collect.proofs.Storing.{rows-line, bad-next, bad-text, 
 use Rattle.text_collect.proofs.merge_lines.Statement.{statement}
 use Rattle.text_collect.proofs.merge_lines.Tie as tie
 
-record Merging (fit : Bool) (setting : ℕ) (v₀ : View) (input out₀ : List ℕ) (v : View) (out : List ℕ) (at to : ℕ) : Type 0 where
+record Merging (fit : Bool) (setting : ℕ) (v₀ : View) (input out₀ : List ℕ)
+    (v : View) (out : List ℕ) (at to : ℕ) : Type 0 where
   inside : at ≤ length input
   room : to ≤ length out
   long : length out ≡ length out₀
@@ -41,11 +42,15 @@ record Merging (fit : Bool) (setting : ℕ) (v₀ : View) (input out₀ : List �
   fed : Fed (collect modelCollector) (runningAt setting v₀) (take at input) out₀ (runningAt setting v) out to
 
 abbrev Inv-loop : tie.InvT-loop
-Inv-loop fit setting times₀ lens₀ entries₀ copies₀ input out₀ summary₀ bytes₀ at₀ to₀ times lens entries copies out summary bytes at to =
-    Merging fit setting (viewIn (columns times₀ lens₀ entries₀ copies₀) summary₀) input out₀ (viewIn (columns times lens entries copies) summary) out at to
+Inv-loop fit setting times₀ lens₀ entries₀ copies₀ input out₀ summary₀
+    bytes₀ at₀ to₀ times lens entries copies out summary bytes at to =
+    Merging fit setting (viewIn (columns times₀ lens₀ entries₀ copies₀) summary₀) input out₀
+    (viewIn (columns times lens entries copies) summary) out at to
 
 abbrev μ-loop : tie.MeasureT-loop
-μ-loop fit setting times₀ lens₀ entries₀ copies₀ input out₀ summary₀ bytes₀ at₀ to₀ times lens entries copies out summary bytes at to = length input - at
+μ-loop fit setting times₀ lens₀ entries₀ copies₀ input out₀ summary₀
+    bytes₀ at₀ to₀ times lens entries copies out summary bytes at to =
+    length input - at
 
 loop-holds : tie.Need-loop-holds Inv-loop μ-loop
 loop-holds c = record {
@@ -74,11 +79,13 @@ abbrev read : tie.Else1 Inv-loop μ-loop → tie.After-parse Inv-loop μ-loop
 read e = e .before .before
 
 ended : (e : tie.Else1 Inv-loop μ-loop)
-    → (indexOf newline (drop (turn (read e) .loop .at) (input (turn (read e)))) < length (drop (turn (read e) .loop .at) (input (turn (read e)))))
+    → (indexOf newline (drop (turn (read e) .loop .at) (input (turn (read e))))
+    < length (drop (turn (read e) .loop .at) (input (turn (read e)))))
     × (read e .parse .result .used ≡ indexOf newline (drop (turn (read e) .loop .at) (input (turn (read e)))) + 1)
 ended e = said-ended _ (answer (read e)) (e .if1 .left)
 
-within : (e : tie.Else1 Inv-loop μ-loop) → turn (read e) .loop .at + read e .parse .result .used ≤ length (input (turn (read e)))
+within : (e : tie.Else1 Inv-loop μ-loop)
+    → turn (read e) .loop .at + read e .parse .result .used ≤ length (input (turn (read e)))
 within e =
     let l = turn (read e) in
     omega (arith, ended e .0, ended e .1, length-drop (l .loop .at) (input l), l .loop .inv .inside)
@@ -106,7 +113,9 @@ loop-again c =
       room = omega arith;
       long = omega arith;
       tested = l .loop .inv .tested;
-      fed = rows-line (collect modelCollector) (bounded modelCollector) (input l) (l .loop .at) (read e .parse .result .used) (l .loop .inv .fed) (ended e) (l .loop .inv .inside)
+      fed =
+          rows-line (collect modelCollector) (bounded modelCollector) (input l) (l .loop .at)
+          (read e .parse .result .used) (l .loop .inv .fed) (ended e) (l .loop .inv .inside)
           (omega arith) (bad-text _ _ b) (bad-next _ _ b) w;
     }
 
@@ -127,7 +136,8 @@ rest c = drop (here c .loop .at) (input (here c))
 abbrev bytes : tie.Else2 Inv-loop μ-loop → List ℕ
 bytes c = take (parsed c .parse .result .len) (parsed c .parse .last .1 .0)
 
-says : (c : tie.Else2 Inv-loop μ-loop) → lineReading (lineAt (input (here c)) (here c .loop .at)) ≡ reception (parsed c .parse .result .time) (bytes c)
+says : (c : tie.Else2 Inv-loop μ-loop)
+    → lineReading (lineAt (input (here c)) (here c .loop .at)) ≡ reception (parsed c .parse .result .time) (bytes c)
 says c = said-reception _ (answer (parsed c)) (not-false _ (c .if2 .left))
 
 long : (c : tie.Else2 Inv-loop μ-loop) → length (bytes c) ≡ parsed c .parse .result .len
@@ -160,13 +170,16 @@ abbrev reading : tie.After-put-answer-arg Inv-loop μ-loop → tie.Else2 Inv-loo
 reading c = c .before .before .before .before .before .before .before .before .before
 
 time : (c : tie.After-put-answer-arg Inv-loop μ-loop)
-    → take (here (reading c) .loop .at + parsed (reading c) .parse .result .used - (2 * parsed (reading c) .parse .result .len + 2) - here (reading c) .loop .at) (rest (reading c))
+    → take (here (reading c) .loop .at + parsed (reading c) .parse .result .used
+    - (2 * parsed (reading c) .parse .result .len + 2) - here (reading c) .loop .at)
+    (rest (reading c))
     ≡ decimalText (parsed (reading c) .parse .result .time)
 time c =
     let i = reading c in
     let e = ended (passed i) in
     let k = indexOf newline (rest i) in
-    let n : here i .loop .at + parsed i .parse .result .used - (2 * parsed i .parse .result .len + 2) - here i .loop .at ≡ k - (2 * length (bytes i) + 1) =
+    let n : here i .loop .at + parsed i .parse .result .used - (2 * parsed i .parse .result .len + 2) - here i .loop .at
+    ≡ k - (2 * length (bytes i) + 1) =
     omega (arith, e .1, long i, spare i)
     in
     rw n (time-text (rest i) k (omega (arith, e .0)) (said _ (says i)))
@@ -190,8 +203,17 @@ put-answer-requires c κs =
     let i = reading (c .before .before .before) in
     let e = ended (passed i) in
     let k = indexOf newline (rest i) in
-    let n = here i .loop .at + parsed i .parse .result .used - (2 * parsed i .parse .result .len + 2) - here i .loop .at in
-    (omega (arith, length-take n (rest i), e .1, long i, time-short (rest i) k (omega (arith, e .0)) (said _ (says i))), omega arith)
+    let n =
+    here i .loop .at + parsed i .parse .result .used - (2 * parsed i .parse .result .len + 2) - here i .loop .at in (
+      omega (
+        arith,
+        length-take n (rest i),
+        e .1,
+        long i,
+        time-short (rest i) k (omega (arith, e .0)) (said _ (says i)),
+      ),
+      omega arith,
+    )
 
 loop-less-2 : tie.Need-loop-less-2 Inv-loop μ-loop
 loop-less-2 c =
@@ -211,16 +233,25 @@ loop-again-2 c =
     let w = rw z at (q .put-answer .ensures) in
     let same = same-length w in
     let spare-out = parsed i .before .before .before .loop-test .taken in
-    let x = admittedOf (columns (a .admit .last .1 .0) (a .admit .last .1 .1 .0) (a .admit .last .1 .1 .1 .0) (a .admit .last .1 .1 .1 .1 .0)) (a .admit .result) in
+    let x =
+    admittedOf (columns (a .admit .last .1 .0) (a .admit .last .1 .1 .0)
+    (a .admit .last .1 .1 .1 .0) (a .admit .last .1 .1 .1 .1 .0))
+    (a .admit .result) in
     record {
       inside = within (passed i);
       room = omega (arith, w .short, same, spare-out);
       long = omega (arith, same, l .loop .inv .long);
-      tested = rw (← o) at (tested-next _ (record { bytes = bytes i; time = parsed i .parse .result .time }) (l .loop .inv .tested) small);
-      fed = rows-line (collect modelCollector) (bounded modelCollector) (input l) (l .loop .at) (parsed i .parse .result .used) (l .loop .inv .fed) (ended (passed i)) (l .loop .inv .inside)
+      tested =
+          rw (← o) at
+          (tested-next _ (record { bytes = bytes i; time = parsed i .parse .result .time })
+          (l .loop .inv .tested) small);
+      fed =
+          rows-line (collect modelCollector) (bounded modelCollector) (input l) (l .loop .at)
+          (parsed i .parse .result .used) (l .loop .inv .fed) (ended (passed i)) (l .loop .inv .inside)
           (omega (arith, w .short, same, spare-out, l .loop .inv .long))
           (said-text _ _ x (says i) o (time g)
-          (relayed-bytes _ _ _ (record { bytes = bytes i; time = parsed i .parse .result .time }) _ (ap (λ (y : Outcome). y .answer) (rw z at (a .admit .ensures .outcome)))))
+          (relayed-bytes _ _ _ (record { bytes = bytes i; time = parsed i .parse .result .time }) _
+          (ap (λ (y : Outcome). y .answer) (rw z at (a .admit .ensures .outcome)))))
           (said-next _ _ x (says i) o) w;
     }
 
@@ -240,7 +271,9 @@ returns-2 c =
     record {
       within = l .loop .inv .inside;
       fed = l .loop .inv .fed;
-      rest = λ e h. open-from-start (input l) (l .loop .at) e (open-whole (drop (l .loop .at) (input l)) (said-open _ (answer p) (c .if1 .taken)));
+      rest =
+          λ e h. open-from-start (input l) (l .loop .at) e
+          (open-whole (drop (l .loop .at) (input l)) (said-open _ (answer p) (c .if1 .taken)));
     }
 
 pub merge-lines-spec : {M : Type 1} → statement M

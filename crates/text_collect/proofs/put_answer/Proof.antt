@@ -25,11 +25,15 @@ sent c =
 short : (c : tie.After-relay-kept) → length (sent c) ≤ 21
 short c = relayed-fits _ _ _
 
-front : (c : tie.After-relay-kept) → (c .relay-kept .result ≡ length (sent c)) × (take (c .relay-kept .result) (c .relay-kept .last .1 .1 .1 .0) ≡ sent c)
+front : (c : tie.After-relay-kept)
+    → (c .relay-kept .result ≡ length (sent c))
+    × (take (c .relay-kept .result) (c .relay-kept .last .1 .1 .1 .0) ≡ sent c)
 front c = sent-front (sent c) (replicate 21 0) (c .relay-kept .ensures)
 
 full : (c : tie.After-relay-kept) → length (c .relay-kept .last .1 .1 .1 .0) ≡ 21
-full c = ap (λ (r : Result). length (r .output)) (c .relay-kept .ensures) ∙ written-length (sent c) (replicate 21 0) (short c)
+full c =
+    ap (λ (r : Result). length (r .output)) (c .relay-kept .ensures)
+    ∙ written-length (sent c) (replicate 21 0) (short c)
 
 part-put-row-end : tie.Need-part-put-row-end
 part-put-row-end c =
@@ -42,7 +46,9 @@ returns c =
     let r = q .before .before .before in
     let k = r .before .before in
     let z : k .relay-kept .result - 0 ≡ k .relay-kept .result = omega arith in
-    let w = rw (r .row-of .ensures, z, front k .1) at (if-fits (omega (arith, front k .0, short k)) (q .put-row .ensures)) in
+    let w =
+    rw (r .row-of .ensures, z, front k .1) at
+    (if-fits (omega (arith, front k .0, short k)) (q .put-row .ensures)) in
     loosened w (omega (arith, short k))
 
 pub put-answer-spec : {M : Type 1} → statement M

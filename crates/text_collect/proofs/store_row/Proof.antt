@@ -56,7 +56,8 @@ returns-2 c =
 returns-3 : tie.Need-returns-3
 returns-3 c =
     let s = c .before .before .before .before .before in
-    rw (c .enum-told2 .given .1) (printed-none (now (s .args .moments)) (s .args .n) 1, printed-none (now (s .args .rows)) (23 * s .args .n) 23)
+    rw (c .enum-told2 .given .1)
+    (printed-none (now (s .args .moments)) (s .args .n) 1, printed-none (now (s .args .rows)) (23 * s .args .n) 23)
 
 same-length-3 : tie.Need-same-length-3
 same-length-3 c = search needs
@@ -74,7 +75,8 @@ returns-4 c =
 returns-5 : tie.Need-returns-5
 returns-5 c =
     let s = c .before .before .before .before .before in
-    rw (c .enum-told4 .given .1) (printed-none (now (s .args .moments)) (s .args .n) 1, printed-none (now (s .args .rows)) (23 * s .args .n) 23)
+    rw (c .enum-told4 .given .1)
+    (printed-none (now (s .args .moments)) (s .args .n) 1, printed-none (now (s .args .rows)) (23 * s .args .n) 23)
 
 pub store-row-spec : {M : Type 1} → statement M
 store-row-spec =

@@ -37,7 +37,8 @@ use Rattle.text_collect.proofs.take_rows.Statement.{statement}
 use Rattle.text_collect.proofs.take_rows.Tie as tie
 
 abbrev Inv-loop : tie.InvT-loop
-Inv-loop fit setting times₀ lens₀ entries₀ copies₀ input most out₀ moments₀ rows₀ summary₀ bytes₀ at₀ to₀ n₀ left₀ times lens entries copies out moments rows summary bytes at to n left =
+Inv-loop fit setting times₀ lens₀ entries₀ copies₀ input most out₀ moments₀ rows₀ summary₀ bytes₀
+    at₀ to₀ n₀ left₀ times lens entries copies out moments rows summary bytes at to n left =
     Taken (collect modelCollector)
     (Roomy (runningAt setting (viewIn (columns times₀ lens₀ entries₀ copies₀) summary₀)) out₀ moments₀)
     false fit setting input most
@@ -47,14 +48,16 @@ Inv-loop fit setting times₀ lens₀ entries₀ copies₀ input most out₀ mom
     out moments rows [] at to n 0 left
 
 abbrev μ-loop : tie.MeasureT-loop
-μ-loop fit setting times₀ lens₀ entries₀ copies₀ input most out₀ moments₀ rows₀ summary₀ bytes₀ at₀ to₀ n₀ left₀ times lens entries copies out moments rows summary bytes at to n left =
+μ-loop fit setting times₀ lens₀ entries₀ copies₀ input most out₀ moments₀ rows₀ summary₀ bytes₀
+    at₀ to₀ n₀ left₀ times lens entries copies out moments rows summary bytes at to n left =
     length input - at
 
 loop-holds : tie.Need-loop-holds Inv-loop μ-loop
 loop-holds c =
     let s = c .before .before .before .before in
     let a = s .args in
-    none-taken (collect modelCollector) (bounded modelCollector) false (now (a .input)) (a .most) (now (a .out)) (s .pre .0) (s .pre .1)
+    none-taken (collect modelCollector) (bounded modelCollector) false
+    (now (a .input)) (a .most) (now (a .out)) (s .pre .0) (s .pre .1)
 
 -- ---- the line that was read
 
@@ -78,11 +81,13 @@ abbrev read : tie.Else3 Inv-loop μ-loop → tie.After-parse Inv-loop μ-loop
 read e = e .before .before
 
 ended : (e : tie.Else3 Inv-loop μ-loop)
-    → (indexOf newline (drop (turn (read e) .loop .at) (input (turn (read e)))) < length (drop (turn (read e) .loop .at) (input (turn (read e)))))
+    → (indexOf newline (drop (turn (read e) .loop .at) (input (turn (read e))))
+    < length (drop (turn (read e) .loop .at) (input (turn (read e)))))
     × (read e .parse .result .used ≡ indexOf newline (drop (turn (read e) .loop .at) (input (turn (read e)))) + 1)
 ended e = said-ended _ (answer (read e)) (e .if3 .left)
 
-within : (e : tie.Else3 Inv-loop μ-loop) → turn (read e) .loop .at + read e .parse .result .used ≤ length (input (turn (read e)))
+within : (e : tie.Else3 Inv-loop μ-loop)
+    → turn (read e) .loop .at + read e .parse .result .used ≤ length (input (turn (read e)))
 within e =
     let l = turn (read e) in
     omega (arith, ended e .0, ended e .1, length-drop (l .loop .at) (input l), l .loop .inv .inside)
@@ -132,7 +137,8 @@ rest c = drop (here c .loop .at) (input (here c))
 abbrev bytes : tie.Else4 Inv-loop μ-loop → List ℕ
 bytes c = take (parsed c .parse .result .len) (parsed c .parse .last .1 .0)
 
-says : (c : tie.Else4 Inv-loop μ-loop) → lineReading (lineAt (input (here c)) (here c .loop .at)) ≡ reception (parsed c .parse .result .time) (bytes c)
+says : (c : tie.Else4 Inv-loop μ-loop)
+    → lineReading (lineAt (input (here c)) (here c .loop .at)) ≡ reception (parsed c .parse .result .time) (bytes c)
 says c = said-reception _ (answer (parsed c)) (not-false _ (c .if4 .left))
 
 long : (c : tie.Else4 Inv-loop μ-loop) → length (bytes c) ≡ parsed c .parse .result .len
@@ -162,16 +168,20 @@ part-admit-end c =
 
 -- the text of its time
 abbrev reading : tie.After-put-answer-arg Inv-loop μ-loop → tie.Else4 Inv-loop μ-loop
-reading c = c .before .before .before .before .before .before .before .before .before .before .before .before .before .before .before .before .before
+reading c =
+    c .before .before .before .before .before .before .before .before .before .before .before .before .before .before .before .before .before
 
 time : (c : tie.After-put-answer-arg Inv-loop μ-loop)
-    → take (here (reading c) .loop .at + parsed (reading c) .parse .result .used - (2 + 2 * parsed (reading c) .parse .result .len) - here (reading c) .loop .at) (rest (reading c))
+    → take (here (reading c) .loop .at + parsed (reading c) .parse .result .used
+    - (2 + 2 * parsed (reading c) .parse .result .len) - here (reading c) .loop .at)
+    (rest (reading c))
     ≡ decimalText (parsed (reading c) .parse .result .time)
 time c =
     let i = reading c in
     let e = ended (passed i) in
     let k = indexOf newline (rest i) in
-    let n : here i .loop .at + parsed i .parse .result .used - (2 + 2 * parsed i .parse .result .len) - here i .loop .at ≡ k - (2 * length (bytes i) + 1) =
+    let n : here i .loop .at + parsed i .parse .result .used - (2 + 2 * parsed i .parse .result .len) - here i .loop .at
+    ≡ k - (2 * length (bytes i) + 1) =
     omega (arith, e .1, long i, spare i)
     in
     rw n (time-text (rest i) k (omega (arith, e .0)) (said _ (says i)))
@@ -195,8 +205,17 @@ put-answer-requires c κs =
     let i = reading (c .before .before .before) in
     let e = ended (passed i) in
     let k = indexOf newline (rest i) in
-    let n = here i .loop .at + parsed i .parse .result .used - (2 + 2 * parsed i .parse .result .len) - here i .loop .at in
-    (omega (arith, length-take n (rest i), e .1, long i, time-short (rest i) k (omega (arith, e .0)) (said _ (says i))), omega arith)
+    let n =
+    here i .loop .at + parsed i .parse .result .used - (2 + 2 * parsed i .parse .result .len) - here i .loop .at in (
+      omega (
+        arith,
+        length-take n (rest i),
+        e .1,
+        long i,
+        time-short (rest i) k (omega (arith, e .0)) (said _ (says i)),
+      ),
+      omega arith,
+    )
 
 loop-less-2 : tie.Need-loop-less-2 Inv-loop μ-loop
 loop-less-2 c =
@@ -216,7 +235,10 @@ loop-again-2 c =
     let small : parsed i .parse .result .time < 2 ^ 64 = search needs in
     let w = rw z at (q .put-answer .ensures) in
     let spare-out = parsed i .before .before .before .before .before .loop-test .taken in
-    let x = admittedOf (columns (a .admit .last .1 .0) (a .admit .last .1 .1 .0) (a .admit .last .1 .1 .1 .0) (a .admit .last .1 .1 .1 .1 .0)) (a .admit .result) in
+    let x =
+    admittedOf (columns (a .admit .last .1 .0) (a .admit .last .1 .1 .0)
+    (a .admit .last .1 .1 .1 .0) (a .admit .last .1 .1 .1 .1 .0))
+    (a .admit .result) in
     let r : Reception = record { bytes = bytes i; time = parsed i .parse .result .time } in
     let inv = l .loop .inv in
     let free = parsed i .before .before .before .if2 .left in
@@ -229,7 +251,9 @@ loop-again-2 c =
     x (says i) o
     (rw z at (a .admit .ensures .elements) ∙ columns-fit _ r _ _ (l .loop .inv .tested .said))
     (rw (← o) at (tested-next _ r (l .loop .inv .tested) small))
-    (said-text _ _ x (says i) o (time g) (relayed-bytes _ _ _ r _ (ap (λ (y : Outcome). y .answer) (rw z at (a .admit .ensures .outcome))))) w
+    (said-text _ _ x (says i) o (time g)
+    (relayed-bytes _ _ _ r _ (ap (λ (y : Outcome). y .answer) (rw z at (a .admit .ensures .outcome)))))
+    w
     (omega (arith, w .short, spare-out)) free (d .0) (d .1) (printed-none [] 0 2048) (omega arith)
 
 store-row-requires : tie.Need-store-row-requires Inv-loop μ-loop
@@ -243,8 +267,10 @@ store-row-requires c κs =
       few i,
     )
 
-ended-there : (c : tie.Left-loop Inv-loop μ-loop) → (let l = c .before .loop in let s = c .before .before .before .before .before .before .args in
-    s .most - l .left < s .most → l .n < length (now (s .moments)) → l .to + 92 ≤ length (now (s .out)) → isUnended (drop (l .at) (now (s .input))) ≡ true)
+ended-there : (c : tie.Left-loop Inv-loop μ-loop)
+    → (let l = c .before .loop in let s = c .before .before .before .before .before .before .args in
+    s .most - l .left < s .most → l .n < length (now (s .moments))
+    → l .to + 92 ≤ length (now (s .out)) → isUnended (drop (l .at) (now (s .input))) ≡ true)
 ended-there c x y z =
     let i = c .before .loop .inv in
     ⊎-elim (λ w. absurd (omega (arith, w .left, i .long)))
@@ -254,7 +280,11 @@ ended-there c x y z =
     let p : tie.After-parse Inv-loop μ-loop = record {
       before = record {
         before = record {
-          before = record { before = record { before = record { before = c .before; loop-test = w .0 }; if1 = w .1 }; if2 = w .2 };
+          before =
+              record {
+                before = record { before = record { before = c .before; loop-test = w .0 }; if1 = w .1 };
+                if2 = w .2;
+              };
           parse-arg = w .3;
         };
         bytes = w .4;

@@ -29,21 +29,29 @@ abbrev μ-loop : tie.MeasureT-loop
 μ-loop input buffer₀ out₀ s₀ kept₀ left₀ buffer out s kept left = left
 
 loop-holds : tie.Need-loop-holds Inv-loop μ-loop
-loop-holds c = record { few = omega arith; bufferLong = sym (c .before .before .chunk-buffer .ensures); outLong = sym (c .before .text-buffer .ensures) }
+loop-holds c =
+    record {
+      few = omega arith;
+      bufferLong = sym (c .before .before .chunk-buffer .ensures);
+      outLong = sym (c .before .text-buffer .ensures);
+    }
 
 -- ---- what the calls leave
 
-same-buffer : {s : Phase Receiver} {text buffer out buffer' out' : List ℕ} {last : Bool} {r : Turn} → SteppedOver s text buffer last out buffer' out' r
+same-buffer : {s : Phase Receiver} {text buffer out buffer' out' : List ℕ} {last : Bool} {r : Turn}
+    → SteppedOver s text buffer last out buffer' out' r
     → length buffer' ≡ length buffer
 same-buffer {s} {text} {buffer} k = ap length (k .line) ∙ length-sets buffer 0 (positionAfter s text .line)
 
 abbrev turn : tie.After-read Inv-loop μ-loop → tie.At-loop Inv-loop μ-loop
 turn c = c .before .before .before .before
 
-buffer-long : (c : tie.After-read Inv-loop μ-loop) → (let l = turn c .loop in length (putMid (l .kept) (16384 - l .kept) (l .buffer) (c .read .last .1 .0)) ≡ chunk)
+buffer-long : (c : tie.After-read Inv-loop μ-loop)
+    → (let l = turn c .loop in length (putMid (l .kept) (16384 - l .kept) (l .buffer) (c .read .last .1 .0)) ≡ chunk)
 buffer-long c =
     let l = turn c .loop in
-    same-len-mid (l .kept) (16384 - l .kept) (l .buffer) (c .read .last .1 .0) (c .read .kept .1 .0) ∙ l .inv .bufferLong
+    same-len-mid (l .kept) (16384 - l .kept) (l .buffer) (c .read .last .1 .0) (c .read .kept .1 .0)
+    ∙ l .inv .bufferLong
 
 abbrev reading : tie.After-step Inv-loop μ-loop → tie.After-read Inv-loop μ-loop
 reading c = c .before .before .before .before .before .before .before .before .before
@@ -64,7 +72,13 @@ add-step c =
     let n = c .before .before in
     let r = n .before .before .before .before .before in
     let l = turn r .loop in
-    omega (arith, n .count .ensures .0 .0, r .read .kept .1 .0, length-take (16384 - l .kept) (drop (l .kept) (l .buffer)), l .inv .few)
+    omega (
+      arith,
+      n .count .ensures .0 .0,
+      r .read .kept .1 .0,
+      length-take (16384 - l .kept) (drop (l .kept) (l .buffer)),
+      l .inv .few,
+    )
 
 part-write-all-end : tie.Need-part-write-all-end Inv-loop μ-loop
 part-write-all-end c =

@@ -19,19 +19,31 @@ too-large : tie.Need-returns-3
 unfolding appended
 too-large c =
     let a = c .before .before .before .args in
-    simp (le-leb 48 _ (c .before .before .if1 .left), lt-ltb (a .c) 58 (omega arith), le-ltb (a .n * 10 + (a .c - 48)) (2 ^ 64) (omega arith))
+    simp (
+      le-leb 48 _ (c .before .before .if1 .left),
+      lt-ltb (a .c) 58 (omega arith),
+      le-ltb (a .n * 10 + (a .c - 48)) (2 ^ 64) (omega arith),
+    )
 
 too-large-sum : tie.Need-returns-4
 unfolding appended
 too-large-sum c =
     let a = c .before .before .before .before .args in
-    simp (le-leb 48 _ (c .before .before .before .if1 .left), lt-ltb (a .c) 58 (omega arith), le-ltb (a .n * 10 + (a .c - 48)) (2 ^ 64) (omega arith))
+    simp (
+      le-leb 48 _ (c .before .before .before .if1 .left),
+      lt-ltb (a .c) 58 (omega arith),
+      le-ltb (a .n * 10 + (a .c - 48)) (2 ^ 64) (omega arith),
+    )
 
 appends : tie.Need-returns-5
 unfolding appended
 appends c =
     let a = c .before .before .before .before .args in
-    simp (le-leb 48 _ (c .before .before .before .if1 .left), lt-ltb (a .c) 58 (omega arith), lt-ltb (a .n * 10 + (a .c - 48)) (2 ^ 64) (omega arith))
+    simp (
+      le-leb 48 _ (c .before .before .before .if1 .left),
+      lt-ltb (a .c) 58 (omega arith),
+      lt-ltb (a .n * 10 + (a .c - 48)) (2 ^ 64) (omega arith),
+    )
 
 pub append-spec : {M : Type 1} → statement M
 append-spec =

@@ -34,8 +34,11 @@ loop-again c =
     record {
       few = omega arith;
       long = simp length-set (l .inv .long);
-      inside = filled-from (λ j. getD (now (a .src)) (a .from + j) 0) (l .dst) (a .to) (l .k) _ fits (l .inv .inside) refl;
-      outside = λ j h. getD-set-other (l .dst) (a .to + l .k) j _ 0 (λ z. h (omega arith) (omega arith)) ∙ l .inv .outside j h;
+      inside =
+          filled-from (λ j. getD (now (a .src)) (a .from + j) 0) (l .dst) (a .to) (l .k) _ fits (l .inv .inside) refl;
+      outside =
+          λ j h. getD-set-other (l .dst) (a .to + l .k) j _ 0 (λ z. h (omega arith) (omega arith))
+          ∙ l .inv .outside j h;
     }
 
 same-length : tie.Need-same-length Inv-loop μ-loop

@@ -35,7 +35,8 @@ returns-3 : tie.Need-returns-3
 returns-3 c = λ e.
     let f = c .before .before in
     let s = f .before .before .before .before .before in
-    decoded-three (s .pre .0) (s .pre .1) (omega arith) (f .before .put-two2 .ensures) (not-false _ (f .if2 .left)) (c .put-two3 .ensures) e
+    decoded-three (s .pre .0) (s .pre .1) (omega arith) (f .before .put-two2 .ensures)
+    (not-false _ (f .if2 .left)) (c .put-two3 .ensures) e
 
 pub decode-at-once-spec : {M : Type 1} → statement M
 decode-at-once-spec =

@@ -48,7 +48,8 @@ loop-again c =
       pairs = inv .pairs;
       long = simp length-set (inv .long);
       rest =
-          left-next (inv .rest) (omega arith) (omega arith) (c .before .before .before .nibble .ensures) (c .before .nibble2 .ensures)
+          left-next (inv .rest) (omega arith) (omega arith)
+          (c .before .before .before .nibble .ensures) (c .before .nibble2 .ensures)
           (c .if1 .left);
     }
 
@@ -58,7 +59,8 @@ returns c = decoded-all (c .before .loop .inv .rest) (omega arith)
 stopped : tie.Need-returns-2 Inv-loop μ-loop
 stopped c =
     let l = c .before .before .before .before .before .before .loop in
-    decoded-front (l .inv .rest) (omega arith) (omega arith) (c .before .before .before .nibble .ensures) (c .before .nibble2 .ensures) (c .if1 .taken)
+    decoded-front (l .inv .rest) (omega arith) (omega arith)
+    (c .before .before .before .nibble .ensures) (c .before .nibble2 .ensures) (c .if1 .taken)
 
 pub decode-pairs-spec : {M : Type 1} → statement M
 decode-pairs-spec =

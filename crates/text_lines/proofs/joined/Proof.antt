@@ -30,7 +30,9 @@ loop-again c =
     record {
       few = omega arith;
       long = simp length-set (l .inv .long);
-      values = filled-next (λ j. getD v (2 * j) 0 % 16 * 16 + getD v (2 * j + 1) 0 % 16) (l .b) (l .k) _ (omega arith) (l .inv .values) refl;
+      values =
+          filled-next (λ j. getD v (2 * j) 0 % 16 * 16 + getD v (2 * j + 1) 0 % 16)
+          (l .b) (l .k) _ (omega arith) (l .inv .values) refl;
     }
 
 returns : tie.Need-returns Inv-loop μ-loop

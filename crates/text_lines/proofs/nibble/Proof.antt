@@ -26,7 +26,8 @@ upper-fits c = omega (arith, from 65 6 (c .before .before .args .c) (c .if2 .tak
 
 upper : tie.Need-returns-2
 unfolding nibbleOf
-upper c = rw (c .before .if1 .left, c .if2 .taken) (omega (arith, from 65 6 (c .before .before .args .c) (c .if2 .taken)))
+upper c =
+    rw (c .before .if1 .left, c .if2 .taken) (omega (arith, from 65 6 (c .before .before .args .c) (c .if2 .taken)))
 
 lower-fits : tie.Need-sub-result-3
 lower-fits c = omega (arith, from 97 6 (c .before .before .before .args .c) (c .if3 .taken))
@@ -34,7 +35,8 @@ lower-fits c = omega (arith, from 97 6 (c .before .before .before .args .c) (c .
 lower : tie.Need-returns-3
 unfolding nibbleOf
 lower c =
-    rw (c .before .before .if1 .left, c .before .if2 .left, c .if3 .taken) (omega (arith, from 97 6 (c .before .before .before .args .c) (c .if3 .taken)))
+    rw (c .before .before .if1 .left, c .before .if2 .left, c .if3 .taken)
+    (omega (arith, from 97 6 (c .before .before .before .args .c) (c .if3 .taken)))
 
 other : tie.Need-returns-4
 unfolding nibbleOf

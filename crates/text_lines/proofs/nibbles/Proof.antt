@@ -30,7 +30,9 @@ loop-again c =
     record {
       few = omega arith;
       long = simp length-set (l .inv .long);
-      values = filled-next (λ j. nibbleOf (getD (c .before .before .before .args .t1) j 0)) (l .v) (l .k) _ (omega arith) (l .inv .values) (c .nibble .ensures);
+      values =
+          filled-next (λ j. nibbleOf (getD (c .before .before .before .args .t1) j 0))
+          (l .v) (l .k) _ (omega arith) (l .inv .values) (c .nibble .ensures);
     }
 
 returns : tie.Need-returns Inv-loop μ-loop

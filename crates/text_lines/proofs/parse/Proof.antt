@@ -53,17 +53,20 @@ add-at c = let h = read c in search needs
 untimed : tie.Need-returns
 untimed c =
     let e = c .before .before in
-    answer-bad (no-time _ (sym (e .enum-told .given .1) ∙ e .before .before .parse-time .ensures)) (c .bad-line .ensures)
+    answer-bad (no-time _ (sym (e .enum-told .given .1) ∙ e .before .before .parse-time .ensures))
+    (c .bad-line .ensures)
 
 cut : tie.Need-returns-2
 cut c =
     let d = c .before .before .before in
-    answer-bad (no-end (text (start d)) (timed (start d)) (d .decode .ensures) (c .before .before .if1 .taken)) (c .bad-line2 .ensures)
+    answer-bad (no-end (text (start d)) (timed (start d)) (d .decode .ensures) (c .before .before .if1 .taken))
+    (c .bad-line2 .ensures)
 
 other : tie.Need-returns-3
 other c =
     let d = c .before .before .before .before .before in
-    answer-bad (no-newline (text (start d)) (timed (start d)) (d .decode .ensures) (c .before .before .if2 .taken)) (c .bad-line3 .ensures)
+    answer-bad (no-newline (text (start d)) (timed (start d)) (d .decode .ensures) (c .before .before .if2 .taken))
+    (c .bad-line3 .ensures)
 
 returns : tie.Need-returns-4
 returns c =

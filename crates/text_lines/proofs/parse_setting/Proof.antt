@@ -14,7 +14,10 @@ level1 : tie.Need-returns-2
 unfolding settingOf
 level1 c =
     let d = c .before .before .before in
-    rw (equal-said _ _ _ (d .before .same .ensures) ∙ d .if1 .left, equal-said _ _ _ (c .before .same2 .ensures) ∙ c .if2 .taken)
+    rw (
+      equal-said _ _ _ (d .before .same .ensures) ∙ d .if1 .left,
+      equal-said _ _ _ (c .before .same2 .ensures) ∙ c .if2 .taken,
+    )
 
 level2 : tie.Need-returns-3
 unfolding settingOf

@@ -12,7 +12,8 @@ thirteen-requires : tie.Need-thirteen-requires
 thirteen-requires c κs = c .before .has-thirteen .ensures (c .if2 .taken)
 
 returns : tie.Need-returns
-returns c = rw (c .thirteen .ensures) (timed-thirteen (c .before .before .has-thirteen .ensures (c .before .if2 .taken)))
+returns c =
+    rw (c .thirteen .ensures) (timed-thirteen (c .before .before .has-thirteen .ensures (c .before .if2 .taken)))
 
 read-time-requires : tie.Need-read-time-requires
 read-time-requires c κs = search needs

@@ -56,12 +56,14 @@ nothing c =
 leads-zero : tie.Need-returns-3 Inv-loop μ-loop
 leads-zero c =
     let e = c .before .before .before .before .before in
-    zero-first (l e .loop .inv .begun) (more e) (c .before .before .before .if1 .left) (c .before .before .if2 .left) (c .if3 .taken)
+    zero-first (l e .loop .inv .begun) (more e) (c .before .before .before .if1 .left)
+    (c .before .before .if2 .left) (c .if3 .taken)
 
 reads-time : tie.Need-returns-4 Inv-loop μ-loop
 reads-time c =
     let e = c .before .before .before .before .before in
-    timed (l e .loop .inv .begun) (more e) (c .before .before .before .if1 .left) (c .before .before .if2 .left) (c .if3 .left)
+    timed (l e .loop .inv .begun) (more e) (c .before .before .before .if1 .left)
+    (c .before .before .if2 .left) (c .if3 .left)
 
 loop-again : tie.Need-loop-again Inv-loop μ-loop
 loop-again c =
@@ -69,7 +71,9 @@ loop-again c =
     let l = a .before .before .before in
     record {
       bounded = omega arith;
-      begun = begun-next (l .loop .inv .begun) (a .before .before .loop-test .taken) (sym (a .append .ensures) ∙ c .before .more .given .1);
+      begun =
+          begun-next (l .loop .inv .begun) (a .before .before .loop-test .taken)
+          (sym (a .append .ensures) ∙ c .before .more .given .1);
     }
 
 no-end : tie.Need-returns-5 Inv-loop μ-loop

@@ -62,7 +62,9 @@ loop-again c =
     record {
       few = omega arith;
       below = power-next (l .n) (l .k) _ (l .inv .below) (omega arith);
-      value = rw (l .inv .value) (sym (decimal-next (text (c .before)) (l .k) (omega (arith, c .before .before .before .pre .long))));
+      value =
+          rw (l .inv .value)
+          (sym (decimal-next (text (c .before)) (l .k) (omega (arith, c .before .before .before .pre .long))));
     }
 
 returns : tie.Need-returns Inv-loop μ-loop

@@ -11,13 +11,19 @@ use Rattle.text_print.proofs.finish.Tie as tie
 returns : tie.Need-returns
 returns c =
     let s = c .before .before .before .before .before .before .before in
-    no-line-kept (phaseOf (s .args .s)) (now (s .args .line)) (c .before .before .before .before .if1 .taken) (s .pre .2) (c .before .before .put-end .ensures)
+    no-line-kept (phaseOf (s .args .s)) (now (s .args .line))
+    (c .before .before .before .before .if1 .taken) (s .pre .2) (c .before .before .put-end .ensures)
 
 part-lines-end : tie.Need-part-lines-end
 part-lines-end c =
     let k = c .before .before in
     let line = now (k .before .before .before .before .before .args .line) in
-    omega (arith, k .before .before .before .before .before .pre .0, length-set (k .copy .last .1 .0) (length line) 10, k .copy .kept .1 .0)
+    omega (
+      arith,
+      k .before .before .before .before .before .pre .0,
+      length-set (k .copy .last .1 .0) (length line) 10,
+      k .copy .kept .1 .0,
+    )
 
 returns-2 : tie.Need-returns-2
 returns-2 c =
@@ -27,8 +33,11 @@ returns-2 c =
     let e = k .before .before in
     let s = e .before .before .before in
     let line = now (s .args .line) in
-    let whole = rw (with-newline line _ (k .copy .last .1 .0) (omega (arith, s .pre .0)) (k .copy .ensures .1)) at (l .lines .ensures) in
-    line-kept (phaseOf (s .args .s)) line (l .lines .result) (s .pre .1) (e .if1 .left) (s .pre .2) whole (q .put-end2 .ensures)
+    let whole =
+    rw (with-newline line _ (k .copy .last .1 .0) (omega (arith, s .pre .0)) (k .copy .ensures .1)) at
+    (l .lines .ensures) in
+    line-kept (phaseOf (s .args .s)) line (l .lines .result) (s .pre .1)
+    (e .if1 .left) (s .pre .2) whole (q .put-end2 .ensures)
 
 pub finish-spec : {M : Type 1} → statement M
 finish-spec =

@@ -25,7 +25,8 @@ record Going (write : Bool) (input out₀ out buffer text : List ℕ) (s : Sessi
   outLong : length out ≡ length out₀
 
 abbrev Inv-loop : tie.InvT-loop
-Inv-loop write input out₀ buffer₀ text₀ s₀ at₀ kept₀ to₀ out buffer text s at kept to = Going write input out₀ out buffer text s at kept to
+Inv-loop write input out₀ buffer₀ text₀ s₀ at₀ kept₀ to₀ out buffer text s at kept to =
+    Going write input out₀ out buffer text s at kept to
 
 abbrev μ-loop : tie.MeasureT-loop
 μ-loop write input out₀ buffer₀ text₀ s₀ at₀ kept₀ to₀ out buffer text s at kept to = length input - at
@@ -63,21 +64,27 @@ abbrev read : tie.After-step Inv-loop μ-loop → ℕ
 read c = reading c .read-some .result
 
 kept-long : (c : tie.After-step Inv-loop μ-loop) → length (kept c) ≡ turn c .loop .kept
-kept-long c = let i = turn c .loop .inv in length-take-le (turn c .loop .kept) (turn c .loop .buffer) (omega (arith, i .few, i .bufferLong))
+kept-long c = let i = turn c .loop .inv in
+    length-take-le (turn c .loop .kept) (turn c .loop .buffer) (omega (arith, i .few, i .bufferLong))
 
-size : (c : tie.After-step Inv-loop μ-loop) → read c ≡ min (length (input c) - turn c .loop .at) (chunk - length (kept c))
+size : (c : tie.After-step Inv-loop μ-loop)
+    → read c ≡ min (length (input c) - turn c .loop .at) (chunk - length (kept c))
 size c = rw (kept-long c) (reading c .read-some .ensures .0)
 
 within : (c : tie.After-step Inv-loop μ-loop) → turn c .loop .at + read c ≤ length (input c)
 within c = omega (arith, size c, turn c .loop .inv .passing .inside)
 
 stepped : (c : tie.After-step Inv-loop μ-loop)
-    → SteppedOver (phaseOf (turn c .loop .s)) (kept c ++ take (read c) (drop (turn c .loop .at) (input c))) (reading c .read-some .last .1 .1 .0) (eqb (read c) 0) (turn c .loop .text)
+    → SteppedOver (phaseOf (turn c .loop .s)) (kept c ++ take (read c) (drop (turn c .loop .at) (input c)))
+    (reading c .read-some .last .1 .1 .0) (eqb (read c) 0) (turn c .loop .text)
     (c .step .last .1 .0) (c .step .last .1 .1 .1 .1 .0) (c .step .result)
 stepped c =
     let l = turn c .loop in
     let fits : l .kept + read c ≤ chunk = omega (arith, size c, kept-long c, l .inv .few) in
-    rw (chunk-there (l .buffer) (input c) (l .kept) (l .at) (read c) fits (l .inv .bufferLong) (within c) (reading c .read-some .ensures .1)) at (c .step .ensures)
+    rw (chunk-there (l .buffer) (input c) (l .kept) (l .at) (read c) fits
+    (l .inv .bufferLong) (within c) (reading c .read-some .ensures .1))
+    at
+    (c .step .ensures)
 
 text-long : (c : tie.After-step Inv-loop μ-loop) → length (c .step .last .1 .1 .1 .1 .0) ≡ capacity
 text-long c =
@@ -95,10 +102,13 @@ fitting c = wrote c .before .before .before
 abbrev made : tie.After-slice-known2 Inv-loop μ-loop → tie.After-step Inv-loop μ-loop
 made c = fitting c .before
 
-room : (e : tie.Else1 Inv-loop μ-loop) → turn (e .before) .loop .to + e .before .step .result .written ≤ length (now (start (turn (e .before)) .args .out))
+room : (e : tie.Else1 Inv-loop μ-loop)
+    → turn (e .before) .loop .to + e .before .step .result .written
+    ≤ length (now (start (turn (e .before)) .args .out))
 room e = let i = turn (e .before) .loop .inv in omega (arith, e .if1 .left, i .passing .room, i .outLong)
 
-out-long : (c : tie.After-slice-known2 Inv-loop μ-loop) → length (wrote c .write-some .last .1 .1 .1 .0) ≡ length (now (start (turn (made c)) .args .out))
+out-long : (c : tie.After-slice-known2 Inv-loop μ-loop)
+    → length (wrote c .write-some .last .1 .1 .1 .0) ≡ length (now (start (turn (made c)) .args .out))
 out-long c = omega (arith, wrote c .write-some .kept .1 .1 .1 .0, turn (made c) .loop .inv .outLong)
 
 -- ---- the needs
@@ -120,15 +130,19 @@ returns c =
     let m = c .before in
     let l = turn m .loop in
     let a = start (turn m) .args in
-    too-short (a .write) (now (a .input)) (now (a .out)) (l .inv .passing) (read m) (size m) (m .step .result) (stepped m) (l .inv .textLong) (omega (arith, c .if1 .taken, l .inv .outLong))
+    too-short (a .write) (now (a .input)) (now (a .out)) (l .inv .passing) (read m) (size m)
+    (m .step .result) (stepped m) (l .inv .textLong) (omega (arith, c .if1 .taken, l .inv .outLong))
 
 write-some-requires : tie.Need-write-some-requires Inv-loop μ-loop
 write-some-requires c κs =
     let e = c .before .before in
     let m = e .before in
     let l = turn m .loop in
-    let a = start (turn m) .args in
-    (text-fits (a .write) (now (a .input)) (now (a .out)) (l .inv .passing) (read m) (size m) (m .step .result) (stepped m) (l .inv .textLong), omega (arith, room e, l .inv .outLong))
+    let a = start (turn m) .args in (
+      text-fits (a .write) (now (a .input)) (now (a .out)) (l .inv .passing)
+          (read m) (size m) (m .step .result) (stepped m) (l .inv .textLong),
+      omega (arith, room e, l .inv .outLong),
+    )
 
 add-at : tie.Need-add-at Inv-loop μ-loop
 add-at c = omega (arith, within (made c), input-small (start (turn (made c))))
@@ -142,7 +156,8 @@ returns-2 c =
     let m = made k in
     let l = turn m .loop in
     let a = start (turn m) .args in
-    done (a .write) (now (a .input)) (now (a .out)) (l .inv .passing) (read m) (size m) (m .step .result) (stepped m) (l .inv .textLong) (room (fitting k)) (wrote k .write-some .ensures) (c .if2 .taken)
+    done (a .write) (now (a .input)) (now (a .out)) (l .inv .passing) (read m) (size m) (m .step .result)
+    (stepped m) (l .inv .textLong) (room (fitting k)) (wrote k .write-some .ensures) (c .if2 .taken)
 
 loop-less : tie.Need-loop-less Inv-loop μ-loop
 loop-less c =
@@ -151,7 +166,9 @@ loop-less c =
     let m = made k in
     let l = turn m .loop in
     let a = start (turn m) .args in
-    let n = more-read (a .write) (now (a .input)) (now (a .out)) (l .inv .passing) (read m) (size m) (m .step .result) (stepped m) (l .inv .textLong) (room (fitting k)) (wrote k .write-some .ensures) (e .if2 .left) in
+    let n =
+    more-read (a .write) (now (a .input)) (now (a .out)) (l .inv .passing) (read m) (size m) (m .step .result)
+    (stepped m) (l .inv .textLong) (room (fitting k)) (wrote k .write-some .ensures) (e .if2 .left) in
     omega (arith, n, within m)
 
 loop-again : tie.Need-loop-again Inv-loop μ-loop
@@ -168,7 +185,8 @@ loop-again c =
     record {
       passing =
           rw (front-there (b .last .1 .1 .0) line (t .kept) (omega (arith, t .few, size-of)) (t .line))
-          (goes-on (a .write) (now (a .input)) (now (a .out)) (l .inv .passing) (read m) (size m) (m .step .result) t (l .inv .textLong) (room (fitting k)) (wrote k .write-some .ensures) (e .if2 .left));
+          (goes-on (a .write) (now (a .input)) (now (a .out)) (l .inv .passing) (read m) (size m) (m .step .result) t
+          (l .inv .textLong) (room (fitting k)) (wrote k .write-some .ensures) (e .if2 .left));
       few = t .few;
       bufferLong = ap length (t .line) ∙ length-sets (b .last .1 .1 .0) 0 line ∙ size-of;
       textLong = text-long m;

@@ -25,7 +25,8 @@ module _ (input out : List ℕ) {out₁ : List ℕ} (r : Pass) (p : Passed false
       let h = leb-false (length (printedOf input)) (length out) (sym (p .fits) ∙ e) in
       rw (lt-ltb (length out) (length (printedOf input)) h, p .quiet refl)
 
-  printed : r .fits ≡ true → {out₂ : List ℕ} (q : Pass) → Passed true input out₁ out₂ q → _≡_ {A = Result} (record { number = 0; len = q .written; output = out₂ }) (printResult input out)
+  printed : r .fits ≡ true → {out₂ : List ℕ} (q : Pass) → Passed true input out₁ out₂ q
+      → _≡_ {A = Result} (record { number = 0; len = q .written; output = out₂ }) (printResult input out)
   unfolding printResult
   printed e {out₂} q w =
       let text = printedOf input in
@@ -39,7 +40,8 @@ returns : tie.Need-returns
 returns c =
     let g = c .before .before .before .before in
     let s = g .before .before .before .before .args in
-    too-short (now (s .input)) (now (s .out)) (g .go-through .result) (g .go-through .ensures) (not-true (g .go-through .result .fits) (c .if1 .taken))
+    too-short (now (s .input)) (now (s .out)) (g .go-through .result)
+    (g .go-through .ensures) (not-true (g .go-through .result .fits) (c .if1 .taken))
 
 returns-2 : tie.Need-returns-2
 returns-2 c =
@@ -47,7 +49,8 @@ returns-2 c =
     let e = h .before .before in
     let g = e .before .before .before .before in
     let s = g .before .before .before .before .args in
-    printed (now (s .input)) (now (s .out)) (g .go-through .result) (g .go-through .ensures) (not-false (g .go-through .result .fits) (e .if1 .left)) (h .go-through2 .result) (h .go-through2 .ensures)
+    printed (now (s .input)) (now (s .out)) (g .go-through .result) (g .go-through .ensures)
+    (not-false (g .go-through .result .fits) (e .if1 .left)) (h .go-through2 .result) (h .go-through2 .ensures)
 
 pub print-spec : {M : Type 1} → statement M
 print-spec =

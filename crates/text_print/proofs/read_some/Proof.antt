@@ -23,7 +23,9 @@ returns c =
     let e : a .at + n - a .at ≡ n = omega arith in
     let long = length-take-le n (drop (a .at) input) (omega (arith, l .least .ensures, length-drop (a .at) input)) in (
       l .least .ensures,
-      rw long at (copied-part buffer (a .kept) (take n (drop (a .at) input)) (omega (arith, l .least .ensures, h .1, h .2)) (rw e at (k .copy .ensures .1))),
+      rw long at
+          (copied-part buffer (a .kept) (take n (drop (a .at) input))
+          (omega (arith, l .least .ensures, h .1, h .2)) (rw e at (k .copy .ensures .1))),
     )
 
 pub read-some-spec : {M : Type 1} → statement M

@@ -39,17 +39,25 @@ carrying c = c .before .before .before .before
 part-finish-end : tie.Need-part-finish-end
 part-finish-end c =
     let k = carrying (c .before) in
-    omega (arith, kept-count (buffer k) _ _ (fits k) (ordered k) (k .carry .ensures), kept-fits (buffer k) _ _ (fits k) (ordered k), k .carry .kept .0)
+    omega (
+      arith,
+      kept-count (buffer k) _ _ (fits k) (ordered k) (k .carry .ensures),
+      kept-fits (buffer k) _ _ (fits k) (ordered k),
+      k .carry .kept .0,
+    )
 
 -- what is kept, as `finish` is lent it
-kept-there : (c : tie.After-carry) → take (c .carry .result - 0) (c .carry .last .0) ≡ keptOf (buffer c) (lines c .take-lines .result .used) (start c .args .end) (fits c) (ordered c)
+kept-there : (c : tie.After-carry)
+    → take (c .carry .result - 0) (c .carry .last .0)
+    ≡ keptOf (buffer c) (lines c .take-lines .result .used) (start c .args .end) (fits c) (ordered c)
 kept-there c =
     let z : c .carry .result - 0 ≡ c .carry .result = omega arith in
     rw z (kept-front (buffer c) _ _ (fits c) (ordered c) (c .carry .ensures))
 
 room : (c : tie.After-carry) → lines c .take-lines .result .written + 512 ≤ length (lines c .take-lines .last .1 .1 .0)
 room c =
-    room-left (buffer c) _ _ (fits c) (ordered c) (c .carry .ensures) (start c .pre .0) (lines c .take-lines .result .session) (drained c .fed) (drained c .rest) (start c .pre .2)
+    room-left (buffer c) _ _ (fits c) (ordered c) (c .carry .ensures) (start c .pre .0)
+    (lines c .take-lines .result .session) (drained c .fed) (drained c .rest) (start c .pre .2)
 
 finish-requires : tie.Need-finish-requires
 finish-requires c κs =
@@ -69,14 +77,16 @@ returns c =
     let k = carrying t in
     let z : k .carry .result - 0 ≡ k .carry .result = omega arith in
     rw (t .if1 .taken)
-    (ended (buffer k) _ _ (fits k) (ordered k) (k .carry .ensures) (start k .pre .0) (lines k .take-lines .result .session) (drained k .fed) (drained k .rest) (start k .pre .2)
+    (ended (buffer k) _ _ (fits k) (ordered k) (k .carry .ensures) (start k .pre .0)
+    (lines k .take-lines .result .session) (drained k .fed) (drained k .rest) (start k .pre .2)
     (rw z at (f .finish .ensures)))
 
 returns-2 : tie.Need-returns-2
 returns-2 c =
     let k = c .before .before .before .before .before in
     rw (c .before .if1 .left, c .is-over .ensures)
-    (stepped (buffer k) _ _ (fits k) (ordered k) (k .carry .ensures) (start k .pre .0) (lines k .take-lines .result .session) (drained k .fed) (drained k .rest) (start k .pre .2))
+    (stepped (buffer k) _ _ (fits k) (ordered k) (k .carry .ensures) (start k .pre .0)
+    (lines k .take-lines .result .session) (drained k .fed) (drained k .rest) (start k .pre .2))
 
 pub take-chunk-spec : {M : Type 1} → statement M
 take-chunk-spec =

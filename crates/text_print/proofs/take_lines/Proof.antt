@@ -35,7 +35,8 @@ abbrev μ-loop : tie.MeasureT-loop
 μ-loop input out₀ s₀ at₀ to₀ out s at to = length input - at
 
 loop-holds : tie.Need-loop-holds Inv-loop μ-loop
-loop-holds c = record { inside = omega arith; long = refl; fed = fed-none (collect modelCollector) (bounded modelCollector) _ _ }
+loop-holds c =
+    record { inside = omega arith; long = refl; fed = fed-none (collect modelCollector) (bounded modelCollector) _ _ }
 
 abbrev start : tie.At-loop Inv-loop μ-loop → tie.Start Inv-loop μ-loop
 start l = l .before .before .before
@@ -47,7 +48,16 @@ room l =
     let i = l .loop .inv in
     let b = printed-bound (phaseOf (start l .args .s)) (take (l .loop .at) input) in
     let h = start l .pre in
-    omega (arith, b, i .fed .output .next, i .long, h .0, h .1, length-take-le (l .loop .at) input (i .inside), i .inside)
+    omega (
+      arith,
+      b,
+      i .fed .output .next,
+      i .long,
+      h .0,
+      h .1,
+      length-take-le (l .loop .at) input (i .inside),
+      i .inside,
+    )
 
 sub-lines-2 : tie.Need-sub-lines-2 Inv-loop μ-loop
 sub-lines-2 c = omega (arith, room (c .before .before))
@@ -60,31 +70,38 @@ abbrev turn : tie.After-lines Inv-loop μ-loop → tie.At-loop Inv-loop μ-loop
 turn c = c .before .before .before .before
 
 ran : (c : tie.After-lines Inv-loop μ-loop) → (let l = turn c .loop in let input = now (start (turn c) .args .input) in
-    Ran (phaseOf (l .s)) (drop (l .at) input) (take (length (l .out) - l .to) (drop (l .to) (l .out))) (c .lines .last .1 .1 .0) (c .lines .result))
+    Ran (phaseOf (l .s)) (drop (l .at) input) (take (length (l .out) - l .to) (drop (l .to) (l .out)))
+    (c .lines .last .1 .1 .0) (c .lines .result))
 ran c =
     let input = now (start (turn c) .args .input) in
     rw (take-rest input (length input) (turn c .loop .at) refl) at (c .lines .ensures)
 
 more : (c : tie.After-lines Inv-loop μ-loop) → (let l = turn c .loop in let a = start (turn c) .args in
-    Fed (collect modelCollector) (phaseOf (a .s)) (take (l .at + c .lines .result .used) (now (a .input))) (now (a .out)) (phaseOf (c .lines .result .session))
+    Fed (collect modelCollector) (phaseOf (a .s)) (take (l .at + c .lines .result .used) (now (a .input)))
+    (now (a .out)) (phaseOf (c .lines .result .session))
     (putMid (l .to) (length (l .out) - l .to) (l .out) (c .lines .last .1 .1 .0)) (l .to + c .lines .result .written))
 more c =
     let l = turn c .loop in
-    more-fed (collect modelCollector) (now (start (turn c) .args .input)) (l .at) (c .lines .result .used) (l .inv .fed) (l .inv .long) (omega (arith, room (turn c))) (ran c .fed)
+    more-fed (collect modelCollector) (now (start (turn c) .args .input)) (l .at)
+    (c .lines .result .used) (l .inv .fed) (l .inv .long) (omega (arith, room (turn c))) (ran c .fed)
 
-used-fits : (c : tie.After-lines Inv-loop μ-loop) → turn c .loop .at + c .lines .result .used ≤ length (now (start (turn c) .args .input))
+used-fits : (c : tie.After-lines Inv-loop μ-loop)
+    → turn c .loop .at + c .lines .result .used ≤ length (now (start (turn c) .args .input))
 used-fits c =
     let l = turn c .loop in
     omega (arith, ran c .within, length-drop (l .at) (now (start (turn c) .args .input)), l .inv .inside)
 
-written-fits : (c : tie.After-lines Inv-loop μ-loop) → turn c .loop .to + c .lines .result .written ≤ length (turn c .loop .out)
+written-fits : (c : tie.After-lines Inv-loop μ-loop)
+    → turn c .loop .to + c .lines .result .written ≤ length (turn c .loop .out)
 written-fits c = let l = turn c .loop in omega (arith, more c .output .short, l .inv .long)
 
 same : (c : tie.After-lines Inv-loop μ-loop) → (let l = turn c .loop in
-    length (putMid (l .to) (length (l .out) - l .to) (l .out) (c .lines .last .1 .1 .0)) ≡ length (now (start (turn c) .args .out)))
+    length (putMid (l .to) (length (l .out) - l .to) (l .out) (c .lines .last .1 .1 .0))
+    ≡ length (now (start (turn c) .args .out)))
 same c =
     let l = turn c .loop in
-    same-len-mid (l .to) (length (l .out) - l .to) (l .out) (c .lines .last .1 .1 .0) (c .lines .kept .1 .1 .0) ∙ l .inv .long
+    same-len-mid (l .to) (length (l .out) - l .to) (l .out) (c .lines .last .1 .1 .0) (c .lines .kept .1 .1 .0)
+    ∙ l .inv .long
 
 abbrev went : tie.After-struct-known3 Inv-loop μ-loop → tie.After-lines Inv-loop μ-loop
 went c = c .before .before .before .before .before .before .before
@@ -121,7 +138,14 @@ returns-2 c =
     record {
       within = l .inv .inside;
       fed = rw (here, there) at (more w);
-      rest = ran w .rest (c .if1 .taken) (omega (arith, room (turn w), length-take (length (l .out) - l .to) (drop (l .to) (l .out)), length-drop (l .to) (l .out)));
+      rest =
+          ran w .rest (c .if1 .taken)
+          (omega (
+            arith,
+            room (turn w),
+            length-take (length (l .out) - l .to) (drop (l .to) (l .out)),
+            length-drop (l .to) (l .out),
+          ));
     }
 
 pub take-lines-spec : {M : Type 1} → statement M

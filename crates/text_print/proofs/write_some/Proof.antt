@@ -23,7 +23,8 @@ returns-2 c =
     let z : a .n - 0 ≡ a .n = omega arith in
     let long = length-take-le (a .n) text (e .before .before .before .pre .0) in
     rw (not-false (a .write) (e .if1 .left))
-    (copied-sets (now (a .out)) (a .to) (take (a .n) text) (omega (arith, e .before .before .before .pre .1)) (rw z at (k .copy .ensures .1)))
+    (copied-sets (now (a .out)) (a .to) (take (a .n) text)
+    (omega (arith, e .before .before .before .pre .1)) (rw z at (k .copy .ensures .1)))
 
 pub write-some-spec : {M : Type 1} → statement M
 write-some-spec =

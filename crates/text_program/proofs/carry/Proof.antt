@@ -16,12 +16,14 @@ no-start c = past-end _ _ _ (c .if2 .taken)
 front : tie.Need-returns-3
 front c =
     let a = c .before .before .before .before .before .before .before .before .args in
-    front-kept (now (a .buffer)) (a .from) (a .end) (omega arith) (omega arith) (c .before .before .shift .ensures) (omega arith) refl
+    front-kept (now (a .buffer)) (a .from) (a .end) (omega arith)
+    (omega arith) (c .before .before .shift .ensures) (omega arith) refl
 
 whole : tie.Need-returns-4
 whole c =
     let a = c .before .before .before .before .before .before .before .before .args in
-    all-kept (now (a .buffer)) (a .from) (a .end) (omega arith) (omega arith) (c .before .before .shift2 .ensures) (omega arith) refl (omega arith)
+    all-kept (now (a .buffer)) (a .from) (a .end) (omega arith) (omega arith)
+    (c .before .before .shift2 .ensures) (omega arith) refl (omega arith)
 
 pub carry-spec : {M : Type 1} → statement M
 carry-spec =

@@ -22,7 +22,12 @@ abbrev μ-loop : tie.MeasureT-loop
 μ-loop buffer₀ from n i₀ buffer i = n - i
 
 loop-holds : tie.Need-loop-holds Inv-loop μ-loop
-loop-holds c = record { bounded = omega arith; long = refl; moved = moved-none (now (c .args .buffer)) (c .args .from) (c .args .n) }
+loop-holds c =
+    record {
+      bounded = omega arith;
+      long = refl;
+      moved = moved-none (now (c .args .buffer)) (c .args .from) (c .args .n);
+    }
 
 loop-again : tie.Need-loop-again Inv-loop μ-loop
 loop-again c =

@@ -24,7 +24,8 @@ abbrev μ-loop : tie.MeasureT-loop
 μ-loop s from d₀ k₀ d k = 8 - k
 
 loop-holds : tie.Need-loop-holds Inv-loop μ-loop
-loop-holds c = record { few = search needs; long = refl; high = λ j h. absurd (omega arith); low = λ j h. absurd (omega arith) }
+loop-holds c =
+    record { few = search needs; long = refl; high = λ j h. absurd (omega arith); low = λ j h. absurd (omega arith) }
 
 add-hex-digit : tie.Need-add-hex-digit Inv-loop μ-loop
 add-hex-digit c = search needs
@@ -33,7 +34,11 @@ shared-slice-read-hex-digit : tie.Need-shared-slice-read-hex-digit Inv-loop μ-l
 shared-slice-read-hex-digit c = search needs
 
 hex-digit-requires : tie.Need-hex-digit-requires Inv-loop μ-loop
-hex-digit-requires c κs = omega (arith, c .shared-slice-known2 .given (c .before .before .before .before .args .from + c .before .before .loop .k))
+hex-digit-requires c κs =
+    omega (
+      arith,
+      c .shared-slice-known2 .given (c .before .before .before .before .args .from + c .before .before .loop .k),
+    )
 
 mul-d : tie.Need-mul-d Inv-loop μ-loop
 mul-d c = search needs
@@ -73,8 +78,12 @@ loop-again c =
     record {
       few = omega arith;
       long = simp length-set (l .inv .long);
-      high = high-next (λ j. hexDigitOf (getD s (a .from + j) 0 / 16)) (l .d) (l .k) _ _ (omega arith) (l .inv .high) (c .before .before .hex-digit .ensures);
-      low = low-next (λ j. hexDigitOf (getD s (a .from + j) 0 % 16)) (l .d) (l .k) _ _ (omega arith) (l .inv .low) (c .hex-digit2 .ensures);
+      high =
+          high-next (λ j. hexDigitOf (getD s (a .from + j) 0 / 16)) (l .d) (l .k) _ _
+          (omega arith) (l .inv .high) (c .before .before .hex-digit .ensures);
+      low =
+          low-next (λ j. hexDigitOf (getD s (a .from + j) 0 % 16)) (l .d)
+          (l .k) _ _ (omega arith) (l .inv .low) (c .hex-digit2 .ensures);
     }
 
 returns : tie.Need-returns Inv-loop μ-loop

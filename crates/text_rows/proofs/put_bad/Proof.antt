@@ -15,7 +15,8 @@ use Rattle.text_rows.proofs.put_bad.Tie as tie
 too-small : tie.Need-returns
 too-small c = not-fitting badText (sym (c .before .has-capacity .ensures) ∙ not-true _ (c .if1 .taken))
 
-fits : (c : tie.Else1) → leb (c .before .before .before .args .at + 4) (length (now (c .before .before .before .args .out))) ≡ true
+fits : (c : tie.Else1)
+    → leb (c .before .before .before .args .at + 4) (length (now (c .before .before .before .args .out))) ≡ true
 fits c = sym (c .before .has-capacity .ensures) ∙ not-false _ (c .if1 .left)
 
 write-requires : tie.Need-write-requires

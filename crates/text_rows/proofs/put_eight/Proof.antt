@@ -20,7 +20,9 @@ same-length : tie.Need-same-length
 same-length c = search needs
 
 returns : tie.Need-returns
-returns c = through (c .before .before .before .before .before .before .copy-part .ensures) (c .before .before .copy-part2 .ensures)
+returns c =
+    through (c .before .before .before .before .before .before .copy-part .ensures)
+    (c .before .before .copy-part2 .ensures)
 
 pub put-eight-spec : {M : Type 1} → statement M
 put-eight-spec =

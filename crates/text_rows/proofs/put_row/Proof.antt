@@ -16,9 +16,11 @@ use Rattle.text_rows.proofs.put_row.Tie as tie
 too-small : tie.Need-returns
 too-small c =
     let a = c .before .before .before .before .before .args in
-    not-fitting (rowBehind (now (a .time)) (a .row) (now (a .sent))) (sym (c .before .has-capacity .ensures) ∙ not-true _ (c .if1 .taken))
+    not-fitting (rowBehind (now (a .time)) (a .row) (now (a .sent)))
+    (sym (c .before .has-capacity .ensures) ∙ not-true _ (c .if1 .taken))
 
-fits : (c : tie.Else1) → let a = c .before .before .before .before .before .args in leb (a .at + longestRow (length (now (a .time))) (length (now (a .sent)))) (length (now (a .out))) ≡ true
+fits : (c : tie.Else1) → let a = c .before .before .before .before .before .args in
+    leb (a .at + longestRow (length (now (a .time))) (length (now (a .sent)))) (length (now (a .out))) ≡ true
 fits c = sym (c .before .has-capacity .ensures) ∙ not-false _ (c .if1 .left)
 
 write-requires : tie.Need-write-row-requires
@@ -28,4 +30,6 @@ returns : tie.Need-returns-2
 returns c = fitting (fits (c .before .before .before .before)) (c .before .before .write-row .ensures)
 
 pub put-row-spec : {M : Type 1} → statement M
-put-row-spec = tie.close (tie.spec (λ c. search needs) (λ c κs. search needs) too-small write-requires (λ c. search needs) returns)
+put-row-spec =
+    tie.close (tie.spec (λ c. search needs)
+    (λ c κs. search needs) too-small write-requires (λ c. search needs) returns)

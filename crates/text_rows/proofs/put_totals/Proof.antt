@@ -16,9 +16,11 @@ use Rattle.text_rows.proofs.put_totals.Tie as tie
 too-small : tie.Need-returns
 too-small c =
     let a = c .before .before .before .args in
-    not-fitting (totalsText (a .received) (a .kept) (a .copies) (a .loose) (a .damaged) (a .late)) (sym (c .before .has-capacity .ensures) ∙ not-true _ (c .if1 .taken))
+    not-fitting (totalsText (a .received) (a .kept) (a .copies) (a .loose) (a .damaged) (a .late))
+    (sym (c .before .has-capacity .ensures) ∙ not-true _ (c .if1 .taken))
 
-fits : (c : tie.Else1) → let a = c .before .before .before .args in leb (a .at + longestTotals) (length (now (a .out))) ≡ true
+fits : (c : tie.Else1) → let a = c .before .before .before .args in
+    leb (a .at + longestTotals) (length (now (a .out))) ≡ true
 fits c = sym (c .before .has-capacity .ensures) ∙ not-false _ (c .if1 .left)
 
 write-requires : tie.Need-write-totals-requires

@@ -59,19 +59,28 @@ loop-again c =
       bounded = omega arith;
       long = simp length-set (l .inv .long);
       small = rw (tenth, at) at (k .small);
-      whole = l .inv .whole ∙ spell-pair (l .i) (l .rest) (l .digits) (omega arith) (omega arith) (l .inv .small) (c .loop-test .taken);
+      whole =
+          l .inv .whole
+          ∙ spell-pair (l .i) (l .rest) (l .digits) (omega arith) (omega arith) (l .inv .small) (c .loop-test .taken);
     }
 
 returns : tie.Need-returns Inv-loop μ-loop
 returns c =
     let l = c .before .before .loop in
-    let one : l .rest % 10 ≡ l .rest = omega arith in
-    (omega arith, sym (l .inv .whole ∙ spell-last (l .i) (l .rest) (l .digits) (omega arith) (l .inv .some) (c .if1 .taken) ∙ rw one))
+    let one : l .rest % 10 ≡ l .rest = omega arith in (
+      omega arith,
+      sym (l .inv .whole
+          ∙ spell-last (l .i) (l .rest) (l .digits) (omega arith) (l .inv .some) (c .if1 .taken) ∙ rw one),
+    )
 
 returns-2 : tie.Need-returns-2 Inv-loop μ-loop
 returns-2 c =
-    let l = c .before .before .loop in
-    (omega arith, sym (l .inv .whole ∙ spell-two (l .i) (l .rest) (l .digits) (omega arith) (c .if1 .left) (l .inv .small) (c .before .loop-test .left)))
+    let l = c .before .before .loop in (
+      omega arith,
+      sym (l .inv .whole
+          ∙ spell-two (l .i) (l .rest) (l .digits) (omega arith)
+          (c .if1 .left) (l .inv .small) (c .before .loop-test .left)),
+    )
 
 same-length : tie.Need-same-length Inv-loop μ-loop
 same-length c = simp length-set (omega (arith, c .before .before .before .pre))
@@ -80,10 +89,14 @@ same-length-2 : tie.Need-same-length-2 Inv-loop μ-loop
 same-length-2 c = simp length-set (omega (arith, c .before .before .before .pre))
 
 sub-digits-4 : tie.Need-sub-digits-4 Inv-loop μ-loop
-sub-digits-4 c = several (c .before .before .loop .i) (c .before .before .loop .rest) (c .before .before .loop .inv .small) (c .if1 .left)
+sub-digits-4 c =
+    several (c .before .before .loop .i) (c .before .before .loop .rest)
+    (c .before .before .loop .inv .small) (c .if1 .left)
 
 sub-result-2 : tie.Need-sub-result-2 Inv-loop μ-loop
-sub-result-2 c = several (c .before .before .loop .i) (c .before .before .loop .rest) (c .before .before .loop .inv .small) (c .if1 .left)
+sub-result-2 c =
+    several (c .before .before .loop .i) (c .before .before .loop .rest)
+    (c .before .before .loop .inv .small) (c .if1 .left)
 
 slice-write-digits-4 : tie.Need-slice-write-digits-4 Inv-loop μ-loop
 slice-write-digits-4 c = simp length-set (omega arith)

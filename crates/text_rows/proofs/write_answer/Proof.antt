@@ -11,29 +11,36 @@ kept : tie.Need-returns
 kept c =
     let w = c .before .before in
     let a = w .before .before .before .before in
-    rw (a .enum-told .given .1, kept-alone _ (w .before .before .before .if1 .taken)) (loosened (w .write .ensures) (omega arith))
+    rw (a .enum-told .given .1, kept-alone _ (w .before .before .before .if1 .taken))
+    (loosened (w .write .ensures) (omega arith))
 
 kept-sending : tie.Need-returns-2
 kept-sending c =
     let h = c .before .before in
     let w = h .before .before .before .before in
     let a = w .before .before .before .before in
-    rw (a .enum-told .given .1, kept-sends _ (w .before .before .before .if1 .left)) (loosened (then (w .write2 .ensures) (h .write-hex .ensures)) (omega arith))
+    rw (a .enum-told .given .1, kept-sends _ (w .before .before .before .if1 .left))
+    (loosened (then (w .write2 .ensures) (h .write-hex .ensures)) (omega arith))
 
 copy : tie.Need-returns-3
 unfolding answerText
-copy c = rw (c .before .before .before .before .before .enum-told2 .given .1) (loosened (c .before .before .write3 .ensures) (omega arith))
+copy c =
+    rw (c .before .before .before .before .before .enum-told2 .given .1)
+    (loosened (c .before .before .write3 .ensures) (omega arith))
 
 loose : tie.Need-returns-4
 unfolding answerText
-loose c = rw (c .before .before .before .before .before .enum-told3 .given .1) (loosened (c .before .before .write4 .ensures) (omega arith))
+loose c =
+    rw (c .before .before .before .before .before .enum-told3 .given .1)
+    (loosened (c .before .before .write4 .ensures) (omega arith))
 
 refused : tie.Need-returns-5
 unfolding answerText
 refused c =
     let d = c .before .before in
     let w = d .before .before .before .before in
-    rw (w .before .before .before .before .row .given .1) (loosened (then (w .write5 .ensures) (d .write-decimal .ensures)) (omega arith))
+    rw (w .before .before .before .before .row .given .1)
+    (loosened (then (w .write5 .ensures) (d .write-decimal .ensures)) (omega arith))
 
 pub write-answer-spec : {M : Type 1} → statement M
 write-answer-spec =

@@ -26,7 +26,8 @@ abbrev μ-loop : tie.MeasureT-loop
 μ-loop out₀ at s i₀ i-end out i = length s - i
 
 loop-holds : tie.Need-loop-holds Inv-loop μ-loop
-loop-holds c = record { bounded = search needs; end = search needs; long = search needs; stores = rw (add-zero (c .args .at)) }
+loop-holds c =
+    record { bounded = search needs; end = search needs; long = search needs; stores = rw (add-zero (c .args .at)) }
 
 loop-again : tie.Need-loop-again Inv-loop μ-loop
 loop-again c =

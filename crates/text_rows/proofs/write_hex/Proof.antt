@@ -52,11 +52,14 @@ same-length-3 c = search needs
 
 returns-3 : tie.Need-returns-3
 returns-3 c =
-    let s = now (c .before .before .before .before .before .before .before .before .before .before .before .before .before .args .s) in
+    let s =
+    now (c .before .before .before .before .before .before .before .before .before .before .before .before .before .args .s) in
     let front = c .before .before .before .before .before .before .before .put-digits .ensures in
     let back = c .before .before .put-digits2 .ensures in
     record {
-      bytes = pasted (paste-next (paste-first front) (omega arith) (omega arith) back) (omega (arith, hex-length s)) (omega arith);
+      bytes =
+          pasted (paste-next (paste-first front) (omega arith) (omega arith) back)
+          (omega (arith, hex-length s)) (omega arith);
       next = omega (arith, hex-length s);
       short = omega arith;
     }
@@ -87,13 +90,16 @@ same-length-4 c = search needs
 
 returns-4 : tie.Need-returns-4
 returns-4 c =
-    let s = now (c .before .before .before .before .before .before .before .before .before .before .before .before .before .before .before .before .before .args .s) in
-    let front = c .before .before .before .before .before .before .before .before .before .before .before .put-digits .ensures in
+    let s =
+    now (c .before .before .before .before .before .before .before .before .before .before .before .before .before .before .before .before .before .args .s) in
+    let front =
+    c .before .before .before .before .before .before .before .before .before .before .before .put-digits .ensures in
     let middle = c .before .before .before .before .before .before .put-digits3 .ensures in
     let back = c .before .before .put-digits4 .ensures in
     record {
       bytes =
-          pasted (paste-next (paste-next (paste-first front) (omega arith) (omega arith) middle) (omega arith) (omega arith) back)
+          pasted (paste-next (paste-next (paste-first front) (omega arith) (omega arith) middle)
+          (omega arith) (omega arith) back)
           (omega (arith, hex-length s)) (omega arith);
       next = omega (arith, hex-length s);
       short = omega arith;

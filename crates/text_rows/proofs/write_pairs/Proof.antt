@@ -46,7 +46,8 @@ loop-again c =
       place = omega arith;
       long = simp length-set (l .inv .long);
       stores =
-          rw (c .before .hex-digit .ensures, c .hex-digit2 .ensures) (sym (hex-next (l .out) (now (a .s)) (l .to) (l .i) (omega arith)))
+          rw (c .before .hex-digit .ensures, c .hex-digit2 .ensures)
+          (sym (hex-next (l .out) (now (a .s)) (l .to) (l .i) (omega arith)))
           ∙ l .inv .stores;
     }
 

@@ -13,7 +13,9 @@ returns c =
     let w = e .before .before .before .before .before in
     let s = w .before .before .before .before in
     let t = s .before .before .before .before .before in
-    loosened (then (then (then (t .write .ensures) (s .write2 .ensures)) (w .write-answer .ensures)) (e .write3 .ensures)) (omega arith)
+    loosened (then (then (then (t .write .ensures) (s .write2 .ensures)) (w .write-answer .ensures))
+    (e .write3 .ensures))
+    (omega arith)
 
 pub write-row-spec : {M : Type 1} → statement M
 write-row-spec =

@@ -19,7 +19,9 @@ not-scan : tie.Need-returns
 not-scan c =
     let i = c .before .before in
     let a = i .before .before .args in
-    c .kept .ensures ∙ feed-not (scanOf (a .self)) (now (a .blocks)) (sym (i .is-scan .ensures) ∙ not-true _ (c .before .if1 .taken))
+    c .kept .ensures
+    ∙ feed-not (scanOf (a .self)) (now (a .blocks))
+    (sym (i .is-scan .ensures) ∙ not-true _ (c .before .if1 .taken))
 
 yes : (c : tie.Else1) → isScan (scanOf (c .before .before .before .args .self)) ≡ true
 yes c = sym (c .before .is-scan .ensures) ∙ not-false _ (c .if1 .left)
@@ -48,7 +50,8 @@ done c =
     let e2 = e3 .before in
     let e = e2 .before in
     let a = e .before .before .before .args in
-    feed-done (scanOf (a .self)) (now (a .blocks)) (yes e) (e2 .if2 .left) (e3 .if3 .left) (scanOf (c .scan-blocks .result)) (c .scan-blocks .ensures)
+    feed-done (scanOf (a .self)) (now (a .blocks)) (yes e) (e2 .if2 .left)
+    (e3 .if3 .left) (scanOf (c .scan-blocks .result)) (c .scan-blocks .ensures)
 
 pub feed-spec : {M : Type 1} → statement M
 feed-spec =

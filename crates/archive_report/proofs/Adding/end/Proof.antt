@@ -14,8 +14,11 @@ returns : tie.Need-returns
 returns c =
     let t = c .before in
     let a = t .before .before .before .args .self in
-    let is = end-not (addingOf a) (sym (t .before .is-adding .ensures) ∙ not-true _ (t .if1 .taken)) in
-    (c .kept .ensures .0 ∙ is, stay _ NotAccepted (a .lines) (a .before .lines) (sym (ap (λ (x : Addition). x .number) is)) (c .kept .ensures .1))
+    let is = end-not (addingOf a) (sym (t .before .is-adding .ensures) ∙ not-true _ (t .if1 .taken)) in (
+      c .kept .ensures .0 ∙ is,
+      stay _ NotAccepted (a .lines) (a .before .lines)
+          (sym (ap (λ (x : Addition). x .number) is)) (c .kept .ensures .1),
+    )
 
 returns-2 : tie.Need-returns-2
 returns-2 c =

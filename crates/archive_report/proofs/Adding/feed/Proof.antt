@@ -43,20 +43,29 @@ whole : (c : tie.Else2) → isPiece (addingOf (start c .args .self) .tally .scan
 whole c = sym (c .before .is-piece .ensures) ∙ not-false _ (c .if2 .left)
 
 -- what is handed back beside a refusal
-refusal : (a : Adding) (r : Fed) (why : Refusal) (f : Feeding) → fed (numberOf why) (addingOf a) ≡ f → feedResult r ≡ fed (numberOf why) (addingOf a) → r .next ≡ a
+refusal : (a : Adding) (r : Fed) (why : Refusal) (f : Feeding) → fed (numberOf why) (addingOf a) ≡ f
+    → feedResult r ≡ fed (numberOf why) (addingOf a) → r .next ≡ a
     → (feedResult r ≡ f) × ((r .next .before ≡ a .before) × (r .next .lines ≡ linesFed f (a .lines)))
-refusal a r why f is e s =
-    (e ∙ is, (ap (λ (x : Adding). x .before) s, stay (f .number) why _ (a .lines) (sym (ap (λ (x : Feeding). x .number) is)) (ap (λ (x : Adding). x .lines) s)))
+refusal a r why f is e s = (
+  e ∙ is,
+  (
+    ap (λ (x : Adding). x .before) s,
+    stay (f .number) why _ (a .lines) (sym (ap (λ (x : Feeding). x .number) is)) (ap (λ (x : Adding). x .lines) s),
+  ),
+)
 
 -- and after a piece
-fed-lines : {xs : List ℕ} (f : Feeding) (old : List ℕ) → f .number ≡ 0 → xs ≡ written (f .next .tally .lines) old → xs ≡ linesFed f old
+fed-lines : {xs : List ℕ} (f : Feeding) (old : List ℕ) → f .number ≡ 0
+    → xs ≡ written (f .next .tally .lines) old → xs ≡ linesFed f old
 fed-lines f old z h = rw (eq-eqb (f .number) 0 z) h
 
 returns : tie.Need-returns
 returns c =
     let t = c .before in
     let a = t .before .before .before .args in
-    let is = feed-not (addingOf (a .self)) (sym (t .before .is-adding .ensures) ∙ not-true _ (t .if1 .taken)) (now (a .piece)) in
+    let is =
+    feed-not (addingOf (a .self))
+    (sym (t .before .is-adding .ensures) ∙ not-true _ (t .if1 .taken)) (now (a .piece)) in
     refusal (a .self) (c .unchanged .result) NotAccepted _ is (c .unchanged .ensures .0) (c .unchanged .ensures .1)
 
 is-piece-requires : tie.Need-is-piece-requires
@@ -69,25 +78,34 @@ returns-2 c =
     let t = c .before in
     let e = t .before .before .before in
     let a = e .before .before .before .args in
-    let is = feed-size (addingOf (a .self)) (yes e) (now (a .piece)) (sym (t .before .is-piece .ensures) ∙ not-true _ (t .if2 .taken)) in
+    let is =
+    feed-size (addingOf (a .self)) (yes e) (now (a .piece))
+    (sym (t .before .is-piece .ensures) ∙ not-true _ (t .if2 .taken)) in
     refusal (a .self) (c .unchanged2 .result) Size _ is (c .unchanged2 .ensures .0) (c .unchanged2 .ensures .1)
 
 add-blocks-requires : tie.Need-add-blocks-requires
 add-blocks-requires c κs =
     let e = c .before .before .before in
     let a = start e .args .self in
-    let is = c .so-far .ensures in
-    (long (start e), omega (arith, ap (λ (t : Tally). t .scan .blocks) is, whole-facts _ (whole e) .1), sane-as is (going-sane (addingOf a) (yes (e .before .before .before))))
+    let is = c .so-far .ensures in (
+      long (start e),
+      omega (arith, ap (λ (t : Tally). t .scan .blocks) is, whole-facts _ (whole e) .1),
+      sane-as is (going-sane (addingOf a) (yes (e .before .before .before))),
+    )
 
 -- what the blocks of the piece gave, with some lines
-known : (b : tie.After-add-blocks) (xs : List ℕ) → tallyOf (b .add-blocks .result) xs ≡ tallyOf (b .add-blocks .result) (b .add-blocks .last .0)
-    → fed 0 (adding (reportOf (start (b .before .before .before .before) .args .self .before)) (tallyOf (b .add-blocks .result) xs))
+known : (b : tie.After-add-blocks) (xs : List ℕ)
+    → tallyOf (b .add-blocks .result) xs ≡ tallyOf (b .add-blocks .result) (b .add-blocks .last .0)
+    → fed 0
+    (adding (reportOf (start (b .before .before .before .before) .args .self .before))
+    (tallyOf (b .add-blocks .result) xs))
     ≡ feedOf (addingOf (start (b .before .before .before .before) .args .self)) (now (start (b .before .before .before .before) .args .piece))
 known b xs same =
     let e = b .before .before .before .before in
     let a = start e .args in
     feed-done (addingOf (a .self)) (yes (e .before .before .before)) (now (a .piece)) (whole e) _
-    (same ∙ b .add-blocks .ensures .0 ∙ ap (λ (t : Tally). addBlocks t (blocksIn (now (a .piece)))) (b .before .so-far .ensures))
+    (same ∙ b .add-blocks .ensures .0
+    ∙ ap (λ (t : Tally). addBlocks t (blocksIn (now (a .piece)))) (b .before .so-far .ensures))
 
 returns-3 : tie.Need-returns-3
 returns-3 c =
@@ -97,12 +115,17 @@ returns-3 c =
     let t = b .add-blocks .result in
     let g = b .add-blocks .ensures .1 in
     let h = g .held (c .before .before .if3 .taken) in
-    let is = known b old (λ i. record { lines = sym h i; kept = t .kept; loose = t .loose; over = t .over; scan = scanOf (t .scan) }) in (
+    let is =
+    known b old
+    (λ i.
+    record { lines = sym h i; kept = t .kept; loose = t .loose; over = t .over; scan = scanOf (t .scan) }) in (
       c .taken .ensures .0 ∙ is,
       (
         c .taken .ensures .1,
-        fed-lines (feedOf (addingOf (s .args .self)) (now (s .args .piece))) old (sym (ap (λ (f : Feeding). f .number) is))
-            (c .taken .ensures .2 ∙ lines-held (b .before .so-far .result) t old (b .add-blocks .last .0) g (long s) ∙ ap (λ (f : Feeding). written (f .next .tally .lines) old) is),
+        fed-lines (feedOf (addingOf (s .args .self)) (now (s .args .piece))) old
+            (sym (ap (λ (f : Feeding). f .number) is))
+            (c .taken .ensures .2 ∙ lines-held (b .before .so-far .result) t old (b .add-blocks .last .0) g (long s)
+            ∙ ap (λ (f : Feeding). written (f .next .tally .lines) old) is),
       ),
     )
 
@@ -118,8 +141,11 @@ returns-4 c =
       c .taken2 .ensures .0 ∙ is,
       (
         c .taken2 .ensures .1,
-        fed-lines (feedOf (addingOf (s .args .self)) (now (s .args .piece))) old (sym (ap (λ (f : Feeding). f .number) is))
-            (c .taken2 .ensures .2 ∙ lines-new (b .before .so-far .result) t old new g (long s) (b .add-blocks .kept .0 ∙ long s) (c .before .if3 .left)
+        fed-lines (feedOf (addingOf (s .args .self)) (now (s .args .piece))) old
+            (sym (ap (λ (f : Feeding). f .number) is))
+            (c .taken2 .ensures .2
+            ∙ lines-new (b .before .so-far .result) t old new g (long s)
+            (b .add-blocks .kept .0 ∙ long s) (c .before .if3 .left)
             ∙ ap (λ (f : Feeding). written (f .next .tally .lines) old) is),
       ),
     )

@@ -11,8 +11,18 @@ use Rattle.archive_report.proofs.Adding.start.Tie as tie
 
 returns : tie.Need-returns
 returns c =
-    let s = c .before .before .args .report in
-    (ap (λ (scan : Scan). adding (reportOf s) (record { lines = linesAt (s .lines) (s .count); kept = s .kept; loose = s .loose; over = false; scan = scan })) (c .before .start .ensures), (refl, refl))
+    let s = c .before .before .args .report in (
+      ap (λ (scan : Scan). adding (reportOf s)
+          (record {
+            lines = linesAt (s .lines) (s .count);
+            kept = s .kept;
+            loose = s .loose;
+            over = false;
+            scan = scan;
+          }))
+          (c .before .start .ensures),
+      (refl, refl),
+    )
 
 pub start-spec : {M : Type 1} → statement M
 start-spec =

@@ -37,16 +37,24 @@ returns : tie.Need-returns
 returns c =
     let t = c .before in
     let a = t .before .before .before .args in
-    let is = add-not (reportOf (a .self)) (sym (t .before .is-report .ensures) ∙ not-true _ (t .if1 .taken)) (now (a .buffer)) in
-    (c .kept .ensures .0 ∙ is, stay _ NotAccepted _ (a .self .lines) (sym (ap (λ (x : Addition). x .number) is)) (c .kept .ensures .1))
+    let is =
+    add-not (reportOf (a .self))
+    (sym (t .before .is-report .ensures) ∙ not-true _ (t .if1 .taken)) (now (a .buffer)) in (
+      c .kept .ensures .0 ∙ is,
+      stay _ NotAccepted _ (a .self .lines) (sym (ap (λ (x : Addition). x .number) is)) (c .kept .ensures .1),
+    )
 
 returns-2 : tie.Need-returns-2
 returns-2 c =
     let t = c .before in
     let e = t .before .before in
     let a = e .before .before .before .args in
-    let is = add-size (reportOf (a .self)) (yes e) (now (a .buffer)) (sym (t .before .is-whole .ensures) ∙ not-true _ (t .if2 .taken)) in
-    (c .kept2 .ensures .0 ∙ is, stay _ Size _ (a .self .lines) (sym (ap (λ (x : Addition). x .number) is)) (c .kept2 .ensures .1))
+    let is =
+    add-size (reportOf (a .self)) (yes e) (now (a .buffer))
+    (sym (t .before .is-whole .ensures) ∙ not-true _ (t .if2 .taken)) in (
+      c .kept2 .ensures .0 ∙ is,
+      stay _ Size _ (a .self .lines) (sym (ap (λ (x : Addition). x .number) is)) (c .kept2 .ensures .1),
+    )
 
 add-blocks-requires : tie.Need-add-blocks-requires
 add-blocks-requires c κs =
@@ -72,7 +80,8 @@ returns-3 c =
     let new = b .add-blocks .last .0 in
     let t = b .add-blocks .result in
     let cl : closing report (tallyOf t new) ≡ addOf report buffer =
-    ap (closing report) (b .add-blocks .ensures .0 ∙ ap (λ (t : Tally). addBlocks t (blocksIn buffer)) (b .before .start .ensures old))
+    ap (closing report)
+    (b .add-blocks .ensures .0 ∙ ap (λ (t : Tally). addBlocks t (blocksIn buffer)) (b .before .start .ensures old))
     ∙ closing-is report buffer (yes (e .before .before)) (whole e) in
     let is = c .close .ensures .0 ∙ cl in (
       is,
@@ -80,7 +89,8 @@ returns-3 c =
           ∙ done-as (addOf report buffer .number) new (written (addOf report buffer .next .lines) old) old
           (λ z.
           let w = closing-zero report (tallyOf t new) (ap (λ (x : Addition). x .number) cl ∙ z) in
-          lines-new (b .before .start .result) t old new (b .add-blocks .ensures .1) (long s) (b .add-blocks .kept .0 ∙ long s) (w .0)
+          lines-new (b .before .start .result) t old new (b .add-blocks .ensures .1)
+          (long s) (b .add-blocks .kept .0 ∙ long s) (w .0)
           ∙ ap (λ (l : List Line). written l old) (sym (w .1) ∙ ap (λ (x : Addition). x .next .lines) cl)),
     )
 

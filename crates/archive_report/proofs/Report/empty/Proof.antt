@@ -5,7 +5,10 @@ use Rattle.archive_report.proofs.Report.empty.Statement.{statement}
 use Rattle.archive_report.proofs.Report.empty.Tie as tie
 
 returns : tie.Need-returns
-returns c = (λ i. record { archives = 0; lines = lines-none (c .no-lines .result) 0 i; kept = 0; loose = 0 }, c .no-lines .ensures)
+returns c = (
+  λ i. record { archives = 0; lines = lines-none (c .no-lines .result) 0 i; kept = 0; loose = 0 },
+  c .no-lines .ensures,
+)
 
 pub empty-spec : {M : Type 1} → statement M
 empty-spec =

@@ -27,20 +27,26 @@ inside c =
 returns : tie.Need-returns
 returns c =
     let t = c .before in
-    c .no-line .ensures ∙ line-not (reportOf (t .before .before .args .self)) (sym (t .before .is-report .ensures) ∙ not-true _ (t .if1 .taken)) (t .before .before .args .i)
+    c .no-line .ensures
+    ∙ line-not (reportOf (t .before .before .args .self))
+    (sym (t .before .is-report .ensures) ∙ not-true _ (t .if1 .taken)) (t .before .before .args .i)
 
 returns-2 : tie.Need-returns-2
 returns-2 c =
     let e = c .before .before .before in
     let a = e .before .before .args in
-    c .no-line2 .ensures ∙ line-none (reportOf (a .self)) (yes e) (a .i) (omega (arith, lines-count (a .self .lines) 0 (a .self .count), c .before .if2 .taken))
+    c .no-line2 .ensures
+    ∙ line-none (reportOf (a .self)) (yes e) (a .i)
+    (omega (arith, lines-count (a .self .lines) 0 (a .self .count), c .before .if2 .taken))
 
 returns-3 : tie.Need-returns-3
 returns-3 c =
     let e = c .before .before .before in
     let a = e .before .before .args in
-    ap (λ (l : Line). record { number = 0; line = l }) (sym (line-at (a .self .lines) (a .self .count) (a .i) (c .before .if2 .left)))
-    ∙ line-found (reportOf (a .self)) (yes e) (a .i) (omega (arith, lines-count (a .self .lines) 0 (a .self .count), c .before .if2 .left))
+    ap (λ (l : Line). record { number = 0; line = l })
+    (sym (line-at (a .self .lines) (a .self .count) (a .i) (c .before .if2 .left)))
+    ∙ line-found (reportOf (a .self)) (yes e) (a .i)
+    (omega (arith, lines-count (a .self .lines) 0 (a .self .count), c .before .if2 .left))
 
 pub line-spec : {M : Type 1} → statement M
 line-spec =

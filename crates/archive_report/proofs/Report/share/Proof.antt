@@ -20,7 +20,9 @@ passed : (c : tie.Else1) → Passed (reportOf (c .before .before .args .self))
 passed c = facts (reportOf (c .before .before .args .self)) (yes c)
 
 returns : tie.Need-returns
-returns c = share-not (reportOf (c .before .before .args .self)) (sym (c .before .is-report .ensures) ∙ not-true _ (c .if1 .taken)) (c .before .before .args .received)
+returns c =
+    share-not (reportOf (c .before .before .args .self))
+    (sym (c .before .is-report .ensures) ∙ not-true _ (c .if1 .taken)) (c .before .before .args .received)
 
 returns-2 : tie.Need-returns-2
 returns-2 c =
@@ -30,12 +32,14 @@ returns-2 c =
 returns-3 : tie.Need-returns-3
 returns-3 c =
     let e = c .before .before .before in
-    share-few (reportOf (e .before .before .args .self)) (yes e) (e .before .before .args .received) (c .before .if2 .left) (c .if3 .taken)
+    share-few (reportOf (e .before .before .args .self)) (yes e)
+    (e .before .before .args .received) (c .before .if2 .left) (c .if3 .taken)
 
 returns-4 : tie.Need-returns-4
 returns-4 c =
     let e = c .before .before .before in
-    share-done (reportOf (e .before .before .args .self)) (yes e) (e .before .before .args .received) (c .before .if2 .left) (c .if3 .left)
+    share-done (reportOf (e .before .before .args .self)) (yes e)
+    (e .before .before .args .received) (c .before .if2 .left) (c .if3 .left)
 
 pub share-spec : {M : Type 1} → statement M
 share-spec =

@@ -18,12 +18,14 @@ find-requires c κs =
     (s .pre .1, s .pre .0, ordered-of (now (s .args .lines)) (s .args .count) (s .pre .2))
 
 -- what is known where the line is there
-found : (c : tie.Then1) → (c .before .before .before .find .result < c .before .before .before .before .before .before .args .count)
+found : (c : tie.Then1)
+    → (c .before .before .before .find .result < c .before .before .before .before .before .before .args .count)
     × (lineAt (now (c .before .before .before .before .before .before .args .lines)) (c .before .before .before .find .result) .identity ≡ c .before .before .before .before .before .before .args .identity)
 found c =
     let f = c .before .before .before in
     let a = f .before .before .before .args in
-    is-there (now (a .lines)) (a .count) (f .find .result) (a .identity) (sym (c .before .is-at .ensures) ∙ c .if1 .taken)
+    is-there (now (a .lines)) (a .count) (f .find .result)
+    (a .identity) (sym (c .before .is-at .ensures) ∙ c .if1 .taken)
 
 join-row-requires : tie.Need-join-row-requires
 join-row-requires c κs =
@@ -46,15 +48,19 @@ returns c =
     let xs = now (a .lines) in
     let i = f .find .result in
     joined-there xs (a .count) i (rowLine (a .identity) (a .time) (a .loose)) (f .find .ensures) (there .0) (there .1) _
-    (stored-as (ap (λ (x : ℕ). joined (rowLine x (a .time) (a .loose)) (lineAt xs i)) (there .1)) (j .join-row .ensures))
+    (stored-as (ap (λ (x : ℕ). joined (rowLine x (a .time) (a .loose)) (lineAt xs i)) (there .1))
+    (j .join-row .ensures))
 
 returns-2 : tie.Need-returns-2
 returns-2 c =
     let e = c .before in
     let f = e .before .before .before in
     let a = f .before .before .before .args in
-    no-room (now (a .lines)) (a .count) (f .find .result) (rowLine (a .identity) (a .time) (a .loose)) (f .find .ensures)
-    (not-there (now (a .lines)) (a .count) (f .find .result) (a .identity) (sym (e .before .is-at .ensures) ∙ e .if1 .left)) (c .if2 .taken)
+    no-room (now (a .lines)) (a .count) (f .find .result)
+    (rowLine (a .identity) (a .time) (a .loose)) (f .find .ensures)
+    (not-there (now (a .lines)) (a .count) (f .find .result)
+    (a .identity) (sym (e .before .is-at .ensures) ∙ e .if1 .left))
+    (c .if2 .taken)
 
 returns-3 : tie.Need-returns-3
 returns-3 c =
@@ -65,9 +71,21 @@ returns-3 c =
     let e = g .before .before .before in
     let f = e .before .before .before in
     let a = f .before .before .before .args in
-    put-there (now (a .lines)) (a .count) (f .find .result) (rowLine (a .identity) (a .time) (a .loose)) (f .find .ensures)
-    (not-there (now (a .lines)) (a .count) (f .find .result) (a .identity) (sym (e .before .is-at .ensures) ∙ e .if1 .left)) _ _ (g .make-gap .ensures)
-    (stored-as (λ t. record { identity = a .identity; kept = n .none-if .ensures t; loose = o .one-if .ensures t; earliest = a .time; latest = a .time }) (st .store-line .ensures))
+    put-there (now (a .lines)) (a .count) (f .find .result)
+    (rowLine (a .identity) (a .time) (a .loose)) (f .find .ensures)
+    (not-there (now (a .lines)) (a .count) (f .find .result)
+    (a .identity) (sym (e .before .is-at .ensures) ∙ e .if1 .left))
+    _ _
+    (g .make-gap .ensures)
+    (stored-as (λ t.
+    record {
+      identity = a .identity;
+      kept = n .none-if .ensures t;
+      loose = o .one-if .ensures t;
+      earliest = a .time;
+      latest = a .time;
+    })
+    (st .store-line .ensures))
 
 pub add-row-spec : {M : Type 1} → statement M
 add-row-spec =

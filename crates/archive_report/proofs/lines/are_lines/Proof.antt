@@ -44,30 +44,46 @@ latest c = omega (arith, c .before .before .shared-slice-known .given (lineLengt
 
 -- it and the others are those that are left
 next : (c : tie.In-loop Inv-loop μ-loop)
-    → isTally (linesFrom (xs c) (c .before .loop .i) (c .before .before .before .args .count - c .before .loop .i)) (c .before .loop .k) (c .before .loop .l)
+    → isTally (linesFrom (xs c) (c .before .loop .i) (c .before .before .before .args .count - c .before .loop .i))
+    (c .before .loop .k) (c .before .loop .l)
     ≡ lineFits (line c) (others c) (c .before .loop .k) (c .before .loop .l) && rest c
-next c = rest-next (xs c) (c .before .before .before .args .count) (c .before .loop .i) (c .before .loop .k) (c .before .loop .l) (c .loop-test .taken) (latest c)
+next c =
+    rest-next (xs c) (c .before .before .before .args .count) (c .before .loop .i)
+    (c .before .loop .k) (c .before .loop .l) (c .loop-test .taken) (latest c)
 
 -- line i fits
-told : (c : tie.Else1 Inv-loop μ-loop) → lineFits (line (c .before .before)) (others (c .before .before)) (c .before .before .before .loop .k) (c .before .before .before .loop .l) ≡ true
+told : (c : tie.Else1 Inv-loop μ-loop)
+    → lineFits (line (c .before .before)) (others (c .before .before))
+    (c .before .before .before .loop .k) (c .before .before .before .loop .l)
+    ≡ true
 told c = sym (c .before .fits2 .ensures) ∙ not-false _ (c .if1 .left)
 
 -- so it has no more rows than are left
-within : (c : tie.Else1 Inv-loop μ-loop) → (line (c .before .before) .kept ≤ c .before .before .before .loop .k) × (line (c .before .before) .loose ≤ c .before .before .before .loop .l)
-within c = fits-facts (line (c .before .before)) (others (c .before .before)) (c .before .before .before .loop .k) (c .before .before .before .loop .l) (told c)
+within : (c : tie.Else1 Inv-loop μ-loop)
+    → (line (c .before .before) .kept ≤ c .before .before .before .loop .k)
+    × (line (c .before .before) .loose ≤ c .before .before .before .loop .l)
+within c =
+    fits-facts (line (c .before .before)) (others (c .before .before))
+    (c .before .before .before .loop .k) (c .before .before .before .loop .l) (told c)
 
 loop-holds : tie.Need-loop-holds Inv-loop μ-loop
 loop-holds c =
     let a = c .before .args in
-    record { bounded = omega arith; few = omega arith; rest = rest-first (now (a .lines)) (a .count) (a .kept) (a .loose) }
+    record {
+      bounded = omega arith;
+      few = omega arith;
+      rest = rest-first (now (a .lines)) (a .count) (a .kept) (a .loose);
+    }
 
 fits-requires : tie.Need-fits-requires Inv-loop μ-loop
-fits-requires c κs = let s = c .before .before .before in (c .loop-test .taken, s .pre .0, s .pre .1, omega (arith, c .before .loop .inv .few, s .pre .2))
+fits-requires c κs = let s = c .before .before .before in
+    (c .loop-test .taken, s .pre .0, s .pre .1, omega (arith, c .before .loop .inv .few, s .pre .2))
 
 returns : tie.Need-returns Inv-loop μ-loop
 returns c =
     let d = c .before .before in
-    sym (sym (d .before .loop .inv .rest) ∙ next d ∙ ap (λ (b : Bool). b && rest d) (sym (c .before .fits2 .ensures) ∙ not-true _ (c .if1 .taken)))
+    sym (sym (d .before .loop .inv .rest) ∙ next d
+    ∙ ap (λ (b : Bool). b && rest d) (sym (c .before .fits2 .ensures) ∙ not-true _ (c .if1 .taken)))
 
 loop-again : tie.Need-loop-again Inv-loop μ-loop
 loop-again c =
@@ -83,7 +99,8 @@ returns-2 : tie.Need-returns-2 Inv-loop μ-loop
 returns-2 c =
     let at = c .before in
     let a = at .before .before .args in
-    sym (rest-end (now (a .lines)) (a .count) (at .loop .i) (at .loop .k) (at .loop .l) (c .loop-test .left)) ∙ at .loop .inv .rest
+    sym (rest-end (now (a .lines)) (a .count) (at .loop .i) (at .loop .k) (at .loop .l) (c .loop-test .left))
+    ∙ at .loop .inv .rest
 
 pub are-lines-spec : {M : Type 1} → statement M
 are-lines-spec =

@@ -16,8 +16,11 @@ abbrev μ-loop : tie.MeasureT-loop
 
 step-requires : tie.Need-step-requires Inv-loop μ-loop
 step-requires c κs =
-    let at = c .before in
-    (at .before .before .pre .0, omega (arith, c .loop-test .taken), omega (arith, at .loop .inv .few, c .loop-test .taken))
+    let at = c .before in (
+      at .before .before .pre .0,
+      omega (arith, c .loop-test .taken),
+      omega (arith, at .loop .inv .few, c .loop-test .taken),
+    )
 
 loop-again : tie.Need-loop-again Inv-loop μ-loop
 loop-again c =
@@ -27,7 +30,8 @@ loop-again c =
     let low = at .loop .low in
     let size = at .loop .size in
     let half = (size + 1) / 2 in
-    bracket-half (now (s .args .lines)) (s .args .count) (s .args .identity) (s .pre .2) low size half (low + half) (c .step .result) (at .loop .inv)
+    bracket-half (now (s .args .lines)) (s .args .count) (s .args .identity)
+    (s .pre .2) low size half (low + half) (c .step .result) (at .loop .inv)
     (omega (arith, d .loop-test .taken))
     (omega arith)
     (omega (arith, d .loop-test .taken))
@@ -38,7 +42,8 @@ returns : tie.Need-returns Inv-loop μ-loop
 returns c =
     let at = c .before in
     let a = at .before .before .args in
-    bracket-place (now (a .lines)) (a .count) (a .identity) (at .loop .low) (at .loop .size) (at .loop .inv) (omega (arith, c .loop-test .left))
+    bracket-place (now (a .lines)) (a .count) (a .identity) (at .loop .low)
+    (at .loop .size) (at .loop .inv) (omega (arith, c .loop-test .left))
 
 pub find-spec : {M : Type 1} → statement M
 find-spec =
@@ -46,7 +51,8 @@ find-spec =
     (tie.spec
     Inv-loop
     μ-loop
-    (λ c. bracket-start (now (c .before .args .lines)) (c .before .args .count) (c .before .args .identity) (c .before .pre .1))
+    (λ c. bracket-start (now (c .before .args .lines)) (c .before .args .count)
+    (c .before .args .identity) (c .before .pre .1))
     (λ c. omega (arith, c .before .loop .inv .few))
     (λ c. omega (arith, c .before .loop .inv .few, c .loop-test .taken))
     step-requires

@@ -12,13 +12,15 @@ use Rattle.archive_report.proofs.lines.fits.Tie as tie
 returns : tie.Need-returns
 returns c =
     let a = c .before .before .before .args in
-    fits-kept (lineAt (now (a .lines)) (a .i)) (linesFrom (now (a .lines)) (a .i + 1) (a .count - (a .i + 1))) (a .kept) (a .loose) (c .if1 .taken)
+    fits-kept (lineAt (now (a .lines)) (a .i))
+    (linesFrom (now (a .lines)) (a .i + 1) (a .count - (a .i + 1))) (a .kept) (a .loose) (c .if1 .taken)
 
 returns-2 : tie.Need-returns-2
 returns-2 c =
     let e = c .before .before in
     let a = e .before .before .before .args in
-    fits-loose (lineAt (now (a .lines)) (a .i)) (linesFrom (now (a .lines)) (a .i + 1) (a .count - (a .i + 1))) (a .kept) (a .loose) (e .if1 .left) (c .if2 .taken)
+    fits-loose (lineAt (now (a .lines)) (a .i)) (linesFrom (now (a .lines)) (a .i + 1) (a .count - (a .i + 1)))
+    (a .kept) (a .loose) (e .if1 .left) (c .if2 .taken)
 
 returns-3 : tie.Need-returns-3
 returns-3 c =
@@ -27,7 +29,8 @@ returns-3 c =
     let e1 = e2 .before .before in
     let a = e1 .before .before .before .args in
     ap₂ _&&_ (l .is-line .ensures) (c .is-before .ensures)
-    ∙ fits-both (lineAt (now (a .lines)) (a .i)) (linesFrom (now (a .lines)) (a .i + 1) (a .count - (a .i + 1))) (a .kept) (a .loose) (e1 .if1 .left) (e2 .if2 .left)
+    ∙ fits-both (lineAt (now (a .lines)) (a .i)) (linesFrom (now (a .lines)) (a .i + 1) (a .count - (a .i + 1)))
+    (a .kept) (a .loose) (e1 .if1 .left) (e2 .if2 .left)
 
 pub fits-spec : {M : Type 1} → statement M
 fits-spec =

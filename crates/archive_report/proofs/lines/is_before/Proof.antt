@@ -9,7 +9,8 @@ returns : tie.Need-returns
 returns c = before-none (now (c .before .args .lines)) (c .before .args .count) (c .before .args .i) (c .if1 .taken)
 
 returns-2 : tie.Need-returns-2
-returns-2 c = let e = c .before .before in before-more (now (e .before .args .lines)) (e .before .args .count) (e .before .args .i) (e .if1 .left)
+returns-2 c = let e = c .before .before in
+    before-more (now (e .before .args .lines)) (e .before .args .count) (e .before .args .i) (e .if1 .left)
 
 pub is-before-spec : {M : Type 1} → statement M
 is-before-spec =

@@ -21,14 +21,44 @@ make-gap-spec =
     (λ c. shift-none (c .args .from) (c .args .end) (now (c .args .lines)) (c .pre .0))
     (λ c. omega (arith, c .loop-test .taken))
     (λ c. omega (arith, c .before .loop .inv .high, c .before .loop .inv .long, c .before .before .pre .1))
-    (λ c. omega (arith, c .before .before .loop .inv .high, c .before .before .loop .inv .long, c .before .before .before .pre .1, c .before .loop-test .taken))
-    (λ c. omega (arith, c .before .before .loop .inv .high, c .before .before .loop .inv .long, c .before .before .before .pre .1, c .before .loop-test .taken))
-    (λ c. omega (arith, c .before .before .loop .inv .high, c .before .before .loop .inv .long, c .before .before .before .pre .1, c .before .loop-test .taken))
-    (λ c. omega (arith, c .before .before .loop .inv .high, c .before .before .loop .inv .long, c .before .before .before .pre .1, c .before .loop-test .taken))
+    (λ c.
+    omega (
+      arith,
+      c .before .before .loop .inv .high,
+      c .before .before .loop .inv .long,
+      c .before .before .before .pre .1,
+      c .before .loop-test .taken,
+    ))
+    (λ c.
+    omega (
+      arith,
+      c .before .before .loop .inv .high,
+      c .before .before .loop .inv .long,
+      c .before .before .before .pre .1,
+      c .before .loop-test .taken,
+    ))
+    (λ c.
+    omega (
+      arith,
+      c .before .before .loop .inv .high,
+      c .before .before .loop .inv .long,
+      c .before .before .before .pre .1,
+      c .before .loop-test .taken,
+    ))
+    (λ c.
+    omega (
+      arith,
+      c .before .before .loop .inv .high,
+      c .before .before .loop .inv .long,
+      c .before .before .before .pre .1,
+      c .before .loop-test .taken,
+    ))
     (λ c. omega (arith, c .before .loop-test .taken))
     (λ c.
     let at = c .before .before in
     let a = at .before .args in
-    shift-more (a .from) (a .end) (at .loop .i) (now (a .lines)) (at .loop .lines) (at .loop .inv) (c .before .loop-test .taken) (at .before .pre .1))
+    shift-more (a .from) (a .end) (at .loop .i) (now (a .lines)) (at .loop .lines)
+    (at .loop .inv) (c .before .loop-test .taken) (at .before .pre .1))
     (λ c. c .before .loop .inv .long)
-    (λ c. shifted (c .before .before .args .from) (c .before .before .args .end) (c .before .loop .i) (now (c .before .before .args .lines)) (c .before .loop .lines) (c .before .loop .inv) (c .loop-test .left)))
+    (λ c. shifted (c .before .before .args .from) (c .before .before .args .end) (c .before .loop .i)
+    (now (c .before .before .args .lines)) (c .before .loop .lines) (c .before .loop .inv) (c .loop-test .left)))

@@ -27,4 +27,5 @@ store-line-spec =
     (λ c. search needs)
     (λ c. simp length-set (search needs))
     (λ c. search needs)
-    (λ c. stored-line (now (c .args .lines)) (c .args .i) (c .args .identity) (c .args .kept) (c .args .loose) (c .args .earliest) (c .args .latest) (omega (arith, c .pre .0, c .pre .1))))
+    (λ c. stored-line (now (c .args .lines)) (c .args .i) (c .args .identity) (c .args .kept)
+    (c .args .loose) (c .args .earliest) (c .args .latest) (omega (arith, c .pre .0, c .pre .1))))

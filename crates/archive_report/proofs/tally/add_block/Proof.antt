@@ -28,10 +28,12 @@ use Rattle.archive_report.proofs.tally.add_block.Statement.{statement}
 use Rattle.archive_report.proofs.tally.add_block.Tie as tie
 
 -- no line is left, whatever stands in the array
-none-left : (xs : List ℕ) (r : Tally) (next : scan.Scan) → r ≡ record { scan = next; count = 0; kept = 0; loose = 0; over = true }
+none-left : (xs : List ℕ) (r : Tally) (next : scan.Scan)
+    → r ≡ record { scan = next; count = 0; kept = 0; loose = 0; over = true }
     → tallyOf r xs ≡ record { lines = []; kept = 0; loose = 0; over = true; scan = scanOf next }
 none-left xs r next e =
-    ap (λ (v : Tally). tallyOf v xs) e ∙ (λ i. record { lines = lines-none xs 0 i; kept = 0; loose = 0; over = true; scan = scanOf next })
+    ap (λ (v : Tally). tallyOf v xs) e
+    ∙ (λ i. record { lines = lines-none xs 0 i; kept = 0; loose = 0; over = true; scan = scanOf next })
 
 -- the array that rows were added to
 module _ {n m : ℕ} {rows : List Row} {old new : List ℕ} (added : AddedRows n rows old new m) where
@@ -53,9 +55,11 @@ block c = now (start c .args .block)
 scanned : (c : tie.After-feed) → scanOf (c .feed .result .next) ≡ scanBlock (scanOf (start c .args .t .scan)) (block c)
 scanned c =
     let s = start c in
-    ap (λ (f : Feeding). f .next) (c .feed .ensures ∙ fed (block c) (scanOf (s .args .t .scan)) (s .pre .0) (s .pre .3 .scanned) (s .pre .2))
+    ap (λ (f : Feeding). f .next)
+    (c .feed .ensures ∙ fed (block c) (scanOf (s .args .t .scan)) (s .pre .0) (s .pre .3 .scanned) (s .pre .2))
 
-grown : (c : tie.After-feed) → c .feed .result .next .rows ≡ start c .args .t .scan .rows + cond (isSound (block c)) (rowCount (block c)) 0
+grown : (c : tie.After-feed)
+    → c .feed .result .next .rows ≡ start c .args .t .scan .rows + cond (isSound (block c)) (rowCount (block c)) 0
 grown c = ap (λ (s : Scan). s .rows) (scanned c) ∙ rows-after (block c) (scanOf (start c .args .t .scan))
 
 -- how many rows count
@@ -79,8 +83,10 @@ returns c =
     let xs = now (a .lines) in (
       none-left xs (c .overflowed .result) (f .feed .result .next) (c .overflowed .ensures)
           ∙ over-block (tallyOf (a .t) xs) (block f) (scanOf (f .feed .result .next)) (scanned f)
-          (over-before (tallyOf (a .t) xs) (ltb maxLines (length (addRows (countedRows (block f)) (linesAt xs (a .t .count))))) (t .if1 .taken)),
-      grows-over (a .t) (c .overflowed .result) xs xs (ap (λ (v : Tally). v .over) (c .overflowed .ensures)) (ap (λ (v : Tally). v .count) (c .overflowed .ensures)),
+          (over-before (tallyOf (a .t) xs)
+          (ltb maxLines (length (addRows (countedRows (block f)) (linesAt xs (a .t .count))))) (t .if1 .taken)),
+      grows-over (a .t) (c .overflowed .result) xs xs (ap (λ (v : Tally). v .over) (c .overflowed .ensures))
+          (ap (λ (v : Tally). v .count) (c .overflowed .ensures)),
     )
 
 add-rows-requires : tie.Need-add-rows-requires
@@ -107,8 +113,13 @@ returns-2 c =
       none-there (r .add-rows .ensures) (c .overflowed2 .result) (f .feed .result .next) (c .overflowed2 .ensures)
           ∙ over-block (tallyOf (a .t) xs) (block f) (scanOf (f .feed .result .next)) (scanned f)
           (over-now (tallyOf (a .t) xs) (length (addRows (countedRows (block f)) (linesAt xs (a .t .count))))
-          (omega (arith, r .add-rows .ensures .many (t .if2 .taken), ap (λ (l : List Row). length (addRows l (linesAt xs (a .t .count)))) (rows f)))),
-      grows-over (a .t) (c .overflowed2 .result) xs _ (ap (λ (v : Tally). v .over) (c .overflowed2 .ensures)) (ap (λ (v : Tally). v .count) (c .overflowed2 .ensures)),
+          (omega (
+            arith,
+            r .add-rows .ensures .many (t .if2 .taken),
+            ap (λ (l : List Row). length (addRows l (linesAt xs (a .t .count)))) (rows f),
+          ))),
+      grows-over (a .t) (c .overflowed2 .result) xs _ (ap (λ (v : Tally). v .over) (c .overflowed2 .ensures))
+          (ap (λ (v : Tally). v .count) (c .overflowed2 .ensures)),
     )
 
 loose-rows-requires : tie.Need-loose-rows-requires
@@ -129,7 +140,14 @@ add-t16 c =
 add-t17 : tie.Need-add-t17
 add-t17 c =
     let f = c .before .before .before .before .before .before .before .before .before .before .before in
-    omega (arith, start f .pre .3 .totals, scan-few (scanOf (start f .args .t .scan)) (start f .pre .3 .scanned), few f, c .before .before .loose-rows .ensures, loose-few (block f) 0 (used f))
+    omega (
+      arith,
+      start f .pre .3 .totals,
+      scan-few (scanOf (start f .args .t .scan)) (start f .pre .3 .scanned),
+      few f,
+      c .before .before .loose-rows .ensures,
+      loose-few (block f) 0 (used f),
+    )
 
 returns-3 : tie.Need-returns-3
 returns-3 c =
@@ -141,10 +159,14 @@ returns-3 c =
     let a = start f .args in
     let xs = now (a .lines) in
     let t = tallyOf (a .t) xs in
-    let is = r .add-rows .ensures .lines (e .if2 .left) ∙ ap (λ (v : List Row). addRows v (linesAt xs (a .t .count))) (rows f) in
+    let is =
+    r .add-rows .ensures .lines (e .if2 .left)
+    ∙ ap (λ (v : List Row). addRows v (linesAt xs (a .t .count))) (rows f) in
     let o = l .loose-rows .ensures ∙ ap looseIn (rows f) in
-    let n : length (countedRows (block f)) ≡ used f = ap length (sym (rows f)) ∙ between-length (block f) 0 (used f) in (
-      done-block t (block f) (scanOf (f .feed .result .next)) (scanned f) _ _ _ (e1 .if1 .left) is (few-there (r .add-rows .ensures) (e .if2 .left))
+    let n : length (countedRows (block f)) ≡ used f =
+    ap length (sym (rows f)) ∙ between-length (block f) 0 (used f) in (
+      done-block t (block f) (scanOf (f .feed .result .next)) (scanned f) _ _ _
+          (e1 .if1 .left) is (few-there (r .add-rows .ensures) (e .if2 .left))
           (omega (arith, o, n, kinds (countedRows (block f)))) (omega (arith, o)),
       (
         record {

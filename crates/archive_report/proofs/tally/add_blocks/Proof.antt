@@ -21,7 +21,8 @@ use Rattle.archive_report.proofs.Arrays.{grows-none, grows-then}
 use Rattle.archive_report.proofs.tally.add_blocks.Statement.{statement}
 use Rattle.archive_report.proofs.tally.add_blocks.Tie as tie
 
-record Adding (lines₀ piece : List ℕ) (at₀ : code.Tally) (i-end : ℕ) (lines : List ℕ) (at : code.Tally) (i : ℕ) : Type 0 where
+record Adding (lines₀ piece : List ℕ) (at₀ : code.Tally) (i-end : ℕ)
+    (lines : List ℕ) (at : code.Tally) (i : ℕ) : Type 0 where
   bounded : i ≤ i-end
   ends : i-end ≡ length piece / blockLength
   long : length lines ≡ linesLength
@@ -50,7 +51,9 @@ loop-holds c =
       long = s .pre .0;
       passed = omega arith;
       sane = s .pre .2;
-      grows = grows-none (a .t) (now (a .lines)) (omega (arith, s .pre .2 .few, lines-count (now (a .lines)) 0 (a .t .count)));
+      grows =
+          grows-none (a .t) (now (a .lines))
+          (omega (arith, s .pre .2 .few, lines-count (now (a .lines)) 0 (a .t .count)));
       rest = ap (addBlocks (tallyOf (a .t) (now (a .lines)))) (rest-first (now (a .piece)) _ (omega arith));
     }
 
@@ -61,7 +64,8 @@ add-block-requires c κs =
     let s = at .before .before .before in
     let piece = now (s .args .piece) in
     let v = at .loop .inv in (
-      ap length (part-ends (blockLength * at .loop .i) blockLength piece) ∙ part-length (blockLength * at .loop .i) blockLength piece (omega (arith, d .loop-test .taken, v .ends)),
+      ap length (part-ends (blockLength * at .loop .i) blockLength piece)
+          ∙ part-length (blockLength * at .loop .i) blockLength piece (omega (arith, d .loop-test .taken, v .ends)),
       v .long,
       omega (arith, v .passed, v .ends, d .loop-test .taken, s .pre .1),
       v .sane,
@@ -83,8 +87,12 @@ loop-again c =
       ends = v .ends;
       long = b .add-block .kept .0 ∙ v .long;
       passed = omega (arith, blocks-of _ t (block d) e, v .passed);
-      sane = sane-as e (sane-next (block d) t (v .sane) (omega (arith, v .passed, v .ends, d .loop-test .taken, s .pre .1)));
-      grows = grows-then (s .args .t) (at .loop .at) (b .add-block .result) (now (s .args .lines)) (at .loop .lines) _ (v .grows) (b .add-block .ensures .1 .0) (b .add-block .ensures .1 .1);
+      sane =
+          sane-as e
+          (sane-next (block d) t (v .sane) (omega (arith, v .passed, v .ends, d .loop-test .taken, s .pre .1)));
+      grows =
+          grows-then (s .args .t) (at .loop .at) (b .add-block .result) (now (s .args .lines))
+          (at .loop .lines) _ (v .grows) (b .add-block .ensures .1 .0) (b .add-block .ensures .1 .1);
       rest = ap (λ (u : Tally). addBlocks u (blocksFrom piece (i + 1) (length piece / blockLength - (i + 1)))) e
           ∙ sym (blocks-next piece t (length piece / blockLength) i (omega (arith, d .loop-test .taken))) ∙ v .rest;
     }
@@ -94,7 +102,9 @@ returns c =
     let at = c .before in
     let s = at .before .before .before in
     let piece = now (s .args .piece) in (
-      sym (blocks-end piece (tallyOf (at .loop .at) (at .loop .lines)) (length piece / blockLength) (at .loop .i) (omega (arith, c .loop-test .left))) ∙ at .loop .inv .rest,
+      sym (blocks-end piece (tallyOf (at .loop .at) (at .loop .lines))
+          (length piece / blockLength) (at .loop .i) (omega (arith, c .loop-test .left)))
+          ∙ at .loop .inv .rest,
       at .loop .inv .grows,
     )
 

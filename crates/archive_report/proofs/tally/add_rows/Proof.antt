@@ -37,7 +37,9 @@ loop-holds c =
     let s = c .before .before in
     record {
       bounded = omega arith;
-      running = running-first (now (s .args .block)) (s .args .used) (s .args .count) (now (s .args .lines)) (s .pre .4) (s .pre .3) (s .pre .5);
+      running =
+          running-first (now (s .args .block)) (s .args .used) (s .args .count)
+          (now (s .args .lines)) (s .pre .4) (s .pre .3) (s .pre .5);
       grown = omega arith;
       behind = λ k h. refl;
     }
@@ -50,8 +52,10 @@ add-cell-requires c κs =
     let block = now (s .args .block) in
     let from = headerLength + cellLength * at .loop .i in
     let go = at .loop .inv .running in (
-      ap length (part-ends from cellLength block) ∙ part-length from cellLength block (omega (arith, s .pre .0, s .pre .1, d .loop-test .taken)),
-      ap (λ (l : List ℕ). isRow (rowIn l)) (part-ends from cellLength block) ∙ valid-row block (s .args .used) (at .loop .i) (s .pre .2) (d .loop-test .taken),
+      ap length (part-ends from cellLength block)
+          ∙ part-length from cellLength block (omega (arith, s .pre .0, s .pre .1, d .loop-test .taken)),
+      ap (λ (l : List ℕ). isRow (rowIn l)) (part-ends from cellLength block)
+          ∙ valid-row block (s .args .used) (at .loop .i) (s .pre .2) (d .loop-test .taken),
       go .few,
       go .long,
       go .rising,
@@ -71,11 +75,17 @@ returns c =
     let at = d .before in
     let s = at .before .before .before in
     let block = now (s .args .block) in
-    let ins = inserted-as (ap (λ (l : List ℕ). lineOf (rowIn l)) (part-ends (headerLength + cellLength * at .loop .i) cellLength block)) (r .add-cell .ensures) in
+    let ins =
+    inserted-as (ap (λ (l : List ℕ). lineOf (rowIn l))
+    (part-ends (headerLength + cellLength * at .loop .i) cellLength block))
+    (r .add-cell .ensures) in
     record {
       long = ins .long ∙ at .loop .inv .running .long ∙ sym (s .pre .4);
       lines = λ h. absurd (omega (arith, h, c .if1 .taken));
-      many = λ h. running-many block (s .args .used) (at .loop .n) (at .loop .i) (r .add-cell .result) (linesAt (now (s .args .lines)) (s .args .count)) (at .loop .lines) _ (at .loop .inv .running) (d .loop-test .taken) ins h;
+      many =
+          λ h. running-many block (s .args .used) (at .loop .n) (at .loop .i)
+          (r .add-cell .result) (linesAt (now (s .args .lines)) (s .args .count))
+          (at .loop .lines) _ (at .loop .inv .running) (d .loop-test .taken) ins h;
       grows = λ h. absurd (omega (arith, h, c .if1 .taken));
       behind = λ h. absurd (omega (arith, h, c .if1 .taken));
     }
@@ -87,12 +97,24 @@ loop-again c =
     let at = d .before in
     let s = at .before .before .before in
     let block = now (s .args .block) in
-    let ins = inserted-as (ap (λ (l : List ℕ). lineOf (rowIn l)) (part-ends (headerLength + cellLength * at .loop .i) cellLength block)) (r .add-cell .ensures) in
+    let ins =
+    inserted-as (ap (λ (l : List ℕ). lineOf (rowIn l))
+    (part-ends (headerLength + cellLength * at .loop .i) cellLength block))
+    (r .add-cell .ensures) in
     let more : at .loop .n ≤ r .add-cell .result =
-    omega (arith, ins .count, lines-count (at .loop .lines) 0 (at .loop .n), more-insert (lineOf (rowIn (part (headerLength + cellLength * at .loop .i) cellLength block))) (linesAt (at .loop .lines) (at .loop .n))) in
+    omega (
+      arith,
+      ins .count,
+      lines-count (at .loop .lines) 0 (at .loop .n),
+      more-insert (lineOf (rowIn (part (headerLength + cellLength * at .loop .i) cellLength block)))
+          (linesAt (at .loop .lines) (at .loop .n)),
+    ) in
     record {
       bounded = omega (arith, d .loop-test .taken);
-      running = running-next block (s .args .used) (at .loop .n) (at .loop .i) (r .add-cell .result) (linesAt (now (s .args .lines)) (s .args .count)) (at .loop .lines) _ (at .loop .inv .running) (d .loop-test .taken) ins (c .if1 .left);
+      running =
+          running-next block (s .args .used) (at .loop .n) (at .loop .i) (r .add-cell .result)
+          (linesAt (now (s .args .lines)) (s .args .count)) (at .loop .lines) _
+          (at .loop .inv .running) (d .loop-test .taken) ins (c .if1 .left);
       grown = omega (arith, at .loop .inv .grown, more);
       behind = λ k h. ins .behind k h ∙ at .loop .inv .behind k (omega (arith, h, more));
     }
@@ -104,7 +126,9 @@ returns-2 c =
     let go = at .loop .inv .running in
     record {
       long = go .long ∙ sym (s .pre .4);
-      lines = λ h. running-end (now (s .args .block)) (s .args .used) (at .loop .n) (at .loop .i) (linesAt (now (s .args .lines)) (s .args .count)) (at .loop .lines) go (c .loop-test .left);
+      lines =
+          λ h. running-end (now (s .args .block)) (s .args .used) (at .loop .n) (at .loop .i)
+          (linesAt (now (s .args .lines)) (s .args .count)) (at .loop .lines) go (c .loop-test .left);
       many = λ h. absurd (omega (arith, h, go .few));
       grows = λ h. at .loop .inv .grown;
       behind = λ h. at .loop .inv .behind;

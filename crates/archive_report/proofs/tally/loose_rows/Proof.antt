@@ -32,7 +32,10 @@ counted : (c : tie.After-one-if Inv-loop μ-loop)
 counted c =
     let at = c .before .before .before .before in
     c .one-if .ensures
-    ∙ ap (λ (b : Bool). cond b 1 0) (c .before .is-loose .ensures ∙ ap (λ (l : List ℕ). rowIn l .loose) (part-ends (headerLength + cellLength * at .loop .i) cellLength (now (at .before .before .args .block))))
+    ∙ ap (λ (b : Bool). cond b 1 0)
+    (c .before .is-loose .ensures
+    ∙ ap (λ (l : List ℕ). rowIn l .loose)
+    (part-ends (headerLength + cellLength * at .loop .i) cellLength (now (at .before .before .args .block))))
 
 one-le : (b : Bool) → cond b 1 0 ≤ 1
 one-le true = omega arith
@@ -42,7 +45,14 @@ add-n : tie.Need-add-n Inv-loop μ-loop
 add-n c =
     let at = c .before .before .before .before in
     let s = at .before .before in
-    omega (arith, at .loop .inv .rest, loose-few (now (s .args .block)) 0 (s .args .used), s .pre .1, c .one-if .ensures, one-le (c .before .is-loose .result))
+    omega (
+      arith,
+      at .loop .inv .rest,
+      loose-few (now (s .args .block)) 0 (s .args .used),
+      s .pre .1,
+      c .one-if .ensures,
+      one-le (c .before .is-loose .result),
+    )
 
 loop-again : tie.Need-loop-again Inv-loop μ-loop
 loop-again c =
@@ -63,7 +73,11 @@ returns : tie.Need-returns Inv-loop μ-loop
 returns c =
     let at = c .before in
     let s = at .before .before in
-    omega (arith, at .loop .inv .rest, loose-end (now (s .args .block)) (s .args .used) (at .loop .i) (c .loop-test .left))
+    omega (
+      arith,
+      at .loop .inv .rest,
+      loose-end (now (s .args .block)) (s .args .used) (at .loop .i) (c .loop-test .left),
+    )
 
 pub loose-rows-spec : {M : Type 1} → statement M
 loose-rows-spec =

@@ -58,7 +58,8 @@ tested c =
 returns : tie.Need-returns
 returns c =
     let k = c .before .before in
-    let e : acceptable (stateAt (lent (entry k))) ≡ false = sym (k .is-acceptable .ensures _) ∙ not-true _ (c .before .if1 .taken) in
+    let e : acceptable (stateAt (lent (entry k))) ≡ false =
+    sym (k .is-acceptable .ensures _) ∙ not-true _ (c .before .if1 .taken) in
     record {
       answer = rw e (c .number .ensures);
       taken = λ z. absurd (omega (arith, c .number .ensures));
@@ -108,7 +109,9 @@ returns-4 c =
     let e = after-tests k .before in
     record {
       answer = rw (acceptable-here (after-state (e .before)), sized e, after-tests k .if3 .left);
-      taken = λ z. rw (c .before .store .ensures) (rw (k .summary-of .ensures .0, h .format-of .ensures) at (t .take-rows-as .ensures));
+      taken =
+          λ z. rw (c .before .store .ensures)
+          (rw (k .summary-of .ensures .0, h .format-of .ensures) at (t .take-rows-as .ensures));
       stays = λ n. absurd (n refl);
     }
 

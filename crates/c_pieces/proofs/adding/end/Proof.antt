@@ -18,7 +18,9 @@ abbrev start : tie.After-end → tie.Start
 start c = c .before .before .before .before
 
 abbrev was : tie.After-end → Adding
-was c = addingAt (now (start c .args .numbers)) (now (start c .args .lines)) (now (start c .args .adding)) (now (start c .args .tally))
+was c =
+    addingAt (now (start c .args .numbers)) (now (start c .args .lines))
+    (now (start c .args .adding)) (now (start c .args .tally))
 
 -- the position that an answer leaves
 abbrev place : ℕ → Addition → ℕ
@@ -34,7 +36,8 @@ number c = c .settle .ensures .0 ∙ ap (λ (x : Addition). x .number) (is (c .b
 lines : (c : tie.After-end) → endedOf (was c) .number ≡ 0 → c .end .result .next .lines ≡ now (start c .args .tally)
 lines c z =
     let a = c .before .adding-in .ensures in
-    let n : endedOf (addingOf (c .before .adding-in .result)) .number ≡ 0 = ap (λ (x : Adding). endedOf x .number) (a .0) ∙ z in
+    let n : endedOf (addingOf (c .before .adding-in .result)) .number ≡ 0 =
+    ap (λ (x : Adding). endedOf x .number) (a .0) ∙ z in
     c .end .ensures .1 ∙ (rw (eq-eqb (endedOf (addingOf (c .before .adding-in .result)) .number) 0 n) (a .1))
 
 refused : tie.Need-returns

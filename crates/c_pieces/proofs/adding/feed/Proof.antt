@@ -16,19 +16,23 @@ abbrev start : tie.After-feed → tie.Start
 start c = c .before .before .before .before .before
 
 abbrev was : tie.After-feed → Adding
-was c = addingAt (now (start c .args .numbers)) (now (start c .args .lines)) (now (start c .args .adding)) (now (start c .args .tally))
+was c =
+    addingAt (now (start c .args .numbers)) (now (start c .args .lines))
+    (now (start c .args .adding)) (now (start c .args .tally))
 
 abbrev expected : tie.After-feed → Feeding
 expected c = feedOf (was c) (now (start c .args .piece))
 
 is : (c : tie.After-feed) → feedResult (c .feed .result) ≡ expected c
-is c = c .feed .ensures .0 ∙ ap (λ (x : Adding). feedOf x (now (start c .args .piece))) (c .before .adding-in .ensures .0)
+is c =
+    c .feed .ensures .0 ∙ ap (λ (x : Adding). feedOf x (now (start c .args .piece))) (c .before .adding-in .ensures .0)
 
 -- every number of the lines
 lines : (c : tie.After-feed) → c .feed .result .next .lines ≡ linesFed (expected c) (now (start c .args .tally))
 lines c =
     let a = c .before .adding-in .ensures in
-    c .feed .ensures .1 .1 ∙ ap₂ (λ (x : Adding) (l : List ℕ). linesFed (feedOf x (now (start c .args .piece))) l) (a .0) (a .1)
+    c .feed .ensures .1 .1
+    ∙ ap₂ (λ (x : Adding) (l : List ℕ). linesFed (feedOf x (now (start c .args .piece))) l) (a .0) (a .1)
 
 number : (c : tie.After-taken-number) → c .taken-number .result ≡ expected (c .before) .number
 number c = c .taken-number .ensures ∙ ap (λ (x : Feeding). x .number) (is (c .before))
@@ -38,7 +42,9 @@ refused c =
     let t = c .before in
     let f = t .before in
     record {
-      result = ap₂ fed (number t) (sym (feed-kept (was f) (now (start f .args .piece)) (λ z. c .if1 .taken (number t ∙ z))));
+      result =
+          ap₂ fed (number t)
+          (sym (feed-kept (was f) (now (start f .args .piece)) (λ z. c .if1 .taken (number t ∙ z))));
       numbersStay = λ n. refl;
       linesStay = λ n. refl;
       numbersAre = λ z. absurd (c .if1 .taken z);
@@ -55,7 +61,8 @@ taken c =
       result =
           ap₂ (λ (n : ℕ) (t : Tally). fed n (adding (reportAt (now (a .numbers)) (now (a .lines))) t)) (number t)
           (c .store .ensures .0 ∙ ap (λ (x : Feeding). x .next .tally) (is f))
-          ∙ ap (λ r. fed (expected f .number) (adding r (expected f .next .tally))) (sym (feed-report (was f) (now (a .piece))));
+          ∙ ap (λ r. fed (expected f .number) (adding r (expected f .next .tally)))
+          (sym (feed-report (was f) (now (a .piece))));
       numbersStay = λ n. absurd (n (e .if1 .left));
       linesStay = λ n. absurd (n (e .if1 .left));
       numbersAre = λ z. c .store .ensures .1 ∙ ap (λ (x : Feeding). tallyNumbers (x .next .tally)) (is f);

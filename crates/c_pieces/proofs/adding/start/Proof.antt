@@ -14,7 +14,9 @@ returns c =
     let s = c .before .before .before in
     let r = s .before in
     let a = r .before .args in
-    let is = ap (λ (x : Adding). x .tally) (s .start .ensures .0 ∙ ap (λ (x : Report). startAdding x) (r .report-in .ensures .0)) in (
+    let is =
+    ap (λ (x : Adding). x .tally)
+    (s .start .ensures .0 ∙ ap (λ (x : Report). startAdding x) (r .report-in .ensures .0)) in (
       ap (λ (t : Tally). adding (reportAt (now (a .numbers)) (now (a .lines))) t) (c .store .ensures .0 ∙ is),
       c .store .ensures .1 ∙ ap tallyNumbers is,
       c .store .ensures .2 ∙ s .start .ensures .1 .1 ∙ r .report-in .ensures .1,

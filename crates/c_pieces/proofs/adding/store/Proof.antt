@@ -13,8 +13,18 @@ returns c =
     let p = b .before in
     let n = p .before in
     let a = n .before .before .args .a in (
-      rw (n .stage-number .ensures, p .stage-position .ensures, stage-back (stageOf (a .scan .stage)), b .bit .ensures .0),
-      rw (n .stage-number .ensures, p .stage-position .ensures, b .bit .ensures .1, lines-count (a .lines) 0 (a .count)),
+      rw (
+        n .stage-number .ensures,
+        p .stage-position .ensures,
+        stage-back (stageOf (a .scan .stage)),
+        b .bit .ensures .0,
+      ),
+      rw (
+        n .stage-number .ensures,
+        p .stage-position .ensures,
+        b .bit .ensures .1,
+        lines-count (a .lines) 0 (a .count),
+      ),
       refl,
     )
 

@@ -15,13 +15,15 @@ refused : tie.Need-returns
 refused c =
     let t = c .before in
     let f = ended t in
-    end-not (t .taken-number .result) (now (start f .args .length)) (t .taken-number .ensures) (f .finish .ensures) (c .if1 .taken)
+    end-not (t .taken-number .result) (now (start f .args .length))
+    (t .taken-number .ensures) (f .finish .ensures) (c .if1 .taken)
 
 done : tie.Need-returns-2
 done c =
     let t = c .before in
     let f = ended t in
-    end-done (t .taken-number .result) (now (start f .args .length)) (t .taken-number .ensures) (f .finish .ensures) (c .if1 .left)
+    end-done (t .taken-number .result) (now (start f .args .length))
+    (t .taken-number .ensures) (f .finish .ensures) (c .if1 .left)
 
 pub end-spec : {M : Type 1} → statement M
 end-spec =

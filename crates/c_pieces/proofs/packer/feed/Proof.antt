@@ -15,13 +15,15 @@ refused : tie.Need-returns
 refused c =
     let t = c .before in
     let p = fed t in
-    pack-not (t .taken-number .result) (now (start p .args .dropped)) (t .taken-number .ensures) (p .pack .ensures) (c .if1 .taken)
+    pack-not (t .taken-number .result) (now (start p .args .dropped))
+    (t .taken-number .ensures) (p .pack .ensures) (c .if1 .taken)
 
 packed : tie.Need-returns-2
 packed c =
     let t = c .before in
     let p = fed t in
-    pack-done (t .taken-number .result) (now (start p .args .dropped)) (t .taken-number .ensures) (p .pack .ensures) (c .if1 .left)
+    pack-done (t .taken-number .result) (now (start p .args .dropped))
+    (t .taken-number .ensures) (p .pack .ensures) (c .if1 .left)
 
 pub feed-spec : {M : Type 1} → statement M
 feed-spec =

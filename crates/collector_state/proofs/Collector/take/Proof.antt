@@ -21,14 +21,16 @@ abbrev reception : tie.Start → Reception
 reception s = record { bytes = now (s .args .bytes); time = s .args .time }
 
 made : (c : tie.After-decide)
-    → Decides (testing c .is-acceptable .result) (columnsOf (start c .args .t1)) (start c .args .t1 .summary) (reception (start c)) (c .decide .result)
+    → Decides (testing c .is-acceptable .result) (columnsOf (start c .args .t1))
+    (start c .args .t1 .summary) (reception (start c)) (c .decide .result)
 made c = c .decide .ensures (start c .args .t1 .copies)
 
 change-times-requires : tie.Need-change-times-requires
 change-times-requires c κs = let d = made (c .before) in (d .few, λ e. d .room e .0)
 
 change-copies-requires : tie.Need-change-copies-requires
-change-copies-requires c κs = let d = made (c .before .before .before .before .before .before .before) in (d .few, d .inside, λ e. d .room e .0)
+change-copies-requires c κs = let d = made (c .before .before .before .before .before .before .before) in
+    (d .few, d .inside, λ e. d .room e .0)
 
 returns : tie.Need-returns
 unfolding viewOf
@@ -39,8 +41,12 @@ returns c =
     let bytes = c .before .before .before .change-bytes .ensures in
     let k = carried-out (made d) times lens bytes (c .before .change-copies .ensures) in
     record {
-      outcome = k .outcome ∙ admission-fit (viewOf (start d .args .t1)) (reception (start d)) _ (testing d .is-acceptable .ensures _);
-      elements = k .elements ∙ columns-fit (viewOf (start d .args .t1)) (reception (start d)) _ _ (testing d .is-acceptable .ensures _);
+      outcome =
+          k .outcome
+          ∙ admission-fit (viewOf (start d .args .t1)) (reception (start d)) _ (testing d .is-acceptable .ensures _);
+      elements =
+          k .elements
+          ∙ columns-fit (viewOf (start d .args .t1)) (reception (start d)) _ _ (testing d .is-acceptable .ensures _);
       stays = λ e. let same = k .stays e in λ i. collectorOf (same .0 i) (same .1 i);
     }
 

@@ -44,7 +44,10 @@ returns c copies =
     sym (telegrams-not (table l copies) i (start l .args .count) (omega arith)
     (new-not-valid (table l copies) i (c .before .mark-at .ensures .invalid (c .if1 .taken))))
 
-valid : (c : tie.Else1 Inv-loop μ-loop) → isValid (shownAt (now (start (at (c .before)) .args .lens)) (now (start (at (c .before)) .args .bytes)) (at (c .before) .loop .i)) ≡ true
+valid : (c : tie.Else1 Inv-loop μ-loop)
+    → isValid (shownAt (now (start (at (c .before)) .args .lens))
+    (now (start (at (c .before)) .args .bytes)) (at (c .before) .loop .i))
+    ≡ true
 valid c = c .before .mark-at .ensures .valid (c .if1 .left)
 
 is-repeated-requires : tie.Need-is-repeated-requires Inv-loop μ-loop
@@ -71,8 +74,11 @@ loop-again c =
       passed = λ copies. telegrams-more (table l copies) i (l .loop .inv .passed copies)
           (new-both (table l copies) i (valid e)
           (not-known (c .before .is-repeated .ensures copies) (c .if2 .left)
-          (λ z. new-mark (table l copies) i (l .loop .seen) (l .loop .inv .marked) (valid e) (ap (λ (n : ℕ). getD (l .loop .seen) n 0) (sym mark) ∙ z))));
-      marked = marked-more (now (start l .args .lens)) (now (start l .args .bytes)) i (l .loop .seen) (l .loop .inv .marked) _ mark (e .if1 .left);
+          (λ z. new-mark (table l copies) i (l .loop .seen) (l .loop .inv .marked)
+          (valid e) (ap (λ (n : ℕ). getD (l .loop .seen) n 0) (sym mark) ∙ z))));
+      marked =
+          marked-more (now (start l .args .lens)) (now (start l .args .bytes)) i
+          (l .loop .seen) (l .loop .inv .marked) _ mark (e .if1 .left);
     }
 
 returns-3 : tie.Need-returns-3 Inv-loop μ-loop
@@ -88,7 +94,12 @@ are-telegrams-spec =
     Inv-loop
     μ-loop
     (λ c κs. search needs)
-    (λ c. record { bounded = omega arith; passed = λ copies. telegrams-none _; marked = marked-none _ _ _ (c .no-marks .ensures) })
+    (λ c.
+    record {
+      bounded = omega arith;
+      passed = λ copies. telegrams-none _;
+      marked = marked-none _ _ _ (c .no-marks .ensures);
+    })
     (λ c κs. omega arith)
     returns
     (λ c. omega arith)

@@ -40,7 +40,8 @@ returns c table e =
     sym (
     sym (timely table e (a .count) (a .latest) (omega arith))
     ∙ sym (l .loop .inv .rest)
-    ∙ rising-not (now (a .times)) (l .loop .i) (a .count) (l .loop .earliest) (a .latest) (omega arith) (omega arith) (c .if1 .taken)
+    ∙ rising-not (now (a .times)) (l .loop .i) (a .count) (l .loop .earliest)
+    (a .latest) (omega arith) (omega arith) (c .if1 .taken)
     )
 
 loop-again : tie.Need-loop-again Inv-loop μ-loop
@@ -49,7 +50,10 @@ loop-again c =
     let a = l .before .before .before .args in
     record {
       bounded = omega arith;
-      rest = sym (rising-more (now (a .times)) (l .loop .i) (a .count) (l .loop .earliest) (a .latest) (omega arith) (omega arith) (c .if1 .left)) ∙ l .loop .inv .rest;
+      rest =
+          sym (rising-more (now (a .times)) (l .loop .i) (a .count)
+          (l .loop .earliest) (a .latest) (omega arith) (omega arith) (c .if1 .left))
+          ∙ l .loop .inv .rest;
     }
 
 returns-2 : tie.Need-returns-2 Inv-loop μ-loop

@@ -22,33 +22,39 @@ returns c copies = too-many _ _ (entries-length _ _) (c .if1 .taken)
 returns-2 : tie.Need-returns-2
 returns-2 c copies =
     let t = c .before in
-    not-timely _ _ (entries-length _ _) (t .before .before .if1 .left) (sym (t .are-timely .ensures _ refl) ∙ not-true _ (c .if2 .taken))
+    not-timely _ _ (entries-length _ _) (t .before .before .if1 .left)
+    (sym (t .are-timely .ensures _ refl) ∙ not-true _ (c .if2 .taken))
 
 timely : (c : tie.Else2) (copies : List ℕ)
-    → (let s = c .before .before .before .before .before in areTimely (s .args .summary .latest) (entriesAt (table s copies) (s .args .summary .count)) ≡ true)
+    → (let s = c .before .before .before .before .before in
+    areTimely (s .args .summary .latest) (entriesAt (table s copies) (s .args .summary .count)) ≡ true)
 timely c copies = sym (c .before .are-timely .ensures _ refl) ∙ not-false _ (c .if2 .left)
 
 returns-3 : tie.Need-returns-3
 returns-3 c copies =
     let t = c .before in
     let e = t .before .before .before .before in
-    not-telegrams _ _ (entries-length _ _) (e .if1 .left) (timely (t .before) copies) (sym (t .are-telegrams .ensures copies) ∙ not-true _ (c .if3 .taken))
+    not-telegrams _ _ (entries-length _ _) (e .if1 .left) (timely (t .before) copies)
+    (sym (t .are-telegrams .ensures copies) ∙ not-true _ (c .if3 .taken))
 
 telegrams : (c : tie.Else3) (copies : List ℕ)
-    → (let s = c .before .before .before .before .before .before .before in areTelegrams (entriesAt (table s copies) (s .args .summary .count)) ≡ true)
+    → (let s = c .before .before .before .before .before .before .before in
+    areTelegrams (entriesAt (table s copies) (s .args .summary .count)) ≡ true)
 telegrams c copies = sym (c .before .are-telegrams .ensures copies) ∙ not-false _ (c .if3 .left)
 
 returns-4 : tie.Need-returns-4
 returns-4 c copies =
     let t = c .before in
     let e = t .before .before .before .before .before .before in
-    not-summed _ _ (entries-length _ _) (e .if1 .left) (timely (t .before .before .before) copies) (telegrams (t .before) copies) (sym (t .is-summed .ensures) ∙ not-true _ (c .if4 .taken))
+    not-summed _ _ (entries-length _ _) (e .if1 .left) (timely (t .before .before .before) copies)
+    (telegrams (t .before) copies) (sym (t .is-summed .ensures) ∙ not-true _ (c .if4 .taken))
 
 returns-5 : tie.Need-returns-5
 returns-5 c copies =
     let t = c .before .before in
     let e = t .before .before .before .before .before .before in
-    all-passed _ _ (entries-length _ _) (e .if1 .left) (timely (t .before .before .before) copies) (telegrams (t .before) copies) (sym (t .is-summed .ensures) ∙ not-false _ (c .before .if4 .left))
+    all-passed _ _ (entries-length _ _) (e .if1 .left) (timely (t .before .before .before) copies)
+    (telegrams (t .before) copies) (sym (t .is-summed .ensures) ∙ not-false _ (c .before .if4 .left))
 
 pub is-acceptable-spec : {M : Type 1} → statement M
 is-acceptable-spec =

@@ -17,10 +17,13 @@ use Rattle.collector_state.proofs.acceptable.is_repeated.Tie as tie
 abbrev start : tie.After-telegram → tie.Start
 start c = c .before .before .before .before .before
 
-shown : (c : tie.After-telegram) → now (c .telegram .result) ≡ shownAt (now (start c .args .lens)) (now (start c .args .bytes)) (start c .args .i)
+shown : (c : tie.After-telegram)
+    → now (c .telegram .result) ≡ shownAt (now (start c .args .lens)) (now (start c .args .bytes)) (start c .args .i)
 shown c =
     let a = start c .args in
-    c .telegram .ensures ∙ ap (λ (n : ℕ). resized n (part (maxLength * a .i) maxLength (now (a .bytes)))) (c .before .before .wide .ensures)
+    c .telegram .ensures
+    ∙ ap (λ (n : ℕ). resized n (part (maxLength * a .i) maxLength (now (a .bytes))))
+    (c .before .before .wide .ensures)
 
 returns : tie.Need-returns
 returns c copies = record { new = λ _. refl; old = λ n. absurd (n (c .if1 .taken)) }
@@ -28,8 +31,14 @@ returns c copies = record { new = λ _. refl; old = λ n. absurd (n (c .if1 .tak
 find-requires : tie.Need-find-requires
 find-requires c κs =
     let a = start (c .before) .args in
-    let long = ap length (shown (c .before)) ∙ resized-length (getD (now (a .lens)) (a .i) 0) (part (maxLength * a .i) maxLength (now (a .bytes))) in
-    (omega arith, omega arith, omega (arith, start (c .before) .pre .1, long), omega (arith, start (c .before) .pre .2, long))
+    let long =
+    ap length (shown (c .before))
+    ∙ resized-length (getD (now (a .lens)) (a .i) 0) (part (maxLength * a .i) maxLength (now (a .bytes))) in (
+      omega arith,
+      omega arith,
+      omega (arith, start (c .before) .pre .1, long),
+      omega (arith, start (c .before) .pre .2, long),
+    )
 
 returns-2 : tie.Need-returns-2
 returns-2 c copies =

@@ -11,5 +11,10 @@ is-summed-spec =
     (λ c. summed-not (c .before .before .args .n) (λ e. omega arith))
     (λ c. summed-not (c .before .before .before .before .before .args .n) (λ e. omega arith))
     (λ c. summed-not (c .before .before .before .before .before .before .before .before .args .n) (λ e. omega arith))
-    (λ c. summed-not (c .before .before .before .before .before .before .before .before .before .before .before .args .n) (λ e. omega arith))
-    (λ c. summed-left (c .before .before .before .before .before .before .before .before .before .before .before .before .before .args .n) (omega arith)))
+    (λ c.
+    summed-not (c .before .before .before .before .before .before .before .before .before .before .before .args .n)
+    (λ e. omega arith))
+    (λ c.
+    summed-left
+    (c .before .before .before .before .before .before .before .before .before .before .before .before .before .args .n)
+    (omega arith)))

@@ -12,15 +12,23 @@ use Rattle.collector_state.proofs.acceptable.mark.Tie as tie
 abbrev known : tie.After-wide3 → tie.After-shared-slice-known
 known c = c .before .before .before .before .before .before
 
-small : (c : tie.After-wide3) → (c .before .before .before .before .wide .result < 256) × (c .before .before .wide2 .result < 256) × (c .wide3 .result < 256)
+small : (c : tie.After-wide3)
+    → (c .before .before .before .before .wide .result < 256)
+    × (c .before .before .wide2 .result < 256) × (c .wide3 .result < 256)
 small c =
     let k = known c in
-    let n = length (now (k .before .args .telegram)) in
-    (omega (arith, k .shared-slice-known .given (n - 3)), omega (arith, k .shared-slice-known .given (n - 4)), omega (arith, k .shared-slice-known .given 1))
+    let n = length (now (k .before .args .telegram)) in (
+      omega (arith, k .shared-slice-known .given (n - 3)),
+      omega (arith, k .shared-slice-known .given (n - 4)),
+      omega (arith, k .shared-slice-known .given 1),
+    )
 
 returns : tie.Need-returns
 unfolding markOf
-returns c = (rw (c .before .before .before .before .wide .ensures, c .before .before .wide2 .ensures, c .wide3 .ensures), omega arith)
+returns c = (
+  rw (c .before .before .before .before .wide .ensures, c .before .before .wide2 .ensures, c .wide3 .ensures),
+  omega arith,
+)
 
 pub mark-spec : {M : Type 1} → statement M
 mark-spec =

@@ -16,10 +16,13 @@ use Rattle.collector_state.proofs.acceptable.mark_at.Tie as tie
 abbrev start : tie.After-telegram → tie.Start
 start c = c .before .before .before .before .before
 
-shown : (c : tie.After-telegram) → now (c .telegram .result) ≡ shownAt (now (start c .args .lens)) (now (start c .args .bytes)) (start c .args .i)
+shown : (c : tie.After-telegram)
+    → now (c .telegram .result) ≡ shownAt (now (start c .args .lens)) (now (start c .args .bytes)) (start c .args .i)
 shown c =
     let a = start c .args in
-    c .telegram .ensures ∙ ap (λ (n : ℕ). resized n (part (maxLength * a .i) maxLength (now (a .bytes)))) (c .before .before .before .wide .ensures)
+    c .telegram .ensures
+    ∙ ap (λ (n : ℕ). resized n (part (maxLength * a .i) maxLength (now (a .bytes))))
+    (c .before .before .before .wide .ensures)
 
 returns : tie.Need-returns
 returns c =
@@ -29,11 +32,14 @@ returns c =
 returns-2 : tie.Need-returns-2
 returns-2 c =
     let why = c .enum-told .given .0 .0 in
-    rw (← shown (c .before .before .before)) (no-mark (not-valid _ why (told-refused _ _ (c .before .before .check .ensures) why (c .enum-told .given .1))))
+    rw (← shown (c .before .before .before))
+    (no-mark (not-valid _ why (told-refused _ _ (c .before .before .check .ensures) why (c .enum-told .given .1))))
 
 returns-3 : tie.Need-returns-3
 returns-3 c =
-    rw (← shown (c .before .before .before .before)) (has-mark (told-valid _ _ (c .before .before .before .check .ensures) (c .before .enum-told2 .given .1)) (c .mark .ensures .0) (c .mark .ensures .1))
+    rw (← shown (c .before .before .before .before))
+    (has-mark (told-valid _ _ (c .before .before .before .check .ensures) (c .before .enum-told2 .given .1))
+    (c .mark .ensures .0) (c .mark .ensures .1))
 
 pub mark-at-spec : {M : Type 1} → statement M
 mark-at-spec =

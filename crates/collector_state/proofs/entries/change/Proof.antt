@@ -7,7 +7,8 @@ change-times-requires : tie.Need-change-times-requires
 change-times-requires c κs = let p = c .before .before .pre in (p .0, λ e. p .2 e .0)
 
 change-copies-requires : tie.Need-change-copies-requires
-change-copies-requires c κs = let p = c .before .before .before .before .before .before .before .before .pre in (p .0, p .1, λ e. p .2 e .0)
+change-copies-requires c κs = let p = c .before .before .before .before .before .before .before .before .pre in
+    (p .0, p .1, λ e. p .2 e .0)
 
 returns : tie.Need-returns
 returns c = (

@@ -21,8 +21,15 @@ returns-2 c =
     let e = c .before .before in
     record {
       long = omega arith;
-      is = rw (not-false (e .before .before .before .before .args .kept) (e .if1 .left), ← e .before .move-bytes .ensures) (c .store-bytes .ensures);
+      is =
+          rw (
+            not-false (e .before .before .before .before .args .kept) (e .if1 .left),
+            ← e .before .move-bytes .ensures,
+          )
+          (c .store-bytes .ensures);
     }
 
 pub change-bytes-spec : {M : Type 1} → statement M
-change-bytes-spec = tie.close (tie.spec (λ c. omega arith) (λ c. omega arith) (λ c κs. omega arith) returns store-bytes-requires returns-2)
+change-bytes-spec =
+    tie.close (tie.spec (λ c. omega arith) (λ c. omega arith)
+    (λ c κs. omega arith) returns store-bytes-requires returns-2)

@@ -21,4 +21,5 @@ returns-2 c = record {
 }
 
 pub change-times-spec : {M : Type 1} → statement M
-change-times-spec = tie.close (tie.spec (λ c κs. search needs) returns (λ c. search needs) element-write-times returns-2)
+change-times-spec =
+    tie.close (tie.spec (λ c κs. search needs) returns (λ c. search needs) element-write-times returns-2)

@@ -37,4 +37,6 @@ returns-2 c =
     more-one (a .i) (now (a .copies)) {test = a .heard} (not-false _ (e .if1 .left)) (c .one-more .ensures)
 
 pub credit-spec : {M : Type 1} → statement M
-credit-spec = tie.close (tie.spec returns mul-one-more element-copy-out-one-more (λ c κs. search needs) mul-copies element-write-copies returns-2)
+credit-spec =
+    tie.close (tie.spec returns mul-one-more element-copy-out-one-more
+    (λ c κs. search needs) mul-copies element-write-copies returns-2)

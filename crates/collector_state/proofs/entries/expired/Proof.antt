@@ -41,14 +41,20 @@ loop-again c =
     let a = l .before .args in
     record {
       bounded = omega arith;
-      closed = below-more _ _ (l .loop .inv .closed) (lt-leb (a .time - getD (now (a .times)) (l .loop .i) 0) maturity (omega arith));
+      closed =
+          below-more _ _ (l .loop .inv .closed)
+          (lt-leb (a .time - getD (now (a .times)) (l .loop .i) 0) maturity (omega arith));
     }
 
 returns-2 : tie.Need-returns-2 Inv-loop μ-loop
 returns-2 c =
     let l = c .before in
     let e : l .loop .i ≡ l .before .args .count = omega arith in
-    record { few = omega arith; closed = λ k h. l .loop .inv .closed k (omega arith); first = λ h. absurd (omega arith) }
+    record {
+      few = omega arith;
+      closed = λ k h. l .loop .inv .closed k (omega arith);
+      first = λ h. absurd (omega arith);
+    }
 
 pub expired-spec : {M : Type 1} → statement M
 expired-spec =

@@ -62,12 +62,14 @@ copied c copies =
     let h = held c in
     let l = turn (h .before) in
     same-echo (table l copies) (l .loop .i - 1) (reception l) (sym (h .before .holds .ensures) ∙ h .if1 .taken)
-    ∙ echo-said (table l copies) (l .loop .i - 1) (reception l) _ _ _ (known l .is-original .ensures) refl (c .is-echo .ensures)
+    ∙ echo-said (table l copies) (l .loop .i - 1) (reception l) _ _ _
+    (known l .is-original .ensures) refl (c .is-echo .ensures)
 
 returns : tie.Need-returns Inv-loop μ-loop
 returns c copies =
     let l = turn (held (c .before) .before) in
-    last-found (table l copies) (start l .args .gone) (start l .args .count) (reception l) (l .loop .i - 1) (omega arith) (omega arith)
+    last-found (table l copies) (start l .args .gone) (start l .args .count)
+    (reception l) (l .loop .i - 1) (omega arith) (omega arith)
     (copied (c .before) copies ∙ c .if2 .taken)
     (λ j h k. l .loop .inv .none copies j (omega arith) k)
 
@@ -77,7 +79,8 @@ loop-again c =
     record {
       above = omega arith;
       bounded = omega arith;
-      none = λ copies. down (λ j. isCopyOf (entryAt (table l copies) j) (reception l)) (l .loop .i) (start l .args .count)
+      none =
+          λ copies. down (λ j. isCopyOf (entryAt (table l copies) j) (reception l)) (l .loop .i) (start l .args .count)
           (copied (c .before) copies ∙ c .if2 .left) (l .loop .inv .none copies);
     }
 
@@ -87,14 +90,17 @@ loop-again-2 c =
     record {
       above = omega arith;
       bounded = omega arith;
-      none = λ copies. down (λ j. isCopyOf (entryAt (table l copies) j) (reception l)) (l .loop .i) (start l .args .count)
-          (not-same (table l copies) (l .loop .i - 1) (reception l) (sym (c .before .holds .ensures) ∙ c .if1 .left)) (l .loop .inv .none copies);
+      none =
+          λ copies. down (λ j. isCopyOf (entryAt (table l copies) j) (reception l)) (l .loop .i) (start l .args .count)
+          (not-same (table l copies) (l .loop .i - 1) (reception l) (sym (c .before .holds .ensures) ∙ c .if1 .left))
+          (l .loop .inv .none copies);
     }
 
 returns-2 : tie.Need-returns-2 Inv-loop μ-loop
 returns-2 c copies =
     let l = c .before in
-    none-found (table l copies) (start l .args .gone) (start l .args .count) (reception l) (λ j g k. l .loop .inv .none copies j (omega arith) k)
+    none-found (table l copies) (start l .args .gone) (start l .args .count)
+    (reception l) (λ j g k. l .loop .inv .none copies j (omega arith) k)
 
 pub find-spec : {M : Type 1} → statement M
 find-spec =

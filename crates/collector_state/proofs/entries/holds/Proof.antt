@@ -14,12 +14,14 @@ use Rattle.collector_state.proofs.entries.holds.Tie as tie
 returns : tie.Need-returns
 returns c =
     let a = c .before .before .before .before .args in
-    sym (other-byte (now (a .lens)) (now (a .bytes)) (a .i) (now (a .received)) (omega arith) (omega arith) (length (now (a .received)) - 3) (omega arith) (c .if1 .taken))
+    sym (other-byte (now (a .lens)) (now (a .bytes)) (a .i) (now (a .received)) (omega arith)
+    (omega arith) (length (now (a .received)) - 3) (omega arith) (c .if1 .taken))
 
 returns-2 : tie.Need-returns-2
 returns-2 c =
     let a = c .before .before .before .before .before .before .before .args in
-    sym (longer-not-same (now (a .lens)) (now (a .bytes)) (a .i) (now (a .received)) (λ e. c .if2 .taken (c .before .wide .ensures ∙ e)))
+    sym (longer-not-same (now (a .lens)) (now (a .bytes)) (a .i)
+    (now (a .received)) (λ e. c .if2 .taken (c .before .wide .ensures ∙ e)))
 
 returns-3 : tie.Need-returns-3
 returns-3 c =
@@ -32,4 +34,6 @@ returns-3 c =
 pub holds-spec : {M : Type 1} → statement M
 holds-spec =
     tie.close
-    (tie.spec (λ c. search needs) (λ c. search needs) (λ c. search needs) (λ c. search needs) (λ c. search needs) (λ c. search needs) returns (λ c. search needs) (λ c κs. search needs) returns-2 (λ c κs. search needs) (λ c κs. search needs) returns-3)
+    (tie.spec (λ c. search needs) (λ c. search needs) (λ c. search needs) (λ c. search needs)
+    (λ c. search needs) (λ c. search needs) returns (λ c. search needs)
+    (λ c κs. search needs) returns-2 (λ c κs. search needs) (λ c κs. search needs) returns-3)

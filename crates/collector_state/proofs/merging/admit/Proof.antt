@@ -66,7 +66,8 @@ passing c = c .before .before
 abbrev looking : tie.After-expired → tie.Start
 looking c = start (checking (passing c) .before .before .before)
 
-looked : (c : tie.After-expired) → Looked (table (looking c)) (looking c .args .summary) (reception (looking c)) (c .expired .result)
+looked : (c : tie.After-expired)
+    → Looked (table (looking c)) (looking c .args .summary) (reception (looking c)) (c .expired .result)
 looked c = record {
   passed = sym (checking (passing c) .check-reception .ensures) ∙ ap checkedNumber (passing c .enum-told .given .1);
   expired = c .expired .ensures;
@@ -93,11 +94,17 @@ decided c answer entry kept heard = let left = first c .args .summary .count - e
   heard = heard;
   entry = entry;
   kept = kept;
-  summary = record { count = plusIf kept left; latest = first c .args .time; totals = tally (shownOf answer) (first c .args .summary .totals) };
+  summary =
+      record {
+        count = plusIf kept left;
+        latest = first c .args .time;
+        totals = tally (shownOf answer) (first c .args .summary .totals);
+      };
   answer = answer;
 }
 
-made : (c : tie.After-classify) (judged : Judged) → c .classify .result ≡ judged → (answer : Answer) → judgedAs judged ≡ shownOf answer
+made : (c : tie.After-classify) (judged : Judged) → c .classify .result ≡ judged
+    → (answer : Answer) → judgedAs judged ≡ shownOf answer
     → (kept heard : Bool) → kept ≡ isKept (shownOf answer) → heard ≡ isCopy (shownOf answer)
     → Decides (first c .args .fit) (table (first c)) (first c .args .summary) (reception (first c))
     (decided c answer (judgedEntry judged) kept heard)
@@ -109,13 +116,16 @@ made c judged found-so answer shown kept heard keeps hears =
 -- the cases
 abbrev Made : tie.After-classify → Answer → ℕ → Bool → Bool → Type 0
 Made c answer entry kept heard =
-    Decides (first c .args .fit) (table (first c)) (first c .args .summary) (reception (first c)) (decided c answer entry kept heard)
+    Decides (first c .args .fit) (table (first c)) (first c .args .summary)
+    (reception (first c)) (decided c answer entry kept heard)
 
 kept : (c : tie.After-enum-told2) → Made (c .before .before) answer.Kept 0 true false
 kept c = made (c .before .before) judged.Kept (c .enum-told2 .given .1) answer.Kept refl true false refl refl
 
 copied : (c : tie.After-judged) → Made (c .before .before) answer.Copy (c .judged .given .0 .0) false true
-copied c = made (c .before .before) (judged.Copy (c .judged .given .0 .0)) (c .judged .given .1) answer.Copy refl false true refl refl
+copied c =
+    made (c .before .before) (judged.Copy (c .judged .given .0 .0))
+    (c .judged .given .1) answer.Copy refl false true refl refl
 
 loose : (c : tie.After-enum-told3) → Made (c .before .before) answer.Loose 0 false false
 loose c = made (c .before .before) judged.Loose (c .enum-told3 .given .1) answer.Loose refl false false refl refl
@@ -192,19 +202,22 @@ returns-4 : tie.Need-returns-4
 returns-4 c =
     let d = c .before .before in
     let x = d .change .ensures in
-    rw (c .now-open .ensures, c .before .counted .ensures) (carried-out (kept (keeping (d .before))) (x .0) (x .1) (x .2) (x .3))
+    rw (c .now-open .ensures, c .before .counted .ensures)
+    (carried-out (kept (keeping (d .before))) (x .0) (x .1) (x .2) (x .3))
 
 returns-5 : tie.Need-returns-5
 returns-5 c =
     let d = c .before .before in
     let x = d .change2 .ensures in
-    rw (c .now-open2 .ensures, c .before .counted2 .ensures) (carried-out (copied (copying (d .before))) (x .0) (x .1) (x .2) (x .3))
+    rw (c .now-open2 .ensures, c .before .counted2 .ensures)
+    (carried-out (copied (copying (d .before))) (x .0) (x .1) (x .2) (x .3))
 
 returns-6 : tie.Need-returns-6
 returns-6 c =
     let d = c .before .before in
     let x = d .change3 .ensures in
-    rw (c .now-open3 .ensures, c .before .counted3 .ensures) (carried-out (loose (leaving (d .before))) (x .0) (x .1) (x .2) (x .3))
+    rw (c .now-open3 .ensures, c .before .counted3 .ensures)
+    (carried-out (loose (leaving (d .before))) (x .0) (x .1) (x .2) (x .3))
 
 pub admit-spec : {M : Type 1} → statement M
 admit-spec =

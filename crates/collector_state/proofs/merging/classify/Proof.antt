@@ -29,7 +29,8 @@ reception c = record { bytes = now (start c .args .received); time = start c .ar
 abbrev opened : tie.After-find → List ℕ → List Entry
 opened c copies = drop (start c .args .gone) (entriesAt (table c copies) (start c .args .count))
 
-open-length : (c : tie.After-find) (copies : List ℕ) → length (opened c copies) ≡ start c .args .count - start c .args .gone
+open-length : (c : tie.After-find) (copies : List ℕ)
+    → length (opened c copies) ≡ start c .args .count - start c .args .gone
 open-length c copies = left-length (table c copies) (start c .args .gone) (start c .args .count)
 
 known : (c : tie.After-find) (copies : List ℕ)
@@ -44,21 +45,26 @@ find-requires c κs = let p = c .before .pre in (omega (arith, p .0), p .1, p .2
 returns : tie.Need-returns
 returns c copies =
     let f = c .before in
-    record { answer = answer-copy _ _ (sym (known f copies) ∙ lt-ltb _ _ (c .if1 .taken)); entry = λ _. f .find .ensures copies }
+    record {
+      answer = answer-copy _ _ (sym (known f copies) ∙ lt-ltb _ _ (c .if1 .taken));
+      entry = λ _. f .find .ensures copies;
+    }
 
 returns-2 : tie.Need-returns-2
 returns-2 c copies =
     let e = c .before in
     let f = e .before in
     judged-other Loose refl
-    (rw (open-length f copies) (answer-loose _ _ (sym (known f copies) ∙ le-ltb _ _ (e .if1 .left)) (le-leb _ _ (c .if2 .taken))))
+    (rw (open-length f copies)
+    (answer-loose _ _ (sym (known f copies) ∙ le-ltb _ _ (e .if1 .left)) (le-leb _ _ (c .if2 .taken))))
 
 returns-3 : tie.Need-returns-3
 returns-3 c copies =
     let e = c .before in
     let f = e .before in
     judged-other Kept refl
-    (rw (open-length f copies) (answer-kept _ _ (sym (known f copies) ∙ le-ltb _ _ (e .if1 .left)) (lt-leb _ _ (c .if2 .left))))
+    (rw (open-length f copies)
+    (answer-kept _ _ (sym (known f copies) ∙ le-ltb _ _ (e .if1 .left)) (lt-leb _ _ (c .if2 .left))))
 
 pub classify-spec : {M : Type 1} → statement M
 classify-spec = tie.close (tie.spec (λ c. omega arith) find-requires returns returns-2 returns-3)

@@ -36,5 +36,6 @@ counted-any-spec =
     (λ c κs. search needs)
     (λ c κs t. below (c .before .before .before .before .before .before .before .before .before .pre) .damaged)
     (λ c κs. search needs)
-    (λ c κs t. below (c .before .before .before .before .before .before .before .before .before .before .before .pre) .late)
+    (λ c κs t.
+    below (c .before .before .before .before .before .before .before .before .before .before .before .pre) .late)
     returns)

@@ -93,7 +93,8 @@ returns-2 c copies =
     rw (c .nothing2 .ensures)
     (decides-refused (s .args .fit) (table s copies) (s .args .summary) (reception s)
     (admits-nothing (s .args .fit) (table s copies) (s .args .summary) (reception s) Full
-    (all-full (s .args .fit) (table s copies) (s .args .summary) (reception s) (fit f) (omega (arith, c .before .if2 .taken)))))
+    (all-full (s .args .fit) (table s copies) (s .args .summary)
+    (reception s) (fit f) (omega (arith, c .before .if2 .taken)))))
 
 -- the reception is refused
 abbrev refusing : tie.After-checked → tie.After-check-reception
@@ -122,7 +123,9 @@ abbrev expiring : tie.After-answer-of → tie.After-expired
 expiring c = c .before .before
 
 count-after-requires : tie.Need-count-after-requires
-count-after-requires c κs e = room (looked (expiring (c .before)) []) (c .before .answer-of .result) (judged (c .before) []) (c .is-kept .ensures) e .0
+count-after-requires c κs e =
+    room (looked (expiring (c .before)) []) (c .before .answer-of .result)
+    (judged (c .before) []) (c .is-kept .ensures) e .0
 
 counted-requires : tie.Need-counted-requires
 counted-requires c κs = countable (checking (expiring (answered c)) .before)
@@ -133,7 +136,8 @@ returns-4 c copies =
     let j = answered n in
     let e = checking (expiring j) .before in
     rw (c .entry-of .ensures)
-    (decides (looked (expiring j) copies) (j .answer-of .result) (judged j copies) (n .before .is-kept .ensures) (c .before .is-copy .ensures)
+    (decides (looked (expiring j) copies) (j .answer-of .result) (judged j copies)
+    (n .before .is-kept .ensures) (c .before .is-copy .ensures)
     (n .count-after .ensures) (c .before .before .counted .ensures)
     (fit (e .before .before) .few) (looking (expiring j) .args .fit) (taken e copies))
 

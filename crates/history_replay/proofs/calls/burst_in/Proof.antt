@@ -20,7 +20,8 @@ returns c =
     let moments = frames .before in
     let count = moments .before in
     let s = count .before .before .before .before in
-    made (now (s .args .records)) (count .least .result) (count .least .ensures) _ _ (moments .moments-in .ensures) (frames .frames-in .ensures) (call .burst .ensures)
+    made (now (s .args .records)) (count .least .result) (count .least .ensures) _ _
+    (moments .moments-in .ensures) (frames .frames-in .ensures) (call .burst .ensures)
 
 pub burst-in-spec : {M : Type 1} → statement M
 burst-in-spec =

@@ -81,7 +81,8 @@ first c =
     let v = stateAt (lent-arrays (start at)) in
     packed
     (lend (begin out) _ (seenBytes (wroteOf v (output at))) (end at)
-    (c .put-wrote .ensures ∙ ap (λ (o : List ℕ). seenBytes (wroteOf v o)) (output-is (now (start at .args .r)) (part 0 (end at - 0) out)
+    (c .put-wrote .ensures
+    ∙ ap (λ (o : List ℕ). seenBytes (wroteOf v o)) (output-is (now (start at .args .r)) (part 0 (end at - 0) out)
     (first-room at ∙ omega (arith, output-length at))))
     (c .put-wrote .kept .1 .1 .1 .1 .1 .0) (omega arith) (omega arith))
 
@@ -94,7 +95,8 @@ both c =
     let at = lengths (cells-put c) in
     let h = room at in
     packed
-    (lend (first (cells-put c) .begun) _ (headOf restoring (call totals .restore .result) (totals .totals-of .result)) (end at + 50) (c .put-head .ensures)
+    (lend (first (cells-put c) .begun) _ (headOf restoring (call totals .restore .result) (totals .totals-of .result))
+    (end at + 50) (c .put-head .ensures)
     (c .put-head .kept .0) (omega arith) (omega arith))
 
 returns : tie.Need-returns
@@ -105,7 +107,8 @@ returns c =
     let m = least (t .before .before) in
     let at = lengths (put m) in
     resumed (totals .totals-of .ensures) (output at) _ refl (m .before .fresh .ensures)
-    (restored-as (image-lent (stateAt (lent-arrays (start at))) (output at) _ _ (m .least .result) (first (put m) .begun .is)
+    (restored-as (image-lent (stateAt (lent-arrays (start at)))
+    (output at) _ _ (m .least .result) (first (put m) .begun .is)
     (m .least .ensures ∙ omega (arith, output-length at)))
     (t .restore .ensures))
     (done (both second .begun) (room at))
@@ -126,13 +129,16 @@ cut-spec =
     (λ c. omega (arith, c .least .ensures))
     (λ c. search needs)
     (λ c. search needs)
-    (λ c. within (first (put (least c)) .begun) _ (omega (arith, room (lengths (put (least c))), least c .least .ensures)))
+    (λ c. within (first (put (least c)) .begun) _
+    (omega (arith, room (lengths (put (least c))), least c .least .ensures)))
     (λ c κs. search needs)
     (λ c κs. search needs)
     (λ c. omega (arith, lengths (put (least (call c .before .before))) .output-length .ensures .1))
     (λ c. search needs)
     (λ c. search needs)
-    (λ c. within (first (put (least (call c .before .before))) .begun) _ (omega (arith, room (lengths (put (least (call c .before .before)))))))
-    (λ c κs. lent (first (put (least (call (c .before) .before .before))) .begun) 50 _ refl (omega (arith, room (lengths (put (least (call (c .before) .before .before)))))))
+    (λ c. within (first (put (least (call c .before .before))) .begun) _
+    (omega (arith, room (lengths (put (least (call c .before .before)))))))
+    (λ c κs. lent (first (put (least (call (c .before) .before .before))) .begun) 50 _ refl
+    (omega (arith, room (lengths (put (least (call (c .before) .before .before)))))))
     (λ c. begun-length (both (c .before .before) .begun))
     returns)

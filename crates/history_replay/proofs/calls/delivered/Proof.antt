@@ -64,7 +64,9 @@ abbrev new : tie.After-burst-in → List ℕ
 new c = c .burst-in .last .1 .1 .1 .1 .1 .1 .1 .0
 
 new-length : (c : tie.After-burst-in) → length (new c) ≡ 24 * m (counted c .before)
-new-length c = front-length (24 * m (counted c .before)) (counted c .places-in .result) (new c) (in-places (counted c)) (c .burst-in .kept .1 .1 .1 .1 .1 .1 .1 .0)
+new-length c =
+    front-length (24 * m (counted c .before)) (counted c .places-in .result)
+    (new c) (in-places (counted c)) (c .burst-in .kept .1 .1 .1 .1 .1 .1 .1 .0)
 
 -- ---- what is written
 
@@ -75,7 +77,8 @@ step1 c =
     let at = counted b .before in
     let h = room at in
     packed
-    (lend (begin (now (start at .args .out))) _ (headOf delivering (b .burst-in .result) (totals .totals-of .result) ++ be 8 (m at)) 58 (c .put-body .ensures)
+    (lend (begin (now (start at .args .out))) _
+    (headOf delivering (b .burst-in .result) (totals .totals-of .result) ++ be 8 (m at)) 58 (c .put-body .ensures)
     (c .put-body .kept .0) (omega arith) (omega arith))
 
 abbrev at-count : tie.After-put-body → tie.After-place-count
@@ -86,23 +89,32 @@ step2 c =
     let at = at-count (body c) in
     let h = room at in
     packed
-    (lend (step1 (body c) .begun) _ _ (58 + 31 * m at) (c .put-places .ensures) (c .put-places .kept .0) (omega arith) (omega arith))
+    (lend (step1 (body c) .begun) _ _ (58 + 31 * m at) (c .put-places .ensures)
+    (c .put-places .kept .0) (omega arith) (omega arith))
 
 -- the places that are lent again
 all-back : (c : tie.After-put-body) → 24 * m (at-count c)
-    ≤ length (come-back (24 * m (at-count c)) (counted (burst (c .before .before)) .places-in .result) (new (burst (c .before .before))))
+    ≤ length (come-back (24 * m (at-count c))
+    (counted (burst (c .before .before)) .places-in .result) (new (burst (c .before .before))))
 all-back c =
     let b = burst (c .before .before) in
     let kept = b .burst-in .kept .1 .1 .1 .1 .1 .1 .1 .0 in
-    omega (arith, come-back-length (24 * m (at-count c)) (counted b .places-in .result) (new b) (in-places (counted b)) kept, in-places (counted b))
+    omega (
+      arith,
+      come-back-length (24 * m (at-count c)) (counted b .places-in .result) (new b) (in-places (counted b)) kept,
+      in-places (counted b),
+    )
 
 places-back : (c : tie.After-put-body)
     → length (part 0 (24 * m (at-count c) - 0)
-    (come-back (24 * m (at-count c)) (counted (burst (c .before .before)) .places-in .result) (new (burst (c .before .before)))))
+    (come-back (24 * m (at-count c)) (counted (burst (c .before .before)) .places-in .result)
+    (new (burst (c .before .before)))))
     ≡ 24 * m (at-count c)
 places-back c =
     let b = burst (c .before .before) in
-    ap length (come-back-front (24 * m (at-count c)) (counted b .places-in .result) (new b) (in-places (counted b)) (b .burst-in .kept .1 .1 .1 .1 .1 .1 .1 .0))
+    ap length
+    (come-back-front (24 * m (at-count c)) (counted b .places-in .result)
+    (new b) (in-places (counted b)) (b .burst-in .kept .1 .1 .1 .1 .1 .1 .1 .0))
     ∙ new-length b
 
 returns : tie.Need-returns
@@ -114,14 +126,18 @@ returns c =
     let at = places .before in
     let s = start at in
     let r = now (s .args .r) in
-    delivered (totals .totals-of .ensures) (settingIn r) (receptionsIn (lentIn (now (s .args .lent)) r)) _ (new call) (placesIn r) (m at)
+    delivered (totals .totals-of .ensures) (settingIn r)
+    (receptionsIn (lentIn (now (s .args .lent)) r)) _ (new call) (placesIn r) (m at)
     (made-as (ap receptionsIn (call .before .before .lent-in .ensures)) (call .burst-in .ensures))
-    (ap repliesIn (front (24 * m at) (places .places-in .result) ∙ places .places-in .ensures) ∙ places-lent r (m at) (s .pre .0)
+    (ap repliesIn (front (24 * m at) (places .places-in .result) ∙ places .places-in .ensures)
+    ∙ places-lent r (m at) (s .pre .0)
     ∙ ap (λ n. replicate n (placeIn r)) (at .place-count .ensures .0))
     (count (new call) (m at) (new-length call))
     (done (step2 put .begun) (room at)
-    ∙ ap (λ (l : List ℕ). headOf delivering (call .burst-in .result) (totals .totals-of .result) ++ be 8 (m at) ++ flatten (map replyOf (repliesIn l)))
-    (come-back-front (24 * m at) (places .places-in .result) (new call) (in-places places) (call .burst-in .kept .1 .1 .1 .1 .1 .1 .1 .0)))
+    ∙ ap (λ (l : List ℕ). headOf delivering (call .burst-in .result) (totals .totals-of .result)
+    ++ be 8 (m at) ++ flatten (map replyOf (repliesIn l)))
+    (come-back-front (24 * m at) (places .places-in .result) (new call)
+    (in-places places) (call .burst-in .kept .1 .1 .1 .1 .1 .1 .1 .0)))
 
 pub delivered-spec : {M : Type 1} → statement M
 delivered-spec =

@@ -33,7 +33,8 @@ returns c =
     let l = output-length v entry ys fill n (s .pre) (save .save-into .kept .1 .1 .1 .1 .1 .0) in
     saved-output v entry ys fill n (s .pre) (save .save-into .ensures) (save .save-into .kept .1 .1 .1 .1 .1 .0) _
     (lend (begin _) _ (headOf saving n (v .totals) ++ be 8 (rest v entry ys fill n (s .pre))) 58
-    (put .put-body .ensures ∙ λ i. headOf saving n (totals .totals-of .ensures i) ++ be 8 (rest v entry ys fill n (s .pre)))
+    (put .put-body .ensures
+    ∙ λ i. headOf saving n (totals .totals-of .ensures i) ++ be 8 (rest v entry ys fill n (s .pre)))
     (put .put-body .kept .0) (omega arith) (omega (arith, l)))
 
 pub put-wrote-spec : {M : Type 1} → statement M

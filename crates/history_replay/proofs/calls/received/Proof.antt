@@ -23,8 +23,11 @@ start c =
     b .before .before .before
 
 -- the bytes that are lent are those that the record says
-lent-bytes : (c : tie.After-least) → part 10 (10 + c .least .result - 10) (now (start c .args .r)) ≡ receptionIn (now (start c .args .r)) .bytes
-lent-bytes c = bytes-lent (now (start c .args .r)) _ (c .least .result) (c .least .ensures ∙ ap₂ min (c .before .wide .ensures) refl)
+lent-bytes : (c : tie.After-least)
+    → part 10 (10 + c .least .result - 10) (now (start c .args .r)) ≡ receptionIn (now (start c .args .r)) .bytes
+lent-bytes c =
+    bytes-lent (now (start c .args .r)) _ (c .least .result)
+    (c .least .ensures ∙ ap₂ min (c .before .wide .ensures) refl)
 
 abbrev least : tie.After-take → tie.After-least
 least c =
@@ -51,9 +54,11 @@ returns c =
     let at = least take in
     let r = now (start at .args .r) in
     received (totals .totals-of .ensures) (settingIn r)
-    (heard-as (λ i. record { bytes = lent-bytes at i; time = at .before .before .before .number-at .ensures i }) (take .take .ensures))
+    (heard-as (λ i. record { bytes = lent-bytes at i; time = at .before .before .before .number-at .ensures i })
+    (take .take .ensures))
     _ _ _
-    (sent .sent-for .ensures ∙ λ i. cond (eqb (take .take .result) 0) (repeatResult (settingIn r) (lent-bytes at i) .sent) (frameOf []))
+    (sent .sent-for .ensures
+    ∙ λ i. cond (eqb (take .take .result) 0) (repeatResult (settingIn r) (lent-bytes at i) .sent) (frameOf []))
     (form .form-with .ensures) refl (put .put-answered .ensures)
 
 pub received-spec : {M : Type 1} → statement M

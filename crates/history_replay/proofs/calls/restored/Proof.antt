@@ -11,7 +11,8 @@ returns c =
     let totals = put .before .before in
     let arg = totals .before .before .before in
     let call = arg .before .before .before in
-    restored (totals .totals-of .ensures) (restored-as (call .before .lent-in .ensures) (call .restore .ensures)) (put .put-head .ensures)
+    restored (totals .totals-of .ensures)
+    (restored-as (call .before .lent-in .ensures) (call .restore .ensures)) (put .put-head .ensures)
 
 pub restored-spec : {M : Type 1} → statement M
 restored-spec =

@@ -26,7 +26,9 @@ returns c =
     let s = first .before .before .before .before in
     let a = s .args in
     saved (outputIn (now (a .r)))
-    (put .put-wrote .ensures ∙ ap (λ (output : List _). seenBytes (wroteOf (stateAt (lent s)) output)) (output-is (now (a .r)) (now (a .out)) (s .pre .1)))
+    (put .put-wrote .ensures
+    ∙ ap (λ (output : List _). seenBytes (wroteOf (stateAt (lent s)) output))
+    (output-is (now (a .r)) (now (a .out)) (s .pre .1)))
 
 pub saved-spec : {M : Type 1} → statement M
 saved-spec =

@@ -20,7 +20,8 @@ returns c = ap (λ (s : Summary). s .totals) (c .before .summary-in .ensures .0)
 returns-2 : tie.Need-returns-2
 returns-2 c =
     let call = c .before .before in
-    totals-done (lent (call .before .before)) _ _ _ _ (call .totals .ensures) (c .before .if1 .left) (c .totals-in .ensures)
+    totals-done (lent (call .before .before)) _ _ _ _ (call .totals .ensures)
+    (c .before .if1 .left) (c .totals-in .ensures)
 
 pub totals-of-spec : {M : Type 1} → statement M
 totals-of-spec =

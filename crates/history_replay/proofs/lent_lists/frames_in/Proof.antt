@@ -29,7 +29,9 @@ abbrev start : tie.At-loop Inv-loop μ-loop → tie.Start Inv-loop μ-loop
 start c = c .before .before .before
 
 -- there is a record, and room for its frame
-room : (c : tie.In-loop Inv-loop μ-loop) → (64 * c .before .loop .i + 64 ≤ length (now (start (c .before) .args .records))) × (22 * c .before .loop .i + 22 ≤ 5698)
+room : (c : tie.In-loop Inv-loop μ-loop)
+    → (64 * c .before .loop .i + 64 ≤ length (now (start (c .before) .args .records)))
+    × (22 * c .before .loop .i + 22 ≤ 5698)
 room c =
     let v = c .before .loop .inv in
     (omega (arith, v .whole, c .loop-test .taken), omega (arith, v .few, c .loop-test .taken))
@@ -69,7 +71,8 @@ loop-again c =
       whole = v .whole;
       laid =
           laid-next _ 22 _ _ _ i (v .laid) (t .loop-test .taken) (omega (arith, room t .1, v .long)) _
-          (put .put-frame .ensures ∙ ap frameIn (lent-record (now (s .args .records)) i) ∙ sym (frame-at (now (s .args .records)) (s .args .n) i (t .loop-test .taken)))
+          (put .put-frame .ensures ∙ ap frameIn (lent-record (now (s .args .records)) i)
+          ∙ sym (frame-at (now (s .args .records)) (s .args .n) i (t .loop-test .taken)))
           (put .put-frame .kept .0);
     }
 

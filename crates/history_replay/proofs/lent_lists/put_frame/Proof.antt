@@ -22,7 +22,8 @@ step1 c =
     let at = c .before .before .before in
     let s = at .before .before .before in
     packed
-    (lend-sized (step0 at .begun) _ (λ w. resized w (part 10 21 (now (s .args .r)))) 22 (c .put-bytes .ensures) (c .put-bytes .kept .0) (omega arith)
+    (lend-sized (step0 at .begun) _ (λ w. resized w (part 10 21 (now (s .args .r)))) 22
+    (c .put-bytes .ensures) (c .put-bytes .kept .0) (omega arith)
     (omega (arith, s .pre .0)))
 
 returns : tie.Need-returns
@@ -31,7 +32,8 @@ returns c =
     let at = put .before .before .before in
     let s = at .before .before .before in
     let r = now (s .args .r) in
-    done (step1 put .begun) (s .pre .0) ∙ ap (λ (l : List _). getD r 9 0 ∷ l) (field-lent r 10 (omega (arith, s .pre .1)))
+    done (step1 put .begun) (s .pre .0)
+    ∙ ap (λ (l : List _). getD r 9 0 ∷ l) (field-lent r 10 (omega (arith, s .pre .1)))
 
 pub put-frame-spec : {M : Type 1} → statement M
 put-frame-spec =

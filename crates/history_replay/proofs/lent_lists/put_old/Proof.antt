@@ -20,14 +20,16 @@ step0 c =
     let s = start c in
     let r = now (s .args .r) in
     let l = s .pre .0 in
-    packed (store (store (store (begin (now (s .args .out))) (getD r 25 0) (omega arith)) 0 (omega arith)) (getD r 26 0) (omega arith))
+    packed (store (store (store (begin (now (s .args .out))) (getD r 25 0) (omega arith)) 0 (omega arith))
+    (getD r 26 0) (omega arith))
 
 abbrev step1 : tie.After-put-bytes → Writing 24
 step1 c =
     let at = c .before .before .before in
     let s = start at in
     packed
-    (lend-sized (step0 at .begun) _ (λ w. resized w (part 27 21 (now (s .args .r)))) 24 (c .put-bytes .ensures) (c .put-bytes .kept .0) (omega arith)
+    (lend-sized (step0 at .begun) _ (λ w. resized w (part 27 21 (now (s .args .r)))) 24
+    (c .put-bytes .ensures) (c .put-bytes .kept .0) (omega arith)
     (omega (arith, s .pre .0)))
 
 returns : tie.Need-returns
@@ -35,7 +37,8 @@ returns c =
     let put = c .before .before in
     let s = start (put .before .before .before) in
     let r = now (s .args .r) in
-    done (step1 put .begun) (s .pre .0) ∙ ap (λ (l : List _). getD r 25 0 ∷ 0 ∷ getD r 26 0 ∷ l) (field-lent r 27 (omega (arith, s .pre .1)))
+    done (step1 put .begun) (s .pre .0)
+    ∙ ap (λ (l : List _). getD r 25 0 ∷ 0 ∷ getD r 26 0 ∷ l) (field-lent r 27 (omega (arith, s .pre .1)))
 
 pub put-old-spec : {M : Type 1} → statement M
 put-old-spec =

@@ -15,7 +15,8 @@ returns c =
     let known = form .before .before in
     let s = known .before .before .before in
     put .put-reply .ensures
-    ∙ place-cell (now (s .args .place)) (s .pre .1) _ _ _ (form .form-with .ensures) (wide .wide .ensures) (bytes .put-bytes .ensures)
+    ∙ place-cell (now (s .args .place)) (s .pre .1) _ _ _ (form .form-with .ensures)
+    (wide .wide .ensures) (bytes .put-bytes .ensures)
 
 pub put-place-spec : {M : Type 1} → statement M
 put-place-spec =

@@ -24,7 +24,8 @@ start c = c .before .before .before
 
 -- there is room for one more, and one more place
 room : (c : tie.In-loop Inv-loop μ-loop)
-    → (31 * c .before .loop .i + 31 ≤ length (now (start (c .before) .args .out))) × (24 * c .before .loop .i + 24 ≤ length (now (start (c .before) .args .places)))
+    → (31 * c .before .loop .i + 31 ≤ length (now (start (c .before) .args .out)))
+    × (24 * c .before .loop .i + 24 ≤ length (now (start (c .before) .args .places)))
 room c =
     let p = start (c .before) .pre in
     (omega (arith, p .1), omega (arith, p .0))
@@ -37,8 +38,11 @@ loop-holds c =
 put-place-requires : tie.Need-put-place-requires Inv-loop μ-loop
 put-place-requires c κs =
     let t = c .before .before in
-    let places = now (start (t .before) .args .places) in
-    (lent (t .before .loop .inv .begun) 31 _ refl (room t .0), ap length (part-ends (24 * t .before .loop .i) 24 places) ∙ part-length (24 * t .before .loop .i) 24 places (room t .1))
+    let places = now (start (t .before) .args .places) in (
+      lent (t .before .loop .inv .begun) 31 _ refl (room t .0),
+      ap length (part-ends (24 * t .before .loop .i) 24 places)
+          ∙ part-length (24 * t .before .loop .i) 24 places (room t .1),
+    )
 
 loop-again : tie.Need-loop-again Inv-loop μ-loop
 loop-again c =

@@ -10,7 +10,9 @@ returns : tie.Need-returns
 returns c =
     let second = c .before in
     let first = second .before in
-    c .window .ensures ∙ λ i. part (first .number-at .ensures i) (second .number-at2 .ensures i) (now (first .before .before .before .args .lent))
+    c .window .ensures
+    ∙ λ i. part (first .number-at .ensures i) (second .number-at2 .ensures i)
+    (now (first .before .before .before .args .lent))
 
 pub lent-in-spec : {M : Type 1} → statement M
 lent-in-spec =

@@ -17,12 +17,14 @@ returns c = rw (call-receive [] (now (start (c .before) .args .r)) (c .if1 .take
 returns-2 : tie.Need-returns-2
 returns-2 c =
     let test = c .before in
-    rw (call-checkpoint [] (now (start (test .before .before) .args .r)) (test .if2 .taken), length-replicate) (omega arith)
+    rw (call-checkpoint [] (now (start (test .before .before) .args .r)) (test .if2 .taken), length-replicate)
+    (omega arith)
 
 returns-3 : tie.Need-returns-3
 returns-3 c =
     let test = c .before in
-    rw (call-cut [] (now (start (test .before .before .before) .args .r)) (test .if3 .taken), length-replicate) (omega arith)
+    rw (call-cut [] (now (start (test .before .before .before) .args .r)) (test .if3 .taken), length-replicate)
+    (omega arith)
 
 returns-4 : tie.Need-returns-4
 returns-4 c = rw (call-restore [] (now (start (c .before .before .before .before) .args .r)) (c .if4 .taken))
@@ -30,10 +32,15 @@ returns-4 c = rw (call-restore [] (now (start (c .before .before .before .before
 returns-5 : tie.Need-returns-5
 returns-5 c =
     let test = c .before in
-    rw (call-burst [] (now (start (test .before .before .before .before .before) .args .r)) (test .if5 .taken), length-replicate) (omega arith)
+    rw (
+      call-burst [] (now (start (test .before .before .before .before .before) .args .r)) (test .if5 .taken),
+      length-replicate,
+    )
+    (omega arith)
 
 returns-6 : tie.Need-returns-6
-returns-6 c = rw (call-ask [] (now (start (c .before .before .before .before .before .before) .args .r)) (c .if6 .taken))
+returns-6 c =
+    rw (call-ask [] (now (start (c .before .before .before .before .before .before) .args .r)) (c .if6 .taken))
 
 returns-7 : tie.Need-returns-7
 returns-7 c =

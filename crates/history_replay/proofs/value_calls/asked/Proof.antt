@@ -18,7 +18,8 @@ abbrev start : tie.After-copies → tie.Start
 start c = c .before .before .before .before
 
 -- what `copies` ensures, of the entry that the record says
-answer : (c : tie.After-copies) → heardOf (c .copies .result) ≡ copiesOf (viewOf (start c .args .c)) (entryIn (now (start c .args .r)))
+answer : (c : tie.After-copies)
+    → heardOf (c .copies .result) ≡ copiesOf (viewOf (start c .args .c)) (entryIn (now (start c .args .r)))
 answer c = c .copies .ensures ∙ ap (copiesOf (viewOf (start c .args .c))) (c .before .number-at .ensures)
 
 returns : tie.Need-returns
@@ -28,7 +29,9 @@ returns c =
     let t = number .before in
     let a = start t .args in
     heard-value (entryIn (now (a .r))) (t .copies .result) (answer t)
-    (put .put-body .ensures ∙ λ i. headOf asking (number .asked-number .ensures i) (a .c .summary .totals) ++ be 8 (t .copies .result .copies))
+    (put .put-body .ensures
+    ∙ λ i. headOf asking (number .asked-number .ensures i) (a .c .summary .totals)
+    ++ be 8 (t .copies .result .copies))
 
 pub asked-spec : {M : Type 1} → statement M
 asked-spec =

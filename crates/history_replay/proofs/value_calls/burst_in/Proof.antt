@@ -32,7 +32,9 @@ returns c =
     let n : min (count .least .result) listed ≡ count .least .result = omega (arith, count .least .ensures) in
     let m : min (a .m) listed ≡ a .m = omega (arith, start .pre .1) in
     let is = rw (n, m) at (c .burst-within .ensures .front) in
-    let rs = receptions-are (now (a .bytes)) _ (count .least .result) (count .least .ensures) (records .receptions-in .ensures) in
+    let rs =
+    receptions-are (now (a .bytes)) _ (count .least .result)
+    (count .least .ensures) (records .receptions-in .ensures) in
     let ps = places-are r _ _ (a .m) (start .pre .1) (places .places .ensures) (place .place-in .ensures) in
     record {
       result = is .result ∙ λ i. burstOf (settingIn r) (viewOf (a .c)) (rs i) (ps i);

@@ -53,7 +53,8 @@ first c =
     let v = viewOf (start at .args .c) in
     packed
     (lend (begin out) _ (seenBytes (wroteOf v (output at))) (end at)
-    (c .put-wrote .ensures ∙ ap (λ (o : List ℕ). seenBytes (wroteOf v o)) (output-is (now (start at .args .r)) (part 0 (end at - 0) out)
+    (c .put-wrote .ensures
+    ∙ ap (λ (o : List ℕ). seenBytes (wroteOf v o)) (output-is (now (start at .args .r)) (part 0 (end at - 0) out)
     (first-room at ∙ omega (arith, output-length at))))
     (c .put-wrote .kept .0) (omega arith) (omega arith))
 
@@ -65,12 +66,14 @@ put c =
 
 -- what `restore` ensures of the image in it
 restored : (c : tie.After-restore) → Restores (c .before .before .before .fresh .result)
-    (take imageLength (checkpointOf (viewOf (start (lengths (put c)) .args .c)) (output (lengths (put c))) .output)) (c .restore .result)
+    (take imageLength (checkpointOf (viewOf (start (lengths (put c)) .args .c)) (output (lengths (put c))) .output))
+    (c .restore .result)
 restored c =
     let m = c .before .before .before .before in
     let at = lengths (put c) in
     restored-as-value
-    (image-lent (viewOf (start at .args .c)) (output at) _ _ (m .least .result) (first (put c) .begun .is) (m .least .ensures ∙ omega (arith, output-length at)))
+    (image-lent (viewOf (start at .args .c)) (output at) _ _ (m .least .result)
+    (first (put c) .begun .is) (m .least .ensures ∙ omega (arith, output-length at)))
     (c .restore .ensures)
 
 returns : tie.Need-returns
@@ -81,8 +84,11 @@ returns c =
     let at = lengths (put t) in
     let h = room at in
     let totals = t .restore .result .next .summary .totals in
-    let both = lend (first (put t) .begun) _ (headOf restoring (loadedNumber (t .restore .result .answer)) totals) (end at + 50)
-    (second .put-head .ensures ∙ λ i. headOf restoring (number .loaded-number .ensures i) totals) (second .put-head .kept .0) (omega arith) (omega arith) in
+    let both =
+    lend (first (put t) .begun) _
+    (headOf restoring (loadedNumber (t .restore .result .answer)) totals) (end at + 50)
+    (second .put-head .ensures ∙ λ i. headOf restoring (number .loaded-number .ensures i) totals)
+    (second .put-head .kept .0) (omega arith) (omega arith) in
     resumed-value (output at) _ refl (t .before .before .before .fresh .ensures) (restored t) (done both h)
 
 abbrev before-restore : tie.After-out2 → tie.After-put-wrote
@@ -106,13 +112,15 @@ cut-spec =
     (λ c κs. search needs)
     (λ c. search needs)
     (λ c. search needs)
-    (λ c. within (first (before-restore c) .begun) _ (omega (arith, room (lengths (before-restore c)), c .before .before .least .ensures)))
+    (λ c. within (first (before-restore c) .begun) _
+    (omega (arith, room (lengths (before-restore c)), c .before .before .least .ensures)))
     (λ c κs. search needs)
     (λ c κs. search needs)
     (λ c. omega (arith, lengths (put (c .before .before)) .output-length .ensures .1))
     (λ c. omega arith)
     (λ c. search needs)
     (λ c. within (first (put (c .before .before)) .begun) _ (omega (arith, room (lengths (put (c .before .before))))))
-    (λ c κs. lent (first (put (c .before .before .before)) .begun) 50 _ refl (omega (arith, room (lengths (put (c .before .before .before))))))
+    (λ c κs. lent (first (put (c .before .before .before)) .begun) 50 _ refl
+    (omega (arith, room (lengths (put (c .before .before .before))))))
     (λ c. search needs)
     returns)

@@ -40,7 +40,8 @@ taken : (c : tie.After-burst-in) → BurstGiven (start c .args .c) (settingIn (n
     (c .before .before .place-count .result) (c .burst-in .result)
 taken c =
     let r = now (start c .args .r) in
-    given-as (ap receptionsIn (c .before .lent-in .ensures)) (ap (λ n. replicate n (placeIn r)) (c .before .before .place-count .ensures .0)) (c .burst-in .ensures)
+    given-as (ap receptionsIn (c .before .lent-in .ensures))
+    (ap (λ n. replicate n (placeIn r)) (c .before .before .place-count .ensures .0)) (c .burst-in .ensures)
 
 -- the head and the length, and then the places
 abbrev step1 : tie.After-put-body → Writing 58
@@ -51,7 +52,8 @@ step1 c =
     let number = c .before .before in
     let totals = t .burst-in .result .bursted .next .summary .totals in
     packed
-    (lend (begin (now (start t .args .out))) _ (headOf delivering (handedNumber (t .burst-in .result .bursted .answer)) totals ++ be 8 m) 58
+    (lend (begin (now (start t .args .out))) _
+    (headOf delivering (handedNumber (t .burst-in .result .bursted .answer)) totals ++ be 8 m) 58
     (c .put-body .ensures ∙ λ i. headOf delivering (number .handed-number .ensures i) totals ++ be 8 m)
     (c .put-body .kept .0) (omega arith) (omega arith))
 
@@ -63,7 +65,8 @@ step2 c =
     let t = made (body c) in
     let h = room t in
     packed
-    (lend (step1 (body c) .begun) _ _ (58 + 31 * t .before .before .place-count .result) (c .put-replies .ensures) (c .put-replies .kept .0) (omega arith)
+    (lend (step1 (body c) .begun) _ _ (58 + 31 * t .before .before .place-count .result)
+    (c .put-replies .ensures) (c .put-replies .kept .0) (omega arith)
     (omega arith))
 
 put-replies-requires : tie.Need-put-replies-requires
@@ -77,7 +80,9 @@ returns c =
     let put = c .before .before in
     let t = made (body put) in
     let m = t .before .before .place-count .result in
-    delivered-value _ _ _ m (taken t) (given-length (taken t) (length-replicate _ _ ∙ sym (t .before .before .place-count .ensures .0))) (done (step2 put .begun) (room t))
+    delivered-value _ _ _ m (taken t)
+    (given-length (taken t) (length-replicate _ _ ∙ sym (t .before .before .place-count .ensures .0)))
+    (done (step2 put .begun) (room t))
 
 pub delivered-spec : {M : Type 1} → statement M
 delivered-spec =

@@ -32,7 +32,8 @@ returns c =
     let l = output-length v entry ys (a .fill) n (start save .pre) (save .save-into .kept .0) in
     saved-output v entry ys (a .fill) n (start save .pre) (save .save-into .ensures) (save .save-into .kept .0) _
     (lend (begin _) _ (headOf saving n (a .c .summary .totals) ++ be 8 length-of) 58
-    (put .put-body .ensures ∙ λ i. headOf saving (number .saved-number .ensures i) (a .c .summary .totals) ++ be 8 length-of)
+    (put .put-body .ensures
+    ∙ λ i. headOf saving (number .saved-number .ensures i) (a .c .summary .totals) ++ be 8 length-of)
     (put .put-body .kept .0) (omega arith) (omega (arith, l)))
 
 pub put-wrote-spec : {M : Type 1} → statement M

@@ -14,7 +14,8 @@ returns c =
     let t = number .before .before in
     let a = t .before .before .before .before .before .args in
     restored-value {c = a .c} (restored-as-value (t .before .lent-in .ensures) (t .restore .ensures))
-    (put .put-head .ensures ∙ λ i. headOf restoring (number .loaded-number .ensures i) (t .restore .result .next .summary .totals))
+    (put .put-head .ensures
+    ∙ λ i. headOf restoring (number .loaded-number .ensures i) (t .restore .result .next .summary .totals))
 
 pub restored-spec : {M : Type 1} → statement M
 restored-spec =

@@ -20,7 +20,9 @@ returns c =
     let start = arg .before .before .before in
     let a = start .args in
     saved (outputIn (now (a .r)))
-    (put .put-wrote .ensures ∙ ap (λ (output : List _). seenBytes (wroteOf (viewOf (a .c)) output)) (output-is (now (a .r)) (now (a .out)) (start .pre .1)))
+    (put .put-wrote .ensures
+    ∙ ap (λ (output : List _). seenBytes (wroteOf (viewOf (a .c)) output))
+    (output-is (now (a .r)) (now (a .out)) (start .pre .1)))
 
 pub saved-spec : {M : Type 1} → statement M
 saved-spec =

@@ -11,7 +11,8 @@ returns : tie.Need-returns
 returns c =
     let told = c .before .before in
     let a = told .before .before .before .args in
-    rw (told .enum-told .given .1) (ap (λ (q : RepeatResult). q .sent) (c .before .repeat .ensures) ∙ repeat-sent (a .setting) (now (a .bytes)))
+    rw (told .enum-told .given .1)
+    (ap (λ (q : RepeatResult). q .sent) (c .before .repeat .ensures) ∙ repeat-sent (a .setting) (now (a .bytes)))
 
 returns-2 : tie.Need-returns-2
 returns-2 c = rw (c .before .enum-told2 .given .1) (c .empty .ensures)

@@ -59,7 +59,8 @@ loop-again c =
     record {
       bounded = omega arith;
       begun =
-          turn (now (a .out)) (cells (a .m) (a .t2)) 31 i _ _ (t .before .loop .inv .begun) (omega (arith, cells-length (a .m) (a .t2) h))
+          turn (now (a .out)) (cells (a .m) (a .t2)) 31 i _ _
+          (t .before .loop .inv .begun) (omega (arith, cells-length (a .m) (a .t2) h))
           (put .put-reply .ensures
           ∙ (λ j. replyCell (form .form-of .ensures j) (number .number-of .ensures j) (getD (a .t2) i no-reply .sent))
           ∙ sym (cell-at (a .m) (a .t2) h i no-reply (omega arith))) (put .put-reply .kept .0) (room t);
@@ -69,7 +70,8 @@ returns : tie.Need-returns Inv-loop μ-loop
 returns c =
     let a = start (c .before) .args in
     let h = places (c .before) in
-    done (turned (now (a .out)) (cells (a .m) (a .t2)) 31 (a .m) (c .before .loop .i) _ (c .before .loop .inv .begun) (omega arith) (cells-length
+    done (turned (now (a .out)) (cells (a .m) (a .t2)) 31 (a .m) (c .before .loop .i) _
+    (c .before .loop .inv .begun) (omega arith) (cells-length
     (a .m) (a .t2) h))
     (start (c .before) .pre .1)
 

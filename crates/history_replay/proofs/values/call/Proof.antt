@@ -50,7 +50,8 @@ asked-requires c κs =
     (s .pre .0, rw (call-ask [] (now (s .args .r)) (test .if6 .taken)) at (s .pre .1))
 
 -- byte 0 is none of the operations
-other : (c : tie.Else6) → (lent : List ℕ) → Other lent (now (start (c .before .before .before .before .before .before) .args .r))
+other : (c : tie.Else6) → (lent : List ℕ)
+    → Other lent (now (start (c .before .before .before .before .before .before) .args .r))
 other c lent = record {
   receive = c .before .before .before .before .before .if1 .left;
   checkpoint = c .before .before .before .before .if2 .left;

@@ -16,7 +16,8 @@ abbrev step1 : tie.After-put-head → Writing 50
 step1 c =
     let a = start c .args in
     packed
-    (lend (begin (now (a .out))) _ (headOf receiving (a .number) (a .totals)) 50 (c .put-head .ensures) (c .put-head .kept .0) (omega arith) (omega arith))
+    (lend (begin (now (a .out))) _ (headOf receiving (a .number) (a .totals)) 50
+    (c .put-head .ensures) (c .put-head .kept .0) (omega arith) (omega arith))
 
 abbrev step2 : tie.After-put-reply → Writing 81
 step2 c =

@@ -16,14 +16,16 @@ abbrev step1 : tie.After-put-head → Writing 50
 step1 c =
     let a = start c .args in
     packed
-    (lend (begin (now (a .out))) _ (headOf (a .operation) (a .number) (a .totals)) 50 (c .put-head .ensures) (c .put-head .kept .0) (omega arith)
+    (lend (begin (now (a .out))) _ (headOf (a .operation) (a .number) (a .totals)) 50
+    (c .put-head .ensures) (c .put-head .kept .0) (omega arith)
     (omega arith))
 
 abbrev step2 : tie.After-put-number → Writing 58
 step2 c =
     let at = c .before .before .before .before in
     packed
-    (lend-sized (step1 at .begun) _ (λ w. be w (start at .args .count)) 58 (c .put-number .ensures) (c .put-number .kept .0)
+    (lend-sized (step1 at .begun) _ (λ w. be w (start at .args .count)) 58
+    (c .put-number .ensures) (c .put-number .kept .0)
     (omega arith) (omega arith))
 
 returns : tie.Need-returns

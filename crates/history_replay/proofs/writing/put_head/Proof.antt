@@ -19,7 +19,8 @@ start1 c = c .before .before .before
 
 abbrev step1 : tie.After-put-number → Writing 10
 step1 c =
-    packed (lend-sized (step0 (c .before .before) .begun) _ (λ w. be w (start1 c .args .t .received)) 10 (c .put-number .ensures)
+    packed (lend-sized (step0 (c .before .before) .begun) _
+    (λ w. be w (start1 c .args .t .received)) 10 (c .put-number .ensures)
     (c .put-number .kept .0) (omega arith) (omega arith))
 
 abbrev start2 : tie.After-put-number2 → tie.Start
@@ -27,7 +28,8 @@ start2 c = start1 (c .before .before .before .before)
 
 abbrev step2 : tie.After-put-number2 → Writing 18
 step2 c =
-    packed (lend-sized (step1 (c .before .before .before .before) .begun) _ (λ w. be w (start2 c .args .t .kept)) 18 (c .put-number2 .ensures)
+    packed (lend-sized (step1 (c .before .before .before .before) .begun) _
+    (λ w. be w (start2 c .args .t .kept)) 18 (c .put-number2 .ensures)
     (c .put-number2 .kept .0) (omega arith) (omega arith))
 
 abbrev start3 : tie.After-put-number3 → tie.Start
@@ -35,7 +37,8 @@ start3 c = start2 (c .before .before .before .before)
 
 abbrev step3 : tie.After-put-number3 → Writing 26
 step3 c =
-    packed (lend-sized (step2 (c .before .before .before .before) .begun) _ (λ w. be w (start3 c .args .t .copies)) 26 (c .put-number3 .ensures)
+    packed (lend-sized (step2 (c .before .before .before .before) .begun) _
+    (λ w. be w (start3 c .args .t .copies)) 26 (c .put-number3 .ensures)
     (c .put-number3 .kept .0) (omega arith) (omega arith))
 
 abbrev start4 : tie.After-put-number4 → tie.Start
@@ -43,7 +46,8 @@ start4 c = start3 (c .before .before .before .before)
 
 abbrev step4 : tie.After-put-number4 → Writing 34
 step4 c =
-    packed (lend-sized (step3 (c .before .before .before .before) .begun) _ (λ w. be w (start4 c .args .t .loose)) 34 (c .put-number4 .ensures)
+    packed (lend-sized (step3 (c .before .before .before .before) .begun) _
+    (λ w. be w (start4 c .args .t .loose)) 34 (c .put-number4 .ensures)
     (c .put-number4 .kept .0) (omega arith) (omega arith))
 
 abbrev start5 : tie.After-put-number5 → tie.Start
@@ -59,7 +63,8 @@ start6 c = start5 (c .before .before .before .before)
 
 abbrev step6 : tie.After-put-number6 → Writing 50
 step6 c =
-    packed (lend-sized (step5 (c .before .before .before .before) .begun) _ (λ w. be w (start6 c .args .t .late)) 50 (c .put-number6 .ensures)
+    packed (lend-sized (step5 (c .before .before .before .before) .begun) _
+    (λ w. be w (start6 c .args .t .late)) 50 (c .put-number6 .ensures)
     (c .put-number6 .kept .0) (omega arith) (omega arith))
 
 returns : tie.Need-returns

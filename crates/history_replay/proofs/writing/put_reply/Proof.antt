@@ -17,7 +17,8 @@ step0 c =
 abbrev step1 : tie.After-put-number → Writing 10
 step1 c =
     let at = c .before .before .before in
-    packed (lend-sized (step0 at .begun) _ (λ w. be w (at .before .args .sent .len)) 10 (c .put-number .ensures) (c .put-number .kept .0)
+    packed (lend-sized (step0 at .begun) _ (λ w. be w (at .before .args .sent .len)) 10
+    (c .put-number .ensures) (c .put-number .kept .0)
     (omega arith) (omega arith))
 
 abbrev step2 : tie.After-put-bytes → Writing 31
@@ -25,7 +26,8 @@ step2 c =
     let arg = c .before .before .before in
     let at = arg .before .before in
     packed
-    (lend-sized (step1 at .begun) _ (λ w. resized w (at .before .before .before .before .args .sent .bytes)) 31 (c .put-bytes .ensures)
+    (lend-sized (step1 at .begun) _
+    (λ w. resized w (at .before .before .before .before .args .sent .bytes)) 31 (c .put-bytes .ensures)
     (c .put-bytes .kept .0)
     (omega arith) (omega arith))
 

@@ -22,7 +22,12 @@ abbrev μ-loop : tie.MeasureT-loop
 μ-loop out₀ fill i₀ i-end out i = i-end - i
 
 loop-again : tie.Need-loop-again Inv-loop μ-loop
-loop-again c = record { bounded = omega arith; end = omega arith; begun = fill _ _ _ _ (c .before .loop .inv .begun) (omega arith) }
+loop-again c =
+    record {
+      bounded = omega arith;
+      end = omega arith;
+      begun = fill _ _ _ _ (c .before .loop .inv .begun) (omega arith);
+    }
 
 returns : tie.Need-returns Inv-loop μ-loop
 returns c =

@@ -14,19 +14,22 @@ returns c =
     let told = addressed .before .enum-told .given .1 in
     let r = addressed .before .before .before .before .read in
     b .build .ensures
-    ∙ decapsulate-built _ _ (reads-valid _ (r .result) (r .ensures) told) _ _ (reads-fields _ (r .result) (r .ensures) told) (made .readdressed .ensures)
+    ∙ decapsulate-built _ _ (reads-valid _ (r .result) (r .ensures) told) _ _
+    (reads-fields _ (r .result) (r .ensures) told) (made .readdressed .ensures)
     (reads-flag _ (r .result) (r .ensures) told ∙ addressed .if1 .taken)
 
 returns-2 : tie.Need-returns-2
 returns-2 c =
     let told = c .before in
     let r = told .before .before .before .read in
-    decapsulate-refused _ _ (told .checked .given .0 .0) (reads-refused _ (r .result) (r .ensures) _ (told .checked .given .1))
+    decapsulate-refused _ _ (told .checked .given .0 .0)
+    (reads-refused _ (r .result) (r .ensures) _ (told .checked .given .1))
 
 returns-3 : tie.Need-returns-3
 returns-3 c =
     let r = c .before .before .before .before .read in
-    decapsulate-plain _ _ (reads-valid _ (r .result) (r .ensures) (c .before .enum-told .given .1)) (reads-flag _ (r .result) (r .ensures) (c .before .enum-told .given .1) ∙ c .if1 .left)
+    decapsulate-plain _ _ (reads-valid _ (r .result) (r .ensures) (c .before .enum-told .given .1))
+    (reads-flag _ (r .result) (r .ensures) (c .before .enum-told .given .1) ∙ c .if1 .left)
 
 pub decapsulate-spec : {M : Type 1} → statement M
 decapsulate-spec =

@@ -9,13 +9,15 @@ use Rattle.radio_telegram.proofs.addressing.encapsulate.Tie as tie
 returns : tie.Need-returns
 returns c =
     let r = c .before .before .before .before .read in
-    encapsulate-nested _ _ (reads-valid _ (r .result) (r .ensures) (c .before .enum-told .given .1)) _ (reads-flag _ (r .result) (r .ensures) (c .before .enum-told .given .1) ∙ c .if1 .taken)
+    encapsulate-nested _ _ (reads-valid _ (r .result) (r .ensures) (c .before .enum-told .given .1)) _
+    (reads-flag _ (r .result) (r .ensures) (c .before .enum-told .given .1) ∙ c .if1 .taken)
 
 returns-2 : tie.Need-returns-2
 returns-2 c =
     let told = c .before in
     let r = told .before .before .before .read in
-    encapsulate-refused _ _ (told .checked .given .0 .0) (reads-refused _ (r .result) (r .ensures) _ (told .checked .given .1)) _
+    encapsulate-refused _ _ (told .checked .given .0 .0)
+    (reads-refused _ (r .result) (r .ensures) _ (told .checked .given .1)) _
 
 returns-3 : tie.Need-returns-3
 returns-3 c =
@@ -25,7 +27,8 @@ returns-3 c =
     let told = plain .before .enum-told .given .1 in
     let r = plain .before .before .before .before .read in
     b .build .ensures
-    ∙ encapsulate-built _ _ (reads-valid _ (r .result) (r .ensures) told) _ _ (reads-fields _ (r .result) (r .ensures) told) _ (made .readdressed .ensures)
+    ∙ encapsulate-built _ _ (reads-valid _ (r .result) (r .ensures) told) _ _
+    (reads-fields _ (r .result) (r .ensures) told) _ (made .readdressed .ensures)
     (reads-flag _ (r .result) (r .ensures) told ∙ plain .if1 .left)
 
 pub encapsulate-spec : {M : Type 1} → statement M

@@ -12,17 +12,20 @@ shape c = record { payload = search needs; destid = search needs; txid = search 
 returns-4 : tie.Need-returns-4
 returns-4 c =
     let s = c .before .before .before .before .before .before .before .before .before in
-    too-long (s .args .t) (omega arith) (omega arith) (omega arith) (omega (arith, bytes-addressed (s .args .t) (shape s) (omega arith) (cc)))
+    too-long (s .args .t) (omega arith) (omega arith) (omega arith)
+    (omega (arith, bytes-addressed (s .args .t) (shape s) (omega arith) (cc)))
 
 returns-5 : tie.Need-returns-5
 returns-5 c =
     let s = c .before .before .before .before .before .before .before .before .before in
-    admitted (s .args .t) (omega arith) (omega arith) (omega arith) (omega (arith, bytes-addressed (s .args .t) (shape s) (omega arith) (cc)))
+    admitted (s .args .t) (omega arith) (omega arith) (omega arith)
+    (omega (arith, bytes-addressed (s .args .t) (shape s) (omega arith) (cc)))
 
 returns-6 : tie.Need-returns-6
 returns-6 c =
     let s = c .before .before .before .before .before .before .before in
-    admitted (s .args .t) (omega arith) (omega arith) (omega arith) (omega (arith, bytes-plain (s .args .t) (shape s) (omega arith) (cc)))
+    admitted (s .args .t) (omega arith) (omega arith) (omega arith)
+    (omega (arith, bytes-plain (s .args .t) (shape s) (omega arith) (cc)))
 
 pub admission-spec : {M : Type 1} → statement M
 admission-spec =

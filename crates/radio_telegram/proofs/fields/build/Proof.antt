@@ -13,12 +13,14 @@ passed : (c : tie.After-enum-told) → admissionOf (c .before .before .before .b
 passed c = sym (c .before .before .admission .ensures) ∙ ap checkedNumber (c .enum-told .given .1)
 
 emit-requires : tie.Need-emit-requires
-emit-requires c κs = omega (arith, frame-len _ _ (c .before .frame-of .ensures), buildable _ (passed (c .before .before)) .fits)
+emit-requires c κs =
+    omega (arith, frame-len _ _ (c .before .frame-of .ensures), buildable _ (passed (c .before .before)) .fits)
 
 returns : tie.Need-returns
 returns c =
     let told = c .before in
-    build-refused _ _ (told .admission2 .given .0 .0) (sym (ap checkedNumber (told .admission2 .given .1)) ∙ told .before .before .admission .ensures)
+    build-refused _ _ (told .admission2 .given .0 .0)
+    (sym (ap checkedNumber (told .admission2 .given .1)) ∙ told .before .before .admission .ensures)
 
 returns-2 : tie.Need-returns-2
 returns-2 c =

@@ -24,28 +24,54 @@ slice-aggregate-append c =
     simp length-take (omega (arith, shape s .payload, s .pre .high))
 
 append-requires : tie.Need-append-requires
-append-requires c κs = simp length-take (omega (arith, start-length (c .before .before .before), frame-len _ _ (c .before .head .ensures)))
+append-requires c κs =
+    simp length-take
+    (omega (arith, start-length (c .before .before .before), frame-len _ _ (c .before .head .ensures)))
 
 with-ids-requires : tie.Need-with-ids-requires
 with-ids-requires c κs =
     let s = c .before .before .before .before in
-    omega (arith, start-length s, frame-len _ _ (c .before .before .head .ensures), c .append .ensures .len, length-take (s .args .t .len) (s .args .t .payload))
+    omega (
+      arith,
+      start-length s,
+      frame-len _ _ (c .before .before .head .ensures),
+      c .append .ensures .len,
+      length-take (s .args .t .len) (s .args .t .payload),
+    )
 
 push-requires : tie.Need-push-requires
 push-requires c κs =
     let s = c .before .before .before .before .before in
-    omega (arith, start-length s, frame-len _ _ (c .before .before .before .head .ensures), c .before .append .ensures .len, c .with-ids .ensures .len, length-take (s .args .t .len) (s .args .t .payload))
+    omega (
+      arith,
+      start-length s,
+      frame-len _ _ (c .before .before .before .head .ensures),
+      c .before .append .ensures .len,
+      c .with-ids .ensures .len,
+      length-take (s .args .t .len) (s .args .t .payload),
+    )
 
 sealed-requires : tie.Need-sealed-requires
 sealed-requires c κs =
     let s = c .before .before .before .before .before .before in
-    omega (arith, start-length s, frame-len _ _ (c .before .before .before .before .head .ensures), c .before .before .append .ensures .len, c .before .with-ids .ensures .len, c .push .ensures .len, length-take (s .args .t .len) (s .args .t .payload))
+    omega (
+      arith,
+      start-length s,
+      frame-len _ _ (c .before .before .before .before .head .ensures),
+      c .before .before .append .ensures .len,
+      c .before .with-ids .ensures .len,
+      c .push .ensures .len,
+      length-take (s .args .t .len) (s .args .t .payload),
+    )
 
 returns : tie.Need-returns
 unfolding telegramBytes
 returns c =
     let w = c .before .before in
-    c .sealed .ensures _ (c .before .push .ensures .bytes _ (w .with-ids .ensures .bytes _ (w .before .append .ensures .bytes _ (w .before .before .before .head .ensures))))
+    c .sealed .ensures _
+    (c .before .push .ensures .bytes _
+    (w .with-ids .ensures .bytes _
+    (w .before .append .ensures .bytes _ (w .before .before .before .head .ensures))))
 
 pub frame-of-spec : {M : Type 1} → statement M
 frame-of-spec =

@@ -8,7 +8,8 @@ use Rattle.radio_telegram.proofs.fields.head.Tie as tie
 
 returns : tie.Need-returns
 returns c =
-    rw (c .before .before .before .if1 .taken) (c .push2 .ensures .bytes _ (c .before .push .ensures .bytes [] (c .before .before .empty .ensures)))
+    rw (c .before .before .before .if1 .taken)
+    (c .push2 .ensures .bytes _ (c .before .push .ensures .bytes [] (c .before .before .empty .ensures)))
 
 returns-2 : tie.Need-returns-2
 returns-2 c = rw (c .before .before .if1 .left) (c .push3 .ensures .bytes [] (c .before .empty2 .ensures))

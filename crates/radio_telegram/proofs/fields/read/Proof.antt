@@ -24,13 +24,18 @@ plain-fields-requires c κs = (valid (c .before .before) .low, valid (c .before 
 returns : tie.Need-returns
 returns c =
     let told = c .before .before in
-    read-refused _ _ (told .checked .given .0 .0) (told-refused _ _ (told .before .before .check .ensures) _ (told .checked .given .1)) (c .none .ensures)
+    read-refused _ _ (told .checked .given .0 .0)
+    (told-refused _ _ (told .before .before .check .ensures) _ (told .checked .given .1)) (c .none .ensures)
 
 returns-2 : tie.Need-returns-2
-returns-2 c = read-valid _ _ (passed (c .before .before .before)) (c .addressed-fields .ensures ∙ fields-addressed _ (c .before .if1 .taken))
+returns-2 c =
+    read-valid _ _ (passed (c .before .before .before))
+    (c .addressed-fields .ensures ∙ fields-addressed _ (c .before .if1 .taken))
 
 returns-3 : tie.Need-returns-3
-returns-3 c = read-valid _ _ (passed (c .before .before .before)) (c .plain-fields .ensures ∙ fields-plain _ (c .before .if1 .left))
+returns-3 c =
+    read-valid _ _ (passed (c .before .before .before))
+    (c .plain-fields .ensures ∙ fields-plain _ (c .before .if1 .left))
 
 pub read-spec : {M : Type 1} → statement M
 read-spec =

@@ -25,7 +25,8 @@ append-requires-2 c κs = omega (arith, both-ids (c .before .before .before .bef
 
 returns : tie.Need-returns
 returns c =
-    rw (c .before .before .before .before .if1 .taken) (extended-twice _ _ _ _ _ (c .before .before .append .ensures) (c .append2 .ensures))
+    rw (c .before .before .before .before .if1 .taken)
+    (extended-twice _ _ _ _ _ (c .before .before .append .ensures) (c .append2 .ensures))
 
 append-requires-3 : tie.Need-append-requires-3
 append-requires-3 c κs = omega (arith, one-id (c .before .before .before .before .args .t) (cc))

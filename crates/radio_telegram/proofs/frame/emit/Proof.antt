@@ -25,7 +25,8 @@ returns-2 c xs e =
     let a = c .before .before in
     let f = a .before .before .before .before .before .before .args .f in
     let h : length (f .bytes) ≡ 21 = search needs in
-    put-all xs _ (omega (arith, frame-len _ xs e)) _ _ (f .len) (frame-take _ xs e) (simp length-take (omega arith)) (simp length-take (omega arith))
+    put-all xs _ (omega (arith, frame-len _ xs e)) _ _ (f .len) (frame-take _ xs e)
+    (simp length-take (omega arith)) (simp length-take (omega arith))
     (a .copy .ensures .1)
 
 pub emit-spec : {M : Type 1} → statement M

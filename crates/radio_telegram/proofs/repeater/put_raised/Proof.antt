@@ -12,19 +12,28 @@ part-hash-end : tie.Need-part-hash-end
 part-hash-end c =
     let k = c .before .before .before .before .before in
     let a = k .before .before .before .before .before .args in
-    omega (arith, put-long (now (a .bytes)) (now (a .out)) (length (now (a .bytes)) - 2) (omega arith) (omega arith) (k .copy .ensures .1) (c .before .raised-status .ensures))
+    omega (
+      arith,
+      put-long (now (a .bytes)) (now (a .out)) (length (now (a .bytes)) - 2) (omega arith)
+          (omega arith) (k .copy .ensures .1) (c .before .raised-status .ensures),
+    )
 
 slice-write-out-2 : tie.Need-slice-write-out-2
 slice-write-out-2 c =
     let k = c .before .before .before .before .before .before .before in
     let a = k .before .before .before .before .before .args in
-    omega (arith, put-long (now (a .bytes)) (now (a .out)) (length (now (a .bytes)) - 2) (omega arith) (omega arith) (k .copy .ensures .1) (c .before .before .before .raised-status .ensures))
+    omega (
+      arith,
+      put-long (now (a .bytes)) (now (a .out)) (length (now (a .bytes)) - 2) (omega arith)
+          (omega arith) (k .copy .ensures .1) (c .before .before .before .raised-status .ensures),
+    )
 
 returns : tie.Need-returns
 returns c =
     let k = c .before .before .before .before .before .before .before in
     let a = k .before .before .before .before .before .args in
-    raised-put (now (a .bytes)) (now (a .out)) (length (now (a .bytes)) - 2) (omega arith) (omega arith) (k .copy .ensures .1) (c .before .before .before .raised-status .ensures) (c .hash .ensures)
+    raised-put (now (a .bytes)) (now (a .out)) (length (now (a .bytes)) - 2) (omega arith) (omega arith)
+    (k .copy .ensures .1) (c .before .before .before .raised-status .ensures) (c .hash .ensures)
 
 pub put-raised-spec : {M : Type 1} → statement M
 put-raised-spec =

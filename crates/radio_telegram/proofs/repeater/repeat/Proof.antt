@@ -22,7 +22,8 @@ returns-3 : tie.Need-returns-3
 returns-3 c =
     let told = c .before .before in
     ap (λ (f : Frame). record { number = 0; sent = f }) (frame-written _ (c .relay .ensures))
-    ∙ call-sent _ _ (told .before .before .before .if1 .left) (told-valid _ _ (told .before .before .check .ensures) (told .enum-told .given .1))
+    ∙ call-sent _ _ (told .before .before .before .if1 .left)
+    (told-valid _ _ (told .before .before .check .ensures) (told .enum-told .given .1))
 
 pub repeat-spec : {M : Type 1} → statement M
 repeat-spec =

@@ -11,10 +11,13 @@ returns : tie.Need-returns
 returns c = rw (c .before .before .before .before .enum-told .given .1) (c .before .before .first-line .ensures)
 
 returns-2 : tie.Need-returns-2
-returns-2 c = rw (c .before .before .before .before .before .enum-told2 .given .1) (c .before .before .later-lines .ensures)
+returns-2 c =
+    rw (c .before .before .before .before .before .enum-told2 .given .1) (c .before .before .later-lines .ensures)
 
 returns-3 : tie.Need-returns-3
-returns-3 c = rw (c .before .enum-told3 .given .1) (c .skip-line .ensures (now (c .before .before .before .before .before .args .out)))
+returns-3 c =
+    rw (c .before .enum-told3 .given .1)
+    (c .skip-line .ensures (now (c .before .before .before .before .before .args .out)))
 
 pub lines-spec : {M : Type 1} → statement M
 lines-spec =

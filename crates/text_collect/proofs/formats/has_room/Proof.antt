@@ -17,13 +17,19 @@ returns-3 : tie.Need-returns-3
 returns-3 c =
     let e = c .before .before in
     let a = e .before .args in
-    rw (ne-eqb (a .long) 0 (e .if1 .left), lt-leb (32 * a .k + 2048) (a .long) (omega (arith, c .before .if2 .left, c .if3 .taken)))
+    rw (
+      ne-eqb (a .long) 0 (e .if1 .left),
+      lt-leb (32 * a .k + 2048) (a .long) (omega (arith, c .before .if2 .left, c .if3 .taken)),
+    )
 
 returns-4 : tie.Need-returns-4
 returns-4 c =
     let e = c .before .before in
     let a = e .before .args in
-    rw (ne-eqb (a .long) 0 (e .if1 .left), le-leb (32 * a .k + 2048) (a .long) (omega (arith, c .before .if2 .left, c .if3 .left)))
+    rw (
+      ne-eqb (a .long) 0 (e .if1 .left),
+      le-leb (32 * a .k + 2048) (a .long) (omega (arith, c .before .if2 .left, c .if3 .left)),
+    )
 
 pub has-room-spec : {M : Type 1} → statement M
 has-room-spec =

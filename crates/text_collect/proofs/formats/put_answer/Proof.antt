@@ -27,11 +27,14 @@ short : (c : tie.After-relay-kept) → length (sent c) ≤ 21
 short c = relayed-fits _ _ _
 
 front : (c : tie.After-relay-kept)
-    → (c .relay-kept .result ≡ length (sent c)) × (take (c .relay-kept .result) (c .relay-kept .last .1 .1 .1 .0) ≡ sent c)
+    → (c .relay-kept .result ≡ length (sent c))
+    × (take (c .relay-kept .result) (c .relay-kept .last .1 .1 .1 .0) ≡ sent c)
 front c = sent-front (sent c) (replicate 21 0) (c .relay-kept .ensures)
 
 full : (c : tie.After-relay-kept) → length (c .relay-kept .last .1 .1 .1 .0) ≡ 21
-full c = ap (λ (r : Result). length (r .output)) (c .relay-kept .ensures) ∙ written-length (sent c) (replicate 21 0) (short c)
+full c =
+    ap (λ (r : Result). length (r .output)) (c .relay-kept .ensures)
+    ∙ written-length (sent c) (replicate 21 0) (short c)
 
 abbrev relayed : tie.After-row-of → tie.After-relay-kept
 relayed c = c .before .before .before
@@ -51,7 +54,8 @@ returns c =
     let a = k .before .before .before in
     let pre = a .before .before .pre in
     let fits = if-fits (omega (arith, pre .0, pre .1, pre .2, front k .0, short k)) (q .put-row .ensures) in
-    loosened (rw (r .row-of .ensures, s .source-of .ensures, z, front k .1) at fits) (omega (arith, pre .0, pre .1, short k))
+    loosened (rw (r .row-of .ensures, s .source-of .ensures, z, front k .1) at fits)
+    (omega (arith, pre .0, pre .1, short k))
 
 pub put-answer-spec : {M : Type 1} → statement M
 put-answer-spec =

@@ -12,7 +12,8 @@ use Rattle.text_collect.proofs.formats.put_closed.Tie as tie
 unasked : tie.Need-returns
 unasked c =
     let s = c .before .before .before in
-    rw (eq-eqb (length (now (s .args .closed))) 0 (c .if1 .taken)) (record { bytes = refl; next = omega arith; short = omega arith })
+    rw (eq-eqb (length (now (s .args .closed))) 0 (c .if1 .taken))
+    (record { bytes = refl; next = omega arith; short = omega arith })
 
 put-closings-requires : tie.Need-put-closings-requires
 put-closings-requires c κs =

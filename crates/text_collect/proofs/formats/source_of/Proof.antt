@@ -22,7 +22,8 @@ sourceBy x =
 
 made : (bytes : List ℕ) (r : Reading) (known : Bool) (status : Status) → shownReading r ≡ readOf bytes
     → known ≡ eqb (checkedNumber (r .checked)) 0 → status ≡ splitOf (r .telegram .status)
-    → record { known = known; txid = r .telegram .txid; rorg = r .telegram .rorg; level = status .level } ≡ sourceOf bytes
+    → record { known = known; txid = r .telegram .txid; rorg = r .telegram .rorg; level = status .level }
+    ≡ sourceOf bytes
 unfolding sourceOf readOf
 made bytes r known status e k s = rw (k, s) (ap sourceBy e)
 
@@ -30,7 +31,8 @@ returns : tie.Need-returns
 returns c =
     let s = c .before in
     let r = s .before .before .before in
-    made _ (r .read .result) (c .is-valid .result) (s .split .result) (r .read .ensures) (c .is-valid .ensures) (s .split .ensures)
+    made _ (r .read .result) (c .is-valid .result) (s .split .result)
+    (r .read .ensures) (c .is-valid .ensures) (s .split .ensures)
 
 pub source-of-spec : {M : Type 1} → statement M
 source-of-spec =

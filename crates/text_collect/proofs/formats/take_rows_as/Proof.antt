@@ -41,7 +41,8 @@ use Rattle.text_collect.proofs.formats.take_rows_as.Statement.{statemen
 use Rattle.text_collect.proofs.formats.take_rows_as.Tie as tie
 
 abbrev Inv-loop : tie.InvT-loop
-Inv-loop fit setting format times₀ lens₀ entries₀ copies₀ input most out₀ moments₀ rows₀ closed₀ summary₀ bytes₀ at₀ to₀ n₀
+Inv-loop fit setting format times₀ lens₀ entries₀ copies₀ input
+    most out₀ moments₀ rows₀ closed₀ summary₀ bytes₀ at₀ to₀ n₀
     k₀ left₀ times lens entries copies out moments rows closed summary bytes at to n k left =
     Taken (collectIn format)
     (RoomyIn format (runningAt setting (viewIn (columns times₀ lens₀ entries₀ copies₀) summary₀)) out₀ moments₀ closed₀)
@@ -52,7 +53,8 @@ Inv-loop fit setting format times₀ lens₀ entries₀ copies₀ input most out
     out moments rows closed at to n k left
 
 abbrev μ-loop : tie.MeasureT-loop
-μ-loop fit setting format times₀ lens₀ entries₀ copies₀ input most out₀ moments₀ rows₀ closed₀ summary₀ bytes₀ at₀ to₀ n₀
+μ-loop fit setting format times₀ lens₀ entries₀ copies₀ input
+    most out₀ moments₀ rows₀ closed₀ summary₀ bytes₀ at₀ to₀ n₀
     k₀ left₀ times lens entries copies out moments rows closed summary bytes at to n k left =
     length input - at
 
@@ -71,7 +73,8 @@ loop-holds : tie.Need-loop-holds Inv-loop μ-loop
 loop-holds c =
     let s = entry c in
     let a = s .args in
-    none-taken (collectIn (a .format)) (format-bounded (a .format)) (isAsked (now (a .closed))) (now (a .input)) (a .most)
+    none-taken (collectIn (a .format)) (format-bounded (a .format))
+    (isAsked (now (a .closed))) (now (a .input)) (a .most)
     (now (a .out)) (s .pre .0) (s .pre .1)
 
 -- ---- the line that was read
@@ -118,7 +121,8 @@ ended : (e : tie.Else4 Inv-loop μ-loop)
     (indexOf newline d < length d) × (read e .parse .result .used ≡ indexOf newline d + 1))
 ended e = said-ended _ (answer (read e)) (e .if4 .left)
 
-within : (e : tie.Else4 Inv-loop μ-loop) → turn (read e) .loop .at + read e .parse .result .used ≤ length (input (turn (read e)))
+within : (e : tie.Else4 Inv-loop μ-loop)
+    → turn (read e) .loop .at + read e .parse .result .used ≤ length (input (turn (read e)))
 within e =
     let l = turn (read e) in
     omega (arith, ended e .0, ended e .1, length-drop (l .loop .at) (input l), l .loop .inv .inside)
@@ -262,7 +266,8 @@ time c =
     let k = indexOf newline (rest c) in
     let at = here c .loop .at in
     let r = parsed c .parse .result in
-    let n : at + r .used - (2 * r .len + 2) - at ≡ k - (2 * length (bytes c) + 1) = omega (arith, e .1, long c, spare c) in
+    let n : at + r .used - (2 * r .len + 2) - at ≡ k - (2 * length (bytes c) + 1) =
+    omega (arith, e .1, long c, spare c) in
     rw n (time-text (rest c) k (omega (arith, e .0)) (said _ (says c)))
 
 sub-put-answer : tie.Need-sub-put-answer Inv-loop μ-loop
@@ -285,7 +290,13 @@ put-answer-requires c κs =
     let at = here i .loop .at in
     let r = parsed i .parse .result in
     let n = at + r .used - (2 * r .len + 2) - at in (
-      omega (arith, length-take n (rest i), e .1, long i, time-short (rest i) k (omega (arith, e .0)) (said _ (says i))),
+      omega (
+        arith,
+        length-take n (rest i),
+        e .1,
+        long i,
+        time-short (rest i) k (omega (arith, e .0)) (said _ (says i)),
+      ),
       omega (arith, few i, length-take (r .len - 0) (parsed i .parse .last .1 .0)),
       omega arith,
     )
@@ -326,7 +337,8 @@ loop-again-2 c =
     let sent = relayed-bytes (s .setting) (s .fit) v x (next .answer) (ap (λ (y : Outcome). y .answer) outcome) in
     let moment = take (l .loop .at + r .used - (2 * r .len + 2) - l .loop .at) (rest i) in
     let texts : ℕ → List ℕ = λ m.
-    rowIn (format l) moment (printedRow (next .answer)) (take m heard) (relayedFor (s .setting) (next .answer) (take m heard))
+    rowIn (format l) moment (printedRow (next .answer)) (take m heard)
+    (relayedFor (s .setting) (next .answer) (take m heard))
     (sourceOf (take m heard)) in
     let text = said-text (format l) _ _ next (says i) o (time i) sent ∙ sym (ap texts z) in
     let w = q .put-answer .ensures in
@@ -334,7 +346,8 @@ loop-again-2 c =
     let cells : ℕ → List ℕ = λ m. closedCells v (receptionAt (r .time) (take m heard)) in
     let closes = closer a .put-closed .ensures in
     let inv = l .loop .inv in
-    let left = room-left (l .loop .k) (closer a .put-closed .result) (cells (r .len - 0)) (fitting p) (inv .spare) closes in
+    let left =
+    room-left (l .loop .k) (closer a .put-closed .result) (cells (r .len - 0)) (fitting p) (inv .spare) closes in
     said-taken (collectIn (format l)) (format-bounded (format l)) (asked l) (λ s y. refl) (input l) inv (r .used)
     (ended (passed i)) (some p)
     (record {

@@ -18,7 +18,8 @@ too-small c =
     let s = c .before .before .before in
     not-fitting (badIn (s .args .format)) (sym (c .before .has-capacity .ensures) ∙ not-true _ (c .if1 .taken))
 
-fits : (c : tie.Else1) → let s = c .before .before .before in leb (s .args .at + 17) (length (now (s .args .out))) ≡ true
+fits : (c : tie.Else1) → let s = c .before .before .before in
+    leb (s .args .at + 17) (length (now (s .args .out))) ≡ true
 fits c = sym (c .before .has-capacity .ensures) ∙ not-false _ (c .if1 .left)
 
 room : (c : tie.Else1) → let s = c .before .before .before in s .args .at + 17 ≤ length (now (s .args .out))

@@ -18,7 +18,8 @@ too-small c =
     let s = c .before .before .before in
     not-fitting (headingIn (s .args .format)) (sym (c .before .has-capacity .ensures) ∙ not-true _ (c .if1 .taken))
 
-fits : (c : tie.Else1) → let s = c .before .before .before in leb (s .args .at + 50) (length (now (s .args .out))) ≡ true
+fits : (c : tie.Else1) → let s = c .before .before .before in
+    leb (s .args .at + 50) (length (now (s .args .out))) ≡ true
 fits c = sym (c .before .has-capacity .ensures) ∙ not-false _ (c .if1 .left)
 
 room : (c : tie.Else1) → let s = c .before .before .before in s .args .at + 50 ≤ length (now (s .args .out))
@@ -29,7 +30,9 @@ write-requires c κs = let t = c .before .before in omega (arith, room (t .befor
 
 text : tie.Need-returns-2
 unfolding headingIn
-text c = rw (c .enum-told .given .1) (fitting (fits (c .before .before)) (record { bytes = refl; next = omega arith; short = omega arith }))
+text c =
+    rw (c .enum-told .given .1)
+    (fitting (fits (c .before .before)) (record { bytes = refl; next = omega arith; short = omega arith }))
 
 csv : tie.Need-returns-3
 unfolding headingIn
@@ -40,7 +43,9 @@ csv c =
 
 json : tie.Need-returns-4
 unfolding headingIn
-json c = rw (c .enum-told3 .given .1) (fitting (fits (c .before .before)) (record { bytes = refl; next = omega arith; short = omega arith }))
+json c =
+    rw (c .enum-told3 .given .1)
+    (fitting (fits (c .before .before)) (record { bytes = refl; next = omega arith; short = omega arith }))
 
 pub put-heading-spec : {M : Type 1} → statement M
 put-heading-spec =

@@ -21,16 +21,20 @@ entry c =
 too-small : tie.Need-returns
 too-small c =
     let a = entry (c .before) .args in
-    not-fitting (rowIn (a .format) (now (a .time)) (a .row) (now (a .heard)) (now (a .sent)) (a .source)) (sym (c .before .has-capacity .ensures) ∙ not-true _ (c .if1 .taken))
+    not-fitting (rowIn (a .format) (now (a .time)) (a .row) (now (a .heard)) (now (a .sent)) (a .source))
+    (sym (c .before .has-capacity .ensures) ∙ not-true _ (c .if1 .taken))
 
 fits : (c : tie.Else1)
     → let a = entry (c .before) .args in
-    leb (a .at + longestRowIn (length (now (a .time))) (length (now (a .heard))) (length (now (a .sent)))) (length (now (a .out))) ≡ true
+    leb (a .at + longestRowIn (length (now (a .time))) (length (now (a .heard))) (length (now (a .sent))))
+    (length (now (a .out)))
+    ≡ true
 fits c = sym (c .before .has-capacity .ensures) ∙ not-false _ (c .if1 .left)
 
 room : (c : tie.Else1)
     → let a = entry (c .before) .args in
-    a .at + longestRowIn (length (now (a .time))) (length (now (a .heard))) (length (now (a .sent))) ≤ length (now (a .out))
+    a .at + longestRowIn (length (now (a .time))) (length (now (a .heard))) (length (now (a .sent)))
+    ≤ length (now (a .out))
 room c = leb-true _ _ (fits c)
 
 write-row-requires : tie.Need-write-row-requires

@@ -23,7 +23,8 @@ returns c =
     loosened
     (then
     (then
-    (then (then (then (a .write .ensures) (b .write-csv-answer .ensures)) (h .write-hex-after .ensures)) (s .write-hex-after2 .ensures))
+    (then (then (then (a .write .ensures) (b .write-csv-answer .ensures)) (h .write-hex-after .ensures))
+    (s .write-hex-after2 .ensures))
     (e .write-csv-source .ensures))
     (z .write2 .ensures))
     (omega arith)

@@ -26,7 +26,8 @@ returns c =
     (then
     (then
     (then
-    (then (then (then (a .write .ensures) (t .write2 .ensures)) (b .write-json-answer .ensures)) (d .write-hex-after .ensures))
+    (then (then (then (a .write .ensures) (t .write2 .ensures)) (b .write-json-answer .ensures))
+    (d .write-hex-after .ensures))
     (e .write-json-send .ensures))
     (f .write-json-source .ensures))
     (z .write3 .ensures))

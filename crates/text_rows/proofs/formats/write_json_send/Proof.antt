@@ -16,7 +16,8 @@ unfolding jsonSend
 none-sent [] e = refl
 none-sent (b ∷ bs) e = absurd (omega arith)
 
-some-sent : (sent : List ℕ) → (length sent ≡ 0 → ⊥) → jsonSend sent ≡ hexAfter (codes "\",\"send\":\"") sent ++ codes "\""
+some-sent : (sent : List ℕ) → (length sent ≡ 0 → ⊥)
+    → jsonSend sent ≡ hexAfter (codes "\",\"send\":\"") sent ++ codes "\""
 unfolding jsonSend
 some-sent [] n = absurd (n refl)
 some-sent (b ∷ bs) n = refl
@@ -31,7 +32,8 @@ sends c =
     let w = c .before .before in
     let h = w .before .before .before in
     let a = h .before .before in
-    rw (some-sent _ (a .before .before .before .if1 .left)) (loosened (then (a .write-hex-after .ensures) (w .write2 .ensures)) (omega arith))
+    rw (some-sent _ (a .before .before .before .if1 .left))
+    (loosened (then (a .write-hex-after .ensures) (w .write2 .ensures)) (omega arith))
 
 pub write-json-send-spec : {M : Type 1} → statement M
 write-json-send-spec =

@@ -11,7 +11,8 @@ use borrow.Author.Needs.{needs}
 use Rattle.text_rows.proofs.formats.write_json_source.Statement.{statement}
 use Rattle.text_rows.proofs.formats.write_json_source.Tie as tie
 
-is-known : (s : Source) → s .known ≡ true → jsonSource s ≡ sourceAfter (codes ",\"txid\":\"") (codes "\",\"rorg\":\"") (codes "\",\"level\":") s
+is-known : (s : Source) → s .known ≡ true
+    → jsonSource s ≡ sourceAfter (codes ",\"txid\":\"") (codes "\",\"rorg\":\"") (codes "\",\"level\":") s
 unfolding jsonSource
 is-known s e = rw e
 
@@ -28,7 +29,8 @@ known c =
 
 unknown : tie.Need-returns-2
 unknown c =
-    rw (is-unknown (c .before .before .args .source) (c .if1 .left)) (record { bytes = refl; next = omega arith; short = omega arith })
+    rw (is-unknown (c .before .before .args .source) (c .if1 .left))
+    (record { bytes = refl; next = omega arith; short = omega arith })
 
 pub write-json-source-spec : {M : Type 1} → statement M
 write-json-source-spec =

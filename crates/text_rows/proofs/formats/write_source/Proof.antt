@@ -43,7 +43,8 @@ returns c =
     let l = c .before .before in
     let t = typed (l .before) in
     let n = named (t .before) in
-    loosened (then (then (n .write-hex-after .ensures) (t .write-hex-after2 .ensures)) (l .write-count .ensures)) (omega (arith, identity (first (n .before))))
+    loosened (then (then (n .write-hex-after .ensures) (t .write-hex-after2 .ensures)) (l .write-count .ensures))
+    (omega (arith, identity (first (n .before))))
 
 pub write-source-spec : {M : Type 1} → statement M
 write-source-spec =

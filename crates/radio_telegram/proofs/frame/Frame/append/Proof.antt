@@ -13,7 +13,9 @@ part-bytes-end c =
     omega arith
 
 returns : tie.Need-returns
-returns c = frame-append _ _ _ _ (c .before .before .before .before .before .pre) (c .before .copy .ensures .0) (c .before .copy .ensures .1)
+returns c =
+    frame-append _ _ _ _ (c .before .before .before .before .before .pre)
+    (c .before .copy .ensures .0) (c .before .copy .ensures .1)
 
 pub append-spec : {M : Type 1} → statement M
 append-spec =
