@@ -32,14 +32,13 @@ pub record Bracket (xs : List ℕ) (n x low size : ℕ) : Type 0 where
   pub above : (i : ℕ) → low + size ≤ i → i < n → x ≤ lineAt xs i .identity
 
 module _ (xs : List ℕ) (n x : ℕ) where
-  pub bracket-start : n ≤ maxLines → Bracket xs n x 0 maxLines
-  bracket-start h =
-      record {
-        within = omega arith;
-        few = omega arith;
-        below = λ i l. absurd (omega arith);
-        above = λ i l k. absurd (omega arith);
-      }
+  pub bracket-start : (most : ℕ) → n ≤ most → most ≤ maxLines → Bracket xs n x 0 most
+  bracket-start most h k = record {
+    within = omega arith;
+    few = omega arith;
+    below = λ i l. absurd (omega arith);
+    above = λ i l m. absurd (omega arith);
+  }
 
   -- a turn: the last line of one half tells which half is left, and of an odd size the greater one comes first
   module _ (order : Ordered xs n) (low size half end r : ℕ) (b : Bracket xs n x low size)

@@ -22,14 +22,27 @@ fn step(lines: &[u64], count: usize, identity: u64, low: usize, end: usize) -> u
     low
 }
 
-// How many of the first `count` lines have an identity below this one. The turns are the same for every count, so that they can be laid out one
-// after another without a branch.
+// So few lines take four turns of the search, and 256 take nine.
+const FEW: usize = 15;
+
+// How many of the first `count` lines have an identity below this one.
 fn find(lines: &[u64], count: usize, identity: u64) -> usize
     requires { ⌜ (length (now lines) ≡ linesLength) × (count ≤ maxLines) × Ordered (now lines) count ⌝ }
     ensures { λ r. ⌜ Place (now (lines .entry)) count identity r ⌝ }
 {
+    if count <= FEW {
+        return find_among(lines, count, identity, FEW);
+    }
+    find_among(lines, count, identity, Report::MAX_LINES)
+}
+
+// The same where there are at most `most`. The turns are the same for every count, so that they can be laid out one after another without a branch.
+fn find_among(lines: &[u64], count: usize, identity: u64, most: usize) -> usize
+    requires { ⌜ (length (now lines) ≡ linesLength) × (count ≤ most) × (most ≤ maxLines) × Ordered (now lines) count ⌝ }
+    ensures { λ r. ⌜ Place (now (lines .entry)) count identity r ⌝ }
+{
     let mut low = 0;
-    let mut size = Report::MAX_LINES;
+    let mut size = most;
     while 0 < size {
         let half = (size + 1) >> 1;
         low = step(lines, count, identity, low, low + half);
