@@ -4,7 +4,7 @@ use crate::disk::{Disk, Handle};
 use crate::failure::Failure;
 use crate::files::{self, Pieces};
 use crate::journal::{RECORD, ROWS};
-use mooringeye::{Archive, Block, Scan};
+use mooringeye::{Archive, Block};
 use std::io;
 use std::path::{Path, PathBuf};
 
@@ -122,11 +122,7 @@ impl Appender {
 
     /// How many rows its first blocks have, as an archive.
     pub fn scan(&self, blocks: u64) -> Result<u64, Failure> {
-        let mut scan = Scan::new();
-        let mut pieces = Pieces::of(&*self.file, &self.path, 0, blocks);
-        while let Some(piece) = pieces.next()? {
-            scan.feed(piece).map_err(|why| Failure::refused(self.path.display(), why))?;
-        }
+        let scan = files::scan(self.pieces_to(0, blocks))?;
         let rows = scan.end().map_err(|refused| Failure::refused_at(self.path.display(), refused))?;
         Ok(rows as u64)
     }

@@ -53,12 +53,7 @@ impl<'a> Source<'a> {
     }
 
     fn verify(&self) -> Result<usize, Failure> {
-        let mut scan = Scan::new();
-        let mut pieces = self.pieces();
-        while let Some(piece) = pieces.next()? {
-            scan.feed(piece).map_err(|why| self.refused(why))?;
-        }
-        self.rows(&scan)
+        self.rows(&files::scan(self.pieces())?)
     }
 }
 

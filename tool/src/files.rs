@@ -3,11 +3,12 @@ use crate::appender::MAX_BLOCKS;
 use crate::disk::{Disk, Handle, Open, Real, Shared};
 use crate::failure::{tell, Failure};
 use crate::progress::Progress;
-use mooringeye::{Archive, Refusal};
+use mooringeye::{Archive, Refusal, Scan};
 use std::ffi::OsString;
 use std::fs::{self, File, OpenOptions, TryLockError};
 use std::io::{self, Write};
 use std::path::{Path, PathBuf};
+use std::thread;
 
 /// How much of an archive is read at once.
 pub const PIECE: usize = 1 << 20;
@@ -253,6 +254,34 @@ impl<'a> Pieces<'a> {
     }
 }
 
+/// What a scan of all pieces says. Two threads share each long piece.
+pub fn scan(mut pieces: Pieces) -> Result<Scan, Failure> {
+    let mut scan = Scan::new();
+    let path = pieces.path;
+    while let Some(piece) = pieces.next()? {
+        let fed = if piece.len() == PIECE { scan_by_two(scan, piece) } else { scan.feed(piece).map(|()| scan) };
+        scan = fed.map_err(|why| Failure::refused(path.display(), why))?;
+    }
+    Ok(scan)
+}
+
+/// The scan behind a piece. Another thread scans its second half as if all blocks before it were full; where they are not, the half is scanned again.
+fn scan_by_two(mut scan: Scan, piece: &[u8]) -> Result<Scan, Refusal> {
+    let blocks = piece.len() / Archive::BLOCK / 2;
+    let (front, back) = piece.split_at(blocks * Archive::BLOCK);
+    let mut second = Scan::behind(scan.blocks() + blocks as u64);
+    let (fed, ahead) = thread::scope(|threads| {
+        let ahead = thread::Builder::new().spawn_scoped(threads, move || second.feed(back).map(|()| second));
+        (scan.feed(front), ahead.ok().and_then(|thread| thread.join().ok()))
+    });
+    fed?;
+    let are_full = scan.end() == Ok(scan.blocks() as usize * Archive::ROWS_PER_BLOCK);
+    match ahead {
+        Some(ahead) if are_full => ahead,
+        _ => scan.feed(back).map(|()| scan),
+    }
+}
+
 /// Copies an archive of so many blocks; zeros at its end take no room.
 pub fn copy(from: &File, path: &Path, blocks: u64, to: &mut Replacement) -> Result<(), Failure> {
     let mut pieces = Pieces::of(from, path, 0, blocks);
@@ -268,4 +297,53 @@ pub fn while_written(failure: Failure, file: &File, path: &Path) -> Failure {
         tell(format!("{} is being written: a block may have been read half old, half new; try again", path.display()));
     }
     failure
+}
+
+#[cfg(test)]
+mod tests {
+    use super::*;
+    use mooringeye::Block;
+
+    const PRESS: [u8; 8] = [0xD5, 0x09, 1, 2, 3, 4, 0, 0xE8];
+    const BLOCKS: usize = 7;
+
+    /// Seven blocks behind so many full ones, of which so many rows are there and the rest is zero.
+    fn piece(before: usize, rows: usize) -> Vec<u8> {
+        let first = before * Archive::ROWS_PER_BLOCK;
+        let mut blocks = vec![Block::default(); BLOCKS];
+        for n in 0..rows {
+            blocks[n / Archive::ROWS_PER_BLOCK].put(first + n, &PRESS, n as u64, false).unwrap();
+        }
+        blocks.iter().flat_map(|block| *block.as_bytes()).collect()
+    }
+
+    /// Both ways to scan a piece say the same, to the last number.
+    fn compare(before: usize, piece: &[u8]) {
+        let mut scan = Scan::behind(before as u64);
+        let by_two = scan_by_two(scan.clone(), piece).unwrap();
+        scan.feed(piece).unwrap();
+        assert_eq!(format!("{by_two:?}"), format!("{scan:?}"));
+    }
+
+    #[test]
+    fn two_threads_say_what_one_says() {
+        for before in [0, 5] {
+            for rows in 0..=BLOCKS * Archive::ROWS_PER_BLOCK {
+                let whole = piece(before, rows);
+                compare(before, &whole);
+                for block in 0..BLOCKS {
+                    let mut damaged = whole.clone();
+                    damaged[block * Archive::BLOCK + 100] ^= 1;
+                    compare(before, &damaged);
+                    damaged[block * Archive::BLOCK..][..Archive::BLOCK].fill(0);
+                    compare(before, &damaged);
+                }
+            }
+        }
+        for blocks in 0..BLOCKS {
+            compare(0, &piece(0, 40)[..blocks * Archive::BLOCK]);
+        }
+        assert_eq!(scan_by_two(Scan::new(), &[0; 700]).unwrap_err(), Refusal::Size);
+        assert_eq!(scan_by_two(Scan::behind(1 << 32), &[0; 1024]).unwrap_err(), Refusal::Size);
+    }
 }
