@@ -166,7 +166,7 @@ pub fn salvage(args: &Args) -> Result<(), Failure> {
     let source = Source::open(from)?;
     let to = Path::new(to);
     if fs::symlink_metadata(to).is_ok() {
-        return Err(Failure::Failed(format!("{} is there already", to.display())));
+        return Err(Failure::Failed(format!("{} exists already", to.display())));
     }
     let mut output = Output::standard()?;
     let mut new = Replacement::of(to)?;
@@ -185,7 +185,7 @@ pub fn remove(args: &Args) -> Result<(), Failure> {
     };
     let ids = identities(args.all("txid").chain(more.iter().map(OsString::as_os_str)))?;
     if ids.is_empty() || ids.len() > Packer::MAX_IDENTITIES {
-        return Err(Failure::refused(format!("{} transmitters are named, and 1 to 32 can be removed", ids.len()), Refusal::Argument));
+        return Err(Failure::refused(format!("{} transmitters are named, but only 1 to 32 can be removed", ids.len()), Refusal::Argument));
     }
     let path = files::resolved(Path::new(name));
     let source = Source::open_locked(&path)?;

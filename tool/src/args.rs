@@ -97,7 +97,7 @@ impl Args {
     /// Says how the command is written.
     pub fn wrong(&self) -> Failure {
         let forms: Vec<String> = self.command.forms.iter().map(|form| format!("`mooringeye {} {form}`", self.command.name)).collect();
-        usage(format!("{}: {} words are given that are no options. Write {}.", self.command.name, self.rest.len(), forms.join(" or ")))
+        usage(format!("{}: {} words are given that are not options. Write {}.", self.command.name, self.rest.len(), forms.join(" or ")))
     }
 
     pub fn no_rest(&self) -> Result<(), Failure> {
@@ -119,7 +119,7 @@ fn no_option(command: &Command, word: &str) -> Failure {
         Some(name) => format!("Write --{name}."),
         None => format!("`mooringeye {} --help` lists the options; a file of that name is ./{word}.", command.name),
     };
-    usage(format!("{word}: no option of {}. {advice}", command.name))
+    usage(format!("{word}: not an option of {}. {advice}", command.name))
 }
 
 /// What a word says, where it says it.

@@ -35,7 +35,7 @@ impl BadLines {
     pub fn look_for_cr(&mut self, number: u64, line: &[u8]) -> bool {
         if !self.told_cr && line.ends_with(b"\r") {
             self.told_cr = true;
-            tell(format!("line {number} ends in CR LF: a carriage return is no hexadecimal digit, so such lines are BAD"));
+            tell(format!("line {number} ends in CR LF: a carriage return is not a hexadecimal digit, so such lines are BAD"));
         }
         self.told_cr
     }
@@ -43,7 +43,7 @@ impl BadLines {
     /// How many there were, where not all were told.
     pub fn end(&self) {
         if self.count > MOST {
-            tell(format!("{} lines were BAD. The first {MOST} stand above.", self.count));
+            tell(format!("{} lines were BAD. The first {MOST} are listed above.", self.count));
         }
     }
 }

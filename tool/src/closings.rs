@@ -45,7 +45,7 @@ impl Closings {
         if self.goes_aside && !self.out.is_empty() && !is_begun {
             let path = self.out.path().to_path_buf();
             let aside = files::put_aside(&self.disk, &path)?;
-            self.disk.tell(&format!("{} is not of this collector: it is kept as {}", path.display(), aside.display()));
+            self.disk.tell(&format!("{}: not written by this collector. It is kept as {}", path.display(), aside.display()));
             self.out = Out::open(&self.disk, Named::Heard, &path, None)?;
         }
         self.out.settle()?;

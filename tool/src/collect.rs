@@ -25,7 +25,7 @@ use std::rc::Rc;
 /// How much is read at once, and where each row is synced: a signal waits until it is taken.
 const CHUNK: usize = 1 << 20;
 const SYNCED_CHUNK: usize = 1 << 12;
-const NO_LEVEL: &str = "without --level the first line is `level 0`, `level 1` or `level 2`";
+const NO_LEVEL: &str = "without --level the first line must be `level 0`, `level 1` or `level 2`";
 
 pub fn run(args: &Args) -> Result<(), Failure> {
     let options = Options::of(args)?;
@@ -87,7 +87,7 @@ fn check_together(args: &Args, paths: [&Option<PathBuf>; 5]) -> Result<(), Failu
     let [archive, state, log, ..] = paths;
     for (at, path) in paths.iter().enumerate() {
         if path.is_some() && paths[..at].contains(path) {
-            return Err(Failure::Usage("state, archive, log, --out and --heard are different files".into()));
+            return Err(Failure::Usage("state, archive, log, --out and --heard must be different files".into()));
         }
     }
     let needs = [
@@ -103,7 +103,7 @@ fn check_together(args: &Args, paths: [&Option<PathBuf>; 5]) -> Result<(), Failu
         ("adopt-log", log, "--log"),
     ];
     if let Some((name, _, other)) = needs.iter().find(|(name, path, _)| args.has(name) && path.is_none()) {
-        return Err(Failure::Usage(format!("--{name} goes with {other}")));
+        return Err(Failure::Usage(format!("--{name} needs {other}")));
     }
     match args.has("replay") && log.is_some() {
         true => Err(Failure::Usage("--replay is for standard input; --log knows which lines were taken".into())),
@@ -233,9 +233,9 @@ impl Run {
 
     fn say_where_it_stands(&self, state: Option<&Path>) {
         if let Some(path) = state {
-            let what = if self.keeper.is_new { "begins with a fresh collector" } else { "goes on" };
+            let what = if self.keeper.is_new { "new collector" } else { "continuing" };
             let skipped = if self.skipping.left > 0 { ", which are skipped" } else { "" };
-            tell(format!("{} {what}: {} lines taken{skipped}", path.display(), self.keeper.state.lines));
+            tell(format!("{}: {what}. {} lines taken{skipped}.", path.display(), self.keeper.state.lines));
         }
     }
 
@@ -264,7 +264,7 @@ impl Run {
                 let (read, taken) = (&tail[tail.len() - kept..], &log.tail[log.tail.len() - kept..]);
                 let first = bytes - kept as u64;
                 if let Some(at) = differ(read, taken).or((kept < log.tail.len()).then_some(0)) {
-                    let text = format!("{} is not the log that was taken: it differs at byte {}", self.source.name(), first + at);
+                    let text = format!("{} is not the log that was read before: it differs at byte {}", self.source.name(), first + at);
                     return Err(Failure::Damaged(format!("{text}. Nothing was changed.")));
                 }
             }
@@ -344,7 +344,7 @@ impl Run {
     /// The next log was opened.
     fn begin_log(&mut self) {
         if let Source::Log(log) = &self.source {
-            tell(format!("goes on with {}", log.path().display()));
+            tell(format!("continuing with {}", log.path().display()));
             self.keeper.stand_at(log.place());
         }
         self.is_first = true;
@@ -356,7 +356,7 @@ impl Run {
             complain(self.keeper.totals());
         }
         let Some(name) = signals::stop() else { return false };
-        tell(format!("{name}: ends in order"));
+        tell(format!("{name}: stopped normally"));
         self.ended = Ended::Signal;
         true
     }
@@ -428,7 +428,7 @@ impl Run {
         self.is_first = first == FirstLine::Unended && text.len() < LINE_LIMIT;
         match (first, self.level) {
             (FirstLine::Level { setting, .. }, Some(level)) if setting != level => {
-                Err(Failure::Usage(format!("the first line says level {setting}, and --level {level}")))
+                Err(Failure::Usage(format!("the first line says level {setting}, but --level says {level}")))
             }
             (FirstLine::Level { setting, used }, _) => {
                 self.level = Some(setting);

@@ -76,7 +76,7 @@ fn own(disk: &dyn Disk, file: &dyn Handle, path: &Path) -> Result<(), Failure> {
     let (mine, named) = (file.facts().map_err(cannot)?, disk.facts(path).map_err(cannot)?);
     match named.is_some_and(|named| named.is_same(&mine)) {
         true => Ok(()),
-        false => Err(Failure::Failed(format!("{} was replaced by another process meanwhile", path.display()))),
+        false => Err(Failure::Failed(format!("{} was replaced by another process in the meantime", path.display()))),
     }
 }
 
@@ -205,8 +205,8 @@ pub fn blocks_of(file: &dyn Handle, path: &Path) -> Result<u64, Failure> {
     }
     match facts.length {
         n if n / BLOCK > MAX_BLOCKS => {
-            let text = format!("{n} bytes, and an archive has at most 2^32 blocks of {BLOCK} bytes");
-            Err(Failure::Damaged(format!("{}: no archive: {text}. It was not read.", path.display())))
+            let text = format!("{n} bytes, but an archive has at most 2^32 blocks of {BLOCK} bytes");
+            Err(Failure::Damaged(format!("{}: not an archive: {text}. It was not read.", path.display())))
         }
         n if n % BLOCK == 0 => Ok(n / BLOCK),
         n => Err(Failure::refused(format!("{} has {n} bytes", path.display()), Refusal::Size)),
@@ -294,7 +294,7 @@ pub fn copy(from: &File, path: &Path, blocks: u64, to: &mut Replacement) -> Resu
 /// Says in a failure of damage that somebody is writing the file, where it is so.
 pub fn while_written(failure: Failure, file: &File, path: &Path) -> Failure {
     if matches!(failure, Failure::Damaged(_)) && matches!(file.try_lock_shared(), Err(TryLockError::WouldBlock)) {
-        tell(format!("{} is being written: a block may have been read half old, half new; try again", path.display()));
+        tell(format!("{} is being written: a block may have been read half old and half new. Try again.", path.display()));
     }
     failure
 }

@@ -20,7 +20,7 @@ pub fn run(args: &Args) -> Result<(), Failure> {
         return Err(Failure::Usage("--rows: heard prints text or csv".into()));
     }
     if args.has("picture") && args.has("rows") {
-        return Err(Failure::Usage("--picture goes without --rows".into()));
+        return Err(Failure::Usage("--picture and --rows cannot be given together".into()));
     }
     let names = Names::of(args)?;
     let mut heard = Heard::default();

@@ -118,7 +118,7 @@ impl State {
         match raw::state_accept(bytes, &mut numbers, &mut name, &mut last, &mut image, &mut tail) {
             0 => {}
             16 => return Err(format!("{} bytes, expected {LENGTH}", bytes.len())),
-            _ => return Err("it is not what is written of a state".into()),
+            _ => return Err("its bytes are not those of a state".into()),
         }
         let collector = Collector::restore(&image).map_err(|why| format!("its image is {why}"))?;
         let [lines, counted, had, number, length, has_log, offset, device, inode, kept, has_out, ..] = numbers;

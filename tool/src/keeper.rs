@@ -255,7 +255,7 @@ impl Keeper {
                 break;
             }
         }
-        self.disk.tell(&format!("{} rows that the state did not count were taken in", self.state.counted() - counted));
+        self.disk.tell(&format!("{} rows that the state did not count are counted now", self.state.counted() - counted));
         self.interrupt();
         self.log_ended()
     }
@@ -277,7 +277,7 @@ fn check_format(out: &Out, format: Format) -> Result<(), Failure> {
     let [has, asked] = [has, format].map(|format| format!("{format:?}").to_lowercase());
     match has == asked {
         true => Ok(()),
-        false => Err(Failure::Usage(format!("{} has rows as {has}, and --rows says {asked}. Name another file.", out.path().display()))),
+        false => Err(Failure::Usage(format!("{} has rows as {has}, but --rows says {asked}. Name another file.", out.path().display()))),
     }
 }
 
@@ -296,7 +296,7 @@ fn line_of(row: &Stored) -> Vec<u8> {
 fn open_archive(disk: &Shared, files: &Files, state: &mut State) -> Result<Option<Store>, Failure> {
     let kept = state.archive.take().filter(|_| !files.adopt);
     let other = |name: &[u8]| {
-        let text = format!("the state keeps the rows of {}: name it by --archive, or use --adopt-archive", String::from_utf8_lossy(name));
+        let text = format!("the state belongs to the archive {}: name it by --archive, or use --adopt-archive", String::from_utf8_lossy(name));
         Err(Failure::Usage(text))
     };
     match (&files.archive, kept) {

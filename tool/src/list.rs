@@ -202,7 +202,7 @@ impl Printer {
     fn of(args: &Args) -> Result<Printer, Failure> {
         let (form, style) = (Form::of(args)?, Style::of(args)?);
         if !matches!(form, Form::Plain(_)) && !style.is_plain() {
-            return Err(Failure::Usage("--times and --names go with --rows text, csv and json".into()));
+            return Err(Failure::Usage("--times and --names need --rows text, csv or json".into()));
         }
         Ok(Printer { form, style, output: Output::standard()?, printed: Vec::with_capacity(4 * PIECE), months: BTreeMap::new() })
     }

@@ -93,8 +93,8 @@ impl Log {
             let shown = current.path.display();
             if let Err(byte) = current.compare(place)? {
                 let text = match current.length()? < place.offset {
-                    true => format!("{shown} was cut to {byte} bytes, and {} were taken", place.offset),
-                    false => format!("{shown} is not the log that was taken: it differs at byte {byte}"),
+                    true => format!("{shown} was cut to {byte} bytes, but {} were read before", place.offset),
+                    false => format!("{shown} is not the log that was read before: it differs at byte {byte}"),
                 };
                 return Err(Failure::Damaged(format!("{text}. Nothing was changed. Use --adopt-log to take it from its first byte.")));
             }
@@ -225,7 +225,7 @@ fn named(path: &Path) -> Result<Opened, Failure> {
 
 fn cut(path: &Path, length: u64, taken: u64) -> Failure {
     let text = "Its lines may be lost. Rotate it by rename, not by copytruncate.";
-    Failure::Damaged(format!("{} was cut to {length} bytes, and {taken} were read. {text}", path.display()))
+    Failure::Damaged(format!("{} was cut to {length} bytes, but {taken} were read. {text}", path.display()))
 }
 
 /// The log with the inode that was taken, and the newer ones in order.
@@ -256,7 +256,7 @@ fn newer_than(path: &Path, inode: u64) -> Result<VecDeque<Opened>, Failure> {
     match all.iter().position(|o| o.inode == inode) {
         Some(at) => Ok(all.split_off(at + 1)),
         None => {
-            tell(format!("the log that was read is no longer beside {}: it goes on with that one", path.display()));
+            tell(format!("the log that was read is no longer next to {}: continuing with that one", path.display()));
             Ok(all.split_off(all.len().saturating_sub(1)))
         }
     }
@@ -279,7 +279,10 @@ fn rotated(path: &Path) -> Result<VecDeque<Opened>, Failure> {
             return Ok(opened);
         }
     }
-    Err(Failure::Failed(format!("{} and the logs beside it are renamed all the time", path.display())))
+    Err(Failure::Failed(format!(
+        "{} and the rotated logs next to it were renamed again and again while they were listed. Try again.",
+        path.display()
+    )))
 }
 
 /// Paths and inodes of the log and the rotated ones, the oldest first.

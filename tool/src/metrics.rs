@@ -31,7 +31,7 @@ impl Metrics {
         let readable = |()| fs::set_permissions(&beside, Permissions::from_mode(MODE));
         let written = fs::write(&beside, text(state)).and_then(readable).and_then(|()| fs::rename(&beside, path));
         if let (Err(error), false) = (&written, self.told) {
-            tell(format!("cannot write the metrics {}: {error}. The collector goes on without them.", path.display()));
+            tell(format!("cannot write the metrics {}: {error}. The collector continues without them.", path.display()));
         }
         self.told = written.is_err();
     }

@@ -59,7 +59,7 @@ impl Out {
         if facts.length < kept.length {
             let text = "Nothing was changed. Move it away to begin a new one.";
             let shown = path.display();
-            return Err(Failure::Damaged(format!("{shown} has {} bytes, and the state has written {}. {text}", facts.length, kept.length)));
+            return Err(Failure::Damaged(format!("{shown} has {} bytes, but the state has written {}. {text}", facts.length, kept.length)));
         }
         out.length = kept.length;
         Ok(out)
@@ -69,7 +69,7 @@ impl Out {
     pub fn settle(&mut self) -> Result<(), Failure> {
         if self.facts.length > self.length {
             let (shown, cut) = (self.path.display(), self.facts.length - self.length);
-            self.disk.tell(&format!("{shown}: the last {cut} bytes are cut: the state does not count them"));
+            self.disk.tell(&format!("{shown}: the last {cut} bytes are cut, because the state does not count them"));
             self.file.set_length(self.length).map_err(|e| cannot(&self.path, &e))?;
             self.file.sync().map_err(|e| cannot(&self.path, &e))?;
         }

@@ -190,13 +190,13 @@ impl<'a> Reader<'a> {
         match (FirstLine::of(text), self.level) {
             _ if text::is_packed(text) => Err(Failure::Failed(format!("{0}: packed. Write <(zcat {0}).", path.display()))),
             (FirstLine::Level { setting, .. }, Some(level)) if setting != level => {
-                Err(Failure::Usage(format!("the first line of {} says level {setting}, and the level is {level}", path.display())))
+                Err(Failure::Usage(format!("the first line of {} says level {setting}, but the level is {level}", path.display())))
             }
             (FirstLine::Level { setting, used }, _) => {
                 self.level = Some(setting);
                 Ok(used)
             }
-            (_, None) => Err(Failure::Usage(format!("{}: without --level the first line is `level 0`, `level 1` or `level 2`", path.display()))),
+            (_, None) => Err(Failure::Usage(format!("{}: without --level the first line must be `level 0`, `level 1` or `level 2`", path.display()))),
             _ => Ok(0),
         }
     }

@@ -73,6 +73,6 @@ pub fn name_of(path: &Path) -> Result<Vec<u8>, Failure> {
     let name = path.file_name().map(|n| n.as_bytes()).unwrap_or_default();
     match name.len() {
         1..=MAX_NAME => Ok(name.into()),
-        _ => Err(Failure::Usage(format!("{} is no name of an archive", path.display()))),
+        _ => Err(Failure::Usage(format!("{} cannot be the name of an archive", path.display()))),
     }
 }

@@ -79,7 +79,7 @@ fn as_text(state: &State, now: u64) -> String {
     line(
         "log",
         match &state.log {
-            None => "its place is not known".into(),
+            None => "its position is not known".into(),
             Some(log) if log.inode == 0 => format!("standard input, {} bytes taken", log.offset),
             Some(log) => format!("byte {} of the file with inode {}", log.offset, log.inode),
         },

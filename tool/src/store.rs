@@ -30,9 +30,9 @@ impl Place {
         let usage = |text: &str| Err(Failure::Usage(format!("{}: {text}", path.display())));
         let name = name_of(path)?;
         match (pattern(&name), blocks) {
-            (Some(_), None) => usage("a pattern needs --blocks, at how many of them a new file begins"),
-            (None, Some(_)) => usage("--blocks goes with a pattern, a name with ## in it where the number of the file stands"),
-            (Some((before, _, after)), _) if [before, after].concat().contains(&b'#') => usage("a pattern has one run of # in its name"),
+            (Some(_), None) => usage("an archive with # in its name needs --blocks, the number of blocks at which a new file begins"),
+            (None, Some(_)) => usage("--blocks needs an archive with # in its name, such as plant-##.arc"),
+            (Some((before, _, after)), _) if [before, after].concat().contains(&b'#') => usage("the name of an archive may have only one run of #"),
             (_, blocks) => Ok(Place { path: path.into(), blocks, growth: GROWTH }),
         }
     }
@@ -145,10 +145,10 @@ impl Store {
         if rows > 0 && place.existing(&**disk, number)?.is_none() {
             let shown = place.file(number).display().to_string();
             if place.blocks.is_none() || rows < place.full() {
-                return Err(not_its_own(format!("{shown} is missing, and the state counts {rows} rows in it")));
+                return Err(not_its_own(format!("{shown} is missing, but the state counts {rows} rows in it")));
             }
             // A full file may be moved away at any time.
-            disk.tell(&format!("{shown} is full and was moved away: the next file begins"));
+            disk.tell(&format!("{shown} is full and was moved away: continuing with the next file"));
             (number, rows, counted, had, last) = (number + 1, 0, seen, 0, Block::default());
         }
         let path = place.file(number);
@@ -209,7 +209,7 @@ impl Store {
         if std::mem::take(&mut self.is_torn) {
             let position = self.file.rows().div_ceil(ROWS) - 1;
             self.file.write_block(&self.file.last().clone(), position)?;
-            self.disk.tell(&format!("{}: block {position} was torn. It was mended from the state's copy.", self.file.path().display()));
+            self.disk.tell(&format!("{}: block {position} was torn. It was repaired from the state's copy.", self.file.path().display()));
         }
         for untidy in std::mem::take(&mut self.untidy) {
             if untidy.number == self.number {
@@ -224,7 +224,7 @@ impl Store {
         self.file.sync()?;
         if self.left > 0 {
             let shown = self.file.path().display();
-            self.disk.tell(&format!("{shown} has {} rows behind row {} that the state does not count", self.left, self.file.rows()));
+            self.disk.tell(&format!("{shown} has {} rows after row {} that the state does not count", self.left, self.file.rows()));
         }
         Ok(())
     }
@@ -322,7 +322,7 @@ impl Store {
     /// Goes on with the next file of the pattern, which has leftovers or is to be begun. The lock of the full one is held until the new one has its own.
     fn next_file(&mut self, has_leftovers: bool) -> Result<(), Failure> {
         if self.place.blocks.is_none() {
-            return Err(Failure::Failed(format!("{} has all blocks that an archive can have", self.path().display())));
+            return Err(Failure::Failed(format!("{} has as many blocks as an archive can have", self.path().display())));
         }
         self.file.sync()?;
         let path = self.place.file(self.number + 1);
@@ -405,7 +405,7 @@ fn tidy(disk: &Shared, file: &mut Appender, untidy: &Untidy) -> Result<(), Failu
     let shown = file.path().display().to_string();
     if behind.sound > 0 {
         let torn = copy_torn(disk, file, *from, to)?;
-        disk.tell(&format!("{shown}: {} blocks behind an unfinished write were copied to {}", to - from, torn.display()));
+        disk.tell(&format!("{shown}: {} blocks after an unfinished write were copied to {}", to - from, torn.display()));
     }
     file.clear(*from, to)?;
     if untidy.is_odd {
@@ -434,7 +434,7 @@ fn copy_torn(disk: &Shared, file: &Appender, from: u64, to: u64) -> Result<PathB
 }
 
 fn not_its_own(text: String) -> Failure {
-    Failure::Damaged(format!("{text}. Nothing was changed. Use --adopt-archive to go on with the archive as it is."))
+    Failure::Damaged(format!("{text}. Nothing was changed. Use --adopt-archive to continue with the archive as it is."))
 }
 
 /// Looks at the blocks that the state counts. The last of them, cut to the counted rows, has to be the state's copy, or torn.
@@ -445,7 +445,7 @@ fn find_last(file: &Appender, used: u64) -> Result<Found, Failure> {
     let (shown, rows) = (file.path().display(), file.rows());
     let full = file.scan(file.blocks().min(used - 1))?;
     if file.blocks() < used || full < ROWS * (used - 1) {
-        return Err(not_its_own(format!("{shown} has {full} rows, and the state counts {rows}: rows were lost or removed")));
+        return Err(not_its_own(format!("{shown} has {full} rows, but the state counts {rows}: rows were lost or removed")));
     }
     match judge(file.last(), in_last(rows), &file.read_block(used - 1)?) {
         Found::Another => {

@@ -120,8 +120,8 @@ fn salvage() {
     let left: Vec<&str> = all.iter().enumerate().filter(|(i, _)| ![5, 6, 2_047, 2_050].contains(&(i / 15))).map(|(_, r)| *r).collect();
     assert!(out("archive list b", &dir).lines().eq(left));
     assert_eq!(fs::metadata(dir.join("a")).unwrap().len(), fs::metadata(dir.join("b")).unwrap().len());
-    run("archive salvage a b", &dir, b"").with(1).says("b is there already");
-    run("archive salvage a a", &dir, b"").with(1).says("a is there already");
+    run("archive salvage a b", &dir, b"").with(1).says("b exists already");
+    run("archive salvage a a", &dir, b"").with(1).says("a exists already");
     fs::write(dir.join("odd"), [0; 513]).unwrap();
     run("archive salvage odd c", &dir, b"").with(3).says("refused with 16");
     assert!(!dir.join("c").exists() && !dir.join("c.new").exists());

@@ -219,7 +219,7 @@ fn a_signal_at_any_moment() {
         let ran = running.end();
         feeder.join().unwrap();
         // Before the handlers stand a signal ends it at once; then nothing was taken.
-        let is_in_order = ran.status == Some(0) && (is_last || ran.err.contains("ends in order"));
+        let is_in_order = ran.status == Some(0) && (is_last || ran.err.contains("stopped normally"));
         assert!(is_in_order || ran.status.is_none() && ran.out.is_empty(), "{}", ran.err);
         printed += &ran.out;
     }
@@ -350,7 +350,13 @@ fn damaged_states_are_refused_and_stay() {
     flipped[2_000] ^= 0x10;
     let mut header = good.clone();
     header[15] ^= 1;
-    for (bytes, why) in [(&good[..3_000], "3000 bytes"), (&[], "0 bytes"), (&flipped, "not what"), (&header, "not what"), (&[0; 4_096], "not what")] {
+    for (bytes, why) in [
+        (&good[..3_000], "3000 bytes"),
+        (&[], "0 bytes"),
+        (&flipped, "not those of a state"),
+        (&header, "not those of a state"),
+        (&[0; 4_096], "not those of a state"),
+    ] {
         fs::write(dir.join("s"), bytes).unwrap();
         run("collect --state s --archive a --replay", &dir, &sample()).with(3).says(why).says("--new-state");
         assert_eq!(fs::read(dir.join("s")).unwrap(), bytes, "it stays as it is");
@@ -393,15 +399,15 @@ fn replay_skips_what_was_taken() {
 fn archives_that_are_not_the_states() {
     let dir = folder("other_archive");
     run("collect --state s --archive a", &dir, &sample()).with(0);
-    run("collect --level 1 --state s --archive b", &dir, b"").with(2).says("the state keeps the rows of a");
-    run("collect --level 1 --state s", &dir, b"").with(2).says("the state keeps the rows of a");
+    run("collect --level 1 --state s --archive b", &dir, b"").with(2).says("the state belongs to the archive a");
+    run("collect --level 1 --state s", &dir, b"").with(2).says("the state belongs to the archive a");
     assert!(!dir.join("b").exists());
     let good = fs::read(dir.join("a")).unwrap();
     // Rows that were removed, a file that is gone, and another file of that name.
     run("archive remove a --txid 01814D10", &dir, b"").with(0);
     run("collect --level 1 --state s --archive a", &dir, b"").with(3).says("--adopt-archive");
     fs::remove_file(dir.join("a")).unwrap();
-    run("collect --level 1 --state s --archive a", &dir, b"").with(3).says("a is missing, and the state counts 159 rows");
+    run("collect --level 1 --state s --archive a", &dir, b"").with(3).says("a is missing, but the state counts 159 rows");
     assert!(!dir.join("a").exists());
     run("collect --level 1 --archive a", &dir, log(5_000, 3).as_bytes()).with(0);
     run("collect --level 1 --state s --archive a", &dir, b"").with(3).says("does not have row 159 as the state counted it");

@@ -184,7 +184,7 @@ fn killed_without_a_log() {
         assert!(after.starts_with(&before), "rows that stood there are gone");
         printed += ran.out.split_inclusive('\n').filter(|row| row.ends_with('\n') && (row.contains(" KEPT") || row.contains(" LOOSE"))).count();
         assert!(after.lines().count() >= printed, "a printed row is not there");
-        taken_in += usize::from(ran.err.contains("were taken in"));
+        taken_in += usize::from(ran.err.contains("are counted now"));
         kills_done += 1;
     }
     let before = listed(&dir);
@@ -280,7 +280,7 @@ fn torn_at(whole: &Whole, dir: &Path, at: usize) -> (bool, bool) {
     let again = run(&words, dir, whole.log.as_bytes()).with(0);
     whole.has_rows(dir, rows);
     whole.is_same(dir);
-    (is_torn, again.err.contains("was torn. It was mended"))
+    (is_torn, again.err.contains("was torn. It was repaired"))
 }
 
 #[test]
@@ -333,7 +333,7 @@ fn a_block_that_a_power_cut_spoiled() {
         bytes[from..to].iter_mut().for_each(|b| *b = random.next() as u8);
         fs::write(dir.join("a"), &bytes).unwrap();
         let ran = run(&words, &dir, whole.log.as_bytes()).with(0);
-        assert!(ran.err.contains("mended") || ran.err.contains("cleared"), "{}", ran.err);
+        assert!(ran.err.contains("repaired") || ran.err.contains("cleared"), "{}", ran.err);
         whole.is_same(&dir);
     }
 }

@@ -64,14 +64,14 @@ fn wrong_words_say_what_to_write() {
         ("help xyzzy", "xyzzy: no such command."),
         ("collect plant.txt", "plant.txt: collect takes options only. To read the file plant.txt, write --log plant.txt or <plant.txt."),
         ("site plan", "It reads standard input: write `mooringeye site <FILE`."),
-        ("archive list --form 3 a", "--form: no option of archive list. Write --from."),
-        ("archive list -x", "-x: no option of archive list. `mooringeye archive list --help` lists the options"),
+        ("archive list --form 3 a", "--form: not an option of archive list. Write --from."),
+        ("archive list -x", "-x: not an option of archive list. `mooringeye archive list --help` lists the options"),
         ("archive list a --from", "--from: its value is missing. Write --from TIME."),
         ("archive list a --count 1 --count 2", "--count is given twice. Give it once."),
         ("collect --follow=1", "--follow takes no value. Write --follow alone."),
         ("collect --level 3", "--level: 3 is wrong. Write 0, 1 or 2."),
-        ("archive list", "archive list: 0 words are given that are no options. Write `mooringeye archive list FILE..`."),
-        ("plan standard 1", "plan: 2 words are given that are no options. Write `mooringeye plan RULE LEVEL DURATION`."),
+        ("archive list", "archive list: 0 words are given that are not options. Write `mooringeye archive list FILE..`."),
+        ("plan standard 1", "plan: 2 words are given that are not options. Write `mooringeye plan RULE LEVEL DURATION`."),
         ("generate html x", "Write `mooringeye generate man DIR` or `mooringeye generate completions DIR`."),
     ];
     for (words, text) in pairs {

@@ -36,7 +36,7 @@ fn archive_ahead(name: &str) -> (std::path::PathBuf, Vec<String>, Vec<String>) {
 #[test]
 fn a_feed_goes_on_from_its_rows() {
     let (dir, lines, rows) = archive_ahead("journal_feed");
-    let ran = run(KEPT, &dir, lines[2_000..].concat().as_bytes()).with(0).says("were taken in");
+    let ran = run(KEPT, &dir, lines[2_000..].concat().as_bytes()).with(0).says("are counted now");
     let now = listed(&dir, "a");
     assert!(now.starts_with(&rows) && now.len() > rows.len());
     assert!(!dir.join("a.aside-1").exists(), "{}", ran.err);
@@ -51,7 +51,7 @@ fn without_a_level_leftovers_wait_for_the_first_line() {
     let (dir, lines, rows) = archive_ahead("journal_feed_level");
     run("collect --state s --archive a", &dir, b"").with(2);
     assert!(listed(&dir, "a") == rows);
-    run("collect --state s --archive a", &dir, format!("level 1\n{}", lines[2_000..].concat()).as_bytes()).with(0).says("were taken in");
+    run("collect --state s --archive a", &dir, format!("level 1\n{}", lines[2_000..].concat()).as_bytes()).with(0).says("are counted now");
     assert!(listed(&dir, "a").starts_with(&rows));
 }
 
@@ -143,7 +143,7 @@ fn the_log_was_rotated() {
         rotate(&dir, rotated[0], &lines[1_500..2_000].concat());
         sleep(Duration::from_millis(20));
         rotate(&dir, rotated[1], &lines[2_000..].concat());
-        run(LOGGED, &dir, b"").with(0).says(&format!("goes on with ./{}", rotated[1])).says("goes on with gateway.log");
+        run(LOGGED, &dir, b"").with(0).says(&format!("continuing with ./{}", rotated[1])).says("continuing with gateway.log");
         assert!(listed(&dir, "a") == listed(&whole, "a"), "{name}");
     }
 }
@@ -167,9 +167,9 @@ fn a_log_that_is_not_the_one_that_was_taken() {
     let file = OpenOptions::new().write(true).open(dir.join("gateway.log")).unwrap();
     fs::copy(dir.join("gateway.log"), dir.join("gateway.log.1")).unwrap();
     file.set_len(0).unwrap();
-    is_refused(&dir, LOGGED, b"", &format!("gateway.log was cut to 0 bytes, and {taken} were taken"));
+    is_refused(&dir, LOGGED, b"", &format!("gateway.log was cut to 0 bytes, but {taken} were read before"));
     fs::write(dir.join("gateway.log"), lines[900..].concat()).unwrap();
-    is_refused(&dir, LOGGED, b"", "gateway.log is not the log that was taken: it differs at byte");
+    is_refused(&dir, LOGGED, b"", "gateway.log is not the log that was read before: it differs at byte");
     fs::remove_file(dir.join("gateway.log")).unwrap();
     fs::remove_file(dir.join("gateway.log.1")).unwrap();
     fs::write(dir.join("gateway.log"), lines[1_000..].concat()).unwrap();
@@ -188,7 +188,7 @@ fn lines_of_a_feed_do_not_move_the_place_in_the_log() {
     run(KEPT, &dir, b"").with(0);
     run(KEPT, &dir, lines[200..300].concat().as_bytes()).with(0);
     rotate(&dir, "gateway.log.1", &lines[300..].concat());
-    run(LOGGED, &dir, b"").with(0).says("300 lines taken").says("goes on with gateway.log");
+    run(LOGGED, &dir, b"").with(0).says("300 lines taken").says("continuing with gateway.log");
     let whole = folder("journal_beside_whole");
     run(KEPT, &whole, lines.concat().as_bytes()).with(0);
     assert!(listed(&dir, "a") == listed(&whole, "a"));
@@ -278,7 +278,7 @@ fn a_log_is_followed_through_rotation() {
     fs::write(dir.join("gateway.log"), lines[321..].concat()).unwrap();
     rows(1_200);
     running.signal("TERM");
-    running.end().with(0).says("goes on with gateway.log");
+    running.end().with(0).says("continuing with gateway.log");
     let whole = folder("journal_follow_whole");
     let printed = run(KEPT, &whole, lines.concat().as_bytes()).with(0).out;
     assert!(printed.starts_with(&fs::read_to_string(dir.join("rows.txt")).unwrap()));
@@ -342,11 +342,11 @@ fn rows_stand_in_the_out_file_once() {
     assert!(fs::read_to_string(dir.join("rows.txt")).unwrap() == expected);
     // Rows that the state does not count are cut; a file that is too short is refused.
     OpenOptions::new().append(true).open(dir.join("rows.txt")).unwrap().write_all(b"1767226157845 KEP").unwrap();
-    run(words, &dir, log.as_bytes()).with(0).says("rows.txt: the last 17 bytes are cut: the state does not count them");
+    run(words, &dir, log.as_bytes()).with(0).says("rows.txt: the last 17 bytes are cut, because the state does not count them");
     assert!(!run(words, &dir, log.as_bytes()).with(0).err.contains("are cut"));
     assert!(fs::read_to_string(dir.join("rows.txt")).unwrap() == expected);
     OpenOptions::new().write(true).open(dir.join("rows.txt")).unwrap().set_len(10).unwrap();
-    is_refused(&dir, words, log.as_bytes(), "rows.txt has 10 bytes, and the state has written");
+    is_refused(&dir, words, log.as_bytes(), "rows.txt has 10 bytes, but the state has written");
     // One that was moved away is begun anew.
     fs::rename(dir.join("rows.txt"), dir.join("rows.1")).unwrap();
     run(words, &dir, log.as_bytes()).with(0);
@@ -379,7 +379,7 @@ fn closings_stand_in_the_heard_file_once() {
     let latest = u64::MAX - 5;
     for behind in ["1767226157845,010203".to_string(), format!("{latest},01020304,0,0,0\n"), format!("{latest},01020304,0,0,0\n\0\0\0\n17")] {
         OpenOptions::new().append(true).open(dir.join("heard.csv")).unwrap().write_all(behind.as_bytes()).unwrap();
-        let says = format!("heard.csv: the last {} bytes are cut: the state does not count them", behind.len());
+        let says = format!("heard.csv: the last {} bytes are cut, because the state does not count them", behind.len());
         run(words, &dir, log.as_bytes()).with(0).says(&says);
         assert!(fs::read_to_string(dir.join("heard.csv")).unwrap() == expected, "{behind:?}");
     }
@@ -425,7 +425,7 @@ fn interrupted_telegrams_are_marked() {
     run(&words, &dir, lines[1_000..].concat().as_bytes()).with(0);
     let before = fs::read_to_string(dir.join("heard.csv")).unwrap();
     fs::write(dir.join("s"), state).unwrap();
-    run(&words, &dir, b"").with(0).says("were taken in");
+    run(&words, &dir, b"").with(0).says("are counted now");
     let after = fs::read_to_string(dir.join("heard.csv")).unwrap();
     let taken_in = after.strip_prefix(&first).expect("lines that count stay");
     assert!(taken_in.lines().count() > 100 && taken_in.lines().all(|l| l.ends_with(",1")), "{taken_in}");
@@ -459,7 +459,7 @@ fn an_out_file_of_another_format() {
         let words = |rows: &str| format!("collect --state {format}.state --out {format}.rows --rows {rows}");
         run(&words(format), &dir, &sample()).with(0);
         let before = fs::read(dir.join(format!("{format}.rows"))).unwrap();
-        let text = format!("{format}.rows has rows as {format}, and --rows says {other}. Name another file.");
+        let text = format!("{format}.rows has rows as {format}, but --rows says {other}. Name another file.");
         run(&words(other), &dir, b"level 1\n70000 D5080583A1C000C6\n").with(2).says(&text);
         assert_eq!(fs::read(dir.join(format!("{format}.rows"))).unwrap(), before);
         run(&words(format), &dir, b"level 1\n70000 D5080583A1C000C6\n").with(0);

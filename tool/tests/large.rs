@@ -15,7 +15,7 @@ fn more_blocks_than_an_archive_has() {
     File::create(dir.join("a")).unwrap().set_len(((1 << 32) + 1) * 512).unwrap();
     for words in ["verify a", "list a", "salvage a b", "sheet a", "append a", "remove a --txid 01020304", "picture a"] {
         let started = Instant::now();
-        let text = "a: no archive: 2199023256064 bytes, and an archive has at most 2^32 blocks of 512 bytes. It was not read.";
+        let text = "a: not an archive: 2199023256064 bytes, but an archive has at most 2^32 blocks of 512 bytes. It was not read.";
         run(&format!("archive {words}"), &dir, b"").with(3).says(text);
         assert!(started.elapsed() < Duration::from_secs(10), "{words}");
     }
@@ -163,7 +163,7 @@ fn bad_lines_are_told() {
     for sync in ["batch", "row"] {
         let ran = run(&format!("collect --sync {sync}"), &dir, many.as_bytes())
             .with(0)
-            .says("mooringeye: 2000 lines were BAD. The first 10 stand above.\n");
+            .says("mooringeye: 2000 lines were BAD. The first 10 are listed above.\n");
         let expected: Vec<String> = (0..10).map(|i| format!("mooringeye: line {} is BAD: noise", 2 + 2 * i)).collect();
         assert_eq!(told(&ran.err), expected);
     }

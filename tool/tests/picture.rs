@@ -34,7 +34,7 @@ fn iso_times() {
     assert!(sheet.lines().nth(1).unwrap().contains("1970-01-01T00:00:"), "{sheet}");
     run("archive list a --from yesterday", &dir, b"").with(2).says("--from: yesterday is wrong. Write ms since 1970, a day as 2026-11-16,");
     run("archive list a --times local", &dir, b"").with(2).says("Write ms or iso.");
-    run("archive list a --rows tsv --times iso", &dir, b"").with(2).says("--times and --names go with --rows text, csv and json");
+    run("archive list a --rows tsv --times iso", &dir, b"").with(2).says("--times and --names need --rows text, csv or json");
 }
 
 #[test]
@@ -235,7 +235,7 @@ fn lanes_by_repeater_level() {
     let dir = folder("picture_levels");
     // The press at 1500 of the sample: the original and its copies by two repeaters.
     fs::write(dir.join("log"), "1500 F650FEF1B2C330DA\n1512 F650FEF1B2C331DB\n1524 F650FEF1B2C332DC\n").unwrap();
-    run("picture log", &dir, b"").with(2).says("log: without --level the first line is `level 0`, `level 1` or `level 2`");
+    run("picture log", &dir, b"").with(2).says("log: without --level the first line must be `level 0`, `level 1` or `level 2`");
     let svg = run("picture log --svg --level 1", &dir, b"").with(0).out;
     let labels: Vec<&str> = ["original", "level 1", "level 2"].into_iter().filter(|l| svg.contains(&format!(">{l}</text>"))).collect();
     assert_eq!((labels.len(), svg.matches("class=\"lane\"").count()), (3, 3));
@@ -244,7 +244,7 @@ fn lanes_by_repeater_level() {
     fs::write(dir.join("new"), "level 1\n1512 F650FEF1B2C331DB\n").unwrap();
     assert!(run("picture old new", &dir, b"").with(0).out.contains("class=\"reception copy\""));
     assert!(run("picture new", &dir, b"").with(0).out.contains("class=\"reception kept\""));
-    run("picture old --level 2", &dir, b"").with(2).says("the first line of old says level 1, and the level is 2");
+    run("picture old --level 2", &dir, b"").with(2).says("the first line of old says level 1, but the level is 2");
     run("picture none", &dir, b"").with(1).says("cannot open none");
     fs::write(dir.join("many"), log(30_000, 72)).unwrap();
     run("picture many", &dir, b"").with(1).says("more than 20000 receptions are too many for a picture. Choose fewer by --from, --to or --txid.");
@@ -270,8 +270,8 @@ fn a_log_from_a_slow_pipe() {
         assert!(page == run(&format!("picture log {words}"), &dir, b"").with(0).out, "{words}");
     }
     // A line that is longer than the longest is not waited for, and one that never ends says no level.
-    run("picture /dev/stdin", &dir, "x".repeat(1_000).as_bytes()).with(2).says("without --level the first line is");
-    run("picture /dev/stdin", &dir, b"level 1").with(2).says("without --level the first line is");
+    run("picture /dev/stdin", &dir, "x".repeat(1_000).as_bytes()).with(2).says("without --level the first line must be");
+    run("picture /dev/stdin", &dir, b"level 1").with(2).says("without --level the first line must be");
     assert!(run("picture /dev/stdin --level 1", &dir, b"level 1").with(0).out.contains("BAD lines of the whole log: 0."));
 }
 
@@ -295,7 +295,7 @@ fn a_bar_for_each_transmitter() {
     let order: Vec<usize> = ["FEF1B2C3", "01020304", "0583A1C0"].iter().map(|id| page.find(&format!(">{id}</tspan>")).unwrap()).collect();
     assert!(order.is_sorted() && page.contains("Far &lt;away&gt;, north"));
     assert!(!page.contains("<script") && !page.contains("href") && !page.contains("src="), "it needs no other file");
-    run("heard heard --picture --rows csv", &dir, b"").with(2).says("--picture goes without --rows");
+    run("heard heard --picture --rows csv", &dir, b"").with(2).says("--picture and --rows cannot be given together");
     let many: String = (0..20_001).map(|n| format!("1000,{n:08X},0,1\n")).collect();
     fs::write(dir.join("many"), many).unwrap();
     run("heard many --picture", &dir, b"").with(1).says("are too many for a picture");

@@ -119,7 +119,7 @@ fn status_tells_open_telegrams_and_ages() {
     let mut bytes = fs::read(dir.join("s")).unwrap();
     bytes[20] ^= 1;
     fs::write(dir.join("s"), bytes).unwrap();
-    run("status --state s", &dir, b"").with(3).says("s: damaged: it is not what is written of a state. The file was not changed.");
+    run("status --state s", &dir, b"").with(3).says("s: damaged: its bytes are not those of a state. The file was not changed.");
     run("status --state none", &dir, b"").with(1);
     run("status", &dir, b"").with(2).says("Write `mooringeye status --state FILE`.");
 }

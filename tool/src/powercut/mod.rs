@@ -316,7 +316,7 @@ impl Found {
         let count = |part: &str| usize::from(told.iter().any(|text| text.contains(part)));
         self.cut_again += usize::from(is_cut);
         self.leftovers += count("that the state does not count");
-        self.mended += count("was mended");
+        self.mended += count("was repaired");
         self.cleared += count("were cleared");
         self.copied += count("were copied to");
         self.aside += count("were moved to");
