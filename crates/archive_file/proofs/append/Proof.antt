@@ -8,12 +8,16 @@ use Rattle.archive_file.proofs.Calls.{append-rows, append-damaged, appe
 use Rattle.archive_file.proofs.append.Statement.{statement}
 use Rattle.archive_file.proofs.append.Tie as tie
 
+-- states on the way, each three steps back
+abbrev start : tie.After-open-arg → tie.Start
+start c = c .before .before .before
+
 opened-rows : tie.Need-returns
 opened-rows c =
     let p = c .before .before in
     let k = p .before .before .before in
     let o = k .before .before in
-    let s = o .before .before .before .before in
+    let s = start (o .before) in
     let a = s .args in
     p .append-at .ensures
     ∙ append-rows (now (a .buffer)) (rowOf (now (a .bytes)) (a .time) (a .loose)) (k .rows .given .0 .0)
@@ -23,7 +27,7 @@ damaged : tie.Need-returns-2
 damaged c =
     let k = c .before in
     let o = k .before .before in
-    let a = o .before .before .before .before .args in
+    let a = start (o .before) .args in
     append-damaged (now (a .buffer)) (rowOf (now (a .bytes)) (a .time) (a .loose))
     (k .rows2 .given .0 .0) (sym (ap openResult (k .rows2 .given .1)) ∙ o .«open» .ensures)
 
@@ -31,7 +35,7 @@ refused : tie.Need-returns-3
 refused c =
     let k = c .before in
     let o = k .before .before in
-    let a = o .before .before .before .before .args in
+    let a = start (o .before) .args in
     append-refused (now (a .buffer)) (rowOf (now (a .bytes)) (a .time) (a .loose))
     (k .rows3 .given .0 .0) (sym (ap openResult (k .rows3 .given .1)) ∙ o .«open» .ensures)
 

@@ -12,19 +12,23 @@ use Rattle.archive_file.proofs.Calls.{at-size, at-out, at-put}
 use Rattle.archive_file.proofs.append_at.Statement.{statement}
 use Rattle.archive_file.proofs.append_at.Tie as tie
 
+-- states on the way, each three steps back
+abbrev start : tie.After-is-whole → tie.Start
+start c = c .before .before .before
+
 size : tie.Need-returns
 size c =
-    let a = c .before .before .before .before .args in
+    let a = start (c .before) .args in
     at-size (now (a .buffer)) (a .n) (rowOf (now (a .bytes)) (a .time) (a .loose))
     (sym (c .before .is-whole .ensures) ∙ not-true _ (c .if1 .taken))
 
-whole : (c : tie.Else1) → isWhole (length (now (c .before .before .before .before .args .buffer))) ≡ true
+whole : (c : tie.Else1) → isWhole (length (now (start (c .before) .args .buffer))) ≡ true
 whole c = sym (c .before .is-whole .ensures) ∙ not-false _ (c .if1 .left)
 
 out : tie.Need-returns-2
 out c =
     let e = c .before .before in
-    let a = e .before .before .before .before .args in
+    let a = start (e .before) .args in
     c .no-block .ensures (now (a .buffer))
     ∙ at-out (now (a .buffer)) (a .n)
     (rowOf (now (a .bytes)) (a .time) (a .loose)) (whole e) (c .before .if2 .taken)
@@ -34,7 +38,7 @@ put c =
     let p = c .before .before in
     let e2 = p .before .before in
     let e = e2 .before in
-    let a = e .before .before .before .before .args in
+    let a = start (e .before) .args in
     at-put (now (a .buffer)) (a .n) (rowOf (now (a .bytes)) (a .time) (a .loose))
     (whole e) (e2 .if2 .left) (p .put-row .result) _ (p .put-row .ensures)
 

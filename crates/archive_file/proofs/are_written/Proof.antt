@@ -26,6 +26,10 @@ Inv-loop block used i₀ i = Testing block used i
 abbrev μ-loop : tie.MeasureT-loop
 μ-loop block used i₀ i = used - i
 
+-- states on the way, each three steps back
+abbrev start : tie.In-loop Inv-loop μ-loop → tie.Start Inv-loop μ-loop
+start c = c .before .before .before
+
 is-written-requires : tie.Need-is-written-requires Inv-loop μ-loop
 is-written-requires c κs =
     let at = c .before .before in
@@ -35,19 +39,16 @@ is-written-requires c κs =
 
 -- what was told of cell i
 told : (c : tie.After-is-written Inv-loop μ-loop) (b : Bool) → c .is-written .result ≡ b
-    → isWritten (blockCell (c .before .before .before .loop .i)
-    (now (c .before .before .before .before .before .args .block)))
-    ≡ b
+    → isWritten (blockCell (c .before .before .before .loop .i) (now (start (c .before .before) .args .block))) ≡ b
 told c b e = sym (c .is-written .ensures ∙ ap isWritten (c .before .cell-at .ensures)) ∙ e
 
 -- so cell i and what is left after it decide
 decide : (c : tie.After-is-written Inv-loop μ-loop) (b : Bool) → c .is-written .result ≡ b
-    → all isWritten (cellsFrom (now (c .before .before .before .before .before .args .block)) 0 (c .before .before .before .before .before .args .used))
+    → all isWritten (cellsFrom (now (start (c .before .before) .args .block)) 0 (start (c .before .before) .args .used))
     ≡ b
     && all isWritten
-    (cellsFrom (now (c .before .before .before .before .before .args .block))
-    (c .before .before .before .loop .i + 1)
-    (c .before .before .before .before .before .args .used - (c .before .before .before .loop .i + 1)))
+    (cellsFrom (now (start (c .before .before) .args .block)) (c .before .before .before .loop .i + 1)
+    (start (c .before .before) .args .used - (c .before .before .before .loop .i + 1)))
 decide c b e =
     let at = c .before .before .before in
     let a = at .before .before .args in

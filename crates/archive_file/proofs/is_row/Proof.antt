@@ -11,13 +11,16 @@ use Rattle.archive_file.proofs.Cells.{bytes-shown, long-row}
 use Rattle.archive_file.proofs.is_row.Statement.{statement}
 use Rattle.archive_file.proofs.is_row.Tie as tie
 
+-- states on the way, each three steps back
+abbrev start : tie.Else1 → tie.Start
+start c = c .before .before .before
+
 long : tie.Need-returns
 long c = long-row (now (c .before .before .before .args .cell)) (omega (arith, c .before .cell-used .ensures))
 
 -- what the check says of the cell's bytes
 checked : (c : tie.After-check)
-    → checkedNumber (c .check .result)
-    ≡ checkOf (cellBytes (now (c .before .before .before .before .before .args .cell)))
+    → checkedNumber (c .check .result) ≡ checkOf (cellBytes (now (start (c .before .before) .args .cell)))
 checked c =
     let at = c .before .before .before in
     let s = at .before .before in

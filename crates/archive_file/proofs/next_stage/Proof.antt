@@ -8,6 +8,10 @@ use Rattle.archive_file.proofs.Scans.{stage-wrong, stage-number, stage-
 use Rattle.archive_file.proofs.next_stage.Statement.{statement}
 use Rattle.archive_file.proofs.next_stage.Tie as tie
 
+-- states on the way, each three steps back
+abbrev start : tie.After-number-of → tie.Start
+start c = c .before .before .before
+
 none : tie.Need-returns
 none c =
     let s = c .before .before in
@@ -24,8 +28,7 @@ other c =
     stage-number (now (a .block)) (a .k) (some e) (λ k. c .if2 .taken (c .before .number-of .ensures ∙ k))
 
 -- where the number is right
-same : (c : tie.Else2)
-    → blockNumber (now (c .before .before .before .before .args .block)) ≡ c .before .before .before .before .args .k
+same : (c : tie.Else2) → blockNumber (now (start (c .before) .args .block)) ≡ start (c .before) .args .k
 same c = sym (c .before .number-of .ensures) ∙ c .if2 .left
 
 short : tie.Need-returns-3

@@ -8,6 +8,10 @@ use Rattle.base_buffers.proofs.Segments.{Writing, packed, begin, begun-length, 
 use Rattle.archive_file.proofs.put_head.Statement.{statement}
 use Rattle.archive_file.proofs.put_head.Tie as tie
 
+-- states on the way, each three steps back
+abbrev put-number : tie.After-clear-arg → tie.After-put-number
+put-number c = c .before .before .before
+
 abbrev step1 : tie.After-put-number → Writing 5
 step1 c =
     let a = c .before .before .before .args in
@@ -20,7 +24,7 @@ step1 c =
 
 abbrev step2 : tie.After-clear → Writing 24
 step2 c =
-    packed (lend-sized (step1 (c .before .before .before .before) .begun) _ (λ w. replicate w 0) 24
+    packed (lend-sized (step1 (put-number (c .before)) .begun) _ (λ w. replicate w 0) 24
     (c .clear .ensures) (c .clear .kept .0) (omega arith) (omega arith))
 
 pub put-head-spec : {M : Type 1} → statement M

@@ -11,6 +11,19 @@ use Rattle.archive_file.proofs.Puts.{next-told, put-size, put-far, put-
 use Rattle.archive_file.proofs.put_row.Statement.{statement}
 use Rattle.archive_file.proofs.put_row.Tie as tie
 
+-- states on the way
+abbrev start : tie.Else1 → tie.Start
+start c = c .before .before .before
+
+abbrev block-whole : tie.After-is-next → tie.Else1
+block-whole c = c .before .before .before
+
+abbrev number-small : tie.Else3 → tie.Else2
+number-small c = c .before .before .before
+
+abbrev start-number-small : tie.Else3 → tie.Start
+start-number-small c = start (number-small c .before)
+
 size : tie.Need-returns
 size c =
     let a = c .before .before .before .args in
@@ -25,16 +38,16 @@ far c =
 other : tie.Need-returns-3
 other c =
     let e = c .before .before .before in
-    let a = e .before .before .before .before .args in
+    let a = start (e .before) .args in
     put-other (now (a .block)) (a .n) (rowOf (now (a .bytes)) (a .time) (a .loose))
     (e .before .if1 .left) (e .if2 .left)
     (next-told (a .n) (now (a .block)) (e .before .if1 .left)
     (sym (c .before .is-next .ensures) ∙ not-true _ (c .if3 .taken)))
 
-next : (c : tie.Else3) → isNext (c .before .before .before .before .before .before .before .args .n) (now (c .before .before .before .before .before .before .before .args .block)) ≡ true
+next : (c : tie.Else3) → isNext (start-number-small c .args .n) (now (start-number-small c .args .block)) ≡ true
 next c =
-    let a = c .before .before .before .before .before .before .before .args in
-    next-told (a .n) (now (a .block)) (c .before .before .before .before .if1 .left)
+    let a = start-number-small c .args in
+    next-told (a .n) (now (a .block)) (block-whole (c .before) .if1 .left)
     (sym (c .before .is-next .ensures) ∙ not-false _ (c .if3 .left))
 
 invalid : tie.Need-returns-4
@@ -42,7 +55,7 @@ invalid c =
     let ch = c .before .before .before in
     let e3 = ch .before in
     let e = e3 .before .before .before in
-    let a = e .before .before .before .before .args in
+    let a = start (e .before) .args in
     let why = c .before .checked .given .0 .0 in
     put-invalid (now (a .block)) (a .n) (rowOf (now (a .bytes)) (a .time) (a .loose))
     (e .before .if1 .left) (e .if2 .left) (next e3) why
@@ -52,7 +65,7 @@ write-row-requires : tie.Need-write-row-requires
 write-row-requires c κs =
     let t = c .before in
     let ch = t .before .before in
-    let e = ch .before .before .before .before in
+    let e = number-small (ch .before) in
     (e .before .if1 .left, check-facts _ (told-valid _ _ (ch .check .ensures) (t .enum-told .given .1)) .high)
 
 done : tie.Need-returns-5
@@ -62,7 +75,7 @@ done c =
     let ch = t .before .before in
     let e3 = ch .before in
     let e = e3 .before .before .before in
-    let a = e .before .before .before .before .args in
+    let a = start (e .before) .args in
     ap stored (wr .write-row .ensures)
     ∙ put-done (now (a .block)) (a .n) (rowOf (now (a .bytes)) (a .time) (a .loose)) (e .before .if1 .left)
     (e .if2 .left) (next e3) (told-valid _ _ (ch .check .ensures) (t .enum-told .given .1))

@@ -21,6 +21,10 @@ use Rattle.archive_file.proofs.Cells.{used-is}
 use Rattle.archive_file.proofs.read_row.Statement.{statement}
 use Rattle.archive_file.proofs.read_row.Tie as tie
 
+-- states on the way, each three steps back
+abbrev entry : tie.Else1 → tie.Start
+entry c = c .before .before .before
+
 none : tie.Need-returns
 none c =
     let at = c .before .before in
@@ -29,7 +33,7 @@ none c =
     c .no-row .ensures (blockCell (a .i) (now (a .block))) ∙ (rw (le-ltb (a .i) (rowCount (now (a .block))) h))
 
 abbrev start : tie.After-cell-at → tie.Start
-start c = c .before .before .before .before
+start c = entry (c .before)
 
 abbrev cell : tie.After-cell-at → List ℕ
 cell c = now (c .cell-at .result)

@@ -18,6 +18,10 @@ use Rattle.archive_file.proofs.Calls.{row-size, row-out, row-in}
 use Rattle.archive_file.proofs.row_at.Statement.{statement}
 use Rattle.archive_file.proofs.row_at.Tie as tie
 
+-- states on the way, each three steps back
+abbrev start : tie.Else1 → tie.Start
+start c = c .before .before .before
+
 -- an answer with the bytes of its cell
 abbrev shown : tie.Start → ReadRow → Shown
 shown c a = rowShown a (cellAt (c .args .i) (now (c .args .buffer)))
@@ -42,7 +46,7 @@ out c =
 
 read-row-requires : tie.Need-read-row-requires
 read-row-requires c κs =
-    let a = c .before .before .before .before .before .args in
+    let a = start (c .before .before) .args in
     let k = a .i / cellsPerBlock in (
       ap length (part-ends (blockLength * k) blockLength (now (a .buffer)))
           ∙ part-length (blockLength * k) blockLength (now (a .buffer)) (omega arith),

@@ -8,9 +8,16 @@ use Rattle.archive_file.proofs.Scans.{sound-le, scanned-blank, scanned}
 use Rattle.archive_file.proofs.scan_block.Statement.{statement}
 use Rattle.archive_file.proofs.scan_block.Tie as tie
 
+-- states on the way, each three steps back
+abbrev start : tie.Else1 → tie.Start
+start c = c .before .before .before
+
+abbrev entry : tie.Then1 → tie.Start
+entry c = c .before .before .before
+
 blank : tie.Need-returns
 blank c =
-    let s = c .before .before .before .before in (
+    let s = entry (c .before) in (
       scanned-blank (now (s .args .block)) (scanOf (s .args .s)) (stageOf (c .after-blank .result))
           (sym (c .before .before .is-blank .ensures) ∙ c .before .if1 .taken) (c .after-blank .ensures),
       omega arith,
@@ -37,11 +44,6 @@ scan-block-spec =
     blank
     (λ c κs. search needs)
     (λ c. search needs)
-    (λ c.
-    omega (
-      arith,
-      c .before .sound .ensures,
-      sound-le (now (c .before .before .before .before .before .args .block)),
-    ))
+    (λ c. omega (arith, c .before .sound .ensures, sound-le (now (start (c .before .before) .args .block))))
     (λ c κs. search needs)
     other)

@@ -18,26 +18,36 @@ use Rattle.archive_file.specs.Archive.{rowOf}
 use Rattle.archive_file.proofs.write_row.Statement.{statement}
 use Rattle.archive_file.proofs.write_row.Tie as tie
 
+-- states on the way, each three steps back
+abbrev entry : tie.After-put-head-arg → tie.Start
+entry c = c .before .before .before
+
+abbrev put-head : tie.After-put-cell-arg → tie.After-put-head
+put-head c = c .before .before .before
+
+abbrev put-cell : tie.After-seal-arg → tie.After-put-cell
+put-cell c = c .before .before .before
+
 -- where the row's cell stands
 abbrev at : ℕ → ℕ
 at n = headerLength + cellLength * (n % cellsPerBlock)
 
-abbrev headed : (c : tie.After-put-head) → Writing (at (c .before .before .before .before .args .n))
+abbrev headed : (c : tie.After-put-head) → Writing (at (entry (c .before) .args .n))
 headed c =
-    let a = c .before .before .before .before .args in
+    let a = entry (c .before) .args in
     packed
     (skip (lend (begin (now (a .block))) _ _ headerLength (c .put-head .ensures)
     (c .put-head .kept .0) (omega arith) (omega arith))
     (at (a .n)) (omega arith) (omega arith))
 
 abbrev start : tie.After-put-cell → tie.Start
-start c = c .before .before .before .before .before .before .before .before .before
+start c = entry (put-head (c .before .before) .before)
 
 abbrev celled : tie.After-put-cell → Writing bodyLength
 celled c =
     let s = start c in
     let a = s .args in
-    let b = headed (c .before .before .before .before .before) .begun in
+    let b = headed (put-head (c .before .before)) .begun in
     packed
     (skip
     (lend b _ (cellOf (a .time) (now (a .bytes)) (c .before .last-of .result)) (at (a .n) + cellLength)
@@ -61,7 +71,7 @@ put-is block n bytes time loose last e =
 
 returns : tie.Need-returns
 returns c =
-    let put = c .before .before .before .before .before .before in
+    let put = put-cell (c .before .before .before) in
     let s = start put in
     let a = s .args in
     c .before .before .seal .ensures ∙ seal-front _ (celled put .begun) (s .pre .0)
