@@ -6,13 +6,17 @@ use Rattle.radio_telegram.proofs.Addressed.{decapsulate-refused, decaps
 use Rattle.radio_telegram.proofs.addressing.decapsulate.Statement.{statement}
 use Rattle.radio_telegram.proofs.addressing.decapsulate.Tie as tie
 
+-- states on the way, each three steps back
+abbrev read : tie.After-enum-told → tie.After-read
+read c = c .before .before .before
+
 returns : tie.Need-returns
 returns c =
     let b = c .before .before in
     let made = b .before .before in
     let addressed = made .before in
     let told = addressed .before .enum-told .given .1 in
-    let r = addressed .before .before .before .before .read in
+    let r = read (addressed .before) .read in
     b .build .ensures
     ∙ decapsulate-built _ _ (reads-valid _ (r .result) (r .ensures) told) _ _
     (reads-fields _ (r .result) (r .ensures) told) (made .readdressed .ensures)
@@ -27,7 +31,7 @@ returns-2 c =
 
 returns-3 : tie.Need-returns-3
 returns-3 c =
-    let r = c .before .before .before .before .read in
+    let r = read (c .before) .read in
     decapsulate-plain _ _ (reads-valid _ (r .result) (r .ensures) (c .before .enum-told .given .1))
     (reads-flag _ (r .result) (r .ensures) (c .before .enum-told .given .1) ∙ c .if1 .left)
 

@@ -6,9 +6,13 @@ use Rattle.radio_telegram.proofs.Addressed.{encapsulate-refused, encaps
 use Rattle.radio_telegram.proofs.addressing.encapsulate.Statement.{statement}
 use Rattle.radio_telegram.proofs.addressing.encapsulate.Tie as tie
 
+-- states on the way, each three steps back
+abbrev read : tie.After-enum-told → tie.After-read
+read c = c .before .before .before
+
 returns : tie.Need-returns
 returns c =
-    let r = c .before .before .before .before .read in
+    let r = read (c .before) .read in
     encapsulate-nested _ _ (reads-valid _ (r .result) (r .ensures) (c .before .enum-told .given .1)) _
     (reads-flag _ (r .result) (r .ensures) (c .before .enum-told .given .1) ∙ c .if1 .taken)
 
@@ -25,7 +29,7 @@ returns-3 c =
     let made = b .before .before in
     let plain = made .before in
     let told = plain .before .enum-told .given .1 in
-    let r = plain .before .before .before .before .read in
+    let r = read (plain .before) .read in
     b .build .ensures
     ∙ encapsulate-built _ _ (reads-valid _ (r .result) (r .ensures) told) _ _
     (reads-fields _ (r .result) (r .ensures) told) _ (made .readdressed .ensures)

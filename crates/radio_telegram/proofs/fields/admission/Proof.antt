@@ -6,24 +6,37 @@ use Rattle.radio_telegram.proofs.Building.{no-data, much-data, outer-ro
 use Rattle.radio_telegram.proofs.fields.admission.Statement.{statement}
 use Rattle.radio_telegram.proofs.fields.admission.Tie as tie
 
+-- states on the way, each three steps back
+abbrev start : tie.After-struct-known2 → tie.Start
+start c = c .before .before .before
+
+abbrev not-long : tie.Else4 → tie.Else2
+not-long c = c .before .before .before
+
+abbrev rorg-plain : tie.Else5 → tie.Else3
+rorg-plain c = c .before .before .before
+
+abbrev rorg-plain-long : tie.Then5 → tie.Else3
+rorg-plain-long c = c .before .before .before
+
 shape : (c : tie.Start) → Shaped (c .args .t)
 shape c = record { payload = search needs; destid = search needs; txid = search needs }
 
 returns-4 : tie.Need-returns-4
 returns-4 c =
-    let s = c .before .before .before .before .before .before .before .before .before in
+    let s = start (rorg-plain-long c .before .before .before) in
     too-long (s .args .t) (omega arith) (omega arith) (omega arith)
     (omega (arith, bytes-addressed (s .args .t) (shape s) (omega arith) (cc)))
 
 returns-5 : tie.Need-returns-5
 returns-5 c =
-    let s = c .before .before .before .before .before .before .before .before .before in
+    let s = start (rorg-plain c .before .before .before) in
     admitted (s .args .t) (omega arith) (omega arith) (omega arith)
     (omega (arith, bytes-addressed (s .args .t) (shape s) (omega arith) (cc)))
 
 returns-6 : tie.Need-returns-6
 returns-6 c =
-    let s = c .before .before .before .before .before .before .before in
+    let s = start (not-long c .before) in
     admitted (s .args .t) (omega arith) (omega arith) (omega arith)
     (omega (arith, bytes-plain (s .args .t) (shape s) (omega arith) (cc)))
 

@@ -9,7 +9,11 @@ use Rattle.radio_telegram.proofs.Building.{buildable, build-refused, bu
 use Rattle.radio_telegram.proofs.fields.build.Statement.{statement}
 use Rattle.radio_telegram.proofs.fields.build.Tie as tie
 
-passed : (c : tie.After-enum-told) → admissionOf (c .before .before .before .before .args .t) ≡ 0
+-- states on the way, each three steps back
+abbrev start : tie.At-match-keys2 → tie.Start
+start c = c .before .before .before
+
+passed : (c : tie.After-enum-told) → admissionOf (start (c .before) .args .t) ≡ 0
 passed c = sym (c .before .before .admission .ensures) ∙ ap checkedNumber (c .enum-told .given .1)
 
 emit-requires : tie.Need-emit-requires

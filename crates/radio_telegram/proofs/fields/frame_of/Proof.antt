@@ -9,6 +9,13 @@ use Rattle.radio_telegram.proofs.Building.{bytes-length}
 use Rattle.radio_telegram.proofs.fields.frame_of.Statement.{statement}
 use Rattle.radio_telegram.proofs.fields.frame_of.Tie as tie
 
+-- states on the way, each three steps back
+abbrev start : tie.After-payload2 → tie.Start
+start c = c .before .before .before
+
+abbrev head-known : tie.After-with-ids → tie.After-head
+head-known c = c .before .before .before
+
 shape : (c : tie.Start) → Shaped (c .args .t)
 shape c = record { payload = search needs; destid = search needs; txid = search needs }
 
@@ -30,7 +37,7 @@ append-requires c κs =
 
 with-ids-requires : tie.Need-with-ids-requires
 with-ids-requires c κs =
-    let s = c .before .before .before .before in
+    let s = start (c .before) in
     omega (
       arith,
       start-length s,
@@ -41,7 +48,7 @@ with-ids-requires c κs =
 
 push-requires : tie.Need-push-requires
 push-requires c κs =
-    let s = c .before .before .before .before .before in
+    let s = start (c .before .before) in
     omega (
       arith,
       start-length s,
@@ -53,11 +60,11 @@ push-requires c κs =
 
 sealed-requires : tie.Need-sealed-requires
 sealed-requires c κs =
-    let s = c .before .before .before .before .before .before in
+    let s = start (c .before .before .before) in
     omega (
       arith,
       start-length s,
-      frame-len _ _ (c .before .before .before .before .head .ensures),
+      frame-len _ _ (head-known (c .before) .head .ensures),
       c .before .before .append .ensures .len,
       c .before .with-ids .ensures .len,
       c .push .ensures .len,

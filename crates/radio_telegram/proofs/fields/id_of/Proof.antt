@@ -8,11 +8,14 @@ use Rattle.radio_telegram.proofs.Reading.{padded-copy}
 use Rattle.radio_telegram.proofs.fields.id_of.Statement.{statement}
 use Rattle.radio_telegram.proofs.fields.id_of.Tie as tie
 
+-- states on the way, each three steps back
+abbrev start : tie.After-copy → tie.Start
+start c = c .before .before .before
+
 returns : tie.Need-returns
 returns c =
-    let part = now (c .before .before .before .before .args .part) in
-    padded-copy 4 part _ (c .before .copy .ensures .1)
-    ∙ simp (c .before .before .before .before .pre, sub-self, append-nil)
+    let part = now (start (c .before) .args .part) in
+    padded-copy 4 part _ (c .before .copy .ensures .1) ∙ simp (start (c .before) .pre, sub-self, append-nil)
 
 pub id-of-spec : {M : Type 1} → statement M
 id-of-spec = tie.close (tie.spec (λ c. search needs) (λ c κs. search needs) returns)

@@ -9,10 +9,14 @@ use Rattle.radio_telegram.proofs.Reading.{fields-plain, fields-addresse
 use Rattle.radio_telegram.proofs.fields.read.Statement.{statement}
 use Rattle.radio_telegram.proofs.fields.read.Tie as tie
 
-passed : (c : tie.After-enum-told) → checkOf (now (c .before .before .before .before .args .bytes)) ≡ 0
+-- states on the way, each three steps back
+abbrev start : tie.At-match-keys2 → tie.Start
+start c = c .before .before .before
+
+passed : (c : tie.After-enum-told) → checkOf (now (start (c .before) .args .bytes)) ≡ 0
 passed c = told-valid _ _ (c .before .before .check .ensures) (c .enum-told .given .1)
 
-valid : (c : tie.After-enum-told) → Sound (now (c .before .before .before .before .args .bytes))
+valid : (c : tie.After-enum-told) → Sound (now (start (c .before) .args .bytes))
 valid c = check-facts _ (passed c)
 
 addressed-fields-requires : tie.Need-addressed-fields-requires

@@ -7,6 +7,10 @@ use Rattle.radio_telegram.proofs.Frames.{frame-len, frame-take, put-sho
 use Rattle.radio_telegram.proofs.frame.emit.Statement.{statement}
 use Rattle.radio_telegram.proofs.frame.emit.Tie as tie
 
+-- states on the way, each three steps back
+abbrev start : tie.Else1 → tie.Start
+start c = c .before .before .before
+
 returns : tie.Need-returns
 returns c xs e = put-short xs _ (omega (arith, frame-len _ xs e)) (omega (arith, frame-len _ xs e))
 
@@ -17,13 +21,13 @@ array-share-prefix-bytes c =
 
 slice-aggregate-copy : tie.Need-slice-aggregate-copy
 slice-aggregate-copy c =
-    let h : length (c .before .before .before .before .args .f .bytes) ≡ 21 = search needs in
+    let h : length (start (c .before) .args .f .bytes) ≡ 21 = search needs in
     simp length-take (omega arith)
 
 returns-2 : tie.Need-returns-2
 returns-2 c xs e =
     let a = c .before .before in
-    let f = a .before .before .before .before .before .before .args .f in
+    let f = start (a .before .before .before) .args .f in
     let h : length (f .bytes) ≡ 21 = search needs in
     put-all xs _ (omega (arith, frame-len _ xs e)) _ _ (f .len) (frame-take _ xs e)
     (simp length-take (omega arith)) (simp length-take (omega arith))

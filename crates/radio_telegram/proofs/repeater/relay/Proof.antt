@@ -13,8 +13,12 @@ use Rattle.radio_telegram.proofs.Repeating.{level-at, relay-short, rela
 use Rattle.radio_telegram.proofs.repeater.relay.Statement.{statement}
 use Rattle.radio_telegram.proofs.repeater.relay.Tie as tie
 
+-- states on the way, each three steps back
+abbrev entry : tie.Else2 → tie.Start
+entry c = c .before .before .before
+
 abbrev start : tie.After-repeats → tie.Start
-start c = c .before .before .before .before .before .before
+start c = entry (c .before .before .before)
 
 -- what `repeats` answers, of the level that the definition reads
 repeated : (c : tie.After-repeats)

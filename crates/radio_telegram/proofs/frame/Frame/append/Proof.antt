@@ -7,6 +7,10 @@ use Rattle.radio_telegram.proofs.Frames.{frame-append}
 use Rattle.radio_telegram.proofs.frame.Frame.append.Statement.{statement}
 use Rattle.radio_telegram.proofs.frame.Frame.append.Tie as tie
 
+-- states on the way, each three steps back
+abbrev start : tie.After-bytes2 → tie.Start
+start c = c .before .before .before
+
 part-bytes-end : tie.Need-part-bytes-end
 part-bytes-end c =
     let h : length (c .before .before .args .self .bytes) ≡ 21 = search needs in
@@ -14,8 +18,7 @@ part-bytes-end c =
 
 returns : tie.Need-returns
 returns c =
-    frame-append _ _ _ _ (c .before .before .before .before .before .pre)
-    (c .before .copy .ensures .0) (c .before .copy .ensures .1)
+    frame-append _ _ _ _ (start (c .before .before) .pre) (c .before .copy .ensures .0) (c .before .copy .ensures .1)
 
 pub append-spec : {M : Type 1} → statement M
 append-spec =
