@@ -15,6 +15,10 @@ use Rattle.base_buffers.proofs.Segments.{part-clamped}
 use Rattle.block_layout.proofs.cell_last.Statement.{statement}
 use Rattle.block_layout.proofs.cell_last.Tie as tie
 
+-- states on the way, each three steps back
+abbrev entry : tie.After-least2 → tie.Start
+entry c = c .before .before .before
+
 both : (start end : ℕ) (cell : List ℕ) → start ≡ min 30 (length cell)
     → end ≡ min 32 (length cell) → take 8 (take (end - start) (drop start cell)) ≡ part 30 2 cell
 both start end cell s e =
@@ -22,7 +26,7 @@ both start end cell s e =
 
 -- what is read: two bytes at most
 abbrev start : tie.After-read-number → tie.Start
-start c = c .before .before .before .before .before
+start c = entry (c .before .before)
 
 read : (c : tie.After-read-number) → c .read-number .result ≡ cellLast (now (start c .args .cell))
 read c =
@@ -32,7 +36,8 @@ read c =
 
 cast-result : tie.Need-cast-result
 cast-result c =
-    let known = c .before .before .before .before in
+    let lending = c .before .before .before in
+    let known = lending .before in
     let small = field-lt 30 2 (now (start c .args .cell)) (λ i. omega (arith, known .shared-slice-known .given i)) in
     record { fits = rw (read c) small }
 

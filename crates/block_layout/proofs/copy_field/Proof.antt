@@ -11,6 +11,10 @@ use Rattle.base_buffers.proofs.Segments.{part-clamped}
 use Rattle.block_layout.proofs.copy_field.Statement.{statement}
 use Rattle.block_layout.proofs.copy_field.Tie as tie
 
+-- states on the way, each three steps back
+abbrev entry : tie.After-least → tie.Start
+entry c = c .before .before .before
+
 field : (start end : ℕ) (cell : List ℕ) → start ≡ min 9 (length cell)
     → end ≡ min 30 (length cell) → take (end - start) (drop start cell) ≡ cellField cell
 field start end cell s e = rw (s, e) (part-clamped 9 21 cell)
@@ -19,7 +23,7 @@ returns : tie.Need-returns
 returns c =
     let put = c .before .before in
     let at = put .before .before .before in
-    let a = at .before .before .before .before .args in
+    let a = entry (at .before) .args in
     put .put-bytes .ensures
     ∙ ap (λ (l : List ℕ). resized (length (now (a .out))) l)
     (field _ _ (now (a .cell)) (at .before .least .ensures) (at .least2 .ensures))

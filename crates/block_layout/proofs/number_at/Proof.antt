@@ -11,6 +11,10 @@ use Rattle.block_layout.specs.BigEndian.{unbe, unbeFrom}
 use Rattle.block_layout.proofs.number_at.Statement.{statement}
 use Rattle.block_layout.proofs.number_at.Tie as tie
 
+-- states on the way, each three steps back
+abbrev start : tie.After-read-number-arg → tie.Start
+start c = c .before .before .before
+
 past : tie.Need-returns
 unfolding unbe unbeFrom
 past c =
@@ -23,7 +27,7 @@ rest at s = take-all (length s - at) (drop at s) (rw length-drop (omega arith))
 
 within : tie.Need-returns-2
 within c =
-    let a = c .before .before .before .before .args in
+    let a = start (c .before) .args in
     c .read-number .ensures ∙ ap (λ (l : List ℕ). unbe (take 8 l)) (rest (a .at) (now (a .s)))
 
 pub number-at-spec : {M : Type 1} → statement M

@@ -42,8 +42,9 @@ loop-again c =
 
 returns : tie.Need-returns Inv-loop μ-loop
 returns c =
-    let e : length (now (c .before .before .before .before .args .out)) ≡ c .before .loop .i = omega arith in
-    rw e (done (c .before .loop .inv .begun) e)
+    let at = c .before in
+    let e : length (now (at .before .before .before .args .out)) ≡ at .loop .i = omega arith in
+    rw e (done (at .loop .inv .begun) e)
 
 pub put-bytes-spec : {M : Type 1} → statement M
 put-bytes-spec =

@@ -15,6 +15,16 @@ use Rattle.block_layout.proofs.Cell.{put-fits, put-long, put-other}
 use Rattle.block_layout.proofs.put_cell.Statement.{statement}
 use Rattle.block_layout.proofs.put_cell.Tie as tie
 
+-- states on the way, each three steps back
+abbrev entry : tie.Else1 → tie.Start
+entry c = c .before .before .before
+
+abbrev put-number : tie.After-put-bytes-arg → tie.After-put-number
+put-number c = c .before .before .before
+
+abbrev put-bytes : tie.After-put-number-arg2 → tie.After-put-bytes
+put-bytes c = c .before .before .before
+
 too-long : tie.Need-returns
 too-long c =
     let a = c .before .before .before .args in
@@ -22,12 +32,12 @@ too-long c =
 
 other-length : tie.Need-returns-2
 other-length c =
-    let a = c .before .before .before .before .args in
+    let a = entry (c .before) .args in
     sym (put-other (a .time) (now (a .bytes)) (a .last) (now (a .out)) (c .before .if1 .left) (c .if2 .taken))
 
 -- what is written, after each step
 abbrev start : tie.After-put-number → tie.Start
-start c = c .before .before .before .before .before .before
+start c = entry (c .before .before .before)
 
 abbrev step1 : tie.After-put-number → Writing 9
 step1 c =
@@ -41,15 +51,15 @@ step1 c =
 
 abbrev step2 : tie.After-put-bytes → Writing 30
 step2 c =
-    let at = c .before .before .before .before in
+    let at = put-number (c .before) in
     packed
     (lend-sized (step1 at .begun) _ (λ w. resized w (now (start at .args .bytes))) 30
     (c .put-bytes .ensures) (c .put-bytes .kept .0) (omega arith) (omega arith))
 
 abbrev step3 : tie.After-put-number2 → Writing 32
 step3 c =
-    let at = c .before .before .before .before in
-    let a = start (at .before .before .before .before) .args in
+    let at = put-bytes (c .before) in
+    let a = start (put-number (at .before)) .args in
     packed (lend-sized (step2 at .begun) _ (λ w. be w (a .last)) 32
     (c .put-number2 .ensures) (c .put-number2 .kept .0) (omega arith) (omega arith))
 
@@ -61,7 +71,7 @@ cell-is time bytes last h = rw (resized-padded 21 bytes h)
 written : tie.Need-returns-3
 written c =
     let at = c .before .before in
-    let from = at .before .before .before .before .before .before .before .before in
+    let from = put-number (put-bytes (at .before) .before) in
     let a = start from .args in
     let fits = from .before .before .before .if1 .left in
     done (step3 at .begun) (omega arith) ∙ cell-is (a .time) (now (a .bytes)) (a .last) fits

@@ -47,8 +47,9 @@ add-n c =
 
 loop-again : tie.Need-loop-again Inv-loop μ-loop
 loop-again c =
-    let at = c .before .before .loop in
-    let s = now (c .before .before .before .before .before .args .s) in
+    let turn = c .before .before in
+    let at = turn .loop in
+    let s = now (turn .before .before .before .args .s) in
     let b = c .shared-slice-known2 .given (at .i) in
     record {
       bounded = omega arith;
@@ -59,8 +60,9 @@ loop-again c =
 
 returns : tie.Need-returns Inv-loop μ-loop
 returns c =
-    let at = c .before .loop in
-    let s = now (c .before .before .before .before .args .s) in
+    let turn = c .before in
+    let at = turn .loop in
+    let s = now (turn .before .before .before .args .s) in
     let e : at .i ≡ min 8 (length s) = omega arith in
     rw (e, take-clamped 8 s) at (at .inv .spelled)
 

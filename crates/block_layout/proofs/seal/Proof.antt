@@ -12,7 +12,8 @@ refused c = sym (seal-not (now (c .before .before .args .block)) (c .if1 .taken)
 
 sealed : tie.Need-returns-2
 sealed c =
-    rw (c .crc8-long .ensures) (seal-set (now (c .before .before .before .before .before .args .block)) (omega arith))
+    let known = c .before .before .before in
+    rw (c .crc8-long .ensures) (seal-set (now (known .before .before .args .block)) (omega arith))
 
 pub seal-spec : {M : Type 1} → statement M
 seal-spec =
