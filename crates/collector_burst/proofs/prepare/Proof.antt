@@ -26,7 +26,10 @@ numbers : (c : tie.Start) → Fits (viewOf (c .args .t1))
 numbers c = state-fits (c .args .t1) (latest c) (received c) (counts c)
 
 abbrev start : tie.After-is-acceptable → tie.Start
-start a = a .before .before .before .before .before .before .before .before
+start a =
+    let lending = a .before .before .before in
+    let copied = lending .before .before .before in
+    copied .before .before
 
 -- what the state's test says of it
 tested : (a : tie.After-is-acceptable) → a .is-acceptable .result ≡ acceptable (viewOf (start a .args .t1))
@@ -51,15 +54,17 @@ returns-3 c =
 
 returns-4 : tie.Need-returns-4
 returns-4 c =
-    let a = c .before .before .before .before in
-    bad-setting _ _ _ _ _ (tested a) (numbers (start a)) (not-false _ (c .before .before .before .if1 .left))
+    let accepted = c .before .before .before in
+    let a = accepted .before in
+    bad-setting _ _ _ _ _ (tested a) (numbers (start a)) (not-false _ (accepted .if1 .left))
     (c .before .before .if2 .left) (c .before .if3 .left)
     (c .if4 .taken)
 
 returns-5 : tie.Need-returns-5
 returns-5 c =
-    let a = c .before .before .before .before in
-    all-right _ _ _ _ _ (tested a) (numbers (start a)) (not-false _ (c .before .before .before .if1 .left))
+    let accepted = c .before .before .before in
+    let a = accepted .before in
+    all-right _ _ _ _ _ (tested a) (numbers (start a)) (not-false _ (accepted .if1 .left))
     (c .before .before .if2 .left) (c .before .if3 .left)
     (c .if4 .left)
 

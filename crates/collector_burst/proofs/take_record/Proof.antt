@@ -20,17 +20,25 @@ full : (c : tie.After-size) → length (c .before .before .args .reception .byte
 full c = search needs
 
 part-admit-end : tie.Need-part-admit-end
-part-admit-end c = omega (arith, full (c .before .before .before .before .before))
+part-admit-end c =
+    let lending = c .before .before .before in
+    omega (arith, full (lending .before .before))
 
 part-relay-kept-end : tie.Need-part-relay-kept-end
 part-relay-kept-end c =
-    let z = c .before .before .before .before .before .before .before .before .before in
+    let admitted = c .before .before in
+    let lending = admitted .before .before .before in
+    let known = lending .before .before .before in
+    let z = known .before in
     omega (arith, full z, z .size .ensures .1)
 
 returns : tie.Need-returns
 returns c =
-    let k = c .before .before .before .before .before in
-    let z = k .before .before .before .before .before .before .before in
+    let relaying = c .before .before .before in
+    let k = relaying .before .before in
+    let lending = k .before .before .before in
+    let known = lending .before .before .before in
+    let z = known .before in
     let x = z .before .before .args in
     let a = columns (now (x .times)) (now (x .lens)) (now (x .entries)) (now (x .copies)) in
     let n = sub-zero _ ∙ z .size .ensures .0 in
