@@ -23,6 +23,16 @@ Inv-loop s from d₀ k₀ d k = Filling s from d k
 abbrev μ-loop : tie.MeasureT-loop
 μ-loop s from d₀ k₀ d k = 8 - k
 
+-- states on the way, each three steps back
+abbrev start : tie.In-loop Inv-loop μ-loop → tie.Start Inv-loop μ-loop
+start c = c .before .before .before
+
+abbrev turn : tie.After-hex-digit Inv-loop μ-loop → tie.At-loop Inv-loop μ-loop
+turn c = c .before .before .before
+
+abbrev turning : tie.After-shared-slice-known3 Inv-loop μ-loop → tie.In-loop Inv-loop μ-loop
+turning c = c .before .before .before
+
 loop-holds : tie.Need-loop-holds Inv-loop μ-loop
 loop-holds c =
     record { few = search needs; long = refl; high = λ j h. absurd (omega arith); low = λ j h. absurd (omega arith) }
@@ -35,10 +45,7 @@ shared-slice-read-hex-digit c = search needs
 
 hex-digit-requires : tie.Need-hex-digit-requires Inv-loop μ-loop
 hex-digit-requires c κs =
-    omega (
-      arith,
-      c .shared-slice-known2 .given (c .before .before .before .before .args .from + c .before .before .loop .k),
-    )
+    omega (arith, c .shared-slice-known2 .given (start (c .before) .args .from + c .before .before .loop .k))
 
 mul-d : tie.Need-mul-d Inv-loop μ-loop
 mul-d c = search needs
@@ -72,8 +79,8 @@ loop-less c = search needs
 
 loop-again : tie.Need-loop-again Inv-loop μ-loop
 loop-again c =
-    let a = c .before .before .before .before .before .before .before .args in
-    let l = c .before .before .before .before .before .loop in
+    let a = start (turning (c .before)) .args in
+    let l = turn (c .before .before) .loop in
     let s = now (a .s) in
     record {
       few = omega arith;

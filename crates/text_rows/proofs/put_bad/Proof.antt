@@ -12,6 +12,10 @@ use Rattle.base_buffers.proofs.Stores.{not-fitting, fitting}
 use Rattle.text_rows.proofs.put_bad.Statement.{statement}
 use Rattle.text_rows.proofs.put_bad.Tie as tie
 
+-- states on the way, each three steps back
+abbrev has-room : tie.After-write → tie.Else1
+has-room c = c .before .before .before
+
 too-small : tie.Need-returns
 too-small c = not-fitting badText (sym (c .before .has-capacity .ensures) ∙ not-true _ (c .if1 .taken))
 
@@ -23,7 +27,7 @@ write-requires : tie.Need-write-requires
 write-requires c κs = leb-true _ _ (fits (c .before .before))
 
 returns : tie.Need-returns-2
-returns c = fitting (fits (c .before .before .before .before .before)) (c .before .before .write .ensures)
+returns c = fitting (fits (has-room (c .before .before))) (c .before .before .write .ensures)
 
 pub put-bad-spec : {M : Type 1} → statement M
 put-bad-spec =

@@ -5,6 +5,13 @@ use borrow.Author.Needs.{needs}
 use Rattle.text_rows.proofs.put_digits.Statement.{statement}
 use Rattle.text_rows.proofs.put_digits.Tie as tie
 
+-- states on the way, each three steps back
+abbrev start : tie.After-digits-of → tie.Start
+start c = c .before .before .before
+
+abbrev digits-known : tie.After-copy-part → tie.After-digits-of
+digits-known c = c .before .before .before
+
 digits-of-requires : tie.Need-digits-of-requires
 digits-of-requires c κs = search needs
 
@@ -18,7 +25,9 @@ same-length : tie.Need-same-length
 same-length c = search needs
 
 returns : tie.Need-returns
-returns c = digits-put (c .before .before .before .before .before .before .before .before .pre .0) (c .before .before .before .before .before .digits-of .ensures) (c .before .before .copy-part .ensures)
+returns c =
+    digits-put (start (digits-known (c .before .before)) .pre .0)
+    (digits-known (c .before .before) .digits-of .ensures) (c .before .before .copy-part .ensures)
 
 pub put-digits-spec : {M : Type 1} → statement M
 put-digits-spec =

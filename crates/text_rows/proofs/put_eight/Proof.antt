@@ -4,6 +4,10 @@ use borrow.Author.Needs.{needs}
 use Rattle.text_rows.proofs.put_eight.Statement.{statement}
 use Rattle.text_rows.proofs.put_eight.Tie as tie
 
+-- states on the way, each three steps back
+abbrev copied-part : tie.After-copy-part-arg → tie.After-copy-part
+copied-part c = c .before .before .before
+
 slice-aggregate-copy-part : tie.Need-slice-aggregate-copy-part
 slice-aggregate-copy-part c = search needs
 
@@ -21,8 +25,7 @@ same-length c = search needs
 
 returns : tie.Need-returns
 returns c =
-    through (c .before .before .before .before .before .before .copy-part .ensures)
-    (c .before .before .copy-part2 .ensures)
+    through (copied-part (c .before .before .before) .copy-part .ensures) (c .before .before .copy-part2 .ensures)
 
 pub put-eight-spec : {M : Type 1} → statement M
 put-eight-spec =

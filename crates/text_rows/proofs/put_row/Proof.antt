@@ -13,13 +13,20 @@ use Rattle.base_buffers.proofs.Stores.{not-fitting, fitting}
 use Rattle.text_rows.proofs.put_row.Statement.{statement}
 use Rattle.text_rows.proofs.put_row.Tie as tie
 
+-- states on the way, each three steps back
+abbrev start : tie.After-shared-slice-known2 → tie.Start
+start c = c .before .before .before
+
+abbrev has-room : tie.After-out → tie.Else1
+has-room c = c .before .before .before
+
 too-small : tie.Need-returns
 too-small c =
-    let a = c .before .before .before .before .before .args in
+    let a = start (c .before .before) .args in
     not-fitting (rowBehind (now (a .time)) (a .row) (now (a .sent)))
     (sym (c .before .has-capacity .ensures) ∙ not-true _ (c .if1 .taken))
 
-fits : (c : tie.Else1) → let a = c .before .before .before .before .before .args in
+fits : (c : tie.Else1) → let a = start (c .before .before) .args in
     leb (a .at + longestRow (length (now (a .time))) (length (now (a .sent)))) (length (now (a .out))) ≡ true
 fits c = sym (c .before .has-capacity .ensures) ∙ not-false _ (c .if1 .left)
 
@@ -27,7 +34,7 @@ write-requires : tie.Need-write-row-requires
 write-requires c κs = leb-true _ _ (fits (c .before))
 
 returns : tie.Need-returns-2
-returns c = fitting (fits (c .before .before .before .before)) (c .before .before .write-row .ensures)
+returns c = fitting (fits (has-room (c .before))) (c .before .before .write-row .ensures)
 
 pub put-row-spec : {M : Type 1} → statement M
 put-row-spec =

@@ -13,6 +13,10 @@ use Rattle.base_buffers.proofs.Stores.{not-fitting, fitting}
 use Rattle.text_rows.proofs.put_totals.Statement.{statement}
 use Rattle.text_rows.proofs.put_totals.Tie as tie
 
+-- states on the way, each three steps back
+abbrev has-room : tie.After-out → tie.Else1
+has-room c = c .before .before .before
+
 too-small : tie.Need-returns
 too-small c =
     let a = c .before .before .before .args in
@@ -27,7 +31,7 @@ write-requires : tie.Need-write-totals-requires
 write-requires c κs = leb-true _ _ (fits (c .before))
 
 returns : tie.Need-returns-2
-returns c = fitting (fits (c .before .before .before .before)) (c .before .before .write-totals .ensures)
+returns c = fitting (fits (has-room (c .before))) (c .before .before .write-totals .ensures)
 
 pub put-totals-spec : {M : Type 1} → statement M
 put-totals-spec = tie.close (tie.spec (λ c κs. search needs) too-small write-requires (λ c. search needs) returns)

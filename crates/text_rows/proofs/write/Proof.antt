@@ -6,6 +6,10 @@ use borrow.Author.Needs.{needs}
 use Rattle.text_rows.proofs.write.Statement.{statement}
 use Rattle.text_rows.proofs.write.Tie as tie
 
+-- states on the way, each three steps back
+abbrev put-eight : tie.After-put-eight-arg2 → tie.After-put-eight
+put-eight c = c .before .before .before
+
 write-each-requires : tie.Need-write-each-requires
 write-each-requires c κs = search needs
 
@@ -41,7 +45,7 @@ same-length-3 c = search needs
 
 returns-3 : tie.Need-returns-3
 returns-3 c =
-    let front = c .before .before .before .before .before .before .put-eight .ensures in
+    let front = put-eight (c .before .before .before) .put-eight .ensures in
     let back = c .before .before .put-eight2 .ensures in
     record {
       bytes = pasted (paste-next (paste-first front) (omega arith) (omega arith) back) (omega arith) (omega arith);

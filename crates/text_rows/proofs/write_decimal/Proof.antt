@@ -7,9 +7,16 @@ use Rattle.base_buffers.proofs.Stores.{loosened, take-rest}
 use Rattle.text_rows.proofs.write_decimal.Statement.{statement}
 use Rattle.text_rows.proofs.write_decimal.Tie as tie
 
+-- states on the way, each three steps back
+abbrev spell-known : tie.After-digits3 → tie.After-spell
+spell-known c = c .before .before .before
+
+abbrev write-lent2 : tie.After-slice-known2 → tie.After-write-arg2
+write-lent2 c = c .before .before .before
+
 returns : tie.Need-returns
 returns c =
-    let s = c .before .before .before .before .before .before .before .spell in
+    let s = spell-known (write-lent2 c .before) .spell in
     let e = take-rest (s .last .1 .0) 20 (s .result) (omega (arith, s .kept .1 .0)) ∙ s .ensures .1 in
     rw (sym e) (loosened (c .before .before .write .ensures) (simp length-take (omega arith)))
 

@@ -11,6 +11,22 @@ use borrow.Author.Needs.{needs}
 use Rattle.text_rows.proofs.write_hex.Statement.{statement}
 use Rattle.text_rows.proofs.write_hex.Tie as tie
 
+-- states on the way, each three steps back
+abbrev start : tie.Else1 → tie.Start
+start c = c .before .before .before
+
+abbrev put-digits : tie.Else3 → tie.After-put-digits
+put-digits c = c .before .before .before
+
+abbrev digits-put : tie.Then3 → tie.After-put-digits
+digits-put c = c .before .before .before
+
+abbrev then3 : tie.After-out4 → tie.Then3
+then3 c = c .before .before .before
+
+abbrev put-digits3 : tie.After-put-digits-arg4 → tie.After-put-digits3
+put-digits3 c = c .before .before .before
+
 write-pairs-requires : tie.Need-write-pairs-requires
 write-pairs-requires c κs = search needs
 
@@ -52,9 +68,8 @@ same-length-3 c = search needs
 
 returns-3 : tie.Need-returns-3
 returns-3 c =
-    let s =
-    now (c .before .before .before .before .before .before .before .before .before .before .before .before .before .args .s) in
-    let front = c .before .before .before .before .before .before .before .put-digits .ensures in
+    let s = now (start (digits-put (then3 (c .before)) .before .before .before) .args .s) in
+    let front = digits-put (then3 (c .before)) .put-digits .ensures in
     let back = c .before .before .put-digits2 .ensures in
     record {
       bytes =
@@ -91,10 +106,10 @@ same-length-4 c = search needs
 returns-4 : tie.Need-returns-4
 returns-4 c =
     let s =
-    now (c .before .before .before .before .before .before .before .before .before .before .before .before .before .before .before .before .before .args .s) in
-    let front =
-    c .before .before .before .before .before .before .before .before .before .before .before .put-digits .ensures in
-    let middle = c .before .before .before .before .before .before .put-digits3 .ensures in
+    now (start
+    (put-digits (put-digits3 (c .before .before .before) .before .before) .before .before .before) .args .s) in
+    let front = put-digits (put-digits3 (c .before .before .before) .before .before) .put-digits .ensures in
+    let middle = put-digits3 (c .before .before .before) .put-digits3 .ensures in
     let back = c .before .before .put-digits4 .ensures in
     record {
       bytes =

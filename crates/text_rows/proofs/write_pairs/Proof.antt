@@ -25,6 +25,10 @@ Inv-loop out₀ at s i₀ to₀ out i to = Writing s at i to out₀ out
 abbrev μ-loop : tie.MeasureT-loop
 μ-loop out₀ at s i₀ to₀ out i to = length s - i
 
+-- states on the way, each three steps back
+abbrev start : tie.At-loop Inv-loop μ-loop → tie.Start Inv-loop μ-loop
+start c = c .before .before .before
+
 loop-holds : tie.Need-loop-holds Inv-loop μ-loop
 loop-holds c = record { bounded = search needs; place = search needs; long = refl; stores = refl }
 
@@ -39,8 +43,10 @@ low-fits c = simp length-set (omega arith)
 
 loop-again : tie.Need-loop-again Inv-loop μ-loop
 loop-again c =
-    let a = c .before .before .before .before .before .before .before .args in
-    let l = c .before .before .before .before .loop in
+    let first = c .before in
+    let at = first .before .before .before in
+    let a = at .before .before .before .args in
+    let l = at .loop in
     record {
       bounded = omega arith;
       place = omega arith;
@@ -54,7 +60,7 @@ loop-again c =
 returns : tie.Need-returns Inv-loop μ-loop
 unfolding hexText
 returns c =
-    let a = c .before .before .before .before .args in
+    let a = start (c .before) .args in
     let l = c .before .loop in
     let h : length (now (a .s)) ≤ l .i = omega arith in
     record {

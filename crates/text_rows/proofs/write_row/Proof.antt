@@ -6,13 +6,23 @@ use Rattle.base_buffers.proofs.Stores.{loosened, then}
 use Rattle.text_rows.proofs.write_row.Statement.{statement}
 use Rattle.text_rows.proofs.write_row.Tie as tie
 
+-- states on the way, each three steps back
+abbrev written : tie.After-write-arg2 → tie.After-write
+written c = c .before .before .before
+
+abbrev written2 : tie.After-write-answer-arg → tie.After-write2
+written2 c = c .before .before .before
+
+abbrev written-answer : tie.After-write-arg4 → tie.After-write-answer
+written-answer c = c .before .before .before
+
 returns : tie.Need-returns
 unfolding rowBehind
 returns c =
     let e = c .before .before in
-    let w = e .before .before .before .before .before in
-    let s = w .before .before .before .before in
-    let t = s .before .before .before .before .before in
+    let w = written-answer (e .before .before) in
+    let s = written2 (w .before) in
+    let t = written (s .before .before) in
     loosened (then (then (then (t .write .ensures) (s .write2 .ensures)) (w .write-answer .ensures))
     (e .write3 .ensures))
     (omega arith)
