@@ -6,8 +6,10 @@ use Rattle.c_pieces.proofs.adding.adding_in.Tie as tie
 
 returns : tie.Need-returns
 returns c =
-    let s = c .before .before .before .before .before in
-    (rw (s .scan-of .ensures, s .before .before .before .before .before .report-in .ensures .0), refl)
+    let given = c .before .before .before in
+    let s = given .before .before in
+    let scanning = s .before .before .before in
+    (rw (s .scan-of .ensures, scanning .before .before .report-in .ensures .0), refl)
 
 pub adding-in-spec : {M : Type 1} → statement M
 adding-in-spec =

@@ -14,8 +14,12 @@ use Rattle.c_pieces.proofs.Addings.{end-kept}
 use Rattle.c_pieces.proofs.adding.end.Statement.{statement}
 use Rattle.c_pieces.proofs.adding.end.Tie as tie
 
+-- states on the way, each three steps back
+abbrev entry : tie.After-adding-in → tie.Start
+entry c = c .before .before .before
+
 abbrev start : tie.After-end → tie.Start
-start c = c .before .before .before .before
+start c = entry (c .before)
 
 abbrev was : tie.After-end → Adding
 was c =

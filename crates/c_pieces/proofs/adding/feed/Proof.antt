@@ -12,8 +12,12 @@ use Rattle.c_pieces.proofs.Addings.{feed-report, feed-kept}
 use Rattle.c_pieces.proofs.adding.feed.Statement.{statement}
 use Rattle.c_pieces.proofs.adding.feed.Tie as tie
 
+-- states on the way, each three steps back
+abbrev entry : tie.After-adding-in-arg2 → tie.Start
+entry c = c .before .before .before
+
 abbrev start : tie.After-feed → tie.Start
-start c = c .before .before .before .before .before
+start c = entry (c .before .before)
 
 abbrev was : tie.After-feed → Adding
 was c =

@@ -5,11 +5,18 @@ use Rattle.c_pieces.proofs.Packers.{pack-not, pack-done}
 use Rattle.c_pieces.proofs.packer.feed.Statement.{statement}
 use Rattle.c_pieces.proofs.packer.feed.Tie as tie
 
+-- states on the way, each three steps back
+abbrev entry : tie.After-slice-known → tie.Start
+entry c = c .before .before .before
+
+abbrev packed-now : tie.After-positions → tie.After-pack
+packed-now c = c .before .before .before
+
 abbrev fed : tie.After-taken-number → tie.After-pack
-fed c = let s = c .before .before in s .before .before .before .before
+fed c = let s = c .before .before in packed-now (s .before)
 
 abbrev start : tie.After-pack → tie.Start
-start c = let a = c .before .before .before in let b = a .before .before .before in b .before .before .before .before
+start c = let a = c .before .before .before in let b = a .before .before .before in entry (b .before)
 
 refused : tie.Need-returns
 refused c =

@@ -10,8 +10,15 @@ use Rattle.c_pieces.proofs.Scans.{shown-kept, shown-taken}
 use Rattle.c_pieces.proofs.scan.feed.Statement.{statement}
 use Rattle.c_pieces.proofs.scan.feed.Tie as tie
 
+-- states on the way, each three steps back
+abbrev entry : tie.After-scan-of-arg2 → tie.Start
+entry c = c .before .before .before
+
+abbrev scan-of-lent3 : tie.After-feed → tie.After-scan-of-arg3
+scan-of-lent3 c = c .before .before .before
+
 abbrev start : tie.After-feed → tie.Start
-start c = c .before .before .before .before .before .before .before
+start c = entry (scan-of-lent3 c .before)
 
 abbrev expected : tie.After-feed → Feeding
 expected c = feedOf (scanAt (now (start c .args .numbers))) (now (start c .args .piece))
