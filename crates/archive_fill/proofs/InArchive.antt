@@ -121,8 +121,8 @@ grown-all (s ∷ rows) r buffer v n e inside next valid small few =
     let near : n < maxRows = omega (arith, blocks-of buffer v .1) in
     let room : (n + 1) / cellsPerBlock < length new / blockLength =
     omega (arith, q, with-length buffer k inside put put-long) in
-    let told : isNext (n + 1) (blockAt ((n + 1) / cellsPerBlock) new) ≡ true
-    = ap (λ (j : ℕ). isNext (n + 1) (blockAt j new)) q ∙ ap (isNext (n + 1)) at
+    let told : isNext (n + 1) (blockAt ((n + 1) / cellsPerBlock) new) ≡ true =
+    ap (λ (j : ℕ). isNext (n + 1) (blockAt j new)) q ∙ ap (isNext (n + 1)) at
     ∙ put-next n r block long cell near (omega arith) in
     let ih = grown-all rows s new (g .0) (n + 1) count room told (x .1) (t .1) (omega arith) in
     let same : withBlock ((n + 1) / cellsPerBlock)

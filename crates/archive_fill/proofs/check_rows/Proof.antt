@@ -28,6 +28,10 @@ Inv-loop times rows i₀ i-end i = Checking times rows i
 abbrev μ-loop : tie.MeasureT-loop
 μ-loop times rows i₀ i-end i = length times - i
 
+-- states on the way, each three steps back
+abbrev entry : tie.At-loop Inv-loop μ-loop → tie.Start Inv-loop μ-loop
+entry c = c .before .before .before
+
 check-record-requires : tie.Need-check-record-requires Inv-loop μ-loop
 check-record-requires c κs =
     let at = c .before .before in
@@ -37,7 +41,7 @@ check-record-requires c κs =
     ap length (part-ends from rowLength rows) ∙ part-length from rowLength rows (omega (arith, s .pre))
 
 abbrev start : tie.After-check-record Inv-loop μ-loop → tie.Start Inv-loop μ-loop
-start c = c .before .before .before .before .before .before
+start c = entry (c .before .before .before)
 
 abbrev given : tie.After-check-record Inv-loop μ-loop → List Row
 given c = rowsGiven (now (start c .args .times)) (now (start c .args .rows))

@@ -40,6 +40,10 @@ Inv-loop out₀ times rows i₀ i-end out i = Putting out₀ times rows out i
 abbrev μ-loop : tie.MeasureT-loop
 μ-loop out₀ times rows i₀ i-end out i = length times - i
 
+-- states on the way, each three steps back
+abbrev entry : tie.After-shared-slice-known2 Inv-loop μ-loop → tie.Start Inv-loop μ-loop
+entry c = c .before .before .before
+
 loop-holds : tie.Need-loop-holds Inv-loop μ-loop
 unfolding flatten
 loop-holds c = record { bounded = omega arith; begun = begin _ }
@@ -48,7 +52,7 @@ abbrev turn-of : tie.After-shared-slice-known3 Inv-loop μ-loop → tie.At-loop 
 turn-of c = c .before .before .before
 
 abbrev start : tie.At-loop Inv-loop μ-loop → tie.Start Inv-loop μ-loop
-start c = c .before .before .before .before
+start c = entry (c .before)
 
 put-record-requires : tie.Need-put-record-requires Inv-loop μ-loop
 put-record-requires c κs =

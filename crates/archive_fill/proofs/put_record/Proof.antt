@@ -35,8 +35,8 @@ returns c =
     let s = start b in
     let a = s .args in
     let is = bytes-shown (a .time) (now (a .given)) (b .byte-at .result) (s .pre .1) (b .byte-at .ensures) (short b) in
-    let few : length (part 2 (2 + b .byte-at .result - 2) (now (a .given))) ≤ maxLength
-    = rw is
+    let few : length (part 2 (2 + b .byte-at .result - 2) (now (a .given))) ≤ maxLength =
+    rw is
     (omega (
       arith,
       short b,

@@ -20,12 +20,16 @@ use Rattle.archive_fill.proofs.Cases.{given-facts, check-valid, put-siz
 use Rattle.archive_fill.proofs.put_rows.Statement.{statement}
 use Rattle.archive_fill.proofs.put_rows.Tie as tie
 
+-- states on the way, each three steps back
+abbrev entry : tie.After-shared-slice-known2 → tie.Start
+entry c = c .before .before .before
+
 -- a verdict beside a block
 abbrev beside : List ℕ → Verdict → Appended
 beside block v = record { number = v .number; position = v .position; buffer = block }
 
 abbrev start : tie.After-is-given → tie.Start
-start c = c .before .before .before .before
+start c = entry (c .before)
 
 abbrev block : tie.After-is-given → List ℕ
 block c = now (start c .args .block)

@@ -20,6 +20,19 @@ use Rattle.archive_fill.proofs.Together.{together, put-together}
 use Rattle.archive_fill.proofs.write_rows.Statement.{statement}
 use Rattle.archive_fill.proofs.write_rows.Tie as tie
 
+-- states on the way, each three steps back
+abbrev entry : tie.After-shared-slice-known2 → tie.Start
+entry c = c .before .before .before
+
+abbrev put-number : tie.After-clear-arg → tie.After-put-number
+put-number c = c .before .before .before
+
+abbrev cleared : tie.After-put-cells-arg → tie.After-clear
+cleared c = c .before .before .before
+
+abbrev put-cells : tie.After-seal-arg → tie.After-put-cells
+put-cells c = c .before .before .before
+
 -- where the cells begin, and where they end
 abbrev at : tie.Start → ℕ
 at s = headerLength + cellLength * (s .args .n % cellsPerBlock)
@@ -28,7 +41,7 @@ abbrev end : tie.Start → ℕ
 end s = headerLength + cellLength * (s .args .n % cellsPerBlock + length (now (s .args .times)))
 
 abbrev start : tie.After-put-number → tie.Start
-start c = c .before .before .before .before .before
+start c = entry (c .before .before)
 
 abbrev numbered : tie.After-put-number → Writing 5
 numbered c =
@@ -41,22 +54,22 @@ numbered c =
     (a .n % cellsPerBlock + length (now (a .times)))
     (omega arith))
 
-abbrev headed : (c : tie.After-clear) → Writing (at (start (c .before .before .before .before)))
+abbrev headed : (c : tie.After-clear) → Writing (at (start (put-number (c .before))))
 headed c =
-    let s = start (c .before .before .before .before) in
+    let s = start (put-number (c .before)) in
     packed
     (skip
-    (lend-sized (numbered (c .before .before .before .before) .begun) _
+    (lend-sized (numbered (put-number (c .before)) .begun) _
     (λ w. replicate w 0) headerLength (c .clear .ensures) (c .clear .kept .0)
     (omega arith) (omega arith))
     (at s) (omega arith) (omega (arith, s .pre .few)))
 
 abbrev before-cells : tie.After-put-cells → tie.After-clear
-before-cells c = c .before .before .before .before
+before-cells c = cleared (c .before)
 
 abbrev celled : tie.After-put-cells → Writing bodyLength
 celled c =
-    let s = start (before-cells c .before .before .before .before) in
+    let s = start (put-number (before-cells c .before)) in
     packed
     (skip (lend (headed (before-cells c) .begun) _ _ (end s) (c .put-cells .ensures)
     (c .put-cells .kept .0) (omega arith) (omega (arith, s .pre .few)))
@@ -65,7 +78,7 @@ celled c =
 put-cells-requires : tie.Need-put-cells-requires
 put-cells-requires c κs =
     let cl = c .before .before .before in
-    let s = start (cl .before .before .before .before) in
+    let s = start (put-number (cl .before)) in
     (lent (headed cl .begun) _ (end s) (omega arith) (omega (arith, s .pre .few)), s .pre .sized, s .pre .valid)
 
 put-is : (block : List ℕ) (n : ℕ) (times rows : List ℕ) → Ready block n times rows
@@ -86,8 +99,8 @@ put-is block n times rows ready at end a e =
 returns : tie.Need-returns
 returns c =
     let sealed = c .before .before in
-    let put = sealed .before .before .before .before in
-    let s = start (before-cells put .before .before .before .before) in
+    let put = put-cells (sealed .before) in
+    let s = start (put-number (before-cells put .before)) in
     let a = s .args in
     sealed .seal .ensures ∙ seal-front _ (celled put .begun) (s .pre .long)
     ∙ put-is (now (a .block)) (a .n) (now (a .times)) (now (a .rows)) (s .pre) (at s) (end s) refl refl
@@ -114,9 +127,8 @@ write-rows-spec =
     (λ c. search needs)
     (λ c. search needs)
     (λ c. within (headed (c .before .before) .begun) _
-    (omega (arith, start (c .before .before .before .before .before .before) .pre .few)))
+    (omega (arith, start (put-number (c .before .before .before)) .pre .few)))
     put-cells-requires
     (λ c κs. search needs)
-    (λ c. c .before .before .seal .kept .0
-    ∙ begun-length (celled (c .before .before .before .before .before .before) .begun))
+    (λ c. c .before .before .seal .kept .0 ∙ begun-length (celled (put-cells (c .before .before .before)) .begun))
     returns)
