@@ -10,6 +10,10 @@ use Rattle.c_codec.proofs.Calls.{build-other, build-done}
 use Rattle.c_codec.proofs.build.Statement.{statement}
 use Rattle.c_codec.proofs.build.Tie as tie
 
+-- states on the way, each three steps back
+abbrev built-now : tie.After-settle-arg → tie.After-build
+built-now c = c .before .before .before
+
 other-size : tie.Need-returns
 other-size c =
     let a = c .before .before .before .args in
@@ -17,7 +21,7 @@ other-size c =
 
 built : tie.Need-returns-2
 built c =
-    let b = c .before .before .before .before in
+    let b = built-now (c .before) in
     let t = b .before .before in
     let e = t .before in
     let a = e .before .before .before .args in

@@ -7,10 +7,17 @@ use Rattle.c_layout.specs.Lent.{settled}
 use Rattle.c_codec.proofs.decapsulate.Statement.{statement}
 use Rattle.c_codec.proofs.decapsulate.Tie as tie
 
+-- states on the way, each three steps back
+abbrev start : tie.After-decapsulate-arg → tie.Start
+start c = c .before .before .before
+
+abbrev decapsulated : tie.After-settle-arg → tie.After-decapsulate
+decapsulated c = c .before .before .before
+
 returns : tie.Need-returns
 returns c =
-    let d = c .before .before .before .before in
-    let a = d .before .before .before .before .args in
+    let d = decapsulated (c .before) in
+    let a = start (d .before) .args in
     c .settle .ensures _ ∙ ap (λ (r : Result). settled r (now (a .length))) (d .decapsulate .ensures)
 
 pub decapsulate-spec : {M : Type 1} → statement M

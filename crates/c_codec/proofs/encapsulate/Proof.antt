@@ -10,9 +10,13 @@ use Rattle.c_layout.specs.Lent.{settled}
 use Rattle.c_codec.proofs.encapsulate.Statement.{statement}
 use Rattle.c_codec.proofs.encapsulate.Tie as tie
 
+-- states on the way, each three steps back
+abbrev encapsulated : tie.After-settle-arg → tie.After-encapsulate
+encapsulated c = c .before .before .before
+
 returns : tie.Need-returns
 returns c =
-    let e = c .before .before .before .before in
+    let e = encapsulated (c .before) in
     let i = e .before .before in
     let a = i .before .before .before .args in
     let is =

@@ -7,10 +7,14 @@ use Rattle.radio_telegram.proofs.Reading.{padded-copy}
 use Rattle.c_codec.proofs.payload_in.Statement.{statement}
 use Rattle.c_codec.proofs.payload_in.Tie as tie
 
+-- states on the way, each three steps back
+abbrev start : tie.After-copy → tie.Start
+start c = c .before .before .before
+
 returns : tie.Need-returns
 returns c =
-    let part = now (c .before .before .before .before .args .part) in
-    padded-copy 14 part _ (c .before .copy .ensures .1) ∙ simp (c .before .before .before .before .pre, append-nil)
+    let part = now (start (c .before) .args .part) in
+    padded-copy 14 part _ (c .before .copy .ensures .1) ∙ simp (start (c .before) .pre, append-nil)
 
 pub payload-in-spec : {M : Type 1} → statement M
 payload-in-spec =

@@ -8,7 +8,12 @@ use Rattle.c_codec.proofs.telegram_in.Tie as tie
 
 returns : tie.Need-returns
 unfolding telegramIn
-returns c = rw (c .before .before .before .before .payload-in .ensures, c .before .before .before .before .before .before .id-in2 .ensures, c .before .before .before .before .before .before .before .before .id-in .ensures)
+returns c =
+    let known = c .before .before .before in
+    let payload = known .before in
+    let second = payload .before .before in
+    let first = second .before .before in
+    rw (payload .payload-in .ensures, second .id-in2 .ensures, first .id-in .ensures)
 
 pub telegram-in-spec : {M : Type 1} → statement M
 telegram-in-spec =
