@@ -7,12 +7,16 @@ use Rattle.c_archive.specs.Calls.{appendCall}
 use Rattle.c_archive.proofs.append_at.Statement.{statement}
 use Rattle.c_archive.proofs.append_at.Tie as tie
 
+-- states on the way, each three steps back
+abbrev appended-at : tie.After-settle-arg → tie.After-append-at
+appended-at c = c .before .before .before
+
 abbrev start : tie.After-append-at → tie.Start
 start c = let a = c .before .before in a .before .before
 
 returns : tie.Need-returns
 returns c =
-    let d = c .before .before .before .before in
+    let d = appended-at (c .before) in
     c .settle .ensures _ ∙ ap (λ (a : Appended). appendCall a (now (start d .args .position))) (d .append-at .ensures)
 
 pub append-at-spec : {M : Type 1} → statement M

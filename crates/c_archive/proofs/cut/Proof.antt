@@ -7,12 +7,16 @@ use Rattle.c_archive.specs.Calls.{appendCall}
 use Rattle.c_archive.proofs.cut.Statement.{statement}
 use Rattle.c_archive.proofs.cut.Tie as tie
 
+-- states on the way, each three steps back
+abbrev cut-now : tie.After-settle-arg → tie.After-cut
+cut-now c = c .before .before .before
+
 abbrev start : tie.After-cut → tie.Start
 start c = c .before .before .before
 
 returns : tie.Need-returns
 returns c =
-    let d = c .before .before .before .before in
+    let d = cut-now (c .before) in
     c .settle .ensures _ ∙ ap (λ (a : Appended). appendCall a (now (start d .args .position))) (d .cut .ensures)
 
 pub cut-spec : {M : Type 1} → statement M

@@ -39,6 +39,10 @@ Inv-loop out₀ bytes n i₀ out i = Putting out₀ bytes n out i
 abbrev μ-loop : tie.MeasureT-loop
 μ-loop out₀ bytes n i₀ out i = cellCapacity - i
 
+-- states on the way, each three steps back
+abbrev start : tie.In-loop Inv-loop μ-loop → tie.Start Inv-loop μ-loop
+start c = c .before .before .before
+
 loop-holds : tie.Need-loop-holds Inv-loop μ-loop
 unfolding resized
 loop-holds c = record { bounded = omega arith; begun = begin _ }
@@ -71,12 +75,7 @@ put-filled-spec =
     loop-holds
     (λ c. omega arith)
     (λ c κs. search needs)
-    (λ c.
-    omega (
-      arith,
-      begun-length (c .before .before .before .loop .inv .begun),
-      c .before .before .before .before .before .pre,
-    ))
+    (λ c. omega (arith, begun-length (c .before .before .before .loop .inv .begun), start (c .before .before) .pre))
     (λ c. omega arith)
     (λ c. omega arith)
     loop-again

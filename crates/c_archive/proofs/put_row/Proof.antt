@@ -7,12 +7,16 @@ use Rattle.c_archive.specs.Calls.{appendCall}
 use Rattle.c_archive.proofs.put_row.Statement.{statement}
 use Rattle.c_archive.proofs.put_row.Tie as tie
 
+-- states on the way, each three steps back
+abbrev put-row : tie.After-settle-arg → tie.After-put-row
+put-row c = c .before .before .before
+
 abbrev start : tie.After-put-row → tie.Start
 start c = let a = c .before .before in a .before .before
 
 returns : tie.Need-returns
 returns c =
-    let d = c .before .before .before .before in
+    let d = put-row (c .before) in
     c .settle .ensures _ ∙ ap (λ (a : Appended). appendCall a (now (start d .args .position))) (d .put-row .ensures)
 
 pub put-row-spec : {M : Type 1} → statement M

@@ -7,11 +7,15 @@ use Rattle.c_archive.proofs.Calls.{put-not, put-at}
 use Rattle.c_archive.proofs.put_rows.Statement.{statement}
 use Rattle.c_archive.proofs.put_rows.Tie as tie
 
+-- states on the way, each three steps back
+abbrev entry : tie.After-shared-slice-known2 → tie.Start
+entry c = c .before .before .before
+
 abbrev filled : tie.After-has-place → tie.After-put-rows
 filled c = let t = c .before in t .before .before .before
 
 abbrev start : tie.After-put-rows → tie.Start
-start c = let a = c .before in a .before .before .before .before
+start c = let a = c .before in entry (a .before)
 
 not-placed : tie.Need-returns
 not-placed c =

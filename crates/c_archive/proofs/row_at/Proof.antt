@@ -14,6 +14,10 @@ use Rattle.c_archive.proofs.Calls.{row-other, row-not, row-done, row-ar
 use Rattle.c_archive.proofs.row_at.Statement.{statement}
 use Rattle.c_archive.proofs.row_at.Tie as tie
 
+-- states on the way, each three steps back
+abbrev flag-byte-known : tie.After-struct-known → tie.After-flag-byte
+flag-byte-known c = c .before .before .before
+
 other-size : tie.Need-returns
 other-size c =
     let a = c .before .before .before .args in
@@ -51,7 +55,7 @@ step1 c = packed (store (flagged c .begun) (found c .before .row-at .result .len
 
 abbrev step2 : tie.After-put-filled → Writing 23
 step2 c =
-    let at = c .before .before .before .before in
+    let at = flag-byte-known (c .before) in
     let r = found at .before .row-at .result in
     packed
     (lend (step1 at .begun) _ (resized cellCapacity (take (r .len) (r .bytes))) 23
@@ -60,7 +64,8 @@ step2 c =
 written : tie.Need-returns-3
 written c =
     let pf = c .before .before in
-    let fl = pf .before .before .before .before in
+    let putting = pf .before .before .before in
+    let fl = putting .before in
     let n = found fl in
     let at = n .before in
     let a = start at .args in

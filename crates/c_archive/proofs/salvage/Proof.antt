@@ -5,11 +5,15 @@ use Rattle.c_archive.proofs.Calls.{salvage-not, salvage-done}
 use Rattle.c_archive.proofs.salvage.Statement.{statement}
 use Rattle.c_archive.proofs.salvage.Tie as tie
 
+-- states on the way, each three steps back
+abbrev entry : tie.After-slice-known2 → tie.Start
+entry c = c .before .before .before
+
 abbrev salvaged : tie.After-taken-number → tie.After-salvage
 salvaged c = let s = c .before .before in s .before .before .before
 
 abbrev start : tie.After-salvage → tie.Start
-start c = let a = c .before .before in a .before .before .before .before
+start c = let a = c .before .before in entry (a .before)
 
 refused : tie.Need-returns
 refused c =
