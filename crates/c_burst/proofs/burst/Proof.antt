@@ -28,7 +28,10 @@ lent s =
 -- ---- what each test says
 
 abbrev start : tie.After-is-acceptable → tie.Start
-start c = c .before .before .before .before .before .before .before .before
+start c =
+    let copied = c .before .before .before in
+    let known = copied .before .before .before in
+    known .before .before
 
 abbrev entry1 : tie.Else1 → tie.Start
 entry1 c = start (c .before)
@@ -45,7 +48,9 @@ sized c = sym (c .before .is-sized .ensures) ∙ not-false _ (c .if2 .left)
 
 -- no call is refused after the third
 abbrev after-tests : tie.After-summary-of → tie.Else3
-after-tests c = c .before .before .before .before
+after-tests c =
+    let passed = c .before .before .before in
+    passed .before
 
 allowed : (c : tie.Else3) → let a = entry2 (c .before .before) .args in
     callNumber (a .setting) (length (now (a .moments))) (length (now (a .replies)) / replyLength) ≡ 0
@@ -56,7 +61,8 @@ entry3 c = entry2 (after-tests c .before .before)
 
 tested : (c : tie.After-summary-of) → Tested true (viewIn (columnsAt (lent (entry3 c))) (c .summary-of .result))
 tested c =
-    let e = after-tests c .before .before .before .before in
+    let second = after-tests c .before .before in
+    let e = second .before .before in
     subst (λ (s : Summary). Tested true (viewIn (columnsAt (lent (entry3 c))) s)) (sym (c .summary-of .ensures .0))
     (record { said = sym (acceptable-here e); fits = c .summary-of .ensures .1 _ _ _ })
 
@@ -66,13 +72,15 @@ returns : tie.Need-returns
 returns c =
     let t = c .before .before in
     let s = start t in
-    refused-state (lent s) (s .args .setting) _ _ _ (sym (t .is-acceptable .ensures _) ∙ not-true _ (c .before .if1 .taken)) _ (c .number .ensures)
+    refused-state (lent s) (s .args .setting) _ _ _
+    (sym (t .is-acceptable .ensures _) ∙ not-true _ (c .before .if1 .taken)) _ (c .number .ensures)
 
 returns-2 : tie.Need-returns-2
 returns-2 c =
     let t = c .before in
     let e = t .before in
-    wrong-size (lent (entry1 e)) (entry1 e .args .setting) _ _ _ (acceptable-here e) (sym (t .is-sized .ensures) ∙ not-true _ (c .if2 .taken))
+    wrong-size (lent (entry1 e)) (entry1 e .args .setting) _ _ _ (acceptable-here e)
+    (sym (t .is-sized .ensures) ∙ not-true _ (c .if2 .taken))
 
 returns-3 : tie.Need-returns-3
 returns-3 c =
@@ -82,7 +90,8 @@ returns-3 c =
 
 deliver-requires : tie.Need-deliver-requires
 deliver-requires c κs =
-    let k = c .before .before .before .before .before in
+    let lending = c .before .before .before in
+    let k = lending .before .before in
     let e = after-tests k in
     let a = entry3 k .args in
     let few = called (a .setting) _ _ (allowed e) in
@@ -90,13 +99,16 @@ deliver-requires c κs =
 
 returns-4 : tie.Need-returns-4
 returns-4 c =
-    let d = c .before .before .before .before in
-    let k = d .before .before .before .before .before .before in
+    let given = c .before .before .before in
+    let d = given .before in
+    let lending = d .before .before .before in
+    let k = lending .before .before .before in
     let e = after-tests k in
+    let second = e .before .before in
     let s = entry3 k in
     let a = s .args in
     all-taken (lent s) (a .setting) (now (a .moments)) (now (a .records)) (now (a .replies))
-    (acceptable-here (e .before .before .before .before)) (sized (e .before .before)) (allowed e) _
+    (acceptable-here (second .before .before)) (sized second) (allowed e) _
     (k .summary-of .ensures .0) _ _ _ (d .deliver .ensures) _ (c .store .ensures)
 
 pub burst-spec : {M : Type 1} → statement M

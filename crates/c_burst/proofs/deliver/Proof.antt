@@ -33,6 +33,22 @@ abbrev μ-loop : tie.MeasureT-loop
     replies₀ s₀ i₀ i-end times lengths bytes copies replies s i =
     length moments - i
 
+-- states on the way, each three steps back
+abbrev start : tie.After-slice-known Inv-loop μ-loop → tie.Start Inv-loop μ-loop
+start c = c .before .before .before
+
+abbrev turn : tie.After-take-frame-arg2 Inv-loop μ-loop → tie.At-loop Inv-loop μ-loop
+turn c = c .before .before .before
+
+abbrev turning : tie.After-take-frame-arg3 Inv-loop μ-loop → tie.In-loop Inv-loop μ-loop
+turning c = c .before .before .before
+
+abbrev take-frame-lent3 : tie.After-shared-slice-known3 Inv-loop μ-loop → tie.After-take-frame-arg3 Inv-loop μ-loop
+take-frame-lent3 c = c .before .before .before
+
+abbrev take-frame-lent4 : tie.After-take-frame-arg6 Inv-loop μ-loop → tie.After-take-frame-arg4 Inv-loop μ-loop
+take-frame-lent4 c = c .before .before .before
+
 loop-holds : tie.Need-loop-holds Inv-loop μ-loop
 loop-holds c =
     let s = c .before .before .before in
@@ -40,8 +56,8 @@ loop-holds c =
 
 take-frame-requires : tie.Need-take-frame-requires Inv-loop μ-loop
 take-frame-requires c κs =
-    let at = c .before .before .before .before .before .before .before .before in
-    let s = at .before .before .before .before in
+    let at = turn (take-frame-lent4 c .before .before) in
+    let s = start (at .before) in
     let from = frameLength * at .loop .i in
     let records = s .args .records .now in (
       ap length (part-ends from frameLength records) ∙ part-length from frameLength records (omega (arith, s .pre .1)),
@@ -53,9 +69,9 @@ loop-again : tie.Need-loop-again Inv-loop μ-loop
 loop-again c =
     let took = c .before .before in
     let known = took .before .before in
-    let inside = known .before .before .before .before .before .before in
+    let inside = turning (known .before .before .before) in
     let at = inside .before in
-    let s = at .before .before .before .before in
+    let s = start (at .before) in
     let i = at .loop .i in
     let moments = s .args .moments .now in
     let records = s .args .records .now in
@@ -78,7 +94,7 @@ loop-again c =
 
 returns : tie.Need-returns Inv-loop μ-loop
 returns c =
-    let a = c .before .before .before .before .before .args in
+    let a = start (c .before .before) .args in
     ends _ _ _ _ _ (c .before .loop .inv .going) (omega (arith, receptions-count (a .moments .now) (a .records .now)))
 
 pub deliver-spec : {M : Type 1} → statement M
@@ -101,7 +117,7 @@ deliver-spec =
     (λ c. omega arith)
     (λ c. omega arith)
     (λ c. omega arith)
-    (λ c. within (c .before .before .before .before .before .before .before .loop .inv .going .written) _ (omega arith))
+    (λ c. within (turn (take-frame-lent3 c .before) .loop .inv .going .written) _ (omega arith))
     take-frame-requires
     (λ c. omega arith)
     (λ c. omega arith)

@@ -12,6 +12,10 @@ use Rattle.c_burst.specs.Bytes.{replyBytes}
 use Rattle.c_burst.proofs.put_reply.Statement.{statement}
 use Rattle.c_burst.proofs.put_reply.Tie as tie
 
+-- states on the way, each three steps back
+abbrev start : tie.After-number-of → tie.Start
+start c = c .before .before .before
+
 -- a place has 24 bytes
 long : (c : tie.Start) → length (now (c .args .reply)) ≡ 24
 long c = c .pre .0
@@ -29,7 +33,7 @@ headed c =
     (omega (arith, long s)))
 
 -- what is sent has 21 bytes
-sized : (c : tie.After-copy-arg) → length (now (c .before .before .before .before .args .sent)) ≡ maxLength
+sized : (c : tie.After-copy-arg) → length (now (start (c .before) .args .sent)) ≡ maxLength
 sized c = c .copy-arg .given .0
 
 abbrev replied : tie.After-copy → Writing 24
@@ -70,7 +74,7 @@ put-reply-spec =
     (λ c. search needs)
     (λ c. search needs)
     (λ c. search needs)
-    (λ c. within (headed (c .before) .begun) 24 (omega (arith, long (c .before .before .before .before))))
+    (λ c. within (headed (c .before) .begun) 24 (omega (arith, long (start (c .before)))))
     (λ c κs. search needs)
     (λ c. begun-length (replied (c .before .before) .begun))
     returns)

@@ -5,12 +5,19 @@ use Rattle.c_burst.proofs.Sent.{sent-few, answered}
 use Rattle.c_burst.proofs.take_frame.Statement.{statement}
 use Rattle.c_burst.proofs.take_frame.Tie as tie
 
+-- states on the way, each three steps back
+abbrev entry : tie.After-telegram-in → tie.Start
+entry c = c .before .before .before
+
+abbrev telegram-read : tie.After-admit-arg3 → tie.After-telegram-in
+telegram-read c = c .before .before .before
+
 -- where the reception is admitted
 abbrev admitted : tie.After-relay-kept → tie.After-admit
 admitted c = c .before .before .before
 
 abbrev start : tie.After-relay-kept → tie.Start
-start c = admitted c .before .before .before .before .before .before .before .before
+start c = entry (telegram-read (admitted c .before .before))
 
 put-reply-requires : tie.Need-put-reply-requires
 put-reply-requires c κs =
@@ -22,7 +29,7 @@ returns c =
     let p = c .before .before in
     let k = p .before .before .before in
     let a = admitted k in
-    let t = a .before .before .before .before .before in
+    let t = telegram-read (a .before .before) in
     let s = start k in
     answered (s .args .setting) _ (s .pre .2) (now (s .args .frame)) (s .pre .0)
     (s .args .time) _ _ _ (t .telegram-in .ensures) _ (a .admit .ensures .outcome)
