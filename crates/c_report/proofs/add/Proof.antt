@@ -12,8 +12,12 @@ use Rattle.c_report.specs.Calls.{reportAt, reportNumbers}
 use Rattle.c_report.proofs.add.Statement.{statement}
 use Rattle.c_report.proofs.add.Tie as tie
 
+-- states on the way, each three steps back
+abbrev entry : tie.After-report-in-arg2 → tie.Start
+entry c = c .before .before .before
+
 abbrev start : tie.After-add → tie.Start
-start c = c .before .before .before .before .before
+start c = entry (c .before .before)
 
 abbrev report : tie.After-add → model.Report
 report c = reportAt (now (start c .args .numbers)) (now (start c .args .lines))
