@@ -1,7 +1,10 @@
 // CRC-8 with the generator x^8 + x^2 + x + 1, from 0 and with no final XOR: the hash of ERP1 (source document 001, 3.3.3).
 ghost use mathlib.Core.Path.{_≡_};
 ghost use mathlib.Core.Bool.{true};
+ghost use Prim.Native.Nat.{_+_, _-_, _*_, _/_, _^_, _<_, _≤_};
+ghost use lib.ListN.{length, take, drop};
 ghost use Rattle.base_crc8.specs.Crc8.{isTable, stepOf, crcOf};
+ghost use Rattle.base_crc8.specs.Words.{AreBytes, valueOf, joinOf, foldedOf, halvedOf, shorterOf, wordRemainder};
 
 // The remainder of each byte times x^8.
 const TABLE: [u8; 256] = [
@@ -263,8 +266,100 @@ const TABLE: [u8; 256] = [
     243,
 ];
 
-// The CRC of all of `bytes`; of none it is 0. The table is named once: a constant array is built anew wherever it is named.
+// The CRC of all of `bytes`; of none it is 0. Of 8 to 16 bytes it is made of two words, without a table and without a loop.
 pub fn crc8(bytes: &[u8]) -> u8
+    ensures { λ r. ⌜ r ≡ crcOf (now (bytes .entry)) ⌝ }
+{
+    let n = bytes.len();
+    if n < 8 {
+        return each(bytes);
+    }
+    if 16 < n {
+        return each(bytes);
+    }
+    let last = n - 8;
+    let high = begun(word(bytes, 0), last);
+    let low = word(bytes, last);
+    remainder(folded(high, low))
+}
+
+// What the first n bytes of a word are.
+fn begun(word: u64, n: usize) -> u64
+    requires { ⌜ n ≤ 8 ⌝ }
+    ensures { λ r. ⌜ r ≡ word / 2 ^ (32 - 4 * n) / 2 ^ (32 - 4 * n) ⌝ }
+{
+    let half = 32 - 4 * n;
+    let part = word >> half;
+    part >> half
+}
+
+// Two words as one: x^32 is x^4 + x^2 + x.
+fn folded(high: u64, low: u64) -> u64
+    ensures { λ r. ⌜ r ≡ foldedOf high low ⌝ }
+{
+    let a = join(high / 4_294_967_296, high % 4_294_967_296);
+    let b = join(a, low / 4_294_967_296);
+    join(b, low % 4_294_967_296)
+}
+
+fn join(a: u64, w: u64) -> u64
+    ensures { λ r. ⌜ r ≡ joinOf a w ⌝ }
+{
+    ((a << 1) ^ (a << 2)) ^ ((a << 4) ^ w)
+}
+
+// The remainder of a word times x^8: x^16 is x^4 + x^2 + 1, and x^8 is x^2 + x + 1.
+fn remainder(v: u64) -> u8
+    ensures { λ r. ⌜ r ≡ wordRemainder v ⌝ }
+{
+    let b = join(v / 4_294_967_296, v % 4_294_967_296);
+    let c = halved(b);
+    let d = shorter(shorter(c));
+    let e = shorter((d ^ (d << 1)) ^ (d << 2));
+    (e % 256) as u8
+}
+
+fn halved(v: u64) -> u64
+    ensures { λ r. ⌜ r ≡ halvedOf v ⌝ }
+{
+    let h = v / 65_536;
+    (h ^ (h << 2)) ^ ((h << 4) ^ (v % 65_536))
+}
+
+fn shorter(v: u64) -> u64
+    ensures { λ r. ⌜ r ≡ shorterOf v ⌝ }
+{
+    let h = v / 256;
+    (h ^ (h << 1)) ^ ((h << 2) ^ (v % 256))
+}
+
+// Eight bytes as a number, the first of them the highest.
+fn word(b: &[u8], from: usize) -> u64
+    requires { ⌜ from + 8 ≤ length (now b) ⌝ }
+    ensures { λ r. ⌜ (r ≡ valueOf (take 8 (drop from (now (b .entry))))) × AreBytes (now (b .entry)) ⌝ }
+{
+    quad(b, from) * 4_294_967_296 + quad(b, from + 4)
+}
+
+fn quad(b: &[u8], from: usize) -> u64
+    requires { ⌜ from + 4 ≤ length (now b) ⌝ }
+    ensures { λ r. ⌜ (r ≡ valueOf (take 4 (drop from (now (b .entry))))) × (r < 2 ^ 32) × AreBytes (now (b .entry)) ⌝ }
+{
+    let b0 = wide(b[from]);
+    let b1 = wide(b[from + 1]);
+    let b2 = wide(b[from + 2]);
+    let b3 = wide(b[from + 3]);
+    b0 * 16_777_216 + (b1 * 65_536 + (b2 * 256 + b3))
+}
+
+fn wide(b: u8) -> u64
+    ensures { λ r. ⌜ (r ≡ b) × (r < 256) ⌝ }
+{
+    b as u64
+}
+
+// One byte after the other. The table is named once: a constant array is built anew wherever it is named.
+fn each(bytes: &[u8]) -> u8
     ensures { λ r. ⌜ r ≡ crcOf (now (bytes .entry)) ⌝ }
 {
     let table = TABLE;

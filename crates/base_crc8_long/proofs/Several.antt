@@ -1,5 +1,4 @@
 -- Several bytes at once.
---     power-xor      the remainder of a sum times x^(8 n) is the sum of the remainders
 --     crc-at         a byte, looked up by itself, and those after it
 --     eight-is       eight bytes, each looked up by itself
 --     crc-part       a part, and what follows it
@@ -11,34 +10,12 @@ use lib.Bits.{bitXor, xor-zero-r}
 use lib.ListN.{length, getD, drop, length-drop, drop-of-length-le}
 use lib.Seq.{drop-cons}
 use Rattle.base_crc8.specs.Crc8.{remainderOf, stepOf, crcFrom}
-use Rattle.base_crc8_long.specs.Tables.{powerOf}
-use Rattle.base_crc8_long.proofs.Linear.{xor-assoc, remainder-xor}
-
-pub power-xor : (n a b : ℕ) → powerOf n (bitXor a b) ≡ bitXor (powerOf n a) (powerOf n b)
-unfolding powerOf
-power-xor zero a b = refl
-power-xor (suc n) a b = ap (powerOf n) (remainder-xor a b) ∙ power-xor n (remainderOf a) (remainderOf b)
+use Rattle.base_crc8.specs.Words.{powerOf}
+use Rattle.base_crc8.proofs.Words.{crc-linear}
 
 power-suc : (n b : ℕ) → powerOf (suc n) b ≡ powerOf n (remainderOf b)
 unfolding powerOf
 power-suc n b = refl
-
-power-zero : (b : ℕ) → powerOf 0 b ≡ b
-unfolding powerOf
-power-zero b = refl
-
--- what a CRC adds to those of the bytes that follow
-crc-linear : (c : ℕ) (bs : List ℕ) → crcFrom c bs ≡ bitXor (powerOf (length bs) c) (crcFrom 0 bs)
-unfolding stepOf
-crc-linear c [] = sym (power-zero c) ∙ sym (xor-zero-r (powerOf 0 c))
-crc-linear c (b ∷ bs) =
-    let n = length bs in
-    crc-linear (stepOf c b) bs
-    ∙ ap (λ (x : ℕ). bitXor x (crcFrom 0 bs))
-    (ap (powerOf n) (remainder-xor c b) ∙ power-xor n (remainderOf c) (remainderOf b)
-    ∙ ap (λ (x : ℕ). bitXor x (powerOf n (remainderOf b))) (sym (power-suc n c)))
-    ∙ xor-assoc (powerOf (suc n) c) (powerOf n (remainderOf b)) (crcFrom 0 bs)
-    ∙ ap (bitXor (powerOf (suc n) c)) (sym (crc-linear (stepOf 0 b) bs))
 
 pub crc-at : (c : ℕ) (bs : List ℕ) (i n : ℕ) → i + suc n ≡ length bs
     → crcFrom c (drop i bs) ≡ bitXor (powerOf (suc n) (bitXor c (getD bs i 0))) (crcFrom 0 (drop (suc i) bs))

@@ -16,7 +16,8 @@ use Rattle.base_lists.proofs.Equal.{equal-eq}
 use Rattle.base_lists.proofs.Tests.{getD-map}
 use Rattle.base_lists.proofs.UpFrom.{length-upFrom, getD-upFrom}
 use Rattle.base_crc8.specs.Crc8.{remainderOf}
-use Rattle.base_crc8_long.specs.Tables.{powerOf, isTables}
+use Rattle.base_crc8.specs.Words.{powerOf}
+use Rattle.base_crc8_long.specs.Tables.{isTables}
 
 -- one division further, before or after the others
 power-more : (n b : ℕ) → remainderOf (powerOf n b) ≡ powerOf (suc n) b

@@ -7,11 +7,6 @@ use lib.ListN.{length, take}
 use Rattle.base_lists.specs.Lists.{equal, upFrom}
 use Rattle.base_crc8.specs.Crc8.{remainderOf}
 
--- the remainder of a byte times x^(8 n): n bytes of zeros after it
-unfoldable pub powerOf : ℕ → ℕ → ℕ
-powerOf zero b = b
-powerOf (suc n) b = powerOf n (remainderOf b)
-
 -- eight tables one behind the other: each of the first 256 entries is the remainder of its index, each later one that of the entry 256 before it
 unfoldable pub isTables : List ℕ → Bool
 isTables tables = eqb (length tables) 2048 && equal tables (map remainderOf (upFrom 0 256 ++ take 1792 tables))

@@ -4,7 +4,8 @@ ghost use mathlib.Core.Bool.{true};
 ghost use Prim.Native.Nat.{_+_, _<_};
 ghost use lib.ListN.{length};
 ghost use Rattle.base_crc8.specs.Crc8.{crcFrom, crcOf};
-ghost use Rattle.base_crc8_long.specs.Tables.{powerOf, isTables};
+ghost use Rattle.base_crc8.specs.Words.{powerOf};
+ghost use Rattle.base_crc8_long.specs.Tables.{isTables};
 
 // Eight tables, one behind the other: entry 256 j + b is the remainder of b times x^(8 (j + 1)).
 const TABLES: [u8; 2048] = [

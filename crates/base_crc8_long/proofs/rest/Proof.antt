@@ -11,7 +11,7 @@ use lib.Bits.{bitXor}
 use lib.ListN.{length, drop, getD, drop-of-length-le}
 use lib.Seq.{drop-cons}
 use Rattle.base_crc8.specs.Crc8.{stepOf, crcFrom}
-use Rattle.base_crc8_long.specs.Tables.{powerOf}
+use Rattle.base_crc8.specs.Words.{powerOf}
 use Rattle.base_crc8_long.proofs.rest.Statement.{statement}
 use Rattle.base_crc8_long.proofs.rest.Tie as tie
 

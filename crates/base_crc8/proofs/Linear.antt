@@ -1,4 +1,4 @@
--- The remainder is linear: that of a sum is the sum of the remainders. So several bytes can be taken at once, each through a table of its own.
+-- The remainder is linear: that of a sum is the sum of the remainders. So several bytes can be taken at once.
 --     xor-assoc, xor-middle     the sum of polynomials
 --     remainder-xor             linearity
 use mathlib.Core.Path.{_≡_, refl, sym, ap, ap₂, _∙_}
@@ -33,8 +33,8 @@ xor-assoc a = bin-ind (λ (a : ℕ). (b c : ℕ) → bitXor (bitXor a b) c ≡ b
     more a ih b c =
         xor-step (bitXor a b) c
         ∙ ap₂ (λ (x y : ℕ). x * 2 + y)
-        (ap (λ (x : ℕ). bitXor x (c / 2)) (xor-shr a b 1)
-        ∙ ih (b / 2) (c / 2) ∙ ap (bitXor (a / 2)) (sym (xor-shr b c 1)))
+        (ap (λ (x : ℕ). bitXor x (c / 2)) (xor-shr a b 1) ∙ ih (b / 2) (c / 2)
+        ∙ ap (bitXor (a / 2)) (sym (xor-shr b c 1)))
         (ap (λ (x : ℕ). differ x (c % 2)) (xor-mod a b 1)
         ∙ bits-assoc (a % 2) (b % 2) (c % 2) (omega arith) (omega arith) (omega arith)
         ∙ ap (differ (a % 2)) (sym (xor-mod b c 1)))
@@ -58,7 +58,7 @@ terms-xor (suc zero) (suc (suc y)) m h k = absurd (omega arith)
 terms-xor (suc (suc x)) y m h k = absurd (omega arith)
 
 -- a shift of both
-shift : (x y k : ℕ) → bitXor x y * 2 ^ k ≡ bitXor (x * 2 ^ k) (y * 2 ^ k)
+pub shift : (x y k : ℕ) → bitXor x y * 2 ^ k ≡ bitXor (x * 2 ^ k) (y * 2 ^ k)
 shift x y k =
     sym (add-zero (bitXor x y * 2 ^ k)) ∙ sym (xor-block k x y 0 0 (pow-pos k) (pow-pos k))
     ∙ ap₂ bitXor (add-zero (x * 2 ^ k)) (add-zero (y * 2 ^ k))

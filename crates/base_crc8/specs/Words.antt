@@ -1,0 +1,52 @@
+-- The CRC of several bytes at once, in words and by tables: what private functions say. The contract is `crc8`'s.
+use Prim.Native.Nat.{ℕ, zero, suc, _+_, _*_, _/_, _%_, _^_, _<_}
+use mathlib.Core.List.{List, [], _∷_}
+use lib.Bits.{bitXor}
+use lib.ListN.{length, getD}
+use Rattle.base_crc8.specs.Crc8.{remainderOf}
+
+-- the remainder of a byte times x^(8 n): n bytes of zeros after it
+unfoldable pub powerOf : ℕ → ℕ → ℕ
+powerOf zero b = b
+powerOf (suc n) b = powerOf n (remainderOf b)
+
+-- each element has eight bits
+abbrev pub AreBytes : List ℕ → Type 0
+AreBytes bs = (i : ℕ) → getD bs i 0 < 256
+
+-- bytes as a number, the first of them the highest
+unfoldable pub valueOf : List ℕ → ℕ
+valueOf [] = 0
+valueOf (b ∷ bs) = b * 2 ^ (8 * length bs) + valueOf bs
+
+-- a word shifted, as far as 64 bits go
+abbrev pub shl : ℕ → ℕ → ℕ
+shl k v = v * 2 ^ k % 2 ^ 64
+
+-- a times x^32, plus w: x^32 leaves x^4 + x^2 + x
+unfoldable pub joinOf : ℕ → ℕ → ℕ
+joinOf a w = bitXor (bitXor (shl 1 a) (shl 2 a)) (bitXor (shl 4 a) w)
+
+-- two words as one
+unfoldable pub foldedOf : ℕ → ℕ → ℕ
+foldedOf high low =
+    joinOf (joinOf (joinOf (high / 2 ^ 32) (high % 2 ^ 32)) (low / 2 ^ 32)) (low % 2 ^ 32)
+
+-- x^16 leaves x^4 + x^2 + 1
+unfoldable pub halvedOf : ℕ → ℕ
+halvedOf v =
+    bitXor (bitXor (v / 2 ^ 16) (shl 2 (v / 2 ^ 16))) (bitXor (shl 4 (v / 2 ^ 16)) (v % 2 ^ 16))
+
+-- x^8 leaves x^2 + x + 1
+unfoldable pub shorterOf : ℕ → ℕ
+shorterOf v =
+    bitXor (bitXor (v / 2 ^ 8) (shl 1 (v / 2 ^ 8))) (bitXor (shl 2 (v / 2 ^ 8)) (v % 2 ^ 8))
+
+-- a word times x^8
+unfoldable pub moreOf : ℕ → ℕ
+moreOf v = bitXor (bitXor v (shl 1 v)) (shl 2 v)
+
+-- the remainder of a word times x^8
+unfoldable pub wordRemainder : ℕ → ℕ
+wordRemainder v =
+    shorterOf (moreOf (shorterOf (shorterOf (halvedOf (joinOf (v / 2 ^ 32) (v % 2 ^ 32)))))) % 2 ^ 8
