@@ -9,6 +9,8 @@ use Rattle.base_buffers.specs.Buffer.{part}
 use Rattle.radio_telegram.specs.Frame.{frameOf}
 use Rattle.radio_telegram.specs.Fields.{fieldsOf}
 use Rattle.radio_erp2_model.specs.Reading.{readOf}
+use Rattle.plan_site.specs.declared.Assignment.{Assignment}
+use Rattle.plan_site.specs.Bytes.{assignmentOf}
 use Rattle.collector_model.specs.Answer.{Kept, Copy, Loose, Refused}
 use Rattle.collector_model.specs.View.{View}
 use Rattle.collector_model.specs.Image.{imageOf}
@@ -36,6 +38,10 @@ sample = record {
 -- the bytes at these places
 abbrev pub bytesAt : List ℕ → List ℕ → List ℕ
 bytesAt places bytes = map (λ (i : ℕ). getD bytes i 0) places
+
+-- rule, level, duration, and the slots in order
+abbrev pub shownAssignment : Assignment → List ℕ
+shownAssignment a = a .rule ∷ a .level ∷ a .duration ∷ a .slots .first ∷ a .slots .second ∷ a .slots .third ∷ []
 
 abbrev pub layouts : List Case
 layouts =
@@ -94,6 +100,11 @@ layouts =
     ∷ record {
       got = rowBytes (record { bytes = oneByte; time = 5; loose = true });
       want = (1 ∷ 8 ∷ []) ++ oneByte ++ replicate 13 0;
+    }
+    -- mooringeye_repeater: rule, level, duration, slots
+    ∷ record {
+      got = shownAssignment (assignmentOf (1 ∷ 2 ∷ 3 ∷ 4 ∷ 5 ∷ 6 ∷ 7 ∷ 8 ∷ 9 ∷ []));
+      want = 1 ∷ 2 ∷ 0x03040506 ∷ 7 ∷ 8 ∷ 9 ∷ [];
     }
     -- a scan: blocks, rows, stage, position
     ∷ record { got = scanNumbers (record { blocks = 7; rows = 90; stage = archive.Wrong 6 }); want = 7 ∷ 90 ∷ 3 ∷ 6 ∷ [] }
