@@ -4,7 +4,7 @@ use crate::failure::Failure;
 use crate::signals::{self, Signals, Waited};
 use crate::sys;
 use std::fs::{File, Metadata};
-use std::io::{self, ErrorKind, Read, Write};
+use std::io::{self, ErrorKind, IsTerminal, Read, Write};
 use std::os::fd::AsFd;
 use std::os::unix::fs::FileTypeExt;
 use std::time::{Duration, Instant};
@@ -69,7 +69,7 @@ impl Output {
             sys::was_open(1)?;
             let file = File::from(io::stdout().as_fd().try_clone_to_owned()?);
             let kind = file.metadata()?.file_type();
-            Ok(Output { may_block: kind.is_fifo() || kind.is_socket() || kind.is_char_device(), file })
+            Ok(Output { may_block: kind.is_fifo() || kind.is_socket() || file.is_terminal(), file })
         };
         open().map_err(cannot_write)
     }
