@@ -207,8 +207,9 @@ static inline uint8_t mooringeye_answer_kind(uint16_t answer) {
 
 /* A collector, changed in place. Of each open telegram, in opening order: when it was opened, how often it was heard
  * again, its length, and its bytes, 21 each; elements after the open ones mean nothing. The numbers: telegrams open,
- * latest time, received, kept, copies, loose, damaged, late. Every call answers 11 to a state that no receptions and no
- * accepted image give, and does not change it. The struct may be copied. */
+ * latest time, received, kept, copies, loose, damaged, late. Every call but mooringeye_collector_fresh and
+ * mooringeye_collector_take_tested answers 11 to a state that no receptions and no accepted image give, and does not
+ * change it. The struct may be copied. */
 typedef struct mooringeye_collector {
     uint64_t times[MOORINGEYE_CAPACITY];
     uint64_t numbers[MOORINGEYE_COLLECTOR_NUMBERS];

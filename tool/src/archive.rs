@@ -80,7 +80,7 @@ pub fn verify(args: &Args) -> Result<(), Failure> {
 }
 
 pub fn identities<'a>(words: impl Iterator<Item = &'a OsStr>) -> Result<Vec<u32>, Failure> {
-    words.map(|word| parsed(word, "--txid", "eight hexadecimal digits", text::identity)).collect()
+    words.map(|word| parsed(word, "the ID of a transmitter", "eight hexadecimal digits", text::identity)).collect()
 }
 
 /// A row as `list` prints it as text.

@@ -423,7 +423,7 @@ impl Run {
     fn take_first(&mut self, text: &[u8]) -> Result<usize, Failure> {
         let first = FirstLine::of(text);
         if self.is_first && text::is_packed(text) {
-            tell(format!("{} looks packed. Unpack it, as in `zcat FILE | mooringeye collect ..`.", self.source.name()));
+            tell(format!("{} looks packed. Unpack it first; for gzip, by `zcat FILE | mooringeye collect ..`.", self.source.name()));
         }
         self.is_first = first == FirstLine::Unended && text.len() < LINE_LIMIT;
         match (first, self.level) {

@@ -254,12 +254,12 @@ impl<'a> Pieces<'a> {
     }
 }
 
-/// What a scan of all pieces says. Two threads share each long piece.
+/// What a scan of all pieces says. Two threads share each long piece but the first.
 pub fn scan(mut pieces: Pieces) -> Result<Scan, Failure> {
     let mut scan = Scan::new();
     let path = pieces.path;
     while let Some(piece) = pieces.next()? {
-        let fed = if piece.len() == PIECE { scan_by_two(scan, piece) } else { scan.feed(piece).map(|()| scan) };
+        let fed = if piece.len() == PIECE && scan.blocks() > 0 { scan_by_two(scan, piece) } else { scan.feed(piece).map(|()| scan) };
         scan = fed.map_err(|why| Failure::refused(path.display(), why))?;
     }
     Ok(scan)

@@ -227,6 +227,7 @@ impl Keeper {
     fn renew_out(&mut self) -> Result<(), Failure> {
         let Some(out) = &self.out else { return Ok(()) };
         let new = out.again()?;
+        check_format(&new, self.format)?;
         if let Some(file) = &self.file {
             file.write(&State { out: Some(new.place()), ..self.saved.clone() })?;
         }
@@ -268,17 +269,17 @@ impl Keeper {
 
 /// Refuses to put rows behind those of another format.
 fn check_format(out: &Out, format: Format) -> Result<(), Failure> {
-    let has = match () {
-        () if out.is_empty() => format,
-        () if out.starts_with(b"{")? => Format::Json,
-        () if out.starts_with(Format::Csv.heading().as_bytes())? => Format::Csv,
-        () => Format::Text,
+    let (is_json, is_csv) = (out.starts_with(b"{")?, out.starts_with(Format::Csv.heading().as_bytes())?);
+    let fits = match format {
+        Format::Json => is_json,
+        Format::Csv => is_csv,
+        Format::Text => !is_json && !is_csv,
     };
-    let [has, asked] = [has, format].map(|format| format!("{format:?}").to_lowercase());
-    match has == asked {
-        true => Ok(()),
-        false => Err(Failure::Usage(format!("{} has rows as {has}, but --rows says {asked}. Name another file.", out.path().display()))),
+    if out.is_empty() || fits {
+        return Ok(());
     }
+    let (path, asked) = (out.path().display(), format!("{format:?}").to_lowercase());
+    Err(Failure::Usage(format!("{path} does not start as a file of `--rows {asked}` does. Name another file.")))
 }
 
 /// A row as a line of a log.

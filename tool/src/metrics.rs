@@ -28,7 +28,10 @@ impl Metrics {
     pub fn write(&mut self, state: &State) {
         let Some(path) = &self.path else { return };
         let beside = with_suffix(path, ".new");
-        let readable = |()| fs::set_permissions(&beside, Permissions::from_mode(MODE));
+        let readable = |()| match fs::metadata(&beside)?.permissions().mode() & 0o777 {
+            MODE => Ok(()),
+            _ => fs::set_permissions(&beside, Permissions::from_mode(MODE)),
+        };
         let written = fs::write(&beside, text(state)).and_then(readable).and_then(|()| fs::rename(&beside, path));
         if let (Err(error), false) = (&written, self.told) {
             tell(format!("cannot write the metrics {}: {error}. The collector continues without them.", path.display()));

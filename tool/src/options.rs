@@ -97,7 +97,7 @@ pub const COMMANDS: &[Command] = &[
             words("level", "N", &["0", "1", "2"], "the repeater setting; not needed if the first line is `level N`"),
             file("state", "continues from this state and keeps it up to date; starts a new collector if there is none"),
             file("archive", "KEPT and LOOSE rows go to this archive; ### in its name is replaced by the number of the file"),
-            text("blocks", "N", "with ### in its name: a new file begins when one has N blocks of 15 rows"),
+            text("blocks", "N", "with ### in the name of the archive: a new file begins when one has N blocks of 15 rows"),
             file("log", "reads this log from the state's position on, and rotated ones (FILE.1, FILE-20260117) before it"),
             plain("follow", "with --log: waits for more lines at its end, also after it was rotated by rename"),
             plain("replay", "standard input is the whole log from its first line: lines that the state has taken are skipped"),

@@ -188,7 +188,7 @@ impl<'a> Reader<'a> {
     /// The first line of a log, where it says a level: how long it is.
     fn begin(&mut self, path: &Path, text: &[u8]) -> Result<usize, Failure> {
         match (FirstLine::of(text), self.level) {
-            _ if text::is_packed(text) => Err(Failure::Failed(format!("{0}: packed. Write <(zcat {0}).", path.display()))),
+            _ if text::is_packed(text) => Err(Failure::Failed(format!("{0}: packed. Unpack it first; for gzip, write <(zcat {0}).", path.display()))),
             (FirstLine::Level { setting, .. }, Some(level)) if setting != level => {
                 Err(Failure::Usage(format!("the first line of {} says level {setting}, but the level is {level}", path.display())))
             }

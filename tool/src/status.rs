@@ -28,7 +28,8 @@ fn read(path: &Path) -> Result<State, Failure> {
     let cannot = |e| Failure::of(format!("read {}", path.display()), &e);
     let mut bytes = Vec::new();
     let file = File::open(path).map_err(cannot)?;
-    let length = file.metadata().map_err(cannot)?.len();
+    let about = file.metadata().map_err(cannot)?;
+    let length = if about.is_file() { about.len().to_string() } else { format!("more than {LENGTH}") };
     file.take(LENGTH as u64 + 1).read_to_end(&mut bytes).map_err(cannot)?;
     let damaged = |why| Failure::Damaged(format!("{}: damaged: {why}. The file was not changed.", path.display()));
     match bytes.len() > LENGTH {

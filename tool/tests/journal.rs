@@ -459,7 +459,7 @@ fn an_out_file_of_another_format() {
         let words = |rows: &str| format!("collect --state {format}.state --out {format}.rows --rows {rows}");
         run(&words(format), &dir, &sample()).with(0);
         let before = fs::read(dir.join(format!("{format}.rows"))).unwrap();
-        let text = format!("{format}.rows has rows as {format}, but --rows says {other}. Name another file.");
+        let text = format!("{format}.rows does not start as a file of `--rows {other}` does. Name another file.");
         run(&words(other), &dir, b"level 1\n70000 D5080583A1C000C6\n").with(2).says(&text);
         assert_eq!(fs::read(dir.join(format!("{format}.rows"))).unwrap(), before);
         run(&words(format), &dir, b"level 1\n70000 D5080583A1C000C6\n").with(0);

@@ -128,11 +128,11 @@ fn what_is_not_drawn_is_told() {
     says("picture none --level 1", "the picture is empty: the logs have no reception");
     fs::write(dir.join("log.gz"), b"\x1f\x8b\x08\x00rest\n").unwrap();
     for level in ["", "--level 1"] {
-        run(&format!("picture log.gz {level}"), &dir, b"").with(1).says("log.gz: packed. Write <(zcat log.gz).");
+        run(&format!("picture log.gz {level}"), &dir, b"").with(1).says("log.gz: packed. Unpack it first; for gzip, write <(zcat log.gz).");
     }
-    run("collect --log log.gz", &dir, b"").with(2).says("log.gz looks packed. Unpack it, as in `zcat FILE | mooringeye collect ..`.");
+    run("collect --log log.gz", &dir, b"").with(2).says("log.gz looks packed. Unpack it first; for gzip, by `zcat FILE | mooringeye collect ..`.");
     run("picture log --from 2000 --to 1000", &dir, b"").with(2).says("--from 1970-01-01T00:00:02.000Z is after --to 1970-01-01T00:00:01.000Z.");
-    run("archive list a --txid 583A1C0", &dir, b"").with(2).says("--txid: 583A1C0 is wrong. Write eight hexadecimal digits.");
+    run("archive list a --txid 583A1C0", &dir, b"").with(2).says("the ID of a transmitter: 583A1C0 is wrong. Write eight hexadecimal digits.");
 }
 
 /// The answers of a log's lines in a span, as `picture` names them, by `collect`; and its BAD lines.
