@@ -1,4 +1,4 @@
--- Where values lie: one value of each kind, worked out by hand from docs/FORMATS.md and include/mooringeye.h. A law that reader and writer undo each
+-- Where values lie: a value of each of twelve kinds, and a checkpoint, worked out by hand from docs/FORMATS.md and include/mooringeye.h. A law that reader and writer undo each
 -- other would hold of another layout too.
 use Prim.Native.Nat.{ℕ, _<_}
 use mathlib.Core.Path.{_≡_}
@@ -74,6 +74,13 @@ layouts =
           ++ part 261 3 (erp2.fieldsBytes (readOf everyField .telegram));
       want = 0 ∷ 2 ∷ 1 ∷ 15 ∷ 1 ∷ 1 ∷ 2 ∷ 1 ∷ 0x32 ∷ 1 ∷ 1 ∷ 0xAA ∷ 0xBB ∷ 0xCC ∷ 0 ∷ [];
     }
+    -- the same of a telegram with a destination and no extension
+    ∷ record {
+      got =
+          take 12 (erp2.fieldsBytes
+          (readOf (0x0B ∷ 0x43 ∷ 1 ∷ 2 ∷ 3 ∷ 4 ∷ 0xF1 ∷ 0xF2 ∷ 0xF3 ∷ 0xF4 ∷ 0xAA ∷ 0xE9 ∷ []) .telegram));
+      want = 0 ∷ 2 ∷ 0 ∷ 3 ∷ 0 ∷ 0 ∷ 0 ∷ 0 ∷ 0 ∷ 1 ∷ 1 ∷ 0xAA ∷ [];
+    }
     -- the eight numbers of mooringeye_collector: open telegrams, latest time, received, kept, copies, loose, damaged, late
     ∷ record { got = numbersOf sample; want = 1 ∷ 11 ∷ 12 ∷ 13 ∷ 14 ∷ 15 ∷ 16 ∷ 17 ∷ [] }
     -- what mooringeye_take answers: MOORINGEYE_KEPT, MOORINGEYE_COPY, MOORINGEYE_LOOSE, a refusal
@@ -121,12 +128,12 @@ layouts =
       got =
           tallyNumbers (record {
             lines = [];
-            kept = 2;
-            loose = 3;
+            kept = 4;
+            loose = 5;
             over = true;
-            scan = record { blocks = 7; rows = 99; stage = archive.Short };
+            scan = record { blocks = 7; rows = 90; stage = archive.Wrong 6 };
           });
-      want = 7 ∷ 99 ∷ 1 ∷ 0 ∷ 0 ∷ 2 ∷ 3 ∷ 1 ∷ [];
+      want = 7 ∷ 90 ∷ 3 ∷ 6 ∷ 0 ∷ 4 ∷ 5 ∷ 1 ∷ [];
     }
     ∷ []
 

@@ -53,7 +53,7 @@ RestartsCover = OfBoth Covers
 
 -- ---- one call
 
--- a call that left room for a further row
+-- a call that left room for the row and the text of a further line
 pub record HasRoom (longest : ℕ) (c : Call) : Type 0 where
   pub rows : getD (c .done') 2 0 < length (c .moments)
   pub text : getD (c .done') 1 0 + longest ≤ length (c .out)
@@ -75,7 +75,7 @@ pub record Alike (c d : Call) : Type 0 where
   pub rows : length (c .moments) ≡ length (d .moments)
   pub closings : length (c .closed) ≡ length (d .closed)
 
--- They take the same lines, so that what they are lent decides where they stop
+-- They take the same lines: with the setting and the format, what they are lent decides where they stop
 abbrev pub TakenAlike : (Call → Type 0) → Type 0
 TakenAlike Is = (c d : Call) → Is c → Is d → Alike c d → getD (c .done') 0 0 ≡ getD (d .done') 0 0
 

@@ -71,8 +71,8 @@ pub record OfBoth (Claim : (Call → Type 0) → Type 0) : Type 0 where
   pub lines : (setting : ℕ) → Claim (Takes setting)
   pub linesAs : (setting format : ℕ) → Claim (TakesAs setting format)
 
--- the second arrays go on where the first stopped: they are the same, or a checkpoint was written and restored, into arrays that held anything, and this
--- any number of times (document 01, "Parked collector")
+-- the second arrays go on where the first stopped: they are the same, or a checkpoint was written and restored into arrays with any acceptable state, and
+-- this any number of times (document 01, "Parked collector")
 pub data GoesOn : Arrays → Arrays → Type 0 where
   same : {a : Arrays} → GoesOn a a
   restarted : {a b c d : Arrays} (out : List ℕ) {out' : List ℕ}

@@ -26,7 +26,7 @@ unfoldable pub putOf : (block : List ℕ) (n : ℕ) (times records : List ℕ) �
 putOf block n times records =
     let a : Appended = putRowsGiven block n times records in record { number = a .number; block = a .buffer }
 
--- where they go: into a blank block, where the last one is full, or behind the rows of the last one; none change nothing
+-- where they go: into a blank block, where the last one is full, or behind the rows of the last one; no rows change nothing
 unfoldable pub filledOf : (last : List ℕ) (n : ℕ) (times records : List ℕ) → Filled
 filledOf last n times records =
     cond (eqb (length times) 0) (record { number = 0; block = last })
@@ -45,7 +45,7 @@ pub record Commit : Type 0 where
 abbrev pub isNew : (times records moments left : List ℕ) → Bool
 isNew times records moments left = ltb (compareCall times records moments left 0 0 .agreed) (length times)
 
--- 16; 12 where leftovers are to be put aside first; the number of the block; 6 where the archive has no such block; 11
+-- 16; 12 where leftovers are to be put aside first; the number of `put_rows`; 6 where the archive has no such block; 11
 unfoldable pub commitOf : (n : ℕ) (times records moments left : List ℕ) (next : List ℕ → Kept)
     (last file state : List ℕ) → Commit
 commitOf n times records moments left next last file state =

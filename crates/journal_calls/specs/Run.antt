@@ -56,7 +56,8 @@ isDense ended blocks rows =
     leb rows (cellsPerBlock * blocks)
     && cond ended (ltb (cellsPerBlock * blocks) (rows + cellsPerBlock)) (leb (cellsPerBlock * blocks) rows)
 
--- numbers that some blocks give: at most 2^32 blocks in a file, in which the next one stands, and passed
+-- numbers that some blocks give: at most 2^32 blocks in a file, the next one among them, at most 2^32 blocks passed, and the
+-- rows that these have
 unfoldable pub isRun : Run → Bool
 isRun r =
     leb (r .limit) maxBlocks

@@ -11,7 +11,7 @@ use borrow.Author.Tests.{eqb-true, eqb-false, eq-eqb, ne-eqb}
 use Rattle.base_lists.proofs.Tests.{by-test}
 use Rattle.base_buffers.proofs.Segments.{take-clamped}
 use Rattle.text_rows.specs.Formats.{headingIn}
-use Rattle.journal_model.specs.Out.{Out, OutEvent, Print, Stop, OutLeft, early, late, textOf, nextOf, batchText, printed, cutOut, outRun, IsOutRun, topOf, EachOnce, OnceInFile, textBy, OnceInFormat}
+use Rattle.journal_model.specs.Out.{Out, OutEvent, Print, Stop, OutLeft, early, late, textOf, nextOf, batchText, printed, cutOut, outRun, IsOutRun, topOf, EachOnce, OnceInFile, rowBehind, FirstLineSilent, OnceInFormat}
 
 no-bytes : (xs : List ℕ) → length xs ≡ 0 → xs ≡ []
 no-bytes [] e = refl
@@ -169,4 +169,7 @@ once-in-file text heading log old es may =
     may
 
 pub once-in-format : OnceInFormat
-once-in-format f setting log old es may = once-in-file (textBy f setting) (headingIn f) log old es may
+once-in-format f setting log old es may = once-in-file (rowBehind f setting) (headingIn f) log old es may
+
+pub first-line-silent : FirstLineSilent
+first-line-silent f setting level l e = rw e refl

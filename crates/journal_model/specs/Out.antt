@@ -7,7 +7,8 @@ use mathlib.Core.List.{List, [], _∷_, _++_}
 use lib.Dec.{eqb}
 use lib.ListN.{length, take, drop}
 use Rattle.collector_model.specs.Reference.{logOf, modelView}
-use Rattle.text_lines.specs.Reading.{lineReading}
+use Rattle.text_lines.specs.declared.Setting.{Setting}
+use Rattle.text_lines.specs.Reading.{lineReading, settingOf}
 use Rattle.text_rows.specs.declared.formats.Format.{Format}
 use Rattle.text_rows.specs.Formats.{headingIn}
 use Rattle.text_collect.specs.Printed.{pastAfterLines}
@@ -98,16 +99,27 @@ OnceInFile =
 
 -- ---- the formats
 
+-- a first line prints nothing where it says a level, and else what any line prints
+abbrev pub unlessLevel : Setting → List ℕ → List ℕ
+unlessLevel (Setting.Level n) row = []
+unlessLevel Setting.Bad row = row
+
 -- what a line prints behind others in a format, by the reference model
-abbrev pub textBy : Format → (setting : ℕ) → List (List ℕ) → List ℕ → List ℕ
-textBy f setting before l =
+abbrev pub rowBehind : Format → (setting : ℕ) → List (List ℕ) → List ℕ → List ℕ
+rowBehind f setting before l =
     let view = modelView (logOf (pastAfterLines [] before)) in
-    lineIn f (record { setting = setting; view = view }) (lineReading l)
+    let row = lineIn f (record { setting = setting; view = view }) (lineReading l) in
+    cond (eqb (length before) 0) (unlessLevel (settingOf l) row) row
+
+-- First line silent: nothing is printed for a first line that says a level
+abbrev pub FirstLineSilent : Type 0
+FirstLineSilent =
+    (f : Format) (setting level : ℕ) (l : List ℕ) → settingOf l ≡ Setting.Level level → rowBehind f setting [] l ≡ []
 
 -- Once in format: the same of the rows of a format, with its heading.
 abbrev pub OnceInFormat : Type 0
 OnceInFormat =
     (f : Format) (setting : ℕ) (log : List (List ℕ)) (old : List ℕ) (es : List OutEvent)
     → let o : Out = record { lines = 0; size = length old; file = old } in
-    let text = textBy f setting in
+    let text = rowBehind f setting in
     IsOutRun text (headingIn f) log o es → EachOnce text (headingIn f) log old (outRun text (headingIn f) log o es)

@@ -35,8 +35,8 @@ pub record IsFileOf (s : State) (bytes : List ℕ) : Type 0 where
   pub said : IsSaid s kept
   pub is : bytes ≡ stateBytes kept 2
 
--- done: the archive has the rows that the model has after n lines, then the leftovers, which are counted; bytes behind
--- the last whole block stay
+-- done: the archive has the rows that the model has after n lines, then the leftovers, whose number is handed back;
+-- bytes behind the last whole block stay
 pub record Recovered (before : List Row) (log : List (List ℕ)) (n : ℕ) (file : List ℕ) (r : Start) : Type 0 where
   pub rest : List Row
   pub fit : all isFit rest ≡ true

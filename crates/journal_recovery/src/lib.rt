@@ -29,7 +29,7 @@ ghost use Rattle.journal_recovery.specs.Start.{isOneFile, startOf};
 ghost use Rattle.journal_recovery.specs.Private.{IsCounted, lostAt, Finds, IsThere, Sweeps, Settles};
 
 // What a start makes of the bytes of a state file and of an archive: the torn block is mended from the state's copy,
-// leftovers stay and are counted, and what stands behind them is cleared. Refused: 16 for an archive of more than 2^32
+// leftovers stay, `left` gets their number, and what stands behind them is cleared. Refused: 16 for an archive of more than 2^32
 // blocks; 16 and 11 as `accept` answers; 10 for a state without an archive, or whose collector had counted rows when
 // the file began; 12 for an archive that is not the state's; then everything is as it was. Bytes behind the last whole
 // block stay.

@@ -61,7 +61,7 @@ use Rattle.history_rows.proofs.Again as history_rows_again
 use Rattle.history_rows.proofs.Recovered as history_rows_recovered
 use Rattle.history_rows.proofs.Closings as history_rows_closings
 use Rattle.history_rows.proofs.Example as history_rows_example
-use Rattle.journal_calls.proofs.Claims as journal_calls_calls
+use Rattle.journal_calls.proofs.Claims as journal_calls
 use Rattle.journal_calls.proofs.Given as journal_calls_given
 use Rattle.journal_model.proofs.Alone as journal_model_alone
 use Rattle.journal_model.proofs.Any as journal_model_any
@@ -220,13 +220,14 @@ journal = record {
   live-destroys-nothing = journal_model_taken.live-destroys-nothing;
   rows-are-given-again = journal_model_alone.rows-alone;
   leftovers-are-taken-in = journal_model_taken.all-taken-in;
-  blocks-are-judged = journal_calls_calls.judged-right;
-  scans-count-the-run = journal_calls_calls.run-counts;
-  scans-go-by-pieces = journal_calls_calls.run-joins;
-  scans-are-held = journal_calls_calls.run-back;
+  blocks-are-judged = journal_calls.judged-right;
+  scans-count-the-run = journal_calls.run-counts;
+  scans-go-by-pieces = journal_calls.run-joins;
+  scans-are-held = journal_calls.run-back;
   scans-go-on = journal_calls_given.run-accepted;
   scans-are-exact = journal_calls_given.run-given;
   formats-are-in-the-file-once = journal_model_out.once-in-format;
+  first-line-writes-nothing = journal_model_out.first-line-silent;
   states-read-back = journal_state.state-read;
   states-are-exact = journal_state.state-written;
   states-are-modelled = journal_state_modelled.state-modelled;

@@ -53,7 +53,7 @@ use Rattle.history_rows.specs.Closings as history_rows_closings
 use Rattle.history_rows.specs.Example as history_rows_example
 use Rattle.journal_model.specs.Claims as journal_model
 use Rattle.journal_model.specs.Out as journal_model_out
-use Rattle.journal_calls.specs.Claims as journal_calls_calls
+use Rattle.journal_calls.specs.Claims as journal_calls
 use Rattle.journal_state.specs.Claims as journal_state
 use Rattle.cases.specs.Layouts as cases_layouts
 
@@ -162,7 +162,7 @@ pub record Code : Type 1 where
   pub told-call-takes : c_collector.ToldTakes
   -- After each reception, the telegram that the code sends on is the one that the model says.
   pub sent-follows-model : collector_state.RelayedSent
-  -- One value of each kind that the library hands out, and one checkpoint, worked out: each byte and number is where the header and docs/FORMATS.md say.
+  -- A value of each of twelve layouts, and a checkpoint, are worked out: the bytes and numbers that are compared are where the header and docs/FORMATS.md say.
   pub layouts-are-worked-out : cases_layouts.EveryLayout
 
 -- ---- the record that a test run of calls writes
@@ -220,21 +220,21 @@ pub record Lines : Type 1 where
   pub later-closings-follow-model : history_archived_closed.LinesClosed
   -- What lines close, and what is open behind them, are the kept receptions, in order, each once and with its copies.
   pub lines-close-once : history_archived_closed.LinesCloseOnce
-  -- From any arrays on, each element of a collector's arrays after calls of `lines` is what the lines make of it.
+  -- From any arrays on, without a restart, each element of a collector's arrays after calls of `lines` is what the lines make of it.
   pub calls-lay-elements : history_archived_runs.CallsLay
   -- After calls of `lines_as` too.
   pub format-calls-lay-elements : history_archived_runs.CallsLayAs
-  -- Of the same text, `skip_lines` passes over just the lines that `lines` or `lines_as` takes, if these leave room for a further row.
+  -- Of the same text, with the same limit, `skip_lines` passes over what `lines` or `lines_as` takes, if these leave room for what one line more may give.
   pub skipped-as-taken : history_archived_places.SkipsAsTaken
-  -- The state, the text, the limit and the lengths of the outputs decide how many lines a call of `lines` or `lines_as` takes.
+  -- At one setting, in one format, the state, the text, the limit and the lengths of the outputs decide how many lines a call of `lines` or `lines_as` takes.
   pub stops-are-decided : history_archived_places.StopsDecided
   -- Called line by line, `read_line` says of each line what `lines` and `lines_as` took of it.
   pub read-as-taken : history_archived_places.ReadsAgree
   -- If `read_line` answers 4, no line has ended.
   pub unended-is-not-read : history_archived_places.NoneRead
-  -- If calls share their outputs, each is as it was behind all that they wrote.
+  -- If calls write one behind the other into a shared buffer for text, times or records, it is as it was behind all that they wrote.
   pub outputs-stay : history_archived_outputs.OutputsStay
-  -- Behind closings too.
+  -- So is a shared buffer for closings.
   pub closings-stay : history_archived_outputs.ClosingsStay
   -- A log kept in any archive is read back: the rows that were there, and then the model's, in order.
   pub kept-log-reads-back : history_log.KeptReadBack
@@ -311,19 +311,21 @@ pub record Journal : Type 0 where
   -- So leftovers of lines that were on their way are all taken in.
   pub leftovers-are-taken-in : journal_model.AllTakenIn
   -- The judgement on the last counted block refuses what the model refuses, and else leaves the block that the model goes on from.
-  pub blocks-are-judged : journal_calls_calls.Judged
+  pub blocks-are-judged : journal_calls.Judged
   -- A scan counts the rows and blocks that the model finds from a block on.
-  pub scans-count-the-run : journal_calls_calls.RunCounts
+  pub scans-count-the-run : journal_calls.RunCounts
   -- Blocks that are scanned in two pieces leave what they leave in one.
-  pub scans-go-by-pieces : journal_calls_calls.RunJoins
+  pub scans-go-by-pieces : journal_calls.RunJoins
   -- The five numbers of a scan hold it.
-  pub scans-are-held : journal_calls_calls.RunBack
+  pub scans-are-held : journal_calls.RunBack
   -- The numbers that a scan leaves are accepted by its next call.
-  pub scans-go-on : journal_calls_calls.RunAccepted
+  pub scans-go-on : journal_calls.RunAccepted
   -- Numbers of a scan that are accepted are those that some blocks give.
-  pub scans-are-exact : journal_calls_calls.RunGiven
+  pub scans-are-exact : journal_calls.RunGiven
   -- In the file of `--out`, the rows of each format stand once, in the order of their lines; before them its heading, just where the file was empty.
   pub formats-are-in-the-file-once : journal_model_out.OnceInFormat
+  -- For a first line that says a level nothing is written to that file.
+  pub first-line-writes-nothing : journal_model_out.FirstLineSilent
   -- A lawful state that is written is accepted, and reads back as it was.
   pub states-read-back : journal_state.StateRead
   -- An accepted state file is lawful, and is byte for byte what is written of it.

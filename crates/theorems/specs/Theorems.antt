@@ -101,9 +101,9 @@ pub record Collector : Type 0 where
   pub calls-follow-model : history_archived_runs.CallsFollow
   -- Of calls of `lines_as` in one format the same holds, and the text is the model's in that format. Both proofs use only the contracts of the calls.
   pub format-calls-follow-model : history_archived_runs.CallsFollowAs
-  -- However a log is cut into calls of `lines_as`, with restarts between them, what they close is what the model closes.
+  -- However a log is cut into calls of `lines_as` that ask for closings, with restarts between them, what they close is what the model closes.
   pub closings-follow-model : history_archived_closed.CallsClose
-  -- If `skip_lines` passes over the lines that were taken at each restart, no line of a log is taken twice and none is left out.
+  -- If at each restart `skip_lines` passes over as many lines as were taken, the calls take the front of the log: no line twice, none left out.
   pub restarts-leave-out-no-line : history_archived_places.RestartsCover
   -- A whole log kept in a fresh archive leaves the archive of the receptions that the model keeps, and of the loose ones, and the model's image.
   pub log-is-archived : history_log.FreshKept
@@ -141,13 +141,13 @@ pub record Journal : Type 0 where
   pub starts-destroy-nothing : journal_model.NothingDestroyed
   -- What a crash can leave is never refused.
   pub crashes-are-recovered : journal_model.NoFalseAlarm
-  -- After a crash, the code of a start accepts the state file, refuses nothing, and leaves the model's rows in an archive of one file.
+  -- The calls that the tool makes at a start, as one function: after a crash it refuses nothing and leaves the model's rows, then leftovers, in one file.
   pub code-starts-after-crashes : journal_recovery.StartRecovers
-  -- The code of a batch, whose rows are in one block and which puts nothing aside, leaves the archive and the state of the model.
+  -- The calls for a batch, as one function: given the model's rows, of one block, a file with room and nothing to put aside, it leaves the model's archive and state.
   pub code-commits-batches : journal_batch.BatchCommits
   -- A row that the state on disk counts stays in the archive, in its place; that the tool prints it only then is tested.
   pub printed-is-kept : journal_model.PrintedIsKept
-  -- After any crashes, each row of the lines that were taken is once in the file of `--out`, and the heading just where the file was empty.
+  -- After any batches and crashes, the file of `--out` has what it had, the heading if it was empty, and each row of the lines taken, once and in order.
   pub rows-are-in-the-file-once : journal_model_out.OnceInFile
 
 -- ---- all of it
