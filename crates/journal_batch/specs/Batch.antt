@@ -49,16 +49,16 @@ isNew times records moments left = ltb (compareCall times records moments left 0
 unfoldable pub commitOf : (n : ℕ) (times records moments left : List ℕ) (next : List ℕ → Kept)
     (last file state : List ℕ) → Commit
 commitOf n times records moments left next last file state =
-    let kept : ℕ → Commit = λ number. record { number = number; last = last; archive = file; state = state } in
+    let refused : ℕ → Commit = λ number. record { number = number; last = last; archive = file; state = state } in
     let compared = compareCall times records moments left 0 0 in
     let filled = filledOf last n times records in
     let new = isNew times records moments left in
     let at = n / cellsPerBlock in
-    cond (not (eqb (compared .number) 0)) (kept (compared .number))
-    (cond (not (eqb (compared .going) 0)) (kept (numberOf Mismatch))
-    (cond (not (eqb (filled .number) 0)) (kept (filled .number))
-    (cond (new && leb (wholeBlocks file) at) (kept (numberOf ShortOutput))
-    (cond (not (lawful (next (filled .block)))) (kept (numberOf NotAccepted))
+    cond (not (eqb (compared .number) 0)) (refused (compared .number))
+    (cond (not (eqb (compared .going) 0)) (refused (numberOf Mismatch))
+    (cond (not (eqb (filled .number) 0)) (refused (filled .number))
+    (cond (new && leb (wholeBlocks file) at) (refused (numberOf ShortOutput))
+    (cond (not (lawful (next (filled .block)))) (refused (numberOf NotAccepted))
     (record {
       number = 0;
       last = filled .block;

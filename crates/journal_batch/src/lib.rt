@@ -63,8 +63,8 @@ pub fn commit(
     if filled != 0 {
         return filled;
     }
-    let fresh = agreed < times.len();
-    if fresh & (file.len() / BLOCK_LENGTH <= count / CELLS_PER_BLOCK) {
+    let added = agreed < times.len();
+    if added & (file.len() / BLOCK_LENGTH <= count / CELLS_PER_BLOCK) {
         return base_refusal::number(Refusal::ShortOutput);
     }
     let mut next = [0u8; LENGTH];
@@ -72,7 +72,7 @@ pub fn commit(
     if written != 0 {
         return written;
     }
-    put_block(file, count / CELLS_PER_BLOCK, &block, fresh);
+    put_block(file, count / CELLS_PER_BLOCK, &block, added);
     copy_block(last, &block);
     copy_state(state, &next);
     0
@@ -122,12 +122,12 @@ fn taken_number(answer: Taken) -> u8
 }
 
 // A block of the archive, where it has new rows.
-fn put_block(file: &mut [u8], at: usize, block: &[u8; BLOCK_LENGTH], fresh: bool)
-    requires { ⌜ (fresh ≡ true → at < wholeBlocks (now file)) ⌝ }
+fn put_block(file: &mut [u8], at: usize, block: &[u8; BLOCK_LENGTH], added: bool)
+    requires { ⌜ (added ≡ true → at < wholeBlocks (now file)) ⌝ }
     ensures { λ _. ⌜ now (file .exit)
-        ≡ cond fresh (withBlock at (now (block .entry)) (now (file .entry))) (now (file .entry)) ⌝ }
+        ≡ cond added (withBlock at (now (block .entry)) (now (file .entry))) (now (file .entry)) ⌝ }
 {
-    if !fresh {
+    if !added {
         return;
     }
     let from = BLOCK_LENGTH * at;

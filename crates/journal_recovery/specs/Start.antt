@@ -48,8 +48,8 @@ acceptNumber bytes = acceptOf (readState bytes) bytes .number
 -- 16, the number of `accept`, 10, 12
 unfoldable pub startOf : List ℕ → List ℕ → ℕ → Start
 startOf bytes file left =
-    let kept : ℕ → Start = λ n. record { number = n; archive = file; left = left } in
-    cond (ltb maxBlocks (wholeBlocks file)) (kept (numberOf Size))
-    (cond (not (eqb (acceptNumber bytes) 0)) (kept (acceptNumber bytes))
-    (cond (not (isOneFile (readState bytes))) (kept (numberOf Argument))
+    let refused : ℕ → Start = λ n. record { number = n; archive = file; left = left } in
+    cond (ltb maxBlocks (wholeBlocks file)) (refused (numberOf Size))
+    (cond (not (eqb (acceptNumber bytes) 0)) (refused (acceptNumber bytes))
+    (cond (not (isOneFile (readState bytes))) (refused (numberOf Argument))
     (settledOf (stateOf (readState bytes)) file left)))

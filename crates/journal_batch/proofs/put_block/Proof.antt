@@ -24,10 +24,10 @@ left-by s new =
 same : tie.Need-returns
 same c =
     let s = c .before .before in
-    sym (ap (left-by s) (not-true (s .args .fresh) (c .if1 .taken)))
+    sym (ap (left-by s) (not-true (s .args .added) (c .if1 .taken)))
 
 inside : (c : tie.Else1) → let a = c .before .before .args in a .at < wholeBlocks (now (a .file))
-inside c = let s = c .before .before in s .pre (not-false (s .args .fresh) (c .if1 .left))
+inside c = let s = c .before .before in s .pre (not-false (s .args .added) (c .if1 .left))
 
 new : tie.Need-returns-2
 new c =
@@ -46,7 +46,7 @@ new c =
     (long ∙ sym (segments.lent b blockLength (at + blockLength) refl end)))
     (p .put-bytes .kept .0) (omega arith) end in
     w .is ∙ ap (λ (n : ℕ). (take n file ++ block) ++ drop (at + blockLength) file) e
-    ∙ sym (ap (left-by s) (not-false (s .args .fresh) (t .if1 .left)))
+    ∙ sym (ap (left-by s) (not-false (s .args .added) (t .if1 .left)))
 
 pub put-block-spec : {M : Type 1} → statement M
 put-block-spec =
