@@ -3,7 +3,6 @@ use c_collector::BYTES;
 use c_collector::CAPACITY;
 use c_collector::NUMBERS;
 use c_collector::TOTALS;
-use c_lines::DONE;
 use c_lines::FIRST;
 use c_lines::MAX_BYTES;
 use c_lines::READ;
@@ -17,7 +16,7 @@ ghost use Rattle.c_collector.specs.State.{arrays, stateAt};
 ghost use Rattle.c_collector.specs.Calls.{Takes, TakesTold, Fresh, totalsCall, copiesCall};
 ghost use Rattle.c_checkpoint.specs.Calls.{Restores};
 ghost use Rattle.c_burst.specs.Calls.{Bursts};
-ghost use Rattle.c_lines.specs.Calls.{Lines, firstNumber, firstUsed, ReadLine, Skipped};
+ghost use Rattle.c_lines.specs.Calls.{firstNumber, firstUsed, ReadLine, Skipped};
 ghost use Rattle.c_lines.specs.Formats.{LinesAs};
 
 // A collector with no telegram open and nothing counted.
@@ -176,46 +175,6 @@ pub extern "C" fn mooringeye_collector_burst(
         moments,
         records,
         replies,
-    )
-}
-
-// Takes whole lines of text from the start of the input, with the text of their rows and the rows that an archive keeps.
-#[no_mangle]
-pub extern "C" fn mooringeye_collector_lines(
-    times: &mut [u64; CAPACITY],
-    lengths: &mut [u8; CAPACITY],
-    bytes: &mut [u8; BYTES],
-    copies: &mut [u16; CAPACITY],
-    numbers: &mut [u64; NUMBERS],
-    setting: u8,
-    input: &[u8],
-    most: usize,
-    out: &mut [u8],
-    moments: &mut [u64],
-    rows: &mut [u8],
-    done: &mut [u64; DONE],
-) -> u8
-    ensures { λ r. ⌜ Lines (arrays (now (times .entry)) (now (lengths .entry)) (now (bytes .entry))
-        (now (copies .entry)) (now (numbers .entry)))
-        setting (now (input .entry)) most (now (out .entry)) (now (moments .entry)) (now (rows .entry))
-        (now (done .entry)) r
-        (arrays (now (times .exit)) (now (lengths .exit)) (now (bytes .exit)) (now (copies .exit))
-        (now (numbers .exit)))
-        (now (out .exit)) (now (moments .exit)) (now (rows .exit)) (now (done .exit)) ⌝ }
-{
-    c_lines::lines(
-        times,
-        lengths,
-        bytes,
-        copies,
-        numbers,
-        setting,
-        input,
-        most,
-        out,
-        moments,
-        rows,
-        done,
     )
 }
 
