@@ -7,17 +7,13 @@ use c_lines::FIRST;
 use c_lines::MAX_BYTES;
 use c_lines::READ;
 use c_lines::SKIPPED;
-use c_lines::formats;
 ghost use mathlib.Core.Path.{_≡_};
-ghost use mathlib.Core.Bool.{true};
 ghost use mathlib.Core.List.{[], _∷_};
 ghost use Rattle.collector_model.specs.Image.{checkpointOf};
 ghost use Rattle.c_collector.specs.State.{arrays, stateAt};
-ghost use Rattle.c_collector.specs.Calls.{Takes, TakesTold, Fresh, totalsCall, copiesCall};
+ghost use Rattle.c_collector.specs.Calls.{Fresh, totalsCall, copiesCall};
 ghost use Rattle.c_checkpoint.specs.Calls.{Restores};
-ghost use Rattle.c_burst.specs.Calls.{Bursts};
 ghost use Rattle.c_lines.specs.Calls.{firstNumber, firstUsed, ReadLine, Skipped};
-ghost use Rattle.c_lines.specs.Formats.{LinesAs};
 
 // A collector with no telegram open and nothing counted.
 #[no_mangle]
@@ -32,46 +28,6 @@ pub extern "C" fn mooringeye_collector_fresh(
         (now (numbers .exit))) ⌝ }
 {
     c_collector::fresh(times, lengths, bytes, copies, numbers);
-}
-
-// Takes one reception.
-#[no_mangle]
-pub extern "C" fn mooringeye_collector_take<'a>(
-    times: &'a mut [u64; CAPACITY],
-    lengths: &'a mut [u8; CAPACITY],
-    bytes: &'a mut [u8; BYTES],
-    copies: &'a mut [u16; CAPACITY],
-    numbers: &'a mut [u64; NUMBERS],
-    received: &'a [u8],
-    time: u64,
-) -> u16
-    ensures { λ r. ⌜ Takes (arrays (now (times .entry)) (now (lengths .entry)) (now (bytes .entry))
-        (now (copies .entry)) (now (numbers .entry)))
-        (record { bytes = now (received .entry); time = time }) r
-        (arrays (now (times .exit)) (now (lengths .exit)) (now (bytes .exit)) (now (copies .exit))
-        (now (numbers .exit))) ⌝ }
-{
-    c_collector::take(times, lengths, bytes, copies, numbers, received, time)
-}
-
-// Takes one reception at a state that was tested: it is told that the state is acceptable.
-#[no_mangle]
-pub extern "C" fn mooringeye_collector_take_tested<'a>(
-    times: &'a mut [u64; CAPACITY],
-    lengths: &'a mut [u8; CAPACITY],
-    bytes: &'a mut [u8; BYTES],
-    copies: &'a mut [u16; CAPACITY],
-    numbers: &'a mut [u64; NUMBERS],
-    received: &'a [u8],
-    time: u64,
-) -> u16
-    ensures { λ r. ⌜ TakesTold true (arrays (now (times .entry)) (now (lengths .entry)) (now (bytes .entry))
-        (now (copies .entry)) (now (numbers .entry)))
-        (record { bytes = now (received .entry); time = time }) r
-        (arrays (now (times .exit)) (now (lengths .exit)) (now (bytes .exit)) (now (copies .exit))
-        (now (numbers .exit))) ⌝ }
-{
-    c_collector::take_told(true, times, lengths, bytes, copies, numbers, received, time)
 }
 
 // The six totals.
@@ -144,82 +100,6 @@ pub extern "C" fn mooringeye_collector_restore(
         (now (numbers .exit))) ⌝ }
 {
     c_checkpoint::restore(times, lengths, bytes, copies, numbers, image)
-}
-
-// Takes receptions that are handed over in one list, and replies in a second.
-#[no_mangle]
-pub extern "C" fn mooringeye_collector_burst(
-    times: &mut [u64; CAPACITY],
-    lengths: &mut [u8; CAPACITY],
-    bytes: &mut [u8; BYTES],
-    copies: &mut [u16; CAPACITY],
-    numbers: &mut [u64; NUMBERS],
-    setting: u8,
-    moments: &[u64],
-    records: &[u8],
-    replies: &mut [u8],
-) -> u8
-    ensures { λ r. ⌜ Bursts (arrays (now (times .entry)) (now (lengths .entry)) (now (bytes .entry))
-        (now (copies .entry)) (now (numbers .entry)))
-        setting (now (moments .entry)) (now (records .entry)) (now (replies .entry)) r
-        (arrays (now (times .exit)) (now (lengths .exit)) (now (bytes .exit)) (now (copies .exit))
-        (now (numbers .exit))) (now (replies .exit)) ⌝ }
-{
-    c_burst::burst(
-        times,
-        lengths,
-        bytes,
-        copies,
-        numbers,
-        setting,
-        moments,
-        records,
-        replies,
-    )
-}
-
-// Takes whole lines as `mooringeye_collector_lines` does, with their rows in a format, and with what they close.
-#[no_mangle]
-pub extern "C" fn mooringeye_collector_lines_as(
-    times: &mut [u64; CAPACITY],
-    lengths: &mut [u8; CAPACITY],
-    bytes: &mut [u8; BYTES],
-    copies: &mut [u16; CAPACITY],
-    numbers: &mut [u64; NUMBERS],
-    setting: u8,
-    format: u8,
-    input: &[u8],
-    most: usize,
-    out: &mut [u8],
-    moments: &mut [u64],
-    rows: &mut [u8],
-    closed: &mut [u8],
-    done: &mut [u64; formats::DONE],
-) -> u8
-    ensures { λ r. ⌜ LinesAs (arrays (now (times .entry)) (now (lengths .entry)) (now (bytes .entry))
-        (now (copies .entry)) (now (numbers .entry)))
-        setting format (now (input .entry)) most (now (out .entry)) (now (moments .entry)) (now (rows .entry))
-        (now (closed .entry)) (now (done .entry)) r
-        (arrays (now (times .exit)) (now (lengths .exit)) (now (bytes .exit)) (now (copies .exit))
-        (now (numbers .exit)))
-        (now (out .exit)) (now (moments .exit)) (now (rows .exit)) (now (closed .exit)) (now (done .exit)) ⌝ }
-{
-    formats::lines_as(
-        times,
-        lengths,
-        bytes,
-        copies,
-        numbers,
-        setting,
-        format,
-        input,
-        most,
-        out,
-        moments,
-        rows,
-        closed,
-        done,
-    )
 }
 
 // The level that the first line of a text says, and the characters of that line.

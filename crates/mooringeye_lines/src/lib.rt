@@ -1,4 +1,4 @@
-// The call that takes lines, for C, Rust and Python, in a crate of its own: compiled with no other caller, what it calls is inlined.
+// The call that takes lines, for C, Rust and Python, in a crate of its own: compiled by itself, what it calls is inlined.
 use c_collector::BYTES;
 use c_collector::CAPACITY;
 use c_collector::NUMBERS;

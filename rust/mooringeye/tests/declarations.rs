@@ -109,7 +109,7 @@ fn declared() -> Functions {
     functions(&text, "pub fn ", |t| vec![named.get(t).unwrap_or(&t).to_string()])
 }
 
-/// The exports of crates `mooringeye` and `mooringeye_lines`: a slice is a pointer and a length, any other reference a pointer.
+/// The exports of crate `mooringeye` and of those that are compiled by themselves: a slice is a pointer and a length, any other reference a pointer.
 fn exported() -> Functions {
     let kind = |t: &str| -> Vec<String> {
         let Some(to) = t.strip_prefix('&') else { return vec![t.to_string()] };
@@ -126,7 +126,7 @@ fn exported() -> Functions {
         }
     };
     let mut all = Functions::new();
-    for folder in ["mooringeye", "mooringeye_lines"] {
+    for folder in ["mooringeye", "mooringeye_take", "mooringeye_burst", "mooringeye_lines", "mooringeye_lines_as"] {
         for entry in std::fs::read_dir(root().join("crates").join(folder).join("src")).unwrap() {
             let text = bare(&text(entry.unwrap().path()));
             all.extend(functions(&text.replace("<'a>", "").replace("&'a ", "&"), "pub extern \"C\" fn ", kind));
