@@ -1,4 +1,4 @@
--- What is proved of rows taken back.
+-- What is proved of a cut, which keeps the first rows of an archive.
 use Prim.Native.Nat.{ℕ, _+_, _-_, _*_, _/_, _%_, _<_}
 use mathlib.Core.Path.{_≡_}
 use mathlib.Core.List.{List, _++_}
@@ -9,7 +9,7 @@ use Rattle.archive_model.specs.Append.{verdict, stored, blockAt}
 use Rattle.archive_model.specs.Claims.{afterAppends}
 use Rattle.archive_cut.specs.Cut.{cutOf, cutBlockOf}
 
--- Remains: an archive of the same length, of exactly the first m rows.
+-- Remains: after a cut, the buffer is an archive of the same length with exactly the first m rows.
 abbrev pub Remains : Type 0
 Remains =
     (m : ℕ) (buffer : List ℕ) → cutOf m buffer .number ≡ 0
@@ -22,13 +22,14 @@ CutAgain =
     (m : ℕ) (buffer : List ℕ) → cutOf m buffer .number ≡ 0
     → cutOf m (cutOf m buffer .buffer) ≡ stored (cutOf m buffer .buffer)
 
--- Undone: the rows that were taken back, appended again in their order, give the old buffer.
+-- Undone: if the rows that were cut off are appended again in their order, the buffer is the old one.
 abbrev pub Undone : Type 0
 Undone =
     (m : ℕ) (buffer : List ℕ) → cutOf m buffer .number ≡ 0
     → afterAppends (cutOf m buffer .buffer) (drop m (rowsIn buffer)) ≡ buffer
 
--- One block: where rows are taken back, the blocks before block m / 15 stay, that block is cut by itself, and zeros stand behind it.
+-- One block: if rows are cut off, the blocks before block m / 15 stay, that block is cut by itself, and the blocks
+-- after it are zero.
 abbrev pub AtOneBlock : Type 0
 AtOneBlock =
     (m : ℕ) (buffer : List ℕ) → verdict buffer .number ≡ 0 → m < length (rowsIn buffer)
@@ -39,7 +40,8 @@ AtOneBlock =
     ++ cutBlockOf (m % cellsPerBlock) (blockAt (m / cellsPerBlock) buffer) .block
     ++ replicate (length buffer - (blockLength * (m / cellsPerBlock) + blockLength)) 0))
 
--- From the end: zeros from block k on cut an archive at that block, so that a file whose blocks are cleared from the last one on stays an archive.
+-- From the end: zeros from block k on cut an archive at that block. So a file whose blocks are cleared from the last
+-- one on stays an archive.
 abbrev pub ZerosBehind : Type 0
 ZerosBehind =
     (k : ℕ) (buffer : List ℕ) → verdict buffer .number ≡ 0 → cellsPerBlock * k < length (rowsIn buffer)

@@ -1,4 +1,5 @@
--- Rows taken back: an archive cut after its first rows, whole in its buffer or at one block, in the layout of document 02, A2.
+-- A cut keeps the first rows of an archive: of the whole archive in its buffer, or of one block. The layout is that of
+-- document 02, A2.
 use Prim.Native.Nat.{ℕ}
 use mathlib.Core.Bool.{cond, not, _&&_}
 use mathlib.Core.List.{List}
@@ -13,7 +14,8 @@ use Rattle.archive_model.specs.Append.{verdict, Appended, refusedAppend, stored
 
 -- ---- an archive
 
--- 16, 12 with its position, 10 for more rows than it has; else its first m rows in the same buffer
+-- the archive cut to its first m rows, in the same buffer. Refused with 16 or 12 as `verdict` says, and with 10 if the
+-- archive has fewer rows.
 unfoldable pub cutOf : ℕ → List ℕ → Appended
 cutOf m buffer =
     cond (not (eqb (verdict buffer .number) 0))
@@ -23,7 +25,7 @@ cutOf m buffer =
 
 -- ---- one block
 
--- the block of its first m rows; all zero, as the end of an archive is, where they are none
+-- the block cut to its first m rows. For m = 0 it is all zero, like the blocks after the end of an archive.
 unfoldable pub firstRows : ℕ → List ℕ → List ℕ
 firstRows m block = cond (eqb m 0) (replicate blockLength 0) (rowsBlock (blockNumber block) (take m (rowsOf block)))
 
@@ -31,7 +33,7 @@ pub record CutBlock : Type 0 where
   pub number : ℕ
   pub block : List ℕ
 
--- 16 for another length, 12 for a block that isn't sound or has fewer rows
+-- one block cut to its first m rows: 16 for a wrong length, 12 for a block that isn't sound or has fewer rows
 unfoldable pub cutBlockOf : ℕ → List ℕ → CutBlock
 cutBlockOf m block =
     cond (not (eqb (length block) blockLength)) (record { number = numberOf Size; block = block })

@@ -1,4 +1,4 @@
--- What private functions say. No public contract cites these.
+-- What the contracts of private functions say. No public contract cites these.
 use Prim.Native.Nat.{ℕ, _+_, _-_, _*_}
 use mathlib.Core.List.{List, [], _∷_, _++_}
 use Rattle.base_lists.specs.Lists.{padded}
@@ -6,7 +6,7 @@ use Rattle.base_buffers.specs.Buffer.{part}
 use Rattle.block_layout.specs.Cell.{cellLength}
 use Rattle.block_layout.specs.Block.{headerLength, bodyLength, sealed}
 
--- a block with another count, its first m cells, zeros behind them, and the CRC
+-- a block with the count m, its first m cells, zeros after them, and the CRC
 unfoldable pub keptRows : ℕ → List ℕ → List ℕ
 keptRows m block =
     sealed (padded bodyLength (part 0 4 block ++ (m ∷ []) ++ part 5 (headerLength + cellLength * m - 5) block))

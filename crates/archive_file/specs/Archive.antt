@@ -1,4 +1,4 @@
--- What the calls over an archive show (document 02, A2).
+-- The results of the calls on an archive, as the model names them (document 02, A2).
 use Prim.Native.Nat.{ℕ}
 use mathlib.Core.Bool.{Bool, cond}
 use mathlib.Core.List.{List}
@@ -24,7 +24,7 @@ use Rattle.archive_file.specs.declared.Taken.{Taken}
 use Rattle.archive_file.specs.declared.Taken.the-variants as taken
 use Rattle.archive_file.specs.declared.Fed.{Fed}
 
--- ---- what the calls show: the number, the position beside 12, and what else is handed back
+-- ---- results: the number, the position that goes with 12, and what else is returned
 
 abbrev pub openResult : Opened → Opening
 openResult (opened.Rows n) = record { number = 0; position = 0; rows = n }
@@ -43,7 +43,7 @@ abbrev pub foundNumber : Found → ℕ
 foundNumber found.Row = 0
 foundNumber (found.Refused why) = numberOf why
 
--- a row as it is handed back: its length, and 21 bytes
+-- a row as it is returned: its length, and 21 bytes
 pub record Shown : Type 0 where
   pub number : ℕ
   pub len : ℕ
@@ -60,7 +60,7 @@ readResult r = record {
   loose = r .loose;
 }
 
--- with the 21 bytes of its cell as they stand; beside a refusal all is zero
+-- the row that was read, with the 21 bytes of its cell; all zero with a refusal
 abbrev pub rowShown : ReadRow → List ℕ → Shown
 rowShown a cell = record {
   number = a .number;
@@ -70,9 +70,9 @@ rowShown a cell = record {
   loose = a .row .loose;
 }
 
--- ---- a block by itself, and a scan
+-- ---- a single block, and a scan
 
--- the rows of a sound block, and 0 of any other
+-- the number of rows of a sound block; 0 for any other block
 abbrev pub soundCount : List ℕ → ℕ
 soundCount block = cond (isSound block) (rowCount block) 0
 
@@ -85,7 +85,7 @@ stageOf (stage.Wrong k) = buffer.Wrong k
 abbrev pub scanOf : Scan → buffer.Scan
 scanOf s = record { blocks = s .blocks; rows = s .rows; stage = stageOf (s .stage) }
 
--- what a scan of all blocks says
+-- the result after a scan of all blocks with n rows
 abbrev pub openFound : buffer.Found → ℕ → Opening
 openFound (buffer.At k) n = record { number = numberOf Mismatch; position = k; rows = 0 }
 openFound buffer.None n = record { number = 0; position = 0; rows = n }

@@ -1,4 +1,4 @@
--- What private functions say. No public contract cites these.
+-- What the contracts of private functions say. No public contract cites these.
 use Prim.Native.Nat.{ℕ}
 use mathlib.Core.Path.{_≡_}
 use mathlib.Core.Bool.{Bool, cond, not, _&&_}
@@ -16,30 +16,30 @@ use Rattle.archive_file.specs.declared.Outcome.{Outcome}
 use Rattle.archive_file.specs.declared.Scan.{Scan}
 use Rattle.archive_file.specs.Archive.{appendResult, scanOf}
 
--- a scan that is refused
+-- a refused call leaves the scan unchanged
 abbrev pub keptWith : Scan → Refusal → Feeding
 keptWith s why = record { number = numberOf why; next = scanOf s }
 
--- a row that has no block: the check's, then 6
+-- a row for which there is no block is refused: with the check's number if the row is not valid, else with 6
 abbrev pub NoBlock : List ℕ → Outcome → Type 0
 NoBlock bytes r =
     (old : List ℕ)
     → appendResult r old
     ≡ cond (not (isValid bytes)) (refusedAppend (checkOf bytes) 0 old) (refusedAppend (numberOf ShortOutput) 0 old)
 
--- no row, and why
+-- no row, and the reason
 abbrev pub noRowFor : Refusal → ReadRow
 noRowFor why = record { number = numberOf why; row = noRow }
 
--- row i of a block, where it has one
+-- row i of a block; 10 if the block has no row i
 abbrev pub rowInBlock : List ℕ → ℕ → ReadRow
 rowInBlock block i =
     cond (ltb i (rowCount block)) (cellRow (blockCell i block)) (noRowFor Argument)
 
--- a cell that is byte for byte what is written of the row that it says, which is valid
+-- a cell holds a valid row, and is byte for byte what is written for that row
 abbrev pub isWritten : List ℕ → Bool
 isWritten cell = isRow (rowIn cell) && equal (rowCell (rowIn cell)) cell
 
--- n cells from cell a of a block on
+-- n cells of a block, from cell a on
 unfoldable pub cellsFrom : List ℕ → ℕ → ℕ → List (List ℕ)
 cellsFrom block a n = map (λ i. blockCell i block) (upFrom a n)

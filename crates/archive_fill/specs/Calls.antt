@@ -1,4 +1,4 @@
--- What the calls show.
+-- The results of the calls, as the model names them.
 use Prim.Native.Nat.{ℕ}
 use mathlib.Core.List.{List}
 use Rattle.archive_model.specs.Append.{Verdict, Appended}

@@ -1,4 +1,4 @@
--- What is proved of several rows put into one block.
+-- What is proved of a call that puts several rows into one block.
 use Prim.Native.Nat.{ℕ, _+_, _*_, _/_, _^_, _<_}
 use mathlib.Core.Path.{_≡_}
 use mathlib.Core.Bool.{true, cond}
@@ -12,31 +12,32 @@ use Rattle.archive_model.specs.Buffer.{rowsIn}
 use Rattle.archive_model.specs.Append.{Appended, verdict, stored, blockAt, putRowOf}
 use Rattle.archive_fill.specs.Fill.{putRowsOf}
 
--- rows put one after the other by calls of their own, up to the first that is refused
+-- rows that are put by one call each, up to the first that is refused
 unfoldable pub oneByOne : List ℕ → ℕ → List Row → Appended
 oneByOne block n [] = stored block
 oneByOne block n (r ∷ rows) =
     cond (eqb (putRowOf block n r .number) 0) (oneByOne (putRowOf block n r .buffer) (n + 1) rows)
     (putRowOf block n r)
 
--- One by one: rows that are put together are each answered 0 by themselves, and leave the same block.
+-- One by one: if rows are put together with answer 0, single calls put each of them with answer 0 and leave the same
+-- block.
 abbrev pub OneByOne : Type 0
 OneByOne =
     (block : List ℕ) (n : ℕ) (rows : List Row) → putRowsOf block n rows .number ≡ 0
     → oneByOne block n rows ≡ putRowsOf block n rows
 
--- a buffer with another block k
+-- a buffer whose block k is replaced
 abbrev pub withBlock : ℕ → List ℕ → List ℕ → List ℕ
 withBlock k block buffer = take (blockLength * k) buffer ++ block ++ drop (blockLength * k + blockLength) buffer
 
--- the block of an archive where its next row goes, and rows put into that block
+-- the number of the block where the next row of an archive goes; and rows that are put into that block
 abbrev pub nextBlock : List ℕ → ℕ
 nextBlock buffer = length (rowsIn buffer) / cellsPerBlock
 
 abbrev pub putNext : List ℕ → List Row → Appended
 putNext buffer rows = putRowsOf (blockAt (nextBlock buffer) buffer) (length (rowsIn buffer)) rows
 
--- In an archive: there they make it the archive of its rows and these.
+-- In an archive: the buffer with that block replaced is the archive of the old rows and then the new ones.
 abbrev pub InArchive : Type 0
 InArchive =
     (buffer : List ℕ) (rows : List Row) → verdict buffer .number ≡ 0 → nextBlock buffer < length buffer / blockLength

@@ -1,4 +1,4 @@
--- Several rows put into one block, in the layout of document 02, A2: all or none.
+-- Several rows are put into one block, all or none, in the layout of document 02, A2.
 use Prim.Native.Nat.{ℕ, _+_, _*_, _/_, _%_}
 use mathlib.Core.Bool.{cond, not, _&&_}
 use mathlib.Core.List.{List, [], _∷_, map}
@@ -14,13 +14,13 @@ use Rattle.archive_model.specs.Row.{Row, isRow}
 use Rattle.archive_model.specs.Buffer.{maxRows}
 use Rattle.archive_model.specs.Append.{Verdict, Appended, refusedAppend, stored, isNext, putRow}
 
--- ---- rows that are given
+-- ---- the rows that a caller hands over
 
 abbrev pub rowLength : ℕ
 rowLength = 23
 
--- a record of 23 bytes: LOOSE where the first is not 0, and as many bytes as the second says, so that a length over 21
--- fails the check with 1
+-- a record of 23 bytes: the first byte is not 0 for LOOSE, the second is the length, then the bytes. A length over 21
+-- gives a row of that length, which fails the check with 1.
 abbrev pub rowGiven : ℕ → List ℕ → Row
 rowGiven time given = record {
   bytes = resized (getD given 1 0) (drop 2 given);
@@ -33,21 +33,21 @@ unfoldable pub rowsGiven : List ℕ → List ℕ → List Row
 rowsGiven times records =
     map (λ i. rowGiven (getD times i 0) (part (rowLength * i) rowLength records)) (upFrom 0 (length times))
 
--- ---- rows that are put
+-- ---- putting them
 
--- rows n, n + 1, .. put one after the other
+-- rows n, n + 1, .. are put one after the other
 unfoldable pub putRows : ℕ → List Row → List ℕ → List ℕ
 putRows n [] block = block
 putRows n (r ∷ rows) block = putRows (n + 1) rows (putRow n r block)
 
--- the check's number for the first row that it refuses, and the place of that row, where the first of these has place i;
--- 0 if it refuses none
+-- the check's number for the first row that it refuses, and the position of that row in the list, counted from i; 0 if
+-- it refuses none
 unfoldable pub checkRows : ℕ → List Row → Verdict
 checkRows i [] = record { number = 0; position = 0 }
 checkRows i (r ∷ rows) = cond (isRow r) (checkRows (i + 1) rows) (record { number = checkOf (r .bytes); position = i })
 
--- 16 for another length or an n that no archive has, 12 at its position, the check's at the place of the row, 6 for more
--- rows than the block has room for
+-- 16 for a wrong length or an n that no archive has; 12 with the block's number if row n is not the next of the block;
+-- the check's number with the position of the row; 6 if the block has no room for all rows
 unfoldable pub putRowsOf : List ℕ → ℕ → List Row → Appended
 putRowsOf block n rows =
     cond (not (eqb (length block) blockLength && ltb n maxRows)) (refusedAppend (numberOf Size) 0 block)
@@ -57,7 +57,7 @@ putRowsOf block n rows =
     (cond (ltb cellsPerBlock (n % cellsPerBlock + length rows)) (refusedAppend (numberOf ShortOutput) 0 block)
     (stored (putRows n rows block)))))
 
--- the same of records: 16 where they are not 23 bytes for each time, too
+-- the same for records: also 16 if they are not 23 bytes for each time
 unfoldable pub putRowsGiven : List ℕ → ℕ → List ℕ → List ℕ → Appended
 putRowsGiven block n times records =
     cond (not (eqb (length records) (rowLength * length times))) (refusedAppend (numberOf Size) 0 block)

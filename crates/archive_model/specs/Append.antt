@@ -13,7 +13,8 @@ use Rattle.radio_erp1.specs.Subtelegram.{checkOf, isValid}
 use Rattle.archive_model.specs.Row.{Row, rowCell, rowsHeader, blockNumber, rowCount, rowIn, isBlank}
 use Rattle.archive_model.specs.Buffer.{Found, At, None, maxBlocks, maxRows, isWhole, blocksIn, mismatch, rowsIn, bufferOf, Stage, Filling, Short, Ended, Wrong, Scan, scanBlocks}
 
--- 16, 12 with its position; 0 for an archive
+-- the verdict on a buffer: 16 for a wrong length, 12 with the position of the first block that does not match, 0 for an
+-- archive
 pub record Verdict : Type 0 where
   pub number : ℕ
   pub position : ℕ
@@ -26,7 +27,7 @@ unfoldable pub verdict : List ℕ → Verdict
 verdict buffer =
     cond (not (isWhole (length buffer))) (record { number = numberOf Size; position = 0 }) (found (mismatch buffer))
 
--- how many rows it has, beside 0
+-- the verdict, and with 0 how many rows the archive has
 pub record Opening : Type 0 where
   pub number : ℕ
   pub position : ℕ
@@ -39,7 +40,7 @@ openOf buffer = record {
   rows = cond (eqb (verdict buffer .number) 0) (length (rowsIn buffer)) 0;
 }
 
--- the number, the position, and every byte of the buffer at exit
+-- the number, the position that goes with it, and every byte of the buffer after the call
 pub record Appended : Type 0 where
   pub number : ℕ
   pub position : ℕ
@@ -52,11 +53,11 @@ rowNumber buffer r =
     (cond (leb (cellsPerBlock * (length buffer / blockLength)) (length (rowsIn buffer))) (numberOf ShortOutput)
     0)
 
--- a refusal, beside which the buffer is as it was
+-- a refusal: the buffer is unchanged
 abbrev pub refusedAppend : ℕ → ℕ → List ℕ → Appended
 refusedAppend number position buffer = record { number = number; position = position; buffer = buffer }
 
--- done, and the buffer afterwards
+-- done: the buffer after the call
 abbrev pub stored : List ℕ → Appended
 stored buffer = record { number = 0; position = 0; buffer = buffer }
 
@@ -67,12 +68,12 @@ appendOf buffer r =
     (cond (not (eqb (rowNumber buffer r) 0)) (refusedAppend (rowNumber buffer r) 0 buffer)
     (stored (bufferOf (length buffer) (rowsIn buffer ++ (r ∷ [])))))
 
--- ---- row n of an archive stands in block n / 15, in its cell n % 15: so the number of rows says where the next one goes
+-- ---- row n of an archive is in block n / 15, in cell n % 15, so the number of rows tells where the next one goes
 
 abbrev pub blockAt : ℕ → List ℕ → List ℕ
 blockAt k buffer = part (blockLength * k) blockLength buffer
 
--- a block where row n is put: its header, the cells before it, the row, what stood behind, and the CRC
+-- the block after row n is put: its new header, the cells before the row, the row, the old bytes after it, and the CRC
 unfoldable pub putRow : ℕ → Row → List ℕ → List ℕ
 putRow n r block =
     sealed
@@ -82,13 +83,14 @@ putRow n r block =
     ++ part (headerLength + cellLength * (n % cellsPerBlock + 1))
     (bodyLength - (headerLength + cellLength * (n % cellsPerBlock + 1))) block)
 
--- a block's first five bytes say that row n is the next
+-- the first five bytes of a block say that row n is the next one
 abbrev pub isNext : ℕ → List ℕ → Bool
 isNext n block =
     cond (eqb (n % cellsPerBlock) 0) (isBlank (part 0 5 block))
     (eqb (blockNumber block) (n / cellsPerBlock) && eqb (rowCount block) (n % cellsPerBlock))
 
--- row n put into its block by itself: 16 for another length or an n that no archive has, 12 at its position, the check's
+-- row n is put into a single block: 16 for a wrong length or an n that no archive has; 12 with the block's number if
+-- row n is not the next of the block; the check's number for a row that is not valid
 unfoldable pub putRowOf : List ℕ → ℕ → Row → Appended
 putRowOf block n r =
     cond (not (eqb (length block) blockLength && ltb n maxRows)) (refusedAppend (numberOf Size) 0 block)
@@ -99,7 +101,7 @@ putRowOf block n r =
 abbrev pub isInside : ℕ → List ℕ → Bool
 isInside n buffer = ltb (n / cellsPerBlock) (length buffer / blockLength)
 
--- a row appended as row n, which looks at one block and no other
+-- a row is appended as row n. Of the blocks, only the one for row n is read.
 unfoldable pub appendAtOf : List ℕ → ℕ → Row → Appended
 appendAtOf buffer n r =
     cond (not (isWhole (length buffer))) (refusedAppend (numberOf Size) 0 buffer)
@@ -114,14 +116,15 @@ appendAtOf buffer n r =
 
 -- ---- a scan in pieces
 
--- the rows of n blocks by their stage: each is full; all but the last are, and that one is short; one at least is all zero; one does not match
+-- how many rows n blocks have, by the stage after them. Filling: all blocks are full. Short: all but the last are full,
+-- and the last is short. Ended: at least one block is all zero. Wrong: block j does not match.
 abbrev pub isStage : Stage → ℕ → ℕ → Bool
 isStage Filling n rows = eqb rows (cellsPerBlock * n)
 isStage Short n rows = ltb rows (cellsPerBlock * n) && ltb (cellsPerBlock * n) (rows + cellsPerBlock)
 isStage Ended n rows = leb (rows + cellsPerBlock) (cellsPerBlock * n)
 isStage (Wrong j) n rows = ltb j n
 
--- a scan that some blocks give, at most 2^32 of at most 15 rows each: 11 for any other
+-- a scan that some blocks give: at most 2^32 blocks with at most 15 rows each. The calls answer 11 for any other.
 abbrev pub isScan : Scan → Bool
 isScan s =
     leb (s .blocks) maxBlocks
@@ -131,7 +134,8 @@ pub record Feeding : Type 0 where
   pub number : ℕ
   pub next : Scan
 
--- 11, then 16 for a piece that isn't whole blocks, or brings more than 2^32 of them in all
+-- 11 for a scan that no blocks give; then 16 for a piece that isn't whole blocks, or if there are then more than 2^32
+-- blocks in all
 unfoldable pub feedOf : Scan → List ℕ → Feeding
 feedOf s piece =
     cond (not (isScan s)) (record { number = numberOf NotAccepted; next = s })
@@ -139,7 +143,7 @@ feedOf s piece =
     (record { number = numberOf Size; next = s })
     (record { number = 0; next = scanBlocks s (blocksIn piece) }))
 
--- ---- row i as it stands
+-- ---- row i, read from its cell
 
 pub record ReadRow : Type 0 where
   pub number : ℕ
@@ -148,17 +152,17 @@ pub record ReadRow : Type 0 where
 abbrev pub noRow : Row
 noRow = record { bytes = []; time = 0; loose = false }
 
--- the row of a cell; 12 where its length is over 21, so that the block is none of an archive
+-- the row of a cell; 12 if its length is over 21, because no block of an archive has such a cell
 unfoldable pub cellRow : List ℕ → ReadRow
 cellRow cell =
     cond (leb (cellUsed cell) cellCapacity) (record { number = 0; row = rowIn cell })
     (record { number = numberOf Mismatch; row = noRow })
 
--- the cell where row i stands
+-- the cell of row i
 abbrev pub cellAt : ℕ → List ℕ → List ℕ
 cellAt i buffer = blockCell (i % cellsPerBlock) (blockAt (i / cellsPerBlock) buffer)
 
--- 16, 10 where there is no row i, 12
+-- 16 for a wrong length of the buffer, 10 if there is no row i, 12 as `cellRow` says
 unfoldable pub rowAtOf : List ℕ → ℕ → ReadRow
 rowAtOf buffer i =
     cond (not (isWhole (length buffer))) (record { number = numberOf Size; row = noRow })

@@ -11,7 +11,7 @@ use Rattle.archive_model.specs.Row.{Row, rowsBlock, blockNumber, rowCoun
 
 -- ---- writing
 
--- how many blocks n rows take: "only the last block may have fewer than 15 rows"
+-- how many blocks n rows need: "only the last block may have fewer than 15 rows"
 abbrev pub blocksFor : ℕ → ℕ
 blocksFor n = (n + (cellsPerBlock - 1)) / cellsPerBlock
 
@@ -22,7 +22,8 @@ rowsAt k rows = part (cellsPerBlock * k) cellsPerBlock rows
 unfoldable pub archiveOf : List Row → List ℕ
 archiveOf rows = flatten (map (λ k. rowsBlock k (rowsAt k rows)) (upFrom 0 (blocksFor (length rows))))
 
--- a buffer of n bytes that holds these rows: "the archive ends at the first all-zero block, after which all is zero, or at the end of the room"
+-- a buffer of n bytes with these rows: "the archive ends at the first all-zero block, after which all is zero, or at
+-- the end of the room"
 unfoldable pub bufferOf : ℕ → List Row → List ℕ
 bufferOf n rows = padded n (archiveOf rows)
 
@@ -31,27 +32,27 @@ bufferOf n rows = padded n (archiveOf rows)
 abbrev pub maxBlocks : ℕ
 maxBlocks = 2 ^ 32
 
--- the most rows of an archive
+-- the largest number of rows of an archive
 abbrev pub maxRows : ℕ
 maxRows = cellsPerBlock * maxBlocks
 
--- 16: "room that isn't whole blocks or is over 2^32 of them"; it looks at the length alone
+-- the length of a buffer is right; 16 is answered for "room that isn't whole blocks or is over 2^32 of them"
 unfoldable pub isWhole : ℕ → Bool
 isWhole n = eqb (n % blockLength) 0 && leb (n / blockLength) maxBlocks
 
 unfoldable pub blocksIn : List ℕ → List (List ℕ)
 blocksIn buffer = map (λ k. part (blockLength * k) blockLength buffer) (upFrom 0 (length buffer / blockLength))
 
--- the rows that all blocks say: an all-zero one says none
+-- the rows of all blocks; an all-zero block has none
 unfoldable pub rowsIn : List ℕ → List Row
 rowsIn buffer = flatten (map rowsOf (blocksIn buffer))
 
--- the position of a block, or that there is none
+-- the position of a block, or None
 pub data Found : Type 0 where
   At : ℕ → Found
   None : Found
 
--- the first block that is not zero, of those after the end
+-- after the end of an archive: the first block that is not all zero
 abbrev pub nonZero : ℕ → List (List ℕ) → Found
 nonZero k [] = None
 nonZero k (b ∷ bs) = cond (isBlank b) (nonZero (suc k) bs) (At k)
@@ -64,7 +65,8 @@ abbrev pub isFollowed : List (List ℕ) → Bool
 isFollowed [] = false
 isFollowed (b ∷ bs) = not (isBlank b)
 
--- "the first block that doesn't match (wrong number, short with a non-zero block next, or non-zero after the end included)", of the blocks from number k on
+-- "the first block that doesn't match (wrong number, short with a non-zero block next, or non-zero after the end
+-- included)", of the blocks from number k on
 unfoldable pub mismatchFrom : ℕ → List (List ℕ) → Found
 mismatchFrom k [] = None
 mismatchFrom k (b ∷ bs) =
@@ -76,16 +78,16 @@ mismatchFrom k (b ∷ bs) =
 unfoldable pub mismatch : List ℕ → Found
 mismatch buffer = mismatchFrom 0 (blocksIn buffer)
 
--- ---- the same in pieces: what is known after some blocks, so that a file is read once and in parts
+-- ---- the same in pieces: what is known after some blocks, so that a file can be read once, in parts
 
 pub data Stage : Type 0 where
-  -- every block so far is full; the last one is short; an all-zero one was passed
+  -- Filling: all blocks so far are full. Short: the last one is short. Ended: there was an all-zero block.
   Filling Short Ended : Stage
   -- the position of the first block that does not match
   Wrong : ℕ → Stage
 
 pub record Scan : Type 0 where
-  -- how many blocks were passed, and how many rows they hold
+  -- how many blocks were read, and how many rows they have
   pub blocks : ℕ
   pub rows : ℕ
   pub stage : Stage
@@ -93,14 +95,14 @@ pub record Scan : Type 0 where
 abbrev pub startScan : Scan
 startScan = record { blocks = 0; rows = 0; stage = Filling }
 
--- what a block that is not all zero makes of a stage, at position k
+-- the stage after a block that is not all zero, at position k
 abbrev pub stageAfter : Stage → ℕ → List ℕ → Stage
 stageAfter Filling k b = cond (isSound b && eqb (blockNumber b) k) (cond (isShort b) Short Filling) (Wrong k)
 stageAfter Short k b = Wrong (k - 1)
 stageAfter Ended k b = Wrong k
 stageAfter (Wrong j) k b = Wrong j
 
--- what an all-zero block makes of it
+-- the stage after an all-zero block
 abbrev pub stageBlank : Stage → Stage
 stageBlank Filling = Ended
 stageBlank Short = Ended

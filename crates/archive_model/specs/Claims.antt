@@ -13,27 +13,29 @@ use Rattle.archive_model.specs.Row.{Row, rowsBlock, isRow}
 use Rattle.archive_model.specs.Buffer.{None, bufferOf, isWhole, blocksIn, rowsIn, mismatch, Scan, startScan, scanBlocks, stageFound}
 use Rattle.archive_model.specs.Append.{verdict, appendOf, appendAtOf, noRow, rowAtOf}
 
--- a row that an archive holds: a valid subtelegram, and a time of 64 bits
+-- a row that an archive can hold: a valid subtelegram, and a time below 2^64
 abbrev pub isFit : Row → Bool
 isFit r = isRow r && ltb (r .time) (2 ^ 64)
 
--- Sizes: 16 looks at the length alone. None, a byte short of a block, a block, a byte more; 2^32 blocks, and one more.
+-- Sizes: only the length decides on 16. The lengths here: 0, one byte less than a block, a block, one byte more; 2^32
+-- blocks, and one block more.
 abbrev pub Sizes : Type 0
 Sizes =
     map isWhole (0 ∷ 511 ∷ 512 ∷ 513 ∷ 2199023255552 ∷ 2199023256064 ∷ [])
     ≡ (true ∷ false ∷ true ∷ false ∷ true ∷ false ∷ [])
 
--- ---- the layout, byte by byte: claims about a block that is written and read by the same definitions would hold of another layout too
+-- ---- the layout, byte by byte: a claim that reading undoes writing would hold for another layout too
 
--- byte i of w bytes that spell n, the highest first
+-- byte i of the w bytes of n, the highest first
 abbrev pub digit : ℕ → ℕ → ℕ → ℕ
 digit w n i = n / 256 ^ (w - 1 - i) % 256
 
--- "rows laid out as parked entries, except that byte 30 of a row is 0 for KEPT and 1 for LOOSE": a row from byte a of a block on
+-- "rows laid out as parked entries, except that byte 30 of a row is 0 for KEPT and 1 for LOOSE": a row that begins at
+-- byte a of a block
 pub record LaidRow (block : List ℕ) (a : ℕ) (r : Row) : Type 0 where
   pub time : (i : ℕ) → i < 8 → getD block (a + i) 0 ≡ digit 8 (r .time) i
   pub used : getD block (a + 8) 0 ≡ length (r .bytes)
-  -- zero filled
+  -- filled with zeros up to 21
   pub bytes : (i : ℕ) → i < 21 → getD block (a + (9 + i)) 0 ≡ getD (r .bytes) i 0
   pub loose : getD block (a + 30) 0 ≡ cond (r .loose) 1 0
   pub last : getD block (a + 31) 0 ≡ 0
@@ -48,19 +50,19 @@ pub record Laid (k : ℕ) (rows : List Row) (block : List ℕ) : Type 0 where
   pub behind : (i : ℕ) → 24 + 32 * length rows ≤ i → i < 511 → getD block i 0 ≡ 0
   pub check : getD block 511 0 ≡ crcOf (take 511 block)
 
--- Layout: block k of an archive, whatever its number and times are.
+-- Layout: block k of an archive has this layout, for every number k and all times.
 abbrev pub Layout : Type 0
 Layout = (k : ℕ) (rows : List Row) → length rows ≤ 15 → all isRow rows ≡ true → Laid k rows (rowsBlock k rows)
 
 -- ---- reading and writing
 
--- Read back: rows that are written are read, and every block matches.
+-- Read back: rows that are written are read back, and every block matches.
 abbrev pub ReadBack : Type 0
 ReadBack =
     (m : ℕ) (rows : List Row) → m ≤ 2 ^ 32 → length rows ≤ 15 * m → all isFit rows ≡ true
     → (verdict (bufferOf (512 * m) rows) .number ≡ 0) × (rowsIn (bufferOf (512 * m) rows) ≡ rows)
 
--- Exact: an archive is just what is written of its rows.
+-- Exact: an archive is byte for byte what is written for its rows.
 abbrev pub Exact : Type 0
 Exact =
     (buffer : List ℕ) → verdict buffer .number ≡ 0
@@ -68,7 +70,7 @@ Exact =
 
 -- ---- appends, one after the other
 
--- the buffer after them, and the rows that were answered 0
+-- the buffer after the appends, and the rows whose append was answered 0
 abbrev pub afterAppends : List ℕ → List Row → List ℕ
 afterAppends buffer [] = buffer
 afterAppends buffer (r ∷ rows) = afterAppends (appendOf buffer r .buffer) rows
@@ -79,21 +81,22 @@ accepted buffer (r ∷ rows) =
     cond (eqb (appendOf buffer r .number) 0) (r ∷ accepted (appendOf buffer r .buffer) rows)
     (accepted (appendOf buffer r .buffer) rows)
 
--- The whole run: "Reading back gives exactly the rows appended, in order."
+-- Run: "Reading back gives exactly the rows appended, in order."
 abbrev pub Run : Type 0
 Run =
     (m : ℕ) (rows : List Row) → m ≤ 2 ^ 32 → all (λ r. ltb (r .time) (2 ^ 64)) rows ≡ true
     → (verdict (afterAppends (replicate (512 * m) 0) rows) .number ≡ 0)
     × (rowsIn (afterAppends (replicate (512 * m) 0) rows) ≡ accepted (replicate (512 * m) 0) rows)
 
--- At the cursor: an append that looks at one block is an append, and the rows say where the next one goes.
+-- At the cursor: an append as row n, where n is the number of rows, does the same as an append that reads all blocks.
+-- If it is answered 0, there is one row more.
 abbrev pub AtCursor : Type 0
 AtCursor =
     (buffer : List ℕ) (r : Row) → verdict buffer .number ≡ 0 → r .time < 2 ^ 64
     → (appendAtOf buffer (length (rowsIn buffer)) r ≡ appendOf buffer r)
     × (appendOf buffer r .number ≡ 0 → length (rowsIn (appendOf buffer r .buffer)) ≡ length (rowsIn buffer) + 1)
 
--- Rows: row i of an archive is answered, and 10 where there is none.
+-- Rows: row i of an archive is returned, or the answer is 10 if there is no row i.
 abbrev pub Rows : Type 0
 Rows =
     (buffer : List ℕ) (i : ℕ) → verdict buffer .number ≡ 0
@@ -101,11 +104,12 @@ Rows =
     ≡ cond (ltb i (length (rowsIn buffer))) (record { number = 0; row = getD (rowsIn buffer) i noRow })
     (record { number = numberOf Argument; row = noRow })
 
--- Short: of any buffer, a row that is answered has at most 21 bytes.
+-- Short: for any buffer, a row that is returned has at most 21 bytes.
 abbrev pub RowShort : Type 0
 RowShort = (buffer : List ℕ) (i : ℕ) → length (rowAtOf buffer i .row .bytes) ≤ 21
 
--- Pieces: a scan of blocks in two pieces is one scan, and of all blocks it finds the first mismatch, or how many rows there are.
+-- Pieces: a scan of blocks in two pieces is one scan. A scan of all blocks finds the first that does not match, or how
+-- many rows there are.
 abbrev pub Pieces : Type 0
 Pieces =
     ((s : Scan) (xs ys : List (List ℕ)) → scanBlocks s (xs ++ ys) ≡ scanBlocks (scanBlocks s xs) ys)

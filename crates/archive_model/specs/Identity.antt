@@ -12,6 +12,6 @@ use Rattle.archive_model.specs.Row.{Row, isRow}
 abbrev pub identityOf : Row → ℕ
 identityOf r = unbe (part (length (r .bytes) - 6) 4 (r .bytes))
 
--- Transmitter: of a valid row this is the codec's TXID, addressed rows included, and never a DESTID.
+-- Transmitter: for a valid row this is the TXID that the codec reads, also in an addressed row, and never a DESTID.
 abbrev pub Transmitter : Type 0
 Transmitter = (r : Row) → isRow r ≡ true → identityOf r ≡ unbe (fieldsOf (r .bytes) .txid)

@@ -32,7 +32,7 @@ rowsHeader k count = be 4 k ++ (count ∷ []) ++ replicate 19 0
 unfoldable pub rowsBlock : ℕ → List Row → List ℕ
 rowsBlock k rows = blockOf (rowsHeader k (length rows)) (map rowCell rows)
 
--- ---- what a block says, right or not
+-- ---- what a block says, sound or not
 
 abbrev pub blockNumber : List ℕ → ℕ
 blockNumber block = unbe (part 0 4 block)

@@ -1,4 +1,4 @@
--- What the calls of salvage and removal show (document 02, A9 and A11).
+-- The results of the calls of salvage and removal, as the model names them (document 02, A9 and A11).
 use Prim.Native.Nat.{ℕ}
 use mathlib.Core.List.{List}
 use lib.ListN.{length}
@@ -22,7 +22,7 @@ salvageResult r output positions = record {
   positions = positions;
 }
 
--- the number, the position beside 12, the blocks freed, and every byte of the buffer at exit
+-- the number, the position that goes with 12, the number of freed blocks, and every byte of the buffer after the call
 abbrev pub removeResult : Removed → List ℕ → model.Removed
 removeResult (removed.Done n) after = record { number = 0; position = 0; freed = n; buffer = after }
 removeResult (removed.Damaged k) after = record { number = numberOf Mismatch; position = k; freed = 0; buffer = after }

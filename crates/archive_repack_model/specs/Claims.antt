@@ -16,18 +16,19 @@ use Rattle.archive_repack_model.specs.Packer.{Packing, packing, pendingL
 
 -- ---- salvage
 
--- what it wrote: the output up to the buffer's length
+-- what salvage wrote: the output up to the length of the buffer
 abbrev pub salvagedFront : List ℕ → List ℕ → List ℕ → List ℕ
 salvagedFront buffer output positions = take (length buffer) (salvageOf buffer output positions .output)
 
--- Kept: "Rows are kept in order, none altered, none made up", in an archive.
+-- Kept: "Rows are kept in order, none altered, none made up". The output is an archive.
 abbrev pub Kept : Type 0
 Kept =
     (buffer output positions : List ℕ) → salvageOf buffer output positions .number ≡ 0
     → (verdict (salvagedFront buffer output positions) .number ≡ 0)
     × (rowsIn (salvagedFront buffer output positions) ≡ soundRows buffer)
 
--- Accounted: every block is kept, dropped or all zero, and no two of them; the list rises, and has a position just where its block is dropped.
+-- Accounted: each block is kept, dropped or all zero, and only one of these. The list is in rising order. It has
+-- exactly the positions of the dropped blocks.
 pub record Accounted (buffer : List ℕ) : Type 0 where
   pub blocks :
       count isSound (blocksIn buffer) + length (dropped buffer) + count isBlank (blocksIn buffer)
@@ -38,7 +39,7 @@ pub record Accounted (buffer : List ℕ) : Type 0 where
   pub every : (k : ℕ) → k < length buffer / blockLength → isDropped (blockAt k buffer) ≡ true
       → List·Memᴰ k (dropped buffer)
 
--- Intact: "an intact archive comes back unchanged, with 0 dropped", whatever the list's length is.
+-- Intact: "an intact archive comes back unchanged, with 0 dropped". The length of the list does not matter.
 abbrev pub Intact : Type 0
 Intact =
     (buffer output positions : List ℕ) → verdict buffer .number ≡ 0 → length buffer ≤ length output
@@ -51,7 +52,7 @@ Intact =
       positions = positions;
     }
 
--- Again: salvage of what salvage wrote is just that, with 0 dropped.
+-- Again: salvage of what salvage wrote gives the same bytes, with 0 dropped.
 abbrev pub SalvagedAgain : Type 0
 SalvagedAgain =
     (buffer output positions output2 positions2 : List ℕ) → salvageOf buffer output positions .number ≡ 0
@@ -65,7 +66,8 @@ SalvagedAgain =
       positions = positions2;
     }
 
--- Untouched: the output and the list keep their lengths, and what stands behind what was written; beside a refusal all of them.
+-- Untouched: the output and the list keep their lengths, and nothing after the written part changes. After a refusal
+-- nothing at all is changed.
 pub record Untouched (buffer output positions : List ℕ) : Type 0 where
   pub outputLength : length (salvageOf buffer output positions .output) ≡ length output
   pub listLength : length (salvageOf buffer output positions .positions) ≡ length positions
@@ -95,7 +97,8 @@ RemovedAgain =
     → removeOf (removeOf buffer identities .buffer) identities
     ≡ record { number = 0; position = 0; freed = 0; buffer = removeOf buffer identities .buffer }
 
--- Freed: "Blocks no longer needed are zero filled and their number reported": those that are all zero now and were not before.
+-- Freed: "Blocks no longer needed are zero filled and their number reported": the blocks that are all zero now and were
+-- not before.
 abbrev pub Freed : Type 0
 Freed =
     (buffer identities : List ℕ) → removeOf buffer identities .number ≡ 0
@@ -104,7 +107,7 @@ Freed =
     × ((k : ℕ) → blocksFor (length (others identities (rowsIn buffer))) ≤ k → k < length buffer / blockLength
     → isBlank (blockAt k (removeOf buffer identities .buffer)) ≡ true)
 
--- Then append: "later appends use them once the last block is full", until every block is.
+-- Then append: "later appends use them once the last block is full", until every block is full.
 abbrev pub ThenAppend : Type 0
 ThenAppend =
     (buffer identities : List ℕ) (r : Row) → removeOf buffer identities .number ≡ 0 → isRow r ≡ true
@@ -116,7 +119,7 @@ ThenAppend =
       buffer = bufferOf (length buffer) (others identities (rowsIn buffer) ++ (r ∷ []));
     }
 
--- Both lists: removal by one list and then by another is removal by both.
+-- Both lists: a removal by one list and then by another leaves the buffer that one removal by both lists leaves.
 abbrev pub BothLists : Type 0
 BothLists =
     (buffer xs ys : List ℕ) → verdict buffer .number ≡ 0 → length (xs ++ ys) ≤ maxIdentities
@@ -124,8 +127,9 @@ BothLists =
 
 -- ---- the packer
 
--- after calls, and the end: it is answered 0, all blocks written are the archive of the rows that stay of the pieces that were taken, no more than
--- 2^32 blocks hold, and the positions are those of their dropped blocks
+-- after calls, and the call that ends them. The end is answered 0. All blocks written are the archive of the rows that
+-- stay, of the pieces that were taken. An archive of 2^32 blocks has room for these rows. The positions are those of
+-- the dropped blocks.
 pub record PackedWhole (identities : List ℕ) (r : Run) (output : List ℕ) : Type 0 where
   pub ended : endOf r output .number ≡ 0
   pub blocks :
@@ -134,13 +138,13 @@ pub record PackedWhole (identities : List ℕ) (r : Run) (output : List ℕ) : T
   pub few : length (others identities (soundRows (r .taken))) ≤ maxRows
   pub positions : r .dropped ≡ dropped (r .taken)
 
--- Pieces are the whole: of calls with pieces one after the other, refused ones anywhere between.
+-- Pieces are packed: so it is after any calls with pieces, also with refused calls among them.
 abbrev pub PiecesPacked : Type 0
 PiecesPacked =
     (identities pending output : List ℕ) (calls : List Call) → length pending ≡ pendingLength
     → blockLength ≤ length output → PackedWhole identities (packAll identities (startRun pending) calls) output
 
--- Held: what a packer is lent after a piece holds its packing, which the next piece reads.
+-- Held: the buffer that is lent to a packer holds its packing after a piece, and the next piece reads it there.
 abbrev pub Held : Type 0
 Held =
     (count : ℕ) (p : Packing) (output positions : List ℕ) → length (p .waiting) % cellLength ≡ 0

@@ -1,5 +1,5 @@
--- The packer of salvage and removal: rows that stay are packed "so that only the last block is short" and renumbered from 0, the whole at once
--- or in pieces (document 02, A9 and A11).
+-- The packer of salvage and removal (document 02, A9 and A11): rows that stay are packed "so that only the last block
+-- is short" and renumbered from 0. It gets the whole archive at once, or in pieces.
 use Prim.Native.Nat.{ℕ, _+_, _-_, _*_, _/_, _%_}
 use mathlib.Core.Bool.{Bool, cond, not, _&&_, _||_}
 use mathlib.Core.List.{List, [], _∷_, _++_, map, flatten}
@@ -15,7 +15,7 @@ use Rattle.archive_model.specs.Row.{Row, rowCell, rowsHeader}
 use Rattle.archive_model.specs.Buffer.{maxRows}
 use Rattle.archive_repack_model.specs.Repack.{soundRows, dropped, fronted, maxIdentities, others}
 
--- what was packed: how many blocks, and the cells that wait for the next one, as bytes
+-- how many blocks were packed, and the cells that wait for the next one, as bytes
 pub record Packing : Type 0 where
   pub next : ℕ
   pub waiting : List ℕ
@@ -31,13 +31,13 @@ fullLength = cellLength * cellsPerBlock
 unfoldable pub cellsBlock : ℕ → List ℕ → List ℕ
 cellsBlock k cells = sealed (padded bodyLength (rowsHeader k (length cells / cellLength) ++ cells))
 
--- the blocks that cells fill, the first of them block k
+-- the blocks that cells fill; the first of them is block k
 unfoldable pub fullBlocks : ℕ → List ℕ → List ℕ
 fullBlocks k cells =
     flatten
     (map (λ j. cellsBlock (k + j) (part (fullLength * j) fullLength cells)) (upFrom 0 (length cells / fullLength)))
 
--- cells behind those that wait: the blocks that they fill together, and what is packed then
+-- cells come after those that wait: the blocks that they fill together, and the packing after that
 abbrev pub pushedBlocks : Packing → List ℕ → List ℕ
 pushedBlocks p cells = fullBlocks (p .next) (p .waiting ++ cells)
 
@@ -47,28 +47,28 @@ pushed p cells = record {
   waiting = drop (fullLength * (length (p .waiting ++ cells) / fullLength)) (p .waiting ++ cells);
 }
 
--- the last block, where cells wait
+-- the last block, if cells wait
 unfoldable pub lastBlock : Packing → List ℕ
 lastBlock p = cond (eqb (length (p .waiting)) 0) [] (cellsBlock (p .next) (p .waiting))
 
 abbrev pub cellsOf : List Row → List ℕ
 cellsOf rows = flatten (map rowCell rows)
 
--- the cells of the rows of a piece that stay
+-- the cells of the rows that stay, of one piece
 unfoldable pub keptCells : List ℕ → List ℕ → List ℕ
 keptCells identities piece = cellsOf (others identities (soundRows piece))
 
 -- ---- the calls in pieces
 
--- the bytes that a packer is lent: for the cells that wait, and for those of one block more
+-- the length of the buffer that is lent to a packer: for the cells that wait, and for the cells of one more block
 abbrev pub pendingLength : ℕ
 pendingLength = fullLength + fullLength
 
--- the packing that they hold: the first `used` cells wait
+-- the packing in that buffer: the first `used` cells wait
 abbrev pub packing : ℕ → ℕ → List ℕ → Packing
 packing next used pending = record { next = next; waiting = take (cellLength * used) pending }
 
--- so many full blocks, and cells that wait, have no more rows than an archive of 2^32 blocks
+-- `full` full blocks and `used` cells have no more rows than an archive of 2^32 blocks
 abbrev pub hasBlocks : ℕ → ℕ → Bool
 hasBlocks full used = leb (cellsPerBlock * full + used) maxRows
 
@@ -77,8 +77,8 @@ unfoldable pub isPacking : ℕ → ℕ → List ℕ → Bool
 isPacking next used pending =
     eqb (length pending) pendingLength && (ltb used cellsPerBlock && hasBlocks next used)
 
--- the number, and how many blocks of the piece were dropped; how many cells wait then, how many blocks were packed, and every byte that the packer
--- is lent; every byte and element of the output and of the list
+-- the result of a piece: the number, and how many blocks of it were dropped; then how many cells wait, how many blocks
+-- were packed, and every byte of the packer's buffer; every byte of the output and every element of the list
 pub record Packed : Type 0 where
   pub number : ℕ
   pub count : ℕ
@@ -88,7 +88,7 @@ pub record Packed : Type 0 where
   pub output : List ℕ
   pub positions : List ℕ
 
--- a refusal, beside which all is as it was
+-- a refusal: everything is unchanged
 abbrev pub keptAs : ℕ → ℕ → ℕ → List ℕ → List ℕ → List ℕ → Packed
 keptAs number next used pending output positions = record {
   number = number;
@@ -100,7 +100,7 @@ keptAs number next used pending output positions = record {
   positions = positions;
 }
 
--- a packing as it is lent: zeros stand behind the cells that wait
+-- a packing in the packer's buffer: the cells that wait, and zeros after them
 abbrev pub packedAs : ℕ → Packing → List ℕ → List ℕ → Packed
 packedAs count p output positions = record {
   number = 0;
@@ -112,8 +112,9 @@ packedAs count p output positions = record {
   positions = positions;
 }
 
--- a piece: 11; 16 for one that isn't whole blocks, or whose rows could need more than 2^32 blocks with those before; 10 for more than 32 identities;
--- 6 for an output shorter than the piece or a list too short. Positions count from the first block of the piece.
+-- a piece: 11 for a packing that no calls give; 16 for a piece that isn't whole blocks, or if its rows, with those
+-- before, could need more than 2^32 blocks; 10 for more than 32 identities; 6 for an output shorter than the piece or a
+-- list too short. Positions count from the first block of the piece.
 unfoldable pub packOf : ℕ → ℕ → List ℕ → List ℕ → List ℕ → List ℕ → List ℕ → Packed
 packOf next used pending piece identities output positions =
     cond (not (isPacking next used pending))
@@ -133,7 +134,7 @@ pub record Finished : Type 0 where
   pub length : ℕ
   pub output : List ℕ
 
--- the end: 11; 6 for an output too short for the last block; else its length, 512 or 0
+-- the end: 11; 6 for an output too short for the last block; else the length of the last block, 512 or 0
 unfoldable pub finishOf : ℕ → ℕ → List ℕ → List ℕ → Finished
 finishOf next used pending output =
     cond (not (isPacking next used pending)) (record { number = numberOf NotAccepted; length = 0; output = output })
@@ -145,16 +146,16 @@ finishOf next used pending output =
       output = fronted (lastBlock (packing next used pending)) output;
     }))
 
--- ---- what calls give together
+-- ---- what several calls give together
 
--- what a call is lent beside the packer
+-- what a call is lent, apart from the packer's buffer
 pub record Call : Type 0 where
   pub piece : List ℕ
   pub output : List ℕ
   pub positions : List ℕ
 
--- after some calls: the packer; the blocks written, the positions of dropped blocks from the first piece on, and the pieces that were taken, each put
--- together
+-- after some calls: the packer; all blocks that were written; the positions of dropped blocks, counted from the first
+-- piece; and all pieces that were taken
 pub record Run : Type 0 where
   pub next : ℕ
   pub used : ℕ
@@ -166,7 +167,7 @@ pub record Run : Type 0 where
 abbrev pub startRun : List ℕ → Run
 startRun pending = record { next = 0; used = 0; pending = pending; written = []; dropped = []; taken = [] }
 
--- a call for a piece that was answered a: beside 0 it wrote the blocks by which their number rose
+-- after a call for a piece, with its result a. If the result is 0, the call wrote as many blocks as `next` rose by.
 abbrev pub ran : Run → List ℕ → Packed → Run
 ran r piece a = record {
   next = a .next;

@@ -34,12 +34,12 @@ pub record Salvaged : Type 0 where
   pub output : List ℕ
   pub positions : List ℕ
 
--- a list with xs at its front
+-- a list whose front is overwritten with xs
 abbrev pub fronted : List ℕ → List ℕ → List ℕ
 fronted xs old = xs ++ drop (length xs) old
 
--- 16; 6 "for output shorter than the room or a list too short for the positions"; else the rows in the front of the output, zeros up to the
--- buffer's length, and the positions in the front of the list
+-- 16; 6 "for output shorter than the room or a list too short for the positions"; else the rows are at the front of the
+-- output, with zeros up to the length of the buffer, and the positions are at the front of the list
 unfoldable pub salvageOf : List ℕ → List ℕ → List ℕ → Salvaged
 salvageOf buffer output positions =
     cond (not (isWhole (length buffer)))
@@ -60,7 +60,7 @@ salvageOf buffer output positions =
 abbrev pub maxIdentities : ℕ
 maxIdentities = 32
 
--- a row of a transmitter that left
+-- the transmitter of a row is in the list
 abbrev pub isListed : List ℕ → Row → Bool
 isListed identities r = any (eqb (identityOf r)) identities
 
@@ -74,7 +74,8 @@ pub record Removed : Type 0 where
   pub freed : ℕ
   pub buffer : List ℕ
 
--- 16, 12 with its position, 10; else the other rows in the same buffer, and the blocks no longer needed
+-- 16 and 12 as `verdict` says, 10 for more than 32 identities; else the other rows in the same buffer, and the number
+-- of blocks that are no longer needed
 unfoldable pub removeOf : List ℕ → List ℕ → Removed
 removeOf buffer identities =
     cond (not (eqb (verdict buffer .number) 0))

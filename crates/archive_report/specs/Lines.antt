@@ -1,11 +1,11 @@
--- The lines of a report in one array of numbers (document 02, A12): what it shows.
+-- The lines of a report in one array of numbers (document 02, A12): how they are read from it.
 use Prim.Native.Nat.{ℕ, _+_, _*_}
 use mathlib.Core.List.{List, [], _∷_, _++_, map}
 use lib.ListN.{length, getD, drop}
 use Rattle.base_lists.specs.Lists.{upFrom}
 use Rattle.archive_report_model.specs.Report.{Line, maxLines}
 
--- five numbers a line
+-- five numbers for each line
 abbrev pub lineLength : ℕ
 lineLength = 5
 
@@ -30,7 +30,7 @@ linesFrom xs a n = map (lineAt xs) (upFrom a n)
 abbrev pub linesAt : List ℕ → ℕ → List Line
 linesAt xs n = linesFrom xs 0 n
 
--- ---- and what it holds
+-- ---- and how they are written into it
 
 -- identity, KEPT rows, LOOSE rows, earliest and latest time
 abbrev pub lineNumbers : Line → List ℕ
@@ -40,6 +40,6 @@ unfoldable pub linesNumbers : List Line → List ℕ
 linesNumbers [] = []
 linesNumbers (a ∷ lines) = lineNumbers a ++ linesNumbers lines
 
--- an array where lines are put in front; what stands behind them is as it was
+-- an array after lines are written at its front; the rest is unchanged
 unfoldable pub written : List Line → List ℕ → List ℕ
 written lines old = linesNumbers lines ++ drop (lineLength * length lines) old

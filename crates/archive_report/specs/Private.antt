@@ -1,4 +1,4 @@
--- What private functions say. No public contract cites these.
+-- What the contracts of private functions say. No public contract cites these.
 use Prim.Native.Nat.{ℕ, _+_, _*_, _^_, _≤_, _<_}
 use mathlib.Core.Path.{_≡_}
 use mathlib.Core.Bool.{Bool, true, false, cond, _&&_, _||_}
@@ -23,11 +23,11 @@ use Rattle.archive_report.specs.Report.{reportOf}
 
 -- ---- rows, lines and their array
 
--- n rows from row a of a block on, as they stand
+-- n rows of a block, from row a on
 unfoldable pub rowsBetween : List ℕ → ℕ → ℕ → List Row
 rowsBetween block a n = map (λ i. rowIn (blockCell i block)) (upFrom a n)
 
--- what a row of this transmitter gives
+-- the line that one row gives, by its transmitter, time and kind
 abbrev pub rowLine : ℕ → ℕ → Bool → Line
 rowLine identity time loose = record {
   identity = identity;
@@ -37,46 +37,47 @@ rowLine identity time loose = record {
   latest = time;
 }
 
--- the rows of all lines
+-- how many rows all lines have
 abbrev pub totalOf : List Line → ℕ
 totalOf lines = sumBy rowsOfLine lines
 
--- identities rise
+-- the identities of the first n lines rise
 abbrev pub Ordered : List ℕ → ℕ → Type 0
 Ordered xs n = (i j : ℕ) → i < j → j < n → lineAt xs i .identity < lineAt xs j .identity
 
--- r lines are before an identity, and the others are not
+-- r is the index where an identity belongs: the lines before r are below it, and the others are not
 pub record Place (xs : List ℕ) (n identity r : ℕ) : Type 0 where
   pub within : r ≤ n
   pub below : (i : ℕ) → i < r → lineAt xs i .identity < identity
   pub above : (i : ℕ) → r ≤ i → i < n → identity ≤ lineAt xs i .identity
 
--- what stands from index `from` on is as it was
+-- from index `from` on, nothing has changed
 abbrev pub SameBehind : ℕ → List ℕ → List ℕ → Type 0
 SameBehind from old new = (k : ℕ) → from ≤ k → getD new k 0 ≡ getD old k 0
 
--- what stood from `from` to `end` stands five further
+-- the numbers from `from` to `end` were moved up by five, the length of a line
 pub record Gap (from end : ℕ) (old new : List ℕ) : Type 0 where
   pub long : length new ≡ length old
   pub front : (k : ℕ) → k < from → getD new k 0 ≡ getD old k 0
   pub back : (k : ℕ) → from ≤ k → k < end → getD new (k + lineLength) 0 ≡ getD old k 0
   pub behind : SameBehind (end + lineLength) old new
 
--- line i is a, and every other one is as it was
+-- line i is a; every other line is unchanged
 pub record Stored (i : ℕ) (a : Line) (old new : List ℕ) : Type 0 where
   pub long : length new ≡ length old
   pub here : lineAt new i ≡ a
   pub elsewhere : (j : ℕ) → (j ≡ i → ⊥) → lineAt new j ≡ lineAt old j
   pub behind : SameBehind (lineLength * i + lineLength) old new
 
--- n lines and one more make r, and where these are not too many, they stand there
+-- a line is inserted into n lines: r lines are there afterwards, if r is not over the maximum
 pub record Inserted (n : ℕ) (a : Line) (old new : List ℕ) (r : ℕ) : Type 0 where
   pub long : length new ≡ length old
   pub count : r ≡ length (insert a (linesAt old n))
   pub lines : r ≤ maxLines → linesAt new r ≡ insert a (linesAt old n)
   pub behind : SameBehind (lineLength * r) old new
 
--- n lines and these rows make r, or too many
+-- rows are added to n lines: r lines are there afterwards; or r is over the maximum, and so is the right number of
+-- lines
 pub record AddedRows (n : ℕ) (rows : List Row) (old new : List ℕ) (r : ℕ) : Type 0 where
   pub long : length new ≡ length old
   pub lines : r ≤ maxLines → linesAt new r ≡ addRows rows (linesAt old n)
@@ -86,17 +87,17 @@ pub record AddedRows (n : ℕ) (rows : List Row) (old new : List ℕ) (r : ℕ) 
 
 -- ---- the test of the lines, one after the other
 
--- a line by its numbers, where the latest time has 64 bits
+-- the test of one line by its numbers. The latest time is not tested: its type has 64 bits.
 abbrev pub isLineOf : ℕ → ℕ → ℕ → ℕ → Bool
 isLineOf identity rows earliest latest =
     ltb identity (2 ^ 32) && (leb 1 rows && (leb earliest latest && (ltb 1 rows || eqb earliest latest)))
 
--- a line is below the next one
+-- the identity of a line is below that of the next line
 abbrev pub isBefore : Line → List Line → Bool
 isBefore a [] = true
 isBefore a (b ∷ lines) = ltb (a .identity) (b .identity)
 
--- a line in front of others, with no more rows than these
+-- a line may come before others: it passes the test, has no more rows than the totals say, and is below the next line
 abbrev pub lineFits : Line → List Line → ℕ → ℕ → Bool
 lineFits a lines kept loose =
     leb (a .kept) kept
@@ -105,7 +106,7 @@ lineFits a lines kept loose =
 
 -- ---- a tally, and what is refused
 
--- a tally, with the lines that stand in the array
+-- a tally, with its lines from the array
 abbrev pub tallyOf : Tally → List ℕ → pieces.Tally
 tallyOf t lines = record {
   lines = linesAt lines (t .count);
@@ -115,7 +116,8 @@ tallyOf t lines = record {
   scan = scanOf (t .scan);
 }
 
--- a tally after blocks: what stands behind its lines is as it was, unless a transmitter was one too many; then its lines stood there before
+-- a tally after blocks. If there are not more than 256 transmitters, the numbers after its lines are unchanged. If
+-- there are more, the lines that it counts are unchanged.
 pub record Grows (t r : Tally) (old new : List ℕ) : Type 0 where
   pub few : r .count ≤ maxLines
   pub before : r .over ≡ false → t .over ≡ false
@@ -123,7 +125,7 @@ pub record Grows (t r : Tally) (old new : List ℕ) : Type 0 where
   pub behind : r .over ≡ false → SameBehind (lineLength * r .count) old new
   pub held : r .over ≡ true → linesAt new (r .count) ≡ linesAt old (r .count)
 
--- a tally that some blocks give, so that no number goes past its end
+-- the bounds of a tally that some blocks give: no sum overflows
 pub record Sane (t : pieces.Tally) : Type 0 where
   pub scanned : isScan (t .scan) ≡ true
   pub few : length (t .lines) ≤ model.maxLines
@@ -131,17 +133,17 @@ pub record Sane (t : pieces.Tally) : Type 0 where
   pub rows : totalOf (t .lines) ≤ maxRows * model.maxArchives + t .scan .rows
   pub totals : t .kept + t .loose ≤ maxRows * model.maxArchives + t .scan .rows
 
--- before the first block, whatever the lines are
+-- the tally before the first block, for any lines
 abbrev pub Starts : ℕ → ℕ → ℕ → Tally → Type 0
 Starts count kept loose t =
     (lines : List ℕ)
     → tallyOf t lines
     ≡ record { lines = linesAt lines count; kept = kept; loose = loose; over = false; scan = startScan }
 
--- a report that stays as it was
+-- a refused call leaves the report unchanged
 abbrev pub keptWith : Report → Refusal → model.Addition
 keptWith s why = model.answer (numberOf why) 0 (reportOf s)
 
--- no line, and why
+-- no line, and the reason
 abbrev pub noLineFor : Refusal → model.LineAnswer
 noLineFor why = record { number = numberOf why; line = model.noLine }

@@ -1,4 +1,4 @@
--- What the calls over a report show (document 02, A12).
+-- The results of the calls on a report, as the model names them (document 02, A12).
 use Prim.Native.Nat.{ℕ}
 use mathlib.Core.Bool.{cond}
 use mathlib.Core.List.{List}
@@ -21,12 +21,12 @@ use Rattle.archive_report.specs.declared.Looked.the-variants as looked
 use Rattle.archive_report.specs.declared.LineAt.{LineAt}
 use Rattle.archive_report.specs.Lines.{linesAt, written}
 
--- ---- what a report says: its lines are the first `count`
+-- ---- a report: its lines are the first `count` of the array
 
 abbrev pub reportOf : Report → model.Report
 reportOf s = record { archives = s .archives; lines = linesAt (s .lines) (s .count); kept = s .kept; loose = s .loose }
 
--- ---- the number of each answer, the position beside 12, and what else is handed back
+-- ---- results: the number, the position that goes with 12, and what else is returned
 
 abbrev pub outcomeNumber : Outcome → ℕ
 outcomeNumber outcome.Done = 0
@@ -78,7 +78,8 @@ addingOf a = record {
 abbrev pub feedResult : Fed → pieces.Feeding
 feedResult r = pieces.fed (takenNumber (r .answer)) (addingOf (r .next))
 
--- ---- every number of the lines' array: the lines, and what stood behind them; beside a refusal all as it was
+-- ---- every number of the array of lines: the lines, and after them what was there before; all unchanged with a
+-- refusal
 
 abbrev pub linesAdded : model.Addition → List ℕ → List ℕ
 linesAdded a old = cond (eqb (a .number) 0) (written (a .next .lines) old) old
@@ -86,6 +87,6 @@ linesAdded a old = cond (eqb (a .number) 0) (written (a .next .lines) old) old
 abbrev pub linesFed : pieces.Feeding → List ℕ → List ℕ
 linesFed a old = cond (eqb (a .number) 0) (written (a .next .tally .lines) old) old
 
--- at the end those that were added to are the report's
+-- when an archive has ended, the array of the report gets the lines that were added to
 abbrev pub linesEnded : model.Addition → List ℕ → List ℕ → List ℕ
 linesEnded a new old = cond (eqb (a .number) 0) new old

@@ -1,4 +1,4 @@
--- An archive that is added block by block, so that it is read once: what is known after some blocks.
+-- An archive that is added block by block, so that it is read only once: what is known after some blocks.
 use Prim.Native.Nat.{ℕ, _+_, _*_}
 use mathlib.Core.Bool.{Bool, true, false, cond, not, _&&_, _||_}
 use mathlib.Core.List.{List, [], _∷_}
@@ -12,7 +12,8 @@ use Rattle.archive_model.specs.Buffer.{Found, At, None, isWhole, blocksIn, Scan
 use Rattle.archive_model.specs.Append.{isScan}
 use Rattle.archive_report_model.specs.Report.{Line, Report, maxArchives, maxLines, addRows, keptIn, looseIn, isTally, isReport, Addition, answer}
 
--- the lines and the totals so far, whether a transmitter was one too many (then no line is left), and the scan of the blocks
+-- the lines and the totals so far, whether there were more than 256 transmitters (then there are no lines), and the
+-- scan of the blocks
 pub record Tally : Type 0 where
   pub lines : List Line
   pub kept : ℕ
@@ -23,11 +24,11 @@ pub record Tally : Type 0 where
 abbrev pub startTally : Report → Tally
 startTally s = record { lines = s .lines; kept = s .kept; loose = s .loose; over = false; scan = startScan }
 
--- the rows that a block adds: those of a sound one
+-- the rows that a block adds: those of a sound block, and none of any other
 abbrev pub countedRows : List ℕ → List Row
 countedRows block = cond (isSound block) (rowsOf block) []
 
--- after rows more
+-- the tally after more rows
 abbrev pub counted : Tally → List Row → Scan → Tally
 counted t rows scan =
     cond (t .over || ltb maxLines (length (addRows rows (t .lines))))
@@ -47,7 +48,7 @@ unfoldable pub addBlocks : Tally → List (List ℕ) → Tally
 addBlocks t [] = t
 addBlocks t (b ∷ bs) = addBlocks (addBlock t b) bs
 
--- the answer after all blocks: 12, 10, 17, or the report
+-- the answer after all blocks: 12, 10, 17, or the new report
 abbrev pub closed : Report → Tally → Found → Addition
 closed s t (At k) = answer (numberOf Mismatch) k s
 closed s t None =
@@ -60,7 +61,7 @@ closing s t = closed s t (stageFound (t .scan .stage))
 
 -- ---- the calls in pieces
 
--- an archive that is being added: the report as handed in, and what is known so far
+-- an archive that is being added: the report before it, and what is known so far
 pub record Adding : Type 0 where
   pub report : Report
   pub tally : Tally
@@ -71,11 +72,11 @@ adding s t = record { report = s; tally = t }
 abbrev pub startAdding : Report → Adding
 startAdding s = adding s (startTally s)
 
--- the rows of its lines: those of the report and of the blocks, and none where a transmitter was one too many
+-- how many rows its lines have: those of the report and of the blocks; 0 if there were more than 256 transmitters
 abbrev pub rowsSoFar : Adding → ℕ
 rowsSoFar a = cond (a .tally .over) 0 (a .report .kept + a .report .loose + a .tally .scan .rows)
 
--- what some pieces give, as far as its numbers tell: 11 for any other
+-- the numbers are such as some pieces give. The calls answer 11 for any other.
 unfoldable pub isAdding : Adding → Bool
 isAdding a =
     isReport (a .report)
@@ -95,13 +96,13 @@ pub record Feeding : Type 0 where
 abbrev pub fed : ℕ → Adding → Feeding
 fed number next = record { number = number; next = next }
 
--- 11, then 16 for a piece that isn't whole blocks, or brings more than 2^32 of them in all
+-- 11; then 16 for a piece that isn't whole blocks, or if there are then more than 2^32 blocks in all
 unfoldable pub feedOf : Adding → List ℕ → Feeding
 feedOf a piece =
     cond (not (isAdding a)) (fed (numberOf NotAccepted) a)
     (cond (not (isPiece (a .tally .scan) piece)) (fed (numberOf Size) a)
     (fed 0 (adding (a .report) (addBlocks (a .tally) (blocksIn piece)))))
 
--- 11, then as `addOf` answers: 12, 10, 17, or the report
+-- 11; then what `addOf` answers: 12, 10, 17, or the new report
 unfoldable pub endedOf : Adding → Addition
 endedOf a = cond (not (isAdding a)) (answer (numberOf NotAccepted) 0 (a .report)) (closing (a .report) (a .tally))

@@ -1,4 +1,5 @@
--- The yearly sheet (document 02, A12), here a report: what it says, adding an archive, and its share of receptions.
+-- The yearly sheet (document 02, A12), here called a report: its contents, the call that adds an archive, and its share
+-- of the receptions.
 use Prim.Native.Nat.{ℕ, _+_, _*_, _/_, _^_, min, max}
 use mathlib.Core.Bool.{Bool, cond, not, _&&_, _||_}
 use mathlib.Core.List.{List, [], _∷_}
@@ -20,7 +21,7 @@ pub record Line : Type 0 where
   pub earliest : ℕ
   pub latest : ℕ
 
--- how many archives were added, the lines, and the grand totals
+-- how many archives were added, the lines, and the totals
 pub record Report : Type 0 where
   pub archives : ℕ
   pub lines : List Line
@@ -39,7 +40,7 @@ emptyReport = record { archives = 0; lines = []; kept = 0; loose = 0 }
 
 -- ---- one row more
 
--- what one row gives
+-- the line of one row
 abbrev pub lineOf : Row → Line
 lineOf r = record {
   identity = identityOf r;
@@ -49,7 +50,7 @@ lineOf r = record {
   latest = r .time;
 }
 
--- two lines of one transmitter
+-- one line from two lines of the same transmitter
 abbrev pub joined : Line → Line → Line
 joined a b = record {
   identity = a .identity;
@@ -59,7 +60,7 @@ joined a b = record {
   latest = max (a .latest) (b .latest);
 }
 
--- "ordered by identity", a line of the same identity joined
+-- a line is inserted, "ordered by identity"; it is joined with a line of the same identity
 unfoldable pub insert : Line → List Line → List Line
 insert a [] = a ∷ []
 insert a (b ∷ lines) =
@@ -78,12 +79,13 @@ looseIn rows = count (λ r. r .loose) rows
 abbrev pub keptIn : List Row → ℕ
 keptIn rows = count (λ r. not (r .loose)) rows
 
--- ---- what some archives give: 11 for any other (that it is just this is `Sound` and `Complete` of Claims.antt)
+-- ---- the reports that archives give; the calls answer 11 for any other (`Sound` and `Complete` of Claims.antt prove
+-- both directions)
 
 abbrev pub rowsOfLine : Line → ℕ
 rowsOfLine a = a .kept + a .loose
 
--- a transmitter has a row, and one row has one time
+-- a line has at least one row; with exactly one row, earliest and latest time are equal
 abbrev pub isLine : Line → Bool
 isLine a =
     ltb (a .identity) (2 ^ 32)
@@ -99,7 +101,7 @@ abbrev pub sumBy : (Line → ℕ) → List Line → ℕ
 sumBy f [] = 0
 sumBy f (a ∷ lines) = f a + sumBy f lines
 
--- lines in order, and their sums
+-- lines in rising order of identity, with these sums
 unfoldable pub isTally : List Line → ℕ → ℕ → Bool
 isTally lines kept loose =
     all isLine lines
@@ -107,7 +109,7 @@ isTally lines kept loose =
     && (eqb kept (sumBy (λ a. a .kept) lines)
     && eqb loose (sumBy (λ a. a .loose) lines)))
 
--- few archives hold few rows
+-- no more rows than that many archives can have
 unfoldable pub isReport : Report → Bool
 isReport s =
     leb (s .archives) maxArchives
@@ -117,7 +119,7 @@ isReport s =
 
 -- ---- the calls
 
--- the number, the position beside 12, and the report afterwards
+-- the number, the position that goes with 12, and the report after the call
 pub record Addition : Type 0 where
   pub number : ℕ
   pub position : ℕ
@@ -126,7 +128,7 @@ pub record Addition : Type 0 where
 abbrev pub answer : ℕ → ℕ → Report → Addition
 answer number position next = record { number = number; position = position; next = next }
 
--- a report with the rows of one archive more
+-- a report with the rows of one more archive
 unfoldable pub added : Report → List Row → Report
 added s rows = record {
   archives = s .archives + 1;
@@ -135,7 +137,7 @@ added s rows = record {
   loose = s .loose + looseIn rows;
 }
 
--- 11, 16, 12, 10 for a 65th archive, 17 for a 257th transmitter; "a refused archive adds nothing"
+-- 11; 16 and 12 as `verdict` says; 10 for a 65th archive; 17 for a 257th transmitter; "a refused archive adds nothing"
 unfoldable pub addOf : Report → List ℕ → Addition
 addOf s buffer =
     cond (not (isReport s)) (answer (numberOf NotAccepted) 0 s)
@@ -148,14 +150,15 @@ pub record Share : Type 0 where
   pub number : ℕ
   pub thousandths : ℕ
 
--- "the share of its rows in receptions, in whole thousandths rounded down": 11, then 10 for a received figure of 0 or less than the rows
+-- "the share of its rows in receptions, in whole thousandths rounded down": 11; then 10 if the number received is 0 or
+-- less than the number of rows
 unfoldable pub shareOf : Report → ℕ → Share
 shareOf s received =
     cond (not (isReport s)) (record { number = numberOf NotAccepted; thousandths = 0 })
     (cond (eqb received 0 || ltb received (s .kept + s .loose)) (record { number = numberOf Argument; thousandths = 0 })
     (record { number = 0; thousandths = 1000 * (s .kept + s .loose) / received }))
 
--- line i, from 0: 11, then 10 where there is none
+-- line i, counted from 0: 11; then 10 if there is no line i
 pub record LineAnswer : Type 0 where
   pub number : ℕ
   pub line : Line

@@ -1,5 +1,5 @@
--- CRC-8 as source document 001, 3.3.3 has it: a polynomial over GF(2) is a number whose bit k is its coefficient of x^k,
--- and addition and subtraction are XOR.
+-- CRC-8 of source document 001, 3.3.3. A polynomial over GF(2) is a number: its bit k is the coefficient of x^k.
+-- Addition and subtraction are XOR.
 use Prim.Native.Nat.{ℕ, zero, suc, _+_, _*_, _/_, _%_, _^_}
 use mathlib.Core.List.{List, [], _∷_}
 use mathlib.Core.Bool.{Bool}
@@ -14,7 +14,7 @@ generator = 0b1_0000_0111
 abbrev pub coefficient : ℕ → ℕ → ℕ
 coefficient p k = p / 2 ^ k % 2
 
--- One step of long division: the term x^(8 + k), where p has it, is cancelled by the generator times x^k.
+-- one step of long division: if p has the term x^(8 + k), the generator times x^k cancels it
 abbrev pub cancel : ℕ → ℕ → ℕ
 cancel k p = bitXor p (coefficient p (8 + k) * generator * 2 ^ k)
 

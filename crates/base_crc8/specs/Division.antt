@@ -1,10 +1,10 @@
--- What is claimed of the remainder: it is that of polynomial division. proofs/Divided.antt has the theorem.
+-- The claim on the remainder: it is the remainder of polynomial division. proofs/Divided.antt proves it.
 use mathlib.Core.Path.{_≡_}
 use Prim.Native.Nat.{ℕ, zero, suc, _+_, _*_, _^_, _<_}
 use lib.Bits.{bitXor}
 use Rattle.base_crc8.specs.Crc8.{generator, coefficient, cancel, remainderOf}
 
--- the product of p, of degree below n, and q: q shifted by each term of p, added
+-- the product of p, whose degree is below n, and q: for each term of p, q is shifted and added
 unfoldable pub product : ℕ → ℕ → ℕ → ℕ
 product zero p q = 0
 product (suc n) p q = bitXor (coefficient p n * q * 2 ^ n) (product n p q)
@@ -23,6 +23,6 @@ pub record Divided (b : ℕ) : Type 0 where
   pub whole : b * 2 ^ 8 ≡ restored b
   pub below : remainderOf b < 2 ^ 8
 
--- THE CLAIM: so it is for every byte
+-- THE CLAIM: this holds for every byte
 abbrev pub LongDivision : Type 0
 LongDivision = (b : ℕ) → b < 256 → Divided b

@@ -1,4 +1,4 @@
--- Lists: what the definitions of the other crates say with them, beside what the logic's own library has.
+-- Definitions on lists that the other crates use, and that mathlib does not have.
 use Prim.Native.Nat.{ℕ, zero, suc, _+_, _-_}
 use mathlib.Core.Bool.{Bool, true, false, cond, _&&_, _||_}
 use mathlib.Core.List.{List, [], _∷_, _++_}
@@ -6,12 +6,12 @@ use lib.Dec.{eqb}
 use lib.ListN.{length, replicate}
 
 module _ {A : Type 0} where
-  -- the elements that pass a test, in their order
+  -- the elements that pass a test, in order
   abbrev pub keep : (A → Bool) → List A → List A
   keep p [] = []
   keep p (x ∷ l) = cond (p x) (x ∷ keep p l) (keep p l)
 
-  -- one element passes
+  -- some element passes
   abbrev pub any : (A → Bool) → List A → Bool
   any p [] = false
   any p (x ∷ l) = p x || any p l
@@ -21,7 +21,7 @@ module _ {A : Type 0} where
   all p [] = true
   all p (x ∷ l) = p x && all p l
 
-  -- a test of each element and its index, which counts from i, passes everywhere
+  -- each element passes a test with its index; the first index is i
   abbrev pub every : (ℕ → A → Bool) → ℕ → List A → Bool
   every p i [] = true
   every p i (x ∷ l) = p i x && every p (suc i) l
@@ -31,12 +31,12 @@ module _ {A : Type 0} where
   pairwise r [] = true
   pairwise r (x ∷ l) = all (r x) l && pairwise r l
 
-  -- the index of the first element that passes; the length where none does
+  -- the index of the first element that passes, or the length if none does
   abbrev pub firstOf : (A → Bool) → List A → ℕ
   firstOf p [] = 0
   firstOf p (x ∷ l) = cond (p x) 0 (suc (firstOf p l))
 
-  -- the index of the last element that passes; the length where none does
+  -- the index of the last element that passes, or the length if none does
   abbrev pub lastIndex : (A → Bool) → List A → ℕ
   lastIndex p [] = 0
   lastIndex p (x ∷ l) = cond (any p l) (suc (lastIndex p l)) (cond (p x) 0 (suc (length l)))
@@ -53,15 +53,15 @@ equal [] (y ∷ m) = false
 equal (x ∷ l) [] = false
 equal (x ∷ l) (y ∷ m) = eqb x y && equal l m
 
--- xs, and zeros up to n numbers
+-- xs, filled up with zeros to n numbers
 abbrev pub padded : ℕ → List ℕ → List ℕ
 padded n xs = xs ++ replicate (n - length xs) 0
 
--- n numbers from a on
+-- the n numbers from a on: a, a + 1, ..
 unfoldable pub upFrom : ℕ → ℕ → List ℕ
 upFrom a zero = []
 upFrom a (suc n) = a ∷ upFrom (suc a) n
 
--- a table of n numbers, each what the rule says of its index: a test
+-- the table has n numbers, and the rule gives each of them for its index
 unfoldable pub isTableOf : ℕ → (ℕ → ℕ) → List ℕ → Bool
 isTableOf n rule table = eqb (length table) n && every (λ k entry. eqb entry (rule k)) 0 table

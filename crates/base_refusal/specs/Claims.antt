@@ -1,8 +1,8 @@
--- What is claimed of the numbers: proofs/Numbers.antt has the theorem.
+-- The claim on the numbers. proofs/Numbers.antt proves it.
 use mathlib.Core.Path.{_≡_}
 use Rattle.base_refusal.specs.declared.Refusal.{Refusal}
 use Rattle.base_refusal.specs.Number.{numberOf}
 
--- 0 says done (document 01, "Numbers a caller sees"): no refusal has it
+-- 0 means done (document 01, "Numbers a caller sees"): no refusal has this number
 abbrev pub NoneIsDone : Type 0
 NoneIsDone = (r : Refusal) → numberOf r ≡ 0 → ⊥

@@ -1,4 +1,4 @@
--- Numbers as bytes, the highest first (document 01, "Parked collector": numbers are big-endian), over any width.
+-- Numbers as bytes of any width, the highest byte first (document 01, "Parked collector": numbers are big-endian).
 use mathlib.Core.List.{List, [], _∷_, _++_}
 use Prim.Native.Nat.{ℕ, zero, suc, _+_, _*_, _/_, _%_, _<_}
 use lib.ListN.{getD}
@@ -8,12 +8,12 @@ unfoldable pub be : ℕ → ℕ → List ℕ
 be zero n = []
 be (suc w) n = be w (n / 256) ++ (n % 256 ∷ [])
 
--- the number that bytes spell after those that spell `high`
+-- the number of these bytes, after bytes whose number is `high`
 unfoldable pub unbeFrom : ℕ → List ℕ → ℕ
 unbeFrom high [] = high
 unbeFrom high (b ∷ bs) = unbeFrom (high * 256 + b) bs
 
--- the number that bytes spell
+-- the number of these bytes
 unfoldable pub unbe : List ℕ → ℕ
 unbe bs = unbeFrom 0 bs
 

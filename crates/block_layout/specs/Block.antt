@@ -1,5 +1,5 @@
--- A block of 512 bytes: a header of 24, fifteen cells of 32, zeros, and the CRC of all before it (document 01, "Parked collector";
--- document 02, A2 with another header).
+-- A block of 512 bytes: a header of 24, fifteen cells of 32, zeros, and the CRC of all bytes before it (document 01,
+-- "Parked collector"; in document 02, A2, with another header).
 use mathlib.Core.List.{List, [], _∷_, _++_, flatten}
 use Prim.Native.Nat.{ℕ, _+_, _*_}
 use lib.ListN.{take}
@@ -21,19 +21,19 @@ bodyLength = 511
 abbrev pub blockLength : ℕ
 blockLength = 512
 
--- bytes with their CRC
+-- bytes, and then their CRC
 unfoldable pub sealed : List ℕ → List ℕ
 sealed body = body ++ (crcOf body ∷ [])
 
--- a block of a header and the cells that are used; those that are not are zero
+-- a block of a header and the cells in use; the rest is zero
 unfoldable pub blockOf : List ℕ → List (List ℕ) → List ℕ
 blockOf header cells = sealed (padded bodyLength (header ++ flatten cells))
 
--- a block whose last byte is written: the CRC of the others
+-- a block whose last byte is overwritten with the CRC of the others
 unfoldable pub sealBlock : List ℕ → List ℕ
 sealBlock block = overwritten blockLength (sealed (take bodyLength block)) block
 
--- ---- what a block holds
+-- ---- reading a block
 
 abbrev pub blockHeader : List ℕ → List ℕ
 blockHeader block = part 0 headerLength block

@@ -12,20 +12,21 @@ use Rattle.block_layout.specs.BigEndian.{be, unbe}
 abbrev pub cellLength : ℕ
 cellLength = 32
 
--- the most bytes that a cell holds: those of the longest subtelegram
+-- the largest number of bytes in a cell: the length of the longest subtelegram
 abbrev pub cellCapacity : ℕ
 cellCapacity = maxLength
 
--- time opened (8), length (1), bytes as first received (21, zero filled), and the last two bytes: zero in document 01, used by 02's A2 and A8
+-- time opened (8 bytes), length (1), bytes as first received (21, zero filled), and the last two bytes, which are zero
+-- in document 01 and used by document 02, A2 and A8
 unfoldable pub cellOf : ℕ → List ℕ → ℕ → List ℕ
 cellOf time bytes last = be 8 time ++ (length bytes ∷ []) ++ padded cellCapacity bytes ++ be 2 last
 
--- a buffer where a cell is put; bytes that no cell holds leave it as it is
+-- a buffer after a cell is written over it; it is unchanged if the bytes are too long for a cell
 unfoldable pub putCell : ℕ → List ℕ → ℕ → List ℕ → List ℕ
 putCell time bytes last old =
     cond (leb (length bytes) cellCapacity) (overwritten cellLength (cellOf time bytes last) old) old
 
--- ---- what a cell says
+-- ---- reading a cell
 
 abbrev pub cellTime : List ℕ → ℕ
 cellTime cell = unbe (part 0 8 cell)
@@ -34,11 +35,11 @@ cellTime cell = unbe (part 0 8 cell)
 abbrev pub cellUsed : List ℕ → ℕ
 cellUsed cell = getD cell 8 0
 
--- the 21 bytes, zeros included
+-- the 21 bytes, including the zeros
 abbrev pub cellField : List ℕ → List ℕ
 cellField cell = part 9 cellCapacity cell
 
--- as many bytes as the length byte says: one over 21 shows as a list of that length, so that a reader can refuse it
+-- as many bytes as the length byte says. A length over 21 gives a list of that length, so a reader can refuse it.
 unfoldable pub cellBytes : List ℕ → List ℕ
 cellBytes cell = resized (cellUsed cell) (cellField cell)
 
