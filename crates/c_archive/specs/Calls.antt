@@ -1,4 +1,5 @@
--- What the calls answer, and what they leave in what they are lent: the answers of the models, and lent memory beside a refusal as it was.
+-- What the calls answer, and what they write into lent memory. The answers are those of the models. After a refusal,
+-- lent memory is unchanged, except for a position that goes with the refusal.
 use Prim.Native.Nat.{ℕ}
 use mathlib.Core.Bool.{Bool, cond, not, _||_}
 use mathlib.Core.List.{List, [], _∷_, _++_}
@@ -31,7 +32,7 @@ appendCall a position = record {
   buffer = a .buffer;
 }
 
--- several rows put into a block: the place of a row goes with the check's number, too
+-- several rows are put into a block: the position of a row also goes with the check's numbers
 unfoldable pub hasPlace : ℕ → Bool
 hasPlace n =
     eqb n (numberOf Mismatch)
@@ -63,11 +64,11 @@ removeCall a freed position = record {
 
 -- ---- a row
 
--- a row but its time: 1 for LOOSE, its length, and its bytes, zero filled to 21
+-- a row without its time: 1 for LOOSE or 0, its length, and its bytes, zero filled to 21
 unfoldable pub rowBytes : Row → List ℕ
 rowBytes r = (flagByte (r .loose) ∷ []) ++ frameBytes (length (r .bytes)) (r .bytes)
 
--- the number, every byte of the row at exit, and its time
+-- the number, every byte of the row after the call, and its time
 pub record RowCall : Type 0 where
   pub number : ℕ
   pub row : List ℕ
@@ -76,7 +77,7 @@ pub record RowCall : Type 0 where
 abbrev pub rowAnswer : ℕ → List ℕ → ℕ → RowCall
 rowAnswer number row time = record { number = number; row = row; time = time }
 
--- row i as it stands; a row of another size is left as it was, and the time too
+-- row i, read from its cell; if the lent row has another size, row and time are unchanged
 unfoldable pub rowCall : List ℕ → ℕ → List ℕ → ℕ → RowCall
 rowCall buffer i old was =
     cond (not (eqb (length old) rowLength)) (rowAnswer wrongSize old was)

@@ -1,4 +1,4 @@
--- What a burst answers, and what it leaves in what it is lent (document 02, A1 and A7).
+-- What a burst answers, and what it writes into lent memory (document 02, A1 and A7).
 use Prim.Native.Nat.{ℕ, _*_, _/_}
 use mathlib.Core.Path.{_≡_}
 use mathlib.Core.Bool.{cond, not, _&&_}
@@ -14,22 +14,22 @@ use Rattle.c_layout.specs.Frame.{wrongSize}
 use Rattle.c_collector.specs.State.{Arrays, columnsAt, stateAt, numbersOf}
 use Rattle.c_burst.specs.Bytes.{receptionsIn, replyLength, replyBytes, isSized}
 
--- the number, every byte of the second list, and the next state
+-- the number, every byte of the list of replies, and the next state
 pub record BurstCall : Type 0 where
   pub number : ℕ
   pub replies : List ℕ
   pub next : View
 
--- a place of the second list before a burst, which does not look at it
+-- an entry of the list of replies before a burst. A burst does not read it.
 abbrev pub anyPlace : Replied
 anyPlace = record { answer = Kept; sent = frameOf [] }
 
--- the bytes of the second list: a reply for each of n receptions, and behind them what stood there
+-- the bytes of the list of replies: a reply for each of n receptions, and after them what was there before
 abbrev pub repliesWith : ℕ → List Replied → List ℕ → List ℕ
 repliesWith n replies old = flatten (map replyBytes (take n replies)) ++ drop (replyLength * n) old
 
--- 11 before all else, then 255 for records that are not as many as the moments; else as `burstOf` says, whose second list has as many places as there are
--- bytes for: a part of a place is none
+-- 11 first; then 255 if there is not one record for each time; else what `burstOf` says. The list of replies has as
+-- many entries as whole replies fit into its bytes.
 unfoldable pub burstCall : ℕ → View → List ℕ → List ℕ → List ℕ → BurstCall
 burstCall setting v moments records old =
     cond (acceptable v && not (isSized (length moments) (length records)))
@@ -39,12 +39,12 @@ burstCall setting v moments records old =
     let n = length (taken (b .number) rs) in
     record { number = b .number; replies = repliesWith n (b .replies) old; next = b .next })
 
--- a burst in every number of the five arrays before and after it
+-- what a burst does with every number of the five arrays
 pub record Bursts (s : Arrays) (setting : ℕ) (moments records old : List ℕ) (number : ℕ) (s' : Arrays)
     (new : List ℕ) : Type 0 where
   pub result : record { number = number; replies = new; next = stateAt s' }
       ≡ burstCall setting (stateAt s) moments records old
   pub counted : number ≡ 0 → s' .numbers ≡ numbersOf (burstCall setting (stateAt s) moments records old .next)
   pub elements : columnsAt s' ≡ columnsAfterAll (stateAt s) (taken number (receptionsIn moments records)) (columnsAt s)
-  -- beside any other number than 0 every number of the five arrays is as it was
+  -- after any number but 0, every number of the five arrays is unchanged
   pub stays : (number ≡ 0 → ⊥) → s' ≡ s

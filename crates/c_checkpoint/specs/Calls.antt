@@ -1,4 +1,4 @@
--- What a restore leaves in the five arrays of a collector (document 01, "Parked collector").
+-- What a restore writes into the five arrays of a collector (document 01, "Parked collector").
 use Prim.Native.Nat.{ℕ}
 use mathlib.Core.Path.{_≡_}
 use mathlib.Core.List.{List}
@@ -9,10 +9,11 @@ use Rattle.c_collector.specs.State.{Arrays, columnsAt, stateAt, numbersOf}
 abbrev pub restoreResult : ℕ → Arrays → RestoreResult
 restoreResult number s = record { number = number; next = stateAt s }
 
--- "11: image or state not accepted; the collector stays as it was": the number, and the arrays before and after it
+-- "11: image or state not accepted; the collector stays as it was": the number, and the arrays before and after the
+-- call
 pub record Restores (s : Arrays) (image : List ℕ) (number : ℕ) (s' : Arrays) : Type 0 where
   pub result : restoreResult number s' ≡ restoreOf (stateAt s) image
   pub counted : number ≡ 0 → s' .numbers ≡ numbersOf (parse image)
   pub elements : number ≡ 0 → columnsAt s' ≡ columnsHolding (parse image .entries)
-  -- beside a refusal every number of the five arrays is as it was
+  -- after a refusal, every number of the five arrays is unchanged
   pub stays : (number ≡ 0 → ⊥) → s' ≡ s

@@ -1,4 +1,4 @@
--- What the calls answer, and what they leave in what they are lent.
+-- What the calls answer, and what they write into lent memory.
 use Prim.Native.Nat.{ℕ}
 use mathlib.Core.Bool.{cond, not}
 use mathlib.Core.List.{List}
@@ -12,7 +12,7 @@ use Rattle.c_layout.specs.Frame.{wrongSize, frameLength, frameBytes}
 use Rattle.c_layout.specs.Lent.{ifDone, settled}
 use Rattle.c_codec.specs.Fields.{fieldsLength, fieldsBytes, telegramIn}
 
--- the number, and every byte of the values' slice at exit
+-- the number, and every byte of the lent values after the call
 pub record Call : Type 0 where
   pub number : ℕ
   pub values : List ℕ
@@ -20,25 +20,25 @@ pub record Call : Type 0 where
 abbrev pub call : ℕ → List ℕ → Call
 call number values = record { number = number; values = values }
 
--- a slice that must have n elements: with another size it is left as it was
+-- the lent slice must have n elements; a slice of another size is unchanged, and the answer is 255
 abbrev pub sized : ℕ → List ℕ → Call → Call
 sized n old done = cond (not (eqb (length old) n)) (call wrongSize old) done
 
--- values that are handed back with 0
+-- the values are written if the number is 0
 abbrev pub answered : ℕ → List ℕ → List ℕ → Call
 answered number values old = call number (ifDone number values old)
 
--- document 01's reading: the check's number, and the fields
+-- reads a subtelegram (document 01): the check's number, and the fields
 unfoldable pub readCall : List ℕ → List ℕ → Call
 readCall s old = sized fieldsLength old (answered (readOf s .number) (fieldsBytes (readOf s .telegram)) old)
 
--- document 01's building of what 26 bytes say
+-- builds a subtelegram from its 26 bytes of fields (document 01)
 unfoldable pub buildCall : List ℕ → ℕ → List ℕ → Result
 buildCall fields was output =
     cond (not (eqb (length fields) fieldsLength)) (record { number = wrongSize; len = was; output = output })
     (settled (buildOf (telegramIn fields) output) was)
 
--- document 02's A7: the number, and the telegram to send
+-- repeats a telegram (document 02, A7): the number, and the telegram to send
 abbrev pub sentBytes : Frame → List ℕ
 sentBytes f = frameBytes (f .len) (f .bytes)
 

@@ -15,7 +15,7 @@ fieldsLength = 26
 unfoldable pub fieldsBytes : Telegram → List ℕ
 fieldsBytes t = (t .rorg ∷ t .len ∷ flagByte (t .addressed) ∷ t .status ∷ []) ++ t .destid ++ t .txid ++ t .payload
 
--- what they say; any other number than 0 says "addressed"
+-- the telegram in these bytes. For "addressed", any number but 0 means yes.
 unfoldable pub telegramIn : List ℕ → Telegram
 telegramIn bytes = record {
   rorg = getD bytes 0 0;

@@ -1,4 +1,4 @@
--- A collector in five arrays of numbers: what they say.
+-- A collector in five arrays of numbers, and the state in them.
 use Prim.Native.Nat.{ℕ}
 use mathlib.Core.List.{List, [], _∷_}
 use lib.ListN.{length, getD}
@@ -8,7 +8,8 @@ use Rattle.collector_state.specs.declared.Collector.{Collector}
 use Rattle.collector_state.specs.declared.Summary.{Summary}
 use Rattle.collector_state.specs.Collector.{Columns, columns, viewIn}
 
--- what a caller lends: of each open telegram when it was opened, its length, its 21 bytes and its number of copies; and eight numbers
+-- what a caller lends: for each open telegram the time when it was opened, its length, its 21 bytes and its number of
+-- copies; and eight numbers
 pub record Arrays : Type 0 where
   pub times : List ℕ
   pub lengths : List ℕ
@@ -43,7 +44,7 @@ summaryIn numbers = record {
   };
 }
 
--- the state that the five arrays hold
+-- the state in the five arrays
 abbrev pub stateAt : Arrays → View
 stateAt s = viewIn (columnsAt s) (summaryIn (s .numbers))
 
@@ -54,10 +55,10 @@ totalNumbers n = n .received ∷ n .kept ∷ n .copies ∷ n .loose ∷ n .damag
 abbrev pub numbersOf : View → List ℕ
 numbersOf v = length (v .entries) ∷ v .latest ∷ totalNumbers (v .totals)
 
--- those of a summary
+-- the eight numbers of a summary
 abbrev pub numbersIn : Summary → List ℕ
 numbersIn s = s .count ∷ s .latest ∷ totalNumbers (s .totals)
 
--- a state by value, in such arrays
+-- the arrays of a state that is held by value
 abbrev pub arraysOf : Collector → Arrays
 arraysOf c = arrays (c .times) (c .lens) (c .bytes) (c .copies) (numbersIn (c .summary))

@@ -1,4 +1,4 @@
--- What the calls answer, and what they leave in what they are lent.
+-- What the calls answer, and what they write into lent memory.
 use Prim.Native.Nat.{ℕ}
 use mathlib.Core.Bool.{cond, not}
 use mathlib.Core.List.{List}
@@ -11,7 +11,7 @@ use Rattle.c_layout.specs.Frame.{wrongSize}
 use Rattle.c_layout.specs.Lent.{ifDone, settled}
 use Rattle.c_erp2.specs.Fields.{fieldsLength, fieldsBytes, telegramIn}
 
--- the number, every byte of the fields at exit, and the two IDs
+-- the number, every byte of the fields after the call, and the two IDs
 pub record ReadCall : Type 0 where
   pub number : ℕ
   pub fields : List ℕ
@@ -26,7 +26,7 @@ reading number fields originator destination = record {
   destination = destination;
 }
 
--- document 02's A4: the number, and the telegram
+-- reads an ERP2 telegram (document 02, A4): the number, and the telegram
 unfoldable pub readCall : List ℕ → List ℕ → ℕ → ℕ → ReadCall
 readCall s old originator destination =
     cond (not (eqb (length old) fieldsLength)) (reading wrongSize old originator destination)

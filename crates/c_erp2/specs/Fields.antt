@@ -1,4 +1,4 @@
--- The fields of an ERP2 telegram but its IDs in 276 bytes.
+-- The fields of an ERP2 telegram without its IDs, in 276 bytes.
 use Prim.Native.Nat.{ℕ}
 use mathlib.Core.Bool.{Bool, not}
 use mathlib.Core.List.{List, [], _∷_, _++_}
@@ -15,8 +15,9 @@ headLength = 11
 abbrev pub fieldsLength : ℕ
 fieldsLength = 276
 
--- the Length of a short form or 0; address control, extended header available, telegram type; whether there is an extended header, repeater count,
--- length of optional data; whether there is an extended type, and which; whether there is a Destination-ID; the length of data
+-- the Length of a short form, or 0; address control, extended header available, telegram type; whether there is an
+-- extended header, repeater count, length of optional data; whether there is an extended type, and which; whether there
+-- is a Destination-ID; the length of data
 unfoldable pub headBytes : Telegram → List ℕ
 headBytes t =
     t .short
@@ -27,11 +28,11 @@ headBytes t =
     ∷ t .len
     ∷ []
 
--- then data (250) and optional data (15)
+-- the fields: the head, data (250 bytes) and optional data (15)
 unfoldable pub fieldsBytes : Telegram → List ℕ
 fieldsBytes t = headBytes t ++ resized maxData (t .payload) ++ resized maxOptional (t .optional)
 
--- what they say with the IDs; any other number than 0 sets a flag
+-- the telegram in these bytes, with its IDs. For a flag, any number but 0 means yes.
 abbrev pub flagAt : ℕ → List ℕ → Bool
 flagAt i bytes = not (eqb (getD bytes i 0) 0)
 

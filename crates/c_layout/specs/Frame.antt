@@ -1,11 +1,11 @@
--- What the calls for other languages share.
+-- What the calls for other languages have in common.
 use Prim.Native.Nat.{ℕ}
 use mathlib.Core.Bool.{Bool, cond}
 use mathlib.Core.List.{List, [], _∷_, _++_}
 use Rattle.radio_erp1.specs.Subtelegram.{maxLength}
 use Rattle.base_buffers.specs.Buffer.{resized}
 
--- the number of a lent slice of another size than its call asks for; no paper uses it
+-- the answer if a lent slice has the wrong size; the papers do not use this number
 abbrev pub wrongSize : ℕ
 wrongSize = 255
 

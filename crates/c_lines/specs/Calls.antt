@@ -1,4 +1,5 @@
--- What the calls answer that take lines, read the first line or pass over lines, and what they leave in what they are lent.
+-- What the calls answer that take lines, read the first line, read one line or skip lines, and what they write into
+-- lent memory.
 use Prim.Native.Nat.{ℕ, _+_, _*_, _≤_, _<_}
 use mathlib.Core.Path.{_≡_}
 use mathlib.Core.Bool.{Bool, true, cond, not}
@@ -25,7 +26,7 @@ use Rattle.text_collect.specs.Stored.{StoredTo}
 abbrev pub isSized : ℕ → ℕ → Bool
 isSized moments rows = eqb rows (23 * moments)
 
--- 11 before all else, then 255, then 10; 0 if for nothing
+-- 11 first, then 255 for a wrong size, then 10 for a setting over 2; 0 if none of these fits
 abbrev pub linesNumber : Arrays → ℕ → List ℕ → List ℕ → ℕ
 linesNumber s setting moments rows =
     cond (not (acceptable (stateAt s))) (numberOf NotAccepted)
@@ -33,7 +34,8 @@ linesNumber s setting moments rows =
     (cond (ltb 2 setting) (numberOf Argument)
     0))
 
--- the arrays, and the four other things that are lent to be changed, before and after it; `done` has used, written, rows and lines
+-- a call of `lines`: the arrays, and the four other lent outputs, before and after it. `done` has the numbers of
+-- characters used, of characters written, of rows and of lines.
 pub record Lines (s : Arrays) (setting : ℕ) (input : List ℕ) (most : ℕ) (out moments rows done : List ℕ) (number : ℕ) (s' : Arrays)
     (out' moments' rows' done' : List ℕ) : Type 0 where
   pub answer : number ≡ linesNumber s setting moments rows
@@ -41,44 +43,45 @@ pub record Lines (s : Arrays) (setting : ℕ) (input : List ℕ) (most : ℕ) (o
       → StoredTo (runningAt setting (stateAt s)) (columnsAt s) input most out moments rows out' moments' rows'
       (runningAt setting (stateAt s')) (columnsAt s')
       (getD done' 0 0) (getD done' 1 0) (getD done' 2 0) (getD done' 3 0)
-  -- beside any other number than 0 all is as it was
+  -- after any number but 0, everything is unchanged
   pub stays : (number ≡ 0 → ⊥) → (s' ≡ s) × (out' ≡ out) × (moments' ≡ moments) × (rows' ≡ rows) × (done' ≡ done)
 
 -- ---- the first line
 
--- the level, or 3 for a line that says none
+-- the level, or 3 for a line that says no level
 abbrev pub levelNumber : Setting → ℕ
 levelNumber (Setting.Level n) = n
 levelNumber Setting.Bad = 3
 
--- that of the line up to the first newline, or 4 where there is none
+-- the level of the line up to the first newline, or 4 if there is no newline
 abbrev pub firstNumber : List ℕ → ℕ
 firstNumber input =
     let n = indexOf newline input in
     cond (ltb n (length input)) (levelNumber (settingOf (take n input))) 4
 
--- its characters with the newline
+-- how many characters that line has, with its newline
 abbrev pub firstUsed : List ℕ → ℕ
 firstUsed input =
     let n = indexOf newline input in
     cond (ltb n (length input)) (n + 1) 0
 
--- ---- a line by itself
+-- ---- a single line
 
--- 0 for a reception, 3 for any other line, 4 where no newline ends it
+-- 0 for a reception, 3 for any other line, 4 if no newline ends it
 abbrev pub lineNumber : Bool → ℕ → ℕ
 lineNumber ok used = cond ok 0 (cond (eqb used 0) 4 3)
 
--- what the line at the start of a text says (`lineOf`): its bytes zero filled; `done` has the time, the length and the characters with the newline
+-- what the line at the start of a text says (`lineOf`). Its bytes are filled with zeros. `done` has the time, the
+-- length, and how many characters the line has with its newline.
 pub record ReadLine (input : List ℕ) (number : ℕ) (bytes' done' : List ℕ) : Type 0 where
   pub answer : number ≡ lineNumber (lineOf (frontOf input) .ok) (lineOf (frontOf input) .used)
   pub written : bytes' ≡ bytesIn (frontOf input)
   pub told : done' ≡ lineOf (frontOf input) .time ∷ lineOf (frontOf input) .len ∷ lineOf (frontOf input) .used ∷ []
 
--- ---- lines that are passed over
+-- ---- lines that are skipped
 
--- `used` characters are whole lines, as many as `lines` says, at most `most`; where there are fewer, no further line has ended. They are counted as in a
--- run that is over, which no line changes.
+-- the first `used` characters are whole lines: `lines` of them, at most `most`. If there are fewer than `most`, no
+-- further line has ended. The lines are counted as in a run that is over, because no line changes such a run.
 pub record SkippedTo (input : List ℕ) (most used lines : ℕ) : Type 0 where
   pub within : used ≤ length input
   pub whole : feed lineTicks lineLimit (atLineStart over) (take used input) ≡ atLineStart over
@@ -86,7 +89,7 @@ pub record SkippedTo (input : List ℕ) (most used lines : ℕ) : Type 0 where
   pub few : lines ≤ most
   pub rest : lines < most → isUnended (drop used input) ≡ true
 
--- `done` has both, and nothing else
+-- `done` has `used` and `lines`, and nothing else
 pub record Skipped (input : List ℕ) (most : ℕ) (done' : List ℕ) : Type 0 where
   pub long : length done' ≡ 2
   pub skipped : SkippedTo input most (getD done' 0 0) (getD done' 1 0)

@@ -1,5 +1,5 @@
--- What a call answers that takes lines and writes their rows in a format, and what they close, and what it leaves in what it
--- is lent.
+-- What a call answers that takes lines and writes their rows in a format, with the telegrams that they close, and what
+-- it writes into lent memory.
 use Prim.Native.Nat.{ℕ}
 use mathlib.Core.Path.{_≡_}
 use mathlib.Core.Bool.{cond, not, _||_}
@@ -20,7 +20,7 @@ use Rattle.c_lines.specs.Calls.{isSized}
 abbrev pub formatOf : ℕ → Format
 formatOf n = cond (eqb n 0) Format.Text (cond (eqb n 1) Format.Csv Format.Json)
 
--- 11 before all else, then 255, then 10 for the setting or the format; 0 if for nothing
+-- 11 first, then 255 for a wrong size, then 10 for a setting or a format over 2; 0 if none of these fits
 abbrev pub linesAsNumber : Arrays → (setting format : ℕ) → List ℕ → List ℕ → ℕ
 linesAsNumber s setting format moments rows =
     cond (not (acceptable (stateAt s))) (numberOf NotAccepted)
@@ -28,8 +28,8 @@ linesAsNumber s setting format moments rows =
     (cond (ltb 2 setting || ltb 2 format) (numberOf Argument)
     0))
 
--- the arrays, and the five other things that are lent to be changed, before and after it; `done` has used, written, rows,
--- lines and closings
+-- a call of `lines_as`: the arrays, and the five other lent outputs, before and after it. `done` has the numbers of
+-- characters used, of characters written, of rows, of lines and of closings.
 pub record LinesAs (s : Arrays) (setting format : ℕ) (input : List ℕ) (most : ℕ) (out moments rows closed done : List ℕ)
     (number : ℕ) (s' : Arrays) (out' moments' rows' closed' done' : List ℕ) : Type 0 where
   pub answer : number ≡ linesAsNumber s setting format moments rows
@@ -37,6 +37,6 @@ pub record LinesAs (s : Arrays) (setting format : ℕ) (input : List ℕ) (most 
       → HeardIn (formatOf format) (runningAt setting (stateAt s)) (columnsAt s) input most out moments rows closed
       out' moments' rows' closed' (runningAt setting (stateAt s')) (columnsAt s')
       (getD done' 0 0) (getD done' 1 0) (getD done' 2 0) (getD done' 3 0) (getD done' 4 0)
-  -- beside any other number than 0 all is as it was
+  -- after any number but 0, everything is unchanged
   pub stays : (number ≡ 0 → ⊥)
       → (s' ≡ s) × (out' ≡ out) × (moments' ≡ moments) × (rows' ≡ rows) × (closed' ≡ closed) × (done' ≡ done)

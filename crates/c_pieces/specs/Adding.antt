@@ -1,4 +1,4 @@
--- An archive that is added to a report in pieces, in two arrays beside the two of the report.
+-- An archive that is added to a report in pieces: two arrays, in addition to the two of the report.
 use Prim.Native.Nat.{ℕ}
 use mathlib.Core.Path.{_≡_}
 use mathlib.Core.Bool.{cond, not}
@@ -11,8 +11,8 @@ use Rattle.archive_report.specs.Report.{linesFed}
 use Rattle.c_report.specs.Calls.{reportAt}
 use Rattle.c_pieces.specs.Scan.{scanAt, scanNumbers}
 
--- the four numbers of a scan, how many lines there are, KEPT rows, LOOSE rows, and another number than 0 where a transmitter was one too many; five
--- numbers for each line
+-- the first array: the four numbers of a scan, how many lines there are, KEPT rows, LOOSE rows, and a number that is
+-- not 0 if there were more than 256 transmitters. The second array: five numbers for each line.
 abbrev pub tallyAt : List ℕ → List ℕ → Tally
 tallyAt numbers lines = record {
   lines = linesAt lines (getD numbers 4 0);
@@ -22,22 +22,22 @@ tallyAt numbers lines = record {
   scan = scanAt numbers;
 }
 
--- as they are written
+-- the numbers as they are written
 abbrev pub tallyNumbers : Tally → List ℕ
 tallyNumbers t =
     scanNumbers (t .scan) ++ (length (t .lines) ∷ t .kept ∷ t .loose ∷ cond (t .over) 1 0 ∷ [])
 
--- with the report, which stays as it is until the end
+-- the same with the report, which is unchanged until the end
 abbrev pub addingAt : List ℕ → List ℕ → List ℕ → List ℕ → Adding
 addingAt numbers lines so-far tally = adding (reportAt numbers lines) (tallyAt so-far tally)
 
--- a piece, in the two arrays of what is known before and after it
+-- what a piece does with the two arrays
 pub record Feeds (expected : Feeding) (numbers lines so-far tally : List ℕ) (number : ℕ)
     (so-far' tally' : List ℕ) : Type 0 where
   pub result : fed number (addingAt numbers lines so-far' tally') ≡ expected
-  -- beside any other number than 0 every number of both arrays is as it was
+  -- after any number but 0, every number of both arrays is unchanged
   pub numbersStay : (number ≡ 0 → ⊥) → so-far' ≡ so-far
   pub linesStay : (number ≡ 0 → ⊥) → tally' ≡ tally
-  -- beside 0 every number of both is told: behind the lines stands what stood there
+  -- after 0, every number of both is known; after the lines comes what was there before
   pub numbersAre : number ≡ 0 → so-far' ≡ tallyNumbers (expected .next .tally)
   pub linesAre : number ≡ 0 → tally' ≡ linesFed expected tally

@@ -1,11 +1,11 @@
--- An archive that is packed anew in pieces, in two numbers and the bytes of the rows that wait.
+-- An archive that is packed in pieces: two numbers, and the bytes of the rows that wait.
 use Prim.Native.Nat.{ℕ}
 use mathlib.Core.List.{List}
 use lib.ListN.{getD}
 use Rattle.archive_repack_model.specs.Packer.{Packed, packOf, Finished, finishOf}
 use Rattle.c_layout.specs.Lent.{ifDone}
 
--- how many blocks of a piece were dropped is handed back beside 0
+-- with 0, the caller gets the number of dropped blocks of the piece
 abbrev pub packShown : Packed → ℕ → Packed
 packShown a dropped = record {
   number = a .number;
@@ -17,12 +17,12 @@ packShown a dropped = record {
   positions = a .positions;
 }
 
--- a piece; the numbers are the rows that wait, and the blocks written
+-- a piece; the two numbers are how many rows wait, and how many blocks were written
 abbrev pub packCall : List ℕ → List ℕ → List ℕ → List ℕ → List ℕ → List ℕ → ℕ → Packed
 packCall numbers waiting piece identities output positions dropped =
     packShown (packOf (getD numbers 1 0) (getD numbers 0 0) waiting piece identities output positions) dropped
 
--- the length of the last block, beside 0
+-- with 0, the caller gets the length of the last block
 abbrev pub endShown : Finished → ℕ → Finished
 endShown a old = record { number = a .number; length = ifDone (a .number) (a .length) old; output = a .output }
 

@@ -1,4 +1,4 @@
--- A scan of an archive's blocks in four numbers, and what the calls leave in them.
+-- A scan of an archive's blocks in four numbers, and what the calls write into them.
 use Prim.Native.Nat.{ℕ}
 use mathlib.Core.Bool.{cond, not}
 use mathlib.Core.List.{List, [], _∷_}
@@ -10,9 +10,9 @@ use Rattle.archive_model.specs.Buffer.{Stage, Filling, Short, Ended, Wrong, Sca
 use Rattle.archive_model.specs.Append.{Opening, isScan, Feeding, feedOf}
 use Rattle.archive_file.specs.Archive.{openFound}
 
--- ---- the numbers: blocks passed, their rows, the stage, and the position of the block that does not match
+-- ---- the numbers: how many blocks, how many rows, the stage, and the position of the block that does not match
 
--- any stage but the first three says that a block does not match
+-- any stage number but 0, 1 and 2 means that a block does not match
 unfoldable pub stageAt : ℕ → ℕ → Stage
 stageAt stage position =
     cond (eqb stage 0) Filling (cond (eqb stage 1) Short (cond (eqb stage 2) Ended (Wrong position)))
@@ -39,29 +39,29 @@ scanAt numbers = record {
 abbrev pub scanNumbers : Scan → List ℕ
 scanNumbers s = s .blocks ∷ s .rows ∷ stageNumber (s .stage) ∷ stagePosition (s .stage) ∷ []
 
--- before the first piece
+-- the numbers before the first piece
 abbrev pub noBlocks : List ℕ
 noBlocks = 0 ∷ 0 ∷ 0 ∷ 0 ∷ []
 
 -- ---- the calls
 
--- the number, and every lent number at exit
+-- the number, and every lent number after the call
 pub record ScanCall : Type 0 where
   pub number : ℕ
   pub numbers : List ℕ
 
--- beside a refusal every number is as it was; beside success the stage and its position come in their one form
+-- with a refusal every number is unchanged; with 0 a stage always has the same two numbers
 abbrev pub scanShown : List ℕ → Feeding → ScanCall
 scanShown numbers f = record {
   number = f .number;
   numbers = cond (eqb (f .number) 0) (scanNumbers (f .next)) numbers;
 }
 
--- 11, 16
+-- a piece: 11 or 16 as `feedOf` says
 abbrev pub scanCall : List ℕ → List ℕ → ScanCall
 scanCall numbers piece = scanShown numbers (feedOf (scanAt numbers) piece)
 
--- after the last piece: 11, then 12 with the position, or the rows
+-- after the last piece: 11; then 12 with the position, or the number of rows
 unfoldable pub scanEnd : Scan → Opening
 scanEnd s =
     cond (not (isScan s)) (record { number = numberOf NotAccepted; position = 0; rows = 0 })
