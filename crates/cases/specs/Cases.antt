@@ -1,5 +1,6 @@
--- Document 01, "Cases, P marks those proved", as document 02 changes them, with figures of document 02: each row is what a definition gives, and
--- what the documents say. Behind these stand three rows of our own on ERP2 telegrams.
+-- The cases of document 01, "Cases, P marks those proved", as document 02 changes them, and figures of document 02.
+-- Each row has what a definition gives and what the documents say. The last three rows are our own cases of ERP2
+-- telegrams.
 use Prim.Native.Nat.{ℕ, _+_, _<_}
 use mathlib.Core.Path.{_≡_}
 use mathlib.Core.List.{List, [], _∷_, _++_}
@@ -47,13 +48,13 @@ oneByteRepeated = 0xD5 ∷ 0x09 ∷ 0x01 ∷ 0x02 ∷ 0x03 ∷ 0x04 ∷ 0x81 ∷
 abbrev pub planCount : ℕ → ℕ → ℕ
 planCount level duration = length (plans (standardRule level) duration)
 
--- the same under a rule, 0 standard, 1 compressed, 2 with a pause, for so many transmissions
+-- the same under a rule (0 standard, 1 compressed, 2 with a pause), for a number of transmissions
 abbrev pub planCountBy : ℕ → ℕ → ℕ → ℕ → ℕ
 planCountBy rule level transmissions duration = length (plans (ruleOf rule level transmissions) duration)
 
 -- ---- a telegram received at two times
 
--- a form of the answer 0 as a number of the table, apart from those of refusals
+-- the numbers of KEPT and COPY in this table; they differ from all refusals
 abbrev pub kept : ℕ
 kept = 100
 
@@ -78,14 +79,14 @@ answersOf (Looked n ∷ l) = answersOf l
 abbrev pub received : List ℕ → ℕ → Call
 received s t = Receive 1 (record { bytes = s; time = t })
 
--- the answers to an original at 0 and to the same telegram, as it is or repeated, at another time
+-- the answers to an original at time 0, and to the bytes s at time t
 abbrev pub twice : List ℕ → ℕ → List ℕ
 twice s t = answersOf (run fresh (received oneByte 0 ∷ received s t ∷ []))
 
--- ---- ERP2 telegrams: our own cases, worked out by hand from document 004's tables, which has no worked example
+-- ---- ERP2 telegrams: our own cases, worked out by hand from the tables of document 004, which has no worked example
 
--- the number; Length of a short form, address control, telegram type; repeater count and length of optional data, extended telegram type and
--- Destination-ID, each behind its flag; then Originator-ID, data and optional data
+-- Length of a short form, address control, telegram type; repeater count and length of optional data, extended telegram
+-- type, and Destination-ID, each after its flag; then Originator-ID, data and optional data
 abbrev pub shownFields : Telegram → List ℕ
 shownFields t =
     (t .short ∷ t .header .control ∷ t .header .kind ∷ [])
@@ -97,7 +98,7 @@ shownFields t =
 abbrev pub shownRead : Read → List ℕ
 shownRead r = r .number ∷ shownFields (r .telegram)
 
--- what is built of what is read
+-- the bytes that are built from the telegram that is read
 abbrev pub builtAgain : List ℕ → List ℕ
 builtAgain s = resultBytes (buildOf (readOf s .telegram) (replicate (length s) 0))
 
@@ -143,7 +144,8 @@ cases =
     ∷ record { got = planCountBy 1 2 2 1_000 ∷ []; want = 0 ∷ [] }
     ∷ record { got = planCountBy 2 0 2 1_000 ∷ []; want = 27 ∷ [] }
     ∷ record { got = planCountBy 2 0 3 1_000 ∷ []; want = 351 ∷ [] }
-    -- 01's case of 0 and 100 ms as document 02, A6, changes it: COPY at level 1, KEPT at level 0, which is an echo up to 40 ms
+    -- document 01's case of 0 and 100 ms, as document 02, A6, changes it: COPY at level 1; at level 0 KEPT, which is a
+    -- COPY only up to 40 ms
     ∷ record { got = twice oneByteRepeated 100; want = kept ∷ copy ∷ [] }
     ∷ record { got = twice oneByte 100; want = kept ∷ kept ∷ [] }
     ∷ record { got = twice oneByte 101; want = kept ∷ kept ∷ [] }
@@ -163,6 +165,6 @@ cases =
     }
     ∷ []
 
--- THE CLAIM: in every row what a definition gives is what the documents say
+-- THE CLAIM: in every row, the definition gives what the documents say
 abbrev pub EveryCase : Type 0
 EveryCase = (k : ℕ) → k < length cases → (d : Case) → getD cases k d .got ≡ getD cases k d .want

@@ -1,5 +1,5 @@
--- Where values lie: a value of each of twelve kinds, and a checkpoint, worked out by hand from docs/FORMATS.md and include/mooringeye.h. A law that reader and writer undo each
--- other would hold of another layout too.
+-- Where values are in memory and in files: a value of each of twelve kinds, and a checkpoint, worked out by hand from
+-- docs/FORMATS.md and include/mooringeye.h. A law that reading undoes writing would hold for another layout too.
 use Prim.Native.Nat.{ℕ, _<_}
 use mathlib.Core.Path.{_≡_}
 use mathlib.Core.Bool.{true, false}
@@ -35,7 +35,7 @@ sample = record {
   entries = record { bytes = oneByte; time = 0x0102; copies = 0x0304 } ∷ [];
 }
 
--- the bytes at these places
+-- the bytes at these positions
 abbrev pub bytesAt : List ℕ → List ℕ → List ℕ
 bytesAt places bytes = map (λ (i : ℕ). getD bytes i 0) places
 
@@ -45,7 +45,7 @@ shownAssignment a = a .rule ∷ a .level ∷ a .duration ∷ a .slots .first ∷
 
 abbrev pub layouts : List Case
 layouts =
-    -- an image: of each block its number, its entries, and the last bytes of its two numbers
+    -- an image: for each block its number, its count of entries, and the last byte of each of its two numbers
     record {
       got =
           bytesAt
@@ -53,7 +53,7 @@ layouts =
           (imageOf sample);
       want = 0 ∷ 1 ∷ 11 ∷ 12 ∷ 1 ∷ 0 ∷ 13 ∷ 14 ∷ 2 ∷ 15 ∷ 16 ∷ 3 ∷ 17 ∷ 0 ∷ 4 ∷ 0 ∷ 0 ∷ [];
     }
-    -- its first entry: the time, the length, the first and the last byte received, a zero behind it, and the copies
+    -- its first entry: the time, the length, the first and the last byte received, a zero after it, and the copies
     ∷ record {
       got = bytesAt (30 ∷ 31 ∷ 32 ∷ 33 ∷ 40 ∷ 41 ∷ 54 ∷ 55 ∷ 56 ∷ []) (imageOf sample);
       want = 1 ∷ 2 ∷ 8 ∷ 0xD5 ∷ 0xFE ∷ 0 ∷ 3 ∷ 4 ∷ 0 ∷ [];
@@ -74,7 +74,7 @@ layouts =
           ++ part 261 3 (erp2.fieldsBytes (readOf everyField .telegram));
       want = 0 ∷ 2 ∷ 1 ∷ 15 ∷ 1 ∷ 1 ∷ 2 ∷ 1 ∷ 0x32 ∷ 1 ∷ 1 ∷ 0xAA ∷ 0xBB ∷ 0xCC ∷ 0 ∷ [];
     }
-    -- the same of a telegram with a destination and no extension
+    -- the same for a telegram with a destination and no extension
     ∷ record {
       got =
           take 12 (erp2.fieldsBytes
@@ -88,9 +88,9 @@ layouts =
       got = map answerNumber (Kept ∷ Copy ∷ Loose ∷ Refused 13 ∷ []);
       want = 0 ∷ 256 ∷ 512 ∷ 13 ∷ [];
     }
-    -- mooringeye_frame, as a burst is handed it: length, bytes
+    -- mooringeye_frame, as a burst gets it: length, bytes
     ∷ record { got = receptionIn ((8 ∷ []) ++ oneByte ++ replicate 13 7) 5 .bytes; want = oneByte }
-    -- mooringeye_reply: kind, number, and the frame of what is sent
+    -- mooringeye_reply: kind, number, and the frame that is sent
     ∷ record {
       got = replyBytes (record { answer = Copy; sent = frameOf [] });
       want = 1 ∷ replicate 23 0;
@@ -123,7 +123,8 @@ layouts =
     }
     -- the numbers of mooringeye_report: archives, lines, KEPT rows, LOOSE rows
     ∷ record { got = reportNumbers (record { archives = 1; lines = []; kept = 2; loose = 3 }); want = 1 ∷ 0 ∷ 2 ∷ 3 ∷ [] }
-    -- those of mooringeye_adding: a scan, lines, KEPT rows, LOOSE rows, and whether a transmitter was one too many
+    -- the numbers of mooringeye_adding: a scan, lines, KEPT rows, LOOSE rows, and whether there were more than 256
+    -- transmitters
     ∷ record {
       got =
           tallyNumbers (record {
@@ -137,6 +138,6 @@ layouts =
     }
     ∷ []
 
--- THE CLAIM: in every row what a definition gives is what the two documents say
+-- THE CLAIM: in every row, the definition gives what the two documents say
 abbrev pub EveryLayout : Type 0
 EveryLayout = (k : ℕ) → k < length layouts → (d : Case) → getD layouts k d .got ≡ getD layouts k d .want

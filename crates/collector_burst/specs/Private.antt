@@ -1,4 +1,4 @@
--- What private functions of a burst say. No public contract cites these.
+-- What the contracts of private functions of a burst say. No public contract cites these.
 use mathlib.Core.Path.{_≡_}
 use mathlib.Core.Bool.{Bool, cond}
 use mathlib.Core.List.{List, [], _∷_, _++_, map}
@@ -29,18 +29,18 @@ pub record StepResult : Type 0 where
 abbrev pub steppedOf : Columns → Stepped → StepResult
 steppedOf a r = record { reply = repliedOf (r .reply); next = viewIn a (r .summary) }
 
--- one reception at a state that was found acceptable or not, with what is sent for it at a setting
+-- one reception, where the caller tells whether the state is acceptable, with the telegram to send at a setting
 abbrev pub admittedWith : ℕ → Bool → View → view.Reception → StepResult
 admittedWith setting fit v r =
     let o = admission fit v r in
     record { reply = replyWith setting (o .answer) r; next = o .next }
 
--- so it is, in every element of the columns
+-- the same for columns and a summary: the reply, the next state, and every element of the columns
 pub record Steps (setting : ℕ) (fit : Bool) (a : Columns) (s : Summary) (e : Reception) (a' : Columns) (r : Stepped) : Type 0 where
   pub said : steppedOf a' r ≡ admittedWith setting fit (viewIn a s) (receptionOf e)
   pub elements : a' ≡ columnsAdmitted fit (viewIn a s) (receptionOf e) a
 
--- records one by one
+-- the columns after the receptions of records, one by one
 unfoldable pub columnsTested : Bool → View → List Reception → Columns → Columns
 columnsTested fit v [] a = a
 columnsTested fit v (r ∷ rs) a =
@@ -56,7 +56,7 @@ replies setting fit v (r ∷ rs) =
     let o = admittedWith setting fit v (receptionOf r) in
     o .reply ∷ replies setting fit (o .next) rs
 
--- the first n were taken: the state, and every place of the second list
+-- the first n records were taken: the state, and every entry of the list of replies
 pub record Delivered (setting : ℕ) (fit : Bool) (a : Columns) (s : Summary) (n : ℕ)
     (rs : List Reception) (ys : List Reply) (a' : Columns) (s' : Summary) (zs : List Reply) : Type 0 where
   pub state : viewIn a' s' ≡ afterTested fit (viewIn a s) (take n rs)
@@ -65,7 +65,7 @@ pub record Delivered (setting : ℕ) (fit : Bool) (a : Columns) (s : Summary) (n
   pub timely : Timely (map receptionOf (take n rs))
   pub none : n ≡ 0 → (a' ≡ a) × (s' ≡ s)
 
--- what is done with a burst at a setting, of so many receptions and places
+-- what is decided for a burst with this setting, number of receptions and number of entries for replies
 pub record Planned (c : Collector) (setting receptions places : ℕ) (r : Plan) : Type 0 where
   pub tested : Tested (r .fit) (viewOf c)
   pub count : r .count ≡ cond (eqb (burstNumber setting (viewOf c) receptions places) 0) receptions 0
@@ -73,7 +73,7 @@ pub record Planned (c : Collector) (setting receptions places : ℕ) (r : Plan) 
   pub placed : r .count ≤ places
   pub answer : handedNumber (r .answer) ≡ burstNumber setting (viewOf c) receptions places
 
--- the next state of these parts, and the answer
+-- the next state is made of these parts, and the answer is this one
 pub record Finished (a : Columns) (s : Summary) (answer : Handed) (r : Bursted) : Type 0 where
   pub next : r .next ≡ collectorOf a s
   pub same : r .answer ≡ answer

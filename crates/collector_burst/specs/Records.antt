@@ -1,4 +1,4 @@
--- The records that a burst is handed over in, and what it gives (document 02, A1 and A7).
+-- The records of a burst, and what the burst gives (document 02, A1 and A7).
 use mathlib.Core.Path.{_≡_}
 use mathlib.Core.Bool.{cond}
 use mathlib.Core.List.{List, [], _∷_, map}
@@ -22,15 +22,16 @@ use Rattle.collector_burst.specs.declared.Bursted.{Bursted}
 use Rattle.collector_burst.specs.declared.Within.{Within}
 use Rattle.collector_model.specs.Burst.{Replied, maxBurst, BurstResult, taken, burstOf}
 
--- what a record hands over: as many bytes as its length says, so that a length over 21 fails the check with 1
+-- the reception in a record: as many bytes as its length says. A length over 21 gives a list of that length, which
+-- fails the check with 1.
 abbrev pub receptionOf : Reception → view.Reception
 receptionOf r = record { bytes = resized (r .len) (r .bytes); time = r .time }
 
--- how many bytes the code hands over of a record
+-- how many bytes of a record the code hands over: none if the length is over 21
 abbrev pub sizeOf : ℕ → ℕ
 sizeOf len = cond (ltb maxLength len) 0 len
 
--- what is shown of a reply
+-- a reply, as the model names it
 abbrev pub repliedOf : Reply → Replied
 repliedOf r = record { answer = shownOf (r .answer); sent = r .sent }
 
@@ -38,7 +39,7 @@ abbrev pub handedNumber : Handed → ℕ
 handedNumber Done = 0
 handedNumber (Refused why) = numberOf why
 
--- what is shown of a burst, with the second list after it
+-- the result of a burst with the list of replies after it, as the model names it
 abbrev pub burstedOf : Bursted → List Reply → BurstResult
 burstedOf r replies = record {
   number = handedNumber (r .answer);
@@ -51,7 +52,8 @@ unfoldable pub columnsAfterAll : View → List view.Reception → Columns → Co
 columnsAfterAll v [] a = a
 columnsAfterAll v (r ∷ rs) a = columnsAfterAll (step v r .next) rs (columnsAfter v r a)
 
--- what a burst gives, with the second list before and after it, and every element of the arrays; beside a refusal the very state that was handed in
+-- what a burst gives, with the list of replies before and after it, and every element of the arrays. After a refusal
+-- the state is exactly the one that was handed in.
 pub record Bursts (c : Collector) (setting : ℕ) (rs : List Reception) (places : List Reply)
     (r : Bursted) (after : List Reply) : Type 0 where
   pub result : burstedOf r after ≡ burstOf setting (viewOf c) (map receptionOf rs) (map repliedOf places)
@@ -59,11 +61,12 @@ pub record Bursts (c : Collector) (setting : ℕ) (rs : List Reception) (places 
       ≡ columnsAfterAll (viewOf c) (taken (handedNumber (r .answer)) (map receptionOf rs)) (columnsOf c)
   pub stays : (handedNumber (r .answer) ≡ 0 → ⊥) → r .next ≡ c
 
--- the places of a list that is held by value: enough for 10, and for places past its receptions
+-- the length of a list that is held by value: room for more than 256 receptions, so that 10 can be answered, and for
+-- further entries
 abbrev pub listed : ℕ
 listed = maxBurst + 3
 
--- a burst of the first n records and the first m places; what stands past these places stays
+-- a burst of the first n records with the first m entries for replies; the entries after these are unchanged
 pub record WithinOf (c : Collector) (setting n m : ℕ) (records : List Reception) (places : List Reply)
     (r : Within) : Type 0 where
   pub front : Bursts c setting (take n records) (take m places) (r .bursted) (take m (r .replies))

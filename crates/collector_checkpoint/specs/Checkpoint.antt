@@ -1,4 +1,4 @@
--- What a checkpoint and a restore show (document 01, "Parked collector").
+-- The results of a checkpoint and a restore, as the model names them (document 01, "Parked collector").
 use Prim.Native.Nat.{ℕ}
 use mathlib.Core.Path.{_≡_}
 use mathlib.Core.List.{List}
@@ -16,7 +16,7 @@ abbrev pub savedNumber : Saved → ℕ
 savedNumber saved.Done = 0
 savedNumber (saved.Refused why) = numberOf why
 
--- the number, and the output at exit
+-- the number, and the output after the call
 abbrev pub checkpointResult : Saved → List ℕ → CheckpointResult
 checkpointResult r output = record { number = savedNumber r; output = output }
 
@@ -24,11 +24,12 @@ abbrev pub loadedNumber : Loaded → ℕ
 loadedNumber loaded.Done = 0
 loadedNumber (loaded.Refused why) = numberOf why
 
--- the number, and what the collector says that is handed back
+-- the number, and the state of the collector that is returned
 abbrev pub restoreResult : Restored → RestoreResult
 restoreResult r = record { number = loadedNumber (r .answer); next = viewOf (r .next) }
 
--- every element of the arrays; "11: .. the collector stays as it was": beside a refusal the very state that was handed in
+-- every element of the arrays; "11: .. the collector stays as it was": after a refusal the state is exactly the one
+-- that was handed in
 pub record Restores (c : Collector) (image : List ℕ) (r : Restored) : Type 0 where
   pub result : restoreResult r ≡ restoreOf (viewOf c) image
   pub elements : loadedNumber (r .answer) ≡ 0 → columnsOf (r .next) ≡ columnsHolding (parse image .entries)

@@ -1,4 +1,4 @@
--- What private functions of checkpoint and restore say. No public contract cites these.
+-- What the contracts of private functions of checkpoint and restore say. No public contract cites these.
 use Prim.Native.Nat.{ℕ, _+_, _-_, _*_, _/_, _%_, _≤_, _<_}
 use mathlib.Core.Path.{_≡_}
 use mathlib.Core.Bool.{Bool, _&&_}
@@ -19,7 +19,7 @@ use Rattle.collector_state.specs.Collector.{Columns, entryAt, entriesAt, column
 abbrev pub blockCount : ℕ
 blockCount = 5
 
--- the bytes of a block between its header and its CRC
+-- the number of bytes of a block between its header and its CRC
 abbrev pub cellsLength : ℕ
 cellsLength = bodyLength - headerLength
 
@@ -27,7 +27,7 @@ cellsLength = bodyLength - headerLength
 unfoldable pub entriesFrom : Columns → ℕ → ℕ → List Entry
 entriesFrom a first n = map (entryAt a) (upFrom first n)
 
--- block k of an image, which looks at the entries alone
+-- block k of an image, from the entries of a state and two numbers
 abbrev pub blockWith : ℕ → ℕ → ℕ → List Entry → List ℕ
 blockWith k a b entries = imageBlock k a b (record { latest = 0; totals = noTotals; entries = entries })
 
@@ -36,11 +36,12 @@ pub record Writable (lens : List ℕ) (first n : ℕ) : Type 0 where
   pub bound : first + n ≤ capacity
   pub short : (i : ℕ) → i < n → getD lens (first + i) 0 ≤ maxLength
 
--- an image is byte for byte what is written of an acceptable state with a number in the setting's place
+-- an image is byte for byte what is written for an acceptable state, with this number as the setting
 abbrev pub isImageOf : ℕ → View → List ℕ → Bool
 isImageOf setting v image = acceptable v && equal (imageWith setting v) image
 
--- the right length, a count that a state can have, and a setting in the setting's place
+-- the length is right, the count of entries is one that a state can have, and the number in the setting's place is a
+-- setting
 abbrev pub isReadable : List ℕ → Bool
 isReadable image = eqb (length image) imageLength && (leb (countIn image) capacity && leb (settingIn image) maxSetting)
 
@@ -52,7 +53,7 @@ entriesIn image n = map (entryIn image) (upFrom 0 n)
 abbrev pub cellIn : List ℕ → ℕ → List ℕ
 cellIn image i = blockCell (i % cellsPerBlock) (blockIn (i / cellsPerBlock) image)
 
--- the columns of the first n cells, and behind them what stood there
+-- the columns after the first n cells are read into them; the rest is unchanged
 unfoldable pub columnsOver : List ℕ → ℕ → Columns → Columns
 columnsOver image n a = record {
   times = map (λ i. cellTime (cellIn image i)) (upFrom 0 n) ++ drop n (a .times);
@@ -61,16 +62,16 @@ columnsOver image n a = record {
   copies = map (λ i. cellLast (cellIn image i)) (upFrom 0 n) ++ drop n (a .copies);
 }
 
--- those that an image spells, right or not: of its cells, and zeros behind them
+-- the columns that an image gives, accepted or not: from its cells, with zeros after them
 abbrev pub columnsIn : List ℕ → Columns
 columnsIn image = columnsOver image (countIn image) (columnsHolding [])
 
--- the first n entries, read into columns: what they say, and every element
+-- the first n entries are read into columns: the entries, and every element
 pub record Reads (image : List ℕ) (n : ℕ) (a a' : Columns) : Type 0 where
   pub entries : entriesAt a' n ≡ entriesIn image n
   pub elements : a' ≡ columnsOver image n a
 
--- the state that an image spells
+-- the state that an image gives
 pub record Parses (image : List ℕ) (c : Collector) : Type 0 where
   pub state : viewOf c ≡ parse image
   pub elements : columnsOf c ≡ columnsIn image

@@ -1,4 +1,4 @@
--- What a state or an image must fulfil (document 01, "Parked collector": "Reload accepts exactly ..").
+-- The conditions on a state or an image (document 01, "Parked collector": "Reload accepts exactly ..").
 use Prim.Native.Nat.{ℕ, _+_, _-_}
 use mathlib.Core.Bool.{Bool, not, _&&_, _||_}
 use lib.Dec.{leb, eqb}
@@ -10,11 +10,12 @@ use Rattle.radio_telegram.specs.Repeater.{levelOf}
 use Rattle.collector_model.specs.declared.Totals.{Totals}
 use Rattle.collector_model.specs.View.{Reception, Entry, View, openedBy, txMaturity, capacity, isOpen}
 
--- r is no original that came when the sender of e was finished (document 02, A6: "a valid level 0 reception more than 40 ms after the opening")
+-- r is not an original that came after the sender of e had finished (document 02, A6: "a valid level 0 reception more
+-- than 40 ms after the opening")
 abbrev pub isEcho : Entry → Reception → Bool
 isEcho e r = not (eqb (levelOf (r .bytes)) 0) || leb (r .time - e .time) txMaturity
 
--- while the telegram that e opened is open, r is a copy of it: the same telegram, and an echo
+-- r is a copy of the telegram that e opened, as long as that telegram is open: the same telegram, and an echo
 unfoldable pub isCopyOf : Entry → Reception → Bool
 isCopyOf e r = isSame (e .bytes) (r .bytes) && isEcho e r
 

@@ -57,7 +57,7 @@ isDamaged a =
 abbrev pub isLate : Shown → Bool
 isLate a = eqb (shownNumber a) (numberOf refusal.Late)
 
--- "received counts all except 8"; 11 is no reception
+-- "received counts all except 8"; a call that is answered 11 takes no reception
 abbrev pub isReceived : Shown → Bool
 isReceived a = not (eqb (shownNumber a) (numberOf refusal.Full) || eqb (shownNumber a) (numberOf refusal.NotAccepted))
 

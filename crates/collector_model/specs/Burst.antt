@@ -17,7 +17,7 @@ use Rattle.collector_model.specs.Step.{step, sentFor}
 abbrev pub maxBurst : ℕ
 maxBurst = 256
 
--- what is shown of one reception: the answer, and the telegram to send
+-- the reply to one reception: the answer, and the telegram to send
 pub record Replied : Type 0 where
   pub answer : Shown
   pub sent : Frame
@@ -35,8 +35,8 @@ unfoldable pub repliesTo : ℕ → View → List Reception → List Replied
 repliesTo setting v [] = []
 repliesTo setting v (r ∷ rs) = replyWith setting (step v r .answer) r ∷ repliesTo setting (step v r .next) rs
 
--- "6 if the answer list is shorter, then 10 for more than 256", "10 for its setting also", by the setting and how many receptions and places there
--- are; 0 if none
+-- "6 if the answer list is shorter, then 10 for more than 256", "10 for its setting also"; 0 if none of these fits.
+-- Arguments: the setting, the number of receptions, the length of the list of replies.
 unfoldable pub callNumber : ℕ → ℕ → ℕ → ℕ
 callNumber setting receptions places =
     cond (ltb places receptions) (numberOf ShortOutput)
@@ -49,17 +49,17 @@ unfoldable pub burstNumber : ℕ → View → ℕ → ℕ → ℕ
 burstNumber setting v receptions places =
     cond (not (acceptable v)) (numberOf NotAccepted) (callNumber setting receptions places)
 
--- the receptions that a burst with this number stands for: "a refused burst stands for no reception"
+-- the receptions that a burst with this number counts for: "a refused burst stands for no reception"
 abbrev pub taken : ℕ → List Reception → List Reception
 taken number rs = cond (eqb number 0) rs []
 
--- the number, every place of the second list, and the next state
+-- the number, every entry of the list of replies, and the next state
 pub record BurstResult : Type 0 where
   pub number : ℕ
   pub replies : List Replied
   pub next : View
 
--- one reply for each reception that it stands for, at the same place; the places past them stay
+-- one reply for each reception that the burst counts for, at the same index; the entries after them are unchanged
 abbrev pub burstOf : ℕ → View → List Reception → List Replied → BurstResult
 burstOf setting v rs places =
     let number = burstNumber setting v (length rs) (length places) in

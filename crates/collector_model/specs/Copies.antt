@@ -1,4 +1,4 @@
--- What the numbers of copies say (document 02, A8).
+-- The meaning of the numbers of copies (document 02, A8).
 use Prim.Native.Nat.{ℕ, _+_, _-_, _<_}
 use mathlib.Core.Path.{_≡_}
 use mathlib.Core.Bool.{true, _&&_}
@@ -16,7 +16,8 @@ use Rattle.collector_model.specs.Reference.{Logged, isOpenCopy, keptOf, 
 
 -- ---- the reference model's numbers are counts of its answers
 
--- which opening a reception is a copy of: the last open telegram of which it is one, by its index among all ever opened
+-- which opening a reception is a copy of: the last open telegram that it is a copy of, by its index among all ever
+-- opened
 abbrev pub openingOf : List Logged → Reception → ℕ
 openingOf log r = lastIndex (isOpenCopy r) (keptOf log)
 
@@ -25,21 +26,21 @@ abbrev pub copyAnswers : ℕ → List Logged → ℕ
 copyAnswers n [] = 0
 copyAnswers n (e ∷ log) = plusIf (isCopy (e .answer) && eqb n (openingOf log (e .reception))) (copyAnswers n log)
 
--- of every telegram ever opened, closed ones too
+-- for every telegram ever opened, also closed ones, the number of copies is the number of COPY answers for it
 abbrev pub NumbersAreAnswers : Type 0
 NumbersAreAnswers =
     (past : List Reception)
     → copiesIn (keptOf (logOf past)) ≡ map (λ n. copyAnswers n (logOf past)) (upFrom 0 (length (keptOf (logOf past))))
 
--- each COPY is counted for one opening and one alone: their numbers sum to the total of copies
+-- each COPY is counted for exactly one opening: the numbers sum to the total of copies
 abbrev pub EachCountedOnce : Type 0
 EachCountedOnce = (past : List Reception) → sumOf (copiesIn (keptOf (logOf past))) ≡ totalsOf (logOf past) .copies
 
--- of these, how many are closed: those open at the latest time were opened after them
+-- how many of the telegrams ever opened are closed; the open ones are the last of them
 abbrev pub closedOf : List Logged → ℕ
 closedOf log = length (keptOf log) - length (openAt (latestOf log) log)
 
--- so what is answered for telegram k of the open ones is the number of the Copy answers for it, to the ceiling
+-- for telegram k of the open ones, the answer is the number of COPY answers for it, up to the ceiling
 abbrev pub HeardIsAnswers : Type 0
 HeardIsAnswers =
     (past : List Reception) (k : ℕ) → k < length (openAt (latestOf (logOf past)) (logOf past))
@@ -55,7 +56,7 @@ BelowCeiling =
 
 -- ---- "any value there accepted on reload"
 
--- two views that differ in their numbers of copies alone are both acceptable, or neither is
+-- if two views differ only in their numbers of copies, both are acceptable or neither is
 abbrev pub AnyNumber : Type 0
 AnyNumber = (v : View) (l : List Entry) → map openedBy l ≡ map openedBy (v .entries)
     → acceptable (record { latest = v .latest; totals = v .totals; entries = l }) ≡ acceptable v

@@ -13,7 +13,7 @@ use Rattle.collector_model.specs.Acceptable.{acceptable}
 abbrev pub copiesIn : List Entry → List ℕ
 copiesIn l = map (λ e. e .copies) l
 
--- the number, and the copies; 0 beside a refusal
+-- the number, and the copies; 0 with a refusal
 pub record HeardResult : Type 0 where
   pub number : ℕ
   pub copies : ℕ

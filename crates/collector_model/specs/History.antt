@@ -1,5 +1,5 @@
--- Histories (document 01, "One history, and the clerk who writes it down"): what a collector shows through a whole list of calls is what
--- the reference model says, and what the uncut run shows.
+-- Histories (document 01, "One history, and the clerk who writes it down"). For a whole list of calls, the collector
+-- shows what the reference model says, and what the uncut run shows.
 use Prim.Native.Nat.{ℕ, _≤_, _<_, _^_}
 use mathlib.Core.Path.{_≡_}
 use mathlib.Core.Bool.{false, cond, _&&_}
@@ -21,19 +21,21 @@ use Rattle.collector_model.specs.Reference.{totalsOf, answerTo, sentWith
 
 -- "A history is a list of calls: receptions taken, parkings into any room, and reloads."
 pub data Call : Type 0 where
-  -- a reception that is taken, and the caller's setting for what is sent: only KEPT is ever repeated (document 02, A7)
+  -- a reception that is taken, and the caller's setting for what is sent; only KEPT is ever repeated (document 02, A7)
   Receive : ℕ → Reception → Call
   -- a checkpoint into an output that holds these bytes
   Checkpoint : List ℕ → Call
   -- the restore of an image
   Restore : List ℕ → Call
-  -- "A cut": a checkpoint into such an output, and the restore of the 2,560 bytes it wrote into another collector started fresh
+  -- "A cut": a checkpoint into such an output, and the restore of the 2,560 bytes that it wrote into another collector,
+  -- which was started fresh
   Cut : List ℕ → Call
-  -- a burst of these receptions at the caller's setting, with a second list that holds these replies (document 02, A1)
+  -- a burst of these receptions with the caller's setting, and a list for the replies that holds these (document 02,
+  -- A1)
   Burst : ℕ → List Reception → List Replied → Call
   -- the copies of the open telegram with this index are asked for (document 02, A8)
   Ask : ℕ → Call
-  -- nothing is called, and the totals are read
+  -- no call is made, and the totals are read
   Look : Call
 
 -- the receptions' times are 64-bit numbers
@@ -41,7 +43,8 @@ abbrev pub Timely : List Reception → Type 0
 Timely [] = Unit {0}
 Timely (r ∷ rs) = (r .time < 2 ^ 64) × Timely rs
 
--- a reception's time is a 64-bit number (its bytes may be any), a cut has room, "every other reload in it is a refused one"
+-- the time of a reception is a 64-bit number (its bytes may be any), the output of a cut is long enough, "every other
+-- reload in it is a refused one"
 abbrev pub IsHistory : List Call → Type 0
 IsHistory [] = Unit {0}
 IsHistory (Receive setting r ∷ h) = (r .time < 2 ^ 64) × IsHistory h
@@ -60,7 +63,7 @@ pub data Seen : Type 0 where
   Wrote : ℕ → List ℕ → Totals → Seen
   -- the number of a restore
   Restored : ℕ → Totals → Seen
-  -- the number of a burst, and every place of its second list
+  -- the number of a burst, and every entry of its list of replies
   Delivered : ℕ → List Replied → Totals → Seen
   -- the number of an ask, and the copies
   Heard : ℕ → ℕ → Totals → Seen
@@ -90,13 +93,14 @@ run v (Ask k ∷ h) =
     Heard (a .number) (a .copies) (v .totals) ∷ run v h
 run v (Look ∷ h) = Looked (v .totals) ∷ run v h
 
--- the receptions that a burst stands for, to the reference model: all of them, if each has a place, they are at most 256, and its setting is at
--- most 2; else none
+-- the receptions that a burst counts for in the reference model: all of them, if the list of replies is long enough,
+-- they are at most 256, and the setting is at most 2; else none
 abbrev pub burstTaken : ℕ → List Reception → List Replied → List Reception
 burstTaken setting rs places =
     cond (leb (length rs) (length places) && (leb (length rs) maxBurst && leb setting maxSetting)) rs []
 
--- what the reference model says, fed the receptions so far: checkpoints into room and the restores of cuts are answered 0
+-- what the reference model says, which is fed the receptions so far. The restore of a cut is answered 0, any other
+-- restore 11.
 abbrev pub expected : List Reception → List Call → List Seen
 expected past [] = []
 expected past (Receive setting r ∷ h) =
@@ -119,7 +123,7 @@ expected past (Ask k ∷ h) =
     Heard (a .number) (a .copies) (totalsOf (logOf past)) ∷ expected past h
 expected past (Look ∷ h) = Looked (totalsOf (logOf past)) ∷ expected past h
 
--- "The uncut run is the same list without the reloads"; where one stood, the totals are read
+-- "The uncut run is the same list without the reloads"; in place of a reload, the totals are read
 abbrev pub uncut : List Call → List Call
 uncut [] = []
 uncut (Receive setting r ∷ h) = Receive setting r ∷ uncut h
@@ -130,7 +134,7 @@ uncut (Burst setting rs places ∷ h) = Burst setting rs places ∷ uncut h
 uncut (Ask k ∷ h) = Ask k ∷ uncut h
 uncut (Look ∷ h) = Look ∷ uncut h
 
--- what is seen, but for the restores' own numbers
+-- what is seen, without the numbers of the restores
 abbrev pub common : List Seen → List Seen
 common [] = []
 common (Answered a sent n ∷ l) = Answered a sent n ∷ common l
@@ -145,6 +149,6 @@ pub record Agrees (h : List Call) : Type 0 where
   pub reference : run fresh h ≡ expected [] h
   pub uncutRun : common (run fresh h) ≡ run fresh (uncut h)
 
--- THE CLAIM, one about the whole list: so does every history, "from a collector started fresh", at whatever settings its calls name.
+-- THE CLAIM, on the whole list: this holds for every history "from a collector started fresh", with any settings.
 abbrev pub WholeHistory : Type 0
 WholeHistory = (h : List Call) → IsHistory h → Agrees h

@@ -44,7 +44,7 @@ blocksOf setting v =
     ∷ imageBlock 4 0 0 v
     ∷ []
 
--- with a number in the setting's place
+-- the image with a number in the setting's place
 unfoldable pub imageWith : ℕ → View → List ℕ
 imageWith setting v = flatten (blocksOf setting v)
 
@@ -67,15 +67,15 @@ firstIn k image = headerFirst (blockHeader (blockIn k image))
 abbrev pub secondIn : ℕ → List ℕ → ℕ
 secondIn k image = headerSecond (blockHeader (blockIn k image))
 
--- what stands in the setting's place
+-- the number in the setting's place
 abbrev pub settingIn : List ℕ → ℕ
 settingIn image = secondIn 3 image
 
--- the entries that the five blocks say are used
+-- how many entries the five blocks say are used
 abbrev pub countIn : List ℕ → ℕ
 countIn image = usedIn 0 image + usedIn 1 image + usedIn 2 image + usedIn 3 image + usedIn 4 image
 
--- "any value there accepted"
+-- an entry; of its number of copies, "any value there accepted"
 abbrev pub cellEntry : List ℕ → Entry
 cellEntry cell = record { bytes = cellBytes cell; time = cellTime cell; copies = cellLast cell }
 
@@ -93,7 +93,7 @@ totalsIn image = record {
   late = firstIn 3 image;
 }
 
--- what an image says; `accepts` tells whether it says it in this layout
+-- the view that an image gives; `accepts` tells whether the image has this layout
 unfoldable pub parse : List ℕ → View
 parse image = record {
   latest = firstIn 0 image;
@@ -101,8 +101,8 @@ parse image = record {
   entries = map (entryIn image) (upFrom 0 (countIn image));
 }
 
--- "Reload accepts exactly a 2,560-byte image with this layout and right checks, where ..": byte for byte what a checkpoint writes, or "an older
--- image with 1 or 2 there" (document 02, A7), of which the view says nothing
+-- "Reload accepts exactly a 2,560-byte image with this layout and right checks, where ..": byte for byte what a
+-- checkpoint writes, or "an older image with 1 or 2 there" (document 02, A7). The view has no setting.
 unfoldable pub accepts : List ℕ → Bool
 accepts image =
     eqb (length image) imageLength
@@ -112,19 +112,19 @@ accepts image =
 
 -- ---- the calls, for every state: "a collector state from which no image that reload accepts could be parked gets 11 before all else"
 
--- the number, and every byte of the output at exit
+-- the number, and every byte of the output after the call
 pub record CheckpointResult : Type 0 where
   pub number : ℕ
   pub output : List ℕ
 
--- 11, 6; else the image is in front of what stood past it
+-- 11, then 6 for an output too short; else the image is at the front of the output, and the rest is unchanged
 unfoldable pub checkpointOf : View → List ℕ → CheckpointResult
 checkpointOf v output =
     cond (not (acceptable v)) (record { number = numberOf NotAccepted; output = output })
     (cond (ltb (length output) imageLength) (record { number = numberOf ShortOutput; output = output })
     (record { number = 0; output = imageOf v ++ drop imageLength output }))
 
--- the number, and the collector that is handed back
+-- the number, and the state of the collector that is returned
 pub record RestoreResult : Type 0 where
   pub number : ℕ
   pub next : View

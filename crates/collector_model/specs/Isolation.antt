@@ -38,7 +38,8 @@ AnswersIsolated =
     (x : List ℕ) (past : List Reception) → Quiet past
     → keep (λ e. isOf x (e .reception)) (logOf past) ≡ logOf (keep (isOf x) past)
 
--- "and so the copies of each open telegram of X, asked directly after a valid reception of X": each with what opened it and its number
+-- "and so the copies of each open telegram of X, asked directly after a valid reception of X": each open telegram with
+-- the reception that opened it and its number of copies
 abbrev pub EntriesIsolated : Type 0
 EntriesIsolated =
     (x : List ℕ) (r : Reception) (past : List Reception) → Quiet (r ∷ past) → isOf x r ≡ true
@@ -46,11 +47,11 @@ EntriesIsolated =
 
 -- ---- in the states of an implementation
 
--- a history's valid receptions of X, each at its own time and setting, one by one
+-- the valid receptions of X in a history, each with its own time and setting, one by one
 abbrev pub struck : List ℕ → List Call → List Call
 struck x h = map (λ g. Receive (g .setting) (g .reception)) (keep (λ g. isOf x (g .reception)) (receptionsOf h))
 
--- of the replies to receptions, those to valid ones of X
+-- the replies to the valid receptions of X, of all replies
 abbrev pub repliesOf : List ℕ → List Given → List Replied → List Replied
 repliesOf x [] replies = []
 repliesOf x (g ∷ gs) [] = []
@@ -62,8 +63,9 @@ isNewest x [] = false
 isNewest x (r ∷ past) = isOf x r
 
 module _ {State : Type 0} (view : State → View) where
-  -- what states show that started fresh, of a history and of X's receptions alone: the same answers with the same telegrams to send, and
-  -- after a reception of X the same open telegrams of X with the same numbers of copies
+  -- two states that started fresh, one after a history and one after X's receptions alone, show the same answers to X,
+  -- with the same telegrams to send. Directly after a reception of X, they have the same open telegrams of X with the
+  -- same numbers of copies.
   pub record Isolated (x : List ℕ) (h : List Call) (l m : List Seen) (left alone : State) : Type 0 where
     pub replies : repliesOf x (receptionsOf h) (repliesIn h l) ≡ repliesIn (struck x h) m
     pub entries : isNewest x (pastOf h) ≡ true → keep (isEntryOf x) (view left .entries) ≡ view alone .entries

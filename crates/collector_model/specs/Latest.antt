@@ -1,6 +1,7 @@
--- Document 02, A6, in its own words: "a valid level 0 reception more than 40 ms after the opening of the latest open same telegram is not a
--- COPY of it", and "Every COPY, at level 0 too, belongs to the latest opening". `isCopyOf` asks each open telegram, and `credit` the last of which
--- it is a copy; in the order in which they are opened they agree with the latest same one.
+-- Document 02, A6, in its own words: "a valid level 0 reception more than 40 ms after the opening of the latest open
+-- same telegram is not a COPY of it", and "Every COPY, at level 0 too, belongs to the latest opening". The definitions
+-- ask more: `isCopyOf` is tested for each open telegram, and `credit` picks the last of which r is a copy. In opening
+-- order, both agree with the latest open telegram that is the same.
 use mathlib.Core.Path.{_≡_}
 use Prim.Native.Nat.{ℕ}
 use mathlib.Core.Bool.{true, false}
@@ -18,19 +19,19 @@ lastOf [] = []
 lastOf (x ∷ []) = x ∷ []
 lastOf (x ∷ y ∷ l) = lastOf (y ∷ l)
 
--- of open telegrams in opening order, the latest that is the same as r
+-- of open telegrams in opening order, the latest that is the same telegram as r
 abbrev pub latestSame : List Entry → Reception → List Entry
 latestSame l r = lastOf (keep (λ e. isSame (e .bytes) (r .bytes)) l)
 
--- THE CLAIM: whatever came before, r is a copy of an open telegram just where there is a latest open same one and r is an echo of it, and so
--- no level 0 reception more than 40 ms after its opening
+-- THE CLAIM: after any receptions, r is a copy of an open telegram exactly if there is a latest open telegram that is
+-- the same and r is an echo of it. So r is no level 0 reception more than 40 ms after the opening.
 abbrev pub LatestDecides : Type 0
 LatestDecides =
     (past : List Reception) (r : Reception)
     → any (λ e. isCopyOf e r) (openAt (r .time) (logOf past))
     ≡ any (λ e. isEcho e r) (latestSame (openAt (r .time) (logOf past)) r)
 
--- of these telegrams one is credited: it is the same as r, the latest such, and no other changes
+-- exactly one of these telegrams is credited: the latest that is the same as r; no other changes
 pub record CreditsLatest (more : ℕ → ℕ) (r : Reception) (l : List Entry) : Type 0 where
   pub before : List Entry
   pub latest : Entry
@@ -40,7 +41,7 @@ pub record CreditsLatest (more : ℕ → ℕ) (r : Reception) (l : List Entry) :
   pub last : any (λ e. isSame (e .bytes) (r .bytes)) after ≡ false
   pub credited : credit more (λ e. isCopyOf e r) l ≡ before ++ (recount more latest ∷ after)
 
--- THE CLAIM: whatever came before, a copy is credited to the latest open same telegram, and to it alone
+-- THE CLAIM: after any receptions, a copy is credited to the latest open telegram that is the same, and to no other
 abbrev pub LatestCredited : Type 0
 LatestCredited =
     (more : ℕ → ℕ) (past : List Reception) (r : Reception)

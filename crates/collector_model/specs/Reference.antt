@@ -1,5 +1,6 @@
--- The reference model, document 01's clerk ("One history, and the clerk who writes it down"): it is fed the
--- receptions in order, and nothing else, and keeps them all, each with the answer that it gave. Receptions and log are newest first.
+-- The reference model, document 01's clerk ("One history, and the clerk who writes it down"). It is fed the receptions
+-- in order, and nothing else. It keeps them all, each with the answer that it gave. Receptions and log are newest
+-- first.
 use Prim.Native.Nat.{ℕ, _+_, max}
 use mathlib.Core.Bool.{Bool, cond, not, _&&_}
 use mathlib.Core.List.{List, [], _∷_, _++_, map}
@@ -25,7 +26,7 @@ pub record Logged : Type 0 where
   pub reception : Reception
   pub answer : Shown
 
--- how many were given such an answer
+-- how many got such an answer
 abbrev pub answers : (Shown → Bool) → List Logged → ℕ
 answers p log = count (λ e. p (e .answer)) log
 
@@ -40,24 +41,25 @@ totalsOf log = record {
   late = answers isLate log;
 }
 
--- "one that he answered KEPT is the same telegram and has a time f with t - f <= 100", where r is no original too late for it (document 02, A6)
+-- "one that he answered KEPT is the same telegram and has a time f with t - f <= 100", unless r is an original too late
+-- to be a copy of it (document 02, A6)
 abbrev pub isOpenCopy : Reception → Entry → Bool
 isOpenCopy r e = isOpen (r .time) e && isCopyOf e r
 
--- the telegrams opened so far, each with "the number of his own COPY answers for that opening" (document 02, A8), after one more answer: a Copy
--- counts for the last of which it is a copy
+-- the telegrams opened so far, each with "the number of his own COPY answers for that opening" (document 02, A8), after
+-- one more answer. A Copy counts for the last telegram that it is a copy of.
 abbrev pub keptAfter : List Entry → Reception → Shown → List Entry
 keptAfter l r Kept = l ++ (opened r ∷ [])
 keptAfter l r Copy = credit (λ n. n + 1) (isOpenCopy r) l
 keptAfter l r Loose = l
 keptAfter l r (Refused n) = l
 
--- the receptions answered Kept, in the order handed over, with these numbers
+-- the receptions answered Kept, in the order handed over, with their numbers of copies
 abbrev pub keptOf : List Logged → List Entry
 keptOf [] = []
 keptOf (e ∷ log) = keptAfter (keptOf log) (e .reception) (e .answer)
 
--- of these, the ones with t - f <= 100
+-- those of them with t - f <= 100
 abbrev pub openAt : ℕ → List Logged → List Entry
 openAt t log = keep (isOpen t) (keptOf log)
 
@@ -65,7 +67,8 @@ openAt t log = keep (isOpen t) (keptOf log)
 abbrev pub isBehind : ℕ → List Logged → Bool
 isBehind t log = any (λ e. isAccepted (e .answer) && ltb t (e .reception .time)) log
 
--- the answer to the next one, "the first that fits"; "another answer than 8" is one that counts as received
+-- the answer to the next reception, "the first that fits"; the receptions with "another answer than 8" are those that
+-- `isReceived` counts
 unfoldable pub answerTo : List Logged → Reception → Shown
 answerTo log r =
     cond (leb maxCount (answers isReceived log)) (Refused (numberOf refusal.Full))
@@ -75,7 +78,8 @@ answerTo log r =
     (cond (leb capacity (length (openAt (r .time) log))) Loose
     Kept))))
 
--- "With KEPT goes what the repeater step sends at the setting; with all else, nothing.": the setting is the caller's (document 02, A7)
+-- "With KEPT goes what the repeater step sends at the setting; with all else, nothing.": the setting is the caller's
+-- (document 02, A7)
 abbrev pub sentWith : ℕ → Shown → Reception → Frame
 sentWith setting Kept r = frameOf (repeatOf setting (r .bytes))
 sentWith setting Copy r = frameOf []
@@ -92,7 +96,8 @@ abbrev pub latestOf : List Logged → ℕ
 latestOf [] = 0
 latestOf (e ∷ log) = cond (isAccepted (e .answer)) (max (e .reception .time) (latestOf log)) (latestOf log)
 
--- what stands in his image: "those he answered KEPT with latest - f <= 100, in the order handed over", the numbers "to the same ceiling"
+-- the view in the model's image: "those he answered KEPT with latest - f <= 100, in the order handed over", the numbers
+-- "to the same ceiling"
 unfoldable pub modelView : List Logged → View
 modelView log = record {
   latest = latestOf log;
@@ -100,20 +105,23 @@ modelView log = record {
   entries = map (recount capped) (openAt (latestOf log) log);
 }
 
--- what he says of the copies of telegram k of those open at the latest time, in the order handed over; 10 where there is none
+-- the model's answer on the copies of open telegram k: the telegrams open at the latest time, in the order handed over;
+-- 10 if there is none
 unfoldable pub heardBy : List Logged → ℕ → HeardResult
 heardBy log k =
     let counts = copiesIn (openAt (latestOf log) log) in
     cond (ltb k (length counts)) (record { number = 0; copies = capped (getD counts k 0) })
     (record { number = numberOf refusal.Argument; copies = 0 })
 
--- what he says of a parking into an output: 6 if it is too short, else his image in front of what stood past it
+-- the model's answer to a checkpoint into an output: 6 if it is too short, else the model's image at the front of the
+-- output, and the rest unchanged
 unfoldable pub savedBy : List Logged → List ℕ → CheckpointResult
 savedBy log output =
     cond (ltb (length output) imageLength) (record { number = numberOf refusal.ShortOutput; output = output })
     (record { number = 0; output = imageOf (modelView log) ++ drop imageLength output })
 
--- the receptions of a burst, oldest first, are fed to it one by one: the receptions so far after them, and the reply to each (document 02, A1)
+-- the receptions of a burst, oldest first, are fed to the model one by one: all receptions after them, and the reply to
+-- each (document 02, A1)
 abbrev pub pastAfter : List Reception → List Reception → List Reception
 pastAfter past [] = past
 pastAfter past (r ∷ rs) = pastAfter (r ∷ past) rs

@@ -1,4 +1,5 @@
--- The same of an implementation: of its states and answers nothing is known but what its contracts say, which speak of a state's view.
+-- The same for an implementation. Its states and answers are known only by its contracts, which speak of the view of a
+-- state.
 use Prim.Native.Nat.{ℕ}
 use mathlib.Core.Path.{_≡_}
 use mathlib.Core.List.{List, [], _∷_}
@@ -15,10 +16,10 @@ use Rattle.collector_model.specs.Reference.{logOf, modelView}
 use Rattle.collector_model.specs.Division.{receptionsOf, pastOf, repliesIn}
 
 module _ {State : Type 0} (view : State → View) where
-  -- from the state c the calls show the list: each premise is what the contract of the call ensures
+  -- from the state c, the calls show the list. Each premise is what the contract of the call ensures.
   pub data Shows : State → List Call → List Seen → Type 0 where
     ended : {c : State} → Shows c [] []
-    -- what is sent is what the caller then has: of the call `repeat` for one that is Kept, and nothing for all else
+    -- what is sent is what the caller then has: what `repeat` gives for a Kept reception, and nothing for any other
     received : {c c′ : State} {setting : ℕ} {r : Reception} {a : Shown} {sent : Frame} {h : List Call} {l : List Seen}
         → record { answer = a; next = view c′ } ≡ step (view c) r
         → sent ≡ sentFor setting a r
@@ -56,7 +57,7 @@ module _ {State : Type 0} (view : State → View) where
   leftBy (asked e t) = leftBy t
   leftBy (looked t) = leftBy t
 
-  -- what states show that started fresh is what the reference model says, and what states show in the uncut run
+  -- states that started fresh show what the reference model says, and what states show in the uncut run
   abbrev pub StatesAgree : Type 0
   StatesAgree =
       (h : List Call) → IsHistory h
@@ -64,14 +65,14 @@ module _ {State : Type 0} (view : State → View) where
       → (l m : List Seen) → Shows c h l → Shows d (uncut h) m
       → (l ≡ expected [] h) × (common l ≡ m)
 
-  -- what states show that started fresh holds the same replies in any two histories of the same receptions
+  -- states that started fresh show the same replies in any two histories of the same receptions
   abbrev pub StatesDivide : Type 0
   StatesDivide =
       (h h′ : List Call) → IsHistory h → IsHistory h′ → receptionsOf h ≡ receptionsOf h′
       → (c d : State) → view c ≡ fresh → view d ≡ fresh
       → (l m : List Seen) → Shows c h l → Shows d h′ m → repliesIn h l ≡ repliesIn h′ m
 
-  -- a state that started fresh is left as the reference model is after the receptions: its latest time, totals and open telegrams with their copies
+  -- a state that started fresh has after the calls the model's latest time, totals and open telegrams with their copies
   abbrev pub StatesLeft : Type 0
   StatesLeft =
       (h : List Call) → IsHistory h → (c : State) → view c ≡ fresh

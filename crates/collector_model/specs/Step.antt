@@ -1,5 +1,5 @@
--- One reception (document 01, "Merging"): the answer, the next state with its counts of copies (document 02, A8), and the telegram to send (A7: a
--- call of its own).
+-- One reception (document 01, "Merging"): the answer, the next state with its numbers of copies (document 02, A8), and
+-- the telegram to send (A7: a call of its own).
 use Prim.Native.Nat.{ℕ, _+_, _-_, _^_}
 use mathlib.Core.Bool.{Bool, cond, not}
 use mathlib.Core.List.{List, [], _∷_, _++_}
@@ -29,7 +29,7 @@ isKnown v r = any (λ e. isCopyOf e r) (stillOpen (r .time) v)
 abbrev pub isCrowded : View → Reception → Bool
 isCrowded v r = leb capacity (length (stillOpen (r .time) v))
 
--- the answer: the first that fits, and 11 before all else
+-- the answer: 11 first, then the first that fits
 unfoldable pub classify : View → Reception → Shown
 classify v r =
     cond (not (acceptable v)) (Refused (numberOf refusal.NotAccepted))
@@ -40,7 +40,7 @@ classify v r =
     (cond (isCrowded v r) Loose
     Kept)))))
 
--- one more, where a test passes
+-- n, or one more if a test passes
 abbrev pub plusIf : Bool → ℕ → ℕ
 plusIf b n = cond b (n + 1) n
 
@@ -55,13 +55,13 @@ tally a n = record {
   late = plusIf (isLate a) (n .late);
 }
 
--- its number of copies changed by `more`, for the last entry that passes a test
+-- entries after the number of copies of one of them is changed by `more`: the last entry that passes a test
 abbrev pub credit : (ℕ → ℕ) → (Entry → Bool) → List Entry → List Entry
 credit more q [] = []
 credit more q (e ∷ l) = cond (any q l) (e ∷ credit more q l) (cond (q e) (recount more e ∷ l) (e ∷ l))
 
--- the entries after an answer: closed telegrams go at an accepted reception, one that is Kept opens a telegram, and "Every COPY .. belongs to the
--- latest opening" (document 02, A6)
+-- the entries after an answer. An accepted reception drops closed telegrams. A Kept reception opens a telegram. "Every
+-- COPY .. belongs to the latest opening" (document 02, A6).
 abbrev pub entriesAfter : View → Reception → Shown → List Entry
 entriesAfter v r Kept = stillOpen (r .time) v ++ (opened r ∷ [])
 entriesAfter v r Copy = credit (λ n. capped (n + 1)) (λ e. isCopyOf e r) (stillOpen (r .time) v)
@@ -85,6 +85,6 @@ step v r = record { answer = classify v r; next = advance v r (classify v r) }
 
 -- ---- what is sent
 
--- "Only KEPT is ever repeated": what the repeater step sends at the caller's setting; with all else, nothing
+-- "Only KEPT is ever repeated": for KEPT, what the repeater step sends at the caller's setting; for all else, nothing
 unfoldable pub sentFor : ℕ → Shown → Reception → Frame
 sentFor setting a r = frameOf (cond (isKept a) (repeatOf setting (r .bytes)) [])

@@ -1,4 +1,4 @@
--- What a state of the collector says (document 01, "Merging").
+-- The view of a collector's state (document 01, "Merging").
 use Prim.Native.Nat.{ℕ, _-_, min}
 use mathlib.Core.Bool.{Bool}
 use mathlib.Core.List.{List, []}
@@ -17,7 +17,7 @@ pub record Entry : Type 0 where
   pub time : ℕ
   pub copies : ℕ
 
--- "A KEPT reception opens a telegram at its time"; it is no copy of itself
+-- "A KEPT reception opens a telegram at its time"; the reception itself does not count as a copy
 abbrev pub opened : Reception → Entry
 opened r = record { bytes = r .bytes; time = r .time; copies = 0 }
 
@@ -25,7 +25,7 @@ opened r = record { bytes = r .bytes; time = r .time; copies = 0 }
 abbrev pub openedBy : Entry → Reception
 openedBy e = record { bytes = e .bytes; time = e .time }
 
--- with its number of copies changed by f
+-- an entry whose number of copies is changed by f
 abbrev pub recount : (ℕ → ℕ) → Entry → Entry
 recount f e = record { bytes = e .bytes; time = e .time; copies = f (e .copies) }
 
@@ -40,7 +40,7 @@ pub record View : Type 0 where
 abbrev pub maturity : ℕ
 maturity = 100
 
--- a sender is finished so many ms after it began (TX maturity, 001 Table 1)
+-- a sender has finished 40 ms after it began (TX maturity, 001 Table 1)
 abbrev pub txMaturity : ℕ
 txMaturity = 40
 
@@ -58,7 +58,7 @@ capped n = min n ceiling
 abbrev pub isOpen : ℕ → Entry → Bool
 isOpen t e = leb (t - e .time) maturity
 
--- of the open telegrams, those that are open at t
+-- the entries of a view that are open at t
 abbrev pub stillOpen : ℕ → View → List Entry
 stillOpen t v = keep (isOpen t) (v .entries)
 

@@ -1,5 +1,5 @@
--- One reception at a state that was found acceptable or not, whatever it is: for a run of receptions, of which the first state alone is tested
--- (document 01, "Merging").
+-- One reception at any state, where the caller tells whether the state is acceptable. In a run of receptions only the
+-- first state is tested (document 01, "Merging").
 use Prim.Native.Nat.{ℕ, _+_, _<_, _^_}
 use mathlib.Core.List.{List, [], _++_, _∷_}
 use lib.ListN.{length}
@@ -26,28 +26,28 @@ use Rattle.collector_state.specs.Collector.{Columns, viewIn, columnsWith
 
 -- ---- one reception
 
--- "Only KEPT is ever repeated": what is sent for bytes that got this answer and need no check
+-- "Only KEPT is ever repeated": what is sent for bytes that got this answer; the bytes are not checked again
 unfoldable pub relayedFor : ℕ → Shown → List ℕ → List ℕ
 relayedFor setting a bytes = cond (isKept a) (relayOf setting bytes) []
 
--- the tests before the open telegrams are looked at, in their order: the check's number, 7; 0 if both pass
+-- the tests that come before the search in the open telegrams, in order: the check's number, then 7; 0 if both pass
 unfoldable pub receptionCheck : ℕ → Reception → ℕ
 receptionCheck latest r =
     cond (not (isValid (r .bytes))) (checkOf (r .bytes))
     (cond (ltb (r .time) latest) (numberOf refusal.Late)
     0)
 
--- the answer by that number, whether the same telegram is open, and whether 64 are
+-- the answer, by that number, by whether the reception is a copy of an open telegram, and by whether 64 are open
 unfoldable pub answerFor : ℕ → Bool → Bool → Shown
 answerFor number known crowded = cond (eqb number 0) (cond known Copy (cond crowded Loose Kept)) (Refused number)
 
--- one of the entries is the same telegram as r
+-- r is a copy of one of the entries
 unfoldable pub hasCopy : List Entry → Reception → Bool
 hasCopy l r = any (λ e. isCopyOf e r) l
 
--- ---- at columns and a summary
+-- ---- for columns and a summary
 
--- the state of these
+-- the state of columns and a summary
 abbrev pub collectorOf : Columns → Summary → Collector
 collectorOf a s = record { times = a .times; lens = a .lens; bytes = a .bytes; copies = a .copies; summary = s }
 
@@ -55,24 +55,25 @@ collectorOf a s = record { times = a .times; lens = a .lens; bytes = a .bytes; c
 abbrev pub admittedOf : Columns → Admitted → Outcome
 admittedOf a r = record { answer = shownOf (r .answer); next = viewIn a (r .summary) }
 
--- what a step itself needs of any state: entries that the arrays hold, and totals that add up
+-- what a step needs of any state: not more entries than the arrays hold, and totals that add up
 abbrev pub isSafe : View → Bool
 isSafe v = leb (length (v .entries)) capacity && isSummed (v .totals)
 
--- the number of the tests before the open telegrams are looked at ("then the check (1, 2, 3) ..; then .. (7)")
+-- the number of the tests before the search ("then the check (1, 2, 3) ..; then .. (7)")
 abbrev pub numberOn : View → Reception → ℕ
 numberOn v r = receptionCheck (v .latest) r
 
--- the latest time after it: that of the latest reception that passed them
+-- the latest time after the reception: its own time if it passed these tests
 abbrev pub latestAfter : View → Reception → ℕ
 latestAfter v r = cond (eqb (numberOn v r) 0) (r .time) (v .latest)
 
--- the entries from the first on that is open at t: in order of time, as they are in an acceptable state, these are the open ones
+-- the entries from the first one on that is open at t. In order of time, as in an acceptable state, these are the open
+-- ones.
 abbrev pub openFrom : ℕ → List Entry → List Entry
 openFrom t [] = []
 openFrom t (e ∷ l) = cond (isOpen t e) (e ∷ l) (openFrom t l)
 
--- the entries after it, before it opens one: where it passed those tests, the open ones; else all
+-- the entries before the reception opens one: the open ones if it passed these tests, else all
 abbrev pub leftAfter : View → Reception → List Entry
 leftAfter v r = cond (eqb (numberOn v r) 0) (openFrom (r .time) (v .entries)) (v .entries)
 
@@ -80,7 +81,7 @@ leftAfter v r = cond (eqb (numberOn v r) 0) (openFrom (r .time) (v .entries)) (v
 abbrev pub answerOn : View → Reception → Shown
 answerOn v r = answerFor (numberOn v r) (hasCopy (leftAfter v r) r) (leb capacity (length (leftAfter v r)))
 
--- one that is Kept opens a telegram, and a Copy is counted for the last entry of which it is one (document 02, A8)
+-- a Kept reception opens a telegram; a Copy is counted for the last entry that it is a copy of (document 02, A8)
 abbrev pub entriesWith : Shown → Reception → List Entry → List Entry
 entriesWith Kept r l = l ++ (opened r ∷ [])
 entriesWith Copy r l = credit (λ n. capped (n + 1)) (λ e. isCopyOf e r) l
@@ -98,45 +99,47 @@ admitted v r = record {
   };
 }
 
--- nothing is left behind
+-- refused: the state is unchanged
 abbrev pub notAdmitted : Refusal → View → Outcome
 notAdmitted why v = record { answer = Refused (numberOf why); next = v }
 
--- "11: .. state not accepted; the collector stays as it was"; "8: received is 2^64 - 1"; else a state that was found acceptable takes it, where it is
--- safe
+-- "11: .. state not accepted; the collector stays as it was"; "8: received is 2^64 - 1"; else the reception is taken. A
+-- state is accepted here if the caller tells that it is acceptable, and it is safe.
 unfoldable pub admission : Bool → View → Reception → Outcome
 admission fit v r =
     cond (not (fit && isSafe v)) (notAdmitted NotAccepted v)
     (cond (leb maxCount (v .totals .received)) (notAdmitted Full v)
     (admitted v r))
 
--- the columns after it: one that is KEPT, COPY or LOOSE leaves the open telegrams, and beside a refusal every element is as it was
+-- the columns after it: KEPT, COPY and LOOSE leave only the open telegrams; with a refusal every element is unchanged
 unfoldable pub columnsAdmitted : Bool → View → Reception → Columns → Columns
 columnsAdmitted fit v r a =
     cond (isAccepted (admission fit v r .answer)) (columnsWith (answerOn v r) r (length (v .entries)) (leftAfter v r) a) a
 
--- what `admit` makes of columns and a summary, told whether the state is acceptable
+-- what `admit` does with columns and a summary; the caller tells whether the state is acceptable
 pub record Admits (fit : Bool) (a : Columns) (s : Summary) (r : Reception) (a' : Columns) (d : Admitted) : Type 0 where
   pub outcome : admittedOf a' d ≡ admission fit (viewIn a s) r
   -- every element
   pub elements : a' ≡ columnsAdmitted fit (viewIn a s) r a
-  -- beside every refusal every element is as it was
+  -- with every refusal, every element is unchanged
   pub refused : isAccepted (shownOf (d .answer)) ≡ false → a' ≡ a
-  -- at 8 and 11 the summary too
+  -- with 8 and 11, the summary too
   pub stays : isReceived (shownOf (d .answer)) ≡ false → (a' ≡ a) × (d .summary ≡ s)
 
--- fit says whether a state is acceptable, whose numbers have 64 bits: what is known of the first state of a run, and of every next one
+-- `fit` tells whether a state is acceptable, and its numbers have 64 bits. This holds for the first state of a run, and
+-- for every next one.
 pub record Tested (fit : Bool) (v : View) : Type 0 where
   pub said : fit ≡ acceptable v
   pub fits : Fits v
 
--- THE CLAIM for a run of receptions: told rightly, each is admitted as the model's step, and what was told is right of the next state too
+-- THE CLAIM for a run of receptions: if the caller tells the truth, each is admitted as the model's step, and what was
+-- told is true of the next state too
 pub record ToldRightly : Type 0 where
   pub isStep : (fit : Bool) (v : View) (r : Reception) → fit ≡ acceptable v → admission fit v r ≡ step v r
   pub elements : (fit : Bool) (v : View) (r : Reception) (a : Columns) → fit ≡ acceptable v → columnsAdmitted fit v r a ≡ columnsAfter v r a
   pub goesOn : (fit : Bool) (v : View) (r : Reception) → Tested fit v → r .time < 2 ^ 64 → Tested fit (step v r .next)
 
--- THE CLAIM for what is sent: for a reception that was admitted, `relay_kept` gives the telegram that the model says is sent
+-- THE CLAIM for what is sent: for a reception that was admitted, `relay_kept` gives the telegram that the model sends
 abbrev pub RelayedSent : Type 0
 RelayedSent =
     (fit : Bool) (v : View) (r : Reception) (setting : ℕ)

@@ -1,4 +1,4 @@
--- What a state of the collector says, as the model speaks of it, and what `take` gives (document 01, "Merging").
+-- The view of a collector's state in arrays, and what `take` gives (document 01, "Merging").
 use Prim.Native.Nat.{ℕ, _+_, _-_, _*_}
 use mathlib.Core.List.{List, [], _++_, map, flatten}
 use lib.ListN.{length, getD, take, drop, set}
@@ -15,18 +15,18 @@ use Rattle.collector_model.specs.Answer.{Shown, isKept, isCopy, isAccepted, isR
 use Rattle.collector_model.specs.Step.{Outcome, step}
 use Rattle.collector_state.specs.declared.Taken.{Taken}
 
--- the arrays of the entries: entry i has element i of each, and the 21 bytes from 21 i
+-- the arrays of the entries: entry i has element i of each; of the bytes, the 21 from 21 * i on
 pub record Columns : Type 0 where
   pub times : List ℕ
   pub lens : List ℕ
   pub bytes : List ℕ
   pub copies : List ℕ
 
--- those that are lent
+-- the columns of lent arrays
 abbrev pub columns : List ℕ → List ℕ → List ℕ → List ℕ → Columns
 columns times lens bytes copies = record { times = times; lens = lens; bytes = bytes; copies = copies }
 
--- entry i: as many bytes as its length says, so that one over 21 shows, its time, and its number of copies
+-- entry i: its bytes, time and number of copies. It has as many bytes as its length says, also if that is over 21.
 abbrev pub entryAt : Columns → ℕ → Entry
 entryAt a i = record {
   bytes = resized (getD (a .lens) i 0) (part (maxLength * i) maxLength (a .bytes));
@@ -38,11 +38,11 @@ entryAt a i = record {
 unfoldable pub entriesAt : Columns → ℕ → List Entry
 entriesAt a count = map (entryAt a) (upFrom 0 count)
 
--- what columns and a summary say: the entries that it counts, with its clock and totals
+-- the view of columns and a summary: the entries that it counts, its latest time and its totals
 abbrev pub viewIn : Columns → Summary → View
 viewIn a s = record { latest = s .latest; totals = s .totals; entries = entriesAt a (s .count) }
 
--- those of a state
+-- the columns of a state
 abbrev pub columnsOf : Collector → Columns
 columnsOf c = columns (c .times) (c .lens) (c .bytes) (c .copies)
 
@@ -51,7 +51,7 @@ viewOf c = viewIn (columnsOf c) (c .summary)
 
 -- ---- a collector started fresh, or restored
 
--- the columns that hold these entries: zeros stand behind the bytes of each, and behind them all
+-- the columns with these entries: zeros after the bytes of each, and after all of them
 unfoldable pub columnsHolding : List Entry → Columns
 columnsHolding l = record {
   times = padded capacity (map (λ e. e .time) l);
@@ -67,28 +67,28 @@ pub record IsFresh (c : Collector) : Type 0 where
 
 -- ---- every element of the arrays after a reception
 
--- the n elements after the first `gone` stand at the front, and behind them what stood there
+-- the n elements after the first `gone` are moved to the front; the rest is unchanged
 unfoldable pub moved : ℕ → ℕ → List ℕ → List ℕ
 moved gone n l = take n (drop gone l) ++ drop n l
 
--- x stands at i, where a test passes
+-- element i is set to x, if a test passes
 abbrev pub setIf : Bool → ℕ → ℕ → List ℕ → List ℕ
 setIf test i x l = cond test (set l i x) l
 
--- one more stands at i, up to the ceiling
+-- element i is raised by one, up to the ceiling, if a test passes
 abbrev pub moreIf : Bool → ℕ → List ℕ → List ℕ
 moreIf test i l = setIf test i (capped (getD l i 0 + 1)) l
 
--- xs stand from `at` on
+-- xs are put from `at` on, if a test passes
 abbrev pub putIf : Bool → ℕ → List ℕ → List ℕ → List ℕ
 putIf test at xs l = cond test (take at l ++ (xs ++ drop (at + length xs) l)) l
 
--- the index of the last entry that r is a copy of, or their number where there is none
+-- the index of the last entry that r is a copy of, or the number of entries if there is none
 unfoldable pub lastCopy : List Entry → Reception → ℕ
 lastCopy l r = lastIndex (λ e. isCopyOf e r) l
 
--- what an answer makes of the columns of `count` entries, of which those in l, the last ones, are left: these are moved to the front, a copy is counted
--- for the last of which r is one, and one that is kept is put behind them
+-- what an answer does with the columns of `count` entries, of which the last ones, those in l, are left. These are
+-- moved to the front. A copy is counted for the last of them that r is a copy of. A kept reception is put after them.
 unfoldable pub columnsWith : Shown → Reception → ℕ → List Entry → Columns → Columns
 columnsWith answer r count l a =
     let n = length l in
@@ -100,7 +100,8 @@ columnsWith answer r count l a =
       copies = setIf (isKept answer) n 0 (moreIf (isCopy answer) (lastCopy l r) (moved gone n (a .copies)));
     }
 
--- the columns after a step: one that is KEPT, COPY or LOOSE leaves the open telegrams, and beside a refusal every element is as it was
+-- the columns after a step: KEPT, COPY and LOOSE leave only the open telegrams; with a refusal every element is
+-- unchanged
 unfoldable pub columnsAfter : View → Reception → Columns → Columns
 columnsAfter v r a =
     let answer = step v r .answer in
@@ -108,11 +109,11 @@ columnsAfter v r a =
 
 -- ---- what `take` gives
 
--- the answer of each call, and what the next state says
+-- the answer, and the view of the next state
 abbrev pub outcomeOf : Taken → Outcome
 outcomeOf r = record { answer = shownOf (r .answer); next = viewOf (r .next) }
 
--- the step, with every element of the arrays, and beside 8 and 11 the very state that was handed in
+-- the step, with every element of the arrays; with 8 and 11 the state is exactly the one that was handed in
 pub record Takes (c : Collector) (r : Reception) (t : Taken) : Type 0 where
   pub outcome : outcomeOf t ≡ step (viewOf c) r
   pub elements : columnsOf (t .next) ≡ columnsAfter (viewOf c) r (columnsOf c)

@@ -1,4 +1,4 @@
--- How often a telegram was heard (document 02, A8): what the call shows.
+-- How often a telegram was heard (document 02, A8): the result of the call.
 use Prim.Native.Nat.{ℕ}
 use Rattle.base_refusal.specs.Number.{numberOf}
 use Rattle.collector_model.specs.Heard.{HeardResult}

@@ -1,5 +1,6 @@
--- What private functions say: the test of a state in the parts that the code tests (document 01, "Parked collector"), and one reception in the
--- parts that the code takes it in ("Merging"). No public contract cites these.
+-- What the contracts of private functions say: the test of a state, in the parts in which the code tests it (document
+-- 01, "Parked collector"), and one reception, in the parts in which the code takes it ("Merging"). No public contract
+-- cites these.
 use Prim.Native.Nat.{ℕ, _*_, _+_, _-_, _%_, _≤_, _<_}
 use mathlib.Core.List.{List, _++_}
 use lib.ListN.{getD, length, take, drop, set}
@@ -40,68 +41,68 @@ areTelegrams l = all (λ e. isValid (e .bytes)) l && pairwise (λ e later. not (
 abbrev pub isRepeatedAt : Columns → ℕ → Bool
 isRepeatedAt a i = hasCopy (entriesAt a i) (openedBy (entryAt a i))
 
--- the bytes that entry i shows
+-- the bytes of entry i
 abbrev pub shownAt : List ℕ → List ℕ → ℕ → List ℕ
 shownAt lens bytes i = resized (getD lens i 0) (part (maxLength * i) maxLength bytes)
 
 abbrev pub marks : ℕ
 marks = 1024
 
--- of the two last bytes of TXID and the first after RORG
+-- the mark of a telegram, from the last two bytes of TXID and the first byte after RORG
 unfoldable pub markOf : List ℕ → ℕ
 markOf s = (4 * getD s (length s - 3) 0 + 67 * getD s (length s - 4) 0 + 29 * getD s 1 0) % marks
 
--- r is the mark of a valid telegram, or no mark
+-- r is the mark of a valid telegram; or it is no mark, and the telegram is not valid
 pub record MarkedAs (s : List ℕ) (r : ℕ) : Type 0 where
   pub valid : r < marks → isValid s ≡ true
   pub mark : r < marks → r ≡ markOf s
   pub invalid : marks ≤ r → isValid s ≡ false
 
--- r is what is known, where a mark was seen
+-- r is what is known, if the mark was seen before; else no
 pub record Repeated (seen : ℕ) (known r : Bool) : Type 0 where
   pub new : seen ≡ 0 → r ≡ false
   pub old : (seen ≡ 0 → ⊥) → r ≡ known
 
--- ---- one reception: what is decided, and what it makes of each array
+-- ---- one reception: what is decided, and what that does with each array
 
--- what a reception that passed the tests is found to be: its answer
+-- the answer to a reception that passed the tests
 abbrev pub judgedAs : Judged → Shown
 judgedAs judged.Kept = Kept
 judgedAs (judged.Copy entry) = Copy
 judgedAs judged.Loose = Loose
 
--- and of a copy the entry of which it is one
+-- for a copy, the entry that it is a copy of
 abbrev pub judgedEntry : Judged → ℕ
 judgedEntry judged.Kept = 0
 judgedEntry (judged.Copy entry) = entry
 judgedEntry judged.Loose = 0
 
--- these by the open telegrams
+-- both as the open telegrams decide
 pub record JudgedBy (l : List Entry) (r : Reception) (shown : Shown) (which : ℕ) : Type 0 where
   pub answer : shown ≡ answerFor 0 (hasCopy l r) (leb capacity (length l))
   pub entry : isCopy shown ≡ true → which ≡ lastCopy l r
 
--- the summary after a reception that was refused for this: it is counted
+-- the summary after a reception that was refused for this reason: it is only counted
 abbrev pub countedOnly : Summary → Refusal → Summary
 countedOnly s why = record { count = s .count; latest = s .latest; totals = tally (Refused (numberOf why)) (s .totals) }
 
--- no total is at its end
+-- every total can be raised by one
 pub record Countable (n : Totals) : Type 0 where
   pub summed : isSummed n ≡ true
   pub room : n .received < maxCount
 
--- of the first `count` times, those before r are no longer open at `time`, and the one at r is
+-- of the first `count` times, those before r are no longer open at `time`, and the one at r is open, if there is one
 pub record Expired (times : List ℕ) (count time r : ℕ) : Type 0 where
   pub few : r ≤ count
   pub closed : (i : ℕ) → i < r → leb (time - getD times i 0) maturity ≡ false
   pub first : r < count → leb (time - getD times r 0) maturity ≡ true
 
--- an array of n elements, `old` before, is now `new`, which is as said
+-- an array of n elements was `old` and is now `said`
 pub record Becomes (n : ℕ) (old new said : List ℕ) : Type 0 where
   pub long : length old ≡ n
   pub is : new ≡ said
 
--- nothing is changed
+-- refused: nothing is changed
 abbrev pub unchanged : Summary → Refusal → Decision
 unchanged s why = record {
   gone = 0;
@@ -113,7 +114,7 @@ unchanged s why = record {
   answer = answer.Refused why;
 }
 
--- the columns, changed one by one as it was decided
+-- the columns after the changes that were decided
 abbrev pub changed : Decision → Reception → Columns → Columns
 changed d r a = record {
   times = setIf (d .kept) (d .left) (r .time) (moved (d .gone) (d .left) (a .times));
@@ -130,7 +131,7 @@ pub record Whole (a : Columns) : Type 0 where
   pub bytes : length (a .bytes) ≡ maxLength * capacity
   pub copies : length (a .copies) ≡ capacity
 
--- what is decided can be carried out, and is what `admit` makes of the columns
+-- what is decided can be carried out, and does what `admit` does with the columns
 pub record Decides (fit : Bool) (a : Columns) (s : Summary) (r : Reception) (d : Decision) : Type 0 where
   pub few : d .gone + d .left ≤ capacity
   pub room : d .kept ≡ true → (d .left < capacity) × (length (r .bytes) ≤ maxLength)
