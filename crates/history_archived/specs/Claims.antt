@@ -1,4 +1,5 @@
--- What is claimed of the rows that `lines` gives: proofs/Archived.antt has the theorems. Of what is said in pieces, collecting's `RowsInPieces` speaks.
+-- The claims on the rows that `lines` gives. proofs/Archived.antt proves them. For input that comes in pieces, the
+-- claim is `RowsInPieces` of text_collect.
 use Prim.Native.Nat.{ℕ, _*_}
 use mathlib.Core.Path.{_≡_}
 use mathlib.Core.Bool.{true}
@@ -17,27 +18,27 @@ use Rattle.text_collect.specs.Rows.{rowTimes, rowRecords}
 use Rattle.journal_model.specs.Rows.{modelRows}
 use Rattle.history_archived.specs.Archived.{archivedOf}
 
--- the rows that the times and the records of a text say, as `put_rows` takes them
+-- the rows in the times and the records that a text gives, as `put_rows` reads them
 abbrev pub rowsSaid : Phase Receiver → List ℕ → List Row
 rowsSaid s input = rowsGiven (outputOf rowTimes s input) (outputOf rowRecords s input)
 
--- A log: its rows are the reference model's
+-- Log archived: the rows of a log are the reference model's.
 abbrev pub LogArchived : Type 0
 LogArchived = (input : List ℕ) → rowsSaid starting input ≡ archivedOf input
 
--- Further lines: the same behind any lines, at any setting
+-- Lines archived: the same for further lines, after any lines and with any setting.
 abbrev pub LinesArchived : Type 0
 LinesArchived =
     (setting : ℕ) (before : List (List ℕ)) (input : List ℕ)
     → rowsSaid (runningAt setting (modelView (logOf (pastAfterLines [] before)))) input
     ≡ modelRows (pastAfterLines [] before) (linesOf input)
 
--- There is a record of 23 bytes for each time, in every state
+-- Records sized: there is a record of 23 bytes for each time, in every state.
 abbrev pub RecordsSized : Type 0
 RecordsSized =
     (s : Phase Receiver) (input : List ℕ) → length (outputOf rowRecords s input) ≡ rowLength * length (outputOf rowTimes s input)
 
--- Each is a row that an archive holds, so that `put_rows` refuses none of them by its check
+-- an archive can hold each of these rows, and the check of `put_rows` refuses none of them
 pub record Storable (rows : List Row) : Type 0 where
   pub fit : all isFit rows ≡ true
   pub checked : checkRows 0 rows .number ≡ 0

@@ -1,4 +1,5 @@
--- What a log closes: each telegram that is no longer open at the next reception that is accepted, once, with its number of copies (document 02, A8).
+-- What a log closes: each telegram that is no longer open at the next accepted reception, once, with its number of
+-- copies (document 02, A8).
 use Prim.Native.Nat.{ℕ, _*_, _<_}
 use mathlib.Core.Path.{_≡_}
 use mathlib.Core.Bool.{true}
@@ -21,7 +22,7 @@ use Rattle.history_archived.specs.Runs.{Call, TakesAs, GoesOn, IsRun, us
 
 -- ---- by the model
 
--- the receptions that lines hand over, in order
+-- the receptions in lines, in order
 abbrev pub handedBy : Reading → List Reception
 handedBy (reception time bytes) = receptionAt time bytes ∷ []
 handedBy bad = []
@@ -30,12 +31,12 @@ unfoldable pub handedOver : List (List ℕ) → List Reception
 handedOver [] = []
 handedOver (l ∷ ls) = handedBy (lineReading l) ++ handedOver ls
 
--- what closes in the lines behind a first line `level N`; any other first line ends the run
+-- what closes in the lines after a first line `level N`; any other first line ends the run
 abbrev pub closedWith : Setting → List (List ℕ) → List Entry
 closedWith (Setting.Level n) ls = closingsFrom fresh (handedOver ls)
 closedWith Setting.Bad ls = []
 
--- the same for a first line that is missing
+-- the same, also if there is no first line
 abbrev pub closedFor : List (List ℕ) → List Entry
 closedFor [] = []
 closedFor (l ∷ ls) = closedWith (settingOf l) ls
@@ -43,7 +44,8 @@ closedFor (l ∷ ls) = closedWith (settingOf l) ls
 unfoldable pub closedOf : List ℕ → List Entry
 closedOf input = closedFor (linesOf input)
 
--- Each once: what closes in lines and what is open behind them are the receptions answered KEPT, in order, each once and with its copies
+-- Lines close once: what closes in lines, and then what is open after them, are the receptions answered KEPT, in order,
+-- each once and with its copies.
 abbrev pub LinesCloseOnce : Type 0
 LinesCloseOnce =
     (ls : List (List ℕ))
@@ -51,11 +53,11 @@ LinesCloseOnce =
 
 -- ---- as bytes
 
--- A log: what its lines give is what it closes, 32 bytes for each telegram
+-- Log closed: what the lines of a log give is what the log closes, 32 bytes for each telegram.
 abbrev pub LogClosed : Type 0
 LogClosed = (input : List ℕ) → outputOf (lineClosings true) starting input ≡ entryCells (closedOf input)
 
--- Further lines: the same from any state on
+-- Lines closed: the same for further lines, from any state on.
 abbrev pub LinesClosed : Type 0
 LinesClosed =
     (setting : ℕ) (v : View) (input : List ℕ)
@@ -68,13 +70,13 @@ LinesClosed =
 abbrev pub closedBy : Call → List ℕ
 closedBy c = take (32 * getD (c .done') 4 0) (c .closed')
 
--- a call of `lines_as` with room for that
+-- a call of `lines_as` that asks for closings
 pub record Answered (setting format : ℕ) (c : Call) : Type 0 where
   pub lines : TakesAs setting format c
   pub asked : 0 < length (c .closed)
 
--- THE CLAIM: from a fresh collector on, however the log is cut into such calls and whenever it is restarted, what they close is what the model closes in
--- all that they used
+-- Calls close (THE CLAIM): however a log is cut into such calls, with restarts between them, the calls close what the
+-- model closes in all that they used. The collector starts fresh.
 abbrev pub CallsClose : Type 0
 CallsClose =
     (setting format : ℕ) (a : Arrays) (cs : List Call) → stateAt a ≡ fresh → IsRun GoesOn (Answered setting format) a cs

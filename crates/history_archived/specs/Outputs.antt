@@ -1,5 +1,5 @@
--- What is claimed of calls that share what is lent to them to be written: proofs/Outputs.antt has the theorems. They use of the code what the contracts of
--- `lines` and `lines_as` say, and nothing else.
+-- The claims on calls that share an output buffer. proofs/Outputs.antt proves them. Of the code, the proofs use only
+-- the contracts of `lines` and `lines_as`.
 use Prim.Native.Nat.{ℕ, _*_}
 use mathlib.Core.Path.{_≡_}
 use mathlib.Core.List.{List, [], _∷_, map}
@@ -9,7 +9,7 @@ use Rattle.archive_fill.specs.Fill.{rowLength}
 use Rattle.c_collector.specs.State.{Arrays}
 use Rattle.history_archived.specs.Runs.{Call, TakesAs, GoesOn, IsRun, OfBoth}
 
--- an output of a call: what is lent for it, what is left in it, and how much is written at its front
+-- an output of a call: the buffer that is lent, the buffer after the call, and how much the call writes at its front
 pub record Output : Type 0 where
   pub lent : Call → List ℕ
   pub left : Call → List ℕ
@@ -30,13 +30,13 @@ closingsOut = record { lent = λ c. c .closed; left = λ c. c .closed'; count = 
 abbrev pub writtenTo : Output → Call → List ℕ
 writtenTo o c = take (o .count c) (o .left c)
 
--- calls share a buffer: each is lent what the one before left behind what it wrote
+-- calls share a buffer: each gets the rest of it, after what the call before wrote
 pub data Shares (o : Output) : (buffer : List ℕ) → List Call → (rest : List ℕ) → Type 0 where
   last : {buffer : List ℕ} → Shares o buffer [] buffer
   more : {rest : List ℕ} {c : Call} {cs : List Call}
       → Shares o (drop (o .count c) (o .left c)) cs rest → Shares o (o .lent c) (c ∷ cs) rest
 
--- THE CLAIM: behind all that they wrote, the buffer is as it was
+-- THE CLAIM: after all that the calls wrote, the buffer is unchanged
 abbrev pub Behind : Output → (Call → Type 0) → Type 0
 Behind o Is =
     (a : Arrays) (cs : List Call) (buffer rest : List ℕ) → IsRun GoesOn Is a cs → Shares o buffer cs rest

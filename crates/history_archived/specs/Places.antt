@@ -1,5 +1,5 @@
--- What is claimed of the lines that calls of `lines` or `lines_as` took, when `skip_lines` passes over them and when `read_line` reads them: proofs/Places.antt
--- has the theorems. They use of the code what the contracts of the calls say, and nothing else.
+-- The claims on the lines that calls of `lines` or `lines_as` took: `skip_lines` skips the same lines, and `read_line`
+-- reads the same lines. proofs/Places.antt proves them. Of the code, the proofs use only the contracts of the calls.
 use Prim.Native.Nat.{ℕ, _+_, _-_, _≤_, _<_}
 use mathlib.Core.Path.{_≡_}
 use mathlib.Core.Bool.{true, cond}
@@ -17,32 +17,34 @@ use Rattle.c_collector.specs.State.{Arrays, stateAt}
 use Rattle.c_lines.specs.Calls.{ReadLine, Skipped}
 use Rattle.history_archived.specs.Runs.{Call, linesBy, Takes, TakesAs, OfBoth, GoesOn, IsRun, usedIn, linesIn}
 
--- ---- the place in a log
+-- ---- the position in a log
 
--- a text that was read from a place of the log on
+-- a text that was read from a position of the log on
 abbrev pub IsFrom : (log : List ℕ) (place : ℕ) (text : List ℕ) → Type 0
 IsFrom log place text = text ≡ take (length text) (drop place log)
 
--- calls of `skip_lines`, each on some text from where the one before stopped, pass over `left` lines
+-- calls of `skip_lines` skip `left` lines; each gets some text from where the call before stopped
 pub data Passes (log : List ℕ) : (place left end : ℕ) → Type 0 where
   passed : {place left : ℕ} → left ≡ 0 → Passes log place left place
   skip : {place left end : ℕ} {text done' : List ℕ}
       → IsFrom log place text → Skipped text left done'
       → Passes log (place + getD done' 0 0) (left - getD done' 1 0) end → Passes log place left end
 
--- a call begins where the one before stopped, or, at a restart, behind as many lines from the log's start on as were taken
+-- a call begins where the call before stopped; or, at a restart, it begins after as many lines from the start of the
+-- log as were taken
 pub data Begins (log : List ℕ) (stopped lines : ℕ) : ℕ → Type 0 where
   here : Begins log stopped lines stopped
   again : {place : ℕ} → Passes log 0 lines place → Begins log stopped lines place
 
--- calls that begin so, from a place on to another
+-- calls that begin in this way, from one position to another
 pub data Walks (log : List ℕ) : (place lines : ℕ) → List Call → (end : ℕ) → Type 0 where
   ended : {place lines : ℕ} → Walks log place lines [] place
   next : {place lines start end : ℕ} {c : Call} {cs : List Call}
       → Begins log place lines start → IsFrom log start (c .input)
       → Walks log (start + getD (c .done') 0 0) (lines + linesBy c) cs end → Walks log place lines (c ∷ cs) end
 
--- THE CLAIM of `skip_lines`: all that such calls used is the front of the log, so that no line is taken twice and none is left out
+-- THE CLAIM on `skip_lines`: all that such calls used is the front of the log. So no line is taken twice, and none is
+-- left out.
 abbrev pub Covers : (Call → Type 0) → Type 0
 Covers Is =
     (log : List ℕ) (a : Arrays) (cs : List Call) (end : ℕ) → IsRun GoesOn Is a cs → Walks log 0 0 cs end
@@ -53,12 +55,12 @@ RestartsCover = OfBoth Covers
 
 -- ---- one call
 
--- a call that left room for the row and the text of a further line
+-- a call that left room for the row and the text of one more line
 pub record HasRoom (longest : ℕ) (c : Call) : Type 0 where
   pub rows : getD (c .done') 2 0 < length (c .moments)
   pub text : getD (c .done') 1 0 + longest ≤ length (c .out)
 
--- Of the same text and as many lines at most, `skip_lines` passes over just what such a call takes
+-- Skips as taken: in the same text, with the same limit of lines, `skip_lines` skips exactly what such a call takes.
 pub record SkipsAsTaken : Type 0 where
   pub lines : (setting : ℕ) (c : Call) (done' : List ℕ) → Takes setting c → HasRoom longestLine c
       → Skipped (c .input) (c .most) done' → done' ≡ getD (c .done') 0 0 ∷ linesBy c ∷ []
@@ -66,7 +68,7 @@ pub record SkipsAsTaken : Type 0 where
       → hasRoom (length (c .closed)) (getD (c .done') 4 0) ≡ true
       → Skipped (c .input) (c .most) done' → done' ≡ getD (c .done') 0 0 ∷ linesBy c ∷ []
 
--- two calls on the same state, with the same text and limit, and outputs of the same lengths
+-- two calls on the same state, with the same text and limit, and with outputs of the same lengths
 pub record Alike (c d : Call) : Type 0 where
   pub state : stateAt (c .before) ≡ stateAt (d .before)
   pub input : c .input ≡ d .input
@@ -75,7 +77,7 @@ pub record Alike (c d : Call) : Type 0 where
   pub rows : length (c .moments) ≡ length (d .moments)
   pub closings : length (c .closed) ≡ length (d .closed)
 
--- They take the same lines: with the setting and the format, what they are lent decides where they stop
+-- such calls take the same lines. With the setting and the format, what they are lent decides where they stop.
 abbrev pub TakenAlike : (Call → Type 0) → Type 0
 TakenAlike Is = (c d : Call) → Is c → Is d → Alike c d → getD (c .done') 0 0 ≡ getD (d .done') 0 0
 
@@ -91,7 +93,7 @@ pub record Read : Type 0 where
   pub bytes : List ℕ
   pub told : List ℕ
 
--- it read a line: 4 says that none has ended
+-- the call read a line; 4 means that no line has ended
 pub record IsRead (r : Read) : Type 0 where
   pub call : ReadLine (r .input) (r .number) (r .bytes) (r .told)
   pub some : r .number ≡ 4 → ⊥
@@ -100,14 +102,15 @@ pub data AreRead : List Read → Type 0 where
   none : AreRead []
   one : {r : Read} {rs : List Read} → IsRead r → AreRead rs → AreRead (r ∷ rs)
 
--- the characters of its line, and what it says of it
+-- the characters of its line, and what the call says of the line
 abbrev pub lineBy : Read → List ℕ
 lineBy r = take (getD (r .told) 2 0) (r .input)
 
 abbrev pub saidBy : Read → Reading
 saidBy r = cond (eqb (r .number) 0) (reception (getD (r .told) 0 0) (take (getD (r .told) 1 0) (r .bytes))) bad
 
--- THE CLAIM of `read_line`: as many calls of it from the start of the same text on say of each line what the calls took of it
+-- THE CLAIM on `read_line`: as many calls of it, from the start of the same text on, say of each line what the calls
+-- took
 abbrev pub ReadAlike : (Call → Type 0) → Type 0
 ReadAlike Is =
     (a : Arrays) (cs : List Call) (rs : List Read) (rest rest' : List ℕ) → IsRun GoesOn Is a cs → AreRead rs
@@ -117,6 +120,6 @@ ReadAlike Is =
 abbrev pub ReadsAgree : Type 0
 ReadsAgree = OfBoth ReadAlike
 
--- and 4 says that no line has ended
+-- None read: if `read_line` answers 4, no line has ended.
 abbrev pub NoneRead : Type 0
 NoneRead = (input bytes done : List ℕ) → ReadLine input 4 bytes done → isUnended input ≡ true

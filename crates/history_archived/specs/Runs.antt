@@ -1,5 +1,6 @@
--- What is claimed of the calls `lines` and `lines_as` on a collector in arrays, as other languages make them, with restarts between them: proofs/Runs.antt
--- has the theorems. They use of the code what the contracts of the calls say, and nothing else. Closed.antt has what `lines_as` closes.
+-- The claims on the calls `lines` and `lines_as` on a collector in arrays, as other languages make them, with restarts
+-- between them. proofs/Runs.antt proves them. Of the code, the proofs use only the contracts of the calls. Closed.antt
+-- has what `lines_as` closes.
 use Prim.Native.Nat.{ℕ, _+_, _*_, _≤_}
 use mathlib.Core.Path.{_≡_}
 use mathlib.Core.List.{List, [], _∷_, _++_, map}
@@ -22,7 +23,7 @@ use Rattle.c_lines.specs.Calls.{Lines}
 use Rattle.c_lines.specs.Formats.{formatOf, LinesAs}
 use Rattle.journal_model.specs.Rows.{modelRows}
 
--- a call that was answered 0: the collector and what else was lent to it, and what it left; `lines` is lent no `closed`
+-- a call that was answered 0: the collector and what else was lent to it, and what it left; `lines` gets no `closed`
 pub record Call : Type 0 where
   pub before : Arrays
   pub input : List ℕ
@@ -39,7 +40,8 @@ pub record Call : Type 0 where
   pub closed' : List ℕ
   pub done' : List ℕ
 
--- the characters that it used, the text that it wrote, the times and the records of its rows, and how many lines it took
+-- of a call: the characters that it used, the text that it wrote, the times and the records of its rows, and how many
+-- lines it took
 abbrev pub usedBy : Call → List ℕ
 usedBy c = take (getD (c .done') 0 0) (c .input)
 
@@ -55,7 +57,7 @@ recordsBy c = take (rowLength * getD (c .done') 2 0) (c .rows')
 abbrev pub linesBy : Call → ℕ
 linesBy c = getD (c .done') 3 0
 
--- it is a call of `lines` at a setting, or one of `lines_as`, in a format too
+-- a call of `lines` with a setting; and a call of `lines_as` with a setting and a format
 abbrev pub Takes : ℕ → Call → Type 0
 Takes setting c =
     Lines (c .before) setting (c .input) (c .most) (c .out) (c .moments) (c .rows) (c .done) 0
@@ -66,20 +68,20 @@ TakesAs setting format c =
     LinesAs (c .before) setting format (c .input) (c .most) (c .out) (c .moments) (c .rows) (c .closed) (c .done) 0
     (c .after) (c .out') (c .moments') (c .rows') (c .closed') (c .done')
 
--- a claim of calls that holds of those of `lines` and of those of `lines_as`
+-- a claim that holds for calls of `lines` and for calls of `lines_as`
 pub record OfBoth (Claim : (Call → Type 0) → Type 0) : Type 0 where
   pub lines : (setting : ℕ) → Claim (Takes setting)
   pub linesAs : (setting format : ℕ) → Claim (TakesAs setting format)
 
--- the second arrays go on where the first stopped: they are the same, or a checkpoint was written and restored into arrays with any acceptable state, and
--- this any number of times (document 01, "Parked collector")
+-- the second arrays continue the first: they are the same; or a checkpoint was written and restored into arrays with
+-- any acceptable state, any number of times (document 01, "Parked collector")
 pub data GoesOn : Arrays → Arrays → Type 0 where
   same : {a : Arrays} → GoesOn a a
   restarted : {a b c d : Arrays} (out : List ℕ) {out' : List ℕ}
       → GoesOn a b → record { number = 0; output = out' } ≡ checkpointOf (stateAt b) out
       → Restores c (take imageLength out') 0 d → GoesOn a d
 
--- such calls, each on arrays that follow those that the one before left
+-- calls one after the other, each on arrays that continue those of the call before
 unfoldable pub IsRun : (Arrays → Arrays → Type 0) → (Call → Type 0) → Arrays → List Call → Type 0
 IsRun Follow Is a [] = a ≡ a
 IsRun Follow Is a (c ∷ cs) = Follow a (c .before) × Is c × IsRun Follow Is (c .after) cs
@@ -97,13 +99,13 @@ unfoldable pub linesIn : List Call → ℕ
 linesIn [] = 0
 linesIn (c ∷ cs) = linesBy c + linesIn cs
 
--- What holds of both: their rows are the reference model's, and the lines that they counted are those of the log
+-- what holds for both calls: their rows are the reference model's, and the lines that they counted are those of the log
 pub record Agrees (cs : List Call) : Type 0 where
   pub rows : rowsGiven (joined (map timesBy cs)) (joined (map recordsBy cs)) ≡ modelRows [] (linesOf (usedIn cs))
   pub lines : linesIn cs ≡ length (linesOf (usedIn cs))
 
--- THE CLAIM of `lines`: from a fresh collector on, however the log is cut into calls and whenever it is restarted, that holds, and their texts with the
--- totals are what `collect` prints behind its first line
+-- THE CLAIM on `lines`: however a log is cut into calls, with restarts between them, this holds; and their texts with
+-- the totals are what `collect` prints after its first line. The collector starts fresh.
 pub record Follows (setting : ℕ) (a : Arrays) (cs : List Call) : Type 0 where
   pub text : joined (map textBy cs) ++ totalsLine (stateAt (leftBy a cs) .totals)
       ≡ printedWith (Setting.Level setting) (linesOf (usedIn cs))
@@ -114,8 +116,8 @@ CallsFollow =
     (setting : ℕ) (a : Arrays) (cs : List Call) → setting ≤ 2 → stateAt a ≡ fresh → IsRun GoesOn (Takes setting) a cs
     → Follows setting a cs
 
--- THE CLAIM of `lines_as`: the same in a format: behind its heading, which no call writes, their texts are what the model prints in that format, with the
--- totals where it prints them
+-- THE CLAIM on `lines_as`: the same in a format. After the heading, which no call writes, their texts are what the
+-- model prints in that format, with the totals if the format has them.
 pub record FollowsAs (setting format : ℕ) (a : Arrays) (cs : List Call) : Type 0 where
   pub text : headingIn (formatOf format)
       ++ (joined (map textBy cs) ++ totalsIn (formatOf format) (stateAt (leftBy a cs) .totals))
@@ -127,7 +129,7 @@ CallsFollowAs =
     (setting format : ℕ) (a : Arrays) (cs : List Call) → setting ≤ 2 → stateAt a ≡ fresh
     → IsRun GoesOn (TakesAs setting format) a cs → FollowsAs setting format a cs
 
--- Without a restart, from any arrays on: every element of the arrays is what the lines make of it
+-- without a restart, from any arrays on: every element of the arrays is what the lines make of it
 abbrev pub Lays : ℕ → Arrays → List Call → Type 0
 Lays setting a cs =
     ElementsAfter (runningAt setting (stateAt a)) (columnsAt a) (usedIn cs)

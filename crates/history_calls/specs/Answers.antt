@@ -1,4 +1,5 @@
--- What the numbers and the bytes of the calls on lent arrays say of answers: the way back from `answerNumber` and `replyBytes`.
+-- The answers that the numbers and the bytes of the calls on lent arrays stand for: the inverse of `answerNumber` and
+-- `replyBytes`.
 use Prim.Native.Nat.{ℕ, _*_, _/_, _%_}
 use mathlib.Core.Path.{_≡_}
 use mathlib.Core.Bool.{cond}
@@ -23,18 +24,18 @@ formIn kind = cond (eqb kind 0) Kept (cond (eqb kind 1) Copy Loose)
 abbrev pub shownWith : ℕ → ℕ → Shown
 shownWith kind number = cond (eqb number 0) (formIn kind) (Refused number)
 
--- by one number, as `take` answers it
+-- an answer from the one number that `take` returns
 abbrev pub shownIn : ℕ → Shown
 shownIn n = shownWith (n / 256) (n % 256)
 
--- a place of a burst's second list, in its 24 bytes
+-- an entry of a burst's list of replies, from its 24 bytes
 abbrev pub repliedIn : List ℕ → Replied
 repliedIn s = record {
   answer = shownWith (getD s 0 0) (getD s 1 0);
   sent = record { len = getD s 2 0; bytes = drop 3 s };
 }
 
--- all whole places
+-- all whole entries
 unfoldable pub repliesIn : List ℕ → List Replied
 repliesIn bytes = map (λ i. repliedIn (part (replyLength * i) replyLength bytes)) (upFrom 0 (length bytes / replyLength))
 
@@ -49,11 +50,11 @@ totalsIn values = record {
   late = getD values 5 0;
 }
 
--- the number that is answered tells the answer
+-- the number that `take` returns tells the answer
 abbrev pub AnswersBack : Type 0
 AnswersBack = (v : View) (r : Reception) → shownIn (answerNumber (step v r .answer)) ≡ step v r .answer
 
--- and the bytes of a reply the reply
+-- the bytes of a reply tell the reply
 abbrev pub RepliesBack : Type 0
 RepliesBack =
     (setting : ℕ) (v : View) (r : Reception)

@@ -1,5 +1,6 @@
--- What the calls on lent arrays show, one after the other (document 01, "One history, and the clerk who writes it down"). Of each call nothing is
--- known but the record that its contract ensures: `fresh`, `take`, `take_told`, `totals`, `copies_of`, `checkpoint`, `restore`, `burst`, and `repeat`.
+-- What the calls on lent arrays show, one after the other (document 01, "One history, and the clerk who writes it
+-- down"). Of each call, only the record in its contract is used: `fresh`, `take`, `take_told`, `totals`, `copies_of`,
+-- `checkpoint`, `restore`, `burst`, and `repeat`.
 use Prim.Native.Nat.{ℕ}
 use mathlib.Core.Path.{_≡_}
 use mathlib.Core.Bool.{true, cond}
@@ -21,7 +22,8 @@ use Rattle.c_burst.specs.Bytes.{receptionsIn, isSized}
 use Rattle.c_burst.specs.Calls.{Bursts}
 use Rattle.history_calls.specs.Answers.{shownIn, repliesIn, totalsIn}
 
--- the totals that a caller sees after a call: those that `totals` gives, and of a state that it refuses those that stand in the eight numbers
+-- the totals that a caller sees after a call: those that `totals` gives. If `totals` refuses the state, they are those
+-- in the eight numbers.
 pub record TotalsSeen (s : Arrays) (n : Totals) : Type 0 where
   pub old : List ℕ
   pub values : List ℕ
@@ -29,17 +31,17 @@ pub record TotalsSeen (s : Arrays) (n : Totals) : Type 0 where
   pub called : record { number = number; values = values } ≡ totalsCall (stateAt s) old
   pub seen : n ≡ cond (eqb number 0) (totalsIn values) (summaryIn (s .numbers) .totals)
 
--- what a caller sends for a reception that got this answer: of KEPT what `repeat` gives, and else nothing
+-- what a caller sends for a reception with this answer: for KEPT what `repeat` gives, else nothing
 abbrev pub sentAt : ℕ → ℕ → Reception → Frame
 sentAt setting answer r = cond (eqb answer 0) (repeatResult setting (r .bytes) .sent) (frameOf [])
 
--- from the arrays s the calls show the list, and leave the arrays e
+-- from the arrays s, the calls show the list and leave the arrays e
 pub data ArraysShow : Arrays → List Call → List Seen → Arrays → Type 0 where
   ended : {s : Arrays} → ArraysShow s [] [] s
   received : {s s' e : Arrays} {setting n : ℕ} {r : Reception} {t : Totals} {h : List Call} {l : List Seen}
       → Takes s r n s' → TotalsSeen s' t → ArraysShow s' h l e
       → ArraysShow s (Receive setting r ∷ h) (Answered (shownIn n) (sentAt setting n r) t ∷ l) e
-  -- told that the state is acceptable, which it is
+  -- the caller tells that the state is acceptable, which it is
   told : {s s' e : Arrays} {setting n : ℕ} {r : Reception} {t : Totals} {h : List Call} {l : List Seen}
       → acceptable (stateAt s) ≡ true → TakesTold true s r n s' → TotalsSeen s' t → ArraysShow s' h l e
       → ArraysShow s (Receive setting r ∷ h) (Answered (shownIn n) (sentAt setting n r) t ∷ l) e
@@ -54,12 +56,12 @@ pub data ArraysShow : Arrays → List Call → List Seen → Arrays → Type 0 w
       → record { number = n; output = after } ≡ checkpointOf (stateAt s) output → TotalsSeen s t
       → Fresh d → Restores d (take imageLength after) m s' → TotalsSeen s' u → ArraysShow s' h l e
       → ArraysShow s (Cut output ∷ h) (Wrote n after t ∷ Restored m u ∷ l) e
-  -- a record for each moment, and the second list as it is lent and as it comes back
+  -- a record for each time, and the list of replies before and after the call
   delivered : {s s' e : Arrays} {setting n : ℕ} {moments records old new : List ℕ} {t : Totals} {h : List Call} {l : List Seen}
       → isSized (length moments) (length records) ≡ true
       → Bursts s setting moments records old n s' new → TotalsSeen s' t → ArraysShow s' h l e
       → ArraysShow s (Burst setting (receptionsIn moments records) (repliesIn old) ∷ h) (Delivered n (repliesIn new) t ∷ l) e
-  -- a number that holds 0 is lent
+  -- the lent number is 0 before the call
   asked : {s e : Arrays} {k n copies : ℕ} {t : Totals} {h : List Call} {l : List Seen}
       → record { number = n; copies = copies } ≡ copiesCall (stateAt s) k 0 → TotalsSeen s t → ArraysShow s h l e
       → ArraysShow s (Ask k ∷ h) (Heard n copies t ∷ l) e

@@ -1,4 +1,5 @@
--- The claims of the code's own states, which stand on the contracts of its calls: those on lent arrays, which ship, and those by value.
+-- The claims on the code's own states. They rest on the contracts of the calls: those on lent arrays, which are
+-- shipped, and those by value.
 use mathlib.Core.Path.{_≡_}
 use mathlib.Core.List.{List, []}
 use Prim.Native.Nat.{ℕ}
@@ -22,23 +23,24 @@ module _ {State : Type 0} (view : State → View) (IsStart : State → Type 0) (
       (h : List Call) → IsHistory h → (c d c' d' : State) → IsStart c → IsStart d
       → (l m : List Seen) → Show c h l c' → Show d (uncut h) m d' → (l ≡ expected [] h) × (common l ≡ m)
 
-  -- the same receptions get the same replies, however they are divided into bursts and single ones (document 02, A1)
+  -- the same receptions get the same replies, however they are divided into bursts and single calls (document 02, A1)
   abbrev pub Divide : Type 0
   Divide =
       (h h' : List Call) → IsHistory h → IsHistory h' → receptionsOf h ≡ receptionsOf h' → (c d c' d' : State) → IsStart c → IsStart d
       → (l m : List Seen) → Show c h l c' → Show d h' m d' → repliesIn h l ≡ repliesIn h' m
 
-  -- the state that is left is the reference model's: its latest time, totals and open telegrams with their copies
+  -- the state after the calls is the reference model's: its latest time, totals and open telegrams with their copies
   abbrev pub Left : Type 0
   Left = (h : List Call) → IsHistory h → (c c' : State) → IsStart c → (l : List Seen) → Show c h l c' → view c' ≡ modelView (logOf (pastOf h))
 
-  -- X's receptions are answered, and X's open telegrams left with their copies, as if no other had been received (document 02, A13)
+  -- X's receptions get the same answers, and X's open telegrams have the same copies, as if no other sensor had been
+  -- received (document 02, A13)
   abbrev pub Isolate : Type 0
   Isolate =
       (x : List ℕ) (h : List Call) → IsHistory h → Quiet (pastOf h) → (c d c' d' : State) → IsStart c → IsStart d
       → (l m : List Seen) → Show c h l c' → Show d (struck x h) m d' → Isolated view x h l m c' d'
 
--- ---- the calls on lent arrays, which ship
+-- ---- the calls on lent arrays, which are shipped
 
 abbrev pub ArraysAgree : Type 0
 ArraysAgree = Agree stateAt Fresh ArraysShow
@@ -52,7 +54,7 @@ ArraysLeft = Left stateAt Fresh ArraysShow
 abbrev pub ArraysIsolated : Type 0
 ArraysIsolated = Isolate stateAt Fresh ArraysShow
 
--- and every element of the five arrays after any calls, whatever they were before
+-- every element of the five arrays after any calls is known, for any arrays before
 abbrev pub ArraysElements : Type 0
 ArraysElements = (h : List Call) (s s' : Arrays) (l : List Seen) → ArraysShow s h l s' → s' ≡ arraysAfterAll s h
 
@@ -70,6 +72,6 @@ ValuesLeft = Left viewOf IsFresh ValuesShow
 abbrev pub ValuesIsolated : Type 0
 ValuesIsolated = Isolate viewOf IsFresh ValuesShow
 
--- which leave what those on lent arrays leave
+-- the calls by value leave what those on lent arrays leave
 abbrev pub ValuesElements : Type 0
 ValuesElements = (h : List Call) (c c' : Collector) (l : List Seen) → ValuesShow c h l c' → arraysOf c' ≡ arraysAfterAll (arraysOf c) h

@@ -1,4 +1,4 @@
--- Every element of a collector's five arrays after calls, by value and on lent arrays alike.
+-- Every element of a collector's five arrays after calls, for calls by value and for calls on lent arrays.
 use Prim.Native.Nat.{ℕ, _*_}
 use mathlib.Core.Bool.{cond}
 use mathlib.Core.List.{List, [], _∷_}
@@ -16,7 +16,7 @@ use Rattle.collector_burst.specs.Records.{columnsAfterAll}
 use Rattle.c_collector.specs.State.{Arrays, arrays, columnsAt, stateAt, numbersOf}
 use Rattle.c_collector.specs.Calls.{zeros}
 
--- columns, with the eight numbers of a state
+-- the arrays of these columns, with the eight numbers of a state
 abbrev pub arraysWith : Columns → View → Arrays
 arraysWith a v = arrays (a .times) (a .lens) (a .bytes) (a .copies) (numbersOf v)
 
@@ -24,13 +24,14 @@ arraysWith a v = arrays (a .times) (a .lens) (a .bytes) (a .copies) (numbersOf v
 abbrev pub freshArrays : Arrays
 freshArrays = arrays (zeros capacity) (zeros capacity) (zeros (capacity * maxLength)) (zeros capacity) (zeros 8)
 
--- after a restore: the entries of the image with zeros behind them; "11: .. the collector stays as it was"
+-- after a restore: the entries of the image with zeros after them; "11: .. the collector stays as it was"
 abbrev pub restoredArrays : Arrays → List ℕ → Arrays
 restoredArrays s image =
     cond (eqb (restoreOf (stateAt s) image .number) 0)
     (arraysWith (columnsHolding (parse image .entries)) (parse image)) s
 
--- after a call: one that is refused leaves every element as it was, and so does one that only looks; a reception that is damaged or late is counted
+-- after a call: a refused call and a call that only reads leave every element unchanged; a damaged or late reception is
+-- counted
 abbrev pub arraysAfter : Arrays → Call → Arrays
 arraysAfter s (Receive setting r) =
     cond (isReceived (step (stateAt s) r .answer))
@@ -44,7 +45,7 @@ arraysAfter s (Burst setting rs places) =
 arraysAfter s (Ask k) = s
 arraysAfter s Look = s
 
--- and after all
+-- after all calls
 abbrev pub arraysAfterAll : Arrays → List Call → Arrays
 arraysAfterAll s [] = s
 arraysAfterAll s (k ∷ h) = arraysAfterAll (arraysAfter s k) h

@@ -1,4 +1,4 @@
--- The same of the calls by value: `fresh`, `take`, `copies`, `checkpoint`, `restore`, `burst`, and `repeat`.
+-- The same for the calls by value: `fresh`, `take`, `copies`, `checkpoint`, `restore`, `burst`, and `repeat`.
 use Prim.Native.Nat.{ℕ}
 use mathlib.Core.Path.{_≡_}
 use mathlib.Core.Bool.{cond}
@@ -27,11 +27,11 @@ use Rattle.collector_burst.specs.declared.Reply.{Reply}
 use Rattle.collector_burst.specs.declared.Bursted.{Bursted}
 use Rattle.collector_burst.specs.Records.{receptionOf, repliedOf, handedNumber, Bursts}
 
--- what a caller sends for a reception that got this answer
+-- what a caller sends for a reception with this answer
 abbrev pub sentOf : Shown → Repeated → Frame
 sentOf a q = cond (isKept a) (q .sent) (frameOf [])
 
--- from the state c the calls show the list, and leave the state e
+-- from the state c, the calls show the list and leave the state e
 pub data ValuesShow : Collector → List Call → List Seen → Collector → Type 0 where
   ended : {c : Collector} → ValuesShow c [] [] c
   received : {c e : Collector} {setting : ℕ} {r : Reception} {h : List Call} {l : List Seen} (t : Taken) (q : Repeated)

@@ -1,5 +1,5 @@
--- The calls that lent bytes say: records of 64 bytes, and beside them the bytes of images and the receptions of bursts. Byte 0 is the operation; a
--- number has eight bytes.
+-- The calls in lent bytes: records of 64 bytes. The bytes of images and the receptions of bursts are lent separately.
+-- Byte 0 is the operation. A number has eight bytes.
 use Prim.Native.Nat.{ℕ, _*_, _/_, min}
 use mathlib.Core.Bool.{cond}
 use mathlib.Core.List.{List, map}
@@ -23,47 +23,49 @@ callLength = 64
 abbrev pub recordAt : List ℕ → ℕ → List ℕ
 recordAt records i = part (callLength * i) callLength records
 
--- the number that the eight bytes from a on spell
+-- the number in the eight bytes from a on
 unfoldable pub numberAt : ℕ → List ℕ → ℕ
 numberAt a r = unbe (part a 8 r)
 
--- ---- what the record of each call says
+-- ---- the record of each call
 
--- the caller's setting in the last byte
+-- the caller's setting, in the last byte
 abbrev pub settingIn : List ℕ → ℕ
 settingIn r = getD r 63 0
 
--- a reception: the time in 1 to 8, a length in 9, and so many of the 53 bytes from 10 on
+-- a reception: the time in 1 to 8, a length in 9, and that many of the 53 bytes from 10 on
 abbrev pub receptionIn : List ℕ → Reception
 receptionIn r = record { bytes = take (getD r 9 0) (part 10 53 r); time = numberAt 1 r }
 
--- an output: its length in 1 to 8, at most 4,096, and in 9 what each of its bytes is
+-- an output: its length in 1 to 8, at most 4,096; each of its bytes has the value in 9
 abbrev pub maxOutput : ℕ
 maxOutput = 4096
 
 abbrev pub outputIn : List ℕ → List ℕ
 outputIn r = replicate (min (numberAt 1 r) maxOutput) (getD r 9 0)
 
--- bytes lent beside the calls: where they start in 1 to 8, and how many they are in 9 to 16, or as many as there are
+-- bytes that are lent separately: where they start in 1 to 8, and how many there are in 9 to 16, or all that there are
 abbrev pub lentIn : List ℕ → List ℕ → List ℕ
 lentIn lent r = part (numberAt 1 r) (numberAt 9 r) lent
 
--- a reception of a burst, as that of a record of its own, but with 21 bytes: as many as its length says, so that one over 21 shows
+-- a reception of a burst: like that of a record, but with 21 bytes, as many as its length says. A length over 21 gives
+-- a list of that length.
 abbrev pub burstReceptionIn : List ℕ → Reception
 burstReceptionIn r = record { bytes = resized (getD r 9 0) (part 10 maxLength r); time = numberAt 1 r }
 
--- all whole records, at most as many as a list held by value has places
+-- how many whole records there are, up to the length of a list that is held by value
 abbrev pub countIn : List ℕ → ℕ
 countIn bytes = min (length bytes / callLength) listed
 
 unfoldable pub receptionsIn : List ℕ → List Reception
 receptionsIn bytes = map (λ (i : ℕ). burstReceptionIn (recordAt bytes i)) (upFrom 0 (countIn bytes))
 
--- what each place of the second list holds before a burst: the form of an answer in 25, the length of a telegram in 26, and its bytes from 27 on
+-- what each entry of the list of replies holds before a burst: the form of an answer in 25, the length of a telegram in
+-- 26, and its bytes from 27 on
 abbrev pub placeIn : List ℕ → Replied
 placeIn r = record { answer = formIn (getD r 25 0); sent = record { len = getD r 26 0; bytes = part 27 maxLength r } }
 
--- and how many places there are, in 17 to 24
+-- the list of replies before a burst; its length is in 17 to 24
 abbrev pub placesIn : List ℕ → List Replied
 placesIn r = replicate (min (numberAt 17 r) listed) (placeIn r)
 
@@ -84,6 +86,6 @@ callIn lent r =
     (cond (eqb (getD r 0 0) asking) (Ask (entryIn r))
     Look)))))
 
--- of all whole records
+-- the calls of all whole records
 unfoldable pub callsIn : List ℕ → List ℕ → List Call
 callsIn lent calls = map (λ (i : ℕ). callIn lent (recordAt calls i)) (upFrom 0 (length calls / callLength))

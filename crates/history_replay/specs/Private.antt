@@ -1,4 +1,4 @@
--- What private functions say.
+-- What the contracts of private functions say.
 use Prim.Native.Nat.{ℕ}
 use mathlib.Core.Path.{_≡_}
 use mathlib.Core.List.{List, [], _∷_, _++_}
@@ -21,7 +21,7 @@ use Rattle.history_calls.specs.Elements.{arraysAfter}
 use Rattle.history_replay_model.specs.Record.{recordOf}
 use Rattle.history_replay_model.specs.Replay.{afterCall}
 
--- one call: its part of the record fills the output, and every element of the arrays after it
+-- one call: its part of the record fills the output, and every element of the arrays after the call is known
 pub record Called (s : Arrays) (k : Call) (exit : List ℕ) (s' : Arrays) : Type 0 where
   pub bytes : exit ≡ recordOf (run (stateAt s) (k ∷ []))
   pub state : stateAt s' ≡ afterCall (stateAt s) k
@@ -31,26 +31,26 @@ pub record Called (s : Arrays) (k : Call) (exit : List ℕ) (s' : Arrays) : Type
 abbrev pub wroteOf : View → List ℕ → Seen
 wroteOf v output = Wrote (checkpointOf v output .number) (checkpointOf v output .output) (v .totals)
 
--- the bytes of a reply, by the form and the number of its answer
+-- the bytes of a reply, from the form and the number of its answer
 abbrev pub replyCell : ℕ → ℕ → Frame → List ℕ
 replyCell form number sent = (form ∷ number ∷ []) ++ be 8 (sent .len) ++ resized maxLength (sent .bytes)
 
--- ---- the lists of a burst, as the library's call is lent them
+-- ---- the lists of a burst, as they are lent to the library's call
 
 -- the frame of a reception: its length, and 21 bytes
 abbrev pub frameIn : List ℕ → List ℕ
 frameIn r = getD r 9 0 ∷ part 10 maxLength r
 
--- a place before the burst
+-- an entry of the list of replies before the burst
 abbrev pub placeBytes : List ℕ → List ℕ
 placeBytes r = getD r 25 0 ∷ 0 ∷ getD r 26 0 ∷ part 27 maxLength r
 
--- a burst of these receptions, with the second list before and after it
+-- a burst of these receptions, with the list of replies before and after it
 pub record BurstMade (s : Arrays) (setting : ℕ) (rs : List Reception) (old : List ℕ) (n : ℕ) (s' : Arrays) (new : List ℕ) : Type 0 where
   pub result : record { number = n; replies = repliesIn new; next = stateAt s' } ≡ burstOf setting (stateAt s) rs (repliesIn old)
   pub elements : s' ≡ arraysAfter s (Burst setting rs (repliesIn old))
 
--- and by value, with the first m places
+-- the same by value, with the first m entries
 pub record BurstGiven (c : Collector) (setting : ℕ) (rs : List Reception) (places : List Replied) (m : ℕ) (w : Within) : Type 0 where
   pub result : burstedOf (w .bursted) (take m (w .replies)) ≡ burstOf setting (viewOf c) rs places
   pub elements : arraysOf (w .bursted .next) ≡ arraysAfter (arraysOf c) (Burst setting rs places)

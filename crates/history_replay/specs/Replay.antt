@@ -1,5 +1,6 @@
--- What a replay of calls ensures: the record that it writes is that of what a collector shows, and so the reference model's (document 01, "One
--- history, and the clerk who writes it down"); and every element of the collector's arrays.
+-- What a replay of calls ensures: it writes the record of what a collector shows, which is what the reference model
+-- says (document 01, "One history, and the clerk who writes it down"); and every element of the collector's arrays is
+-- known.
 use Prim.Native.Nat.{ℕ}
 use mathlib.Core.Path.{_≡_}
 use mathlib.Core.List.{List, []}
@@ -18,18 +19,20 @@ abbrev pub ranNumber : Ran → ℕ
 ranNumber Done = 0
 ranNumber (Refused why) = numberOf why
 
--- the number, how many bytes are written, and every byte of the output at exit
+-- the number, how many bytes are written, and every byte of the output after the call
 abbrev pub replayedOf : Replayed → List ℕ → Result
 replayedOf r output = record { number = ranNumber (r .answer); len = r .written; output = output }
 
--- calls from any state: the record of what a collector shows, the state after them, and every element of its arrays
+-- calls from any state: the record of what a collector shows, the state after the calls, and every element of its
+-- arrays
 pub record Resumes (s : Arrays) (h : List Call) (entry exit : List ℕ) (r : Replayed) (s' : Arrays) : Type 0 where
   pub result : replayedOf r exit ≡ putRecord (recordOf (run (stateAt s) h)) entry
   pub state : stateAt s' ≡ afterCalls (stateAt s) (madeBy (ranNumber (r .answer)) h)
   pub elements : s' ≡ arraysAfterAll s (madeBy (ranNumber (r .answer)) h)
 
--- THE CLAIM on the code: from a collector started fresh it writes what a collector shows, whatever the calls; of a history that is what the reference
--- model says; and of the uncut list of a history too, where the number of each restore is left out
+-- THE CLAIM on the code: from a collector started fresh it writes what a collector shows, for any calls. For a history,
+-- that is what the reference model says. For the uncut list of a history it is the same, without the number of each
+-- restore.
 pub record Replays (h : List Call) (entry exit : List ℕ) (r : Replayed) (s' : Arrays) : Type 0 where
   pub shown : Resumes freshArrays h entry exit r s'
   pub reference : IsHistory h → replayedOf r exit ≡ putRecord (recordOf (expected [] h)) entry

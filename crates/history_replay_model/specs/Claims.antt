@@ -1,5 +1,5 @@
--- What is claimed of a record: it reads back, and the reference model's is never cut; its length is told by the calls alone; and calls made in parts
--- are one run.
+-- The claims on a record: it reads back; the reference model's numbers fit into it; its length depends on the calls
+-- alone; and calls in two parts are one run.
 use Prim.Native.Nat.{_^_, _<_}
 use mathlib.Core.Path.{_≡_}
 use mathlib.Core.List.{List, [], _∷_, _++_}
@@ -14,7 +14,7 @@ use Rattle.collector_model.specs.History.{Seen, Answered, Wrote, Restored, Deli
 use Rattle.history_replay_model.specs.Record.{recordOf}
 use Rattle.history_replay_model.specs.Replay.{afterCalls, sizeOfAll}
 
--- ---- what the types of the code say of each thing seen: numbers of 64 bits, and telegrams in 21 bytes
+-- ---- the limits that the types of the code give for each thing seen: numbers of 64 bits, and telegrams in 21 bytes
 
 pub record WholeTotals (n : Totals) : Type 0 where
   pub received : n .received < 2 ^ 64
@@ -44,11 +44,11 @@ abbrev pub AllWhole : List Seen → Type 0
 AllWhole [] = Unit {0}
 AllWhole (s ∷ l) = Whole s × AllWhole l
 
--- a record reads back: things seen that differ have different bytes
+-- Reads back: if two lists of things seen differ, their records differ.
 abbrev pub ReadsBack : Type 0
 ReadsBack = (l m : List Seen) → AllWhole l → AllWhole m → recordOf l ≡ recordOf m → l ≡ m
 
--- ---- and of each call: outputs and lists shorter than 2^64, and telegrams in 21 bytes in the places of a burst
+-- ---- the same for each call: outputs and lists shorter than 2^64, and telegrams in 21 bytes in the replies of a burst
 
 abbrev pub Held : List Call → Type 0
 Held [] = Unit {0}
@@ -60,15 +60,15 @@ Held (Burst setting rs places ∷ h) = (length places < 2 ^ 64) × WholeReplies 
 Held (Ask k ∷ h) = Held h
 Held (Look ∷ h) = Held h
 
--- so what the reference model says of a history is never cut, and its record tells all of it
+-- Reference whole: what the reference model says of a history fits into its record, so the record tells all of it.
 abbrev pub ReferenceWhole : Type 0
 ReferenceWhole = (h : List Call) → IsHistory h → Held h → AllWhole (expected [] h)
 
--- how long the record is, whatever the state at its start
+-- Sized: the calls decide how long the record is, from any state.
 abbrev pub Sized : Type 0
 Sized = (v : View) (h : List Call) → length (recordOf (run v h)) ≡ sizeOfAll h
 
--- calls in two parts: the record of the second stands behind that of the first, and goes on from the state after it
+-- In parts: if calls are made in two parts, the second record continues the first, from the state after it.
 abbrev pub InParts : Type 0
 InParts =
     (v : View) (h g : List Call)

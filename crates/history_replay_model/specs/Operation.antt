@@ -1,5 +1,5 @@
--- The number of each call: the first byte of its record, and of the cell of what is seen of it. A cut shows the cells of a checkpoint and of a
--- restore.
+-- The number of each call: the first byte of its record, and of the cell of what is seen. A cut has the two cells of a
+-- checkpoint and of a restore.
 use Prim.Native.Nat.{ℕ}
 
 abbrev pub looking : ℕ

@@ -1,4 +1,4 @@
--- The bytes of what is seen of calls: a cell for each thing seen (document 01, "Compared are ..").
+-- The bytes of what is seen in calls: a cell for each thing seen (document 01, "Compared are ..").
 use Prim.Native.Nat.{ℕ}
 use mathlib.Core.List.{List, [], _∷_, _++_, map, flatten}
 use lib.ListN.{length}
@@ -22,7 +22,7 @@ headOf operation number n =
     (operation ∷ number ∷ []) ++ be 8 (n .received) ++ be 8 (n .kept) ++ be 8 (n .copies)
     ++ be 8 (n .loose) ++ be 8 (n .damaged) ++ be 8 (n .late)
 
--- a length, in front of what has one
+-- the length in front of a list
 abbrev pub countLength : ℕ
 countLength = 8
 
@@ -43,7 +43,8 @@ replyOf r =
 
 -- ---- the cells
 
--- after the head a reception has its reply, a checkpoint every byte of its output, a burst every place of its second list, and an ask the copies
+-- after the head, a reception has its reply, a checkpoint every byte of its output, a burst every entry of its list of
+-- replies, and an ask the copies
 unfoldable pub seenBytes : Seen → List ℕ
 seenBytes (Answered a sent n) = headOf receiving (shownNumber a) n ++ replyOf (record { answer = a; sent = sent })
 seenBytes (Wrote number output n) = headOf saving number n ++ be 8 (length output) ++ output

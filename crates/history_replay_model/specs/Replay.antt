@@ -1,4 +1,4 @@
--- A replay of calls: the record that it writes into an output, and the state that it comes to.
+-- A replay of calls: the record that it writes into an output, and the state after it.
 use Prim.Native.Nat.{ℕ, _+_, _*_}
 use mathlib.Core.Bool.{cond}
 use mathlib.Core.List.{List, [], _∷_}
@@ -14,7 +14,7 @@ use Rattle.collector_model.specs.Burst.{burstOf}
 use Rattle.collector_model.specs.History.{Call, Receive, Checkpoint, Restore, Cut, Burst, Ask, Look}
 use Rattle.history_replay_model.specs.Record.{headLength, countLength, replyLength}
 
--- what a collector says after a call: "each call gets the state that the one before returned"
+-- the state after a call: "each call gets the state that the one before returned"
 abbrev pub afterCall : View → Call → View
 afterCall v (Receive setting r) = step v r .next
 afterCall v (Checkpoint output) = v
@@ -24,12 +24,12 @@ afterCall v (Burst setting rs places) = burstOf setting v rs places .next
 afterCall v (Ask k) = v
 afterCall v Look = v
 
--- and after all
+-- the state after all calls
 abbrev pub afterCalls : View → List Call → View
 afterCalls v [] = v
 afterCalls v (c ∷ h) = afterCalls (afterCall v c) h
 
--- how many bytes are written of a call
+-- how many bytes are written for a call
 abbrev pub callSize : Call → ℕ
 callSize (Receive setting r) = headLength + replyLength
 callSize (Checkpoint output) = headLength + countLength + length output
@@ -39,12 +39,13 @@ callSize (Burst setting rs places) = headLength + countLength + replyLength * le
 callSize (Ask k) = headLength + countLength
 callSize Look = headLength
 
--- and of all
+-- how many bytes are written for all calls
 abbrev pub sizeOfAll : List Call → ℕ
 sizeOfAll [] = 0
 sizeOfAll (c ∷ h) = callSize c + sizeOfAll h
 
--- a record is put into an output: 6, and nothing is written, where it is shorter; else what stood past the record stays
+-- a record is put into an output: 6 if the output is shorter, and nothing is written; else the bytes after the record
+-- are unchanged
 unfoldable pub putRecord : List ℕ → List ℕ → Result
 putRecord bytes output =
     cond (ltb (length output) (length bytes)) (refused (numberOf ShortOutput) output) (written bytes output)

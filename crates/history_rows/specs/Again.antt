@@ -1,5 +1,5 @@
--- Rows are given again: what a recovery needs that has no log. The state is an image from the middle of a history, and the archive has rows of
--- receptions that came after it.
+-- Rows are handed over again, for a recovery without a log. The state is an image from the middle of a history. The
+-- archive has rows of receptions that came after it.
 use Prim.Native.Nat.{ℕ, _<_, _^_}
 use mathlib.Core.Path.{_≡_}
 use mathlib.Core.Bool.{Bool, true, cond, _&&_}
@@ -16,26 +16,29 @@ use Rattle.collector_model.specs.Reference.{Logged, openAt, latestOf, logOf}
 use Rattle.collector_model.specs.History.{Timely}
 use Rattle.history_rows.specs.Rows.{isRow, logSince, alone}
 
--- the rows that a collector gives while receptions are handed over, oldest first: each with its reception and its answer, KEPT or LOOSE
+-- the rows that a collector gives for receptions, which are handed over oldest first: each reception that is answered
+-- KEPT or LOOSE, with its answer
 abbrev pub rowsFrom : View → List Reception → List Logged
 rowsFrom v [] = []
 rowsFrom v (r ∷ rs) =
     let o = step v r in
     cond (isRow (o .answer)) (record { reception = r; answer = o .answer } ∷ rowsFrom (o .next) rs) (rowsFrom (o .next) rs)
 
--- each is fit for an archive: a valid subtelegram, and a time of 64 bits
+-- each row fits an archive: a valid subtelegram, and a time below 2^64
 abbrev pub isFit : Logged → Bool
 isFit e = isValid (e .reception .bytes) && ltb (e .reception .time) (2 ^ 64)
 
 abbrev pub RowsFit : Type 0
 RowsFit = (v : View) (rs : List Reception) → Timely rs → all isFit (rowsFrom v rs) ≡ true
 
--- the first j rows of some receptions are the rows of the first k of them: where a crash left j rows, it could have been after k receptions
+-- First rows: the first j rows of some receptions are the rows of the first k of them. So if a crash left j rows, it
+-- could have come after k receptions.
 abbrev pub FirstRows : Type 0
 FirstRows = (v : View) (rs : List Reception) (j : ℕ) → (k : ℕ) × (rowsFrom v (take k rs) ≡ take j (rowsFrom v rs))
 
--- a collector goes through receptions, and on through more; of the rows since the image between, an archive has the first j. A fresh collector restores
--- the image, and is handed these rows: each is a row again, with the same answer.
+-- Given again: a collector takes `first`, then `more`. The image is from between. Of the rows since then, an archive
+-- has the first j. A fresh collector restores the image and is handed these rows: each is a row again, with the same
+-- answer.
 pub record Again (first more : List Reception) (j : ℕ) : Type 0 where
   pub number : restoreOf fresh (imageOf (afterAll fresh first)) .number ≡ 0
   pub rows :
@@ -45,8 +48,9 @@ pub record Again (first more : List Reception) (j : ℕ) : Type 0 where
 abbrev pub GivenAgain : Type 0
 GivenAgain = (first more : List Reception) → Timely first → Timely more → (j : ℕ) → Again first more j
 
--- and then it goes on as the first one would have, with receptions that are not earlier than its latest time (a copy that was struck out may have set
--- it): every answer is the same, COPY, damaged and late ones too, and so are the openings. Newest first.
+-- Goes on: then it continues as the first collector would have, if no reception is earlier than that one's latest time
+-- (which a copy that was left out may have set). Every answer is the same, also COPY, damaged and late ones, and so are
+-- the openings. Lists are newest first.
 pub record GoneOn (past more next : List Reception) : Type 0 where
   pub answers : logSince (more ++ past) next ≡ logSince (alone (logSince past more) ++ past) next
   pub openings : (t : ℕ)

@@ -1,5 +1,5 @@
--- What closes: a telegram that was open at the latest time, and is not at the time of the next reception that is accepted, is closed by it. Its
--- number of copies is then settled.
+-- What closes: a telegram that was open at the latest time, and is not open at the time of the next accepted reception,
+-- is closed by that reception. Its number of copies is then final.
 use Prim.Native.Nat.{ℕ}
 use mathlib.Core.Path.{_≡_}
 use mathlib.Core.Bool.{cond, not}
@@ -23,8 +23,8 @@ closedAt t l = keep (λ e. not (isOpen t e)) l
 
 -- ---- in the reference model
 
--- what closes when a reception gets its answer: a KEPT, COPY or LOOSE one closes what is open at the latest time before it and not at its own time,
--- in opening order, each with its bytes, time and copies
+-- what closes when a reception gets its answer: a KEPT, COPY or LOOSE reception closes what is open at the latest time
+-- before it and not at its own time, in opening order, each with its bytes, time and copies
 abbrev pub closedBy : List Logged → Reception → Shown → List Entry
 closedBy log r a = cond (isAccepted a) (closedAt (r .time) (openAt (latestOf log) log)) []
 
@@ -38,8 +38,9 @@ abbrev pub keptReceptions : List Logged → List Reception
 keptReceptions [] = []
 keptReceptions (e ∷ log) = keptReceptions log ++ cond (isKept (e .answer)) (e .reception ∷ []) []
 
--- THE CLAIM, in the reference model: what closed, and then what is still open, is every telegram that was ever opened, in order and each once,
--- with its number of copies at the end. Of these numbers the model's `NumbersAreAnswers` speaks.
+-- THE CLAIM, in the reference model: what closed, and then what is still open, is every telegram that was ever opened,
+-- in order, each once, with its final number of copies. `NumbersAreAnswers` of collector_model is the claim on these
+-- numbers.
 abbrev pub ClosedOnce : Type 0
 ClosedOnce =
     (past : List Reception)
@@ -47,17 +48,17 @@ ClosedOnce =
 
 -- ---- in views
 
--- a view has as its entries those open at its latest time
+-- the same for a view, whose entries are the telegrams open at its latest time
 abbrev pub closedFrom : View → Reception → Shown → List Entry
 closedFrom v r a = cond (isAccepted a) (closedAt (r .time) (v .entries)) []
 
--- what closes while receptions are handed over, one by one
+-- what closes when receptions are handed over, one by one
 abbrev pub closingsFrom : View → List Reception → List Entry
 closingsFrom v [] = []
 closingsFrom v (r ∷ rs) = closedFrom v r (step v r .answer) ++ closingsFrom (step v r .next) rs
 
--- these telegrams are the receptions answered KEPT, in order, each once, and each with the number, to the ceiling, of the COPY answers that belong
--- to its opening
+-- these telegrams are the receptions answered KEPT, in order, each once. Each has the number of COPY answers for its
+-- opening, up to the ceiling.
 pub record EachOnce (telegrams : List Entry) (past : List Reception) : Type 0 where
   pub receptions : map openedBy telegrams ≡ keptReceptions (logOf past)
   pub copies : copiesIn telegrams ≡ map (λ n. capped (copyAnswers n (logOf past))) (upFrom 0 (length telegrams))
@@ -82,7 +83,7 @@ module _ {State : Type 0} (view : State → View) where
   closingsOf (asked e t) = closingsOf t
   closingsOf (looked t) = closingsOf t
 
-  -- THE CLAIM: so it is in every history, however cut
+  -- THE CLAIM: this holds in every history, with any cuts
   abbrev pub StatesClosedOnce : Type 0
   StatesClosedOnce =
       (h : List Call) → IsHistory h → (c : State) → view c ≡ fresh → (l : List Seen) (t : Shows view c h l)

@@ -1,4 +1,5 @@
--- One history, worked out: a telegram, its copy by a repeater, another's telegram that closes it, a damaged one, a late one, and the first again.
+-- One history, worked out: a telegram, its copy by a repeater, another sensor's telegram that closes it, a damaged one,
+-- a late one, and the first telegram again.
 use Prim.Native.Nat.{ℕ}
 use mathlib.Core.Path.{_≡_}
 use mathlib.Core.List.{List, [], _∷_, map}

@@ -1,5 +1,5 @@
--- A recovery that has no log, in the states of an implementation: an image from the middle of a history is restored, the rows that came after it are
--- handed over, and then everything that comes.
+-- A recovery without a log, in the states of an implementation: an image from the middle of a history is restored, the
+-- rows that came after it are handed over, and then everything that follows.
 use Prim.Native.Nat.{ℕ, _<_, _^_}
 use mathlib.Core.Path.{_≡_}
 use mathlib.Core.Bool.{true}
@@ -21,8 +21,9 @@ module _ {State : Type 0} (view : State → View) where
     pub replies : repliesIn f x ≡ repliesIn f y
     pub openings : map openedBy (stillOpen (view left .latest) (view recovered)) ≡ map openedBy (view left .entries)
 
-  -- THE CLAIM: c goes through h, g and f. d′ is what a fresh d becomes by the restore of the image after h; it is handed the rows of g alone, and then
-  -- goes through f. No reception of f is earlier than the latest time after g, which a copy in g may have set.
+  -- THE CLAIM: c takes the calls h, g and f. A fresh d restores the image after h and becomes d′. It is handed only the
+  -- rows of g, and then takes f. No reception of f is earlier than the latest time after g, which a copy in g may have
+  -- set.
   abbrev pub RecoveredGoesOn : Type 0
   RecoveredGoesOn =
       (h g f : List Call) → IsHistory h → IsHistory g → IsHistory f

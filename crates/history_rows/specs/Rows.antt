@@ -1,6 +1,6 @@
--- Rows alone: the receptions of a history that are answered KEPT or LOOSE decide its openings. Where every other reception is struck out, these get
--- the same answers, and leave the same telegrams open, each with its bytes and its time; only the numbers of copies differ.
--- Receptions and log are newest first, as in the model's specs/Reference.
+-- Rows alone: the receptions of a history that are answered KEPT or LOOSE decide its openings. If every other reception
+-- is left out, these get the same answers and leave the same telegrams open, each with its bytes and its time. Only the
+-- numbers of copies differ. Receptions and log are newest first, as in specs/Reference of collector_model.
 use Prim.Native.Nat.{ℕ}
 use mathlib.Core.Path.{_≡_}
 use mathlib.Core.Bool.{Bool, _||_}
@@ -10,11 +10,11 @@ use Rattle.collector_model.specs.Answer.{Shown, isKept, isLoose}
 use Rattle.collector_model.specs.View.{Reception, openedBy}
 use Rattle.collector_model.specs.Reference.{Logged, openAt, answerTo, logOf}
 
--- "KEPT or LOOSE": what an archive has as a row (document 02, A2)
+-- "KEPT or LOOSE": a row of an archive (document 02, A2)
 abbrev pub isRow : Shown → Bool
 isRow a = isKept a || isLoose a
 
--- what the reference model wrote down of receptions that are handed over after those of the past
+-- the log of the reference model for receptions that are handed over after those of the past
 abbrev pub logSince : List Reception → List Reception → List Logged
 logSince past [] = []
 logSince past (r ∷ more) = record { reception = r; answer = answerTo (logOf (more ++ past)) r } ∷ logSince past more
@@ -23,11 +23,12 @@ logSince past (r ∷ more) = record { reception = r; answer = answerTo (logOf (m
 abbrev pub rowsOf : List Logged → List Logged
 rowsOf log = keep (λ e. isRow (e .answer)) log
 
--- their receptions: every other one is struck out
+-- the receptions of its rows, without every other one
 abbrev pub alone : List Logged → List Reception
 alone log = map (λ e. e .reception) (rowsOf log)
 
--- THE CLAIM, from fresh: those that stay get the same answers, in order; and at every time the same openings are open
+-- THE CLAIM, from a fresh collector: the rows get the same answers, in order; and at every time the same telegrams are
+-- open
 pub record RowsOnly (past : List Reception) : Type 0 where
   pub answers : rowsOf (logOf past) ≡ logOf (alone (logOf past))
   pub openings : (t : ℕ) → map openedBy (openAt t (logOf past)) ≡ map openedBy (openAt t (logOf (alone (logOf past))))
@@ -35,7 +36,7 @@ pub record RowsOnly (past : List Reception) : Type 0 where
 abbrev pub RowsAlone : Type 0
 RowsAlone = (past : List Reception) → RowsOnly past
 
--- THE CLAIM, from the middle: all receptions of the past are handed over, and only the rows of those after them
+-- THE CLAIM, from the middle: all receptions of the past are handed over, and of those after them only the rows
 pub record RowsSince (past more : List Reception) : Type 0 where
   pub answers : rowsOf (logSince past more) ≡ logSince past (alone (logSince past more))
   pub openings : (t : ℕ)

@@ -1,4 +1,5 @@
--- Rows alone, in the states of an implementation: of these nothing is known but what its contracts say, which speak of a state's view.
+-- Rows alone, in the states of an implementation. They are known only by its contracts, which speak of the view of a
+-- state.
 use Prim.Native.Nat.{ℕ}
 use mathlib.Core.Path.{_≡_}
 use mathlib.Core.Bool.{Bool, true, false, cond}
@@ -13,17 +14,18 @@ use Rattle.collector_model.specs.Division.{Given, receptionsOf, pastOf, replies
 use Rattle.collector_model.specs.States.{Shows, leftBy}
 use Rattle.history_rows.specs.Rows.{isRow}
 
--- of receptions that are handed over after those of the past, in order, each with its setting: those that the reference model answers KEPT or LOOSE
+-- of the receptions after those of the past, in order, each with its setting: those that the reference model answers
+-- KEPT or LOOSE
 abbrev pub rowsGiven : List Reception → List Given → List Given
 rowsGiven past [] = []
 rowsGiven past (g ∷ gs) =
     cond (isRow (answerTo (logOf past) (g .reception))) (g ∷ rowsGiven (g .reception ∷ past) gs) (rowsGiven (g .reception ∷ past) gs)
 
--- the calls' rows alone, each at its own time and setting, one by one
+-- only the rows of calls, each with its own time and setting, one by one
 abbrev pub struck : List Reception → List Call → List Call
 struck past h = map (λ g. Receive (g .setting) (g .reception)) (rowsGiven past (receptionsOf h))
 
--- of replies, those to rows
+-- the replies to rows, of all replies
 abbrev pub rowReplies : List Replied → List Replied
 rowReplies replies = keep (λ p. isRow (p .answer)) replies
 
@@ -31,7 +33,7 @@ rowReplies replies = keep (λ p. isRow (p .answer)) replies
 abbrev pub pastBy : List Reception → List Call → List Reception
 pastBy past h = pastAfter past (map (λ g. g .reception) (receptionsOf h))
 
--- the time of the last of these; t where there is none
+-- the time of the last of these, or t if there is none
 abbrev pub lastTime : ℕ → List Given → ℕ
 lastTime t [] = t
 lastTime t (g ∷ gs) = lastTime (g .reception .time) gs
@@ -42,30 +44,30 @@ endsInRow [] = false
 endsInRow (e ∷ log) = isRow (e .answer)
 
 module _ {State : Type 0} (view : State → View) where
-  -- what is shown of calls after the past, and of their rows alone, and the states that are left
+  -- what calls after the past show, and what their rows alone show, and the states after both
   pub record RowsShown (past : List Reception) (h : List Call) (l m : List Seen) (left alone : State) : Type 0 where
     -- the same answers, with the same telegrams to send
     pub replies : rowReplies (repliesIn h l) ≡ repliesIn (struck past h) m
     -- the latest time is that of the last row
     pub latest : view alone .latest ≡ lastTime (latestOf (logOf past)) (rowsGiven past (receptionsOf h))
-    -- the telegrams that the whole history has open then, but for their copies
+    -- the telegrams that the whole history has open at that time, without their copies
     pub openings : map openedBy (view alone .entries)
         ≡ map openedBy (openAt (lastTime (latestOf (logOf past)) (rowsGiven past (receptionsOf h))) (logOf (pastBy past h)))
-    -- of these, what is still open when the whole history has ended is what its state has
+    -- those of them that are still open when the whole history has ended are the entries of its state
     pub later : map openedBy (stillOpen (view left .latest) (view alone)) ≡ map openedBy (view left .entries)
-    -- and where it ends with a row, all of them
+    -- if the history ends with a row, all of them are
     pub newest : endsInRow (logOf (pastBy past h)) ≡ true
         → (view alone .latest ≡ view left .latest) × (map openedBy (view alone .entries) ≡ map openedBy (view left .entries))
 
-  -- THE CLAIM, from fresh: a history, and its rows alone
+  -- THE CLAIM, from a fresh collector: a history, and its rows alone
   abbrev pub StatesRowsAlone : Type 0
   StatesRowsAlone =
       (h : List Call) → IsHistory h → (c d : State) → view c ≡ fresh → view d ≡ fresh
       → (l m : List Seen) (t : Shows view c h l) (u : Shows view d (struck [] h) m)
       → RowsShown [] h l m (leftBy view t) (leftBy view u)
 
-  -- THE CLAIM, from the middle: c goes through a history h and on through g; d′ is what a fresh d becomes by the restore of the image after h, and is
-  -- handed the rows of g alone
+  -- THE CLAIM, from the middle: c takes a history h, and then g. A fresh d restores the image after h and becomes d′.
+  -- It is handed only the rows of g.
   abbrev pub RestoredRowsAlone : Type 0
   RestoredRowsAlone =
       (h g : List Call) → IsHistory h → IsHistory g
