@@ -1,4 +1,4 @@
--- The answers that the numbers and the bytes of the calls on lent arrays stand for: the inverse of `answerNumber` and
+-- Reading answers from the numbers and the bytes of the calls on lent arrays: the inverse of `answerNumber` and
 -- `replyBytes`.
 use Prim.Native.Nat.{ℕ, _*_, _/_, _%_}
 use mathlib.Core.Path.{_≡_}

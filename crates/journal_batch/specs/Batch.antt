@@ -21,12 +21,13 @@ pub record Filled : Type 0 where
   pub number : ℕ
   pub block : List ℕ
 
--- rows n, n + 1, .. put into their block
+-- rows n, n + 1, .. are put into their block
 unfoldable pub putOf : (block : List ℕ) (n : ℕ) (times records : List ℕ) → Filled
 putOf block n times records =
     let a : Appended = putRowsGiven block n times records in record { number = a .number; block = a .buffer }
 
--- where they go: into a blank block, where the last one is full, or behind the rows of the last one; no rows change nothing
+-- the block with the rows: a blank block if the last one is full, else the last one with the rows after its own. If
+-- there are no rows, nothing changes.
 unfoldable pub filledOf : (last : List ℕ) (n : ℕ) (times records : List ℕ) → Filled
 filledOf last n times records =
     cond (eqb (length times) 0) (record { number = 0; block = last })
@@ -34,18 +35,19 @@ filledOf last n times records =
 
 -- ---- the batch
 
--- the number, the copy of the block with the last row, and every byte of both files, at exit
+-- the number, the copy of the block with the last row, and every byte of both files, after the call
 pub record Commit : Type 0 where
   pub number : ℕ
   pub last : List ℕ
   pub archive : List ℕ
   pub state : List ℕ
 
--- whether rows come that are not among the leftovers
+-- some of the new rows are not among the leftovers
 abbrev pub isNew : (times records moments left : List ℕ) → Bool
 isNew times records moments left = ltb (compareCall times records moments left 0 0 .agreed) (length times)
 
--- 16; 12 where leftovers are to be put aside first; the number of `put_rows`; 6 where the archive has no such block; 11
+-- 16 for a wrong size; 12 if leftovers must be put aside first; the number of `put_rows`; 6 if the archive does not
+-- have that block; 11 if the next state is not lawful
 unfoldable pub commitOf : (n : ℕ) (times records moments left : List ℕ) (next : List ℕ → Kept)
     (last file state : List ℕ) → Commit
 commitOf n times records moments left next last file state =

@@ -1,4 +1,4 @@
--- What is proved of a batch: it leaves what the model of the disk says.
+-- What is proved of a batch: its result is that of the model of the disk.
 use Prim.Native.Nat.{ℕ, _+_, _*_, _%_, _≤_}
 use mathlib.Core.Path.{_≡_}
 use mathlib.Core.List.{List, []}
@@ -14,7 +14,7 @@ use Rattle.journal_state.specs.State.{Kept}
 use Rattle.journal_recovery.specs.Claims.{IsSaid, IsFileOf}
 use Rattle.journal_batch.specs.Batch.{Commit, commitOf}
 
--- lines that come next in a log, on a disk that stands as the model says
+-- the next lines of a log, on a disk that is as the model says
 module _ (before : List Row) (log : List (List ℕ)) (d : Disk) (count : ℕ) where
   abbrev pub batch : List (List ℕ)
   batch = nextLines log (d .state) count
@@ -23,8 +23,8 @@ module _ (before : List Row) (log : List (List ℕ)) (d : Disk) (count : ℕ) wh
   abbrev pub after : Disk
   after = committed d batch (wholeBlocks (d .archive))
 
-  -- the rows that the collector gives for them, all of one block, for which the archive has room; and the leftovers, of
-  -- which none is to be put aside
+  -- the rows that the collector gives for these lines. They are all in one block, and the archive has room for it. And
+  -- the leftovers, of which none must be put aside.
   pub record Comes (times records moments left : List ℕ) : Type 0 where
     pub plant : IsPlant maxBlocks before
     pub stands : Stands maxBlocks before log d
@@ -37,8 +37,8 @@ module _ (before : List Row) (log : List (List ℕ)) (d : Disk) (count : ℕ) wh
     pub leftSized : length left ≡ rowLength * length moments
     pub ours : going (newRows (d .state) batch) (leftovers d) ≡ []
 
-  -- done: the copy, the archive and the state are those of the disk after them, nothing was put aside, and the disk
-  -- stands as the model says, so that the next batch can come
+  -- done: the copy, the archive and the state are those of the model's disk after the lines. Nothing was put aside. The
+  -- disk is as the model says, so the next batch can follow.
   pub record Committed (r : Commit) : Type 0 where
     pub number : r .number ≡ 0
     pub last : r .last ≡ after .state .last
@@ -47,8 +47,8 @@ module _ (before : List Row) (log : List (List ℕ)) (d : Disk) (count : ℕ) wh
     pub aside : after .aside ≡ d .aside
     pub stands : Stands maxBlocks before log after
 
--- Batch commits: where the next state says the lines and the collector after them, `commit` answers 0 and leaves what the
--- model's `committed` says.
+-- Batch commits: if the next state has the lines and the collector after the batch, `commit` answers 0 and leaves what
+-- the model's `committed` says.
 abbrev pub BatchCommits : Type 0
 BatchCommits =
     (before : List Row) (log : List (List ℕ)) (d : Disk) (count : ℕ) (times records moments left : List ℕ)

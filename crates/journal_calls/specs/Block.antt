@@ -1,4 +1,4 @@
--- What stands in the block with the last row that a state counts.
+-- The judgement on the block with the last row that a state counts.
 use Prim.Native.Nat.{ℕ}
 use mathlib.Core.Bool.{Bool, cond, _&&_, _||_}
 use mathlib.Core.List.{List}
@@ -9,12 +9,12 @@ use Rattle.archive_cut.specs.Cut.{cutBlockOf}
 use Rattle.journal_calls.specs.declared.Judgement.{Judgement}
 use Rattle.journal_calls.specs.declared.Judgement.the-variants.{Same, Longer, Torn, Other}
 
--- cut to its first rows, those that are counted, it is the state's copy
+-- the block, cut to the rows that are counted, is the state's copy
 unfoldable pub isCopyOf : List ℕ → ℕ → List ℕ → Bool
 isCopyOf last rows block = let cut = cutBlockOf rows block in eqb (cut .number) 0 && equal (cut .block) last
 
--- the copy, or that with more rows behind; where it is neither, a block that is sound or all zero is another archive's,
--- and any other was torn
+-- Same: the block is the copy. Longer: it is the copy with more rows after it. Any other block is of another archive if
+-- it is sound or all zero, and torn if not.
 unfoldable pub judgementOf : List ℕ → ℕ → List ℕ → Judgement
 judgementOf last rows block =
     cond (isCopyOf last rows block) (cond (equal block last) Same Longer)

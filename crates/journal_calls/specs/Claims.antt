@@ -15,7 +15,7 @@ use Rattle.journal_calls.specs.declared.Judgement.the-variants.{Same, Lo
 use Rattle.journal_calls.specs.Block.{judgementOf, judgementNumber}
 use Rattle.journal_calls.specs.Run.{Run, startRun, runBlocks, isRun, runAt, runNumbers}
 
--- the block that a judgement leaves: a torn one is replaced by the copy
+-- the block after a judgement: a torn block is replaced by the copy
 abbrev pub mendedBy : Judgement → List ℕ → List ℕ → List ℕ
 mendedBy Same last block = block
 mendedBy Longer last block = block
@@ -26,23 +26,23 @@ mendedBy Other last block = block
 abbrev pub judged : State → List ℕ → Judgement
 judged s file = judgementOf (s .last) (counted s - cellsPerBlock * lastUsed s) (blockAt (lastUsed s) file)
 
--- Judged: it is another archive's just where the model refuses it, and else it leaves the block that the model goes on
--- from.
+-- Judged: the block is of another archive exactly if the model refuses it; else the judgement gives the block that the
+-- model continues with.
 abbrev pub Judged : Type 0
 Judged =
     (s : State) (file : List ℕ)
     → (eqb (judgementNumber (judged s file)) 3 ≡ isOther s file)
     × (isOther s file ≡ false → mendedBy (judged s file) (s .last) (blockAt (lastUsed s) file) ≡ mended s file)
 
--- Run counts: after all blocks a run counts the rows that the model finds from block k on, and the blocks that they
--- take.
+-- Run counts: after all blocks, a run has counted the rows that the model finds from block k on, and the blocks of
+-- these rows.
 abbrev pub RunCounts : Type 0
 RunCounts =
     (limit k : ℕ) (blocks : List (List ℕ))
     → (runBlocks (startRun limit k) blocks .rows ≡ length (runFrom limit k blocks))
     × (runBlocks (startRun limit k) blocks .blocks ≡ blocksFor (length (runFrom limit k blocks)))
 
--- Run joins: blocks that come in two pieces leave what they leave in one.
+-- Run joins: blocks in two pieces give what they give in one.
 abbrev pub RunJoins : Type 0
 RunJoins = (r : Run) (xs ys : List (List ℕ)) → runBlocks r (xs ++ ys) ≡ runBlocks (runBlocks r xs) ys
 
@@ -50,7 +50,7 @@ RunJoins = (r : Run) (xs ys : List (List ℕ)) → runBlocks r (xs ++ ys) ≡ ru
 abbrev pub RunBack : Type 0
 RunBack = (r : Run) → runAt (runNumbers r) ≡ r
 
--- Run accepted: blocks leave the numbers of a run.
+-- Run accepted: the numbers after more blocks are accepted too.
 abbrev pub RunAccepted : Type 0
 RunAccepted =
     (r : Run) (blocks : List (List ℕ)) → isRun r ≡ true → r .blocks + length blocks ≤ maxBlocks

@@ -1,4 +1,4 @@
--- How far blocks read as an archive, in pieces: what is known after some of them.
+-- How many blocks read as an archive, counted in pieces: what is known after some of them.
 use Prim.Native.Nat.{ℕ, _+_, _*_, _/_, _%_}
 use mathlib.Core.Bool.{Bool, true, false, cond, not, _&&_}
 use mathlib.Core.List.{List, [], _∷_}
@@ -11,8 +11,8 @@ use Rattle.archive_model.specs.Row.{blockNumber, rowCount, isSound}
 use Rattle.archive_model.specs.Buffer.{maxBlocks, blocksIn, isShort}
 use Rattle.journal_calls.specs.declared.Run as declared
 
--- files of so many blocks; the number of the block that comes next; blocks passed and their rows; no block behind these
--- belongs to them
+-- how many blocks a file has; the number that the next block must have; how many blocks were counted, and how many
+-- rows; whether the run has ended, so that no further block belongs to it
 pub record Run : Type 0 where
   pub limit : ℕ
   pub place : ℕ
@@ -23,14 +23,14 @@ pub record Run : Type 0 where
 abbrev pub runOf : declared.Run → Run
 runOf r = record { limit = r .limit; place = r .place; blocks = r .blocks; rows = r .rows; ended = r .ended }
 
--- before block k
+-- the run before block k
 abbrev pub startRun : (limit k : ℕ) → Run
 startRun limit k = record { limit = limit; place = k % limit; blocks = 0; rows = 0; ended = false }
 
 abbrev pub stopped : Run → Run
 stopped r = record { limit = r .limit; place = r .place; blocks = r .blocks; rows = r .rows; ended = true }
 
--- with one block more, which is sound and rightly numbered
+-- the run after one more block, which is sound and has the right number
 abbrev pub passed : Run → List ℕ → Run
 passed r b = record {
   limit = r .limit;
@@ -50,14 +50,14 @@ runBlocks r (b ∷ bs) = runBlocks (runBlock r b) bs
 
 -- ---- the call, on five numbers
 
--- the rows of so many blocks: all are full, or the run has ended with a short one
+-- the number of rows fits the number of blocks: all are full, or the run has ended and the last may be short
 abbrev pub isDense : (ended : Bool) (blocks rows : ℕ) → Bool
 isDense ended blocks rows =
     leb rows (cellsPerBlock * blocks)
     && cond ended (ltb (cellsPerBlock * blocks) (rows + cellsPerBlock)) (leb (cellsPerBlock * blocks) rows)
 
--- numbers that some blocks give: at most 2^32 blocks in a file, the next one among them, at most 2^32 blocks passed, and the
--- rows that these have
+-- numbers that some blocks give: at most 2^32 blocks in a file, the next block's number below that, at most 2^32 blocks
+-- counted, and a number of rows that they can have
 unfoldable pub isRun : Run → Bool
 isRun r =
     leb (r .limit) maxBlocks
@@ -77,12 +77,13 @@ runAt numbers = record {
 abbrev pub runNumbers : Run → List ℕ
 runNumbers r = r .limit ∷ r .place ∷ r .blocks ∷ r .rows ∷ cond (r .ended) 1 0 ∷ []
 
--- the number, and every lent number at exit
+-- the number, and every lent number after the call
 pub record ScanCall : Type 0 where
   pub number : ℕ
   pub numbers : List ℕ
 
--- 11, 16
+-- 11 for numbers that no blocks give; 16 for a piece that isn't whole blocks, or if there are then more than 2^32
+-- blocks
 unfoldable pub scanCall : List ℕ → List ℕ → ScanCall
 scanCall numbers piece =
     let r = runAt numbers in

@@ -1,5 +1,5 @@
--- The file of `--out`, which has the rows as text. Its length stands in the state beside the lines that were taken, so
--- that both are replaced in one step.
+-- The file of `--out`, which has the rows as text. The state has its length and the number of lines that were taken, so
+-- both are replaced in one step.
 use Prim.Native.Nat.{ℕ, _+_, _≤_}
 use mathlib.Core.Path.{_≡_}
 use mathlib.Core.Bool.{cond, not, _&&_}
@@ -14,34 +14,34 @@ use Rattle.text_rows.specs.Formats.{headingIn}
 use Rattle.text_collect.specs.Printed.{pastAfterLines}
 use Rattle.text_collect.specs.Formats.{lineIn}
 
--- lines that the state has taken, how much of the file it counts, and the file
+-- how many lines the state has taken, how many bytes of the file it counts, and the file
 pub record Out : Type 0 where
   pub lines : ℕ
   pub size : ℕ
   pub file : List ℕ
 
 pub data OutEvent : Type 0 where
-  -- a batch of so many lines
+  -- a batch of `count` lines
   Print : (count : ℕ) → OutEvent
-  -- a crash that leaves this, and a start
+  -- a crash that leaves this, and then a start
   Stop : (left : Out) → OutEvent
 
--- what a line prints behind others, and what stands before the first row, in the format that was asked for; and the
--- lines of a log
+-- `text`: what a line prints after other lines; `heading`: what comes before the first row. Both depend on the format.
+-- `log`: the lines of a log.
 module _ (text : List (List ℕ) → List ℕ → List ℕ) (heading : List ℕ) (log : List (List ℕ)) where
-  -- what lines print behind others
+  -- what lines print after other lines
   unfoldable pub textOf : List (List ℕ) → List (List ℕ) → List ℕ
   textOf before [] = []
   textOf before (l ∷ ls) = text before l ++ textOf (before ++ (l ∷ [])) ls
 
-  -- a batch of so many lines
+  -- the lines of the next batch
   abbrev pub nextOf : Out → ℕ → List (List ℕ)
   nextOf o count = take count (drop (o .lines) log)
 
   abbrev pub batchText : Out → ℕ → List ℕ
   batchText o count = cond (eqb (o .size) 0) heading [] ++ textOf (take (o .lines) log) (nextOf o count)
 
-  -- its rows are written where those end that the state counts; then the state is replaced
+  -- the rows of a batch are written after the bytes that the state counts; then the state is replaced
   abbrev pub printed : Out → ℕ → Out
   printed o count =
       let new = batchText o count in
@@ -51,13 +51,12 @@ module _ (text : List (List ℕ) → List ℕ → List ℕ) (heading : List ℕ)
         file = take (o .size) (o .file) ++ (new ++ drop (o .size + length new) (o .file));
       }
 
-  -- the tool's start: what the state does not count is cut
+  -- a start of the tool cuts off what the state does not count
   abbrev pub cutOut : Out → Out
   cutOut o = record { lines = o .lines; size = o .size; file = take (o .size) (o .file) }
 
-  -- what a crash may leave, and a start that is cut short: the old state, and what it counts is as it was, with
-  -- anything behind; or the new one, before
-  -- which the rows were synced
+  -- what a crash may leave, or a start that is cut short: the old state, with the bytes that it counts unchanged and
+  -- any bytes after them; or the new state, because the rows were synced before it
   pub data OutLeft (o : Out) : Out → Type 0 where
     early : (file : List ℕ) → o .size ≤ length file → take (o .size) file ≡ take (o .size) (o .file)
         → OutLeft o (record { lines = o .lines; size = o .size; file = file })
@@ -79,17 +78,17 @@ module _ (text : List (List ℕ) → List ℕ → List ℕ) (heading : List ℕ)
   IsOutRun o [] = Unit {0}
   IsOutRun o (e ∷ es) = OutMay o e × IsOutRun (outNext o e) es
 
-  -- what stands before the rows: the heading, just where the file was empty before the run and has a byte now
+  -- what comes before the rows: the heading, if the file was empty before the run and is not empty now
   abbrev pub topOf : List ℕ → Out → List ℕ
   topOf old o = cond (eqb (length old) 0 && not (eqb (o .size) 0)) heading []
 
-  -- behind what stood in the file: that, and each row of the lines that were taken, once and in their order
+  -- after what was in the file before: the heading, and each row of the lines that were taken, once and in order
   pub record EachOnce (old : List ℕ) (o : Out) : Type 0 where
     pub is : o .file ≡ old ++ (topOf old o ++ textOf [] (take (o .lines) log))
     pub counted : o .size ≡ length (o .file)
 
--- Once in file: batches of any sizes, crashes at any moments with any outcome: each row of the lines that the state
--- has taken is in the file once.
+-- Once in file: after batches of any size and crashes at any time with any outcome, each row of the lines that the
+-- state has taken is in the file once.
 abbrev pub OnceInFile : Type 0
 OnceInFile =
     (text : List (List ℕ) → List ℕ → List ℕ) (heading : List ℕ) (log : List (List ℕ)) (old : List ℕ)
@@ -99,24 +98,24 @@ OnceInFile =
 
 -- ---- the formats
 
--- a first line prints nothing where it says a level, and else what any line prints
+-- a first line that says a level prints nothing; any other prints what a later line prints
 abbrev pub unlessLevel : Setting → List ℕ → List ℕ
 unlessLevel (Setting.Level n) row = []
 unlessLevel Setting.Bad row = row
 
--- what a line prints behind others in a format, by the reference model
+-- what a line prints after other lines in a format, by the reference model
 abbrev pub rowBehind : Format → (setting : ℕ) → List (List ℕ) → List ℕ → List ℕ
 rowBehind f setting before l =
     let view = modelView (logOf (pastAfterLines [] before)) in
     let row = lineIn f (record { setting = setting; view = view }) (lineReading l) in
     cond (eqb (length before) 0) (unlessLevel (settingOf l) row) row
 
--- First line silent: nothing is printed for a first line that says a level
+-- First line silent: nothing is printed for a first line that says a level.
 abbrev pub FirstLineSilent : Type 0
 FirstLineSilent =
     (f : Format) (setting level : ℕ) (l : List ℕ) → settingOf l ≡ Setting.Level level → rowBehind f setting [] l ≡ []
 
--- Once in format: the same of the rows of a format, with its heading.
+-- Once in format: the same for the rows of a format, with its heading.
 abbrev pub OnceInFormat : Type 0
 OnceInFormat =
     (f : Format) (setting : ℕ) (log : List (List ℕ)) (old : List ℕ) (es : List OutEvent)

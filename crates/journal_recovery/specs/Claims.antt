@@ -1,4 +1,4 @@
--- What is proved of a whole start: it is not refused after a crash, and leaves the rows of the model.
+-- What is proved of a whole start: after a crash it is not refused, and it leaves the rows of the model.
 use Prim.Native.Nat.{ℕ, _*_, _≤_, _<_}
 use mathlib.Core.Path.{_≡_}
 use mathlib.Core.Bool.{true}
@@ -17,8 +17,8 @@ use Rattle.journal_state.specs.Lawful.{isPlaced, isPrinted}
 use Rattle.journal_state.specs.Claims.{IsKept, stateOf}
 use Rattle.journal_recovery.specs.Start.{Start, withWhole, startOf}
 
--- a state of the model as a state file keeps it, with any name, place in a log and file for rows. That the rows, the copy
--- of the last block and the image agree is not asked: it is proved
+-- a state of the model in a state file, with any name, position in a log and file for rows. It is proved, and not
+-- assumed, that the rows, the copy of the last block and the image agree.
 pub record IsSaid (s : State) (k : Kept) : Type 0 where
   pub sized : IsKept k
   pub says : stateOf k ≡ s
@@ -29,14 +29,14 @@ pub record IsSaid (s : State) (k : Kept) : Type 0 where
   pub placed : isPlaced k ≡ true
   pub printed : isPrinted k ≡ true
 
--- the bytes of its file
+-- the bytes of such a state file
 pub record IsFileOf (s : State) (bytes : List ℕ) : Type 0 where
   pub kept : Kept
   pub said : IsSaid s kept
   pub is : bytes ≡ stateBytes kept 2
 
--- done: the archive has the rows that the model has after n lines, then the leftovers, whose number is handed back;
--- bytes behind the last whole block stay
+-- done: the archive has the rows that the model has after n lines, then the leftovers, whose number is returned. The
+-- bytes after the last whole block are unchanged.
 pub record Recovered (before : List Row) (log : List (List ℕ)) (n : ℕ) (file : List ℕ) (r : Start) : Type 0 where
   pub rest : List Row
   pub fit : all isFit rest ≡ true
@@ -45,8 +45,8 @@ pub record Recovered (before : List Row) (log : List (List ℕ)) (n : ℕ) (file
       ≡ withWhole (paddedFiles maxBlocks (blockLength * wholeBlocks file) (rowsAfter before log n ++ rest)) file
   pub left : r .left ≡ length rest
 
--- Start recovers: on what a crash leaves of state and archive, also one during a start, `start` answers 0 and leaves the
--- rows that the model says for the state on disk.
+-- Start recovers: after a crash, also one during a start, `start` answers 0 and leaves the rows that the model has for
+-- the state on disk.
 abbrev pub StartRecovers : Type 0
 StartRecovers =
     (before : List Row) (log : List (List ℕ)) (d left : Disk) (again : List (List ℕ))

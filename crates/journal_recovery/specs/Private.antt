@@ -1,4 +1,4 @@
--- What private functions say. No public contract cites these.
+-- What the contracts of private functions say. No public contract cites these.
 use Prim.Native.Nat.{ℕ, _+_, _-_, _*_, _≤_, _<_}
 use mathlib.Core.Path.{_≡_}
 use mathlib.Core.Bool.{Bool, true, false, not, _&&_, _||_}
@@ -20,13 +20,13 @@ use Rattle.journal_calls.specs.Claims.{mendedBy}
 use Rattle.journal_state.specs.Lawful.{imageRows}
 use Rattle.journal_recovery.specs.Start.{Start, withWhole, settledOf}
 
--- a state that counts so many rows of one file, and has this copy of the block with the last of them
+-- a state counts n rows of one file, and has this copy of the block with the last of them
 pub record Says (n : ℕ) (copy : List ℕ) (s : State) : Type 0 where
   pub count : counted s ≡ n
   pub limited : s .limit ≡ maxBlocks
   pub last : s .last ≡ copy
 
--- an image that is accepted, and numbers beside it: the rows that they count have room in a file
+-- an image that is accepted, with its numbers: a file has room for the rows that they count
 pub record IsCounted (numbers image : List ℕ) : Type 0 where
   pub accepted : accepts image ≡ true
   pub few : getD numbers 2 0 + imageRows image ≤ maxRows
@@ -34,14 +34,14 @@ pub record IsCounted (numbers image : List ℕ) : Type 0 where
 abbrev pub Settles : ℕ → List ℕ → List ℕ → ℕ → Start → Type 0
 Settles n copy file left r = (s : State) → Says n copy s → r ≡ settledOf s file left
 
--- block `at` is not there, or those before it are no archive of full blocks
+-- block `at` is missing, or the blocks before it are not an archive of full blocks
 abbrev pub lostAt : ℕ → List ℕ → Bool
 lostAt at file =
     let front = part 0 (blockLength * at) file in
     not (leb (blockLength * (at + 1)) (length file) && (eqb (verdict front .number) 0
     && eqb (length (rowsIn front)) (cellsPerBlock * at)))
 
--- what is found: Other just where the model refuses the disk, and else the block that the model goes on from
+-- the judgement is Other exactly if the model refuses the disk; else it gives the block that the model continues with
 pub record Found (s : State) (file : List ℕ) (j : Judgement) : Type 0 where
   pub foreign : eqb (judgementNumber j) 3 ≡ ltb 0 (counted s) && (isLost s file || isOther s file)
   pub mends : eqb (judgementNumber j) 3 ≡ false → 0 < counted s
@@ -52,7 +52,7 @@ pub record Finds (n : ℕ) (copy file : List ℕ) (j : Judgement) : Type 0 where
   pub none : n ≡ 0 → j ≡ Same
   pub room : eqb (judgementNumber j) 3 ≡ false → blocksFor n ≤ wholeBlocks file
 
--- a block that is written is there
+-- a torn block, which is written anew, is in the file
 abbrev pub IsThere : Judgement → ℕ → List ℕ → Type 0
 IsThere j at file = j ≡ Torn → at < wholeBlocks file
 
@@ -61,7 +61,7 @@ IsThere j at file = j ≡ Torn → at < wholeBlocks file
 abbrev pub runRows : ℕ → List ℕ → List Row
 runRows at file = runFrom maxBlocks at (blocksOn at file)
 
--- it stays, and zeros stand behind it, to the last whole block
+-- the blocks before it and the rows that are read stay; zeros after them, up to the last whole block
 unfoldable pub sweptAt : ℕ → List ℕ → List ℕ
 sweptAt at file =
     withWhole (padded (blockLength * wholeBlocks file)

@@ -1,4 +1,5 @@
--- A whole start on the bytes of a state file and of an archive of one file: it leaves what the model of the disk says.
+-- A whole start, on the bytes of a state file and of an archive of one file. Its result is that of the model of the
+-- disk.
 use Prim.Native.Nat.{ℕ, _*_}
 use mathlib.Core.Bool.{Bool, cond, not, _&&_}
 use mathlib.Core.List.{List, [], _++_}
@@ -13,25 +14,25 @@ use Rattle.journal_state.specs.State.{Kept, began, nameLength, readState}
 use Rattle.journal_state.specs.Calls.{acceptOf}
 use Rattle.journal_state.specs.Claims.{stateOf}
 
--- the number, every byte of the archive, and the number of leftovers, at exit
+-- the number, every byte of the archive, and the number of leftovers, after the call
 pub record Start : Type 0 where
   pub number : ℕ
   pub archive : List ℕ
   pub left : ℕ
 
--- the state has an archive, and the collector began with its file: so `stateOf` says it in the model's terms
+-- the state has an archive, and the collector began with its file, so `stateOf` gives a state of the model
 abbrev pub isOneFile : Kept → Bool
 isOneFile k = not (eqb (nameLength k) 0) && eqb (began k) 0
 
--- the model's disk, where nothing was put aside
+-- the model's disk, with nothing put aside
 abbrev pub diskOf : State → List ℕ → Disk
 diskOf s archive = record { state = s; archive = archive; aside = [] }
 
--- other whole blocks; bytes behind the last one stay
+-- a file whose whole blocks are replaced; the bytes after the last whole block are unchanged
 abbrev pub withWhole : List ℕ → List ℕ → List ℕ
 withWhole new file = new ++ drop (blockLength * wholeBlocks file) file
 
--- the model's start: 12 where it refuses the disk
+-- the model's start: 12 if it refuses the disk
 unfoldable pub settledOf : State → List ℕ → ℕ → Start
 settledOf s file left =
     let d = diskOf s file in
@@ -41,11 +42,11 @@ settledOf s file left =
       left = length (leftovers d);
     })
 
--- the number of `accept`, whatever was lent to it
+-- the number that `accept` answers, whatever was lent to it
 abbrev pub acceptNumber : List ℕ → ℕ
 acceptNumber bytes = acceptOf (readState bytes) bytes .number
 
--- 16, the number of `accept`, 10, 12
+-- 16 for an archive of more than 2^32 blocks; the number of `accept`; 10 for a state without such an archive; 12
 unfoldable pub startOf : List ℕ → List ℕ → ℕ → Start
 startOf bytes file left =
     let refused : ℕ → Start = λ n. record { number = n; archive = file; left = left } in

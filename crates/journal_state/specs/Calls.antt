@@ -1,4 +1,4 @@
--- What the calls show, and every number and byte that is lent.
+-- What the calls answer, with every number and byte that is lent.
 use Prim.Native.Nat.{ℕ}
 use mathlib.Core.Path.{_≡_}
 use mathlib.Core.Bool.{true, false, cond, not, _||_}
@@ -29,7 +29,7 @@ pub record Accepted : Type 0 where
   pub number : ℕ
   pub next : Kept
 
--- 16 for another length, 11 for a file that is not accepted; then everything is as it was
+-- 16 for a wrong length, 11 for a file that is not accepted; with both, everything is unchanged
 unfoldable pub acceptOf : Kept → List ℕ → Accepted
 acceptOf k bytes =
     cond (not (eqb (length bytes) stateLength || eqb (length bytes) oldLength))
@@ -37,7 +37,7 @@ acceptOf k bytes =
     (cond (acceptsState bytes) (record { number = 0; next = readState bytes })
     (record { number = numberOf NotAccepted; next = k }))
 
--- whether an image is accepted, and the rows that it then counts; else none
+-- whether an image is accepted, and then how many rows it counts; 0 if it is not accepted
 pub record Counts (image : List ℕ) (c : Counted) : Type 0 where
   pub accepted : c .accepted ≡ accepts image
   pub rows : c .accepted ≡ true → c .rows ≡ imageRows image

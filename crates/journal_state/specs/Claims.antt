@@ -14,7 +14,7 @@ use Rattle.journal_model.specs.Claims.{IsCopied}
 use Rattle.journal_state.specs.State.{Kept, lines, began, had, nameLength, numberCount, maxName, maxTail, versionOf, stateBytes, readState}
 use Rattle.journal_state.specs.Lawful.{imageRows, lawful, acceptsState}
 
--- lists as the call takes them: fourteen numbers of 64 bits, and the right lengths
+-- lists of the right lengths, and fourteen numbers of 64 bits
 pub record IsKept (k : Kept) : Type 0 where
   pub count : length (k .numbers) ≡ numberCount
   pub fit : all (λ n. ltb n (2 ^ 64)) (k .numbers) ≡ true
@@ -23,31 +23,31 @@ pub record IsKept (k : Kept) : Type 0 where
   pub image : length (k .image) ≡ imageLength
   pub tail : length (k .tail) ≡ maxTail
 
--- State read: what is written of a lawful state is accepted, and says that state.
+-- State read: the bytes that are written for a lawful state are accepted, and read back as that state.
 abbrev pub StateRead : Type 0
 StateRead =
     (k : Kept) → IsKept k → lawful k ≡ true
     → (readState (stateBytes k 2) ≡ k) × (acceptsState (stateBytes k 2) ≡ true)
 
--- State written: a file that is accepted says a lawful state, and is what is written of it, in its version.
+-- State written: a file that is accepted has a lawful state, and is what is written for it, in its version.
 abbrev pub StateWritten : Type 0
 StateWritten =
     (bytes : List ℕ) → acceptsState bytes ≡ true
     → (lawful (readState bytes) ≡ true)
     × (take (length bytes) (stateBytes (readState bytes) (versionOf (length bytes))) ≡ bytes)
 
--- the state of the model of the disk, where the archive is one file and the collector began with it
+-- the state in the model of the disk, if the archive is one file and the collector began with it
 abbrev pub stateOf : Kept → State
 stateOf k = record { lines = lines k; limit = maxBlocks; had = had k; last = k .last; image = k .image }
 
--- what the model asks of a state before a start: the rows that it counts, a copy of the last block as the tool writes
--- it, and room for them in a file
+-- what the model needs of a state before a start: the number of rows that it counts, a copy of the last block as the
+-- tool writes it, and room for the rows in a file
 pub record IsModelled (k : Kept) : Type 0 where
   pub rows : counted (stateOf k) ≡ had k + imageRows (k .image)
   pub copied : IsCopied (stateOf k)
   pub room : usedBlocks (stateOf k) ≤ maxBlocks
 
--- State modelled: a lawful state is such a one.
+-- State modelled: this holds for a lawful state whose archive is one file with which the collector began.
 abbrev pub StateModelled : Type 0
 StateModelled =
     (k : Kept) → length (k .last) ≡ blockLength → lawful k ≡ true → (nameLength k ≡ 0 → ⊥) → began k ≡ 0 → IsModelled k

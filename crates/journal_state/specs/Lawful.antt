@@ -1,4 +1,4 @@
--- What a state must fulfil, so that it is written and accepted.
+-- The conditions on a state that can be written and is accepted.
 use Prim.Native.Nat.{ℕ, _+_, _-_, _/_, _%_, min}
 use mathlib.Core.Bool.{Bool, true, cond, _&&_}
 use mathlib.Core.List.{List}
@@ -11,24 +11,24 @@ use Rattle.archive_model.specs.Row.{blockNumber, rowCount, isSound, isBlank}
 use Rattle.archive_model.specs.Buffer.{maxRows}
 use Rattle.journal_state.specs.State.{Kept, nth, began, had, fileNumber, nameLength, logged, offset, tailLength, printed, maxName, maxTail, oldLength, versionOf, stateBytes, readState}
 
--- rows that an image counts, KEPT and LOOSE
+-- how many rows an image counts, KEPT and LOOSE
 unfoldable pub imageRows : List ℕ → ℕ
 imageRows image = totalsIn image .kept + totalsIn image .loose
 
--- the block with the last of so many rows of a file
+-- the block with the last of `rows` rows of a file
 unfoldable pub isLastOf : ℕ → List ℕ → Bool
 isLastOf rows block =
     cond (eqb rows 0) (isBlank block)
     (isSound block
     && (eqb (blockNumber block) ((rows - 1) / cellsPerBlock) && eqb (rowCount block) ((rows - 1) % cellsPerBlock + 1)))
 
--- a file of the archive, of whose rows the collector, which counts so many, gave those since it began
+-- the file of the archive: of its rows, the collector gave as many as it has counted since the file began
 unfoldable pub isFile : Kept → ℕ → Bool
 isFile k counted =
     leb (began k) counted
     && (leb (had k + (counted - began k)) maxRows && isLastOf (had k + (counted - began k)) (k .last))
 
--- its name, with zeros behind; without one there is no archive
+-- the name of the archive, filled with zeros; without a name there is no archive
 unfoldable pub isAttached : Kept → ℕ → Bool
 isAttached k counted =
     leb (nameLength k) maxName
@@ -37,7 +37,7 @@ isAttached k counted =
     (eqb (began k) 0 && eqb (had k) 0 && eqb (fileNumber k) 0 && isBlank (k .last))
     (isFile k counted))
 
--- the log's last bytes: as many as there are before the offset, and at most 512
+-- the last bytes of the log before the offset: 512 of them, or all if there are fewer
 unfoldable pub isPlaced : Kept → Bool
 isPlaced k =
     leb (tailLength k) maxTail
@@ -52,14 +52,14 @@ isPrinted k =
 unfoldable pub lawful : Kept → Bool
 lawful k = accepts (k .image) && (isAttached k (imageRows (k .image)) && (isPlaced k && isPrinted k))
 
--- what version 1 can say: nothing of the log's place and of a file for rows
+-- a state that version 1 can hold: without a position in the log, and without a file for rows
 unfoldable pub isPlain : Kept → Bool
 isPlain k =
     eqb (nth k 5) 0 && eqb (nth k 6) 0 && eqb (nth k 7) 0 && eqb (nth k 8) 0 && eqb (nth k 9) 0 && eqb (nth k 10) 0
     && eqb (nth k 11) 0 && eqb (nth k 12) 0
     && eqb (nth k 13) 0
 
--- accepted is a file of either length that is byte for byte what is written of the lawful state that it says
+-- a file is accepted if it has one of the two lengths and is byte for byte what is written for the lawful state in it
 unfoldable pub acceptsState : List ℕ → Bool
 acceptsState bytes =
     let k = readState bytes in

@@ -1,4 +1,4 @@
--- What private functions say. No public contract cites these.
+-- What the contracts of private functions say. No public contract cites these.
 use Prim.Native.Nat.{ℕ}
 use mathlib.Core.Path.{_≡_}
 use mathlib.Core.List.{List, [], _∷_, _++_}

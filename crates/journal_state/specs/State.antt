@@ -11,9 +11,8 @@ use Rattle.block_layout.specs.BigEndian.{be, unbe}
 use Rattle.block_layout.specs.Block.{bodyLength, blockLength, sealed}
 use Rattle.collector_model.specs.Image.{imageLength}
 
--- what a state file keeps: fourteen numbers; the archive's name, zeros behind it; a copy of its block with the last
--- row; the collector's image; the log's
--- last bytes, zeros behind them
+-- what a state file keeps: fourteen numbers; the archive's name, filled with zeros; a copy of its block with the last
+-- row; the collector's image; the last bytes of the log, filled with zeros
 pub record Kept : Type 0 where
   pub numbers : List ℕ
   pub name : List ℕ
@@ -30,12 +29,12 @@ module _ (k : Kept) where
   abbrev pub nth : ℕ → ℕ
   nth i = getD (k .numbers) i 0
 
-  -- lines of the log that were taken
+  -- how many lines of the log were taken
   abbrev pub lines : ℕ
   lines = nth 0
 
-  -- rows that the collector had counted when the archive's file began, rows that the file had then, and the file's
-  -- number
+  -- how many rows the collector had counted when the archive's file began, how many rows the file had then, and the
+  -- number of the file
   abbrev pub began : ℕ
   began = nth 1
 
@@ -48,7 +47,7 @@ module _ (k : Kept) where
   abbrev pub nameLength : ℕ
   nameLength = nth 4
 
-  -- 1 where the place in the log is known: its offset, device and inode, and how many of its bytes before the offset
+  -- 1 if the position in the log is known: its offset, device and inode, and how many of the bytes before the offset
   -- are kept
   abbrev pub logged : ℕ
   logged = nth 5
@@ -59,7 +58,7 @@ module _ (k : Kept) where
   abbrev pub tailLength : ℕ
   tailLength = nth 9
 
-  -- 1 where rows go to a file too: its length, device and inode
+  -- 1 if rows are also written to a file: its length, device and inode
   abbrev pub printed : ℕ
   printed = nth 10
 
@@ -132,7 +131,7 @@ numbersIn bytes =
     ∷ unbe (part 340 8 bytes)
     ∷ []
 
--- what a file says, right or not
+-- the state in a file, lawful or not
 abbrev pub readState : List ℕ → Kept
 readState bytes =
     kept (numbersIn bytes) (part 41 maxName bytes) (part blockLength blockLength bytes) (part 1024 imageLength bytes)

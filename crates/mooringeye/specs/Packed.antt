@@ -7,11 +7,11 @@ use Rattle.plan_site.specs.Site as site
 abbrev pub answer : ℕ → SlotPlan → Answer
 answer n p = record { number = n; slots = p }
 
--- its number and its slots in order, a byte each from the highest
+-- an answer in one number: from the highest byte on, its number and its three slots
 abbrev pub packed : Answer → ℕ
 packed a = a .number * 16_777_216 + a .slots .first * 65_536 + a .slots .second * 256 + a .slots .third
 
--- the answer for a site: its number, and a byte for each repeater that it names
+-- the answer for a site in one number: its number, and a byte for each repeater that it names
 abbrev pub packedSite : site.Answer → ℕ
 packedSite a = a .number * 65_536 + a .repeater * 256 + a .other
 
