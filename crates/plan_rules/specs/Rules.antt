@@ -25,11 +25,11 @@ compressedRanges = compressedRow ∷ compressedRow ∷ (none ∷ none ∷ none �
 abbrev pub pausedRanges : List (List SlotRange)
 pausedRanges = (range 0 0 ∷ range 0 39 ∷ range 0 39 ∷ []) ∷ getD standardRanges 1 [] ∷ getD standardRanges 2 [] ∷ []
 
--- the ranges of a rule at a level sent
+-- the ranges of a rule, for the level that is sent
 abbrev pub rangesOf : ℕ → ℕ → List SlotRange
 rangesOf rule level = getD (getD (standardRanges ∷ compressedRanges ∷ pausedRanges ∷ []) rule []) level []
 
--- "the second starts at least 12 ms after the first ends", at level 0 alone
+-- "the second starts at least 12 ms after the first ends", only at level 0
 abbrev pub pauseOf : ℕ → ℕ → ℕ
 pauseOf rule level = getD (getD ((0 ∷ 0 ∷ 0 ∷ []) ∷ (0 ∷ 0 ∷ 0 ∷ []) ∷ (12_000 ∷ 0 ∷ 0 ∷ []) ∷ []) rule []) level 0
 
@@ -39,7 +39,7 @@ lastEndOf rule = getD (40_000 ∷ 50_000 ∷ 40_000 ∷ []) rule 0
 
 -- ---- how many transmissions
 
--- from so many to so many may be asked for
+-- a call may request from a to b transmissions
 abbrev pub offer : ℕ → ℕ → Offer
 offer a b = record { fewest = a; most = b }
 
@@ -58,18 +58,18 @@ offerOf rule level = getD (getD offers rule []) level (offer 0 0)
 abbrev pub isKnown : ℕ → ℕ → Bool
 isKnown rule level = leb rule 2 && isLevel level
 
--- the same, as what the lookups ask for
+-- the same as propositions, which the lookups need
 pub record IsKnown (rule level : ℕ) : Type 0 where
   pub rule-known : rule ≤ 2
   pub level-known : level ≤ 2
 
--- so many transmissions may be asked for
+-- a call may request n transmissions
 abbrev pub isOffered : ℕ → ℕ → ℕ → Bool
 isOffered rule level n = leb (offerOf rule level .fewest) n && leb n (offerOf rule level .most)
 
 -- ---- plans
 
--- the rule for so many transmissions: with two there is no third
+-- the rule for n transmissions: with two, there is no third
 abbrev pub ruleOf : ℕ → ℕ → ℕ → Rule
 ruleOf rule level n =
     let rs = rangesOf rule level in
@@ -79,7 +79,7 @@ ruleOf rule level n =
       end = lastEndOf rule;
     }
 
--- a duration 1 to 65,535, and a rule, a level and a number of transmissions that there is
+-- a duration of 1 to 65,535, and a rule, a level and a number of transmissions that exist
 abbrev pub isAllowed : ℕ → ℕ → ℕ → ℕ → Bool
 isAllowed rule level n d = isDuration d && (isKnown rule level && isOffered rule level n)
 
@@ -89,14 +89,14 @@ planBy rule level n d draw =
     cond (not (isAllowed rule level n d)) (noPlan Argument)
     (drawn (plans (ruleOf rule level n) d) draw)
 
--- two where the third slot reads 255
+-- two if the third slot is 255, else three
 abbrev pub transmissionsOf : SlotPlan → ℕ
 transmissionsOf p = cond (eqb (p .third) noSlot) 2 3
 
--- lawful under a rule that has n transmissions at this level
+-- lawful under a rule, which must offer n transmissions at this level
 abbrev pub isLawfulOf : ℕ → ℕ → ℕ → ℕ → SlotPlan → Bool
 isLawfulOf n rule level d p = isOffered rule level n && lawful (ruleOf rule level n) d p
 
--- the same for the transmissions that the plan has, and a duration 1 to 65,535
+-- the same for the number of transmissions of the plan, and a duration of 1 to 65,535
 unfoldable pub isLawfulBy : ℕ → ℕ → ℕ → SlotPlan → Bool
 isLawfulBy rule level d p = isDuration d && (isKnown rule level && isLawfulOf (transmissionsOf p) rule level d p)

@@ -1,5 +1,5 @@
--- The repeaters of a site as bytes, nine for each: rule, level, duration in four from the highest, first, second and third slot. A layout of
--- this house, for callers in C.
+-- The repeaters of a site as bytes, for callers in C. Each has nine bytes: rule, level, duration in four bytes from the
+-- highest on, first, second and third slot. The papers do not define this layout.
 use mathlib.Core.Bool.{cond}
 use mathlib.Core.List.{List, map}
 use Prim.Native.Nat.{ℕ, _+_, _*_, _/_, _%_, _≤_, min}
@@ -12,7 +12,7 @@ use Rattle.plan_slots.specs.Plan.{plan}
 use Rattle.plan_site.specs.declared.Assignment.{Assignment}
 use Rattle.plan_site.specs.Site.{maxRepeaters, Answer, answer, siteOf}
 
--- the bytes of one repeater
+-- the number of bytes of one repeater
 abbrev pub size : ℕ
 size = 9
 
@@ -24,22 +24,22 @@ assignmentOf b = record {
   slots = plan (getD b 6 0) (getD b 7 0) (getD b 8 0);
 }
 
--- repeater i has the bytes from 9 i on
+-- repeater i: its bytes begin at 9 * i
 abbrev pub assignmentAt : List ℕ → ℕ → Assignment
 assignmentAt s i = assignmentOf (take size (drop (size * i) s))
 
--- as many as are whole, and at most 32
+-- how many whole repeaters there are, at most 32
 abbrev pub countIn : List ℕ → ℕ
 countIn s = min (length s / size) maxRepeaters
 
 abbrev pub assignmentsIn : List ℕ → List Assignment
 assignmentsIn s = map (assignmentAt s) (upFrom 0 (countIn s))
 
--- so many repeaters, at most 32, are in these bytes
+-- these bytes have at least `count` repeaters, and count is at most 32
 pub record Holds (count : ℕ) (s : List ℕ) : Type 0 where
   pub few : count ≤ maxRepeaters
   pub whole : size * count ≤ length s
 
--- 10 also where the bytes are no whole repeaters
+-- also 10 if the bytes are not whole repeaters
 abbrev pub siteIn : List ℕ → Answer
 siteIn s = cond (eqb (length s % size) 0) (siteOf (length s / size) (assignmentsIn s)) (answer (numberOf Argument) 0 0)

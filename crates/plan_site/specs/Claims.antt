@@ -1,4 +1,4 @@
--- What the check of a site is claimed to say (document 02, A14): proofs/Accepts.antt and proofs/Named.antt have the theorems.
+-- The claims on the check of a site (document 02, A14). proofs/Accepts.antt and proofs/Named.antt prove them.
 use mathlib.Core.Path.{_≡_}
 use mathlib.Core.Bool.{Bool, true, false, not}
 use mathlib.Core.List.{List, _∷_, flatMap}
@@ -21,7 +21,7 @@ pub record InRange (count : ℕ) (repeaters : List Assignment) : Type 0 where
   pub few : count ≤ maxRepeaters
   pub known : all isInRange (take count repeaters) ≡ true
 
--- every plan is lawful, and no two transmissions on the site overlap, those of one repeater included
+-- every plan is lawful, and no two transmissions on the site overlap, also not two of one repeater
 pub record Fits (count : ℕ) (repeaters : List Assignment) : Type 0 where
   pub in-range : InRange count repeaters
   pub lawful : all hasLawfulPlan (take count repeaters) ≡ true
@@ -57,14 +57,14 @@ module _ (count : ℕ) (repeaters : List Assignment) where
     pub no-smaller-first : (k l : ℕ) → k < i → k < l → l < size → clash (at k) (at l) ≡ false
     pub no-smaller-second : (l : ℕ) → i < l → l < j → clash (at i) (at l) ≡ false
 
-  -- 18 names the first unlawful one, and 19 the first pair
+  -- 18 names the first unlawful repeater, and 19 the first pair
   pub record NamesTheFirst : Type 0 where
     pub unlawful : (i : ℕ) → FirstUnlawful i → siteOf count repeaters ≡ answer (numberOf refusal.Unlawful) i 0
     pub is-unlawful : (i : ℕ) → siteOf count repeaters ≡ answer (numberOf refusal.Unlawful) i 0 → FirstUnlawful i
     pub overlap : (i j : ℕ) → FirstOverlap i j → siteOf count repeaters ≡ answer (numberOf refusal.Overlap) i j
     pub is-overlap : (i j : ℕ) → siteOf count repeaters ≡ answer (numberOf refusal.Overlap) i j → FirstOverlap i j
 
--- the plan that a draw picks is a site of one repeater
+-- a site of one repeater with a plan that a draw picked is accepted
 abbrev pub DrawnAccepted : Type 0
 DrawnAccepted =
     (rule level n d draw : ℕ) (p : SlotPlan) (rest : List Assignment) → planBy rule level n d draw ≡ planned p

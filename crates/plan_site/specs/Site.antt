@@ -1,4 +1,5 @@
--- The slot plans of a whole site (document 02, A14): what each repeater sends, when two of them clash, and the answer of the check.
+-- The slot plans of a whole site (document 02, A14): what each repeater sends, when two of them overlap, and the answer
+-- of the check.
 use mathlib.Core.Bool.{Bool, cond, not, _&&_, _||_}
 use mathlib.Core.List.{List, [], _∷_}
 use Prim.Native.Nat.{ℕ, suc, _+_}
@@ -24,13 +25,13 @@ maxRepeaters = 32
 abbrev pub isInRange : Assignment → Bool
 isInRange a = isKnown (a .rule) (a .level) && isDuration (a .duration)
 
--- "lawful under its named rule", any slot number included
+-- "lawful under its named rule", for any slot number
 abbrev pub hasLawfulPlan : Assignment → Bool
 hasLawfulPlan a = isLawfulBy (a .rule) (a .level) (a .duration) (a .slots)
 
 -- ---- transmissions
 
--- on the air from the start of its slot for its duration
+-- a transmission is on the air from the start of its slot for its duration
 pub record Transmission : Type 0 where
   pub slot : ℕ
   pub duration : ℕ
@@ -56,13 +57,13 @@ overlap t u =
     ltb (startOf (t .slot)) (endOf (u .duration) (u .slot))
     && ltb (startOf (u .slot)) (endOf (t .duration) (t .slot))
 
--- a transmission of the one overlaps with one of the other
+-- a transmission of a overlaps with a transmission of b
 unfoldable pub clash : Assignment → Assignment → Bool
 clash a b = any (λ t. any (overlap t) (sentBy b)) (sentBy a)
 
 -- ---- the answer
 
--- what a caller sees: the number, and the repeaters that it names, counted from 0; zero where it names none
+-- what a caller sees: the number, and the repeaters that it names, counted from 0; 0 if it names none
 pub record Answer : Type 0 where
   pub number : ℕ
   pub repeater : ℕ
@@ -77,14 +78,16 @@ verdictOf OutOfRange = answer (numberOf refusal.Argument) 0 0
 verdictOf (Unlawful i) = answer (numberOf refusal.Unlawful) i 0
 verdictOf (Overlap i j) = answer (numberOf refusal.Overlap) i j
 
--- "the overlapping pair with the smallest first .., then the smallest second"; i is the index of the first of these repeaters
+-- "the overlapping pair with the smallest first .., then the smallest second"; i is the index of the first repeater in
+-- the list
 abbrev pub pairOf : ℕ → List Assignment → Answer
 pairOf i [] = answer 0 0 0
 pairOf i (a ∷ l) =
     cond (any (clash a) l) (answer (numberOf refusal.Overlap) i (suc i + firstOf (clash a) l))
     (pairOf (suc i) l)
 
--- so many repeaters: "10 .. for more than 32 .. or a rule, level or duration out of range; then 18 ..; then 19"
+-- the first `count` repeaters: "10 .. for more than 32 .. or a rule, level or duration out of range; then 18 ..; then
+-- 19"
 unfoldable pub siteOf : ℕ → List Assignment → Answer
 siteOf count repeaters =
     let l = take count repeaters in
@@ -92,6 +95,6 @@ siteOf count repeaters =
     (cond (not (all hasLawfulPlan l)) (answer (numberOf refusal.Unlawful) (firstOf (λ a. not (hasLawfulPlan a)) l) 0)
     (pairOf 0 l))
 
--- all zero: what stands for a repeater past the end of a list
+-- all zero: the value for a repeater after the end of a list
 abbrev pub noAssignment : Assignment
 noAssignment = record { rule = 0; level = 0; duration = 0; slots = plan 0 0 0 }

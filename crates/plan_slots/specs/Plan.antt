@@ -1,5 +1,5 @@
--- Slot plans (document 01, "Slot plan"): the rule of a level, when a plan is lawful, all lawful plans in order, and the plan that a draw
--- picks.
+-- Slot plans (document 01, "Slot plan"): the rule of a level, when a plan is lawful, all lawful plans in order, and the
+-- plan that a draw picks.
 use mathlib.Core.Bool.{Bool, true, not, cond, _&&_}
 use mathlib.Core.List.{List, [], _∷_, map, flatMap}
 use Prim.Native.Nat.{ℕ, _+_, _-_, _*_, _%_}
@@ -20,11 +20,11 @@ use Rattle.plan_slots.specs.declared.Planned.the-variants.{Slots, Refuse
 abbrev pub range : ℕ → ℕ → SlotRange
 range a b = record { first = a; last = b }
 
--- the range of no transmission
+-- the range of a transmission that there is not: it is empty
 abbrev pub none : SlotRange
 none = range 1 0
 
--- the table of ranges: by level sent, then transmission
+-- the table of ranges: by the level that is sent, then by transmission
 abbrev pub standardRanges : List (List SlotRange)
 standardRanges =
     (range 0 0 ∷ range 1 9 ∷ range 20 39 ∷ [])
@@ -32,7 +32,7 @@ standardRanges =
     ∷ (range 0 9 ∷ range 20 29 ∷ none ∷ [])
     ∷ []
 
--- the rule of a level sent: no pause before the second transmission, and the last end at 40,000 microseconds
+-- the rule of a level that is sent: no pause before the second transmission, and the last end at 40,000 microseconds
 abbrev pub standardRule : ℕ → Rule
 standardRule level = record { ranges = getD standardRanges level []; pause = 0; end = 40_000 }
 
@@ -40,7 +40,7 @@ standardRule level = record { ranges = getD standardRanges level []; pause = 0; 
 abbrev pub rangeAt : Rule → ℕ → SlotRange
 rangeAt r transmission = getD (r .ranges) transmission (range 0 0)
 
--- a range is empty where its first slot is above its last
+-- a range is empty if its first slot is above its last
 abbrev pub empty : SlotRange → Bool
 empty s = ltb (s .last) (s .first)
 
@@ -52,7 +52,7 @@ within s n = leb (s .first) n && leb n (s .last)
 abbrev pub plan : ℕ → ℕ → ℕ → SlotPlan
 plan a b c = record { first = a; second = b; third = c }
 
--- what the third slot reads where there is no third transmission
+-- the third slot of a plan without a third transmission
 abbrev pub noSlot : ℕ
 noSlot = 255
 
@@ -67,14 +67,14 @@ endOf d n = startOf n + d
 abbrev pub isOfTwo : Rule → Bool
 isOfTwo r = empty (rangeAt r 2)
 
--- each slot is in the range of its transmission; a third one that is not sent reads 255
+-- each slot is in the range of its transmission; without a third transmission, the third slot is 255
 abbrev pub isInRange : Rule → SlotPlan → Bool
 isInRange r p =
     within (rangeAt r 0) (p .first)
     && (within (rangeAt r 1) (p .second)
     && cond (isOfTwo r) (eqb (p .third) noSlot) (within (rangeAt r 2) (p .third)))
 
--- no transmission starts before the one before it has ended, nor the second before the pause is over
+-- no transmission starts before the one before it has ended, and the second does not start before the pause is over
 abbrev pub isInOrder : Rule → ℕ → SlotPlan → Bool
 isInOrder r d p =
     leb (endOf d (p .first) + r .pause) (startOf (p .second))
@@ -93,7 +93,7 @@ lawful r d p = isInRange r p && (isInOrder r d p && isInTime r d p)
 abbrev pub slotsIn : SlotRange → List ℕ
 slotsIn s = upFrom (s .first) (s .last + 1 - s .first)
 
--- what a third slot can read
+-- the values that a third slot can have
 abbrev pub thirdSlots : Rule → List ℕ
 thirdSlots r = cond (empty (rangeAt r 2)) (noSlot ∷ []) (slotsIn (rangeAt r 2))
 
@@ -103,7 +103,7 @@ unfolding flatMap
 candidates r =
     flatMap (λ a. flatMap (λ b. map (plan a b) (thirdSlots r)) (slotsIn (rangeAt r 1))) (slotsIn (rangeAt r 0))
 
--- the lawful plans under a rule at a duration, in order
+-- the lawful plans under a rule, for a duration, in order
 unfoldable pub plans : Rule → ℕ → List SlotPlan
 plans r d = keep (lawful r d) (candidates r)
 
@@ -114,7 +114,7 @@ pub record Answer : Type 0 where
   pub number : ℕ
   pub slots : SlotPlan
 
--- beside a refusal the slots are zero
+-- a refusal: the slots are zero
 abbrev pub noPlan : Refusal → Answer
 noPlan e = record { number = numberOf e; slots = plan 0 0 0 }
 
@@ -125,7 +125,7 @@ abbrev pub answerOf : Planned → Answer
 answerOf (Slots p) = planned p
 answerOf (Refused e) = noPlan e
 
--- of N plans the one with index draw mod N, counted from 0; 9 where N = 0
+-- of N plans, the one with index draw mod N, counted from 0; 9 if N = 0
 unfoldable pub drawn : List SlotPlan → ℕ → Answer
 drawn ps draw =
     cond (eqb (length ps) 0) (noPlan NoPlan)

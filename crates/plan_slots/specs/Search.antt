@@ -1,4 +1,4 @@
--- What the search inside the crate finds: the contracts of its private functions cite these, and no public contract does.
+-- What the search inside the crate finds, for the contracts of its private functions. No public contract cites these.
 use mathlib.Core.Path.{_≡_}
 use mathlib.Core.Bool.{Bool, cond, _&&_}
 use mathlib.Core.List.{List, [], map, flatMap}
@@ -15,7 +15,7 @@ use Rattle.plan_slots.specs.Plan.{plan, within, noSlot, startOf, endOf, 
 
 -- ---- a lawful plan, slot by slot
 
--- slot b starts when slot a has ended and the pause is over
+-- slot b starts after slot a has ended and the pause is over
 abbrev pub secondFollows : Rule → ℕ → ℕ → ℕ → Bool
 secondFollows r d a b = leb (endOf d a + r .pause) (startOf b)
 
@@ -23,7 +23,8 @@ secondFollows r d a b = leb (endOf d a + r .pause) (startOf b)
 abbrev pub fits : SlotRange → ℕ → ℕ → ℕ → ℕ → Bool
 fits s d from end c = within s c && (leb from (startOf c) && leb (endOf d c) end)
 
--- slot c is in the third range, starts when slot b has ended, and ends in time; where that range is empty, slot b ends in time
+-- slot c is in the third range, starts after slot b has ended, and ends in time; if that range is empty, slot b ends in
+-- time
 unfoldable pub thirdFollows : Rule → ℕ → ℕ → ℕ → Bool
 thirdFollows r d b c =
     cond (isOfTwo r)
@@ -40,7 +41,7 @@ passes r d p =
 
 -- ---- what the search finds
 
--- the plan at index k of a list, or the length of a list that is too short
+-- the plan at index k of a list, or the length of the list if it is too short
 unfoldable pub lookupOf : List SlotPlan → ℕ → Lookup
 lookupOf ps k = cond (ltb k (length ps)) (Found (getD ps k (plan 0 0 0))) (Counted (length ps))
 

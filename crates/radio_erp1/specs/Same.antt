@@ -8,7 +8,8 @@ use Rattle.base_lists.specs.Lists.{equal}
 use Rattle.radio_erp1.specs.Status.{upperOf}
 use Rattle.radio_erp1.specs.Subtelegram.{statusOf, beforeStatus}
 
--- equal length, and equal in every byte except HASH and the level: every byte before STATUS, and all of STATUS but the level
+-- equal length, and equal in every byte except HASH and the level: every byte before STATUS, and STATUS without its
+-- level
 unfoldable pub isSame : List ℕ → List ℕ → Bool
 isSame a b =
     eqb (length a) (length b)

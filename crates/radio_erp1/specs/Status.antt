@@ -8,10 +8,10 @@ use Rattle.radio_erp1.specs.declared.status.Status.{Status}
 abbrev pub splitOf : ℕ → Status
 splitOf b = record { level = b % 16; flags = b / 16 % 8; crc = eqb (b / 128) 1 }
 
--- the byte with these parts, which undoes the split
+-- the byte with these parts
 abbrev pub joinOf : Status → ℕ
 joinOf s = cond (s .crc) (128 + (s .flags % 8 * 16 + s .level % 16)) (s .flags % 8 * 16 + s .level % 16)
 
--- all bits but the level
+-- STATUS without the level
 abbrev pub upperOf : ℕ → ℕ
 upperOf b = b / 16

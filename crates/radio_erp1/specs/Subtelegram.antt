@@ -12,7 +12,7 @@ use Rattle.radio_erp1.specs.declared.Checked.{Checked}
 use Rattle.radio_erp1.specs.declared.Checked.the-variants.{Valid, Refused}
 use Rattle.radio_erp1.specs.Status.{splitOf}
 
--- the house limits: the whole length, and that of an addressed one
+-- the house limits: the length of a subtelegram, and of an addressed one
 abbrev pub minLength : ℕ
 minLength = 8
 
@@ -26,7 +26,7 @@ minAddressedLength = 13
 abbrev pub addressed : ℕ
 addressed = 0xA6
 
--- ---- the parts of a subtelegram: its body, all before HASH; HASH; and STATUS, the last byte of the body
+-- ---- the parts of a subtelegram: HASH; its body, which is all before HASH; and STATUS, the last byte of the body
 
 abbrev pub lastOf : List ℕ → ℕ
 lastOf s = getD s (length s - 1) 0
@@ -46,7 +46,7 @@ abbrev pub sumOf : List ℕ → ℕ
 sumOf [] = 0
 sumOf (b ∷ bs) = b + sumOf bs
 
--- STATUS bit 7 = 0: the sum, kept to eight bits; bit 7 = 1: the CRC
+-- STATUS bit 7 = 0: the low eight bits of the sum; bit 7 = 1: the CRC
 unfoldable pub hashOf : List ℕ → ℕ
 hashOf body = cond (splitOf (lastOf body) .crc) (crcOf body) (sumOf body % 256)
 
@@ -72,7 +72,7 @@ isNested s = eqb (getD s 1 0) addressed
 abbrev pub wrongHash : ℕ → Refusal
 wrongHash status = cond (splitOf status .crc) Crc Sum
 
--- document 01's number, in its order of tests; 0 is valid
+-- document 01's number, with the tests in its order; 0 means valid
 unfoldable pub checkOf : List ℕ → ℕ
 checkOf s =
     cond (isLengthWrong s) (numberOf Length)

@@ -1,4 +1,4 @@
--- What the private functions of the crate say: no public contract cites these.
+-- What the contracts of private functions say. No public contract cites these.
 use Prim.Native.Nat.{ℕ, _+_, _≤_}
 use mathlib.Core.Bool.{cond, not, _&&_, _||_}
 use mathlib.Core.List.{List, [], _∷_, _++_}
@@ -14,7 +14,7 @@ use Rattle.radio_erp2_model.specs.Header.{isReserved, headerByte, extensionByte
 use Rattle.radio_erp2_model.specs.Sizes.{overhead}
 use Rattle.radio_erp2_model.specs.Building.{isShortForm, isUnholdable, isAgainstHeader, isMisfitting, dataOf, rowBytes}
 
--- the refusals that do not look at the output (10, 14, 15); 0 for none
+-- the refusals that do not depend on the output (10, 14, 15); 0 if none fits
 unfoldable pub admissionOf : Telegram → ℕ
 admissionOf t =
     cond (isUnholdable t || isAgainstHeader t) (numberOf Argument)
@@ -22,7 +22,7 @@ admissionOf t =
     (cond (isMisfitting t) (numberOf Misfit)
     0))
 
--- the length byte and what stands before the IDs, the IDs, and the data: the bytes of a row in three parts
+-- the bytes of a row in three parts: the length byte and what comes before the IDs; the IDs; the data
 unfoldable pub headBytes : Telegram → Sizes → ℕ → List ℕ
 headBytes t z size =
     (size ∷ []) ++ be (z .header) (headerByte (t .header)) ++ be (z .extension) (extensionByte (t .extension))
@@ -34,16 +34,16 @@ idBytes t z = be (z .originator) (t .originator) ++ be (z .destination) (t .dest
 unfoldable pub dataBytes : Telegram → Sizes → List ℕ
 dataBytes t z = dataOf t ++ take (z .optional) (t .optional)
 
--- the CRC where there is one
+-- the CRC, if there is one
 abbrev pub sealBy : Sizes → List ℕ → List ℕ
 sealBy z body = cond (eqb (z .crc) 1) (crcOf body ∷ []) []
 
--- the length byte, the fields by their sizes, and the CRC where there is one
+-- the length byte, the fields by their sizes, and the CRC if there is one
 unfoldable pub rowWritten : Telegram → Sizes → List ℕ → List ℕ
 rowWritten t z output =
     ((overhead z + t .len) ∷ (rowBytes t z ++ sealBy z (rowBytes t z))) ++ drop (1 + overhead z + t .len) output
 
--- fields of these sizes fit a telegram, and an output of n bytes
+-- fields of these sizes fit into a telegram, and into an output of n bytes
 pub record Laid (t : Telegram) (z : Sizes) (n : ℕ) : Type 0 where
   pub size : overhead z + t .len ≤ 255
   pub room : 1 + overhead z + t .len ≤ n

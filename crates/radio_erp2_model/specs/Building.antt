@@ -14,18 +14,18 @@ use Rattle.radio_erp2_model.specs.declared.Telegram.{Telegram}
 use Rattle.radio_erp2_model.specs.Header.{headerByte, isReserved, isTypeExtended, isAddressed, extensionByte}
 use Rattle.radio_erp2_model.specs.Sizes.{maxShort, maxLength, shortSizes, longSizes, overhead}
 
--- a short form is named by its Length
+-- the Length of a short form is not 0; for a long form it is
 abbrev pub isShortForm : Telegram → Bool
 isShortForm t = not (eqb (t .short) 0)
 
 abbrev pub sizesFor : Telegram → Sizes
 sizesFor t = cond (isShortForm t) (shortSizes (t .short)) (longSizes (t .header) (t .extension .announced))
 
--- bytes of Data_PL
+-- the number of bytes of Data_PL
 unfoldable pub telegramSize : Telegram → ℕ
 telegramSize t = overhead (sizesFor t) + t .len
 
--- "a value its bits can't hold": what is not there has no bits
+-- "a value its bits can't hold": a field that is not present has no bits
 unfoldable pub isUnholdable : Telegram → Bool
 isUnholdable t =
     leb (256 ^ sizesFor t .originator) (t .originator)
@@ -38,14 +38,14 @@ isUnholdable t =
 abbrev pub differ : Bool → Bool → Bool
 differ a b = cond a (not b) b
 
--- "an optional field there or missing against the header"; a short form has no header, and so none of them
+-- "an optional field there or missing against the header"; a short form has no header, so it has no optional field
 unfoldable pub isAgainstHeader : Telegram → Bool
 isAgainstHeader t =
     differ (t .extension .present) (not (isShortForm t) && t .header .extended)
     || differ (t .subtype .present) (not (isShortForm t) && isTypeExtended (t .header))
     || differ (t .destination .present) (not (isShortForm t) && isAddressed (t .header))
 
--- "fields that don't fit the length": that of a short form is named, that of a long one is 7 to 255
+-- "fields that don't fit the length": a short form names its length; a long form has 7 to 255
 unfoldable pub isMisfitting : Telegram → Bool
 isMisfitting t =
     cond (isShortForm t) (not (eqb (telegramSize t) (t .short)))
@@ -81,7 +81,7 @@ sealOf t = cond (isShortForm t) [] (crcOf (bodyOf t) ∷ [])
 unfoldable pub erp2Bytes : Telegram → List ℕ
 erp2Bytes t = telegramSize t ∷ (bodyOf t ++ sealOf t)
 
--- ---- what building answers: the refusals of document 02, A4, in their order: 10, 14, 15, 6
+-- ---- the answer of building: the refusals of document 02, A4, in their order: 10, 14, 15, 6
 
 unfoldable pub buildOf : Telegram → List ℕ → Result
 buildOf t output =

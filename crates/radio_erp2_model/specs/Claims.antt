@@ -1,5 +1,5 @@
--- What is claimed of reading and building, for every list of bytes and every telegram (document 02, A4: "Both round trips hold, with the presence
--- of each optional field part of what was read"): proofs/Theorems.antt has the theorems.
+-- The claims on reading and building, for every list of bytes and every telegram (document 02, A4: "Both round trips
+-- hold, with the presence of each optional field part of what was read"). proofs/Theorems.antt proves them.
 use mathlib.Core.Path.{_≡_}
 use mathlib.Core.Bool.{true, false, cond}
 use mathlib.Core.List.{List, [], _∷_, map}
@@ -16,20 +16,21 @@ use Rattle.radio_erp2_model.specs.Building.{isShortForm, dataOf, optiona
 
 -- ---- the round trips
 
--- what is read builds the same bytes, into any output that is as long
+-- Build read: what is read builds the same bytes, into any output that is long enough.
 abbrev pub BuildRead : Type 0
 BuildRead =
     (s out : List ℕ) → Bytes s → readOf s .number ≡ 0 → length s ≤ length out
     → buildOf (readOf s .telegram) out ≡ written s out
 
--- the lengths of a telegram's arrays and the ranges of its numbers, as its type has them
+-- the lengths of a telegram's arrays and the ranges of its numbers, as its type gives them
 pub record Shaped (t : Telegram) : Type 0 where
   pub payload : length (t .payload) ≡ maxData
   pub optional : length (t .optional) ≡ maxOptional
   pub value : t .subtype .value < 256
   pub id : t .destination .id < 256 ^ 4
 
--- a telegram as its bytes say it: zeros past its data and optional data, for a field that is not there, and for the header of a short form
+-- a telegram with zeros for all that its bytes do not carry: after its data and optional data, for a field that is not
+-- present, and for the header of a short form
 abbrev pub normalOf : Telegram → Telegram
 normalOf t = record {
   short = t .short;
@@ -43,27 +44,28 @@ normalOf t = record {
   optional = padded maxOptional (optionalOf t);
 }
 
--- what is built reads back, the flag of each optional field included
+-- Read built: what is built reads back, with the flag of each optional field.
 abbrev pub ReadBuilt : Type 0
 ReadBuilt =
     (t : Telegram) → Shaped t → (out : List ℕ) → buildOf t out .number ≡ 0
     → readOf (resultBytes (buildOf t out)) ≡ record { number = 0; telegram = normalOf t }
 
--- what is read is as its bytes say it: so on what is read, reading and building are inverse to each other
+-- Normal read: what is read has these zeros. So for telegrams that are read, reading and building are inverse to each
+-- other.
 abbrev pub NormalRead : Type 0
 NormalRead = (s : List ℕ) → Bytes s → readOf s .number ≡ 0 → normalOf (readOf s .telegram) ≡ readOf s .telegram
 
--- ---- the tables of 004 as it prints them: the round trips alone would hold with others
+-- ---- the tables of 004 as it prints them: the round trips would also hold with other tables
 
--- bits of the Originator-ID, and of the data, of a short form
+-- how many bits the Originator-ID and the data of a short form have
 abbrev pub shortRow : ℕ → List ℕ
 shortRow l = 8 * shortSizes l .originator ∷ 8 * (l - overhead (shortSizes l)) ∷ []
 
--- bits of the Originator-ID, and of the Destination-ID, that a header byte announces
+-- how many bits the Originator-ID and the Destination-ID have, by the header byte
 abbrev pub idRow : ℕ → List ℕ
 idRow b = 8 * longSizes (headerOf b) 0 .originator ∷ 8 * longSizes (headerOf b) 0 .destination ∷ []
 
--- bits of the extended header, and of the extended telegram type, that a header byte announces
+-- how many bits the extended header and the extended telegram type have, by the header byte
 abbrev pub optionalRow : ℕ → List ℕ
 optionalRow b = 8 * longSizes (headerOf b) 0 .extension ∷ 8 * longSizes (headerOf b) 0 .subtype ∷ []
 

@@ -21,7 +21,7 @@ isReserved h = leb 4 (h .control)
 abbrev pub isTypeExtended : Header → Bool
 isTypeExtended h = eqb (h .kind) 15
 
--- address control 010: the one with a Destination-ID
+-- address control 010: the only one with a Destination-ID
 abbrev pub isAddressed : Header → Bool
 isAddressed h = eqb (h .control) 2
 

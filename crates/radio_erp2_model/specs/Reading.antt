@@ -21,7 +21,7 @@ use Rattle.radio_erp2_model.specs.declared.Reading.{Reading}
 use Rattle.radio_erp2_model.specs.Header.{headerOf, extensionOf, isReserved, isTypeExtended, isAddressed}
 use Rattle.radio_erp2_model.specs.Sizes.{maxShort, shortSizes, longSizes, overhead, extensionAt, subtypeAt, originatorAt, destinationAt, payloadAt}
 
--- the longest data, and the longest optional data, of any telegram
+-- the longest data and the longest optional data of any telegram
 abbrev pub maxData : ℕ
 maxData = 250
 
@@ -46,18 +46,18 @@ isShort s = leb (lengthByte s) maxShort
 abbrev pub isIntact : List ℕ → Bool
 isIntact s = eqb (getD s (lengthByte s) 0) (crcOf (part 1 (lengthByte s - 1) s))
 
--- the header of a long form is its first byte, and the extended header, where there is one, its second
+-- the header of a long form is its first byte; the extended header, if present, is its second
 abbrev pub headerIn : List ℕ → Header
 headerIn s = headerOf (getD s 1 0)
 
 abbrev pub sizesIn : List ℕ → Sizes
 sizesIn s = cond (isShort s) (shortSizes (lengthByte s)) (longSizes (headerIn s) (getD s 2 0 % 16))
 
--- "fields that don't fit the length": they leave no room for data, not even for none
+-- "fields that don't fit the length": the fields alone are longer than the telegram
 abbrev pub isOverrun : List ℕ → Bool
 isOverrun s = ltb (lengthByte s) (overhead (sizesIn s))
 
--- the refusals of document 02, A4, in their order: 1, and of a long form 13, 14, 15; 0 is read
+-- the refusals of document 02, A4, in their order: 1, and for a long form 13, 14, 15; 0 means read
 unfoldable pub checkOf : List ℕ → ℕ
 checkOf s =
     cond (isLengthWrong s) (numberOf Length)
@@ -69,7 +69,7 @@ checkOf s =
 
 -- ---- the fields
 
--- the fields of a list by their sizes, n bytes of data among them: a field of 0 bytes reads 0
+-- the fields of a list by their sizes, with n bytes of data; a field of 0 bytes reads as 0
 abbrev pub rowOf : List ℕ → Sizes → ℕ → ℕ → Telegram
 rowOf s z n short =
     let h = headerOf (unbe (part 1 (z .header) s)) in
@@ -86,11 +86,11 @@ rowOf s z n short =
       optional = padded maxOptional (part (payloadAt z + n) (z .optional) s);
     }
 
--- the fields of a list that fits: data is the rest
+-- the fields of a list in which they fit; the data is the rest
 unfoldable pub fieldsOf : List ℕ → Telegram
 fieldsOf s = rowOf s (sizesIn s) (lengthByte s - overhead (sizesIn s)) (cond (isShort s) (lengthByte s) 0)
 
--- ---- what is not there
+-- ---- fields that are not present
 
 abbrev pub noHeader : Header
 noHeader = record { control = 0; extended = false; kind = 0 }
@@ -104,7 +104,7 @@ noSubtype = record { present = false; value = 0 }
 abbrev pub noDestination : Destination
 noDestination = record { present = false; id = 0 }
 
--- beside a refusal all is zero
+-- with a refusal, everything is zero
 abbrev pub noTelegram : Telegram
 noTelegram = record {
   short = 0;
@@ -118,7 +118,7 @@ noTelegram = record {
   optional = replicate maxOptional 0;
 }
 
--- ---- what reading answers
+-- ---- the answer of reading
 
 -- the number, and the fields
 pub record Read : Type 0 where

@@ -1,5 +1,5 @@
--- How many bytes each field has, and where it starts (source document 004, figures 9 to 11). A field that is not there has 0 bytes, so that one
--- order of fields serves the short form and every long one.
+-- How many bytes each field has, and where it starts (source document 004, figures 9 to 11). A field that is not
+-- present has 0 bytes, so one order of fields is enough for the short form and for every long form.
 use Prim.Native.Nat.{ℕ, _+_}
 use mathlib.Core.Bool.{cond}
 use mathlib.Core.List.{List, [], _∷_}
@@ -8,24 +8,24 @@ use Rattle.radio_erp2_model.specs.declared.Header.{Header}
 use Rattle.radio_erp2_model.specs.declared.Sizes.{Sizes}
 use Rattle.radio_erp2_model.specs.Header.{isTypeExtended, isAddressed}
 
--- the longest Data_PL of a short form, and of any (4.4, and figure 6)
+-- the longest Data_PL of a short form, and of any telegram (4.4, and figure 6)
 abbrev pub maxShort : ℕ
 maxShort = 6
 
 abbrev pub maxLength : ℕ
 maxLength = 255
 
--- ---- bytes of each field but the data: `Sizes`
+-- ---- `Sizes`: the number of bytes of each field except the data
 
--- bytes of the Originator-ID of a short form, by Length (figure 9)
+-- the number of bytes of the Originator-ID of a short form, by Length (figure 9)
 abbrev pub shortOriginators : List ℕ
 shortOriginators = 0 ∷ 1 ∷ 1 ∷ 2 ∷ 3 ∷ 4 ∷ 4 ∷ []
 
--- and of a long form, by address control 000 to 011 (figure 11)
+-- the same for a long form, by address control 000 to 011 (figure 11)
 abbrev pub originators : List ℕ
 originators = 3 ∷ 4 ∷ 4 ∷ 6 ∷ []
 
--- a short form (figure 8), by its Length 1 to 6: an Originator-ID and data alone
+-- a short form (figure 8), by its Length 1 to 6: only an Originator-ID and data
 abbrev pub shortSizes : ℕ → Sizes
 shortSizes length = record {
   header = 0;
@@ -37,8 +37,8 @@ shortSizes length = record {
   crc = 0;
 }
 
--- a long form (figure 10), by its header and the length of optional data that an extended header announces; a reserved address control holds no
--- Originator-ID over 48 bits
+-- a long form (figure 10), by its header and the length of optional data in the extended header. For a reserved address
+-- control, the Originator-ID has at most 48 bits.
 abbrev pub longSizes : Header → ℕ → Sizes
 longSizes h announced = record {
   header = 1;
@@ -50,11 +50,11 @@ longSizes h announced = record {
   crc = 1;
 }
 
--- all of Data_PL but its data
+-- the length of Data_PL without its data
 abbrev pub overhead : Sizes → ℕ
 overhead z = z .header + z .extension + z .subtype + z .originator + z .destination + z .optional + z .crc
 
--- ---- where each field starts behind the length byte (figure 10): where the one before it ends
+-- ---- where each field starts after the length byte (figure 10): where the one before it ends
 
 abbrev pub extensionAt : Sizes → ℕ
 extensionAt z = 1 + z .header

@@ -1,5 +1,5 @@
--- The sameness rule in the order of document 02, A5: transmitter, type, plain or addressed and to whom, data with its length, the upper bits of
--- STATUS. Of valid subtelegrams it says what document 01's rule says (`isSame` of radio_erp1).
+-- The sameness rule in the order of document 02, A5: transmitter, type, plain or addressed and to whom, data with its
+-- length, the upper bits of STATUS. For valid subtelegrams it is document 01's rule (`isSame` of radio_erp1).
 use mathlib.Core.Path.{_≡_}
 use mathlib.Core.Bool.{Bool, true, cond, not, _&&_}
 use mathlib.Core.List.{List}
@@ -16,11 +16,11 @@ use Rattle.radio_telegram.specs.Fields.{fieldsOf, dataOf}
 abbrev pub isSameAddress : Telegram → Telegram → Bool
 isSameAddress a b = cond (a .addressed) (b .addressed && equal (a .destid) (b .destid)) (not (b .addressed))
 
--- as many bytes of DATA, and the same ones
+-- the same length of DATA, and the same bytes
 abbrev pub isSameData : Telegram → Telegram → Bool
 isSameData a b = eqb (a .len) (b .len) && equal (dataOf a) (dataOf b)
 
--- two telegrams, read in their fields, are the same
+-- two telegrams are the same, by their fields
 unfoldable pub isSameTelegram : Telegram → Telegram → Bool
 isSameTelegram a b =
     equal (a .txid) (b .txid)

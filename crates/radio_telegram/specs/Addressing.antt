@@ -10,7 +10,7 @@ use Rattle.radio_telegram.specs.declared.fields.Telegram.{Telegram}
 use Rattle.radio_telegram.specs.Output.{Result, refused, putOf}
 use Rattle.radio_telegram.specs.Fields.{fieldsOf, telegramBytes}
 
--- a telegram with another address, or none; all else is kept, STATUS too
+-- a telegram with another address, or with none; all else is unchanged, also STATUS
 abbrev pub withAddress : Telegram → Bool → List ℕ → Telegram
 withAddress t flag to = record {
   rorg = t .rorg;
@@ -32,18 +32,18 @@ unaddressed t = withAddress t false (replicate 4 0)
 abbrev pub encapsulated : List ℕ → List ℕ → List ℕ
 encapsulated s to = telegramBytes (addressedTo (fieldsOf s) to)
 
--- the bytes that s carries, as a plain telegram
+-- the plain telegram that s carries, as bytes
 abbrev pub decapsulated : List ℕ → List ℕ
 decapsulated s = telegramBytes (unaddressed (fieldsOf s))
 
--- encapsulating, in document 01's order: the check's own, 3, 5, 6
+-- encapsulating, with the refusals in document 01's order: the check's, 3, 5, 6
 unfoldable pub encapsulateOf : List ℕ → List ℕ → List ℕ → Result
 encapsulateOf s to output =
     cond (not (isValid s)) (refused (checkOf s) output)
     (cond (isAddressed s) (refused (numberOf Nested) output)
     (putOf (encapsulated s to) output))
 
--- removing, in document 01's order: the check's own, 4, 6
+-- removing, with the refusals in document 01's order: the check's, 4, 6
 unfoldable pub decapsulateOf : List ℕ → List ℕ → Result
 decapsulateOf s output =
     cond (not (isValid s)) (refused (checkOf s) output)

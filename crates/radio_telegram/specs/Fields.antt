@@ -1,4 +1,4 @@
--- The fields of a subtelegram: what reading answers, and what building writes (document 01, "Subtelegram").
+-- The fields of a subtelegram: the answer of reading, and the bytes of building (document 01, "Subtelegram").
 use Prim.Native.Nat.{ℕ, _-_, _≤_}
 use mathlib.Core.Path.{_≡_}
 use mathlib.Core.Bool.{Bool, true, false, cond, _||_}
@@ -51,7 +51,7 @@ addressedFields s = record {
 unfoldable pub fieldsOf : List ℕ → Telegram
 fieldsOf s = cond (isAddressed s) (addressedFields s) (plainFields s)
 
--- beside a refusal all is zero
+-- with a refusal, everything is zero
 abbrev pub noTelegram : Telegram
 noTelegram = record {
   rorg = 0;
@@ -79,7 +79,7 @@ readOf s = record { number = checkOf s; telegram = cond (isValid s) (fieldsOf s)
 abbrev pub dataOf : Telegram → List ℕ
 dataOf t = take (t .len) (t .payload)
 
--- what stands before DATA, and between DATA and STATUS
+-- what comes before DATA; and what comes between DATA and STATUS
 abbrev pub headOf : Telegram → List ℕ
 headOf t = cond (t .addressed) (addressed ∷ t .rorg ∷ []) (t .rorg ∷ [])
 
@@ -94,33 +94,33 @@ telegramBytes t = sealedOf (((headOf t ++ dataOf t) ++ idsOf t) ++ (t .status �
 unfoldable pub isUnbuildable : Telegram → Bool
 isUnbuildable t = ltb (t .len) 1 || ltb maxData (t .len) || eqb (t .rorg) addressed
 
--- building, in document 01's order: 10, 5, 6
+-- building, with the refusals in document 01's order: 10, 5, 6
 unfoldable pub buildOf : Telegram → List ℕ → Result
 buildOf t output = cond (isUnbuildable t) (refused (numberOf Argument) output) (putOf (telegramBytes t) output)
 
--- the refusals that do not look at the output (10, 5), which a private function tests; 0 for none
+-- the refusals that do not depend on the output (10, 5), which a private function tests; 0 if none fits
 unfoldable pub admissionOf : Telegram → ℕ
 admissionOf t =
     cond (isUnbuildable t) (numberOf Argument)
     (cond (ltb maxLength (length (telegramBytes t))) (numberOf TooLong)
     0)
 
--- what holds of a telegram that can be built
+-- what holds for a telegram that can be built
 pub record Buildable (t : Telegram) : Type 0 where
   pub low : 1 ≤ t .len
   pub high : t .len ≤ maxData
   pub inner : t .rorg ≡ addressed → ⊥
   pub fits : length (telegramBytes t) ≤ maxLength
 
--- ---- what the round trips speak of
+-- ---- for the round trips
 
--- the lengths of a telegram's arrays, as its type has them
+-- the lengths of a telegram's arrays, as its type gives them
 pub record Shaped (t : Telegram) : Type 0 where
   pub payload : length (t .payload) ≡ maxData
   pub destid : length (t .destid) ≡ 4
   pub txid : length (t .txid) ≡ 4
 
--- a telegram with zeros past its DATA, and for a DESTID that it does not have: what its bytes say of it
+-- a telegram with zeros for all that its bytes do not carry: after its DATA, and for a DESTID that is not present
 abbrev pub normalOf : Telegram → Telegram
 normalOf t = record {
   rorg = t .rorg;

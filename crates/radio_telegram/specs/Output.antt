@@ -1,4 +1,5 @@
--- What a call answers that writes a subtelegram into a lent output, and what the output then holds (document 01, "Numbers a caller sees").
+-- The answer of a call that writes a subtelegram into a lent output, and the output after it (document 01, "Numbers a
+-- caller sees").
 use Prim.Native.Nat.{ℕ}
 use mathlib.Core.Bool.{cond}
 use mathlib.Core.List.{List, _++_}
@@ -10,18 +11,18 @@ use Rattle.radio_erp1.specs.Subtelegram.{maxLength}
 use Rattle.radio_telegram.specs.declared.frame.Built.{Built}
 use Rattle.radio_telegram.specs.declared.frame.Built.the-variants.{Done, Refused}
 
--- the number, the length written, and every byte of the output at exit
+-- the number, the length written, and every byte of the output after the call
 pub record Result : Type 0 where
   pub number : ℕ
   pub len : ℕ
   pub output : List ℕ
 
--- the number and the length of each answer: the length is 0 beside a refusal
+-- the result of an answer; with a refusal the length is 0
 abbrev pub resultOf : Built → List ℕ → Result
 resultOf (Done n) output = record { number = 0; len = n; output = output }
 resultOf (Refused why) output = record { number = numberOf why; len = 0; output = output }
 
--- a refusal leaves nothing behind
+-- a refusal: the output is unchanged
 abbrev pub refused : ℕ → List ℕ → Result
 refused n output = record { number = n; len = 0; output = output }
 
@@ -29,7 +30,7 @@ refused n output = record { number = n; len = 0; output = output }
 abbrev pub written : List ℕ → List ℕ → Result
 written xs output = record { number = 0; len = length xs; output = xs ++ drop (length xs) output }
 
--- a subtelegram is put into an output: over 21 bytes (5), an output that is shorter (6)
+-- a subtelegram is put into an output: 5 if it has more than 21 bytes, 6 if the output is shorter
 unfoldable pub putOf : List ℕ → List ℕ → Result
 putOf xs output =
     cond (ltb maxLength (length xs)) (refused (numberOf TooLong) output)

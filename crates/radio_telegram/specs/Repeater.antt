@@ -23,11 +23,11 @@ levelOf s = splitOf (statusOf s) .level
 abbrev pub maxSetting : ℕ
 maxSetting = 2
 
--- "Set to 1 it repeats level 0; set to 2 it repeats levels 0 and 1"; else it repeats nothing
+-- "Set to 1 it repeats level 0; set to 2 it repeats levels 0 and 1"; with any other setting it repeats nothing
 abbrev pub repeats : ℕ → ℕ → Bool
 repeats setting level = eqb setting 1 && eqb level 0 || eqb setting 2 && leb level 1
 
--- the level raised by one, all else kept
+-- STATUS with the level raised by one
 abbrev pub raise : Status → Status
 raise s = record { level = s .level + 1; flags = s .flags; crc = s .crc }
 
@@ -35,11 +35,11 @@ raise s = record { level = s .level + 1; flags = s .flags; crc = s .crc }
 abbrev pub raisedOf : List ℕ → List ℕ
 raisedOf s = sealedOf (beforeStatus s ++ (joinOf (raise (splitOf (statusOf s))) ∷ []))
 
--- what a repeater with this setting sends for bytes that need no check: no bytes for nothing
+-- what a repeater with this setting sends for bytes that are not checked; no bytes mean that nothing is sent
 unfoldable pub relayOf : ℕ → List ℕ → List ℕ
 relayOf setting s = cond (not (isLengthWrong s) && repeats setting (levelOf s)) (raisedOf s) []
 
--- and for a reception, which must be valid
+-- what it sends for a reception, which must be valid
 unfoldable pub repeatOf : ℕ → List ℕ → List ℕ
 repeatOf setting s = cond (isValid s) (relayOf setting s) []
 
@@ -53,7 +53,7 @@ pub record RepeatResult : Type 0 where
 abbrev pub repeatedOf : Repeated → RepeatResult
 repeatedOf r = record { number = checkedNumber (r .answer); sent = r .sent }
 
--- nothing is sent
+-- a refusal: nothing is sent
 abbrev pub notRepeated : ℕ → RepeatResult
 notRepeated number = record { number = number; sent = frameOf [] }
 

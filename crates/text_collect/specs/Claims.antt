@@ -1,4 +1,4 @@
--- What is claimed of `collect`: proofs/Printed.antt has the theorem.
+-- The claims on `collect`. proofs/Printed.antt proves the first.
 use mathlib.Core.Path.{_≡_}
 use Prim.Native.Nat.{ℕ}
 use mathlib.Core.List.{List}
@@ -11,12 +11,13 @@ use Rattle.text_collect.specs.Session.{Receiver, modelCollector}
 use Rattle.text_collect.specs.Printed.{printedOf}
 use Rattle.text_collect.specs.Rows.{rowTimes, rowRecords, lineTicks}
 
--- THE CLAIM: for every input, cut into pieces anywhere, what the contracts of the program say is written for the pieces and at the end is what the
--- reference model says
+-- Collect prints (THE CLAIM): for every input, cut into pieces anywhere, the contracts of the program give for the
+-- pieces and the end what the reference model says
 abbrev pub CollectPrints : Type 0
 CollectPrints = (xs : List (List ℕ)) → piecesText (collect modelCollector) lineLimit starting xs ≡ printedOf (joined xs)
 
--- the times and the records of the rows that an archive keeps, and the count of lines, however the input is cut into pieces: those of its lines, one after the other
+-- Rows in pieces: however the input is cut into pieces, the times and the records of the rows for an archive, and the
+-- count of lines, are those of the whole input.
 abbrev pub RowsInPieces : Type 0
 RowsInPieces = (s : Phase Receiver) (xs : List (List ℕ))
     → (piecesText rowTimes lineLimit s xs ≡ outputOf rowTimes s (joined xs))

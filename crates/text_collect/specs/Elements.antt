@@ -9,7 +9,7 @@ use Rattle.text_program.specs.Buffer.{Fed}
 use Rattle.text_collect.specs.Printed.{receptionAt}
 use Rattle.text_collect.specs.Session.{Receiver, modelCollector}
 
--- a reception leaves what a step leaves, and a BAD line all as it was
+-- a reception leaves what a step leaves; a BAD line leaves everything unchanged
 abbrev pub columnsByLine : Receiver → Reading → Columns → Columns
 columnsByLine c (reception time bytes) a = columnsAfter (c .view) (receptionAt time bytes) a
 columnsByLine c bad a = a
@@ -35,6 +35,6 @@ lineColumns = record {
   end = λ h. [];
 }
 
--- the lines of a text make a' of the columns a
+-- the lines of a text change the columns a to a'
 abbrev pub ElementsAfter : Phase Receiver → Columns → List ℕ → Phase Receiver → Columns → Type 0
 ElementsAfter s a text s' a' = Fed lineColumns (held s a) text [] (held s' a') [] 0

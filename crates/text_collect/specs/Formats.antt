@@ -1,4 +1,4 @@
--- A run whose rows are printed in a format (docs/FORMATS.md, "Rows"), over the same lines as `collect`.
+-- A run that prints its rows in a format (docs/FORMATS.md, "Rows"), over the same lines as `collect`.
 use Prim.Native.Nat.{ℕ}
 use mathlib.Core.List.{List, []}
 use Rattle.radio_erp1.specs.Status.{splitOf}
@@ -18,8 +18,8 @@ use Rattle.text_program.specs.Collect.{Phase, starting, running, over, nextPhas
 use Rattle.text_collect.specs.Printed.{totalsLine}
 use Rattle.text_collect.specs.Session.{Receiver, modelCollector}
 
--- where a telegram came from, as reading answers it (document 01, "Subtelegram"); of a damaged one nothing is known,
--- and all is zero
+-- where a telegram came from, as reading answers it (document 01, "Subtelegram"); all zero for a damaged telegram, of
+-- which nothing is known
 unfoldable pub sourceOf : List ℕ → Source
 sourceOf bytes =
     let t = readOf bytes .telegram in
@@ -43,7 +43,7 @@ module _ (f : Format) where
   textIn (running c) l = lineIn c (lineReading l)
   textIn over l = []
 
--- the totals stand at the end of a text alone
+-- the totals are only at the end of the format text
 abbrev pub totalsIn : Format → Totals → List ℕ
 totalsIn Format.Text n = totalsLine n
 totalsIn Format.Csv n = []
@@ -54,10 +54,10 @@ endIn f starting = badIn f
 endIn f (running c) = totalsIn f (c .view .totals)
 endIn f over = []
 
--- the run: a program over the same lines as `collect`, so that what is known of texts in pieces holds of it
+-- the run: a program over the same lines as `collect`, so the claims on texts in pieces hold for it
 abbrev pub collectIn : Format → Program (Phase Receiver)
 collectIn f = record { next = nextPhase modelCollector; text = textIn f; end = endIn f }
 
--- no line's text is longer: a row of 64 bytes heard and 21 to send
+-- the text of a line is at most this long: a row of 64 bytes received and 21 to send
 abbrev pub longestLineIn : ℕ
 longestLineIn = longestRowIn longestNumber maxBytes maxLength

@@ -1,4 +1,4 @@
--- What the lines of a run close (`closings`), and lines taken with all that they give.
+-- What the lines of a run close (`closings`), and the lines of a call with all that they give.
 use mathlib.Core.Path.{_≡_}
 use mathlib.Core.Bool.{Bool, true, cond, not, _||_}
 use mathlib.Core.List.{List, []}
@@ -31,33 +31,34 @@ closedIn starting l = []
 closedIn (running c) l = closedByLine c (lineReading l)
 closedIn over l = []
 
--- a program over the same lines as `collect`, where it is asked for; else it writes nothing
+-- a program over the same lines as `collect`, which writes the closings if they are asked for, else nothing
 abbrev pub lineClosings : Bool → Program (Phase Receiver)
 lineClosings asked = record { next = nextPhase modelCollector; text = λ s l. cond asked (closedIn s l) []; end = λ s. [] }
 
--- ---- lines taken
+-- ---- the lines of a call
 
--- a buffer that has any length asks for closings
+-- a buffer whose length is not 0 asks for closings
 abbrev pub isAsked : List ℕ → Bool
 isAsked closed = not (eqb (length closed) 0)
 
--- what one line more may close fits behind so many bytes: 64 telegrams
+-- after this number of bytes, there is room for what one more line may close: 64 telegrams. Without a buffer, there
+-- always is.
 abbrev pub hasRoomBehind : (long bytes : ℕ) → Bool
 hasRoomBehind long bytes = eqb long 0 || leb (bytes + 2048) long
 
 abbrev pub hasRoom : (long count : ℕ) → Bool
 hasRoom long count = hasRoomBehind long (32 * count)
 
--- behind a text there is a place for a row, room for the longest text of a line, and room for what it may close
+-- after a text, there is an entry for a row, room for the longest text of a line, and room for what it may close
 pub record RoomyIn (f : Format) (s : Phase Receiver) (out moments closed text : List ℕ) : Type 0 where
   pub rows : givenBy rowTimes s text < length moments
   pub chars : givenBy (collectIn f) s text + longestLineIn ≤ length out
   pub closings : hasRoomBehind (length closed) (givenBy (lineClosings (isAsked closed)) s text) ≡ true
 
--- Whole lines of the input, of `used` characters, were taken from phase s on to s', and from the collector's columns a on to
--- a'. Their rows in the format stand at the front of the output, the times of the rows that an archive keeps, their records
--- and what the lines close at the front of the three other buffers. Before each line there was room; where fewer were taken
--- than may be, though there is room for a further one, no further line has ended.
+-- Whole lines of the input, `used` characters, were taken from phase s to s', and from the collector's columns a to a'.
+-- The front of the output has their rows in the format. The fronts of the other three buffers have the times of the
+-- rows for an archive, their records, and what the lines close. Before each line there was room. If fewer lines were
+-- taken than allowed, and there is room for one more, then no further line has ended.
 pub record HeardIn (f : Format) (s : Phase Receiver) (a : Columns) (input : List ℕ) (most : ℕ)
     (out moments rows closed out' moments' rows' closed' : List ℕ) (s' : Phase Receiver) (a' : Columns)
     (used written count lines closings : ℕ) : Type 0 where

@@ -1,5 +1,5 @@
--- What `collect` prints for an input, by the reference model (document 01, "Cases" and "One history, and the clerk who writes it down"; the
--- setting is the run's, document 02, A7).
+-- What `collect` prints for an input, by the reference model (document 01, "Cases" and "One history, and the clerk who
+-- writes it down"). The setting is that of the run (document 02, A7).
 use Prim.Native.Nat.{ℕ}
 use mathlib.Core.List.{List, [], _∷_, _++_}
 use lib.ListN.{take}
@@ -15,7 +15,7 @@ use Rattle.text_rows.specs.Text.{rowText, badText, totalsText}
 use Rattle.text_program.specs.Lines.{linesOf}
 use Rattle.text_program.specs.Chunks.{joined}
 
--- ---- what stands in a row and in the line of totals
+-- ---- the contents of a row and of the line of totals
 
 -- KEPT, COPY, LOOSE, or a refusal by its number
 abbrev pub printedRow : answer.Shown → Row
@@ -37,8 +37,8 @@ totalsLine n = totalsText (n .received) (n .kept) (n .copies) (n .loose) (n .dam
 abbrev pub receptionAt : (time : ℕ) (bytes : List ℕ) → Reception
 receptionAt time bytes = record { bytes = bytes; time = time }
 
--- the row of a line, where these receptions, newest first, were handed over before it: BAD, or what the reference model answers to it, with what
--- is sent at the setting
+-- the row of a line, after these receptions, newest first: BAD, or the answer of the reference model, with what is sent
+-- at the setting
 abbrev pub rowAfter : (setting : ℕ) → List Reception → Reading → List ℕ
 rowAfter setting past (reception time bytes) =
     let r = receptionAt time bytes in
@@ -46,7 +46,7 @@ rowAfter setting past (reception time bytes) =
     rowText time (printedRow a) (sentBytes (sentWith setting a r))
 rowAfter setting past bad = badText
 
--- the receptions handed over after it: a line that is BAD hands none over
+-- the receptions after a line; a BAD line hands none over
 abbrev pub pastAfterLine : List Reception → Reading → List Reception
 pastAfterLine past (reception time bytes) = receptionAt time bytes ∷ past
 pastAfterLine past bad = past
@@ -57,7 +57,7 @@ rowsAfter setting past [] = []
 rowsAfter setting past (l ∷ ls) =
     rowAfter setting past (lineReading l) ∷ rowsAfter setting (pastAfterLine past (lineReading l)) ls
 
--- the receptions handed over after lines
+-- the receptions after several lines
 unfoldable pub pastAfterLines : List Reception → List (List ℕ) → List Reception
 pastAfterLines past [] = past
 pastAfterLines past (l ∷ ls) = pastAfterLines (pastAfterLine past (lineReading l)) ls
@@ -67,7 +67,7 @@ abbrev pub printedWith : Setting → List (List ℕ) → List ℕ
 printedWith (Setting.Level n) ls = joined (rowsAfter n [] ls) ++ totalsLine (totalsOf (logOf (pastAfterLines [] ls)))
 printedWith Setting.Bad ls = badText
 
--- the same for a first line that is missing
+-- the same, also if there is no first line
 abbrev pub printedFor : List (List ℕ) → List ℕ
 printedFor [] = badText
 printedFor (l ∷ ls) = printedWith (settingOf l) ls

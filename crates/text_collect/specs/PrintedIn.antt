@@ -1,5 +1,5 @@
--- What a run prints in a format for an input, by the reference model (docs/FORMATS.md, "Rows"), and what is claimed of it:
--- proofs/PrintedIn.antt has the theorems.
+-- What a run prints in a format for an input, by the reference model (docs/FORMATS.md, "Rows"), and the claims on it.
+-- proofs/PrintedIn.antt proves them.
 use Prim.Native.Nat.{ℕ}
 use mathlib.Core.Path.{_≡_}
 use mathlib.Core.List.{List, [], _∷_, _++_}
@@ -19,7 +19,7 @@ use Rattle.text_collect.specs.Session.{Receiver}
 use Rattle.text_collect.specs.Formats.{sourceOf, totalsIn, collectIn}
 
 module _ (f : Format) where
-  -- the row of a line, where these receptions, newest first, were handed over before it
+  -- the row of a line, after these receptions, newest first
   abbrev pub rowAfterIn : (setting : ℕ) → List Reception → Reading → List ℕ
   rowAfterIn setting past (reception time bytes) =
       let r = receptionAt time bytes in
@@ -33,7 +33,7 @@ module _ (f : Format) where
   rowsAfterIn setting past (l ∷ ls) =
       rowAfterIn setting past (lineReading l) ∷ rowsAfterIn setting (pastAfterLine past (lineReading l)) ls
 
-  -- after a right first line the heading, a row for each line, and the totals where they are printed
+  -- after a right first line: the heading, a row for each line, and the totals if the format has them
   abbrev pub printedWithIn : Setting → List (List ℕ) → List ℕ
   printedWithIn (Setting.Level n) ls =
       headingIn f ++ (joined (rowsAfterIn n [] ls) ++ totalsIn f (totalsOf (logOf (pastAfterLines [] ls))))
@@ -47,18 +47,18 @@ module _ (f : Format) where
   unfoldable pub printedIn : List ℕ → List ℕ
   printedIn input = printedForIn (linesOf input)
 
--- THE CLAIM: for every format and every input, cut into pieces anywhere, what the contracts say is written for the pieces
--- and at the end is what the reference model says
+-- Formats print (THE CLAIM): for every format and every input, cut into pieces anywhere, the contracts give for the
+-- pieces and the end what the reference model says
 abbrev pub FormatsPrint : Type 0
 FormatsPrint =
     (f : Format) (xs : List (List ℕ)) → piecesText (collectIn f) lineLimit starting xs ≡ printedIn f (joined xs)
 
--- a run that goes on from any state: the same, however the input is cut
+-- Formats in pieces: a run from any state writes the same, however the input is cut
 abbrev pub FormatsInPieces : Type 0
 FormatsInPieces =
     (f : Format) (s : Phase Receiver) (xs : List (List ℕ))
     → piecesText (collectIn f) lineLimit s xs ≡ outputOf (collectIn f) s (joined xs)
 
--- and as text it is what `collect` prints
+-- Text as printed: in the format text, it is what `collect` prints
 abbrev pub TextAsPrinted : Type 0
 TextAsPrinted = (input : List ℕ) → printedIn Format.Text input ≡ printedOf input

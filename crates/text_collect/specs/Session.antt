@@ -1,4 +1,4 @@
--- The program `collect` over the collector of the model (document 01, "Cases"), and what a session says of its run.
+-- The program `collect` over the collector of the model (document 01, "Cases"), and the run of a session.
 use Prim.Native.Nat.{ℕ, _≤_}
 use mathlib.Core.Path.{_≡_}
 use mathlib.Core.Bool.{true}
@@ -39,7 +39,7 @@ modelCollector = record {
 
 -- ---- a session
 
--- a run past its first line, at a setting
+-- a run after its first line, with a setting
 abbrev pub runningAt : ℕ → View → Phase Receiver
 runningAt setting v = running (record { setting = setting; view = v })
 
@@ -51,7 +51,7 @@ atStage Stage.Over c = over
 abbrev pub phaseOf : Session → Phase Receiver
 phaseOf s = atStage (s .stage) (record { setting = s .setting; view = viewOf (s .collector) })
 
--- the longest text of a line, and of each end
+-- the longest text of a line, and the longest text at the end
 abbrev pub longestLine : ℕ
 longestLine = longestRow longestNumber maxLength
 
@@ -60,8 +60,8 @@ longestEnd starting = 4
 longestEnd (running c) = longestTotals
 longestEnd over = 0
 
--- Whole lines of the input, of `used` characters, were taken from phase s on to s', and what they give stands at the front of the output; where none
--- was taken though the longest row fits, there is none.
+-- Whole lines of the input, `used` characters, were taken from phase s to s', and the front of the output has what they
+-- give. If none was taken although the longest row fits, there is no whole line.
 pub record RanTo (s : Phase Receiver) (input out out' : List ℕ) (s' : Phase Receiver) (used written : ℕ) : Type 0 where
   pub within : used ≤ length input
   pub fed : Fed (collect modelCollector) s (take used input) out s' out' written

@@ -1,4 +1,4 @@
--- Whole lines taken with the rows that an archive keeps of them.
+-- Whole lines of a call, with their rows for an archive.
 use mathlib.Core.Path.{_≡_}
 use mathlib.Core.Bool.{true}
 use mathlib.Core.List.{List}
@@ -18,21 +18,21 @@ use Rattle.text_collect.specs.Elements.{ElementsAfter}
 abbrev pub givenBy : Program (Phase Receiver) → Phase Receiver → List ℕ → ℕ
 givenBy p s text = length (feedText p lineLimit (atLineStart s) text)
 
--- before each line of the first `used` characters it holds: behind each shorter front that is whole lines
+-- it holds before each line of the first `used` characters: after each shorter front that is whole lines
 abbrev pub BeforeEach : (List ℕ → Type 0) → Phase Receiver → List ℕ → ℕ → Type 0
 BeforeEach Holds s input used =
     (n : ℕ) (s' : Phase Receiver) → n < used → feed rowTimes lineLimit (atLineStart s) (take n input) ≡ atLineStart s'
     → Holds (take n input)
 
--- behind a text there is a place for a row, and room for the longest text of a line
+-- after a text, there is an entry for a row, and room for the longest text of a line
 pub record Roomy (s : Phase Receiver) (out moments text : List ℕ) : Type 0 where
   pub rows : givenBy rowTimes s text < length moments
   pub chars : givenBy (collect modelCollector) s text + longestLine ≤ length out
 
--- Whole lines of the input, of `used` characters, were taken from phase s on to s', and from the collector's columns a on to
--- a'. What they give stands at the front of the output, the times of their rows and the records of these at the front of
--- the two other buffers. Before each line there was room; where fewer were taken than may be, though there is room for a
--- further one, no further line has ended.
+-- Whole lines of the input, `used` characters, were taken from phase s to s', and from the collector's columns a to a'.
+-- The front of the output has what they give. The fronts of the other two buffers have the times of their rows and the
+-- records of these. Before each line there was room. If fewer lines were taken than allowed, and there is room for one
+-- more, then no further line has ended.
 pub record StoredTo (s : Phase Receiver) (a : Columns) (input : List ℕ) (most : ℕ)
     (out moments rows out' moments' rows' : List ℕ) (s' : Phase Receiver) (a' : Columns) (used written count lines : ℕ)
     : Type 0 where

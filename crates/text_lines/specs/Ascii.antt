@@ -1,4 +1,4 @@
--- The characters that the lines of `collect` are made of, by their ASCII codes.
+-- The characters in the lines of `collect`, by their ASCII codes.
 use Prim.Native.Nat.{ℕ, _+_}
 use mathlib.Core.Bool.{Bool, _&&_}
 use lib.Dec.{leb, ltb}
@@ -9,7 +9,7 @@ newline = 10
 abbrev pub space : ℕ
 space = 32
 
--- the characters 0, A and a: digits and letters follow them in order
+-- the characters 0, A and a; the other digits and letters follow in order
 abbrev pub digit0 : ℕ
 digit0 = 48
 

@@ -14,7 +14,7 @@ use Rattle.text_lines.specs.declared.Timed.{Timed}
 abbrev pub isDigit : ℕ → Bool
 isDigit c = isAmong 10 digit0 c
 
--- the number that digits say: each counts its value times the power of ten of its place
+-- the number of these digits: each has its value times a power of ten
 unfoldable pub decimalOf : List ℕ → ℕ
 decimalOf [] = 0
 decimalOf (c ∷ s) = (c - digit0) * 10 ^ length s + decimalOf s
@@ -25,7 +25,7 @@ hasLeadingZero [] = false
 hasLeadingZero (c ∷ []) = false
 hasLeadingZero (c ∷ d ∷ s) = eqb c digit0
 
--- digits alone, of a number of 64 bits
+-- only digits, and a number below 2^64
 unfoldable pub isNumber : List ℕ → Bool
 isNumber s = all isDigit s && ltb (decimalOf s) (2 ^ 64)
 
@@ -33,15 +33,15 @@ isNumber s = all isDigit s && ltb (decimalOf s) (2 ^ 64)
 unfoldable pub isTime : List ℕ → Bool
 isTime s = ltb 0 (length s) && not (hasLeadingZero s) && isNumber s
 
--- the number n where the test passes
+-- the number n if the test passes, else Bad
 abbrev pub numberIf : Bool → ℕ → Number
 numberIf t n = cond t (Number.Value n) Number.Bad
 
--- n with one digit more, where c is a digit and the number has 64 bits
+-- n with one more digit, if c is a digit and the number stays below 2^64
 unfoldable pub appended : ℕ → ℕ → Number
 appended n c = numberIf (isDigit c && ltb (n * 10 + (c - digit0)) (2 ^ 64)) (n * 10 + (c - digit0))
 
--- the time at the start of a text, up to the first space, and how many digits say it
+-- the time at the start of a text, up to the first space, and how many digits it has
 unfoldable pub timedOf : List ℕ → Timed
 timedOf text =
     let k = indexOf space text in

@@ -8,11 +8,11 @@ use lib.ListN.{length}
 use Rattle.base_lists.specs.Lists.{all, padded}
 use Rattle.text_lines.specs.Ascii.{digit0, upperA, lowerA, isAmong}
 
--- the most bytes that a line says
+-- the largest number of bytes in a line
 abbrev pub maxBytes : ℕ
 maxBytes = 64
 
--- the value of a hexadecimal digit in either case; 16 of any other character
+-- the value of a hexadecimal digit in either case; 16 for any other character
 unfoldable pub nibbleOf : ℕ → ℕ
 nibbleOf c =
     cond (isAmong 10 digit0 c) (c - digit0)
@@ -27,7 +27,7 @@ isHexDigit c = ltb (nibbleOf c) 16
 unfoldable pub isHex : List ℕ → Bool
 isHex s = leb (length s) (2 * maxBytes) && eqb (length s % 2) 0 && all isHexDigit s
 
--- the bytes that pairs of digits say, the high digit first
+-- the bytes of pairs of digits, the high digit first
 unfoldable pub hexBytes : List ℕ → List ℕ
 hexBytes [] = []
 hexBytes (a ∷ []) = []
@@ -41,7 +41,7 @@ leadingBytes (suc n) (a ∷ []) = []
 leadingBytes (suc n) (a ∷ b ∷ s) =
     cond (isHexDigit a && isHexDigit b) ((nibbleOf a * 16 + nibbleOf b) ∷ leadingBytes n s) []
 
--- the pairs at the front of s were read into an array, zero filled
+-- the pairs at the front of s were read into an array, which is filled with zeros
 pub record Decoded (s bytes : List ℕ) (r : ℕ) : Type 0 where
   pub answer : r ≡ length (leadingBytes maxBytes s)
   pub written : bytes ≡ padded maxBytes (leadingBytes maxBytes s)

@@ -1,4 +1,4 @@
--- What the private functions say that read many characters at once: nobody else need read it.
+-- Reading many characters at once, for the contracts of private functions. No public contract cites these.
 use mathlib.Core.Path.{_≡_}
 use mathlib.Core.Bool.{Bool, true}
 use mathlib.Core.List.{List}
@@ -8,34 +8,34 @@ use Rattle.text_lines.specs.Ascii.{newline, space, digit0}
 use Rattle.text_lines.specs.Decimal.{isDigit}
 use Rattle.text_lines.specs.Hex.{nibbleOf}
 
--- thirteen digits and a space at the start of a text, the first digit no zero
+-- a text begins with thirteen digits and a space, and the first digit is not 0
 pub record Thirteen (text : List ℕ) : Type 0 where
   pub long : 13 < length text
   pub digits : (k : ℕ) → k < 13 → isDigit (getD text k 0) ≡ true
   pub some : getD text 0 0 ≡ digit0 → ⊥
   pub ends : getD text 13 0 ≡ space
 
--- a newline behind n pairs of characters, 8 to 24, of a text in which 24 pairs and a newline can be looked at
+-- a newline after n pairs of characters, n from 8 to 24; the text is long enough for 24 pairs and a newline
 pub record Ended (s : List ℕ) (n : ℕ) : Type 0 where
   pub least : 8 ≤ n
   pub most : n ≤ 24
   pub long : 48 < length s
   pub ends : getD s (2 * n) 0 ≡ newline
 
--- pair k is of digits, and its byte is in its place
+-- pair k has two digits, and its byte is written
 pub record Covered (s bytes : List ℕ) (k : ℕ) : Type 0 where
   pub high : nibbleOf (getD s (2 * k) 0) < 16
   pub low : nibbleOf (getD s (2 * k + 1) 0) < 16
   pub value : getD bytes k 0 ≡ nibbleOf (getD s (2 * k) 0) * 16 + nibbleOf (getD s (2 * k + 1) 0)
 
--- eight bytes from place i on and eight from place j on were written; r says that their pairs are of digits
+-- eight bytes from index i on and eight from index j on were written; r tells that all their pairs have digits
 pub record PutTwo (s : List ℕ) (i j : ℕ) (old new : List ℕ) (r : Bool) : Type 0 where
   pub long : length new ≡ length old
   pub first : r ≡ true → (k : ℕ) → i ≤ k → k < i + 8 → Covered s new k
   pub second : r ≡ true → (k : ℕ) → j ≤ k → k < j + 8 → Covered s new k
   pub other : (k : ℕ) → (i ≤ k → k < i + 8 → ⊥) → (j ≤ k → k < j + 8 → ⊥) → getD new k 0 ≡ getD old k 0
 
--- n elements from one place of a list were copied to a place of another
+-- n elements of one list were copied into another
 pub record CopiedPart (src : List ℕ) (from n : ℕ) (old : List ℕ) (to : ℕ) (new : List ℕ) : Type 0 where
   pub long : length new ≡ length old
   pub inside : (k : ℕ) → k < n → getD new (to + k) 0 ≡ getD src (from + k) 0

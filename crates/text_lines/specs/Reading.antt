@@ -1,4 +1,4 @@
--- What the lines say that `collect` reads (document 01, "Cases").
+-- The contents of the lines that `collect` reads (document 01, "Cases").
 use Prim.Native.Nat.{ℕ, suc, _+_}
 use mathlib.Core.Bool.{true, false, cond, _&&_}
 use mathlib.Core.List.{List, [], _∷_}
@@ -28,7 +28,7 @@ settingOf l =
     (cond (equal l (levelLine 2)) (Setting.Level 2)
     Setting.Bad))
 
--- what a later line says
+-- the content of a later line
 pub data Reading : Type 0 where
   reception : (time : ℕ) (bytes : List ℕ) → Reading
   bad : Reading
@@ -41,11 +41,11 @@ lineReading l =
     (reception (decimalOf (take k l)) (hexBytes (drop (suc k) l)))
     bad
 
--- a line this long is BAD, whatever else it has: 20 digits, a space and 128 digits are 149
+-- a line of this length is always BAD: 20 digits, a space and 128 digits are 149 characters
 abbrev pub lineLimit : ℕ
 lineLimit = 150
 
--- the line at the start of a text: its length without the newline, and what it says; or no newline ends it
+-- the line at the start of a text: its length without the newline, and its content; or no newline ends it
 pub data Front : Type 0 where
   ended : (n : ℕ) → Reading → Front
   unended : Front
@@ -62,13 +62,14 @@ badFront text =
     let n = indexOf newline text in
     cond (ltb n (length text)) (ended n bad) unended
 
--- a line as an answer: its time, the count of its bytes, and its characters with the newline; zeros beside BAD and where no newline ends it
+-- the result for a line: its time, the number of its bytes, and the number of its characters with the newline. For a
+-- BAD line, time and bytes are 0; if no newline ends it, all are 0.
 abbrev pub lineOf : Front → Line
 lineOf (ended n (reception t bs)) = record { ok = true; time = t; len = length bs; used = n + 1 }
 lineOf (ended n bad) = record { ok = false; time = 0; len = 0; used = n + 1 }
 lineOf unended = record { ok = false; time = 0; len = 0; used = 0 }
 
--- the bytes that are written beside it: those of the reception, zero filled to the most there are
+-- the bytes that are written with it: those of the reception, zero filled to 64
 abbrev pub bytesIn : Front → List ℕ
 bytesIn (ended n (reception t bs)) = padded maxBytes bs
 bytesIn (ended n bad) = replicate maxBytes 0

@@ -1,4 +1,5 @@
--- What is claimed of the program's turns: proofs/Runs.antt has the theorem. It uses of the code what the contract of `step` says, and nothing else.
+-- The claim on the steps of the program. proofs/Runs.antt proves it. Of the code, the proof uses only the contract of
+-- `step`.
 use Prim.Native.Nat.{ℕ, _+_}
 use mathlib.Core.Path.{_≡_}
 use mathlib.Core.Bool.{true, false}
@@ -12,7 +13,7 @@ use Rattle.text_collect.specs.Session.{Receiver, phaseOf}
 use Rattle.text_print.specs.declared.Turn.{Turn}
 use Rattle.text_print.specs.Step.{chunk, capacity, SteppedOver}
 
--- a turn: the piece that was read, both buffers before the step and after it, and its answer
+-- one step: the piece that was read, both buffers before and after it, and its answer
 pub record Moment : Type 0 where
   pub piece : List ℕ
   pub buffer : List ℕ
@@ -21,13 +22,14 @@ pub record Moment : Type 0 where
   pub out' : List ℕ
   pub turn : Turn
 
--- the step was made with what was kept and the piece behind it; a read that gives no character says that the input has ended
+-- the step was made with the characters that were kept, and the piece after them; if a read gives no character, the
+-- input has ended
 pub record Made (s : Phase Receiver) (kept : List ℕ) (m : Moment) : Type 0 where
   pub bufferLong : length (m .buffer) ≡ chunk
   pub outLong : length (m .out) ≡ capacity
   pub step : SteppedOver s (kept ++ m .piece) (m .buffer) (eqb (length (m .piece)) 0) (m .out) (m .buffer') (m .out') (m .turn)
 
--- turns, one after the other, up to the one that ends the run
+-- steps one after the other, up to the one that ends the run
 unfoldable pub IsRun : Phase Receiver → List ℕ → List Moment → Type 0
 IsRun s kept [] = ⊥
 IsRun s kept (m ∷ []) = Made s kept m × (m .turn .ended ≡ true)
@@ -42,6 +44,6 @@ readIn ms = joined (map (λ (m : Moment). m .piece) ms)
 abbrev pub writtenIn : List Moment → List ℕ
 writtenIn ms = joined (map (λ (m : Moment). take (m .turn .written) (m .out')) ms)
 
--- THE CLAIM: whatever pieces the reads give, the program writes what the reference model says of all that was read
+-- THE CLAIM: whatever pieces the reads give, the program writes what the reference model says for all that was read
 abbrev pub RunsPrint : Type 0
 RunsPrint = (ms : List Moment) → IsRun starting [] ms → writtenIn ms ≡ printedOf (readIn ms)

@@ -1,4 +1,4 @@
--- What the private functions say: nobody else need read it.
+-- What the contracts of private functions say. No public contract cites these.
 use Prim.Native.Nat.{ℕ, _≤_}
 use mathlib.Core.Path.{_≡_}
 use mathlib.Core.Bool.{Bool, true, false}
@@ -13,13 +13,13 @@ use Rattle.text_collect.specs.Session.{Receiver, modelCollector, phaseOf}
 use Rattle.text_print.specs.declared.Drain.{Drain}
 use Rattle.text_print.specs.declared.Pass.{Pass}
 
--- all whole lines of the input were taken from phase s on
+-- all whole lines of the input were taken, from phase s on
 pub record Drained (s : Phase Receiver) (input out out' : List ℕ) (r : Drain) : Type 0 where
   pub within : r .used ≤ length input
   pub fed : Fed (collect modelCollector) s (take (r .used) input) out (phaseOf (r .session)) out' (r .written)
   pub rest : isUnended (drop (r .used) input) ≡ true
 
--- the input was gone through: its text was written where it was to be, and fits
+-- a pass over the input: whether its text fits the output, and the text, if it was to be written
 pub record Passed (write : Bool) (input out out' : List ℕ) (r : Pass) : Type 0 where
   pub fits : r .fits ≡ leb (length (printedOf input)) (length out)
   pub quiet : write ≡ false → out' ≡ out

@@ -1,4 +1,4 @@
--- The same program on a text that comes in pieces, with a part of a line kept between them.
+-- The same program on a text in pieces. Between pieces, the part of a line that has not ended is kept.
 use mathlib.Core.Path.{_≡_}
 use Prim.Native.Nat.{ℕ}
 use mathlib.Core.Bool.{cond}
@@ -8,17 +8,17 @@ use lib.ListN.{take}
 use Rattle.text_lines.specs.Ascii.{newline}
 use Rattle.text_program.specs.Lines.{Program}
 
--- where a run stands: the state, and what is kept of the line that has not ended yet
+-- the position of a run: its state, and what is kept of the line that has not ended
 pub record Position (S : Type 0) : Type 0 where
   pub state : S
   pub line : List ℕ
 
--- the program can tell a line by its first `limit` characters
+-- for the program, the first `limit` characters of a line decide
 pub record Bounded {S : Type 0} (p : Program S) (limit : ℕ) : Type 0 where
   pub next : (s : S) (l : List ℕ) → p .next s (take limit l) ≡ p .next s l
   pub text : (s : S) (l : List ℕ) → p .text s (take limit l) ≡ p .text s l
 
--- with a part of a line, and at the start of one
+-- a position with a part of a line; and at the start of a line
 abbrev pub inLine : {S : Type 0} → S → List ℕ → Position S
 inLine s l = record { state = s; line = l }
 
@@ -26,7 +26,7 @@ abbrev pub atLineStart : {S : Type 0} → S → Position S
 atLineStart s = inLine s []
 
 module _ {S : Type 0} (p : Program S) (limit : ℕ) where
-  -- one character: a newline ends the line, any other is kept, up to `limit` of a line
+  -- one character: a newline ends the line; any other is kept, up to `limit` characters of a line
   abbrev pub fed : Position S → ℕ → Position S
   fed a c =
       cond (eqb c newline) (atLineStart (p .next (a .state) (a .line)))
@@ -53,7 +53,7 @@ module _ {S : Type 0} (p : Program S) (limit : ℕ) where
   feedAllText a [] = []
   feedAllText a (x ∷ xs) = feedText a x ++ feedAllText (feed a x) xs
 
--- what is written at the end, after a last line without a newline, where there is one
+-- what is written at the end: first the text of a last line without a newline, if there is one
 unfoldable pub lastText : {S : Type 0} → Program S → S → List ℕ → List ℕ
 lastText p s [] = p .end s
 lastText p s (c ∷ l) = p .text s (c ∷ l) ++ p .end (p .next s (c ∷ l))

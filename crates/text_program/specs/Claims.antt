@@ -1,5 +1,5 @@
--- What is claimed of programs over lines whose input comes in pieces: proofs/Pieces.antt, proofs/Limit.antt and proofs/Ended.antt have the
--- theorems.
+-- The claims on programs over lines whose input comes in pieces. proofs/Pieces.antt, proofs/Limit.antt and
+-- proofs/Ended.antt prove them.
 use mathlib.Core.Path.{_≡_}
 use Prim.Native.Nat.{ℕ, _<_}
 use mathlib.Core.List.{List, [], _++_}
@@ -12,17 +12,19 @@ use Rattle.text_program.specs.Collect.{Collector, starting, over, collec
 abbrev pub piecesText : {S : Type 0} → Program S → ℕ → S → List (List ℕ) → List ℕ
 piecesText p limit s xs = feedAllText p limit (atLineStart s) xs ++ endText p (feedAll p limit (atLineStart s) xs)
 
--- where a program can tell a line by its front, this is what it writes for the whole text
+-- In pieces: if the front of each line decides, this is what the program writes for the whole text.
 abbrev pub InPieces : {S : Type 0} → Program S → ℕ → Type 0
 InPieces {S} p limit =
     0 < limit → Bounded p limit → (s : S) (xs : List (List ℕ))
     → piecesText p limit s xs ≡ outputOf p s (joined xs)
 
--- `collect` can, by the first 150 characters: cut into pieces anywhere, the input gives the same output
+-- Collected in pieces: for `collect`, the first 150 characters decide. However the input is cut, the output is the
+-- same.
 abbrev pub CollectedInPieces : {C : Type 0} → Collector C → Type 0
 CollectedInPieces m = (xs : List (List ℕ)) → piecesText (collect m) lineLimit starting xs ≡ collected m (joined xs)
 
--- a run that a wrong first line ended writes nothing more, whatever comes and however it is cut, so that reading may end there
+-- a run that a wrong first line has ended writes nothing more, for any further input, however it is cut. So reading may
+-- stop there.
 pub record Ended {C : Type 0} (m : Collector C) (line input : List ℕ) : Type 0 where
   pub silent : feedText (collect m) lineLimit (inLine over line) input ≡ []
   pub noEnd : endText (collect m) (feed (collect m) lineLimit (inLine over line) input) ≡ []

@@ -7,7 +7,8 @@ use Rattle.text_rows.specs.declared.Row.{Row}
 use Rattle.text_rows.specs.Text.{rowText, badText}
 use Rattle.text_program.specs.Lines.{Program, outputOf}
 
--- What the program needs of a collector: one set to a level, the state after a reception, its answer and what is sent, and the totals line.
+-- What the program needs of a collector: a collector with a level, the state after a reception, the answer, what is
+-- sent, and the line of totals.
 pub record Collector (C : Type 0) : Type 0 where
   pub fresh : ℕ → C
   pub next : C → (time : ℕ) (bytes : List ℕ) → C
@@ -15,7 +16,7 @@ pub record Collector (C : Type 0) : Type 0 where
   pub sent : C → (time : ℕ) (bytes : List ℕ) → List ℕ
   pub totals : C → List ℕ
 
--- where a run stands: before its first line, past a right one, or ended by a wrong one
+-- the phase of a run: before its first line, after a right one, or ended by a wrong one
 pub data Phase (C : Type 0) : Type 0 where
   starting : Phase C
   running : C → Phase C
@@ -31,7 +32,7 @@ module _ {C : Type 0} (m : Collector C) where
   firstText (Setting.Level n) = []
   firstText Setting.Bad = badText
 
-  -- a later line: a reception is handed over and its row is printed; a BAD line is not handed over
+  -- a later line: a reception is handed over, and its row is printed; a BAD line is not handed over
   abbrev pub afterLine : C → Reading → C
   afterLine c (reception t bs) = m .next c t bs
   afterLine c bad = c
@@ -50,7 +51,7 @@ module _ {C : Type 0} (m : Collector C) where
   phaseText (running c) l = lineText c (lineReading l)
   phaseText over l = []
 
-  -- the end: BAD where there was no line, the totals after a run, nothing after one that was ended
+  -- the end: BAD if there was no line, the totals after a run, nothing after a run that was ended
   abbrev pub phaseEnd : Phase C → List ℕ
   phaseEnd starting = badText
   phaseEnd (running c) = m .totals c

@@ -5,12 +5,13 @@ use mathlib.Core.List.{List, [], _∷_, _++_}
 use lib.Dec.{eqb}
 use Rattle.text_lines.specs.Ascii.{newline}
 
--- a character in front of the first line
+-- a character is put before the first line
 abbrev pub prepend : ℕ → List (List ℕ) → List (List ℕ)
 prepend c [] = (c ∷ []) ∷ []
 prepend c (l ∷ ls) = (c ∷ l) ∷ ls
 
--- the lines of a text: a newline ends a line, and a last line without one counts; any other character, a carriage return too, is its line's
+-- the lines of a text: a newline ends a line, and a last line without a newline counts; any other character, also a
+-- carriage return, belongs to its line
 unfoldable pub linesOf : List ℕ → List (List ℕ)
 linesOf [] = []
 linesOf (c ∷ s) = cond (eqb c newline) ([] ∷ linesOf s) (prepend c (linesOf s))

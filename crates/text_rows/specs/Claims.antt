@@ -1,4 +1,4 @@
--- What is printed reads back: proofs/ReadBack.antt has the theorems.
+-- What is printed reads back. proofs/ReadBack.antt proves it.
 use mathlib.Core.Path.{_≡_}
 use mathlib.Core.Bool.{Bool, true}
 use mathlib.Core.List.{List, _∷_, _++_}
@@ -12,7 +12,7 @@ use Rattle.text_lines.specs.Hex.{maxBytes, isHex, hexBytes}
 use Rattle.text_lines.specs.Reading.{reception, lineReading}
 use Rattle.text_rows.specs.Text.{decimalText, hexText}
 
--- a printed number of 64 bits is a time, and says the number
+-- a number of 64 bits that is printed is a time, and reads back as that number
 pub record NumberRead (n : ℕ) : Type 0 where
   pub time : isTime (decimalText n) ≡ true
   pub value : decimalOf (decimalText n) ≡ n
@@ -20,15 +20,15 @@ pub record NumberRead (n : ℕ) : Type 0 where
 abbrev pub NumbersBack : Type 0
 NumbersBack = (n : ℕ) → n < 2 ^ 64 → NumberRead n
 
--- and a time that was read is printed as it was written
+-- Times back: a time that was read is printed as it was written.
 abbrev pub TimesBack : Type 0
 TimesBack = (s : List ℕ) → isTime s ≡ true → decimalText (decimalOf s) ≡ s
 
--- each is below 256
+-- all numbers are below 256
 abbrev pub areBytes : List ℕ → Bool
 areBytes bs = all (λ b. ltb b 256) bs
 
--- printed bytes, at most 64, are bytes in hexadecimal, and say the bytes
+-- bytes that are printed, at most 64, are bytes in hexadecimal, and read back as these bytes
 pub record BytesRead (bs : List ℕ) : Type 0 where
   pub hex : isHex (hexText bs) ≡ true
   pub value : hexBytes (hexText bs) ≡ bs
@@ -36,7 +36,7 @@ pub record BytesRead (bs : List ℕ) : Type 0 where
 abbrev pub BytesBack : Type 0
 BytesBack = (bs : List ℕ) → areBytes bs ≡ true → length bs ≤ maxBytes → BytesRead bs
 
--- the line of a time and bytes says the two
+-- Lines back: the line of a time and bytes reads back as these.
 abbrev pub LinesBack : Type 0
 LinesBack = (n : ℕ) (bs : List ℕ) → n < 2 ^ 64 → areBytes bs ≡ true → length bs ≤ maxBytes
     → lineReading (decimalText n ++ (space ∷ hexText bs)) ≡ reception n bs

@@ -4,7 +4,7 @@ use Prim.Native.Nat.{ℕ, zero, suc, _+_}
 use Prim.Native.Char.{code}
 use Prim.Native.String.{String, len, charAt}
 
--- n of them, from position i on
+-- n codes, from position i on
 abbrev pub codesFrom : String → ℕ → ℕ → List ℕ
 codesFrom s i zero = []
 codesFrom s i (suc n) = code (charAt s i) ∷ codesFrom s (i + 1) n

@@ -1,5 +1,5 @@
--- The rows of a run in three formats (docs/FORMATS.md, "Rows"): as `collect` prints them, comma-separated, and as
--- JSON, an object on each line.
+-- The rows of a run in three formats (docs/FORMATS.md, "Rows"): as `collect` prints them, comma-separated, and as JSON
+-- with an object on each line.
 use Prim.Native.Nat.{ℕ, _+_, _*_}
 use mathlib.Core.Bool.{cond}
 use mathlib.Core.List.{List, [], _∷_, _++_}
@@ -17,7 +17,7 @@ hexAfter name bytes = name ++ hexText bytes
 unfoldable pub sourceAfter : (txid rorg level : List ℕ) → Source → List ℕ
 sourceAfter txid rorg level s = hexAfter txid (s .txid) ++ hexAfter rorg (s .rorg ∷ []) ++ counted level (s .level)
 
--- ---- comma-separated: what is not there is empty
+-- ---- comma-separated: a value that is not present is empty
 
 unfoldable pub csvAnswer : Row → List ℕ
 csvAnswer Row.Kept = codes ",KEPT,"
@@ -33,7 +33,7 @@ unfoldable pub csvRow : (time : List ℕ) → Row → (heard sent : List ℕ) �
 csvRow time row heard sent source =
     time ++ csvAnswer row ++ hexAfter (codes ",") heard ++ hexAfter (codes ",") sent ++ csvSource source ++ codes "\n"
 
--- ---- JSON: what is not there is left out
+-- ---- JSON: a value that is not present is left out
 
 unfoldable pub jsonAnswer : Row → List ℕ
 jsonAnswer Row.Kept = codes ",\"answer\":\"KEPT\""
@@ -41,7 +41,7 @@ jsonAnswer Row.Copy = codes ",\"answer\":\"COPY\""
 jsonAnswer Row.Loose = codes ",\"answer\":\"LOOSE\""
 jsonAnswer (Row.Refused n) = counted (codes ",\"answer\":\"REFUSED\",\"refusal\":") n
 
--- the end of the text before it, and what is sent
+-- the closing quote of the text before, and what is sent
 unfoldable pub jsonSend : List ℕ → List ℕ
 jsonSend [] = codes "\""
 jsonSend (b ∷ bs) = hexAfter (codes "\",\"send\":\"") (b ∷ bs) ++ codes "\""
@@ -57,7 +57,7 @@ jsonRow time row heard sent source =
 
 -- ---- in a format
 
--- the row of a reception behind the text of its time: its answer, what was heard, what is sent for it, and where it
+-- the row of a reception, with the text of its time, its answer, what was received, what is sent for it, and where it
 -- came from
 unfoldable pub rowIn : Format → (time : List ℕ) → Row → (heard sent : List ℕ) → Source → List ℕ
 rowIn Format.Text time row heard sent source = rowBehind time row sent
@@ -70,7 +70,7 @@ badIn Format.Text = badText
 badIn Format.Csv = codes ",BAD,,,,,,\n"
 badIn Format.Json = codes "{\"answer\":\"BAD\"}\n"
 
--- what stands before the rows
+-- the heading before the rows
 unfoldable pub headingIn : Format → List ℕ
 headingIn Format.Text = []
 headingIn Format.Csv = codes "time,answer,refusal,telegram,send,txid,rorg,level\n"
@@ -78,8 +78,8 @@ headingIn Format.Json = []
 
 -- ---- how long they are
 
--- no row with a time of k characters, n bytes heard and m to send is longer: JSON has 143 characters more, if its two
--- numbers have 20 digits
+-- a row with a time of k characters, n bytes received and m to send is at most this long. In JSON it has 143 characters
+-- more, if its two numbers have 20 digits.
 abbrev pub longestRowIn : ℕ → ℕ → ℕ → ℕ
 longestRowIn k n m = k + 143 + 2 * (n + m)
 

@@ -1,4 +1,4 @@
--- What the private functions say that write many characters at once: nobody else need read it.
+-- Writing many characters at once, for the contracts of private functions. No public contract cites these.
 use mathlib.Core.Path.{_≡_}
 use mathlib.Core.List.{List}
 use Prim.Native.Nat.{ℕ, _+_, _*_, _/_, _%_, _<_}

@@ -7,7 +7,8 @@ use Rattle.text_lines.specs.Ascii.{newline, space, digit0, upperA}
 use Rattle.text_rows.specs.Codes.{codes}
 use Rattle.text_rows.specs.declared.Row.{Row}
 
--- n in decimal, in at most k digits: a number below ten is a digit, any other has the digits of its tenth and then its last one
+-- n in decimal, in at most k digits: a number below ten has one digit; any other has the digits of n / 10 and then its
+-- last digit
 unfoldable pub digitsOf : ℕ → ℕ → List ℕ
 digitsOf zero n = []
 digitsOf (suc k) n = cond (ltb n 10) ((digit0 + n) ∷ []) (digitsOf k (n / 10) ++ ((digit0 + n % 10) ∷ []))
@@ -40,19 +41,19 @@ looseWord = codes "LOOSE"
 abbrev pub refusedWord : List ℕ
 refusedWord = codes "REFUSED"
 
--- ` SEND ` and the bytes to send, where there are any
+-- ` SEND ` and the bytes to send, if there are any
 abbrev pub sendText : List ℕ → List ℕ
 sendText [] = []
 sendText (b ∷ bs) = space ∷ sendWord ++ (space ∷ hexText (b ∷ bs))
 
--- what a row says after its time; bytes are sent with KEPT alone
+-- what comes after the time in a row; bytes are sent only with KEPT
 unfoldable pub answerText : Row → List ℕ → List ℕ
 answerText Row.Kept sent = keptWord ++ sendText sent
 answerText Row.Copy sent = copyWord
 answerText Row.Loose sent = looseWord
 answerText (Row.Refused n) sent = refusedWord ++ (space ∷ decimalText n)
 
--- a row behind the text of its time: a space, the answer, and the line's end
+-- a row: the text of its time, a space, the answer, and a newline
 unfoldable pub rowBehind : List ℕ → Row → List ℕ → List ℕ
 rowBehind time row sent = time ++ (space ∷ []) ++ answerText row sent ++ (newline ∷ [])
 
