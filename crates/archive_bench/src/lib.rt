@@ -1,4 +1,5 @@
-// Archives for C and Rust, on plain numbers and bytes: for the benchmark, and for a buffer of more addresses than any test program holds.
+// Archives for C and Rust, on plain numbers and bytes: for the benchmark, and for the test with a buffer of more addresses than a test program can
+// hold.
 use archive_file::Opened;
 use archive_file::Outcome;
 
@@ -8,7 +9,7 @@ pub extern "C" fn archive_bench_crc(bytes: &[u8]) -> u8 {
     base_crc8_long::crc8_long(bytes)
 }
 
-// The number of the answer in the highest byte, and below it the rows, or the position beside 12.
+// The number of the answer is in the highest byte; below it are the rows, or the position with 12.
 #[no_mangle]
 pub extern "C" fn archive_bench_open(buffer: &[u8]) -> u64 {
     let answer = archive_file::open(buffer);
@@ -19,7 +20,7 @@ pub extern "C" fn archive_bench_open(buffer: &[u8]) -> u64 {
     }
 }
 
-// The same, with the position beside 12.
+// The same for an append, with the position if the answer is 12.
 #[no_mangle]
 pub extern "C" fn archive_bench_append_at(
     buffer: &mut [u8],

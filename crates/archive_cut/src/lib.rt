@@ -1,4 +1,4 @@
-// Rows taken back: an archive is cut after its first rows, whole in its buffer or at one block.
+// A cut keeps the first rows of an archive: of the whole archive in its buffer, or of one block.
 use archive_file::Opened;
 use archive_file::Outcome;
 use archive_file::Taken;
@@ -23,7 +23,7 @@ ghost use Rattle.archive_cut.specs.Private.{keptRows};
 // The bytes of a block before its CRC.
 const BODY_LENGTH: usize = BLOCK_LENGTH - 1;
 
-// The first `rows` rows of a block: their count, zeros behind them, and the CRC.
+// Keeps the first `rows` rows of a block: writes their count, zeros after them, and the CRC.
 fn keep_rows(block: &mut [u8], rows: usize)
     requires { ⌜ (length (now block) ≡ blockLength) × (rows ≤ cellsPerBlock) ⌝ }
     ensures { λ _. ⌜ now (block .exit) ≡ keptRows rows (now (block .entry)) ⌝ }
@@ -34,7 +34,7 @@ fn keep_rows(block: &mut [u8], rows: usize)
     block_layout::seal(block);
 }
 
-// A sound block of at least `rows` rows becomes that of the first of them; all zero for none.
+// Cuts a sound block of at least `rows` rows to the first of them; it is all zero for none.
 fn shorten(block: &mut [u8], rows: usize)
     requires { ⌜ (isSound (now block) ≡ true) × (rows ≤ rowCount (now block)) ⌝ }
     ensures { λ _. ⌜ now (block .exit) ≡ firstRows rows (now (block .entry)) ⌝ }
@@ -46,8 +46,8 @@ fn shorten(block: &mut [u8], rows: usize)
     keep_rows(block, rows);
 }
 
-// One block becomes that of its first `rows` rows, and all zero for none. Refused: 16 for another length, 12 for a block that isn't sound or has
-// fewer rows; then it is as it was.
+// Cuts one block to its first `rows` rows; it is all zero for none. Refused: 16 for a wrong length, 12 for a block that isn't sound or has fewer
+// rows; then it is unchanged.
 pub fn cut_block(block: &mut [u8], rows: usize) -> Taken
     ensures { λ r. ⌜ cutBlockResult r (now (block .exit)) ≡ cutBlockOf rows (now (block .entry)) ⌝ }
 {
@@ -65,7 +65,7 @@ pub fn cut_block(block: &mut [u8], rows: usize) -> Taken
     Taken::Done
 }
 
-// Leaves the first `rows` rows of an archive. Refused: 16, 12 with the position, 10 where it has fewer; then the buffer is as it was.
+// Cuts an archive to its first `rows` rows. Refused: 16, 12 with the position, 10 if it has fewer; then the buffer is unchanged.
 pub fn cut(buffer: &mut [u8], rows: usize) -> Outcome
     ensures { λ r. ⌜ appendResult r (now (buffer .exit)) ≡ cutOf rows (now (buffer .entry)) ⌝ }
 {
@@ -77,7 +77,7 @@ pub fn cut(buffer: &mut [u8], rows: usize) -> Outcome
     }
 }
 
-// The same of an archive of `n` rows.
+// The same for an archive of `n` rows.
 fn cut_from(buffer: &mut [u8], n: usize, rows: usize) -> Outcome
     requires { ⌜ (verdict (now buffer) .number ≡ 0) × (n ≡ length (rowsIn (now buffer))) ⌝ }
     ensures { λ r. ⌜ appendResult r (now (buffer .exit)) ≡ cutOf rows (now (buffer .entry)) ⌝ }
@@ -92,7 +92,7 @@ fn cut_from(buffer: &mut [u8], n: usize, rows: usize) -> Outcome
     Outcome::Done
 }
 
-// Where it has more: the block in which the first `rows` rows end is cut, and zeros stand behind it.
+// The same if it has more: the block in which the first `rows` rows end is cut, and the blocks after it are cleared.
 fn take_back(buffer: &mut [u8], rows: usize)
     requires { ⌜ (verdict (now buffer) .number ≡ 0) × (rows < length (rowsIn (now buffer))) ⌝ }
     ensures { λ _. ⌜ now (buffer .exit)

@@ -1,4 +1,4 @@
-// Archive block files (document 02, A2): an archive is opened, a row appended, a row read. Every public function answers for buffers of any length.
+// Archive block files (document 02, A2): opens an archive, appends a row, reads a row. Every public function returns for buffers of any length.
 use base_refusal::Refusal;
 use block_layout::BLOCK_LENGTH;
 use block_layout::CELL_CAPACITY;
@@ -21,12 +21,12 @@ ghost use Rattle.archive_model.specs.Append as calls;
 ghost use Rattle.archive_file.specs.Archive.{openResult, appendResult, rowOf, readResult, rowShown, soundCount, stageOf, scanOf, openFound, feedResult};
 ghost use Rattle.archive_file.specs.Private.{keptWith, NoBlock, noRowFor, rowInBlock, isWritten, cellsFrom};
 
-// The most blocks of an archive, and the most rows.
+// The largest number of blocks of an archive, and of rows.
 pub const MAX_BLOCKS: usize = 4294967296;
 
 pub const MAX_ROWS: usize = CELLS_PER_BLOCK * MAX_BLOCKS;
 
-// The bytes of a block before its CRC.
+// The length of a block before its CRC.
 const BODY_LENGTH: usize = BLOCK_LENGTH - 1;
 
 // Where the bytes of a cell begin, and its last two.
@@ -54,7 +54,7 @@ pub enum Found {
     Refused(Refusal),
 }
 
-// A row as it stands, and the 21 bytes of its cell: those past the length are left to the caller. Beside a refusal all is zero.
+// A row that was read, and the 21 bytes of its cell: those after the length are unspecified. With a refusal, everything is zero.
 pub struct RowAt {
     pub answer: Found,
     pub time: u64,
@@ -63,7 +63,7 @@ pub struct RowAt {
     pub bytes: [u8; CELL_CAPACITY],
 }
 
-// What is known of the blocks passed: every one is full, the last one is short, an all-zero one was passed, or one does not match.
+// What is known of the blocks so far: all are full; the last one is short; there was an all-zero one; or one does not match.
 pub enum Stage {
     Filling,
     Short,
@@ -71,7 +71,7 @@ pub enum Stage {
     Wrong(usize),
 }
 
-// An archive that is read in pieces: how many blocks were passed, and how many rows they hold.
+// An archive that is read in pieces: how many blocks were read, and how many rows they have.
 pub struct Scan {
     pub blocks: usize,
     pub rows: usize,
@@ -84,7 +84,7 @@ pub enum Taken {
     Refused(Refusal),
 }
 
-// The scan after a piece, or beside a refusal the one that was handed in.
+// The scan after a piece; with a refusal, the scan that was handed in.
 pub struct Fed {
     pub next: Scan,
     pub answer: Taken,
@@ -117,7 +117,7 @@ fn cell_at(block: &[u8], i: usize) -> &[u8]
     &block[at..at + CELL_LENGTH]
 }
 
-// Bytes 30 and 31 of a row as one number.
+// Bytes 30 and 31 of a row, as one number.
 pub fn last_of(loose: bool) -> u16
     ensures { λ r. ⌜ r ≡ rowLast loose ⌝ }
 {
@@ -134,7 +134,7 @@ fn is_loose(cell: &[u8]) -> bool
     block_layout::cell_last(cell) == 256
 }
 
-// The number that a block says.
+// The number of a block.
 fn number_of(block: &[u8]) -> u64
     requires { ⌜ length (now block) ≡ blockLength ⌝ }
     ensures { λ r. ⌜ r ≡ blockNumber (now (block .entry)) ⌝ }
@@ -152,7 +152,7 @@ fn put_head(out: &mut [u8], k: u64, count: u8)
     block_layout::clear(&mut out[5..HEADER_LENGTH]);
 }
 
-// Whether a cell is byte for byte what is written of the row that it says, which is valid.
+// Whether a cell holds a valid row, and is byte for byte what is written for that row.
 fn is_written(cell: &[u8]) -> bool
     requires { ⌜ length (now cell) ≡ cellLength ⌝ }
     ensures { λ r. ⌜ r ≡ isWritten (now (cell .entry)) ⌝ }
@@ -171,7 +171,7 @@ fn is_written(cell: &[u8]) -> bool
     is_row(cell)
 }
 
-// Whether the first `used` cells of a block are.
+// Whether the first `used` cells of a block do.
 fn are_written(block: &[u8], used: usize) -> bool
     requires { ⌜ (length (now block) ≡ blockLength) × (used ≤ cellsPerBlock) ⌝ }
     ensures { λ r. ⌜ r ≡ all isWritten (cellsFrom (now (block .entry)) 0 used) ⌝ }
@@ -184,7 +184,7 @@ fn are_written(block: &[u8], used: usize) -> bool
     true
 }
 
-// How many rows a sound block has, and 0 for any other, bytes of another length included: each byte is tested where it stands.
+// How many rows a sound block has; 0 for any other, also for a wrong length. Each byte is tested in place.
 pub fn sound(block: &[u8]) -> usize
     ensures { λ r. ⌜ r ≡ soundCount (now (block .entry)) ⌝ }
 {
@@ -217,7 +217,7 @@ pub fn sound(block: &[u8]) -> usize
 // ---- the scan
 
 impl Scan {
-    // Before the first block.
+    // The scan before the first block.
     pub fn start() -> Scan
         ensures { λ r. ⌜ scanOf r ≡ buffer.startScan ⌝ }
     {
@@ -228,8 +228,8 @@ impl Scan {
         }
     }
 
-    // The blocks of a piece, in their order. Refused: 11 for a scan that no blocks give, 16 for a piece that isn't whole blocks or brings more than
-    // 2^32 of them in all; the scan is then as it was.
+    // Reads the blocks of a piece, in order. Refused: 11 for a scan that no blocks give, 16 for a piece that isn't whole blocks, or if there are then
+    // more than 2^32 blocks in all; then the scan is unchanged.
     pub fn feed(self, blocks: &[u8]) -> Fed
         ensures { λ r. ⌜ feedResult r ≡ calls.feedOf (scanOf self) (now (blocks .entry)) ⌝ }
     {
@@ -250,7 +250,7 @@ impl Scan {
     }
 }
 
-// Whether some blocks give this scan: at most 2^32 of them, with as many rows as blocks of its stage can have.
+// Whether some blocks give this scan: at most 2^32 of them, with a number of rows that blocks of its stage can have.
 pub fn is_scan(s: Scan) -> bool
     ensures { λ r. ⌜ r ≡ calls.isScan (scanOf s) ⌝ }
 {
@@ -266,7 +266,7 @@ pub fn is_scan(s: Scan) -> bool
     is_stage(stage, blocks, rows)
 }
 
-// Whether blocks of this stage can have so many rows, at most 15 each.
+// Whether blocks of this stage can have this many rows, at most 15 each.
 fn is_stage(stage: Stage, blocks: usize, rows: usize) -> bool
     requires { ⌜ (blocks ≤ buffer.maxBlocks) × (rows ≤ cellsPerBlock * blocks) ⌝ }
     ensures { λ r. ⌜ r ≡ calls.isStage (stageOf stage) blocks rows ⌝ }
@@ -280,7 +280,7 @@ fn is_stage(stage: Stage, blocks: usize, rows: usize) -> bool
     }
 }
 
-// The scan stays as it was.
+// A refusal: the scan is unchanged.
 fn kept(s: Scan, why: Refusal) -> Fed
     ensures { λ r. ⌜ feedResult r ≡ keptWith s why ⌝ }
 {
@@ -306,7 +306,7 @@ fn scan_blocks(s: Scan, piece: &[u8]) -> Scan
     at
 }
 
-// One block more.
+// One more block.
 fn scan_block(s: Scan, block: &[u8]) -> Scan
     requires { ⌜ (length (now block) ≡ blockLength) × (s .blocks < buffer.maxBlocks)
         × (s .rows ≤ cellsPerBlock * s .blocks) ⌝ }
@@ -330,7 +330,7 @@ fn scan_block(s: Scan, block: &[u8]) -> Scan
     }
 }
 
-// What an all-zero block makes of a stage.
+// The stage after an all-zero block.
 fn after_blank(stage: Stage) -> Stage
     ensures { λ r. ⌜ stageOf r ≡ buffer.stageBlank (stageOf stage) ⌝ }
 {
@@ -342,7 +342,7 @@ fn after_blank(stage: Stage) -> Stage
     }
 }
 
-// What any other block makes of it, at position `k`, of which `used` rows are sound.
+// The stage after any other block, at position `k`. `used` is the number of its rows if it is sound, else 0.
 fn after_block(stage: Stage, k: usize, block: &[u8], used: usize) -> Stage
     requires { ⌜ (length (now block) ≡ blockLength) × (used ≡ soundCount (now block)) ⌝ }
     ensures { λ r. ⌜ stageOf r ≡ buffer.stageAfter (stageOf stage) k (now (block .entry)) ⌝ }
@@ -355,7 +355,7 @@ fn after_block(stage: Stage, k: usize, block: &[u8], used: usize) -> Stage
     }
 }
 
-// The same where all before it are full.
+// The same if all blocks before it are full.
 fn next_stage(k: usize, block: &[u8], used: usize) -> Stage
     requires { ⌜ (length (now block) ≡ blockLength) × (used ≡ soundCount (now block)) ⌝ }
     ensures { λ r. ⌜ stageOf r ≡ buffer.stageAfter buffer.Filling k (now (block .entry)) ⌝ }
@@ -384,7 +384,7 @@ fn before(k: usize) -> usize
 
 // ---- the calls
 
-// Whether a length is that of a buffer of whole blocks, at most 2^32 of them.
+// Whether a length is that of whole blocks, at most 2^32 of them.
 pub fn is_whole(len: usize) -> bool
     ensures { λ r. ⌜ r ≡ buffer.isWhole len ⌝ }
 {
@@ -406,7 +406,7 @@ pub fn open(buffer: &[u8]) -> Opened
     rows_found(stage, end.rows)
 }
 
-// What a scan of all blocks says.
+// The answer after a scan of all blocks.
 fn rows_found(stage: Stage, rows: usize) -> Opened
     ensures { λ r. ⌜ openResult r ≡ openFound (buffer.stageFound (stageOf stage)) rows ⌝ }
 {
@@ -418,7 +418,7 @@ fn rows_found(stage: Stage, rows: usize) -> Opened
     }
 }
 
-// Whether these are the bytes of a block, and the first five say that row `n` is the next.
+// Whether these are the bytes of a block, and its first five say that row `n` is the next.
 pub fn is_next(block: &[u8], n: usize) -> bool
     ensures { λ r. ⌜ r ≡ (eqb (length (now (block .entry))) blockLength && calls.isNext n (now (block .entry))) ⌝ }
 {
@@ -433,8 +433,8 @@ pub fn is_next(block: &[u8], n: usize) -> bool
         & (block_layout::byte_at(block, 4) as usize == used)
 }
 
-// Row `n` into the 512 bytes of its block, for a caller that holds that block alone. Refused: 16 for another length or an n that no archive has
-// (15 times 2^32 and more), 12 at n / 15, the check's; then the block is as it was.
+// Puts row `n` into the 512 bytes of its block, for a caller that has only that block. Refused: 16 for a wrong length, or an n that no archive has
+// (15 times 2^32 and more); 12 with the position n / 15; the check's number; then the block is unchanged.
 pub fn put_row(block: &mut [u8], n: usize, bytes: &[u8], time: u64, loose: bool) -> Outcome
     ensures { λ r. ⌜ appendResult r (now (block .exit))
         ≡ calls.putRowOf (now (block .entry)) n (rowOf (now (bytes .entry)) time loose) ⌝ }
@@ -456,7 +456,7 @@ pub fn put_row(block: &mut [u8], n: usize, bytes: &[u8], time: u64, loose: bool)
     Outcome::Done
 }
 
-// The header, the row in its cell, and the CRC; the other cells are as they were.
+// Writes the header, the row in its cell, and the CRC; the other cells are unchanged.
 fn write_row(block: &mut [u8], n: usize, bytes: &[u8], time: u64, loose: bool)
     requires { ⌜ (length (now block) ≡ blockLength) × (length (now bytes) ≤ cellCapacity) ⌝ }
     ensures { λ _. ⌜ now (block .exit) ≡ calls.putRow n (rowOf (now (bytes .entry)) time loose) (now (block .entry)) ⌝ }
@@ -477,8 +477,8 @@ fn write_row(block: &mut [u8], n: usize, bytes: &[u8], time: u64, loose: bool)
     block_layout::seal(block);
 }
 
-// Appends a row to an archive of `n` rows, as `open` said: one block is looked at and written. Refused: 16, 12 with the position n / 15, the
-// check's, 6; then the buffer is as it was.
+// Appends a row to an archive of `n` rows, the number that `open` returned: only one block is read and written. Refused: 16, 12 with the position n /
+// 15, the check's number, 6; then the buffer is unchanged.
 pub fn append_at(buffer: &mut [u8], n: usize, bytes: &[u8], time: u64, loose: bool) -> Outcome
     ensures { λ r. ⌜ appendResult r (now (buffer .exit))
         ≡ calls.appendAtOf (now (buffer .entry)) n (rowOf (now (bytes .entry)) time loose) ⌝ }
@@ -499,7 +499,7 @@ pub fn append_at(buffer: &mut [u8], n: usize, bytes: &[u8], time: u64, loose: bo
     )
 }
 
-// What a row that has no block is refused for.
+// The refusal of a row for which there is no block.
 fn no_block(bytes: &[u8]) -> Outcome
     ensures { λ r. ⌜ NoBlock (now (bytes .entry)) r ⌝ }
 {
@@ -510,7 +510,7 @@ fn no_block(bytes: &[u8]) -> Outcome
     }
 }
 
-// Row `i` as it stands. Refused: 16, 10 where there is no row i, 12 where its length is over 21, as in no archive.
+// Reads row `i`. Refused: 16, 10 if there is no row i, 12 if its length is over 21, which no archive has.
 pub fn row_at(buffer: &[u8], i: usize) -> RowAt
     ensures { λ r. ⌜ readResult r
         ≡ rowShown (calls.rowAtOf (now (buffer .entry)) i) (calls.cellAt i (now (buffer .entry))) ⌝ }
@@ -555,7 +555,7 @@ fn read_row(block: &[u8], i: usize) -> RowAt
     }
 }
 
-// No row, and why.
+// No row, and the reason.
 fn no_row(why: Refusal) -> RowAt
     ensures { λ r. ⌜ ((cell : List ℕ) → readResult r ≡ rowShown (noRowFor why) cell) ⌝ }
 {
@@ -568,7 +568,7 @@ fn no_row(why: Refusal) -> RowAt
     }
 }
 
-// Appends a row. Refused: 16, 12 with the position, the check's, 6; then the buffer is as it was.
+// Appends a row. Refused: 16, 12 with the position, the check's number, 6; then the buffer is unchanged.
 pub fn append(buffer: &mut [u8], bytes: &[u8], time: u64, loose: bool) -> Outcome
     ensures { λ r. ⌜ appendResult r (now (buffer .exit))
         ≡ calls.appendOf (now (buffer .entry)) (rowOf (now (bytes .entry)) time loose) ⌝ }

@@ -1,4 +1,4 @@
-// Rows put into their block together: each cell, and then header and CRC once for all of them.
+// Puts several rows into their block at once: first each cell, then header and CRC once for all of them.
 use archive_file::MAX_ROWS;
 use archive_file::Taken;
 use base_refusal::Refusal;
@@ -22,10 +22,10 @@ ghost use Rattle.archive_fill.specs.Fill.{rowLength, rowGiven, rowsGiven
 ghost use Rattle.archive_fill.specs.Calls.{putRowsResult, verdictOf};
 ghost use Rattle.archive_fill.specs.Private.{isGiven, Ready};
 
-// A row but its time: a byte that is not 0 for LOOSE, its length, and 21 bytes.
+// A row without its time: a byte that is not 0 for LOOSE, its length, and 21 bytes.
 pub const ROW_LENGTH: usize = 2 + CELL_CAPACITY;
 
-// Whether the rows were put, and beside a refusal its position.
+// Whether the rows were put; with a refusal, its position.
 pub struct Filled {
     pub answer: Taken,
     pub position: usize,
@@ -33,7 +33,7 @@ pub struct Filled {
 
 // ---- one record
 
-// What the check says of the bytes of a record.
+// The check of the bytes of a record.
 fn check_record(given: &[u8]) -> Checked
     requires { ⌜ length (now given) ≡ rowLength ⌝ }
     ensures { λ r. ⌜ checkedNumber r ≡ checkOf (rowGiven 0 (now (given .entry)) .bytes) ⌝ }
@@ -45,7 +45,7 @@ fn check_record(given: &[u8]) -> Checked
     radio_erp1::check(&given[2..2 + len])
 }
 
-// The cell of the row of a record.
+// Writes the cell of a record's row.
 fn put_record(cell: &mut [u8], time: u64, given: &[u8])
     requires { ⌜ (length (now cell) ≡ cellLength) × (length (now given) ≡ rowLength)
         × (isRow (rowGiven time (now given)) ≡ true) ⌝ }
@@ -58,7 +58,7 @@ fn put_record(cell: &mut [u8], time: u64, given: &[u8])
 
 // ---- all records
 
-// The first row that the check refuses, and its place.
+// The first row that the check refuses, and its position.
 fn check_rows(times: &[u64], rows: &[u8]) -> Filled
     requires { ⌜ length (now rows) ≡ rowLength * length (now times) ⌝ }
     ensures { λ r. ⌜ verdictOf r ≡ checkRows 0 (rowsGiven (now (times .entry)) (now (rows .entry))) ⌝ }
@@ -72,7 +72,7 @@ fn check_rows(times: &[u64], rows: &[u8]) -> Filled
     done()
 }
 
-// The cells of all rows, one behind the other.
+// Writes the cells of all rows, one after the other.
 fn put_cells(out: &mut [u8], times: &[u64], rows: &[u8])
     requires { ⌜ (length (now out) ≡ cellLength * length (now times))
         × (length (now rows) ≡ rowLength * length (now times))
@@ -90,7 +90,7 @@ fn put_cells(out: &mut [u8], times: &[u64], rows: &[u8])
 
 // ---- the block
 
-// Whether the lengths are those of a block and of a record for each time, and an archive has a row `n`.
+// Whether the lengths are those of a block and of a record for each time, and an archive can have a row `n`.
 fn is_given(block: usize, n: usize, times: usize, rows: usize) -> bool
     ensures { λ r. ⌜ r ≡ isGiven block n times rows ⌝ }
 {
@@ -106,7 +106,7 @@ fn is_given(block: usize, n: usize, times: usize, rows: usize) -> bool
     rows % ROW_LENGTH == 0
 }
 
-// The cells from row `n` on, the header with the count of all rows, and the CRC; the other cells are as they were.
+// Writes the cells from row `n` on, the header with the count of all rows, and the CRC; the other cells are unchanged.
 fn write_rows(block: &mut [u8], n: usize, times: &[u64], rows: &[u8])
     requires { ⌜ Ready (now block) n (now times) (now rows) ⌝ }
     ensures { λ _. ⌜ now (block .exit)
@@ -123,9 +123,9 @@ fn write_rows(block: &mut [u8], n: usize, times: &[u64], rows: &[u8])
     block_layout::seal(block);
 }
 
-// Rows `n`, n + 1 and so on into the 512 bytes of their block, all or none: `rows` has for each time a record of 23 bytes. Refused: 16 for another
-// length of the block, an n that no archive has (15 times 2^32 and more) or records that are not 23 bytes for each time; 12 at n / 15; the check's
-// at the place of the row among these, from 0; 6 where the block has no room for them all; then the block is as it was.
+// Puts rows `n`, n + 1 and so on into the 512 bytes of their block, all or none. `rows` has a record of 23 bytes for each time. Refused: 16 for a
+// wrong length of the block, an n that no archive has (15 times 2^32 and more) or records that are not 23 bytes for each time; 12 with n / 15; the
+// check's number with the position of the row in the list, from 0; 6 if the block has no room for all; then the block is unchanged.
 pub fn put_rows(block: &mut [u8], n: usize, times: &[u64], rows: &[u8]) -> Filled
     ensures { λ r. ⌜ putRowsResult r (now (block .exit))
         ≡ putRowsGiven (now (block .entry)) n (now (times .entry)) (now (rows .entry)) ⌝ }
@@ -162,7 +162,7 @@ fn refused(why: Refusal, position: usize) -> Filled
     }
 }
 
-// All rows are put.
+// All rows were put.
 fn done() -> Filled
     ensures { λ r. ⌜ verdictOf r ≡ record { number = 0; position = 0 } ⌝ }
 {

@@ -1,4 +1,4 @@
-// Archives packed anew (document 02, A9 and A11): a damaged one is salvaged, and the rows of sensors that left are removed. One packer serves both.
+// Packs archives again (document 02, A9 and A11): salvages a damaged one, and removes the rows of sensors that left. One packer does both.
 use archive_file::Opened;
 use archive_file::Taken;
 use base_refusal::Refusal;
@@ -26,15 +26,15 @@ ghost use Rattle.archive_repack_model.specs.Packer.{pendingLength, packing};
 ghost use Rattle.archive_repack.specs.Calls.{salvageResult, removeResult, packResult, finishResult};
 ghost use Rattle.archive_repack.specs.Private.{areRows, keptCell, keptFrom, Waits, Flushed, HasRoom, Listed, Walked, closed, NotSalvaged, NotPacked};
 
-// The most identities of one removal.
+// The largest number of identities in one removal.
 pub const MAX_IDENTITIES: usize = 32;
 
-// The bytes of the 15 cells of a block, and of what a packer is lent: the cells that wait, and those of one block more.
+// The length of the 15 cells of a block; and of the packer's buffer: for the cells that wait, and for those of one more block.
 const FULL_LENGTH: usize = CELL_LENGTH * CELLS_PER_BLOCK;
 
 pub const PENDING_LENGTH: usize = FULL_LENGTH + FULL_LENGTH;
 
-// The bytes of a block before its CRC.
+// The length of a block before its CRC.
 const BODY_LENGTH: usize = BLOCK_LENGTH - 1;
 
 // Where the bytes of a cell begin.
@@ -54,7 +54,7 @@ pub enum Removed {
     Refused(Refusal),
 }
 
-// What a piece brought a packer to: how many cells wait, the number of the next block, and how many blocks of the piece were dropped.
+// The packer after a piece: how many cells wait, the number of the next block, and how many blocks of the piece were dropped.
 pub struct Repacked {
     pub answer: Taken,
     pub used: usize,
@@ -68,7 +68,7 @@ pub struct Ended {
     pub len: usize,
 }
 
-// What a walk over blocks leaves: the cells that wait, the number of the next block, and how many blocks were dropped.
+// The packer after some blocks: how many cells wait, the number of the next block, and how many blocks were dropped.
 struct Walk {
     used: usize,
     next: usize,
@@ -98,7 +98,7 @@ fn is_listed(identity: u64, identities: &[u32]) -> bool
     false
 }
 
-// A cell goes behind `at` others, unless its transmitter is listed.
+// Puts a cell after `at` others, unless its transmitter is listed.
 fn push_cell(pending: &mut [u8], at: usize, cell: &[u8], identities: &[u32]) -> usize
     requires { ⌜ (length (now pending) ≡ pendingLength) × (at < cellsPerBlock + cellsPerBlock)
         × (length (now cell) ≡ cellLength) × (isRow (rowIn (now cell)) ≡ true) ⌝ }
@@ -115,7 +115,7 @@ fn push_cell(pending: &mut [u8], at: usize, cell: &[u8], identities: &[u32]) -> 
     at + 1
 }
 
-// The first `rows` cells of a block go behind `used` others, those of listed transmitters left out.
+// Puts the first `rows` cells of a block after `used` others, without those of listed transmitters.
 fn push_cells(
     pending: &mut [u8],
     used: usize,
@@ -138,7 +138,7 @@ fn push_cells(
 
 // ---- one block
 
-// Block `k` with these cells.
+// Writes block `k` with these cells.
 fn put_block(out: &mut [u8], k: usize, cells: &[u8])
     requires { ⌜ (length (now out) ≡ blockLength) × (length (now cells) ≤ packer.fullLength) ⌝ }
     ensures { λ _. ⌜ now (out .exit) ≡ packer.cellsBlock k (now (cells .entry)) ⌝ }
@@ -152,7 +152,7 @@ fn put_block(out: &mut [u8], k: usize, cells: &[u8])
     block_layout::seal(out);
 }
 
-// The cells behind the first 15 go to the front.
+// Moves the cells after the first 15 to the front.
 fn move_front(pending: &mut [u8])
     requires { ⌜ length (now pending) ≡ pendingLength ⌝ }
     ensures { λ _. ⌜ now (pending .exit)
@@ -163,7 +163,7 @@ fn move_front(pending: &mut [u8])
     bytes::copy(&later, &mut pending[0..FULL_LENGTH]);
 }
 
-// Where 15 of `total` cells fill block `k`, it is put, and the others wait.
+// If 15 of `total` cells fill block `k`, writes it; the others wait.
 fn flush(pending: &mut [u8], total: usize, k: usize, full: &mut [u8]) -> usize
     requires { ⌜ (length (now pending) ≡ pendingLength) × (total < cellsPerBlock + cellsPerBlock)
         × (length (now full) ≡ blockLength) ⌝ }
@@ -180,7 +180,7 @@ fn flush(pending: &mut [u8], total: usize, k: usize, full: &mut [u8]) -> usize
 
 // ---- the blocks of a piece
 
-// Position `k` goes behind `gone` others, where its block, of which `rows` rows are sound, is dropped.
+// If a block is dropped, puts its position `k` after `gone` others. `rows` is the number of its rows if it is sound, else 0.
 fn list_block(positions: &mut [u64], gone: usize, k: usize, block: &[u8], rows: usize) -> usize
     requires { ⌜ (rows ≡ soundCount (now block)) × HasRoom (now block) gone (now positions) ⌝ }
     ensures { λ r. ⌜ Listed (model.isDropped (now (block .entry))) gone k (now (positions .entry))
@@ -197,8 +197,8 @@ fn list_block(positions: &mut [u64], gone: usize, k: usize, block: &[u8], rows: 
     gone + 1
 }
 
-// The rows of the sound blocks of a piece that stay go behind the `used` that wait, every 15 into a block of `out`, the first of them block `next`;
-// the positions of the dropped ones go to the list.
+// Puts the rows of a piece that stay, from its sound blocks, after the `used` that wait. Every 15 fill a block of `out`; the first of them is block
+// `next`. The positions of dropped blocks go to the list.
 fn pack_blocks(
     pending: &mut [u8],
     used: usize,
@@ -240,7 +240,7 @@ fn pack_blocks(
     }
 }
 
-// The last block, where cells wait, into its place, and zeros behind it up to `end`.
+// Writes the last block, if cells wait, and zeros after it up to `end`.
 fn close(out: &mut [u8], pending: &[u8], used: usize, next: usize, end: usize)
     requires { ⌜ (length (now pending) ≡ pendingLength) × (used < cellsPerBlock)
         × (cellsPerBlock * next + used ≤ cellsPerBlock * (end / blockLength)) × (end ≤ length (now out)) ⌝ }
@@ -261,7 +261,7 @@ fn close(out: &mut [u8], pending: &[u8], used: usize, next: usize, end: usize)
 
 // ---- salvage
 
-// 1 for a block that is dropped, and 0 for any other.
+// 1 for a block that is dropped, 0 for any other.
 fn dropped_one(block: &[u8]) -> usize
     ensures { λ r. ⌜ r ≡ cond (model.isDropped (now (block .entry))) 1 0 ⌝ }
 {
@@ -285,7 +285,7 @@ fn dropped_in(buffer: &[u8]) -> usize
     gone
 }
 
-// Whether a list of `len` is long enough for the positions: a list as long as the buffer has blocks is, and nothing is looked at.
+// Whether a list of length `len` is long enough for the positions. If it has an entry for each block, it is, and no block is read.
 fn is_listable(buffer: &[u8], len: usize) -> bool
     ensures { λ r. ⌜ r ≡ leb (length (model.dropped (now (buffer .entry)))) len ⌝ }
 {
@@ -295,8 +295,8 @@ fn is_listable(buffer: &[u8], len: usize) -> bool
     dropped_in(buffer) <= len
 }
 
-// The rows of the sound blocks of a damaged archive as an archive in the front of `out`, zeros up to the buffer's length, and the positions of the
-// blocks dropped in the front of the list. Refused: 16, 6 for an output shorter than the buffer or a list too short; then both are as they were.
+// Writes the rows of the sound blocks as an archive to the front of `out`, with zeros up to the length of the buffer, and the positions of the
+// dropped blocks to the front of the list. Refused: 16, 6 for an output shorter than the buffer or a list too short; then both are unchanged.
 pub fn salvage(buffer: &[u8], out: &mut [u8], positions: &mut [u64]) -> Salvaged
     ensures { λ r. ⌜ salvageResult r (now (out .exit)) (now (positions .exit))
         ≡ model.salvageOf (now (buffer .entry)) (now (out .entry)) (now (positions .entry)) ⌝ }
@@ -321,7 +321,7 @@ pub fn salvage(buffer: &[u8], out: &mut [u8], positions: &mut [u64]) -> Salvaged
     }
 }
 
-// Nothing was salvaged, and why.
+// Nothing was salvaged, and the reason.
 fn not_salvaged(why: Refusal) -> Salvaged
     ensures { λ r. ⌜ NotSalvaged why r ⌝ }
 {
@@ -334,7 +334,7 @@ fn not_salvaged(why: Refusal) -> Salvaged
 
 // ---- removal
 
-// How many blocks `rows` rows take.
+// How many blocks `rows` rows need.
 fn blocks_for(rows: usize) -> usize
     requires { ⌜ rows ≤ maxRows ⌝ }
     ensures { λ r. ⌜ r ≡ blocksFor rows ⌝ }
@@ -342,8 +342,8 @@ fn blocks_for(rows: usize) -> usize
     (rows + (CELLS_PER_BLOCK - 1)) / CELLS_PER_BLOCK
 }
 
-// The rows that stay of the first `blocks` blocks of an archive, which are those in use, go into its front from left to right: every 15 into a block,
-// and the others wait. A block is written only after it was read, since no more blocks are put than were passed.
+// Packs the rows that stay to the front of the buffer, from left to right: every 15 fill a block, and the others wait. `blocks` is the number of
+// blocks with rows. A block is written only after it was read, because no more blocks are written than were read.
 fn pack_within(buffer: &mut [u8], blocks: usize, identities: &[u32], pending: &mut [u8]) -> Walk
     requires { ⌜ (verdict (now buffer) .number ≡ 0) × (blocks ≡ blocksFor (length (rowsIn (now buffer))))
         × (length (now pending) ≡ pendingLength) ⌝ }
@@ -371,8 +371,8 @@ fn pack_within(buffer: &mut [u8], blocks: usize, identities: &[u32], pending: &m
     }
 }
 
-// The rows of transmitters that are listed leave the archive, whose other rows are packed anew in its own buffer; blocks that are no longer needed
-// are zero. Refused: 16, 12 with the position, 10 for more than 32 identities; then the buffer is as it was.
+// Removes the rows of listed transmitters. The other rows are packed in the same buffer, and blocks that are no longer needed are zero. Refused: 16,
+// 12 with the position, 10 for more than 32 identities; then the buffer is unchanged.
 pub fn remove(buffer: &mut [u8], identities: &[u32]) -> Removed
     ensures { λ r. ⌜ removeResult r (now (buffer .exit))
         ≡ model.removeOf (now (buffer .entry)) (now (identities .entry)) ⌝ }
@@ -385,7 +385,7 @@ pub fn remove(buffer: &mut [u8], identities: &[u32]) -> Removed
     }
 }
 
-// The same from an archive of `n` rows.
+// The same for an archive of `n` rows.
 fn remove_from(buffer: &mut [u8], n: usize, identities: &[u32]) -> Removed
     requires { ⌜ (verdict (now buffer) .number ≡ 0) × (n ≡ length (rowsIn (now buffer))) ⌝ }
     ensures { λ r. ⌜ removeResult r (now (buffer .exit))
@@ -404,7 +404,7 @@ fn remove_from(buffer: &mut [u8], n: usize, identities: &[u32]) -> Removed
 
 // ---- in pieces
 
-// Whether a packer is lent 960 bytes, fewer than 15 cells wait, and there is a block number for them: no archive has more than 2^32 blocks.
+// Whether the packer's buffer has 960 bytes, fewer than 15 cells wait, and there is a block number for them: an archive has at most 2^32 blocks.
 fn is_packing(pending: &[u8], used: usize, next: usize) -> bool
     ensures { λ r. ⌜ r ≡ packer.isPacking next used (now (pending .entry)) ⌝ }
 {
@@ -420,9 +420,9 @@ fn is_packing(pending: &[u8], used: usize, next: usize) -> bool
     CELLS_PER_BLOCK * next + used <= archive_file::MAX_ROWS
 }
 
-// The next piece of an archive that is packed in pieces: what stays of its rows goes behind the `used` cells that wait in `pending`, every 15 into a
-// block of `out`, the first of them block `next`; the positions of the dropped blocks, from the first block of the piece, go to the list. Refused: 11
-// for a packer that no pieces give, 16, 10 for more than 32 identities, 6; then all are as they were. Else zeros stand behind the cells that wait.
+// Packs the next piece of an archive. The rows that stay are put after the `used` cells that wait in `pending`; every 15 fill a block of `out`, and
+// the first of them is block `next`. The positions of the dropped blocks, counted from the first block of the piece, go to the list. Refused: 11 for
+// a packer that no pieces give, 16, 10 for more than 32 identities, 6; then everything is unchanged. Else there are zeros after the cells that wait.
 pub fn pack(
     pending: &mut [u8],
     used: usize,
@@ -466,7 +466,7 @@ pub fn pack(
     }
 }
 
-// Nothing was packed, and why.
+// Nothing was packed, and the reason.
 fn not_packed(used: usize, next: usize, why: Refusal) -> Repacked
     ensures { λ r. ⌜ NotPacked used next why r ⌝ }
 {
@@ -478,7 +478,8 @@ fn not_packed(used: usize, next: usize, why: Refusal) -> Repacked
     }
 }
 
-// The end of pieces: the last block, where cells wait, in the front of `out`, and its length, 512 or 0. Refused: 11, 6 for an output too short.
+// Ends the pieces: writes the last block, if cells wait, to the front of `out`, and returns its length, 512 or 0. Refused: 11, 6 for an output too
+// short.
 pub fn finish(pending: &[u8], used: usize, next: usize, out: &mut [u8]) -> Ended
     ensures { λ r. ⌜ finishResult r (now (out .exit))
         ≡ packer.finishOf next used (now (pending .entry)) (now (out .entry)) ⌝ }

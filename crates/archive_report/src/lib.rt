@@ -1,4 +1,4 @@
-// The yearly report (document 02, A12): archives are added, lines read, and the share of its rows in receptions worked out.
+// The yearly report (document 02, A12): adds archives, reads lines, and computes the share of its rows in receptions.
 mod lines;
 mod tally;
 
@@ -22,10 +22,10 @@ ghost use Rattle.archive_report.specs.Lines.{linesLength};
 ghost use Rattle.archive_report.specs.Report.{reportOf, addedResult, shareResult, lineResult, addingOf, feedResult, linesAdded, linesFed, linesEnded};
 ghost use Rattle.archive_report.specs.Private.{tallyOf, keptWith, noLineFor, Starts};
 
-// The numbers of a line.
+// How many numbers a line has.
 pub(crate) const LINE_LENGTH: usize = 5;
 
-// What the archives added so far hold: how many they are, how many lines there are, the grand totals, and the lines, five numbers each.
+// The archives added so far: how many there are, how many lines, the totals, and the lines, five numbers each.
 pub struct Report {
     pub archives: usize,
     pub count: usize,
@@ -34,7 +34,7 @@ pub struct Report {
     pub lines: [u64; Report::MAX_LINES * LINE_LENGTH],
 }
 
-// The report after an archive, or beside a refusal the one that was handed in.
+// The report after an archive; with a refusal, the report that was handed in.
 pub struct Added {
     pub next: Report,
     pub answer: Outcome,
@@ -62,8 +62,8 @@ pub struct LineAt {
     pub latest: u64,
 }
 
-// An archive that is added in pieces: the report as handed in; the scan, how many lines there are, the totals and the lines so far; and whether a
-// transmitter was one too many.
+// An archive that is added in pieces: the report before it; the scan, the number of lines, the totals and the lines so far; and whether there were
+// more than 256 transmitters.
 pub struct Adding {
     pub before: Report,
     pub scan: Scan,
@@ -74,7 +74,7 @@ pub struct Adding {
     pub lines: [u64; Report::MAX_LINES * LINE_LENGTH],
 }
 
-// What is known after a piece, or beside a refusal what was handed in.
+// What is known after a piece; with a refusal, what was handed in.
 pub struct Fed {
     pub next: Adding,
     pub answer: Taken,
@@ -85,7 +85,7 @@ impl Report {
 
     pub const MAX_LINES: usize = 256;
 
-    // Before the first archive.
+    // The report before the first archive.
     pub fn empty() -> Report
         ensures { λ r. ⌜ reportOf r ≡ model.emptyReport ⌝ }
         ensures { λ r. ⌜ r .lines ≡ replicate linesLength 0 ⌝ }
@@ -100,7 +100,7 @@ impl Report {
     }
 
     // Adds the rows of an archive. Refused: 11 for a report that no archives give, 16, 12 with the position, 10 for a 65th archive, 17 for a 257th
-    // transmitter; then the report is as it was.
+    // transmitter; then the report is unchanged.
     pub fn add(self, buffer: &[u8]) -> Added
         ensures { λ r. ⌜ addedResult r ≡ model.addOf (reportOf self) (now (buffer .entry)) ⌝ }
         ensures { λ r. ⌜ r .next .lines ≡ linesAdded (model.addOf (reportOf self) (now (buffer .entry))) (self .lines) ⌝ }
@@ -116,7 +116,7 @@ impl Report {
         close(self, t, lines)
     }
 
-    // Line `i`, in order of identity. Refused: 11, then 10 where there is no line i.
+    // Line `i`, in order of identity. Refused: 11, then 10 if there is no line i.
     pub fn line(self, i: usize) -> LineAt
         ensures { λ r. ⌜ lineResult r ≡ model.lineOfReport (reportOf self) i ⌝ }
     {
@@ -138,7 +138,8 @@ impl Report {
         }
     }
 
-    // The share of its rows in a received figure, in whole thousandths rounded down. Refused: 11, then 10 for a figure of 0 or less than the rows.
+    // The share of its rows in the number received, in whole thousandths rounded down. Refused: 11, then 10 if that number is 0 or less than the
+    // rows.
     pub fn share(self, received: u64) -> Share
         ensures { λ r. ⌜ shareResult r ≡ model.shareOf (reportOf self) received ⌝ }
     {
@@ -157,7 +158,7 @@ impl Report {
 }
 
 impl Adding {
-    // Before the first piece.
+    // What is known before the first piece.
     pub fn start(report: Report) -> Adding
         ensures { λ r. ⌜ addingOf r ≡ startAdding (reportOf report) ⌝ }
         ensures { λ r. ⌜ (r .before ≡ report) × (r .lines ≡ report .lines) ⌝ }
@@ -175,8 +176,8 @@ impl Adding {
         }
     }
 
-    // The blocks of a piece, in their order. Refused: 11 for an adding that no pieces give, as far as its numbers tell, 16 for a piece that isn't whole
-    // blocks or brings more than 2^32 of them in all; then nothing is changed.
+    // Adds the blocks of a piece, in order. Refused: 11 if no pieces can give these numbers, 16 for a piece that isn't whole blocks, or if there are
+    // then more than 2^32 blocks in all; then nothing is changed.
     pub fn feed(self, piece: &[u8]) -> Fed
         ensures { λ r. ⌜ feedResult r ≡ feedOf (addingOf self) (now (piece .entry)) ⌝ }
         ensures { λ r. ⌜ (r .next .before ≡ self .before)
@@ -198,7 +199,8 @@ impl Adding {
         taken(self, t, lines)
     }
 
-    // What `add` answers for all pieces that were taken, as one archive. Refused: 11, 12 with the position, 10, 17; then the report is as it was.
+    // Returns what `add` answers for all pieces that were taken, as one archive. Refused: 11, 12 with the position, 10, 17; then the report is
+    // unchanged.
     pub fn end(self) -> Added
         ensures { λ r. ⌜ addedResult r ≡ endedOf (addingOf self) ⌝ }
         ensures { λ r. ⌜ r .next .lines ≡ linesEnded (endedOf (addingOf self)) (self .lines) (self .before .lines) ⌝ }
@@ -212,7 +214,7 @@ impl Adding {
     }
 }
 
-// No line.
+// An array without lines.
 fn no_lines() -> [u64; Report::MAX_LINES * LINE_LENGTH]
     ensures { λ r. ⌜ r ≡ replicate linesLength 0 ⌝ }
 {
@@ -243,7 +245,7 @@ fn is_report(report: Report) -> bool
     lines::are_lines(&report.lines, count, kept, loose)
 }
 
-// The report stays as it was.
+// A refusal: the report is unchanged.
 fn kept(s: Report, why: Refusal) -> Added
     ensures { λ r. ⌜ (addedResult r ≡ keptWith s why) × (r .next .lines ≡ s .lines) ⌝ }
 {
@@ -253,7 +255,7 @@ fn kept(s: Report, why: Refusal) -> Added
     }
 }
 
-// No line, and why.
+// No line, and the reason.
 fn no_line(why: Refusal) -> LineAt
     ensures { λ r. ⌜ lineResult r ≡ noLineFor why ⌝ }
 {
@@ -267,7 +269,7 @@ fn no_line(why: Refusal) -> LineAt
     }
 }
 
-// Before the first block.
+// The tally before the first block.
 fn start(count: usize, kept: u64, loose: u64) -> Tally
     ensures { λ r. ⌜ Starts count kept loose r ⌝ }
 {
@@ -280,7 +282,7 @@ fn start(count: usize, kept: u64, loose: u64) -> Tally
     }
 }
 
-// What a report is after all blocks.
+// The report after all blocks.
 fn close(before: Report, t: Tally, lines: [u64; Report::MAX_LINES * LINE_LENGTH]) -> Added
     ensures { λ r. ⌜ (addedResult r ≡ closing (reportOf before) (tallyOf t lines))
         × (r .next .lines ≡ linesEnded (addedResult r) lines (before .lines)) ⌝ }
@@ -298,7 +300,7 @@ fn close(before: Report, t: Tally, lines: [u64; Report::MAX_LINES * LINE_LENGTH]
     }
 }
 
-// The same where every block matches.
+// The same if every block matches.
 fn sum_up(before: Report, t: Tally, lines: [u64; Report::MAX_LINES * LINE_LENGTH]) -> Added
     ensures { λ r. ⌜ (addedResult r ≡ closed (reportOf before) (tallyOf t lines) None)
         × (r .next .lines ≡ linesEnded (addedResult r) lines (before .lines)) ⌝ }
@@ -324,7 +326,7 @@ fn sum_up(before: Report, t: Tally, lines: [u64; Report::MAX_LINES * LINE_LENGTH
 
 // ---- in pieces
 
-// What is known beside the lines.
+// What is known, without the lines.
 fn so_far(a: Adding) -> Tally
     ensures { λ r. ⌜ tallyOf r (a .lines) ≡ addingOf a .tally ⌝ }
 {
@@ -338,7 +340,7 @@ fn so_far(a: Adding) -> Tally
     }
 }
 
-// Nothing is changed.
+// A refusal: nothing is changed.
 fn unchanged(a: Adding, why: Refusal) -> Fed
     ensures { λ r. ⌜ (feedResult r ≡ fed (numberOf why) (addingOf a)) × (r .next ≡ a) ⌝ }
 {
@@ -369,7 +371,7 @@ fn taken(a: Adding, t: Tally, lines: [u64; Report::MAX_LINES * LINE_LENGTH]) -> 
     }
 }
 
-// Whether a piece of so many bytes is whole blocks, at most 2^32 with those passed.
+// Whether a piece of `len` bytes is whole blocks, at most 2^32 with those before it.
 fn is_piece(blocks: usize, len: usize) -> bool
     requires { ⌜ blocks ≤ maxBlocks ⌝ }
     ensures { λ r. ⌜ r ≡ isWhole (blockLength * blocks + len) ⌝ }
@@ -380,7 +382,7 @@ fn is_piece(blocks: usize, len: usize) -> bool
     blocks + len / BLOCK_LENGTH <= archive_file::MAX_BLOCKS
 }
 
-// The rows of the lines so far, of a report with so many.
+// How many rows the lines have so far, where the report before had `before`; 0 if there were more than 256 transmitters.
 fn rows_of(over: bool, before: u64, rows: usize) -> u64
     requires { ⌜ before + rows < 2 ^ 63 ⌝ }
     ensures { λ r. ⌜ r ≡ cond over 0 (before + rows) ⌝ }
@@ -391,7 +393,7 @@ fn rows_of(over: bool, before: u64, rows: usize) -> u64
     before + rows as u64
 }
 
-// Whether some pieces give this adding, as far as its numbers tell.
+// Whether some pieces can give these numbers.
 fn is_adding(a: Adding) -> bool
     ensures { λ r. ⌜ r ≡ isAdding (addingOf a) ⌝ }
 {

@@ -1,4 +1,4 @@
-// The lines of a report in one array: five numbers a line, identity, KEPT rows, LOOSE rows, earliest and latest time, in order of identity.
+// The lines of a report in one array, in order of identity. A line has five numbers: identity, KEPT rows, LOOSE rows, earliest and latest time.
 use crate::LINE_LENGTH;
 use crate::Report;
 ghost use mathlib.Core.Path.{_≡_};
@@ -10,7 +10,7 @@ ghost use Rattle.archive_report_model.specs.Report.{maxLines, joined, rowsOfLin
 ghost use Rattle.archive_report.specs.Lines.{lineLength, linesLength, lineAt, linesFrom, linesAt};
 ghost use Rattle.archive_report.specs.Private.{rowLine, totalOf, isLineOf, isBefore, lineFits, Ordered, Place, Gap, Stored, Inserted};
 
-// `end` where so many lines are all there and below this identity, else `low`.
+// `end` if the first `end` lines exist and are below this identity, else `low`.
 fn step(lines: &[u64], count: usize, identity: u64, low: usize, end: usize) -> usize
     requires { ⌜ (length (now lines) ≡ linesLength) × (low < end) × (end ≤ maxLines) ⌝ }
     ensures { λ r. ⌜ r
@@ -22,7 +22,7 @@ fn step(lines: &[u64], count: usize, identity: u64, low: usize, end: usize) -> u
     low
 }
 
-// So few lines take four turns of the search, and 256 take nine.
+// Up to this many lines the search takes four steps; 256 lines take nine.
 const FEW: usize = 15;
 
 // How many of the first `count` lines have an identity below this one.
@@ -36,7 +36,7 @@ fn find(lines: &[u64], count: usize, identity: u64) -> usize
     find_among(lines, count, identity, Report::MAX_LINES)
 }
 
-// The same where there are at most `most`. The turns are the same for every count, so that they can be laid out one after another without a branch.
+// The same if there are at most `most` lines. The steps are the same for every count, so they can be unrolled without a branch.
 fn find_among(lines: &[u64], count: usize, identity: u64, most: usize) -> usize
     requires { ⌜ (length (now lines) ≡ linesLength) × (count ≤ most) × (most ≤ maxLines) × Ordered (now lines) count ⌝ }
     ensures { λ r. ⌜ Place (now (lines .entry)) count identity r ⌝ }
@@ -51,7 +51,7 @@ fn find_among(lines: &[u64], count: usize, identity: u64, most: usize) -> usize
     low
 }
 
-// Whether line `i` is there and has this identity.
+// Whether line `i` exists and has this identity.
 fn is_at(lines: &[u64], count: usize, i: usize, identity: u64) -> bool
     requires { ⌜ (count ≤ maxLines) × (length (now lines) ≡ linesLength) ⌝ }
     ensures { λ r. ⌜ r ≡ ltb i count && eqb (lineAt (now (lines .entry)) i .identity) identity ⌝ }
@@ -62,7 +62,7 @@ fn is_at(lines: &[u64], count: usize, i: usize, identity: u64) -> bool
     lines[LINE_LENGTH * i] == identity
 }
 
-// What stands from `from` to `end` is moved by one line.
+// Moves the numbers from `from` to `end` up by one line.
 fn make_gap(lines: &mut [u64], from: usize, end: usize)
     requires { ⌜ (from ≤ end) × (end + lineLength ≤ length (now lines)) ⌝ }
     ensures { λ _. ⌜ Gap from end (now (lines .entry)) (now (lines .exit)) ⌝ }
@@ -74,7 +74,7 @@ fn make_gap(lines: &mut [u64], from: usize, end: usize)
     }
 }
 
-// Line `i` is written.
+// Writes line `i`.
 fn store_line(
     lines: &mut [u64],
     i: usize,
@@ -133,7 +133,7 @@ fn greatest(a: u64, b: u64) -> u64
     a
 }
 
-// One row more in line `i`.
+// Counts one more row in line `i`.
 fn join_row(lines: &mut [u64], i: usize, time: u64, loose: bool)
     requires { ⌜ (i < maxLines) × (length (now lines) ≡ linesLength) × (rowsOfLine (lineAt (now lines) i) < 2 ^ 63) ⌝ }
     ensures { λ _. ⌜ Stored i
@@ -149,7 +149,7 @@ fn join_row(lines: &mut [u64], i: usize, time: u64, loose: bool)
     store_line(lines, i, identity, kept, others, earliest, latest);
 }
 
-// A row is counted in its line, or in a new one. The answer is how many lines there are then; of 257 nothing is stored.
+// Counts a row in its line, or in a new one. Returns how many lines there are then; a 257th line is not stored.
 pub(crate) fn add_row(
     lines: &mut [u64],
     count: usize,
@@ -196,7 +196,7 @@ fn is_before(lines: &[u64], count: usize, i: usize) -> bool
     lines[LINE_LENGTH * i] < lines[LINE_LENGTH * (i + 1)]
 }
 
-// Whether these are the numbers of a line with so many rows.
+// Whether these can be the numbers of a line.
 fn is_line(identity: u64, rows: u64, earliest: u64, latest: u64) -> bool
     ensures { λ r. ⌜ r ≡ isLineOf identity rows earliest latest ⌝ }
 {
@@ -204,7 +204,7 @@ fn is_line(identity: u64, rows: u64, earliest: u64, latest: u64) -> bool
         & ((1 <= rows) & ((earliest <= latest) & ((1 < rows) | (earliest == latest))))
 }
 
-// Whether line `i` is one, is below the next, and has no more rows than these.
+// Whether line `i` is a line, is below the next, and has no more rows than these totals.
 fn fits(lines: &[u64], count: usize, i: usize, kept: u64, loose: u64) -> bool
     requires { ⌜ (i < count) × (count ≤ maxLines) × (length (now lines) ≡ linesLength) × (kept + loose < 2 ^ 63) ⌝ }
     ensures { λ r. ⌜ r

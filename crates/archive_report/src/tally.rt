@@ -37,7 +37,7 @@ fn identity_of(cell: &[u8]) -> u64
     block_layout::read_number(&cell[at..at + 4])
 }
 
-// The row of a cell is counted in its line.
+// Counts the row of a cell in its line.
 fn add_cell(lines: &mut [u64], count: usize, cell: &[u8]) -> usize
     requires { ⌜ (length (now cell) ≡ cellLength) × (isRow (rowIn (now cell)) ≡ true) × (count ≤ maxLines)
         × (length (now lines) ≡ linesLength) × (isRising (linesAt (now lines) count) ≡ true)
@@ -53,7 +53,7 @@ fn add_cell(lines: &mut [u64], count: usize, cell: &[u8]) -> usize
     )
 }
 
-// The first `used` rows of a block are counted, one line too many at most.
+// Counts the first `used` rows of a block; stops at a 257th line.
 fn add_rows(lines: &mut [u64], count: usize, block: &[u8], used: usize) -> usize
     requires { ⌜ (length (now block) ≡ blockLength) × (used ≤ cellsPerBlock)
         × (all isRow (rowsBetween (now block) 0 used) ≡ true) × (count ≤ maxLines) × (length (now lines) ≡ linesLength)
@@ -86,7 +86,7 @@ fn loose_rows(block: &[u8], used: usize) -> u64
     n
 }
 
-// What is known after some blocks: the scan, how many lines there are, the totals, and whether a transmitter was one too many.
+// What is known after some blocks: the scan, the number of lines, the totals, and whether there were more than 256 transmitters.
 pub struct Tally {
     pub scan: Scan,
     pub count: usize,
@@ -95,7 +95,7 @@ pub struct Tally {
     pub over: bool,
 }
 
-// One transmitter too many: no line is left.
+// More than 256 transmitters: no line is left.
 fn overflowed(scan: Scan) -> Tally
     ensures { λ r. ⌜ r ≡ (record { scan = scan; count = 0; kept = 0; loose = 0; over = true }) ⌝ }
 {
@@ -108,7 +108,7 @@ fn overflowed(scan: Scan) -> Tally
     }
 }
 
-// One block more.
+// Adds one block.
 fn add_block(lines: &mut [u64], t: Tally, block: &[u8]) -> Tally
     requires { ⌜ (length (now block) ≡ blockLength) × (length (now lines) ≡ linesLength) × (t .scan .blocks < maxBlocks)
         × Sane (tallyOf t (now lines)) ⌝ }
@@ -137,7 +137,7 @@ fn add_block(lines: &mut [u64], t: Tally, block: &[u8]) -> Tally
     }
 }
 
-// Every whole block of a piece.
+// Adds every whole block of a piece.
 pub(crate) fn add_blocks(lines: &mut [u64], t: Tally, piece: &[u8]) -> Tally
     requires { ⌜ (length (now lines) ≡ linesLength) × (t .scan .blocks + length (now piece) / blockLength ≤ maxBlocks)
         × Sane (tallyOf t (now lines)) ⌝ }

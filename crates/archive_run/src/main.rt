@@ -1,5 +1,5 @@
-// Puts archives through the calls of standard input, a long record each, and prints what each answers: stdout is what the second
-// program says (tests/reference/README.md has the format).
+// Makes calls on archives, one for each long record of standard input, and prints what each answers. The output must equal that of the second program
+// (tests/reference/README.md has the format).
 mod reports;
 
 use archive_file::Found;
@@ -15,15 +15,15 @@ ghost use mathlib.Core.Path.{_≡_};
 ghost use Prim.Native.Nat.{_≤_, _<_, min};
 ghost use lib.ListN.{length};
 
-// The most bytes of the buffer that holds the archive.
+// The largest length of the buffer that holds the archive.
 const CAPACITY: usize = 24576;
 
 const BLOCK: usize = block_layout::BLOCK_LENGTH;
 
-// The most positions of the list that salvage writes.
+// The largest number of positions in the list that salvage writes.
 const POSITIONS: usize = 64;
 
-// The most identities of a record.
+// The largest number of identities in a record.
 const IDENTITIES: usize = 70;
 
 fn main() {
@@ -39,7 +39,7 @@ fn run(buffer: &mut [u8])
     calls(buffer, &mut out, &mut list, 1_000_000);
 }
 
-// At most so many calls, until the input ends.
+// Makes at most `most` calls, until the input ends.
 fn calls(buffer: &mut [u8], out: &mut [u8], list: &mut [u64], most: u64)
     requires { ⌜ (length (now buffer) ≡ 24576) × (length (now out) ≡ 24576) × (length (now list) ≡ 64) ⌝ }
 {
@@ -57,7 +57,7 @@ fn calls(buffer: &mut [u8], out: &mut [u8], list: &mut [u64], most: u64)
     }
 }
 
-// The next record; `more` is false past the last one.
+// The next record; `more` is false after the last one.
 struct Input {
     more: bool,
     bytes: [u8; test_io::LONG],
@@ -79,7 +79,7 @@ struct Next {
     report: Report,
 }
 
-// The next call, if there is one, on the first `n` bytes of the buffer, on the output and the list of salvage, and on the report.
+// The next call, if there is one: on the first `n` bytes of the buffer, on the output and the list of salvage, and on the report.
 fn called(buffer: &mut [u8], n: usize, out: &mut [u8], list: &mut [u64], report: Report) -> Next
     requires { ⌜ (length (now buffer) ≡ 24576) × (n ≤ 24576) × (length (now out) ≡ 24576) × (length (now list) ≡ 64) ⌝ }
     ensures { λ c. ⌜ c .len ≤ 24576 ⌝ }
@@ -151,7 +151,7 @@ fn call(buffer: &mut [u8], r: &[u8])
 
 // ---- the calls
 
-// A buffer of zeros of the length asked for.
+// A buffer of zeros of the requested length.
 fn fresh(buffer: &mut [u8], number: u64) -> usize
     requires { ⌜ length (now buffer) ≡ 24576 ⌝ }
     ensures { λ k. ⌜ k ≤ 24576 ⌝ }
@@ -164,7 +164,7 @@ fn fresh(buffer: &mut [u8], number: u64) -> usize
     n
 }
 
-// The record's bytes to their place, as far as they lie in the buffer.
+// Copies the bytes of the record to their position, as far as they are inside the buffer.
 fn put(buffer: &mut [u8], r: &[u8])
     requires { ⌜ length (now r) ≡ 320 ⌝ }
 {
@@ -242,7 +242,7 @@ fn put_row(found: RowAt) {
     test_io::text(b"\n");
 }
 
-// The bytes of a block that lies wholly in the buffer.
+// The bytes of a block, if all of it is inside the buffer.
 fn block(buffer: &[u8], number: u64)
     requires { ⌜ length (now buffer) ≤ 24576 ⌝ }
 {
@@ -262,7 +262,7 @@ fn block_bytes(buffer: &[u8], number: u64)
     test_io::text(b"\n");
 }
 
-// The buffer fed in pieces of so many blocks.
+// Feeds the buffer in pieces of `blocks` blocks.
 fn scan(buffer: &[u8], blocks: u64)
     requires { ⌜ length (now buffer) ≤ 24576 ⌝ }
 {
@@ -284,7 +284,7 @@ fn scan(buffer: &[u8], blocks: u64)
     put_scan(s);
 }
 
-// What a scan of all blocks says.
+// Prints the result of a scan of all blocks.
 fn put_scan(s: Scan) {
     let stage = s.stage;
     match stage {
@@ -297,7 +297,7 @@ fn put_scan(s: Scan) {
 
 // ---- salvage
 
-// Into the front of an output of EE and of a list of eight of them each.
+// Salvages into the front of an output filled with EE, and of a list whose numbers are filled with EE.
 fn salvage(buffer: &[u8], out: &mut [u8], list: &mut [u64], r: &[u8])
     requires { ⌜ (length (now out) ≡ 24576) × (length (now list) ≡ 64) × (length (now r) ≡ 320) ⌝ }
 {
@@ -376,7 +376,7 @@ fn four_bytes(n: u64) -> u32 {
     (n % 4294967296) as u32
 }
 
-// ---- rows taken back
+// ---- cuts
 
 fn cut(buffer: &mut [u8], r: &[u8])
     requires { ⌜ length (now r) ≡ 320 ⌝ }
@@ -391,7 +391,7 @@ fn cut(buffer: &mut [u8], r: &[u8])
     }
 }
 
-// ---- what is printed of them
+// ---- what is printed
 
 pub(crate) fn put_outcome(answer: Outcome) {
     match answer {
@@ -426,7 +426,7 @@ fn bit(b: bool) -> u64 {
 
 // ---- numbers of records
 
-// A number of a record, or the bound where it is greater.
+// A number of a record, or the bound if it is greater.
 pub(crate) fn least(x: u64, bound: usize) -> usize
     ensures { λ r. ⌜ r ≤ bound ⌝ }
 {
@@ -443,7 +443,7 @@ fn smaller(n: usize, m: usize) -> usize
     m
 }
 
-// The blocks of a piece: at least one, and no more than the buffer has.
+// The number of blocks in a piece: at least one, and no more than the buffer has.
 fn piece(blocks: u64) -> usize
     ensures { λ r. ⌜ (0 < r) × (r ≤ 48) ⌝ }
 {

@@ -1,4 +1,4 @@
-// Puts a report through its calls: operations 13 to 17.
+// Makes the calls of a report: operations 13 to 17.
 use archive_report::LineAt;
 use archive_report::Looked;
 use archive_report::Report;
@@ -7,10 +7,10 @@ ghost use mathlib.Core.Path.{_≡_};
 ghost use Prim.Native.Nat.{_≤_};
 ghost use lib.ListN.{length};
 
-// The last index of the numbers of the lines.
+// The last index of the array of lines.
 const LAST: usize = 1279;
 
-// Whether this is one of them.
+// Whether an operation is one of them.
 pub(crate) fn is_call(operation: u8) -> bool {
     (13 <= operation) & (operation <= 17)
 }
@@ -79,7 +79,7 @@ fn share(report: Report, received: u64) -> Report {
     report
 }
 
-// A field of the report overwritten.
+// The report with one field overwritten.
 fn spoiled(report: Report, r: &[u8]) -> Report
     requires { ⌜ length (now r) ≡ 320 ⌝ }
 {

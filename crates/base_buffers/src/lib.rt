@@ -1,1 +1,1 @@
-// What lent buffers show and hold: all of it is in specs/ and proofs/.
+// How lent buffers are read and written: definitions and laws in specs/ and proofs/, no code.

@@ -266,7 +266,7 @@ const TABLE: [u8; 256] = [
     243,
 ];
 
-// The CRC of all of `bytes`; of none it is 0. Of 8 to 16 bytes it is made of two words, without a table and without a loop.
+// The CRC of all of `bytes`; 0 if there are none. For 8 to 16 bytes it is computed from two words, without a table and without a loop.
 pub fn crc8(bytes: &[u8]) -> u8
     ensures { λ r. ⌜ r ≡ crcOf (now (bytes .entry)) ⌝ }
 {
@@ -283,7 +283,7 @@ pub fn crc8(bytes: &[u8]) -> u8
     remainder(folded(high, low))
 }
 
-// What the first n bytes of a word are.
+// The first n bytes of a word, as a number.
 fn begun(word: u64, n: usize) -> u64
     requires { ⌜ n ≤ 8 ⌝ }
     ensures { λ r. ⌜ r ≡ word / 2 ^ (32 - 4 * n) / 2 ^ (32 - 4 * n) ⌝ }
@@ -293,7 +293,7 @@ fn begun(word: u64, n: usize) -> u64
     part >> half
 }
 
-// Two words as one: x^32 is x^4 + x^2 + x.
+// Two words reduced to one: the remainder of x^32 is x^4 + x^2 + x.
 fn folded(high: u64, low: u64) -> u64
     ensures { λ r. ⌜ r ≡ foldedOf high low ⌝ }
 {
@@ -308,7 +308,7 @@ fn join(a: u64, w: u64) -> u64
     ((a << 1) ^ (a << 2)) ^ ((a << 4) ^ w)
 }
 
-// The remainder of a word times x^8: x^16 is x^4 + x^2 + 1, and x^8 is x^2 + x + 1.
+// The remainder of a word times x^8. The remainder of x^16 is x^4 + x^2 + 1, and that of x^8 is x^2 + x + 1.
 fn remainder(v: u64) -> u8
     ensures { λ r. ⌜ r ≡ wordRemainder v ⌝ }
 {
@@ -333,7 +333,7 @@ fn shorter(v: u64) -> u64
     (h ^ (h << 1)) ^ ((h << 2) ^ (v % 256))
 }
 
-// Eight bytes as a number, the first of them the highest.
+// Eight bytes as a number, the first byte highest.
 fn word(b: &[u8], from: usize) -> u64
     requires { ⌜ from + 8 ≤ length (now b) ⌝ }
     ensures { λ r. ⌜ (r ≡ valueOf (take 8 (drop from (now (b .entry))))) × AreBytes (now (b .entry)) ⌝ }
@@ -358,7 +358,7 @@ fn wide(b: u8) -> u64
     b as u64
 }
 
-// One byte after the other. The table is named once: a constant array is built anew wherever it is named.
+// The CRC, one byte after the other. The table is named only once here, because a constant array is built again at each place that names it.
 fn each(bytes: &[u8]) -> u8
     ensures { λ r. ⌜ r ≡ crcOf (now (bytes .entry)) ⌝ }
 {
@@ -370,7 +370,7 @@ fn each(bytes: &[u8]) -> u8
     crc
 }
 
-// One byte: XOR it in, multiply by x^8 and take the remainder, which the table has.
+// One byte: XOR it in, multiply by x^8 and look up the remainder in the table.
 fn step(table: &[u8; 256], crc: u8, byte: u8) -> u8
     requires { ⌜ isTable (now table) ≡ true ⌝ }
     ensures { λ r. ⌜ r ≡ stepOf crc byte ⌝ }

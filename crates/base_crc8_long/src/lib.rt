@@ -1,4 +1,4 @@
-// The CRC of `crc8` over long inputs, eight bytes at a time: the blocks of checkpoints and archives take it.
+// The CRC of `crc8` over long inputs, eight bytes at a time. The blocks of checkpoints and archives use it.
 ghost use mathlib.Core.Path.{_≡_};
 ghost use mathlib.Core.Bool.{true};
 ghost use Prim.Native.Nat.{_+_, _<_};
@@ -7,7 +7,7 @@ ghost use Rattle.base_crc8.specs.Crc8.{crcFrom, crcOf};
 ghost use Rattle.base_crc8.specs.Words.{powerOf};
 ghost use Rattle.base_crc8_long.specs.Tables.{isTables};
 
-// Eight tables, one behind the other: entry 256 j + b is the remainder of b times x^(8 (j + 1)).
+// Eight tables, one after the other: entry 256 j + b is the remainder of b times x^(8 (j + 1)).
 const TABLES: [u8; 2048] = [
     0,
     7,
@@ -2059,7 +2059,7 @@ const TABLES: [u8; 2048] = [
     219, // 255 times x^64
 ];
 
-// The CRC of all of `bytes`, eight at a time: for long inputs, as the tables are copied once a call.
+// The CRC of all of `bytes`, eight at a time. For long inputs, because each call copies the tables once.
 pub fn crc8_long(bytes: &[u8]) -> u8
     ensures { λ r. ⌜ r ≡ crcOf (now (bytes .entry)) ⌝ }
 {
@@ -2080,7 +2080,7 @@ fn by_eight(tables: &[u8; 2048], bytes: &[u8]) -> u8
     rest(tables, crc, &bytes[i..bytes.len()])
 }
 
-// The CRC after eight bytes more: each is looked up by itself, since the remainder of a sum is the sum of the remainders.
+// The CRC after eight more bytes. Each is looked up by itself: the remainder of a sum is the sum of the remainders.
 fn eight(tables: &[u8; 2048], crc: u8, b: &[u8]) -> u8
     requires { ⌜ (isTables (now tables) ≡ true) × (length (now b) ≡ 8) ⌝ }
     ensures { λ r. ⌜ r ≡ crcFrom crc (now (b .entry)) ⌝ }
@@ -2095,7 +2095,7 @@ fn eight(tables: &[u8; 2048], crc: u8, b: &[u8]) -> u8
     power(tables, 7, crc ^ b[0]) ^ r1
 }
 
-// The CRC after the bytes that are left, one at a time.
+// The CRC after the remaining bytes, one at a time.
 fn rest(tables: &[u8; 2048], start: u8, bytes: &[u8]) -> u8
     requires { ⌜ isTables (now tables) ≡ true ⌝ }
     ensures { λ r. ⌜ r ≡ crcFrom start (now (bytes .entry)) ⌝ }

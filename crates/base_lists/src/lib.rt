@@ -1,1 +1,1 @@
-// Definitions and laws on lists that several crates cite: all of it is in specs/ and proofs/.
+// Definitions and laws on lists for several crates, in specs/ and proofs/; no code.

@@ -1,17 +1,17 @@
-// Why a call is refused, and the number that a caller sees (document 01, "Numbers a caller sees"); 0 is no refusal.
+// Why a call is refused, and the number that a caller sees (document 01, "Numbers a caller sees"). 0 means no refusal.
 ghost use mathlib.Core.Path.{_≡_};
 ghost use Rattle.base_refusal.specs.Number.{numberOf};
 
 pub enum Refusal {
     // 1: the length is wrong.
     Length,
-    // 2: HASH is wrong, the sum.
+    // 2: HASH is wrong; it is a sum.
     Sum,
-    // 3: addressed inside addressed, or encapsulating an addressed one.
+    // 3: addressed inside addressed, or an addressed telegram is to be encapsulated.
     Nested,
-    // 4: removal asked of a plain telegram.
+    // 4: removal from a plain telegram.
     NotAddressed,
-    // 5: the addressed length is over 21, built or encapsulated.
+    // 5: an addressed telegram that is built or encapsulated would be longer than 21 bytes.
     TooLong,
     // 6: the output is shorter than the result.
     ShortOutput,
@@ -27,13 +27,13 @@ pub enum Refusal {
     NotAccepted,
     // 12: a block of an archive does not match.
     Mismatch,
-    // 13: HASH is wrong, the CRC.
+    // 13: HASH is wrong; it is a CRC.
     Crc,
     // 14: the address control of an ERP2 telegram is reserved.
     ReservedAddress,
     // 15: the fields of an ERP2 telegram do not fit its length.
     Misfit,
-    // 16: a length that isn't whole blocks, or is over 2^32 of them.
+    // 16: a length that isn't whole blocks, or is more than 2^32 blocks.
     Size,
     // 17: a 257th transmitter of a report.
     Transmitters,

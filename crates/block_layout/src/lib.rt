@@ -1,5 +1,5 @@
-// The bytes of checkpoints and archives: big-endian numbers, the 32-byte cell of an entry and the 512-byte block (document 01, "Parked
-// collector"; document 02, A2). Every function answers for buffers of any length.
+// The bytes of checkpoints and archives: big-endian numbers, the 32-byte cell of an entry and the 512-byte block (document 01, "Parked collector";
+// document 02, A2). Every function returns for buffers of any length.
 ghost use mathlib.Core.Path.{_≡_};
 ghost use Prim.Native.Nat.{min};
 ghost use lib.Dec.{eqb};
@@ -12,21 +12,21 @@ ghost use Rattle.block_layout.specs.Block.{sealBlock};
 
 pub const CELL_LENGTH: usize = 32;
 
-// The most bytes that a cell holds: those of the longest subtelegram.
+// The largest number of bytes in a cell: the length of the longest subtelegram.
 pub const CELL_CAPACITY: usize = radio_erp1::MAX_LEN;
 
 pub const HEADER_LENGTH: usize = 24;
 
 pub const CELLS_PER_BLOCK: usize = 15;
 
-// The bytes of a block before its CRC.
+// The length of a block before its CRC.
 const BODY_LENGTH: usize = 511;
 
 pub const BLOCK_LENGTH: usize = 512;
 
 // ---- writing
 
-// Zeros everywhere.
+// Fills the buffer with zeros.
 pub fn clear(out: &mut [u8])
     ensures { λ _. ⌜ now (out .exit) ≡ replicate (length (now (out .entry))) 0 ⌝ }
 {
@@ -35,7 +35,7 @@ pub fn clear(out: &mut [u8])
     }
 }
 
-// The low bytes of `n`, as many as `out` has, the highest first.
+// Writes the low bytes of `n`, as many as `out` has, the highest first.
 pub fn put_number(out: &mut [u8], n: u64)
     ensures { λ _. ⌜ now (out .exit) ≡ be (length (now (out .entry))) n ⌝ }
 {
@@ -48,7 +48,7 @@ pub fn put_number(out: &mut [u8], n: u64)
     }
 }
 
-// The bytes, cut where `out` ends or with zeros after them.
+// Copies the bytes: cut at the end of `out`, or with zeros after them.
 pub fn put_bytes(out: &mut [u8], bytes: &[u8])
     ensures { λ _. ⌜ now (out .exit) ≡ resized (length (now (out .entry))) (now (bytes .entry)) ⌝ }
 {
@@ -57,7 +57,7 @@ pub fn put_bytes(out: &mut [u8], bytes: &[u8])
     }
 }
 
-// The cell of an entry, into 32 bytes, of at most 21 bytes.
+// Writes the cell of an entry, with at most 21 bytes, into 32 bytes.
 pub fn put_cell(out: &mut [u8], time: u64, bytes: &[u8], last: u16)
     ensures { λ _. ⌜ now (out .exit) ≡ putCell time (now (bytes .entry)) last (now (out .entry)) ⌝ }
 {
@@ -73,7 +73,7 @@ pub fn put_cell(out: &mut [u8], time: u64, bytes: &[u8], last: u16)
     put_number(&mut out[30..32], last as u64);
 }
 
-// The last byte of a block: the CRC of those before it.
+// Writes the last byte of a block: the CRC of those before it.
 pub fn seal(block: &mut [u8])
     ensures { λ _. ⌜ now (block .exit) ≡ sealBlock (now (block .entry)) ⌝ }
 {
@@ -86,7 +86,7 @@ pub fn seal(block: &mut [u8])
 
 // ---- reading
 
-// The byte at `i`, and zero past the end.
+// The byte at `i`, or zero after the end.
 pub fn byte_at(s: &[u8], i: usize) -> u8
     ensures { λ r. ⌜ r ≡ getD (now (s .entry)) i 0 ⌝ }
 {
@@ -96,7 +96,7 @@ pub fn byte_at(s: &[u8], i: usize) -> u8
     0
 }
 
-// The number that the first eight bytes spell, or all where there are fewer.
+// The number in the first eight bytes, or in all if there are fewer.
 pub fn read_number(s: &[u8]) -> u64
     ensures { λ r. ⌜ r ≡ unbe (take 8 (now (s .entry))) ⌝ }
 {
@@ -107,7 +107,7 @@ pub fn read_number(s: &[u8]) -> u64
     n
 }
 
-// The number that the eight bytes from `at` on spell.
+// The number in the eight bytes from `at` on.
 pub fn number_at(s: &[u8], at: usize) -> u64
     ensures { λ r. ⌜ r ≡ unbe (part at 8 (now (s .entry))) ⌝ }
 {
@@ -117,14 +117,14 @@ pub fn number_at(s: &[u8], at: usize) -> u64
     read_number(&s[at..s.len()])
 }
 
-// The time opened.
+// The time when it was opened.
 pub fn cell_time(cell: &[u8]) -> u64
     ensures { λ r. ⌜ r ≡ cellTime (now (cell .entry)) ⌝ }
 {
     number_at(cell, 0)
 }
 
-// The length byte: how many bytes the cell says that it holds.
+// The length byte: how many bytes the cell says it has.
 pub fn cell_used(cell: &[u8]) -> u8
     ensures { λ r. ⌜ r ≡ cellUsed (now (cell .entry)) ⌝ }
 {
@@ -141,7 +141,7 @@ pub fn cell_last(cell: &[u8]) -> u16
     last as u16
 }
 
-// The 21 bytes of the cell, zeros included, cut where `out` ends or with zeros after them.
+// Copies the 21 bytes of the cell, including zeros: cut at the end of `out`, or with zeros after them.
 pub fn copy_field(out: &mut [u8], cell: &[u8])
     ensures { λ _. ⌜ now (out .exit) ≡ resized (length (now (out .entry))) (cellField (now (cell .entry))) ⌝ }
 {

@@ -1,4 +1,4 @@
-// Receptions handed over in bursts, for the benchmark.
+// Hands receptions over in bursts, for the benchmark.
 use collector_burst::Reception;
 use collector_burst::Reply;
 use collector_model::Answer;
@@ -10,8 +10,8 @@ ghost use lib.ListN.{length};
 
 const CELL: usize = 32;
 
-// Hands the first 256 receptions of `cells`, 32 bytes each (time, length, bytes), over to a collector started fresh, at `setting`, and then, `rounds`
-// times from that state, the first `size` of the next 256 in one burst. Answers a figure of the totals, and of one reply of each round.
+// Hands the first 256 receptions of `cells`, 32 bytes each (time, length, bytes), to a collector started fresh, at `setting`. Then, `rounds` times
+// from that state, hands over the first `size` of the next 256 in one burst. Returns a number made of the totals, and of one reply of each round.
 #[no_mangle]
 pub extern "C" fn bench_burst(setting: u8, cells: &[u8], size: usize, rounds: u64) -> u64 {
     let fresh = Collector::fresh();
@@ -55,7 +55,7 @@ fn bursts_from(
     figure
 }
 
-// Which reply a round looks at.
+// Which reply a round reads.
 fn place_of(i: u64) -> usize
     ensures { λ r. ⌜ r ≤ 255 ⌝ }
 {

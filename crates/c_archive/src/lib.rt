@@ -24,7 +24,7 @@ ghost use Rattle.archive_cut.specs.Cut.{cutOf, cutBlockOf};
 ghost use Rattle.archive_fill.specs.Fill.{putRowsGiven};
 ghost use Rattle.c_archive.specs.Calls.{openCall, appendCall, hasPlace, putRowsCall, rowCall, salvageCall, removeCall};
 
-// How many rows an archive has: 16, 12 with the position.
+// How many rows an archive has. Refused: 16, 12 with the position.
 pub fn verify(buffer: &[u8], rows: &mut usize, position: &mut usize) -> u8
     ensures { λ r. ⌜ record { number = r; position = now (position .exit); rows = now (rows .exit) }
         ≡ openCall (calls.openOf (now (buffer .entry))) (now (rows .entry)) (now (position .entry)) ⌝ }
@@ -40,7 +40,7 @@ pub fn verify(buffer: &[u8], rows: &mut usize, position: &mut usize) -> u8
     }
 }
 
-// Appends a row: 16, 12 with the position, the check's for the row, 6.
+// Appends a row. Refused: 16, 12 with the position, the check's number for the row, 6.
 pub fn append(buffer: &mut [u8], bytes: &[u8], time: u64, loose: bool, position: &mut usize) -> u8
     ensures { λ r. ⌜ record { number = r; position = now (position .exit); buffer = now (buffer .exit) }
         ≡ appendCall (calls.appendOf (now (buffer .entry)) (rowOf (now (bytes .entry)) time loose))
@@ -49,7 +49,7 @@ pub fn append(buffer: &mut [u8], bytes: &[u8], time: u64, loose: bool, position:
     settle(archive_file::append(buffer, bytes, time, loose), position)
 }
 
-// The same for an archive of `n` rows, which looks at one block.
+// The same for an archive of `n` rows; only one block is read.
 pub fn append_at(
     buffer: &mut [u8],
     n: usize,
@@ -68,7 +68,7 @@ pub fn append_at(
     )
 }
 
-// The same in the 512 bytes of its block.
+// The same for the 512 bytes of its block.
 pub fn put_row(
     block: &mut [u8],
     n: usize,
@@ -87,8 +87,8 @@ pub fn put_row(
     )
 }
 
-// Rows from row `n` on, each a time and a record of 23 bytes, into the 512 bytes of their block, all or none: 16, 12 with the position, the check's with
-// the place of the row among these, 6.
+// Puts rows from row `n` on, each a time and a record of 23 bytes, into the 512 bytes of their block, all or none. Refused: 16, 12 with the position,
+// the check's number with the position of the row in the list, 6.
 pub fn put_rows(block: &mut [u8], n: usize, times: &[u64], rows: &[u8], position: &mut usize) -> u8
     ensures { λ r. ⌜ record { number = r; position = now (position .exit); buffer = now (block .exit) }
         ≡ putRowsCall (putRowsGiven (now (block .entry)) n (now (times .entry)) (now (rows .entry)))
@@ -104,7 +104,7 @@ pub fn put_rows(block: &mut [u8], n: usize, times: &[u64], rows: &[u8], position
     number
 }
 
-// Row `i` as it stands, in 23 bytes and its time, which stay as they were beside a refusal: 255, then 16, 10, 12.
+// Reads row `i` into 23 bytes and its time, which are unchanged with a refusal: 255, then 16, 10, 12.
 pub fn row_at(buffer: &[u8], i: usize, row: &mut [u8], time: &mut u64) -> u8
     ensures { λ r. ⌜ record { number = r; row = now (row .exit); time = now (time .exit) }
         ≡ rowCall (now (buffer .entry)) i (now (row .entry)) (now (time .entry)) ⌝ }
@@ -126,7 +126,7 @@ pub fn row_at(buffer: &[u8], i: usize, row: &mut [u8], time: &mut u64) -> u8
     number
 }
 
-// The first `n` of 21 bytes, zero filled. All 21 are read, so that there is no branch on the length.
+// The first `n` of 21 bytes, filled with zeros. All 21 are read, so there is no branch on the length.
 fn put_filled(out: &mut [u8], bytes: &[u8; CELL_CAPACITY], n: usize)
     requires { ⌜ length (now out) ≡ cellCapacity ⌝ }
     ensures { λ _. ⌜ now (out .exit) ≡ resized cellCapacity (take n (now (bytes .entry))) ⌝ }
@@ -136,7 +136,7 @@ fn put_filled(out: &mut [u8], bytes: &[u8; CELL_CAPACITY], n: usize)
     }
 }
 
-// A byte at an index below `n`, and 0 from there on.
+// The byte if its index is below `n`, else 0.
 fn byte_below(i: usize, n: usize, byte: u8) -> u8
     ensures { λ r. ⌜ r ≡ cond (ltb i n) byte 0 ⌝ }
 {
@@ -146,7 +146,7 @@ fn byte_below(i: usize, n: usize, byte: u8) -> u8
     0
 }
 
-// A damaged archive packed anew: 16, 6.
+// Packs a damaged archive again. Refused: 16, 6.
 pub fn salvage(
     buffer: &[u8],
     out: &mut [u8],
@@ -175,7 +175,7 @@ pub fn salvage(
     taken
 }
 
-// The rows of some transmitters removed in place: 16, 12 with the position, 10.
+// Removes the rows of some transmitters in place. Refused: 16, 12 with the position, 10.
 pub fn remove(buffer: &mut [u8], identities: &[u32], freed: &mut usize, position: &mut usize) -> u8
     ensures { λ r. ⌜ record {
       number = r;
@@ -189,7 +189,7 @@ pub fn remove(buffer: &mut [u8], identities: &[u32], freed: &mut usize, position
     settle_removed(archive_repack::remove(buffer, identities), freed, position)
 }
 
-// Leaves the first `rows` rows: 16, 12 with the position, 10.
+// Keeps the first `rows` rows. Refused: 16, 12 with the position, 10.
 pub fn cut(buffer: &mut [u8], rows: usize, position: &mut usize) -> u8
     ensures { λ r. ⌜ record { number = r; position = now (position .exit); buffer = now (buffer .exit) }
         ≡ appendCall (cutOf rows (now (buffer .entry))) (now (position .entry)) ⌝ }
@@ -197,14 +197,14 @@ pub fn cut(buffer: &mut [u8], rows: usize, position: &mut usize) -> u8
     settle(archive_cut::cut(buffer, rows), position)
 }
 
-// The same of one block: 16, 12.
+// The same for one block. Refused: 16, 12.
 pub fn cut_block(block: &mut [u8], rows: usize) -> u8
     ensures { λ r. ⌜ record { number = r; block = now (block .exit) } ≡ cutBlockOf rows (now (block .entry)) ⌝ }
 {
     taken_number(archive_cut::cut_block(block, rows))
 }
 
-// The number of a removal, the blocks freed, and the position beside 12.
+// The number of a removal, the number of freed blocks, and the position with 12.
 fn settle_removed(removed: Removed, freed: &mut usize, position: &mut usize) -> u8
     ensures { λ r. ⌜ ((buffer : List ℕ)
         → record { number = r; position = now (position .exit); freed = now (freed .exit); buffer = buffer }
@@ -220,7 +220,7 @@ fn settle_removed(removed: Removed, freed: &mut usize, position: &mut usize) -> 
     }
 }
 
-// The number of an outcome, and the position beside 12.
+// The number of an outcome, and the position with 12.
 fn settle(outcome: Outcome, position: &mut usize) -> u8
     ensures { λ r. ⌜ ((buffer : List ℕ)
         → record { number = r; position = now (position .exit); buffer = buffer }
@@ -233,7 +233,7 @@ fn settle(outcome: Outcome, position: &mut usize) -> u8
     }
 }
 
-// Whether a position or the place of a row goes with a number: 12, or the check's.
+// Whether a position goes with a number: with 12 and with the check's numbers.
 fn has_place(number: u8) -> bool
     ensures { λ r. ⌜ r ≡ hasPlace number ⌝ }
 {

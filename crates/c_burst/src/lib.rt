@@ -31,10 +31,11 @@ ghost use Rattle.c_burst.specs.Bytes.{receptionIn, receptionsIn, replyLe
 ghost use Rattle.c_burst.specs.Calls.{Bursts};
 ghost use Rattle.c_burst.specs.Private.{Answered, Delivered};
 
-// The kind and the number of an answer, and the frame of what is sent.
+// The length of a reply: the kind and the number of an answer, and the frame that is sent.
 const REPLY_LENGTH: usize = 2 + FRAME_LENGTH;
 
-// Takes receptions one by one, with one test of the state: 11, then 255 where there is no frame for each moment, 6, 10; then all is as it was.
+// Takes receptions one by one, with one test of the state. Refused: 11, then 255 if there is not a frame for each time, 6, 10; then everything is
+// unchanged.
 pub fn burst(
     times: &mut [u64; CAPACITY],
     lengths: &mut [u8; CAPACITY],
@@ -81,7 +82,7 @@ pub fn burst(
     0
 }
 
-// Whether there is a frame for each moment.
+// Whether there is a frame for each time.
 fn is_sized(moments: usize, records: usize) -> bool
     ensures { λ r. ⌜ r ≡ isSized moments records ⌝ }
 {
@@ -91,7 +92,7 @@ fn is_sized(moments: usize, records: usize) -> bool
     records % FRAME_LENGTH == 0
 }
 
-// What a burst is refused for at an acceptable state: 6, 10; 0 if for nothing.
+// The refusal of a burst for an acceptable state: 6, 10; 0 if it is not refused.
 fn call_number(setting: u8, receptions: usize, places: usize) -> u8
     ensures { λ r. ⌜ r ≡ callNumber setting receptions places ⌝ }
 {
@@ -107,7 +108,7 @@ fn call_number(setting: u8, receptions: usize, places: usize) -> u8
     0
 }
 
-// The summary of a state, whose numbers have the bits of their types: it is known of a slice, and not of an array that is lent.
+// The summary of a state. Its contract also says that the numbers have the bits of their types: this is known for a slice, but not for a lent array.
 fn summary_of(copies: &[u16], numbers: &[u64; NUMBERS]) -> Summary
     ensures { λ r. ⌜ (r ≡ summaryIn (now (numbers .entry)))
         × ((times lengths bytes : List ℕ)
@@ -116,7 +117,7 @@ fn summary_of(copies: &[u16], numbers: &[u64; NUMBERS]) -> Summary
     c_collector::summary_in(numbers)
 }
 
-// Takes the receptions of all records, the reply to each at its place.
+// Takes the receptions of all records, and writes the reply to each at the same index.
 fn deliver(
     times: &mut [u64; CAPACITY],
     lengths: &mut [u8; CAPACITY],
@@ -155,7 +156,7 @@ fn deliver(
     s
 }
 
-// Takes the reception of one frame at an acceptable state, and writes the reply to it.
+// Takes the reception of one frame, for an acceptable state, and writes the reply.
 fn take_frame<'a>(
     times: &'a mut [u64; CAPACITY],
     lengths: &'a mut [u8; CAPACITY],
@@ -186,7 +187,7 @@ fn take_frame<'a>(
     next
 }
 
-// The kind and the number of an answer, and the frame of what is sent: its length is known, so that it is copied at once.
+// Writes the kind and the number of an answer, and the frame that is sent: its length is fixed, so it is copied at once.
 fn put_reply(reply: &mut [u8], answer: Answer, len: usize, sent: &[u8; Collector::MAX_LEN])
     requires { ⌜ (length (now reply) ≡ replyLength) × (len ≤ maxLength) ⌝ }
     ensures { λ _. ⌜ now (reply .exit)
@@ -198,7 +199,7 @@ fn put_reply(reply: &mut [u8], answer: Answer, len: usize, sent: &[u8; Collector
     bytes::copy(sent, &mut reply[3..REPLY_LENGTH]);
 }
 
-// The bytes that a frame hands over: none where its length is over 21, which the check answers alike.
+// The bytes of a frame's reception: none if its length is over 21, because the check gives both the same answer.
 fn telegram_in(frame: &[u8]) -> &[u8]
     requires { ⌜ length (now frame) ≡ frameLength ⌝ }
     ensures { λ r. ⌜ now r ≡ part 0 (sizeOf (getD (now (frame .entry)) 0 0)) (drop 1 (now (frame .entry))) ⌝ }

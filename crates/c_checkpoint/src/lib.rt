@@ -12,7 +12,7 @@ ghost use Rattle.collector_checkpoint.specs.Checkpoint.{savedNumber};
 ghost use Rattle.c_collector.specs.State.{arrays, stateAt, arraysOf};
 ghost use Rattle.c_checkpoint.specs.Calls.{Restores};
 
-// The image of the state, into the first 2,560 bytes: 11, 6; what stands past them stays.
+// Writes the image of the state into the first 2,560 bytes; those after them are unchanged. Refused: 11, 6.
 pub fn checkpoint<'a>(
     times: &'a [u64; CAPACITY],
     lengths: &'a [u8; CAPACITY],
@@ -31,7 +31,7 @@ pub fn checkpoint<'a>(
     saved_number(collector_checkpoint::checkpoint_at(times, lengths, bytes, copies, summary, out))
 }
 
-// The state that an image holds: 11, and then all is as it was.
+// Restores the state of an image. Refused: 11, and then everything is unchanged.
 pub fn restore(
     times: &mut [u64; CAPACITY],
     lengths: &mut [u8; CAPACITY],

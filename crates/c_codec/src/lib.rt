@@ -1,4 +1,4 @@
-// The codec on plain numbers and bytes, as other languages call it: each call answers a number, and hands values back through what it is lent.
+// The codec on plain numbers and bytes, as other languages call it: each call returns a number, and writes values into lent memory.
 use c_layout::FRAME_LENGTH;
 use c_layout::WRONG_SIZE;
 use radio_telegram::addressing;
@@ -16,10 +16,10 @@ ghost use Rattle.c_layout.specs.Lent.{settled};
 ghost use Rattle.c_codec.specs.Fields.{fieldsLength, fieldsBytes, telegramIn};
 ghost use Rattle.c_codec.specs.Calls.{readCall, buildCall, repeatCall};
 
-// The bytes of a telegram's fields.
+// The length of a telegram's fields.
 pub const FIELDS_LENGTH: usize = 26;
 
-// Reads a subtelegram into the 26 bytes of its fields, which stay as they were beside a refusal: 255, then the check's own.
+// Reads a subtelegram into the 26 bytes of its fields, which are unchanged with a refusal: 255, then the check's numbers.
 pub fn read(bytes: &[u8], fields: &mut [u8]) -> u8
     ensures { λ r. ⌜ record { number = r; values = now (fields .exit) }
         ≡ readCall (now (bytes .entry)) (now (fields .entry)) ⌝ }
@@ -38,7 +38,7 @@ pub fn read(bytes: &[u8], fields: &mut [u8]) -> u8
     check
 }
 
-// Builds the telegram that the 26 bytes say into `out`: 255, then 10, 5, 6.
+// Builds the telegram of these 26 bytes into `out`. Refused: 255, then 10, 5, 6.
 pub fn build(fields: &[u8], out: &mut [u8], length: &mut usize) -> u8
     ensures { λ r. ⌜ record { number = r; len = now (length .exit); output = now (out .exit) }
         ≡ buildCall (now (fields .entry)) (now (length .entry)) (now (out .entry)) ⌝ }
@@ -49,7 +49,7 @@ pub fn build(fields: &[u8], out: &mut [u8], length: &mut usize) -> u8
     c_layout::settle(fields::build(telegram_in(fields), out), length)
 }
 
-// Encapsulates for a DESTID, which is a number: the check's own, 3, 5, 6.
+// Encapsulates for a DESTID, which is a number. Refused: the check's numbers, 3, 5, 6.
 pub fn encapsulate(bytes: &[u8], destid: u32, out: &mut [u8], length: &mut usize) -> u8
     ensures { λ r. ⌜ record { number = r; len = now (length .exit); output = now (out .exit) }
         ≡ settled (encapsulateOf (now (bytes .entry)) (be 4 destid) (now (out .entry))) (now (length .entry)) ⌝ }
@@ -60,7 +60,7 @@ pub fn encapsulate(bytes: &[u8], destid: u32, out: &mut [u8], length: &mut usize
     )
 }
 
-// Removes an encapsulation: the check's own, 4, 6.
+// Removes an encapsulation. Refused: the check's numbers, 4, 6.
 pub fn decapsulate(bytes: &[u8], out: &mut [u8], length: &mut usize) -> u8
     ensures { λ r. ⌜ record { number = r; len = now (length .exit); output = now (out .exit) }
         ≡ settled (decapsulateOf (now (bytes .entry)) (now (out .entry))) (now (length .entry)) ⌝ }
@@ -68,8 +68,8 @@ pub fn decapsulate(bytes: &[u8], out: &mut [u8], length: &mut usize) -> u8
     c_layout::settle(addressing::decapsulate(bytes, out), length)
 }
 
-// What a repeater sends for a valid telegram, as a frame of 22 bytes, all zero for nothing, and as it was beside a refusal: 255, then 10, the
-// check's own.
+// Writes what a repeater sends for a valid telegram, as a frame of 22 bytes: all zero if nothing is sent, unchanged with a refusal. Refused: 255,
+// then 10, the check's numbers.
 pub fn repeat(setting: u8, bytes: &[u8], sent: &mut [u8]) -> u8
     ensures { λ r. ⌜ record { number = r; values = now (sent .exit) }
         ≡ repeatCall setting (now (bytes .entry)) (now (sent .entry)) ⌝ }

@@ -1,4 +1,4 @@
-// The collector in five lent arrays, as other languages call it: the entries' four, and its eight numbers. It is changed where it lies.
+// The collector in five lent arrays, as other languages call it: the four of the entries, and its eight numbers. It is changed in place.
 use base_refusal::Refusal;
 use collector_model::Answer;
 use collector_model::Totals;
@@ -67,8 +67,8 @@ pub fn take<'a>(
     take_told(fit, times, lengths, bytes, copies, numbers, received, time)
 }
 
-// Takes one reception, told what the test of the state said: a caller that knows it does not pay for it. Told wrongly it makes of the arrays what
-// `admission` says; beside every refusal the entries stay as they were.
+// Takes one reception; the caller tells the result of the test of the state, so the test is not made again. If the caller tells it wrongly, the
+// arrays become what `admission` says. With every refusal the entries are unchanged.
 pub fn take_told<'a>(
     fit: bool,
     times: &'a mut [u64; CAPACITY],
@@ -94,7 +94,7 @@ pub fn take_told<'a>(
     answer_number(answer)
 }
 
-// The six totals: 11, and then they stay as they were.
+// The six totals. Refused: 11, and then they are unchanged.
 pub fn totals<'a>(
     times: &'a [u64; CAPACITY],
     lengths: &'a [u8; CAPACITY],
@@ -123,7 +123,7 @@ pub fn totals<'a>(
     0
 }
 
-// How often the telegram of entry `entry` was heard again: 11, then 10, and then `heard` stays as it was.
+// How often the telegram of entry `entry` was received again. Refused: 11, then 10; then `heard` is unchanged.
 pub fn copies_of<'a>(
     times: &'a [u64; CAPACITY],
     lengths: &'a [u8; CAPACITY],
@@ -163,7 +163,7 @@ pub fn is_acceptable<'a>(
     acceptable::is_acceptable(times, lengths, bytes, summary_in(numbers))
 }
 
-// What eight numbers say. That there are eight is known of a slice, and not of an array that is lent.
+// The summary in eight numbers. Its contract also says that there are eight: this is known for a slice, but not for a lent array.
 pub fn summary_in(numbers: &[u64; NUMBERS]) -> Summary
     ensures { λ r. ⌜ (r ≡ summaryIn (now (numbers .entry))) × (length (now (numbers .entry)) ≡ 8) ⌝ }
 {
@@ -189,7 +189,7 @@ fn read_numbers(numbers: &[u64]) -> Summary
     }
 }
 
-// Puts the eight numbers of a state.
+// Writes the eight numbers of a state.
 pub fn store(summary: Summary, numbers: &mut [u64; NUMBERS])
     ensures { λ _. ⌜ now (numbers .exit) ≡ numbersIn summary ⌝ }
 {
@@ -213,7 +213,7 @@ fn answer_number(answer: Answer) -> u16
     256 * kind_of(answer) as u16 + number_of(answer) as u16
 }
 
-// KEPT 0, COPY 1, LOOSE 2; 0 beside a refusal.
+// KEPT 0, COPY 1, LOOSE 2; 0 for a refusal.
 pub fn kind_of(answer: Answer) -> u8
     ensures { λ r. ⌜ r ≡ kindOf (shownOf answer) ⌝ }
 {
@@ -225,7 +225,7 @@ pub fn kind_of(answer: Answer) -> u8
     }
 }
 
-// The number of a refusal, else 0.
+// The number of a refusal; 0 for any other answer.
 pub fn number_of(answer: Answer) -> u8
     ensures { λ r. ⌜ r ≡ shownNumber (shownOf answer) ⌝ }
 {

@@ -13,14 +13,14 @@ ghost use lib.ListN.{length};
 ghost use Rattle.c_erp2.specs.Fields.{headLength, fieldsLength, headBytes, fieldsBytes, telegramIn};
 ghost use Rattle.c_erp2.specs.Calls.{readCall, buildCall};
 
-// The bytes of a telegram's fields but its IDs: eleven, data and optional data.
+// The length of a telegram's fields without its IDs: eleven bytes, data and optional data.
 pub const FIELDS_LENGTH: usize = 276;
 
 const HEAD_LENGTH: usize = 11;
 
 const OPTIONAL: usize = HEAD_LENGTH + MAX_DATA;
 
-// Reads a length byte and Data_PL into the 276 bytes of its fields and its two IDs, which stay as they were beside a refusal: 255, then 1, 13, 14, 15.
+// Reads a length byte and Data_PL into the 276 bytes of its fields and its two IDs, which are unchanged with a refusal: 255, then 1, 13, 14, 15.
 pub fn read(bytes: &[u8], fields: &mut [u8], originator: &mut u64, destination: &mut u32) -> u8
     ensures { λ r. ⌜ record {
       number = r;
@@ -46,7 +46,7 @@ pub fn read(bytes: &[u8], fields: &mut [u8], originator: &mut u64, destination: 
     number
 }
 
-// Builds the telegram of these fields and IDs into `out`: 255, then 10, 14, 15, 6.
+// Builds the telegram of these fields and IDs into `out`. Refused: 255, then 10, 14, 15, 6.
 pub fn build(
     fields: &[u8],
     originator: u64,

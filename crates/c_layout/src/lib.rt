@@ -1,4 +1,4 @@
-// What the calls for other languages share: the number of a wrong size, and the bytes of a telegram with its length.
+// What the calls for other languages have in common: the number for a wrong size, and the bytes of a telegram with its length.
 use base_refusal::Refusal;
 use radio_erp1::Checked;
 use radio_telegram::frame::Built;
@@ -12,13 +12,13 @@ ghost use Rattle.base_buffers.specs.Buffer.{overwritten};
 ghost use Rattle.c_layout.specs.Frame.{frameLength, frameBytes, flagByte};
 ghost use Rattle.c_layout.specs.Lent.{ifMismatch, settled};
 
-// A lent slice does not have the size that its call asks for: a number of the interface alone, which no paper uses.
+// The answer if a lent slice has the wrong size. Only this interface has the number; the papers do not use it.
 pub const WRONG_SIZE: u8 = 255;
 
 // A length byte and 21 bytes.
 pub const FRAME_LENGTH: usize = 22;
 
-// The frame of some bytes, zero filled, with a length byte; a buffer of another size stays as it is.
+// Writes the frame of some bytes: a length byte, and the bytes filled with zeros. A buffer of another size is unchanged.
 pub fn put_frame(out: &mut [u8], len: u8, bytes: &[u8])
     ensures { λ _. ⌜ now (out .exit)
         ≡ overwritten frameLength (frameBytes len (now (bytes .entry))) (now (out .entry)) ⌝ }
@@ -50,7 +50,7 @@ pub fn checked_number(checked: Checked) -> u8
     }
 }
 
-// The number of a refusal, and the position that goes with 12; beside any other number the position stays.
+// The number of a refusal, and the position if the number is 12; with any other number the position is unchanged.
 pub fn refuse(why: Refusal, at: usize, position: &mut usize) -> u8
     ensures { λ r. ⌜ (r ≡ numberOf why)
         × (now (position .exit) ≡ ifMismatch (numberOf why) at (now (position .entry))) ⌝ }
@@ -63,7 +63,7 @@ pub fn refuse(why: Refusal, at: usize, position: &mut usize) -> u8
     number
 }
 
-// The number of what was written, and its length; beside a refusal the length stays.
+// The number of what was written, and its length; with a refusal the length is unchanged.
 pub fn settle(built: Built, length: &mut usize) -> u8
     ensures { λ r. ⌜ ((output : List ℕ) → record { number = r; len = now (length .exit); output = output }
         ≡ settled (resultOf built output) (now (length .entry))) ⌝ }

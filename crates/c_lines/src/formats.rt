@@ -1,5 +1,4 @@
-// Lines of text taken by a collector in five lent arrays, with their rows in a format and what they close, as other languages
-// call it.
+// Lines of text for a collector in five lent arrays, with their rows in a format and what they close, as other languages call it.
 use base_refusal::Refusal;
 use c_collector::BYTES;
 use c_collector::CAPACITY;
@@ -15,12 +14,11 @@ ghost use Rattle.c_lines.specs.Formats.{formatOf, LinesAs};
 // 0 is text, 1 comma-separated, 2 JSON.
 const MAX_FORMAT: u8 = 2;
 
-// How many characters were used, how many were written, how many rows, how many lines, and how many telegrams they close.
+// The numbers of characters used, of characters written, of rows, of lines, and of telegrams that the lines close.
 pub const DONE: usize = 5;
 
-// Takes whole lines from the start of the input, at most `most`, as `lines` does, and writes their rows in a format, and what
-// they close, 32 bytes each, where `closed` has any length: 11, then 255, then 10 for the setting or the format; then all is as
-// it was.
+// Takes whole lines from the start of the input, at most `most`, as `lines` does, and writes their rows in a format. If `closed` is not empty, also
+// writes what they close, 32 bytes each. Refused: 11, then 255, then 10 for the setting or the format; then everything is unchanged.
 pub fn lines_as(
     times: &mut [u64; CAPACITY],
     lengths: &mut [u8; CAPACITY],

@@ -1,4 +1,4 @@
-// Lines of text taken by a collector in five lent arrays, with their rows as text and as an archive keeps them, as other languages call it.
+// Lines of text for a collector in five lent arrays, with their rows as text and their rows for an archive, as other languages call it.
 pub mod formats;
 
 use base_refusal::Refusal;
@@ -17,28 +17,29 @@ ghost use Rattle.collector_model.specs.Exact.{Fits};
 ghost use Rattle.c_collector.specs.State.{arrays, summaryIn, stateAt};
 ghost use Rattle.c_lines.specs.Calls.{isSized, Lines, levelNumber, firstNumber, firstUsed, lineNumber, ReadLine, Skipped};
 
-// A row but its time: a byte that is not 0 for LOOSE, its length, and 21 bytes.
+// A row without its time: a byte that is not 0 for LOOSE, its length, and 21 bytes.
 const ROW_LENGTH: usize = 23;
 
-// What a line is that says no level or no reception, and one that has not ended.
+// The answer for a line without a level or a reception; and for a line that has not ended.
 const BAD_LINE: u8 = 3;
 
 const NO_LINE: u8 = 4;
 
-// How many characters were used, how many were written, how many rows, and how many lines.
+// The numbers of characters used, of characters written, of rows, and of lines.
 pub const DONE: usize = 4;
 
-// The most bytes that a line says.
+// The largest number of bytes in a line.
 pub const MAX_BYTES: usize = text_lines::MAX_BYTES;
 
-// The characters of a first line; time, length and characters of a line; characters and number of lines that were skipped.
+// How many numbers the calls write: the characters of a first line; time, length and characters of a line; characters and number of skipped lines.
 pub const FIRST: usize = 1;
 
 pub const READ: usize = 3;
 
 pub const SKIPPED: usize = 2;
 
-// Takes whole lines from the start of the input, at most `most`, with one test of the state: 11, then 255, then 10; then all is as it was.
+// Takes whole lines from the start of the input, at most `most`, with one test of the state. Refused: 11, then 255, then 10; then everything is
+// unchanged.
 pub fn lines(
     times: &mut [u64; CAPACITY],
     lengths: &mut [u8; CAPACITY],
@@ -107,7 +108,7 @@ fn is_sized(moments: usize, rows: usize) -> bool
     rows % ROW_LENGTH == 0
 }
 
-// The summary of a state, whose numbers have the bits of their types: it is known of a slice, and not of an array that is lent.
+// The summary of a state. Its contract also says that the numbers have the bits of their types: this is known for a slice, but not for a lent array.
 fn summary_of(copies: &[u16], numbers: &[u64; NUMBERS]) -> Summary
     ensures { λ r. ⌜ (r ≡ summaryIn (now (numbers .entry)))
         × ((times lengths bytes : List ℕ)
@@ -116,7 +117,7 @@ fn summary_of(copies: &[u16], numbers: &[u64; NUMBERS]) -> Summary
     c_collector::summary_in(numbers)
 }
 
-// The level that the first line of a text says, 3 for any other line, 4 where no newline ends it; and its characters with the newline.
+// The level in the first line of a text, 3 for any other line, 4 if no newline ends it; and how many characters it has with its newline.
 pub fn first_line(input: &[u8], done: &mut [u64; FIRST]) -> u8
     ensures { λ r. ⌜ (r ≡ firstNumber (now (input .entry))) × (now (done .exit) ≡ firstUsed (now (input .entry)) ∷ []) ⌝ }
 {
@@ -139,8 +140,8 @@ fn level_number(setting: Setting) -> u8
     }
 }
 
-// What the line at the start of a text says: 0 for a reception, whose bytes stand at the front of `bytes`, zero filled; 3 for any other line, 4 where
-// no newline ends it, both with zeros for time, length and bytes.
+// Reads the line at the start of a text: 0 for a reception, whose bytes are at the front of `bytes`, filled with zeros; 3 for any other line, 4 if no
+// newline ends it, both with zeros for time, length and bytes.
 pub fn read_line(input: &[u8], bytes: &mut [u8; MAX_BYTES], done: &mut [u64; READ]) -> u8
     ensures { λ r. ⌜ ReadLine (now (input .entry)) r (now (bytes .exit)) (now (done .exit)) ⌝ }
 {
@@ -161,7 +162,7 @@ fn line_number(ok: bool, used: usize) -> u8
     BAD_LINE
 }
 
-// Passes over whole lines at the start of a text, at most `most`: how many characters they are, and how many lines.
+// Skips whole lines at the start of a text, at most `most`: how many characters they have, and how many lines there are.
 pub fn skip_lines(input: &[u8], most: usize, done: &mut [u64; SKIPPED])
     ensures { λ _. ⌜ Skipped (now (input .entry)) most (now (done .exit)) ⌝ }
 {

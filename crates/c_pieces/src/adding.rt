@@ -1,4 +1,4 @@
-// An archive added to a report in pieces: the report stays as it is until the end.
+// An archive that is added to a report in pieces. The report is unchanged until the end.
 use crate::scan;
 use archive_report::Adding;
 ghost use mathlib.Core.Path.{_≡_};
@@ -10,10 +10,10 @@ ghost use Rattle.archive_report.specs.Report.{addingOf};
 ghost use Rattle.c_report.specs.Calls.{reportAt, Adds};
 ghost use Rattle.c_pieces.specs.Adding.{tallyAt, tallyNumbers, addingAt, Feeds};
 
-// The four numbers of a scan, how many lines there are, KEPT rows, LOOSE rows, and 1 where a transmitter was one too many.
+// The four numbers of a scan, the number of lines, KEPT rows, LOOSE rows, and 1 if there were more than 256 transmitters.
 pub const NUMBERS: usize = 8;
 
-// Before the first piece.
+// Writes the numbers before the first piece.
 pub fn start(
     numbers: &[u64; c_report::NUMBERS],
     lines: &[u64; c_report::LINES],
@@ -29,7 +29,7 @@ pub fn start(
     store(Adding::start(r), adding, tally);
 }
 
-// The blocks of a piece: 11, 16; then every number is as it was.
+// Adds the blocks of a piece. Refused: 11, 16; then every number is unchanged.
 pub fn feed(
     numbers: &[u64; c_report::NUMBERS],
     lines: &[u64; c_report::LINES],
@@ -54,7 +54,7 @@ pub fn feed(
     number
 }
 
-// What adding all pieces as one archive answers: 11, 12 with the position, 10, 17; then every number of the report is as it was.
+// Returns what adding all pieces as one archive answers. Refused: 11, 12 with the position, 10, 17; then every number of the report is unchanged.
 pub fn end(
     numbers: &mut [u64; c_report::NUMBERS],
     lines: &mut [u64; c_report::LINES],
@@ -79,7 +79,7 @@ pub fn end(
     number
 }
 
-// The archive that is being added, as four arrays hold it.
+// The archive that is being added, from four arrays.
 fn adding_in(
     numbers: &[u64; c_report::NUMBERS],
     lines: &[u64; c_report::LINES],
@@ -101,7 +101,7 @@ fn adding_in(
     }
 }
 
-// What is known beside the report.
+// Writes what is known, without the report.
 fn store(a: Adding, adding: &mut [u64; NUMBERS], tally: &mut [u64; c_report::LINES])
     ensures { λ _. ⌜ (tallyAt (now (adding .exit)) (now (tally .exit)) ≡ addingOf a .tally)
         × (now (adding .exit) ≡ tallyNumbers (addingOf a .tally)) × (now (tally .exit) ≡ a .lines) ⌝ }

@@ -1,4 +1,4 @@
-// Archives in pieces of whole blocks, on plain numbers and bytes, as other languages call them. What is known between two pieces is in lent arrays.
+// Archives in pieces of whole blocks, on plain numbers and bytes, as other languages call them. Between two pieces, lent arrays hold what is known.
 pub mod adding;
 pub mod packer;
 pub mod scan;

@@ -1,14 +1,14 @@
-// A damaged archive packed anew, or rows of some transmitters removed, in pieces.
+// Packs a damaged archive again, or removes the rows of some transmitters, in pieces.
 ghost use mathlib.Core.Path.{_≡_};
 ghost use lib.ListN.{getD};
 ghost use Rattle.c_pieces.specs.Packer.{packCall, packEnd};
 
-// Rows that wait, and blocks written.
+// How many rows wait, and how many blocks were written.
 pub const NUMBERS: usize = 2;
 
 pub const WAITING: usize = archive_repack::PENDING_LENGTH;
 
-// The sound blocks of a piece: 11, 16, 10, 6; then all are as they were. Else zeros stand behind the rows that wait.
+// Packs the sound blocks of a piece. Refused: 11, 16, 10, 6; then everything is unchanged. Else there are zeros after the rows that wait.
 pub fn feed(
     numbers: &mut [u64; NUMBERS],
     waiting: &mut [u8; WAITING],
@@ -49,7 +49,7 @@ pub fn feed(
     taken
 }
 
-// The last block, where rows wait, and its length: 11, 6.
+// Writes the last block, if rows wait, and returns its length. Refused: 11, 6.
 pub fn end(
     numbers: &[u64; NUMBERS],
     waiting: &[u8; WAITING],

@@ -1,4 +1,4 @@
-// An archive verified in pieces.
+// Verifies an archive in pieces.
 use archive_file::Scan;
 use archive_file::Stage;
 use base_refusal::Refusal;
@@ -7,10 +7,10 @@ ghost use Rattle.archive_file.specs.Archive.{stageOf, scanOf};
 ghost use Rattle.c_archive.specs.Calls.{openCall};
 ghost use Rattle.c_pieces.specs.Scan.{stageAt, stageNumber, stagePosition, scanAt, scanCall, scanEnd};
 
-// Blocks passed, their rows, the stage, and the position of the block that does not match.
+// How many blocks were read, how many rows they have, the stage, and the position of the block that does not match.
 pub const NUMBERS: usize = 4;
 
-// The blocks of a piece: 11, 16; then every number is as it was.
+// Reads the blocks of a piece. Refused: 11, 16; then every number is unchanged.
 pub fn feed(numbers: &mut [u64; NUMBERS], piece: &[u8]) -> u8
     ensures { λ r. ⌜ record { number = r; numbers = now (numbers .exit) }
         ≡ scanCall (now (numbers .entry)) (now (piece .entry)) ⌝ }
@@ -33,7 +33,7 @@ pub fn feed(numbers: &mut [u64; NUMBERS], piece: &[u8]) -> u8
     number
 }
 
-// What all pieces answer together: how many rows; 11, 12 with the position.
+// The answer for all pieces: how many rows. Refused: 11, 12 with the position.
 pub fn end(numbers: &[u64; NUMBERS], rows: &mut usize, position: &mut usize) -> u8
     ensures { λ r. ⌜ record { number = r; position = now (position .exit); rows = now (rows .exit) }
         ≡ openCall (scanEnd (scanAt (now (numbers .entry)))) (now (rows .entry)) (now (position .entry)) ⌝ }
@@ -50,7 +50,7 @@ pub fn end(numbers: &[u64; NUMBERS], rows: &mut usize, position: &mut usize) -> 
     0
 }
 
-// The scan that four numbers say.
+// The scan in four numbers.
 pub(crate) fn scan_of(blocks: u64, rows: u64, stage: u64, position: u64) -> Scan
     ensures { λ r. ⌜ scanOf r ≡ (record { blocks = blocks; rows = rows; stage = stageAt stage position }) ⌝ }
 {

@@ -1,4 +1,4 @@
-// Reports on plain numbers and bytes, as other languages call them: a report is two lent arrays, its numbers and its lines.
+// Reports on plain numbers and bytes, as other languages call them. A report is in two lent arrays: its numbers and its lines.
 use archive_file::Outcome;
 use archive_report::LineAt;
 use archive_report::Looked;
@@ -14,12 +14,12 @@ ghost use Rattle.c_report.specs.Calls.{reportAt, reportNumbers, emptyLin
 // How many archives were added, how many lines there are, KEPT rows, LOOSE rows.
 pub const NUMBERS: usize = 4;
 
-// Five numbers a line: identity, KEPT rows, LOOSE rows, earliest and latest time.
+// Five numbers for each line: identity, KEPT rows, LOOSE rows, earliest and latest time.
 pub const LINE_NUMBERS: usize = 5;
 
 pub const LINES: usize = Report::MAX_LINES * LINE_NUMBERS;
 
-// A report of no archive.
+// Writes a report without archives.
 pub fn empty(numbers: &mut [u64; NUMBERS], lines: &mut [u64; LINES])
     ensures { λ _. ⌜ (reportAt (now (numbers .exit)) (now (lines .exit)) ≡ model.emptyReport)
         × (now (numbers .exit) ≡ reportNumbers model.emptyReport) × (now (lines .exit) ≡ emptyLines) ⌝ }
@@ -27,7 +27,7 @@ pub fn empty(numbers: &mut [u64; NUMBERS], lines: &mut [u64; LINES])
     store(Report::empty(), numbers, lines);
 }
 
-// Adds the rows of an archive: 11, 16, 12 with the position, 10, 17; then every number of the report is as it was.
+// Adds the rows of an archive. Refused: 11, 16, 12 with the position, 10, 17; then every number of the report is unchanged.
 pub fn add(
     numbers: &mut [u64; NUMBERS],
     lines: &mut [u64; LINES],
@@ -50,7 +50,7 @@ pub fn add(
     number
 }
 
-// Line `i`, five numbers, which stay as they were beside a refusal: 11, 10.
+// Line `i`, five numbers, which are unchanged with a refusal: 11, 10.
 pub fn line(
     numbers: &[u64; NUMBERS],
     lines: &[u64; LINES],
@@ -76,7 +76,7 @@ pub fn line(
     looked
 }
 
-// The share of its rows in receptions, in whole thousandths: 11, 10.
+// The share of its rows in receptions, in whole thousandths. Refused: 11, 10.
 pub fn share(
     numbers: &[u64; NUMBERS],
     lines: &[u64; LINES],
@@ -97,7 +97,7 @@ pub fn share(
     }
 }
 
-// The report that two arrays hold.
+// The report in two arrays.
 pub fn report_in(numbers: &[u64; NUMBERS], lines: &[u64; LINES]) -> Report
     ensures { λ r. ⌜ (reportOf r ≡ reportAt (now (numbers .entry)) (now (lines .entry)))
         × (r .lines ≡ now (lines .entry)) ⌝ }
@@ -120,7 +120,7 @@ pub fn store(r: Report, numbers: &mut [u64; NUMBERS], lines: &mut [u64; LINES])
     *lines = all;
 }
 
-// The number of an outcome, and the position beside 12.
+// The number of an outcome, and the position with 12.
 pub fn settle(outcome: Outcome, position: &mut usize) -> u8
     ensures { λ r. ⌜ (r ≡ outcomeNumber outcome)
         × (now (position .exit)

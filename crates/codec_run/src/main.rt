@@ -1,5 +1,5 @@
-// Runs the codec on the records of standard input, a line of 128 hexadecimal digits each, and prints a line for each: stdout is what the
-// second program says (tests/reference/README.md has the format).
+// Runs the codec on the records of standard input, a line of 128 hexadecimal digits each, and prints a line for each. The output must equal that of
+// the second program (tests/reference/README.md has the format).
 use radio_erp1::Checked;
 use radio_telegram::fields::Telegram;
 use radio_telegram::frame::Built;
@@ -10,7 +10,7 @@ ghost use lib.ListN.{length};
 const LINE: usize = 129;
 
 const RECORD: usize = 64;
-// The most bytes of a subtelegram in a record, and of an output.
+// The largest length of a subtelegram in a record, and of an output.
 const MOST: usize = 28;
 
 const LONGEST: usize = 1024;
@@ -19,7 +19,7 @@ fn main() {
     records(1_000_000);
 }
 
-// At most so many records, until the input ends.
+// Handles at most `most` records, until the input ends.
 fn records(most: u64) {
     let mut left = most;
     while 0 < left {
@@ -30,7 +30,7 @@ fn records(most: u64) {
     }
 }
 
-// One record, if there is one more.
+// Handles one record, if there is one more.
 fn record() -> bool {
     let next = test_io::next_record();
     if !next.more {
@@ -64,7 +64,7 @@ fn crc(r: &[u8])
     test_io::byte(base_crc8::crc8(&input[0..n]));
 }
 
-// The pattern of length p at 8, over and over, n bytes of it.
+// The pattern of p bytes at 8, repeated to n bytes.
 fn repeated(r: &[u8], n: usize, p: usize) -> [u8; LONGEST]
     requires { ⌜ (length (now r) ≡ 64) × (n ≤ 1024) × (1 ≤ p) × (p ≤ 28) ⌝ }
 {
@@ -75,7 +75,7 @@ fn repeated(r: &[u8], n: usize, p: usize) -> [u8; LONGEST]
     input
 }
 
-// A length from 1 to 28: the pattern of no bytes has 0.
+// A length from 1 to 28: 1 for 0, and 28 for more.
 fn pattern_length(len: usize) -> usize
     ensures { λ r. ⌜ (1 ≤ r) × (r ≤ 28) ⌝ }
 {
@@ -110,7 +110,7 @@ fn read(r: &[u8])
     data(t);
 }
 
-// The three that write, into an output of the capacity that the record names.
+// The three calls that write, into an output of the capacity in the record.
 fn output(r: &[u8])
     requires { ⌜ length (now r) ≡ 64 ⌝ }
 {
@@ -185,7 +185,7 @@ fn same(r: &[u8])
     flag(radio_erp1::same(&r[8..8 + n], &r[36..36 + m]));
 }
 
-// ---- what is printed of an answer
+// ---- what is printed for an answer
 
 // The number, the length and all of the output.
 fn written(built: Built, out: &[u8]) {
