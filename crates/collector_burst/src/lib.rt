@@ -1,4 +1,4 @@
-// Receptions that are handed over in one lent list with a repeater setting, and a second list for the answers (document 02, A1 and A7).
+// Receptions that are handed over in one lent list with a repeater setting, and a second list for the replies (document 02, A1 and A7).
 use base_refusal::Refusal;
 use collector_model::Answer;
 use collector_state::Collector;
@@ -15,9 +15,9 @@ ghost use Rattle.collector_state.specs.Collector.{columns};
 ghost use Rattle.collector_burst.specs.Records.{Bursts, listed, WithinOf, sizeOf};
 ghost use Rattle.collector_burst.specs.Private.{Steps, Delivered, Planned, Finished};
 
-// The most receptions of a burst.
+// The largest number of receptions in a burst.
 pub const MAX_BURST: usize = 256;
-// The places of a list that is held by value: enough for 10, and for places past its receptions.
+// The length of a list that is held by value: room for more than 256 receptions, so that 10 can be answered, and for further entries.
 pub const LISTED: usize = MAX_BURST + 3;
 
 // One reception of a list: the first `len` of its bytes, and the moment they were complete, in ms.
@@ -27,7 +27,7 @@ pub struct Reception {
     pub time: u64,
 }
 
-// The answer to one, and the telegram to send.
+// The answer to a reception, and the telegram to send.
 pub struct Reply {
     pub answer: Answer,
     pub sent: Frame,
@@ -39,8 +39,8 @@ pub struct Stepped {
     pub reply: Reply,
 }
 
-// Takes one reception at a state that is changed where it lies, and makes what is sent for it at the setting. A length over 21 is answered like that
-// of no bytes.
+// Takes one reception, with a state that is changed in place, and makes what is sent for it at the setting. A length over 21 gets the same answer as
+// no bytes.
 fn take_record<'a>(
     fit: bool,
     times: &'a mut [u64; Collector::CAPACITY],
@@ -84,7 +84,7 @@ fn take_record<'a>(
     }
 }
 
-// How many bytes are handed over: none of a record whose length is over 21.
+// How many bytes are handed over: none if the length of the record is over 21.
 fn size(len: u8) -> usize
     ensures { λ r. ⌜ (r ≡ sizeOf len) × (r ≤ maxLength) ⌝ }
 {
@@ -101,7 +101,7 @@ fn wide(b: u8) -> usize
     b as usize
 }
 
-// Takes the first `count` receptions one by one, the reply to each at its place in the second list.
+// Takes the first `count` receptions one by one, and writes the reply to each at the same index of the second list.
 fn deliver(
     fit: bool,
     times: &mut [u64; Collector::CAPACITY],
@@ -144,15 +144,15 @@ pub struct Bursted {
     pub answer: Handed,
 }
 
-// What is done with a burst: what the test of the state said, how many of its receptions are taken, and the answer.
+// What is done with a burst: the result of the test of the state, how many of its receptions are taken, and the answer.
 pub struct Plan {
     pub fit: bool,
     pub count: usize,
     pub answer: Handed,
 }
 
-// Takes the receptions one by one, the reply to each at its place in the second list; places past them stay. A burst that is
-// refused changes nothing: 11 where the state is not acceptable, 6 where a reply has no place, 10 over 256 receptions or a setting over 2.
+// Takes the receptions one by one, and writes the reply to each at the same index of the second list; the entries after them are unchanged. A refused
+// burst changes nothing: 11 if the state is not acceptable, 6 if the second list is shorter, 10 for more than 256 receptions or a setting over 2.
 pub fn burst(c: Collector, setting: u8, receptions: &[Reception], replies: &mut [Reply]) -> Bursted
     ensures { λ r. ⌜ Bursts c setting (now (receptions .entry)) (now (replies .entry)) r (now (replies .exit)) ⌝ }
 {
@@ -239,14 +239,14 @@ fn finish(
     }
 }
 
-// What a burst gives that is lent the first places of two lists, and the second list after it.
+// The result of a burst that gets the front of two lists, and the second list after it.
 pub struct Within {
     pub bursted: Bursted,
     pub replies: [Reply; LISTED],
 }
 
-// A burst of the first `n` records, with the first `m` replies for its answers; a number past a list's end stands for the whole list. It is for a
-// caller that holds its lists by value, since the borrow checker covers no function that is given a list of structs.
+// A burst of the first `n` records, with the first `m` replies for its answers; a number greater than the length of a list means the whole list. For
+// a caller that holds its lists by value, because the borrow checker does not cover a function that gets a list of structs.
 pub fn burst_within(
     c: Collector,
     setting: u8,

@@ -31,10 +31,10 @@ const BLOCKS: usize = 5;
 
 pub const IMAGE_LENGTH: usize = BLOCKS * BLOCK_LENGTH;
 
-// What a checkpoint writes in the setting's place.
+// The number that a checkpoint writes in the setting's place.
 const NO_SETTING: u64 = 0;
 
-// The bytes of a block between its header and its CRC.
+// The number of bytes of a block between its header and its CRC.
 const CELLS_LENGTH: usize = BLOCK_LENGTH - 1 - HEADER_LENGTH;
 
 // Whether a checkpoint was written.
@@ -49,20 +49,20 @@ pub enum Loaded {
     Refused(Refusal),
 }
 
-// The state that an image holds, or beside a refusal the one that was handed in.
+// The state of an image; with a refusal, the state that was handed in.
 pub struct Restored {
     pub next: Collector,
     pub answer: Loaded,
 }
 
-// Writes the image of the state into the first 2,560 bytes, with zero in the setting's place; refused with 11, then 6, nothing is written.
+// Writes the image of the state into the first 2,560 bytes, with zero in the setting's place. Refused: 11, then 6, and nothing is written.
 pub fn checkpoint(c: Collector, out: &mut [u8]) -> Saved
     ensures { λ r. ⌜ checkpointResult r (now (out .exit)) ≡ checkpointOf (viewOf c) (now (out .entry)) ⌝ }
 {
     checkpoint_at(&c.times, &c.lens, &c.bytes, &c.copies, c.summary, out)
 }
 
-// The same of a state that is lent: its entries' arrays, and its summary.
+// The same for a state that is lent: the arrays of its entries, and its summary.
 pub fn checkpoint_at<'a>(
     times: &'a [u64; Collector::CAPACITY],
     lens: &'a [u8; Collector::CAPACITY],
@@ -86,8 +86,8 @@ pub fn checkpoint_at<'a>(
     Saved::Done
 }
 
-// The state that an image holds. Any other image than what a checkpoint writes, or wrote with 1 or 2 in the setting's place, is refused with 11, as
-// is a state that has none.
+// Restores the state of an image. Refused with 11: an image that no checkpoint writes, or wrote with 1 or 2 in the setting's place; and a state from
+// which no image can be written.
 pub fn restore(c: Collector, image: &[u8]) -> Restored
     ensures { λ r. ⌜ Restores c (now (image .entry)) r ⌝ }
 {
@@ -116,7 +116,7 @@ pub fn restore(c: Collector, image: &[u8]) -> Restored
     }
 }
 
-// The collector stays as it was.
+// A refusal: the collector is unchanged.
 fn refused(c: Collector) -> Restored
     ensures { λ r. ⌜ (r .next ≡ c) × (loadedNumber (r .answer) ≡ numberOf NotAccepted) ⌝ }
 {
@@ -128,7 +128,8 @@ fn refused(c: Collector) -> Restored
 
 // ---- writing
 
-// The image of a state, in the first 2,560 bytes, with a number in the setting's place: block k, with its two numbers, in the 512 bytes from 512 k.
+// Writes the image of a state into the first 2,560 bytes, with a number in the setting's place: block k, with its two numbers, is in the 512 bytes
+// from 512 k on.
 fn put_image<'a>(
     out: &mut [u8],
     times: &'a [u64; Collector::CAPACITY],
@@ -162,7 +163,7 @@ fn put_image<'a>(
     }
 }
 
-// The block writer: block `k` of 512 bytes, with two numbers and its share of the entries.
+// Writes block `k` of 512 bytes, with two numbers and its share of the entries.
 fn put_block<'a>(
     out: &mut [u8],
     k: usize,
@@ -194,7 +195,7 @@ fn put_block<'a>(
     block_layout::seal(out);
 }
 
-// The header of block `k`, into 24 bytes: the entries used, and two numbers.
+// Writes the header of block `k` into 24 bytes: the number of entries used, and two numbers.
 fn put_header(out: &mut [u8], k: u8, used: u8, a: u64, b: u64)
     ensures { λ _. ⌜ now (out .exit) ≡ overwritten headerLength (headerOf k used a b) (now (out .entry)) ⌝ }
 {
@@ -208,7 +209,7 @@ fn put_header(out: &mut [u8], k: u8, used: u8, a: u64, b: u64)
     block_layout::put_number(&mut out[16..24], b);
 }
 
-// What stands between the header of a block and its CRC: the cells of `used` entries from `first` on, and zeros.
+// Writes what is between the header of a block and its CRC: the cells of `used` entries from `first` on, and zeros.
 fn put_cells<'a>(
     out: &mut [u8],
     times: &'a [u64; Collector::CAPACITY],
@@ -239,7 +240,7 @@ fn put_cells<'a>(
     block_layout::clear(&mut out[CELL_LENGTH * used..CELLS_LENGTH]);
 }
 
-// Whether a state is acceptable, and an image byte for byte what is written of it with this number in the setting's place.
+// Whether a state is acceptable, and an image is byte for byte what is written for it with this number in the setting's place.
 fn is_image_of<'a>(
     image: &'a [u8],
     times: &'a [u64; Collector::CAPACITY],
@@ -261,7 +262,7 @@ fn is_image_of<'a>(
     block_layout::equal(&again, image)
 }
 
-// How many entries the block has that starts at entry `first`.
+// How many entries are in the block that starts with entry `first`.
 fn used_from(count: usize, first: usize) -> u8
     ensures { λ r. ⌜ r ≡ min cellsPerBlock (count - first) ⌝ }
 {
@@ -288,7 +289,7 @@ fn is_readable(image: &[u8]) -> bool
     (count_in(image) <= Collector::CAPACITY) & (setting <= MAX_SETTING as u64)
 }
 
-// The state that an image spells, right or not.
+// The state that an image gives, accepted or not.
 fn parse(image: &[u8]) -> Collector
     requires { ⌜ (length (now image) ≡ imageLength) × (countIn (now image) ≤ capacity) ⌝ }
     ensures { λ r. ⌜ Parses (now (image .entry)) r ⌝ }
@@ -314,7 +315,7 @@ fn parse(image: &[u8]) -> Collector
     }
 }
 
-// The first `count` entries of an image, into the flat arrays of a state.
+// Reads the first `count` entries of an image into the flat arrays of a state.
 fn read_entries(
     times: &mut [u64],
     lens: &mut [u8],
@@ -363,7 +364,7 @@ fn totals_in(image: &[u8]) -> Totals
     }
 }
 
-// The entries that the five blocks say are used.
+// How many entries the five blocks say are used.
 fn count_in(image: &[u8]) -> usize
     requires { ⌜ length (now image) ≡ imageLength ⌝ }
     ensures { λ r. ⌜ r ≡ countIn (now (image .entry)) ⌝ }
@@ -375,7 +376,7 @@ fn count_in(image: &[u8]) -> usize
         + used_in(image, 4)
 }
 
-// The entries used in block `k`, and its two numbers.
+// The number of entries used in block `k`; and its two numbers.
 fn used_in(image: &[u8], k: usize) -> usize
     requires { ⌜ (length (now image) ≡ imageLength) × (k < blockCount) ⌝ }
     ensures { λ r. ⌜ (r ≡ usedIn k (now (image .entry))) × (r < 256) ⌝ }

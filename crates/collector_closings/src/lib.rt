@@ -1,5 +1,5 @@
-// What a reception closes: each telegram that is no longer open, as the 32 bytes of an entry of a checkpoint (document 01,
-// "Parked collector"), with its number of copies (document 02, A8).
+// What a reception closes: each telegram that is no longer open, as the 32 bytes of an entry of a checkpoint (document 01, "Parked collector"), with
+// its number of copies (document 02, A8).
 use block_layout::CELL_LENGTH;
 use collector_state::Collector;
 use collector_state::Summary;
@@ -17,13 +17,13 @@ ghost use Rattle.collector_state.specs.Admission.{Tested};
 ghost use Rattle.collector_checkpoint.specs.Private.{Writable};
 ghost use Rattle.collector_closings.specs.Cells.{entryCells, closedCells, isPast, pastCell, isTaken};
 
-// The bytes of a closing, and the most bytes that one reception closes: all telegrams that can be open.
+// The length of a closing; and the most bytes that one reception closes: those of all telegrams that can be open.
 pub const LENGTH: usize = CELL_LENGTH;
 
 pub const LONGEST: usize = CELL_LENGTH * Collector::CAPACITY;
 
-// Writes what a reception closes at a state that is lent, before it is admitted there, from place n of 32 bytes on: how many
-// places are used then. `fit` is what the test of the state said.
+// Writes what a reception closes, for a state that is lent, before the reception is admitted: from entry n of 32 bytes on. Returns how many entries
+// are used then. `fit` is the result of the test of the state.
 pub fn put_closings<'a>(
     fit: bool,
     times: &'a [u64; Collector::CAPACITY],
@@ -98,7 +98,7 @@ fn put_past<'a>(
     k
 }
 
-// Writes one, where it is no longer open.
+// Writes one telegram, if it is no longer open.
 fn put_entry(
     closed: &mut [u8],
     k: usize,

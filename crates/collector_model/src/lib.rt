@@ -1,7 +1,7 @@
-// The types that the collector shows to its callers; what it does is in specs/, and what holds of every history in specs/History.antt.
+// The types that the collector shows to its callers. What it does is in specs/; what holds for every history is in specs/History.antt.
 use base_refusal::Refusal;
 
-// Each equals the number of such answers in the history; received counts all but 8 (document 01, "Merging").
+// Each total is the number of such answers in the history; received counts all but 8 (document 01, "Merging").
 pub struct Totals {
     pub received: u64,
     pub kept: u64,
@@ -15,9 +15,9 @@ pub struct Totals {
 pub enum Answer {
     // The reception opens a telegram.
     Kept,
-    // The same telegram is open.
+    // It is a copy of an open telegram.
     Copy,
-    // 64 telegrams are open: the reception is handed out, but opens nothing.
+    // 64 telegrams are open: the reception is reported, but opens nothing.
     Loose,
     // Damaged, late, or not taken.
     Refused(Refusal),

@@ -1,4 +1,4 @@
-// The test of a state: whether an image that restore accepts could be written of it (document 01, "Parked collector"; else 11).
+// The test of a state: whether an image that restore accepts could be written from it (document 01, "Parked collector"). If not, calls answer 11.
 use crate::Collector;
 use crate::Summary;
 use crate::entries;
@@ -17,7 +17,7 @@ ghost use Rattle.collector_state.specs.Private.{areTimely, areTelegrams,
 // The size of the table of marks.
 const MARKS: usize = 1024;
 
-// Whether the state of these arrays and this summary is acceptable, whatever they and its numbers of copies are.
+// Whether the state in these arrays and this summary is acceptable, for any arrays; its numbers of copies do not matter.
 pub fn is_acceptable<'a>(
     times: &'a [u64; Collector::CAPACITY],
     lens: &'a [u8; Collector::CAPACITY],
@@ -44,7 +44,7 @@ pub fn is_acceptable<'a>(
     count as u64 <= totals.kept
 }
 
-// Whether the first `count` times never fall, and all are open at the latest, which none is later than.
+// Whether the first `count` times never fall, none is later than the latest time, and all are open at that time.
 fn are_timely(times: &[u64], count: usize, latest: u64) -> bool
     requires { ⌜ count ≤ length (now times) ⌝ }
     ensures { λ r. ⌜ ((a : Columns) → a .times ≡ now (times .entry) → r ≡ areTimely latest (entriesAt a count)) ⌝ }
@@ -60,8 +60,8 @@ fn are_timely(times: &[u64], count: usize, latest: u64) -> bool
     earliest <= latest
 }
 
-// Whether the first `count` entries are valid, and none a copy of one before it. `seen` has the marks of those passed: where the mark of an
-// entry is new, so is its telegram, and only else those before it are searched.
+// Whether the first `count` entries are valid, and none is a copy of one before it. `seen` has the marks of the entries so far. If the mark of an
+// entry is new, its telegram is new; only if it is not, the entries before it are searched.
 fn are_telegrams<'a>(
     times: &'a [u64; Collector::CAPACITY],
     lens: &'a [u8; Collector::CAPACITY],
@@ -114,7 +114,7 @@ fn mark_at<'a>(
     mark(telegram)
 }
 
-// A number below MARKS that a telegram shares with those that are the same: of the two last bytes of TXID and the first after RORG.
+// A number below MARKS that is the same for the same telegram: from the last two bytes of TXID and the first byte after RORG.
 fn mark(telegram: &[u8]) -> usize
     requires { ⌜ minLength ≤ length (now telegram) ⌝ }
     ensures { λ r. ⌜ (r ≡ markOf (now (telegram .entry))) × (r < marks) ⌝ }
@@ -126,7 +126,7 @@ fn mark(telegram: &[u8]) -> usize
     (4 * last + 67 * other + 29 * first) % MARKS
 }
 
-// Whether entry `i`, which is valid, is a copy of one before it; it is of none where its mark was not seen.
+// Whether entry `i`, which is valid, is a copy of one before it; if its mark was not seen, it is not.
 fn is_repeated<'a>(
     times: &'a [u64; Collector::CAPACITY],
     lens: &'a [u8; Collector::CAPACITY],
@@ -146,7 +146,7 @@ fn is_repeated<'a>(
     entries::find(times, lens, bytes, 0, i, telegram, times[i]) < i
 }
 
-// Whether received is the sum of the others, which no sum here can wrap.
+// Whether received is the sum of the others. No sum here can wrap.
 pub(crate) fn is_summed(n: Totals) -> bool
     ensures { λ r. ⌜ r ≡ isSummed n ⌝ }
 {

@@ -1,5 +1,5 @@
-// The entries in their four arrays: the search for a copy, those no longer open, and what a reception makes of each array. An array at a time is lent
-// and changed where it lies, so that nothing of the state is copied.
+// The entries in their four arrays: the search for a copy, the entries that are no longer open, and what a reception does with each array. The arrays
+// are lent one at a time and changed in place, so nothing of the state is copied.
 use crate::Collector;
 use radio_erp1::status;
 ghost use mathlib.Core.Path.{_≡_};
@@ -16,8 +16,8 @@ ghost use Rattle.collector_model.specs.View.{capacity, txMaturity, capped};
 ghost use Rattle.collector_state.specs.Collector.{columns, entriesAt, moved, setIf, moreIf, putIf, lastCopy};
 ghost use Rattle.collector_state.specs.Private.{shownAt, Expired, Becomes};
 
-// Which of the entries after the first `gone` of `count` is the last that a reception is a copy of, counted from the first of these, or how many they
-// are where it is of none; no number of copies is looked at.
+// Of the entries after the first `gone` of `count`, the last one that a reception is a copy of, counted from the first of these; or how many they
+// are, if it is a copy of none. Numbers of copies are not read.
 pub(crate) fn find<'a>(
     times: &'a [u64; Collector::CAPACITY],
     lens: &'a [u8; Collector::CAPACITY],
@@ -46,7 +46,7 @@ pub(crate) fn find<'a>(
     count - gone
 }
 
-// Whether a reception is the sender's own: its level is 0.
+// Whether a reception came from the sender itself: its level is 0.
 fn is_original(received: &[u8]) -> bool
     requires { ⌜ minLength ≤ length (now received) ⌝ }
     ensures { λ r. ⌜ r ≡ eqb (levelOf (now (received .entry))) 0 ⌝ }
@@ -55,14 +55,14 @@ fn is_original(received: &[u8]) -> bool
     status.level == 0
 }
 
-// Whether a reception at `time` can be a copy of a telegram opened at `from`: no original comes when its sender is finished.
+// Whether a reception at `time` can be a copy of a telegram opened at `from`: an original cannot, after its sender has finished.
 fn is_echo(original: bool, from: u64, time: u64) -> bool
     ensures { λ r. ⌜ r ≡ (not original || leb (time - from) txMaturity) ⌝ }
 {
     !original | (since(time, from) <= Collector::TX_MATURITY_MS)
 }
 
-// Whether entry `i` is the same telegram. The last byte of TXID is compared first: by it most telegrams differ, whatever length the entry has.
+// Whether entry `i` is the same telegram. The last byte of TXID is compared first: most telegrams differ in it, whatever the entry's length.
 fn holds<'a>(
     lens: &'a [u8; Collector::CAPACITY],
     bytes: &'a [u8; Collector::CAPACITY * Collector::MAX_LEN],
@@ -107,10 +107,10 @@ pub(crate) fn expired(times: &[u64; Collector::CAPACITY], count: usize, time: u6
     count
 }
 
-// ---- what one reception makes of each array: the `left` entries after the first `gone` are moved to the front, a copy is counted for one of them,
-// and what is kept is put behind them
+// ---- what one reception does with each array: the `left` entries after the first `gone` are moved to the front, a copy is counted for one of them,
+// and a kept reception is put after them
 
-// All four.
+// Changes all four.
 pub(crate) fn change<'a>(
     times: &'a mut [u64; Collector::CAPACITY],
     lens: &'a mut [u8; Collector::CAPACITY],
@@ -255,7 +255,7 @@ fn move_counts(xs: &mut [u16], from: usize, n: usize)
     }
 }
 
-// A copy is counted for entry `i`, if it is one.
+// Counts a copy for entry `i`, if it is one.
 fn credit(copies: &mut [u16; Collector::CAPACITY], i: usize, heard: bool)
     requires { ⌜ (heard ≡ true → i < capacity) ⌝ }
     ensures { λ _. ⌜ now (copies .exit) ≡ moreIf heard i (now (copies .entry)) ⌝ }
@@ -282,7 +282,7 @@ fn store_bytes(xs: &mut [u8], at: usize, src: &[u8])
     bytes::copy(src, &mut xs[at..]);
 }
 
-// a - b, or 0 where b is greater.
+// a - b, or 0 if b is greater.
 pub(crate) fn since(a: u64, b: u64) -> u64
     ensures { λ r. ⌜ r ≡ a - b ⌝ }
 {

@@ -1,4 +1,4 @@
-// The collector: merges receptions of one telegram and counts them (document 01, "Merging"). What a repeater sends for one that is kept is a call of
+// The collector merges receptions of one telegram and counts them (document 01, "Merging"). What a repeater sends for a kept reception is a call of
 // its own (document 02, A7).
 pub mod acceptable;
 pub(crate) mod entries;
@@ -14,8 +14,8 @@ ghost use Rattle.base_refusal.specs.Number.{numberOf};
 ghost use Rattle.collector_state.specs.Collector.{viewOf, IsFresh, Takes};
 ghost use Rattle.collector_state.specs.Heard.{heardOf};
 
-// The state, in flat arrays. Entry i of the first `summary.count`, in opening order, has times[i], lens[i], copies[i] and the 21 bytes from 21 i, of
-// which lens[i] are those first received; what stands past these is left to the program.
+// The state, in flat arrays. Of the first `summary.count` entries, in opening order, entry i has times[i], lens[i], copies[i] and the 21 bytes from
+// 21 i on, of which the first lens[i] are those received. All other elements are unspecified.
 pub struct Collector {
     pub times: [u64; Collector::CAPACITY],
     pub lens: [u8; Collector::CAPACITY],
@@ -24,7 +24,7 @@ pub struct Collector {
     pub summary: Summary,
 }
 
-// The counters and the clock of a state: how many telegrams are open, the latest time, and the totals.
+// The counters of a state: how many telegrams are open, the latest time, and the totals.
 pub struct Summary {
     pub count: usize,
     pub latest: u64,
@@ -43,7 +43,7 @@ pub enum Asked {
     Refused(Refusal),
 }
 
-// How often an open telegram was heard again; 0 beside a refusal.
+// How often an open telegram was received again; 0 with a refusal.
 pub struct Heard {
     pub answer: Asked,
     pub copies: u16,
@@ -58,7 +58,7 @@ impl Collector {
     pub const CAPACITY: usize = 64;
     // The longest subtelegram.
     pub const MAX_LEN: usize = radio_erp1::MAX_LEN;
-    // The most copies that are counted of one telegram.
+    // The largest number of copies that is counted for one telegram.
     pub const MAX_COPIES: u16 = 65535;
 
     // A collector with no telegram open and nothing counted.
@@ -85,9 +85,9 @@ impl Collector {
         }
     }
 
-    // Takes one reception: its bytes and the moment they were complete, in ms. A state that is not acceptable gets 11 and stays.
-    // Of the fields of a struct one at a time can be lent to be changed: so what is changed is decided first, and then each array is changed where it
-    // lies. There is one exit, so that nothing is copied but the state, once in and once out.
+    // Takes one reception: its bytes and the time when they were complete, in ms. If the state is not acceptable, the answer is 11 and nothing
+    // changes. Only one field of a struct can be lent as mutable at a time. So the changes are decided first, and then each array is changed in
+    // place. There is one exit, so only the state is copied, once in and once out.
     pub fn take(mut self, bytes: &[u8], time: u64) -> Taken
         ensures { λ r. ⌜ Takes self (record { bytes = now (bytes .entry); time = time }) r ⌝ }
     {
@@ -117,8 +117,8 @@ impl Collector {
         }
     }
 
-    // How often the telegram of entry `entry`, counted from 0 in opening order, was heard again. A state that is not acceptable gets 11, an entry
-    // that is not open 10.
+    // How often the telegram of entry `entry`, counted from 0 in opening order, was received again. 11 if the state is not acceptable, 10 if the
+    // entry is not open.
     pub fn copies(self, entry: usize) -> Heard
         ensures { λ r. ⌜ heardOf r ≡ copiesOf (viewOf self) entry ⌝ }
     {

@@ -1,4 +1,4 @@
-// One reception (document 01, "Merging"): its classification, and what is counted; what is sent for one that is kept.
+// One reception (document 01, "Merging"): its answer, the counts, and what is sent if it is kept.
 use crate::Collector;
 use crate::Summary;
 use crate::acceptable;
@@ -30,9 +30,9 @@ pub struct Admitted {
     pub answer: Answer,
 }
 
-// Takes one reception at a state that is changed where it lies: its four arrays are lent. `fit` is what the test of the state said, so that a run
-// of receptions pays for it once; where it is false, over 64 entries are counted or the totals do not add up, the answer is 11 and nothing is
-// changed. Beside every refusal the four arrays stay as they were, whatever was told.
+// Takes one reception, with a state that is changed in place: its four arrays are lent. `fit` is the result of the test of the state, so a run of
+// receptions makes it only once. If it is false, if more than 64 entries are counted or if the totals do not add up, the answer is 11 and nothing is
+// changed. With every refusal the four arrays are unchanged, whatever `fit` is.
 pub fn admit<'a>(
     fit: bool,
     times: &'a mut [u64; Collector::CAPACITY],
@@ -115,7 +115,7 @@ pub fn admit<'a>(
     }
 }
 
-// A refusal, beside which no entry is changed.
+// A refusal: no entry is changed.
 fn refused(summary: Summary, why: Refusal) -> Admitted
     ensures { λ r. ⌜ r ≡ record { summary = summary; answer = answer.Refused why } ⌝ }
 {
@@ -138,8 +138,8 @@ fn now_open(count: usize, latest: u64, totals: Totals, answer: Answer) -> Admitt
     }
 }
 
-// What one reception changes: the first `gone` entries go, and `left` stay; of these `entry` was heard again, if `heard` says so, and the reception is
-// put behind them, if `kept` does. `summary` is what the state then holds beside its entries.
+// What one reception changes: the first `gone` entries are dropped, and `left` stay. If `heard`, entry `entry` of these was received again. If
+// `kept`, the reception is put after them. `summary` is the rest of the new state.
 pub(crate) struct Decision {
     pub(crate) gone: usize,
     pub(crate) left: usize,
@@ -150,7 +150,7 @@ pub(crate) struct Decision {
     pub(crate) answer: Answer,
 }
 
-// What a reception that passed the tests is; of a copy, the entry of which it is one.
+// What a reception that passed the tests is; for a copy, the entry that it is a copy of.
 enum Judged {
     Kept,
     Copy(usize),
@@ -204,8 +204,8 @@ pub(crate) fn decide<'a>(
     }
 }
 
-// What a repeater set to `setting` sends for a reception that got this answer, to the front of `out`, with how many bytes it is: none, if it was not
-// kept. What is kept is valid, so that it needs no further check.
+// Writes what a repeater set to `setting` sends for a reception with this answer to the front of `out`, and returns how many bytes it is: 0 if it was
+// not kept. A kept reception is valid, so it is not checked again.
 pub fn relay_kept(
     setting: u8,
     answer: Answer,
@@ -221,14 +221,14 @@ pub fn relay_kept(
     radio_telegram::repeater::relay(setting, bytes, out)
 }
 
-// Whether the state was found acceptable, its arrays hold its entries, and no total can wrap.
+// Whether the state was found acceptable, its arrays can hold its entries, and no total can wrap.
 fn is_safe(fit: bool, count: usize, totals: Totals) -> bool
     ensures { λ r. ⌜ r ≡ (fit && (leb count capacity && isSummed totals)) ⌝ }
 {
     fit & ((count <= Collector::CAPACITY) & acceptable::is_summed(totals))
 }
 
-// No entry is changed.
+// A refusal: no entry is changed.
 fn nothing(summary: Summary, why: Refusal) -> Decision
     ensures { λ r. ⌜ r ≡ unchanged summary why ⌝ }
 {
@@ -243,7 +243,7 @@ fn nothing(summary: Summary, why: Refusal) -> Decision
     }
 }
 
-// What a reception is refused for before the open telegrams are looked at.
+// The refusal of a reception before the search in the open telegrams.
 fn check_reception(latest: u64, bytes: &[u8], time: u64) -> Checked
     ensures { λ r. ⌜ checkedNumber r ≡ receptionCheck latest (record { bytes = now (bytes .entry); time = time }) ⌝ }
 {
@@ -257,7 +257,7 @@ fn check_reception(latest: u64, bytes: &[u8], time: u64) -> Checked
     Checked::Valid
 }
 
-// The summary after a reception that was refused: it is counted.
+// The summary after a reception that was refused: it is only counted.
 fn only_counted(summary: Summary, why: Refusal) -> Summary
     requires { ⌜ Countable (summary .totals) ⌝ }
     ensures { λ r. ⌜ r ≡ countedOnly summary why ⌝ }
@@ -269,7 +269,7 @@ fn only_counted(summary: Summary, why: Refusal) -> Summary
     }
 }
 
-// What a valid reception is, where of `count` telegrams the first `gone` are no longer open; no number of copies is looked at.
+// What a valid reception is, if of `count` telegrams the first `gone` are no longer open. Numbers of copies are not read.
 fn classify<'a>(
     times: &'a [u64; Collector::CAPACITY],
     lens: &'a [u8; Collector::CAPACITY],
@@ -316,7 +316,7 @@ fn entry_of(judged: Judged) -> usize
     }
 }
 
-// The totals after one more answer. By cases, for what is known of an answer where it is given is then known here.
+// The totals after one more answer. It matches on the answer, so the compiler can use what it knows of the answer at the call.
 fn counted(n: Totals, answer: Answer) -> Totals
     requires { ⌜ Countable n ⌝ }
     ensures { λ r. ⌜ r ≡ tally (shownOf answer) n ⌝ }
@@ -350,7 +350,7 @@ fn counted(n: Totals, answer: Answer) -> Totals
     }
 }
 
-// The same, total by total.
+// The same, one total at a time.
 fn counted_any(n: Totals, answer: Answer) -> Totals
     requires { ⌜ Countable n ⌝ }
     ensures { λ r. ⌜ r ≡ tally (shownOf answer) n ⌝ }
@@ -365,7 +365,7 @@ fn counted_any(n: Totals, answer: Answer) -> Totals
     }
 }
 
-// One more, where `counts` says so.
+// n, or one more if `counts` says so.
 fn one_more(counts: bool, n: u64) -> u64
     requires { ⌜ (counts ≡ true → n < maxCount) ⌝ }
     ensures { λ r. ⌜ r ≡ plusIf counts n ⌝ }
@@ -387,7 +387,7 @@ fn count_after(kept: bool, left: usize) -> usize
     left + 1
 }
 
-// ---- what an answer says
+// ---- tests of an answer
 
 fn is_kept(answer: Answer) -> bool
     ensures { λ r. ⌜ r ≡ isKept (shownOf answer) ⌝ }

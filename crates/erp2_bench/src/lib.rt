@@ -1,9 +1,9 @@
-// ERP2 telegrams read, and read and built again, for the benchmark.
+// Reads ERP2 telegrams, and reads and builds them again, for the benchmark.
 use radio_erp1::Checked;
 use radio_erp2_model::Telegram;
 use radio_telegram::frame::Built;
 
-// Reads a telegram, and answers a figure of its fields; 0 for a refusal.
+// Reads a telegram, and returns a number made of its fields; 0 for a refusal.
 #[no_mangle]
 pub extern "C" fn bench_erp2_read(bytes: &[u8]) -> u64 {
     let reading = radio_erp2::read(bytes);
@@ -14,7 +14,7 @@ pub extern "C" fn bench_erp2_read(bytes: &[u8]) -> u64 {
     }
 }
 
-// Reads a telegram and builds it again, and answers the length written; 0 for a refusal.
+// Reads a telegram and builds it again, and returns the length written; 0 for a refusal.
 #[no_mangle]
 pub extern "C" fn bench_erp2_again(bytes: &[u8], out: &mut [u8]) -> usize {
     let reading = radio_erp2::read(bytes);

@@ -1,5 +1,5 @@
-// Runs the ERP2 codec on the records of standard input, a line of 640 hexadecimal digits each, and prints a line for each: stdout is what the
-// second program says (tests/reference/README.md has the format).
+// Runs the ERP2 codec on the records of standard input, a line of 640 hexadecimal digits each, and prints a line for each. The output must equal that
+// of the second program (tests/reference/README.md has the format).
 use radio_erp1::Checked;
 use radio_erp2_model::Destination;
 use radio_erp2_model::Extension;
@@ -13,14 +13,14 @@ ghost use mathlib.Core.Path.{_≡_};
 ghost use Prim.Native.Nat.{_≤_};
 ghost use lib.ListN.{length};
 
-// The most bytes to read in a record, and of an output.
+// The largest number of bytes to read in a record, and of an output.
 const MOST: usize = 300;
 
 fn main() {
     records(1_000_000);
 }
 
-// At most so many records, until the input ends.
+// Handles at most `most` records, until the input ends.
 fn records(most: u64) {
     let mut left = most;
     while 0 < left {
@@ -31,13 +31,13 @@ fn records(most: u64) {
     }
 }
 
-// A record; `more` is false past the last one.
+// A record; `more` is false after the last one.
 struct Input {
     more: bool,
     bytes: [u8; test_io::LONG],
 }
 
-// One record, if there is one more.
+// Handles one record, if there is one more.
 fn record() -> bool {
     let next = next();
     if !next.more {
@@ -80,7 +80,7 @@ fn read(r: &[u8])
     show(t);
 }
 
-// Builds into an output of the capacity that the record names.
+// Builds into an output of the capacity in the record.
 fn build(r: &[u8])
     requires { ⌜ length (now r) ≡ 320 ⌝ }
 {
@@ -96,7 +96,7 @@ fn build_into(t: Telegram, out: &mut [u8]) {
     written(built, out);
 }
 
-// The telegram that a record asks to build.
+// The telegram that a record describes.
 fn ordered(r: &[u8]) -> Telegram
     requires { ⌜ length (now r) ≡ 320 ⌝ }
 {
@@ -151,7 +151,7 @@ fn optional_of(part: &[u8]) -> [u8; MAX_OPTIONAL]
     bytes
 }
 
-// ---- what is printed of an answer
+// ---- what is printed for an answer
 
 fn checked_number(checked: Checked) -> u64 {
     match checked {
@@ -211,7 +211,7 @@ fn flag(set: bool) {
     }
 }
 
-// An Originator-ID in 12 digits.
+// Prints an Originator-ID in 12 digits.
 fn identity(id: u64) {
     let mut bytes = [0u8; 6];
     block_layout::put_number(&mut bytes, id);
@@ -219,7 +219,7 @@ fn identity(id: u64) {
     test_io::hex(&bytes);
 }
 
-// A Destination-ID in 8.
+// Prints a Destination-ID in 8 digits.
 fn destination(id: u64) {
     let mut bytes = [0u8; 4];
     block_layout::put_number(&mut bytes, id);

@@ -1,1 +1,1 @@
-// The rows that an archive keeps of an input: definitions and theorems, no code.
+// The rows that an archive keeps for an input: definitions and theorems, no code.

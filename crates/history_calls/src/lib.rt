@@ -1,1 +1,1 @@
-// Whole histories of the code's own states, over the contracts of its calls; there is no code here.
+// Whole histories of the code's own states, from the contracts of its calls: definitions and theorems, no code.

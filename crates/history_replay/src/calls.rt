@@ -1,4 +1,4 @@
-// The calls of the library: each makes one on the collector in the arrays, and fills the output with what is seen of it.
+// The calls of the library: each function here makes one on the collector in the arrays, and fills the output with what is seen.
 use crate::lent_lists;
 use crate::reading;
 use crate::writing;
@@ -54,7 +54,7 @@ pub(crate) fn received(
     writing::put_answered(out, form, number, sent, totals);
 }
 
-// What is sent for a reception that got this answer: only KEPT is ever repeated.
+// What is sent for a reception with this answer: only KEPT is ever repeated.
 fn sent_for(setting: u8, answer: u16, bytes: &[u8]) -> Frame
     ensures { λ r. ⌜ r ≡ cond (eqb answer 0) (repeatResult setting (now (bytes .entry)) .sent) (frameOf []) ⌝ }
 {
@@ -65,7 +65,7 @@ fn sent_for(setting: u8, answer: u16, bytes: &[u8]) -> Frame
     repeated.sent
 }
 
-// The totals of a state: by the call, and of a state that it refuses as they stand in the eight numbers.
+// The totals of a state: from the call; if it refuses the state, from the eight numbers.
 fn totals_of<'a>(
     times: &'a [u64; CAPACITY],
     lengths: &'a [u8; CAPACITY],
@@ -120,7 +120,7 @@ pub(crate) fn saved(
     put_wrote(times, lengths, bytes, copies, numbers, out, r[9]);
 }
 
-// A checkpoint into all that stands behind the length, each byte of which is `fill` before.
+// Makes a checkpoint into all bytes after the length; each of them has the value `fill` before.
 fn put_wrote<'a>(
     times: &'a [u64; CAPACITY],
     lengths: &'a [u8; CAPACITY],
@@ -168,7 +168,7 @@ fn save_into<'a>(
     c_checkpoint::checkpoint(times, lengths, bytes, copies, numbers, out)
 }
 
-// The second cell is of the restore, of the bytes in the first. The other collector is started fresh where this one lay.
+// Makes a cut. The second cell is that of the restore, of the bytes in the first. The other collector is started fresh in the same arrays.
 pub(crate) fn cut(
     times: &mut [u64; CAPACITY],
     lengths: &mut [u8; CAPACITY],
@@ -282,7 +282,7 @@ pub(crate) fn delivered<'a>(
     );
 }
 
-// The burst of all whole records of these bytes, with the places of a second list.
+// Makes the burst of all whole records of these bytes, with the entries of a second list.
 fn burst_in(
     times: &mut [u64; CAPACITY],
     lengths: &mut [u8; CAPACITY],

@@ -1,4 +1,4 @@
-// The lists of a burst, as the library's call is lent them: moments, a frame of 22 bytes for each, and places of 24.
+// The lists of a burst, as they are lent to the library's call: times, a frame of 22 bytes for each, and entries of 24 for the replies.
 use crate::reading;
 use crate::writing;
 use c_layout::FRAME_LENGTH;
@@ -19,17 +19,17 @@ ghost use Rattle.history_replay_model.specs.Record.{formOf, replyOf};
 ghost use Rattle.history_replay.specs.Calls.{callLength, recordAt, numberAt};
 ghost use Rattle.history_replay.specs.Private.{frameIn, placeBytes};
 
-// The bytes of a place.
+// The length of an entry for a reply.
 pub(crate) const PLACE: usize = 2 + FRAME_LENGTH;
 
-// The most frames and places.
+// The greatest lengths of the frames, and of the entries.
 const FRAMES: usize = FRAME_LENGTH * LISTED;
 
 const PLACES: usize = PLACE * LISTED;
 
 // ---- the receptions
 
-// The moments of the first n records.
+// The times of the first n records.
 pub(crate) fn moments_in(records: &[u8], n: usize) -> [u64; LISTED]
     requires { ⌜ (n ≤ listed) × (callLength * n ≤ length (now records)) ⌝ }
     ensures { λ ms. ⌜ take n ms ≡ map (λ i. numberAt 1 (recordAt (now (records .entry)) i)) (upFrom 0 n) ⌝ }
@@ -48,7 +48,7 @@ fn no_moments() -> [u64; LISTED] {
     [0; LISTED]
 }
 
-// Their frames, one after the other.
+// The frames of the first n records, one after the other.
 pub(crate) fn frames_in(records: &[u8], n: usize) -> [u8; FRAMES]
     requires { ⌜ (n ≤ listed) × (callLength * n ≤ length (now records)) ⌝ }
     ensures { λ fs. ⌜ take (frameLength * n) fs
@@ -76,9 +76,9 @@ fn put_frame(out: &mut [u8], r: &[u8])
     block_layout::put_bytes(&mut out[1..FRAME_LENGTH], &r[10..31]);
 }
 
-// ---- the places
+// ---- the entries for replies
 
-// The first m places before the burst.
+// The first m entries before the burst.
 pub(crate) fn places_in(r: &[u8], m: usize) -> [u8; PLACES]
     requires { ⌜ (length (now r) ≡ callLength) × (m ≤ listed) ⌝ }
     ensures { λ ps. ⌜ take (replyLength * m) ps ≡ flatten (replicate m (placeBytes (now (r .entry)))) ⌝ }
@@ -104,7 +104,7 @@ fn put_old(out: &mut [u8], r: &[u8])
     block_layout::put_bytes(&mut out[3..PLACE], &r[27..48]);
 }
 
-// The places after it, as they are recorded.
+// Writes the entries after the burst into the record.
 pub(crate) fn put_places(out: &mut [u8], places: &[u8], m: usize)
     requires { ⌜ (length (now places) ≡ replyLength * m) × (length (now out) ≡ written.replyLength * m) ⌝ }
     ensures { λ _. ⌜ now (out .exit) ≡ flatten (map replyOf (repliesIn (now (places .entry)))) ⌝ }

@@ -1,6 +1,6 @@
-// Puts a collector through a list of calls, lent as records of 64 bytes, and writes what is seen of each: the function of which the claim on whole
-// histories speaks (document 01, "One history, and the clerk who writes it down"). The collector lies in five lent arrays, and is reached by the calls
-// of the library alone; `values` does the same by the calls by value.
+// Makes a list of calls on a collector, lent as records of 64 bytes, and writes what is seen of each. The claim on whole histories is about this
+// function (document 01, "One history, and the clerk who writes it down"). The collector is in five lent arrays, and only the calls of the library
+// change it; `values` does the same with the calls by value.
 pub(crate) mod calls;
 pub(crate) mod lent_lists;
 pub(crate) mod reading;
@@ -30,7 +30,7 @@ pub const CALL_LENGTH: usize = 64;
 // The longest output of a checkpoint.
 pub const MAX_OUTPUT: usize = 4096;
 
-// The operations: the first byte of a call's record, and of what is written of it.
+// The operations: the first byte of a call's record, and of the cell that is written for it.
 pub const LOOKING: u8 = 0;
 
 pub const RECEIVING: u8 = 2;
@@ -51,13 +51,13 @@ pub enum Ran {
     Refused(Refusal),
 }
 
-// How many bytes were written of the calls.
+// How many bytes were written for the calls.
 pub struct Replayed {
     pub written: usize,
     pub answer: Ran,
 }
 
-// What a collector started fresh shows of all the calls. An output that is shorter than their record is refused with 6, and no call is made.
+// Writes what a collector started fresh shows for all the calls. If the output is shorter than their record, the answer is 6, and no call is made.
 pub fn replay<'a>(
     times: &mut [u64; CAPACITY],
     lengths: &mut [u8; CAPACITY],
@@ -76,7 +76,7 @@ pub fn replay<'a>(
     resume(times, lengths, bytes, copies, numbers, calls, lent, out)
 }
 
-// What a collector shows of them, whatever state it is in.
+// The same for a collector in any state.
 pub fn resume<'a>(
     times: &mut [u64; CAPACITY],
     lengths: &mut [u8; CAPACITY],
@@ -103,7 +103,7 @@ pub fn resume<'a>(
     all(times, lengths, bytes, copies, numbers, calls, lent, out)
 }
 
-// Whether n bytes are enough for what is written of the calls.
+// Whether n bytes are enough for what is written for the calls.
 pub(crate) fn fits(calls: &[u8], n: usize) -> bool
     ensures { λ r. ⌜ r ≡ leb (sizeOfAll (callsIn [] (now (calls .entry)))) n ⌝ }
 {
@@ -118,7 +118,7 @@ pub(crate) fn fits(calls: &[u8], n: usize) -> bool
     true
 }
 
-// All the calls, one after the other.
+// Makes all calls, one after the other.
 fn all<'a>(
     times: &mut [u64; CAPACITY],
     lengths: &mut [u8; CAPACITY],
@@ -158,7 +158,7 @@ fn all<'a>(
     }
 }
 
-// One call.
+// Makes one call.
 fn call<'a>(
     times: &mut [u64; CAPACITY],
     lengths: &mut [u8; CAPACITY],

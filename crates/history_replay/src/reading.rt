@@ -1,4 +1,4 @@
-// What a record says.
+// What is in a record.
 use collector_burst::LISTED;
 ghost use mathlib.Core.Path.{_≡_};
 ghost use mathlib.Core.List.{[]};
@@ -9,10 +9,10 @@ ghost use Rattle.collector_burst.specs.Records.{listed};
 ghost use Rattle.history_replay_model.specs.Replay.{callSize};
 ghost use Rattle.history_replay.specs.Calls.{callLength, numberAt, maxOutput, lentIn, callIn};
 
-// The most bytes that a record has for a reception.
+// The largest number of bytes of a reception in a record.
 pub(crate) const RECEPTION: usize = 53;
 
-// How many bytes are written of the call that a record says.
+// How many bytes are written for the call of a record.
 pub(crate) fn size_in(r: &[u8]) -> usize
     requires { ⌜ length (now r) ≡ callLength ⌝ }
     ensures { λ n. ⌜ n ≡ callSize (callIn [] (now (r .entry))) ⌝ }
@@ -39,7 +39,7 @@ pub(crate) fn size_in(r: &[u8]) -> usize
     crate::writing::HEAD
 }
 
-// The number that the eight bytes from `at` on spell.
+// The number in the eight bytes from `at` on.
 pub(crate) fn number_at(r: &[u8], at: usize) -> u64
     requires { ⌜ (length (now r) ≡ callLength) × (at + 8 ≤ callLength) ⌝ }
     ensures { λ n. ⌜ n ≡ numberAt at (now (r .entry)) ⌝ }
@@ -55,7 +55,7 @@ pub(crate) fn output_length(r: &[u8]) -> usize
     least(number_at(r, 1) as usize, crate::MAX_OUTPUT)
 }
 
-// How many places the second list of a burst has.
+// How many entries the second list of a burst has.
 pub(crate) fn place_count(r: &[u8]) -> usize
     requires { ⌜ length (now r) ≡ callLength ⌝ }
     ensures { λ n. ⌜ (n ≡ min (numberAt 17 (now (r .entry))) listed) × (n ≤ listed) ⌝ }
@@ -63,7 +63,7 @@ pub(crate) fn place_count(r: &[u8]) -> usize
     least(number_at(r, 17) as usize, LISTED)
 }
 
-// The bytes lent beside the calls that a record names, or as many as there are.
+// The part of the separately lent bytes that a record names, as far as there are bytes.
 pub(crate) fn lent_in<'a>(lent: &'a [u8], r: &'a [u8]) -> &'a [u8]
     requires { ⌜ length (now r) ≡ callLength ⌝ }
     ensures { λ s. ⌜ now s ≡ lentIn (now (lent .entry)) (now (r .entry)) ⌝ }
@@ -73,7 +73,7 @@ pub(crate) fn lent_in<'a>(lent: &'a [u8], r: &'a [u8]) -> &'a [u8]
     window(lent, a, n)
 }
 
-// The n bytes from a on, or as many as there are.
+// The n bytes from a on, as far as there are bytes.
 fn window(s: &[u8], a: u64, n: u64) -> &[u8]
     ensures { λ r. ⌜ now r ≡ part a n (now (s .entry)) ⌝ }
 {

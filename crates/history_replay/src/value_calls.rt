@@ -1,4 +1,4 @@
-// The calls by value: each makes one on the collector, fills the output with what is seen of it, and gives the state after it.
+// The calls by value: each function here makes one on the collector, fills the output with what is seen, and returns the next state.
 use crate::reading;
 use crate::value_lists;
 use crate::writing;
@@ -50,7 +50,7 @@ pub(crate) fn received<'a>(c: Collector, r: &'a [u8], out: &'a mut [u8]) -> Coll
     next
 }
 
-// What is sent for a reception that got this answer: only KEPT is ever repeated.
+// What is sent for a reception with this answer: only KEPT is ever repeated.
 fn sent_for(setting: u8, answer: Answer, bytes: &[u8]) -> Frame
     ensures { λ r. ⌜ r ≡ frameOf (cond (isKept (shownOf answer)) (repeatOf setting (now (bytes .entry))) []) ⌝ }
 {
@@ -74,7 +74,7 @@ pub(crate) fn saved<'a>(c: Collector, r: &'a [u8], out: &'a mut [u8]) -> Collect
     c
 }
 
-// A checkpoint into all that stands behind the length, each byte of which is `fill` before.
+// Makes a checkpoint into all bytes after the length; each of them has the value `fill` before.
 fn put_wrote(out: &mut [u8], c: Collector, fill: u8)
     requires { ⌜ headLength + countLength ≤ length (now out) ⌝ }
     ensures { λ _. ⌜ now (out .exit) ≡ seenBytes
@@ -100,7 +100,7 @@ fn save_into(out: &mut [u8], c: Collector, fill: u8) -> Saved
     collector_checkpoint::checkpoint(c, out)
 }
 
-// The second cell is of the restore into another collector, of the bytes in the first.
+// Makes a cut. The second cell is that of the restore into another collector, of the bytes in the first.
 pub(crate) fn cut<'a>(c: Collector, r: &'a [u8], out: &'a mut [u8]) -> Collector
     requires { ⌜ (length (now r) ≡ callLength)
         × (length (now out) ≡ headLength + countLength + length (outputIn (now r)) + headLength) ⌝ }
@@ -171,7 +171,7 @@ pub(crate) fn delivered<'a>(
     next
 }
 
-// The burst of all whole records of these bytes, with m places.
+// Makes the burst of all whole records of these bytes, with m entries for replies.
 fn burst_in<'a>(c: Collector, r: &'a [u8], bytes: &'a [u8], m: usize) -> Within
     requires { ⌜ (length (now r) ≡ callLength) × (m ≤ listed) ⌝ }
     ensures { λ w. ⌜ BurstGiven c (settingIn (now (r .entry))) (receptionsIn (now (bytes .entry)))

@@ -1,4 +1,4 @@
-// The lists of a burst by value: records and replies, and what is written of the replies.
+// The lists of a burst by value: records and replies, and what is written for the replies.
 use crate::reading;
 use crate::writing;
 use crate::writing::REPLY;
@@ -57,7 +57,7 @@ fn reception_in(r: &[u8]) -> Reception
     }
 }
 
-// What each place of the second list holds before the burst.
+// What each entry of the second list holds before the burst.
 pub(crate) fn place_in(r: &[u8]) -> Reply
     requires { ⌜ length (now r) ≡ callLength ⌝ }
     ensures { λ p. ⌜ repliedOf p ≡ placeIn (now (r .entry)) ⌝ }
@@ -93,7 +93,7 @@ pub(crate) fn places(place: Reply) -> [Reply; LISTED]
     [place; LISTED]
 }
 
-// The first m places, as they are recorded.
+// Writes the first m entries into the record.
 pub(crate) fn put_replies(out: &mut [u8], replies: [Reply; LISTED], m: usize)
     requires { ⌜ (m ≤ listed) × (length (now out) ≡ replyLength * m) ⌝ }
     ensures { λ _. ⌜ now (out .exit) ≡ flatten (map replyOf (map repliedOf (take m replies))) ⌝ }

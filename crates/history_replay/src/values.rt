@@ -1,5 +1,5 @@
-// The same by the calls by value, which take a collector and hand back the next: its record is that of the calls on lent arrays, and so is every
-// element of the state that it comes to.
+// The same with the calls by value, which take a collector and return the next. Its record equals that of the calls on lent arrays, and so does every
+// element of the state after it.
 use crate::Ran;
 use crate::Replayed;
 use crate::reading;
@@ -16,13 +16,13 @@ ghost use Rattle.history_replay.specs.Calls.{callLength, callIn, callsIn
 ghost use Rattle.history_replay.specs.Replay.{Resumes, Replays};
 ghost use Rattle.history_replay.specs.Private.{Called};
 
-// The state after the calls, and how many bytes were written of them.
+// The state after the calls, and how many bytes were written for them.
 pub struct Left {
     pub next: Collector,
     pub replayed: Replayed,
 }
 
-// What a collector started fresh shows of all the calls.
+// Writes what a collector started fresh shows for all the calls.
 pub fn replay<'a>(calls: &'a [u8], lent: &'a [u8], out: &'a mut [u8]) -> Left
     ensures { λ r. ⌜ Replays (callsIn (now (lent .entry)) (now (calls .entry)))
         (now (out .entry)) (now (out .exit)) (r .replayed) (arraysOf (r .next)) ⌝ }
@@ -30,7 +30,7 @@ pub fn replay<'a>(calls: &'a [u8], lent: &'a [u8], out: &'a mut [u8]) -> Left
     resume(Collector::fresh(), calls, lent, out)
 }
 
-// What a collector shows of them, whatever state it is in.
+// The same for a collector in any state.
 pub fn resume<'a>(c: Collector, calls: &'a [u8], lent: &'a [u8], out: &'a mut [u8]) -> Left
     ensures { λ r. ⌜ Resumes (arraysOf c) (callsIn (now (lent .entry)) (now (calls .entry)))
         (now (out .entry)) (now (out .exit)) (r .replayed) (arraysOf (r .next)) ⌝ }
@@ -47,7 +47,7 @@ pub fn resume<'a>(c: Collector, calls: &'a [u8], lent: &'a [u8], out: &'a mut [u
     all(c, calls, lent, out)
 }
 
-// All the calls, one after the other.
+// Makes all calls, one after the other.
 fn all<'a>(c: Collector, calls: &'a [u8], lent: &'a [u8], out: &'a mut [u8]) -> Left
     requires { ⌜ sizeOfAll (callsIn [] (now calls)) ≤ length (now out) ⌝ }
     ensures { λ r. ⌜ Resumes (arraysOf c) (callsIn (now (lent .entry)) (now (calls .entry)))
@@ -76,7 +76,7 @@ fn all<'a>(c: Collector, calls: &'a [u8], lent: &'a [u8], out: &'a mut [u8]) -> 
     }
 }
 
-// One call: the state after it.
+// Makes one call, and returns the next state.
 fn call<'a>(c: Collector, r: &'a [u8], lent: &'a [u8], out: &'a mut [u8]) -> Collector
     requires { ⌜ (length (now r) ≡ callLength) × (length (now out) ≡ callSize (callIn [] (now r))) ⌝ }
     ensures { λ d. ⌜ Called (arraysOf c) (callIn (now (lent .entry)) (now (r .entry))) (now (out .exit)) (arraysOf d) ⌝ }

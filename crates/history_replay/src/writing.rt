@@ -1,4 +1,4 @@
-// What is written of each call.
+// What is written for each call.
 use collector_model::Totals;
 use radio_telegram::frame::Frame;
 ghost use mathlib.Core.Path.{_≡_};
@@ -10,7 +10,7 @@ ghost use Rattle.history_replay_model.specs.Operation.{receiving};
 ghost use Rattle.history_replay_model.specs.Record.{headLength, countLength, replyLength, headOf};
 ghost use Rattle.history_replay.specs.Private.{replyCell};
 
-// The operation, the number and the totals; with a length behind them; a reply; all of an answer.
+// The greatest lengths: the operation, the number and the totals; these with a length after them; a reply; a whole answer.
 pub(crate) const HEAD: usize = 50;
 
 pub(crate) const BODY: usize = HEAD + 8;
@@ -28,7 +28,7 @@ pub(crate) fn put_answered(out: &mut [u8], form: u8, number: u8, sent: Frame, to
     put_reply(&mut out[HEAD..ANSWERED], form, number, sent);
 }
 
-// The head, and a length or a count behind it.
+// Writes the head, and a length or a count after it.
 pub(crate) fn put_body(out: &mut [u8], operation: u8, number: u8, totals: Totals, count: u64)
     requires { ⌜ length (now out) ≡ headLength + countLength ⌝ }
     ensures { λ _. ⌜ now (out .exit) ≡ headOf operation number totals ++ be 8 count ⌝ }

@@ -1,18 +1,18 @@
-// The bytes of a call that stand in the records after its own.
+// The bytes of a call that are in the records after its own.
 ghost use mathlib.Core.Path.{_≡_};
 ghost use Prim.Native.Nat.{_≤_};
 ghost use lib.ListN.{length};
 
-// ---- an image: operation 8 says how many bytes it has
+// ---- an image: the record with operation 8 says how many bytes it has
 
-// The most bytes of an image that the input gives, and of an output.
+// The largest number of bytes of an image in the input, and of an output.
 pub(crate) const LONGEST: usize = 3000;
-// How many of them a record holds.
+// How many bytes of it a record holds.
 const PART: usize = 54;
-// The most, and a part that begins before their end.
+// The largest image, and one more part, because the last part may begin before its end.
 const BUFFER: usize = 3054;
 
-// The next n bytes, and behind them what else the last record holds.
+// The next n bytes, and after them what else the last record holds.
 pub(crate) fn next_bytes(n: usize) -> [u8; BUFFER]
     requires { ⌜ n ≤ 3000 ⌝ }
 {
@@ -27,16 +27,16 @@ pub(crate) fn next_bytes(n: usize) -> [u8; BUFFER]
     bytes
 }
 
-// The bytes that a record holds, its last ones, from `at` on.
+// Copies the bytes of a record, its last ones, to `at`.
 fn put_part<'a>(out: &'a mut [u8], at: usize, r: &'a [u8])
     requires { ⌜ (length (now out) ≡ 3054) × (at ≤ 3000) × (length (now r) ≡ 64) ⌝ }
 {
     block_layout::put_bytes(&mut out[at..at + PART], &r[10..64]);
 }
 
-// ---- the receptions of a burst, which are lent as they stand
+// ---- the receptions of a burst, which are lent as the records hold them
 
-// The most receptions and places of a burst, and the bytes of so many records.
+// The largest number of receptions and of replies in a burst; and the length of that many records.
 pub(crate) const LISTED: usize = 259;
 
 const RECEPTIONS: usize = 16_576;

@@ -1,5 +1,5 @@
-// Puts a collector through the histories of standard input, each record by `history_replay::resume`, and prints what that wrote: stdout is what the
-// second program says (tests/reference/README.md has the format). The collector lies in five arrays, which each call is lent.
+// Makes the histories of standard input on a collector, each record by `history_replay::resume`, and prints what that wrote. The output must equal
+// that of the second program (tests/reference/README.md has the format). The collector is in five arrays, which are lent to each call.
 pub(crate) mod lent;
 pub(crate) mod records;
 pub(crate) mod shown;
@@ -13,10 +13,10 @@ ghost use mathlib.Core.Path.{_≡_};
 ghost use Prim.Native.Nat.{_≤_};
 ghost use lib.ListN.{length};
 
-// The bytes of an image.
+// The length of an image.
 const IMAGE: usize = 2560;
 
-// A history under way: the setting that its caller keeps, and how many images it has printed.
+// A history in progress: the setting that its caller keeps, and how many images it has printed.
 struct Session {
     setting: u8,
     shown: u8,
@@ -26,7 +26,7 @@ fn main() {
     histories(1_000_000);
 }
 
-// At most so many calls, until the input ends.
+// Makes at most `most` calls, until the input ends.
 fn histories(most: u64) {
     let mut times = [0u64; CAPACITY];
     let mut lengths = [0u8; CAPACITY];
@@ -190,7 +190,7 @@ fn cut(
     after(session, session.shown)
 }
 
-// The restore of the present image with byte k changed, or for 2,560 without its last byte.
+// Restores the present image with byte k changed; for k = 2,560, without its last byte.
 fn spoiled(
     times: &mut [u64; CAPACITY],
     lengths: &mut [u8; CAPACITY],
@@ -221,7 +221,7 @@ fn spoiled(
     )
 }
 
-// So of an image in a lent buffer.
+// The same for an image in a lent buffer.
 fn changed(
     times: &mut [u64; CAPACITY],
     lengths: &mut [u8; CAPACITY],
@@ -259,7 +259,7 @@ fn changed(
     )
 }
 
-// The restore of an image of n bytes that the input gives.
+// Restores an image of n bytes from the input.
 fn given(
     times: &mut [u64; CAPACITY],
     lengths: &mut [u8; CAPACITY],
@@ -284,7 +284,7 @@ fn given(
     )
 }
 
-// The restore of these bytes; what stands before its number says which call it is.
+// Restores these bytes. The text before its number says which call it is.
 fn restored<'a>(
     times: &mut [u64; CAPACITY],
     lengths: &mut [u8; CAPACITY],
@@ -314,7 +314,7 @@ fn restored<'a>(
     after(session, session.shown)
 }
 
-// A burst of the next n records.
+// Hands over a burst of the next n records.
 fn delivered(
     times: &mut [u64; CAPACITY],
     lengths: &mut [u8; CAPACITY],
@@ -348,7 +348,7 @@ fn delivered(
     after(session, session.shown)
 }
 
-// The copies of the entry with this index.
+// Asks for the copies of the entry with this index.
 fn asked(
     times: &mut [u64; CAPACITY],
     lengths: &mut [u8; CAPACITY],
@@ -368,7 +368,7 @@ fn asked(
     after(session, session.shown)
 }
 
-// A call that is lent nothing.
+// Makes a call that is lent nothing.
 fn made<'a>(
     times: &mut [u64; CAPACITY],
     lengths: &mut [u8; CAPACITY],
@@ -390,7 +390,7 @@ fn made<'a>(
     )
 }
 
-// Whether the call was not made, for want of room: then nothing of it is printed.
+// Whether the call was not made, because the output is too short; then nothing is printed for it.
 fn is_refused(ran: Replayed) -> bool {
     let answer = ran.answer;
     match answer {
@@ -399,7 +399,7 @@ fn is_refused(ran: Replayed) -> bool {
     }
 }
 
-// A history at its start, and after a call.
+// A history at its start; and after a call.
 fn begun(setting: u8) -> Session {
     Session {
         setting: setting,

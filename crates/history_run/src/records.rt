@@ -1,10 +1,10 @@
-// The calls of a replay: what each record of the input is to it.
+// The calls of a replay: what each record of the input becomes.
 use crate::least;
 ghost use mathlib.Core.Path.{_≡_};
 ghost use Prim.Native.Nat.{_≤_};
 ghost use lib.ListN.{length};
 
-// What each byte of an output is before the call.
+// The value of each byte of an output before the call.
 const FILL: u8 = 0xEE;
 
 // A reception: the record itself, with at most 28 bytes, and the setting that the caller keeps.
@@ -25,7 +25,7 @@ fn at_most_28(n: u8) -> u8 {
     28
 }
 
-// A checkpoint into n bytes, or a cut by one.
+// A checkpoint into n bytes, or a cut with one.
 pub(crate) fn checkpoint(operation: u8, n: usize) -> [u8; history_replay::CALL_LENGTH] {
     let mut call = [0u8; history_replay::CALL_LENGTH];
     call[0] = operation;
@@ -42,7 +42,7 @@ pub(crate) fn restore(n: usize) -> [u8; history_replay::CALL_LENGTH] {
     call
 }
 
-// A burst of the n records that are lent, with m places, which hold LOOSE with 21 bytes to send; byte 12 of its record is the setting.
+// A burst of the n records that are lent, with m entries for replies, which hold LOOSE with 21 bytes to send. Byte 12 of its record is the setting.
 pub(crate) fn burst(r: &[u8], n: usize, m: usize) -> [u8; history_replay::CALL_LENGTH]
     requires { ⌜ (length (now r) ≡ 64) × (n ≤ 259) ⌝ }
 {
@@ -55,7 +55,7 @@ pub(crate) fn burst(r: &[u8], n: usize, m: usize) -> [u8; history_replay::CALL_L
     call
 }
 
-// Where the records stand and how many bytes they are, and the number of places.
+// Where the records begin, how many bytes they are, and the number of entries for replies.
 fn put_lists(call: &mut [u8], n: usize, m: usize)
     requires { ⌜ (length (now call) ≡ 64) × (n ≤ 259) ⌝ }
 {
@@ -64,7 +64,7 @@ fn put_lists(call: &mut [u8], n: usize, m: usize)
     block_layout::put_number(&mut call[17..25], m as u64);
 }
 
-// How many places bytes 10 and 11 say, at most those of a list.
+// How many entries for replies bytes 10 and 11 say, at most the length of a list.
 pub(crate) fn places_in(r: &[u8]) -> usize
     requires { ⌜ length (now r) ≡ 64 ⌝ }
     ensures { λ m. ⌜ m ≤ 259 ⌝ }
@@ -72,7 +72,7 @@ pub(crate) fn places_in(r: &[u8]) -> usize
     least(block_layout::read_number(&r[10..12]), crate::lent::LISTED)
 }
 
-// An ask for the copies of an entry.
+// A question for the copies of an entry.
 pub(crate) fn ask(entry: u64) -> [u8; history_replay::CALL_LENGTH] {
     let mut call = [0u8; history_replay::CALL_LENGTH];
     call[0] = history_replay::ASKING;

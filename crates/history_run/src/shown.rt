@@ -1,4 +1,4 @@
-// What is printed of the cells that a replay wrote (docs/FORMATS.md has their bytes).
+// What is printed for the cells that a replay wrote (docs/FORMATS.md has their bytes).
 use crate::least;
 ghost use mathlib.Core.Path.{_≡_};
 ghost use Prim.Native.Nat.{_≤_};
@@ -6,11 +6,11 @@ ghost use lib.ListN.{length};
 
 // The operation, the number and the totals.
 pub(crate) const HEAD: usize = 50;
-// With a length or a count behind them.
+// The same with a length or a count after them.
 pub(crate) const BODY: usize = 58;
 // The reply to a reception: the form of its answer, its number, the length of what is sent, and 21 bytes.
 const REPLY: usize = 31;
-// All of a reception; the longest of a checkpoint; of a cut by 2,560 bytes; of a burst of 259.
+// The greatest lengths of a cell: of a reception; of a checkpoint; of a cut with 2,560 bytes; of a burst of 259.
 pub(crate) const ANSWERED: usize = 81;
 
 pub(crate) const WROTE: usize = 3058;
@@ -19,7 +19,7 @@ pub(crate) const CUT: usize = 2668;
 
 pub(crate) const DELIVERED: usize = 8087;
 
-// Of each history the images of so many checkpoints are printed.
+// For each history, this many images of checkpoints are printed.
 const SHOWN: u8 = 3;
 
 // ---- the cells
@@ -32,7 +32,7 @@ pub(crate) fn put_answered(cell: &[u8])
     put_totals(cell);
 }
 
-// The output stands behind the length; how many images are printed then.
+// Prints the output, which is after the length. Returns how many images are printed then.
 pub(crate) fn put_wrote(shown: u8, cell: &[u8]) -> u8
     requires { ⌜ 58 ≤ length (now cell) ⌝ }
 {
@@ -43,7 +43,7 @@ pub(crate) fn put_wrote(shown: u8, cell: &[u8]) -> u8
     put_image(shown, cell[1], &cell[BODY..])
 }
 
-// The cell of the checkpoint, and that of the restore.
+// Prints the cell of the checkpoint, and that of the restore.
 pub(crate) fn put_cut(cells: &[u8])
     requires { ⌜ length (now cells) ≡ 2668 ⌝ }
 {
@@ -60,7 +60,7 @@ pub(crate) fn put_restored<'a>(word: &'a [u8], cell: &'a [u8])
     put_totals(cell);
 }
 
-// The first m places, a line each.
+// Prints the first m entries, a line each.
 pub(crate) fn put_delivered(cell: &[u8], m: usize)
     requires { ⌜ (length (now cell) ≡ 8087) × (m ≤ 259) ⌝ }
 {
@@ -131,7 +131,7 @@ fn put_answer(form: u8, number: u8) {
     }
 }
 
-// A figure of all the bytes: 31 times the one before it, plus the byte, kept to 32 bits.
+// A number made of all the bytes: for each byte, 31 times the number so far, plus the byte, in 32 bits.
 fn put_digest(out: &[u8]) {
     let mut figure: u64 = 0;
     for i in 0..out.len() {
@@ -145,14 +145,14 @@ fn mixed(figure: u64, byte: u8) -> u64 {
     (figure % 4_294_967_296 * 31 + byte as u64) % 4_294_967_296
 }
 
-// The low 32 bits, in eight digits.
+// Prints the low 32 bits, in eight digits.
 fn put_word(n: u64) {
     let mut word = [0u8; 4];
     block_layout::put_number(&mut word, n);
     test_io::hex(&word);
 }
 
-// The image of one of the first checkpoints; how many are printed then.
+// Prints the image of one of the first checkpoints. Returns how many are printed then.
 fn put_image(shown: u8, number: u8, out: &[u8]) -> u8 {
     if number != 0 {
         return shown;

@@ -1,5 +1,5 @@
-// A batch of the plant's tool with an archive of one file, on the bytes of its files, made of the calls that the tool
-// makes (docs/CRASH.md, "A commit"): leftovers are compared, the rows go to the archive, then the state is written.
+// A batch of the plant's tool with an archive of one file, on the bytes of its files. It makes the calls that the tool makes (docs/CRASH.md, "A
+// commit"): it compares leftovers, writes the rows to the archive, then writes the state.
 use archive_file::Taken;
 use base_refusal::Refusal;
 use block_layout::BLOCK_LENGTH;
@@ -21,10 +21,10 @@ ghost use Rattle.journal_model.specs.Disk.{wholeBlocks};
 ghost use Rattle.journal_state.specs.State.{kept};
 ghost use Rattle.journal_batch.specs.Batch.{putOf, filledOf, commitOf};
 
-// Rows `count`, count + 1 and so on of the archive, all in one block, and the state that counts them. `moments` and
-// `left` are the leftovers that stand where they go; rows that are there already are not written again. `last` is the
-// copy of the block with the last row. Refused: 16, 12 at leftovers that are to be put aside first, the number of
-// `put_rows`, 6 where the archive has no such block, 11 for a state that is not lawful; then everything is as it was.
+// Adds rows `count`, count + 1 and so on to the archive, all in one block, and writes the state that counts them. `moments` and `left` are the
+// leftovers at the positions of these rows; rows that are already there are not written again. `last` is the copy of the block with the last row.
+// Refused: 16; 12 if leftovers must be put aside first; the number of `put_rows`; 6 if the archive does not have that block; 11 for a state that is
+// not lawful; then everything is unchanged.
 pub fn commit(
     count: usize,
     times: &[u64],
@@ -78,7 +78,7 @@ pub fn commit(
     0
 }
 
-// The block with the new rows: a blank one, where the last one is full, or the copy of the last one.
+// The block with the new rows: a blank one if the last one is full, else the copy of the last one.
 fn fill(
     block: &mut [u8; BLOCK_LENGTH],
     last: &[u8; BLOCK_LENGTH],
@@ -101,7 +101,7 @@ fn fill(
     put(block, count, times, records)
 }
 
-// Rows into a block, and the number of the answer.
+// Puts rows into a block, and returns the number of the answer.
 fn put(block: &mut [u8; BLOCK_LENGTH], count: usize, times: &[u64], records: &[u8]) -> u8
     ensures { λ r. ⌜ record { number = r; block = now (block .exit) }
         ≡ putOf (now (block .entry)) count (now (times .entry)) (now (records .entry)) ⌝ }
@@ -121,7 +121,7 @@ fn taken_number(answer: Taken) -> u8
     }
 }
 
-// A block of the archive, where it has new rows.
+// Writes a block of the archive, if it has new rows.
 fn put_block(file: &mut [u8], at: usize, block: &[u8; BLOCK_LENGTH], added: bool)
     requires { ⌜ (added ≡ true → at < wholeBlocks (now file)) ⌝ }
     ensures { λ _. ⌜ now (file .exit)
@@ -134,14 +134,14 @@ fn put_block(file: &mut [u8], at: usize, block: &[u8; BLOCK_LENGTH], added: bool
     block_layout::put_bytes(&mut file[from..from + BLOCK_LENGTH], block);
 }
 
-// A block in the place of another.
+// Copies a block over another.
 fn copy_block(out: &mut [u8; BLOCK_LENGTH], block: &[u8; BLOCK_LENGTH])
     ensures { λ _. ⌜ now (out .exit) ≡ now (block .entry) ⌝ }
 {
     block_layout::put_bytes(out, block);
 }
 
-// A state file in the place of another.
+// Copies a state file over another.
 fn copy_state(out: &mut [u8; LENGTH], bytes: &[u8; LENGTH])
     ensures { λ _. ⌜ now (out .exit) ≡ now (bytes .entry) ⌝ }
 {

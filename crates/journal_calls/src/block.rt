@@ -6,7 +6,7 @@ ghost use mathlib.Core.Path.{_≡_};
 ghost use Rattle.archive_model.specs.Row.{blockNumber};
 ghost use Rattle.journal_calls.specs.Block.{isCopyOf, judgementOf, judgementNumber};
 
-// What stands there, where the state has a copy of the block and counts its first `rows` rows.
+// Judges the block, of which the state has a copy and counts the first `rows` rows.
 pub fn judge(last: &[u8], rows: usize, block: &[u8]) -> Judgement
     ensures { λ r. ⌜ r ≡ judgementOf (now (last .entry)) rows (now (block .entry)) ⌝ }
 {
@@ -37,7 +37,7 @@ pub fn number(j: Judgement) -> u8
     }
 }
 
-// The number that the first four bytes of a block say.
+// The number in the first four bytes of a block.
 pub fn number_of(block: &[u8]) -> u64
     ensures { λ r. ⌜ r ≡ blockNumber (now (block .entry)) ⌝ }
 {
@@ -47,7 +47,7 @@ pub fn number_of(block: &[u8]) -> u64
     block_layout::read_number(&block[0..4])
 }
 
-// Whether a block, cut to its first rows, is the copy.
+// Whether a block, cut to its first `rows` rows, is the copy.
 fn is_copy(last: &[u8], rows: usize, block: &[u8]) -> bool
     ensures { λ r. ⌜ r ≡ isCopyOf (now (last .entry)) rows (now (block .entry)) ⌝ }
 {

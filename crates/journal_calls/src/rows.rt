@@ -1,4 +1,4 @@
-// Rows that come, compared with the leftovers that stand where they go.
+// New rows, compared with the leftovers at the positions where they go.
 use archive_fill::ROW_LENGTH;
 use base_refusal::Refusal;
 use block_layout::CELL_CAPACITY;
@@ -11,9 +11,9 @@ ghost use Rattle.archive_fill.specs.Fill.{rowLength, rowGiven, rowsGiven};
 ghost use Rattle.journal_model.specs.Disk.{sameLoose, sameRow, agreeing};
 ghost use Rattle.journal_calls.specs.Rows.{compareCall};
 
-// How many rows agree with the leftovers, from the first on, and how many leftovers, the last ones, are put aside: none
-// where all that come agree. Each row is a time and a record of 23 bytes, as `put_rows` takes them. Refused: 16 for
-// records that are not 23 bytes for each time; then both numbers are as they were.
+// How many rows agree with the leftovers, from the first on, and how many leftovers, the last ones, must be put aside: none if all new rows agree.
+// Each row is a time and a record of 23 bytes, as `put_rows` takes them. Refused: 16 for records that are not 23 bytes for each time; then both
+// numbers are unchanged.
 pub fn compare(
     times: &[u64],
     rows: &[u8],
@@ -38,7 +38,7 @@ pub fn compare(
     0
 }
 
-// Whether so many bytes are a record for each time.
+// Whether there is a record for each time.
 fn are_records(times: usize, rows: usize) -> bool
     ensures { λ r. ⌜ r ≡ eqb rows (rowLength * times) ⌝ }
 {
@@ -48,7 +48,7 @@ fn are_records(times: usize, rows: usize) -> bool
     rows % ROW_LENGTH == 0
 }
 
-// How many of the leftovers go, where so many rows come and so many of them agree.
+// How many of the leftovers must be put aside, if `agreed` of the new rows agree.
 fn going_of(rows: usize, left: usize, agreed: usize) -> usize
     requires { ⌜ agreed ≤ left ⌝ }
     ensures { λ r. ⌜ r ≡ cond (leb rows agreed) 0 (left - agreed) ⌝ }
@@ -100,7 +100,7 @@ fn same(time: u64, row: &[u8], moment: u64, other: &[u8]) -> bool
     block_layout::equal(&row[2..end], &other[2..end])
 }
 
-// Whether both are LOOSE, or none is.
+// Whether both are LOOSE, or neither is.
 fn same_loose(a: bool, b: bool) -> bool
     ensures { λ r. ⌜ r ≡ sameLoose a b ⌝ }
 {

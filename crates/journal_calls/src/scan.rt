@@ -1,5 +1,4 @@
-// How far blocks read as an archive, in pieces of whole blocks: each one sound and rightly numbered, only the last one
-// short.
+// How many blocks read as an archive, in pieces of whole blocks: each one is sound and has the right number, and only the last one may be short.
 use crate::Run;
 use crate::block;
 use archive_file::MAX_BLOCKS;
@@ -14,12 +13,12 @@ ghost use Rattle.block_layout.specs.Block.{blockLength};
 ghost use Rattle.archive_model.specs.Buffer.{blocksIn, maxBlocks};
 ghost use Rattle.journal_calls.specs.Run.{runOf, runAt, runNumbers, isDense, isRun, stopped, runBlock, runBlocks, scanCall};
 
-// The blocks of a file, the number that the next block must have, blocks passed, their rows, and another number than 0
-// where the run has ended.
+// How many blocks a file has, the number that the next block must have, how many blocks were read, how many rows they have, and a number that is not
+// 0 if the run has ended.
 pub const NUMBERS: usize = 5;
 
-// The blocks of a piece. Refused: 11 for numbers that no run has, 16 for a piece that isn't whole blocks or brings more
-// than 2^32 of them; then every number is as it was.
+// Reads the blocks of a piece. Refused: 11 for numbers that no run has, 16 for a piece that isn't whole blocks, or if there are then more than 2^32
+// blocks; then every number is unchanged.
 pub fn feed(numbers: &mut [u64; NUMBERS], piece: &[u8]) -> u8
     ensures { λ r. ⌜ record { number = r; numbers = now (numbers .exit) }
         ≡ scanCall (now (numbers .entry)) (now (piece .entry)) ⌝ }
@@ -40,7 +39,7 @@ pub fn feed(numbers: &mut [u64; NUMBERS], piece: &[u8]) -> u8
     0
 }
 
-// The run that five numbers say.
+// The run in five numbers.
 fn run_in(numbers: &[u64; NUMBERS]) -> Run
     ensures { λ r. ⌜ runOf r ≡ runAt (now (numbers .entry)) ⌝ }
 {
@@ -53,7 +52,7 @@ fn run_in(numbers: &[u64; NUMBERS]) -> Run
     }
 }
 
-// The numbers of a run.
+// Writes the numbers of a run.
 fn store(r: Run, numbers: &mut [u64; NUMBERS])
     ensures { λ _. ⌜ now (numbers .exit) ≡ runNumbers (runOf r) ⌝ }
 {
@@ -84,7 +83,7 @@ fn is_run(r: Run) -> bool
     is_dense(r.ended, blocks, r.rows)
 }
 
-// Whether so many blocks have these rows: all are full, or the run has ended with a short one.
+// Whether this many blocks can have this many rows: all are full, or the run has ended with a short one.
 fn is_dense(ended: bool, blocks: usize, rows: usize) -> bool
     requires { ⌜ blocks ≤ maxBlocks ⌝ }
     ensures { λ b. ⌜ b ≡ isDense ended blocks rows ⌝ }
@@ -99,7 +98,7 @@ fn is_dense(ended: bool, blocks: usize, rows: usize) -> bool
     most <= rows
 }
 
-// Every whole block of a piece.
+// Reads every whole block of a piece.
 fn run_blocks(r: Run, piece: &[u8]) -> Run
     requires { ⌜ (isRun (runOf r) ≡ true) × (r .blocks + length (now piece) / blockLength ≤ maxBlocks) ⌝ }
     ensures { λ s. ⌜ runOf s ≡ runBlocks (runOf r) (blocksIn (now (piece .entry))) ⌝ }
@@ -114,7 +113,7 @@ fn run_blocks(r: Run, piece: &[u8]) -> Run
     at
 }
 
-// One block more.
+// Reads one more block.
 fn run_block(r: Run, block: &[u8]) -> Run
     requires { ⌜ (length (now block) ≡ blockLength) × (isRun (runOf r) ≡ true) × (r .blocks < maxBlocks) ⌝ }
     ensures { λ s. ⌜ runOf s ≡ runBlock (runOf r) (now (block .entry)) ⌝ }

@@ -1,5 +1,5 @@
-// A whole start of the plant's tool with an archive of one file, on the bytes of its files, made of the calls that the
-// tool makes (docs/CRASH.md). The model of the disk and the crash theorems are in journal_model.
+// A whole start of the plant's tool with an archive of one file, on the bytes of its files. It makes the calls that the tool makes (docs/CRASH.md).
+// The model of the disk and the crash theorems are in journal_model.
 use archive_file::MAX_BLOCKS;
 use archive_file::Opened;
 use base_refusal::Refusal;
@@ -28,11 +28,10 @@ ghost use Rattle.journal_state.specs.Lawful.{imageRows};
 ghost use Rattle.journal_recovery.specs.Start.{isOneFile, startOf};
 ghost use Rattle.journal_recovery.specs.Private.{IsCounted, lostAt, Finds, IsThere, Sweeps, Settles};
 
-// What a start makes of the bytes of a state file and of an archive: the torn block is mended from the state's copy,
-// leftovers stay, `left` gets their number, and what stands behind them is cleared. Refused: 16 for an archive of more than 2^32
-// blocks; 16 and 11 as `accept` answers; 10 for a state without an archive, or whose collector had counted rows when
-// the file began; 12 for an archive that is not the state's; then everything is as it was. Bytes behind the last whole
-// block stay.
+// Starts on the bytes of a state file and of an archive: mends a torn block from the state's copy, keeps leftovers, writes their number to `left`,
+// and clears what comes after them. Refused: 16 for an archive of more than 2^32 blocks; 16 and 11 as `accept` answers; 10 for a state without an
+// archive, or if the collector had counted rows when the file began; 12 for an archive that is not the state's; then everything is unchanged. Bytes
+// after the last whole block are unchanged.
 pub fn start(state: &[u8], file: &mut [u8], left: &mut usize) -> u8
     ensures { λ r. ⌜ record { number = r; archive = now (file .exit); left = now (left .exit) }
         ≡ startOf (now (state .entry)) (now (file .entry)) (now (left .entry)) ⌝ }
@@ -70,7 +69,7 @@ fn is_one_file(numbers: &[u64; NUMBERS]) -> bool
     (numbers[4] != 0) & (numbers[1] == 0)
 }
 
-// The rows that a state counts in the file: those that it had, and those of the collector.
+// How many rows a state counts in the file: those that the file had, and those of the collector.
 fn counted(numbers: &[u64; NUMBERS], image: &[u8; IMAGE_LENGTH]) -> usize
     requires { ⌜ IsCounted (now numbers) (now image) ⌝ }
     ensures { λ r. ⌜ r ≡ getD (now (numbers .entry)) 2 0 + imageRows (now (image .entry)) ⌝ }
@@ -80,7 +79,7 @@ fn counted(numbers: &[u64; NUMBERS], image: &[u8; IMAGE_LENGTH]) -> usize
     (had + seen.rows) as usize
 }
 
-// The same where a state counts so many rows, and has a copy of the block with the last of them.
+// The same for a state that counts `rows` rows, and has a copy of the block with the last of them.
 fn settle(file: &mut [u8], rows: usize, last: &[u8; BLOCK_LENGTH], left: &mut usize) -> u8
     requires { ⌜ (rows ≤ maxRows) × (wholeBlocks (now file) ≤ maxBlocks) × (length (now last) ≡ blockLength) ⌝ }
     ensures { λ r. ⌜ Settles rows (now (last .entry)) (now (file .entry)) (now (left .entry))
@@ -95,7 +94,7 @@ fn settle(file: &mut [u8], rows: usize, last: &[u8; BLOCK_LENGTH], left: &mut us
     0
 }
 
-// The block with the last row that is counted.
+// The number of the block with the last row that is counted.
 fn last_used(rows: usize) -> usize
     ensures { λ r. ⌜ r ≡ blocksFor rows - 1 ⌝ }
 {
@@ -105,7 +104,7 @@ fn last_used(rows: usize) -> usize
     (rows - 1) / CELLS_PER_BLOCK
 }
 
-// How it stands, against the state's copy; another archive's where blocks before it are not full and sound.
+// Judges that block by the state's copy. It is another archive's if blocks before it are not full and sound.
 fn find(file: &[u8], rows: usize, last: &[u8; BLOCK_LENGTH]) -> Judgement
     requires { ⌜ rows ≤ maxRows ⌝ }
     ensures { λ j. ⌜ Finds rows (now (last .entry)) (now (file .entry)) j ⌝ }
@@ -125,7 +124,7 @@ fn find(file: &[u8], rows: usize, last: &[u8; BLOCK_LENGTH]) -> Judgement
     )
 }
 
-// Whether block `at` is not there, or those before it are no archive of full blocks.
+// Whether block `at` is missing, or the blocks before it are not an archive of full blocks.
 fn is_lost(file: &[u8], at: usize) -> bool
     requires { ⌜ at < maxBlocks ⌝ }
     ensures { λ r. ⌜ r ≡ lostAt at (now (file .entry)) ⌝ }
@@ -141,7 +140,7 @@ fn is_lost(file: &[u8], at: usize) -> bool
     }
 }
 
-// A torn block is written from the copy.
+// Writes a torn block from the copy.
 fn mend(file: &mut [u8], at: usize, last: &[u8; BLOCK_LENGTH], found: Judgement)
     requires { ⌜ IsThere found at (now file) ⌝ }
     ensures { λ _. ⌜ now (file .exit)
@@ -158,7 +157,7 @@ fn mend(file: &mut [u8], at: usize, last: &[u8; BLOCK_LENGTH], found: Judgement)
     }
 }
 
-// Clears the blocks behind those that read as an archive from the last counted one on. How many leftovers these have.
+// Clears the blocks after those that read as an archive, from the last counted one on. Returns how many leftovers there are.
 fn sweep(file: &mut [u8], rows: usize) -> usize
     requires { ⌜ (rows ≤ maxRows) × (wholeBlocks (now file) ≤ maxBlocks) × (blocksFor rows ≤ wholeBlocks (now file)) ⌝ }
     ensures { λ r. ⌜ Sweeps rows (now (file .entry)) r (now (file .exit)) ⌝ }
@@ -172,7 +171,7 @@ fn sweep(file: &mut [u8], rows: usize) -> usize
     beyond(run[3] as usize, rows - CELLS_PER_BLOCK * at)
 }
 
-// How many of so many rows are behind the first ones.
+// How many rows there are after the first ones.
 fn beyond(rows: usize, first: usize) -> usize
     ensures { λ r. ⌜ r ≡ rows - first ⌝ }
 {

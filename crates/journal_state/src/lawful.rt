@@ -1,4 +1,4 @@
-// Whether a state is lawful: only such a one is written or accepted.
+// Whether a state is lawful: only a lawful state is written or accepted.
 use crate::Counted;
 use crate::NAME_LENGTH;
 use crate::NUMBERS;
@@ -17,8 +17,8 @@ ghost use Rattle.journal_state.specs.Lawful.{isLastOf, isFile, isAttache
 ghost use Rattle.journal_state.specs.Calls.{Counts};
 ghost use Rattle.journal_state.specs.Private.{Sized};
 
-// The image is accepted, and numbers and bytes are those of an archive's file, a place in a log and a file for rows, or
-// of none.
+// Whether the image is accepted, and numbers and bytes are right for the archive's file, the position in a log and the file for rows, each of which
+// may be missing.
 pub(crate) fn is_lawful(
     numbers: &[u64; NUMBERS],
     name: &[u8],
@@ -43,7 +43,7 @@ pub(crate) fn is_lawful(
     is_printed(numbers)
 }
 
-// Whether an image is accepted, and the rows that it counts.
+// Whether an image is accepted, and how many rows it counts.
 pub fn rows_of(image: &[u8]) -> Counted
     ensures { λ r. ⌜ Counts (now (image .entry)) r ⌝ }
 {
@@ -64,7 +64,7 @@ pub fn rows_of(image: &[u8]) -> Counted
     }
 }
 
-// The archive's name and its file, where the collector counts so many rows.
+// Whether the archive's name and its file are right, where the collector counts `counted` rows.
 fn is_attached(numbers: &[u64; NUMBERS], name: &[u8], last: &[u8], counted: u64) -> bool
     requires { ⌜ length (now name) ≡ maxName ⌝ }
     ensures { λ r. ⌜ r ≡ isAttached (kept (now (numbers .entry)) (now (name .entry)) (now (last .entry)) [] [])
@@ -86,7 +86,7 @@ fn is_attached(numbers: &[u64; NUMBERS], name: &[u8], last: &[u8], counted: u64)
     is_file(numbers[1], numbers[2], last, counted)
 }
 
-// The file of an archive, which had `had` rows when the collector had counted `began`.
+// Whether the file of an archive is right, which had `had` rows when the collector had counted `began`.
 fn is_file(began: u64, had: u64, last: &[u8], counted: u64) -> bool
     ensures { λ r. ⌜ r ≡ isFile (kept (0 ∷ began ∷ had ∷ []) [] (now (last .entry)) [] []) counted ⌝ }
 {
@@ -103,7 +103,7 @@ fn is_file(began: u64, had: u64, last: &[u8], counted: u64) -> bool
     is_last(had + since, last)
 }
 
-// The block with the last of so many rows of a file.
+// Whether a block is the one with the last of `rows` rows of a file.
 fn is_last(rows: u64, block: &[u8]) -> bool
     ensures { λ r. ⌜ r ≡ isLastOf rows (now (block .entry)) ⌝ }
 {
@@ -119,7 +119,7 @@ fn is_last(rows: u64, block: &[u8]) -> bool
     (block::number_of(block) == k / per) & (used == k % per + 1)
 }
 
-// The place in the log.
+// Whether the position in the log is right.
 fn is_placed(numbers: &[u64; NUMBERS], tail: &[u8]) -> bool
     requires { ⌜ length (now tail) ≡ maxTail ⌝ }
     ensures { λ r. ⌜ r ≡ isPlaced (kept (now (numbers .entry)) [] [] [] (now (tail .entry))) ⌝ }
@@ -137,7 +137,7 @@ fn is_placed(numbers: &[u64; NUMBERS], tail: &[u8]) -> bool
     (numbers[5] == 1) & (numbers[9] == least(numbers[6], TAIL_LENGTH as u64))
 }
 
-// The file for rows.
+// Whether the file for rows is right.
 fn is_printed(numbers: &[u64; NUMBERS]) -> bool
     ensures { λ r. ⌜ r ≡ isPrinted (kept (now (numbers .entry)) [] [] [] []) ⌝ }
 {

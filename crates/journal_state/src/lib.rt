@@ -1,5 +1,4 @@
-// The state file of the plant's tool: written from numbers and bytes, and accepted just where it is what is written
-// (docs/FORMATS.md).
+// The state file of the plant's tool: writes it from numbers and bytes, and accepts it exactly if it is what is written (docs/FORMATS.md).
 pub mod lawful;
 pub mod writing;
 
@@ -19,8 +18,8 @@ ghost use Rattle.journal_state.specs.State.{kept, maxTail, oldLength, st
 ghost use Rattle.journal_state.specs.Lawful.{isPlain, acceptsState};
 ghost use Rattle.journal_state.specs.Calls.{writeOf, acceptOf};
 
-// Lines; rows counted when the file began, rows that it had, its number; length of its name; 1 where the log's place is
-// known, its offset, device, inode, bytes kept of it; 1 where rows go to a file too, its length, device, inode.
+// Lines; rows counted when the file began, rows that it had, its number; length of its name; 1 if the position in the log is known, its offset,
+// device, inode, bytes kept of it; 1 if rows are also written to a file, its length, device, inode.
 pub const NUMBERS: usize = 14;
 
 pub const NAME_LENGTH: usize = 255;
@@ -32,13 +31,13 @@ pub const LENGTH: usize = 4096;
 // A file of version 1 ends with the image.
 const OLD_LENGTH: usize = 3584;
 
-// What an image counts.
+// How many rows an image counts, if it is accepted.
 pub struct Counted {
     pub accepted: bool,
     pub rows: u64,
 }
 
-// Writes a state: 11 for one that is not lawful; then the output is as it was.
+// Writes a state. Refused: 11 if it is not lawful; then the output is unchanged.
 pub fn write(
     numbers: &[u64; NUMBERS],
     name: &[u8; NAME_LENGTH],
@@ -58,8 +57,8 @@ pub fn write(
     0
 }
 
-// The state of a file: 16 for another length than 4,096 and, of version 1, 3,584; 11 for a file that is not byte for
-// byte what is written of a lawful state; then everything is as it was.
+// Reads the state of a file. Refused: 16 for a length other than 4,096 or, for version 1, 3,584; 11 for a file that is not byte for byte what is
+// written for a lawful state; then everything is unchanged.
 pub fn accept(
     bytes: &[u8],
     numbers: &mut [u64; NUMBERS],
@@ -117,7 +116,7 @@ fn numbers_in(bytes: &[u8]) -> [u64; NUMBERS]
     ]
 }
 
-// The number that two bytes say.
+// The number in two bytes.
 fn pair_at(bytes: &[u8], at: usize) -> u64
     requires { ⌜ at + 2 ≤ length (now bytes) ⌝ }
     ensures { λ r. ⌜ r ≡ unbe (part at 2 (now (bytes .entry))) ⌝ }
@@ -125,8 +124,7 @@ fn pair_at(bytes: &[u8], at: usize) -> u64
     block_layout::read_number(&bytes[at..at + 2])
 }
 
-// Whether a file is what is written of the lawful state that it says, of which the numbers and the log's bytes are
-// read.
+// Whether a file is what is written for the lawful state in it. Its numbers and the bytes of the log were read before.
 fn is_state(bytes: &[u8], read: &[u64; NUMBERS], rest: &[u8; TAIL_LENGTH]) -> bool
     requires { ⌜ (eqb (length (now bytes)) stateLength || eqb (length (now bytes)) oldLength ≡ true)
         × (now read ≡ numbersIn (now bytes)) × (now rest ≡ resized maxTail (drop oldLength (now bytes))) ⌝ }
@@ -147,7 +145,7 @@ fn is_state(bytes: &[u8], read: &[u64; NUMBERS], rest: &[u8; TAIL_LENGTH]) -> bo
     is_written(bytes, read, rest)
 }
 
-// Whether a file of this length can say these numbers.
+// Whether a file of this length can have these numbers.
 fn is_said(len: usize, read: &[u64; NUMBERS]) -> bool
     ensures { λ r. ⌜ r ≡ cond (eqb len oldLength) (isPlain (kept (now (read .entry)) [] [] [] [])) true ⌝ }
 {
@@ -157,7 +155,7 @@ fn is_said(len: usize, read: &[u64; NUMBERS]) -> bool
     true
 }
 
-// Whether they say nothing of the log's place and of a file for rows.
+// Whether they have no position in the log and no file for rows.
 fn is_plain(read: &[u64; NUMBERS]) -> bool
     ensures { λ r. ⌜ r ≡ isPlain (kept (now (read .entry)) [] [] [] []) ⌝ }
 {
@@ -172,7 +170,7 @@ fn is_plain(read: &[u64; NUMBERS]) -> bool
         & (read[13] == 0)
 }
 
-// Whether it is written again byte for byte.
+// Whether the state, written again, gives the same bytes.
 fn is_written(bytes: &[u8], read: &[u64; NUMBERS], rest: &[u8; TAIL_LENGTH]) -> bool
     requires { ⌜ (eqb (length (now bytes)) stateLength || eqb (length (now bytes)) oldLength ≡ true)
         × (now read ≡ numbersIn (now bytes)) × (now rest ≡ resized maxTail (drop oldLength (now bytes))) ⌝ }

@@ -8,7 +8,7 @@ ghost use Rattle.block_layout.specs.Block.{blockLength};
 ghost use Rattle.journal_state.specs.State.{kept, stateLength, maxName, archiveField, logField, outField, stateBytes};
 ghost use Rattle.journal_state.specs.Private.{Sized, headerWith};
 
-// All eight blocks.
+// Writes all eight blocks.
 pub(crate) fn put_state(
     out: &mut [u8],
     version: u8,
@@ -31,7 +31,7 @@ pub(crate) fn put_state(
     block_layout::put_bytes(&mut out[3584..4096], tail);
 }
 
-// The first block, with the CRC of the log's bytes.
+// Writes the first block, with the CRC of the log's bytes.
 fn put_header(out: &mut [u8], version: u8, numbers: &[u64; NUMBERS], name: &[u8], crc: u8)
     requires { ⌜ (length (now out) ≡ blockLength) × (length (now name) ≡ maxName) ⌝ }
     ensures { λ _. ⌜ now (out .exit)
@@ -47,7 +47,7 @@ fn put_header(out: &mut [u8], version: u8, numbers: &[u64; NUMBERS], name: &[u8]
     block_layout::seal(out);
 }
 
-// The lines, the archive's file and its name, into 288 bytes.
+// Writes the lines, the archive's file and its name, into 288 bytes.
 fn put_archive(out: &mut [u8], numbers: &[u64; NUMBERS], name: &[u8])
     requires { ⌜ (length (now out) ≡ 288) × (length (now name) ≡ maxName) ⌝ }
     ensures { λ _. ⌜ now (out .exit)
@@ -61,7 +61,7 @@ fn put_archive(out: &mut [u8], numbers: &[u64; NUMBERS], name: &[u8])
     block_layout::put_bytes(&mut out[33..288], name);
 }
 
-// The place in the log, into 27 bytes.
+// Writes the position in the log, into 27 bytes.
 fn put_log(out: &mut [u8], numbers: &[u64; NUMBERS])
     requires { ⌜ length (now out) ≡ 27 ⌝ }
     ensures { λ _. ⌜ now (out .exit) ≡ logField (kept (now (numbers .entry)) [] [] [] []) ⌝ }
@@ -73,7 +73,7 @@ fn put_log(out: &mut [u8], numbers: &[u64; NUMBERS])
     block_layout::put_number(&mut out[25..27], numbers[9]);
 }
 
-// The file for rows, into 25 bytes.
+// Writes the file for rows, into 25 bytes.
 fn put_out(out: &mut [u8], numbers: &[u64; NUMBERS])
     requires { ⌜ length (now out) ≡ 25 ⌝ }
     ensures { λ _. ⌜ now (out .exit) ≡ outField (kept (now (numbers .entry)) [] [] [] []) ⌝ }
