@@ -1,5 +1,5 @@
-// Archive block files in lent buffers: verified, appended to, read by row, salvaged, rid of the rows of sensors that left, cut; and the same of long
-// files in pieces.
+// Archive block files in lent buffers: verify, append, read a row, salvage, remove the rows of sensors that left, cut; and the same for long files in
+// pieces.
 use c_pieces::packer;
 use c_pieces::scan;
 ghost use mathlib.Core.Path.{_≡_};
@@ -41,7 +41,7 @@ pub extern "C" fn mooringeye_archive_append(
     c_archive::append(buffer, bytes, time, loose, position)
 }
 
-// Appends a row to an archive of `n` rows: one block is looked at and written.
+// Appends a row to an archive of `n` rows: only one block is read and written.
 #[no_mangle]
 pub extern "C" fn mooringeye_archive_append_at(
     buffer: &mut [u8],
@@ -91,7 +91,7 @@ pub extern "C" fn mooringeye_archive_put_rows(
     c_archive::put_rows(block, n, times, rows, position)
 }
 
-// Row `i` as it stands, in 23 bytes, and its time.
+// Reads row `i` into 23 bytes, and its time.
 #[no_mangle]
 pub extern "C" fn mooringeye_archive_row(
     buffer: &[u8],
@@ -105,7 +105,7 @@ pub extern "C" fn mooringeye_archive_row(
     c_archive::row_at(buffer, i, row, time)
 }
 
-// Packs a damaged archive anew.
+// Packs a damaged archive again.
 #[no_mangle]
 pub extern "C" fn mooringeye_archive_salvage(
     buffer: &[u8],
@@ -147,7 +147,7 @@ pub extern "C" fn mooringeye_archive_remove(
     c_archive::remove(buffer, identities, freed, position)
 }
 
-// Leaves the first `rows` rows of an archive.
+// Keeps the first `rows` rows of an archive.
 #[no_mangle]
 pub extern "C" fn mooringeye_archive_cut(buffer: &mut [u8], rows: usize, position: &mut usize) -> u8
     ensures { λ r. ⌜ record { number = r; position = now (position .exit); buffer = now (buffer .exit) }
@@ -156,7 +156,7 @@ pub extern "C" fn mooringeye_archive_cut(buffer: &mut [u8], rows: usize, positio
     c_archive::cut(buffer, rows, position)
 }
 
-// Leaves the first `rows` rows of one block.
+// Keeps the first `rows` rows of one block.
 #[no_mangle]
 pub extern "C" fn mooringeye_archive_cut_block(block: &mut [u8], rows: usize) -> u8
     ensures { λ r. ⌜ record { number = r; block = now (block .exit) } ≡ cutBlockOf rows (now (block .entry)) ⌝ }
@@ -188,7 +188,7 @@ pub extern "C" fn mooringeye_scan_end(
     scan::end(numbers, rows, position)
 }
 
-// The next piece of an archive that is packed anew.
+// The next piece of an archive that is packed again.
 #[no_mangle]
 pub extern "C" fn mooringeye_pack_feed(
     numbers: &mut [u64; packer::NUMBERS],
@@ -214,7 +214,7 @@ pub extern "C" fn mooringeye_pack_feed(
     packer::feed(numbers, waiting, piece, identities, out, positions, dropped)
 }
 
-// The last block of an archive that is packed anew.
+// The last block of an archive that is packed again.
 #[no_mangle]
 pub extern "C" fn mooringeye_pack_end(
     numbers: &[u64; packer::NUMBERS],

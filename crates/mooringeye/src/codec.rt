@@ -55,7 +55,7 @@ pub extern "C" fn mooringeye_encapsulate(
     c_codec::encapsulate(bytes, destid, out, length)
 }
 
-// Removes the encapsulation of an addressed one.
+// Removes the encapsulation of an addressed subtelegram.
 #[no_mangle]
 pub extern "C" fn mooringeye_decapsulate(bytes: &[u8], out: &mut [u8], length: &mut usize) -> u8
     ensures { λ r. ⌜ record { number = r; len = now (length .exit); output = now (out .exit) }

@@ -1,4 +1,4 @@
-// The collector, in five lent arrays that are changed where they lie: the entries' times, lengths, bytes and numbers of copies, and eight numbers.
+// The collector, in five lent arrays that are changed in place: the times, lengths, bytes and numbers of copies of the entries, and eight numbers.
 use c_collector::BYTES;
 use c_collector::CAPACITY;
 use c_collector::NUMBERS;
@@ -48,7 +48,7 @@ pub extern "C" fn mooringeye_collector_totals<'a>(
     c_collector::totals(times, lengths, bytes, copies, numbers, totals)
 }
 
-// How often the telegram of an entry was heard again.
+// How often the telegram of an entry was received again.
 #[no_mangle]
 pub extern "C" fn mooringeye_collector_copies<'a>(
     times: &'a [u64; CAPACITY],
@@ -84,7 +84,7 @@ pub extern "C" fn mooringeye_collector_checkpoint<'a>(
     c_checkpoint::checkpoint(times, lengths, bytes, copies, numbers, out)
 }
 
-// The state that an image holds.
+// Restores the state of an image.
 #[no_mangle]
 pub extern "C" fn mooringeye_collector_restore(
     times: &mut [u64; CAPACITY],
@@ -102,7 +102,7 @@ pub extern "C" fn mooringeye_collector_restore(
     c_checkpoint::restore(times, lengths, bytes, copies, numbers, image)
 }
 
-// The level that the first line of a text says, and the characters of that line.
+// The level in the first line of a text, and the number of characters of that line.
 #[no_mangle]
 pub extern "C" fn mooringeye_first_line(input: &[u8], done: &mut [u64; FIRST]) -> u8
     ensures { λ r. ⌜ (r ≡ firstNumber (now (input .entry))) × (now (done .exit) ≡ firstUsed (now (input .entry)) ∷ []) ⌝ }
@@ -110,7 +110,7 @@ pub extern "C" fn mooringeye_first_line(input: &[u8], done: &mut [u64; FIRST]) -
     c_lines::first_line(input, done)
 }
 
-// What the line at the start of a text says: its time, its bytes, and its characters.
+// Reads the line at the start of a text: its time, its bytes, and its number of characters.
 #[no_mangle]
 pub extern "C" fn mooringeye_read_line(
     input: &[u8],
@@ -122,7 +122,7 @@ pub extern "C" fn mooringeye_read_line(
     c_lines::read_line(input, bytes, done)
 }
 
-// Passes over whole lines at the start of a text.
+// Skips whole lines at the start of a text.
 #[no_mangle]
 pub extern "C" fn mooringeye_skip_lines(input: &[u8], most: usize, done: &mut [u64; SKIPPED])
     ensures { λ _. ⌜ Skipped (now (input .entry)) most (now (done .exit)) ⌝ }

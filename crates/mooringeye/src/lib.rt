@@ -1,5 +1,5 @@
-// The interface for other languages, on plain numbers and bytes: `bin/library` makes what is linked. Each call of a module is one of the crates below,
-// where the work and its proof are.
+// The interface for other languages, on plain numbers and bytes; `bin/library` builds what is linked. Each call here is a call of a crate below,
+// where the code and its proof are.
 pub mod archive;
 pub mod codec;
 pub mod collector;
@@ -19,7 +19,7 @@ ghost use Rattle.plan_rules.specs.Rules.{planBy};
 ghost use Rattle.plan_site.specs.Bytes.{siteIn};
 ghost use Rattle.mooringeye.specs.Packed.{answer, packed, packedSite, interfaceVersion};
 
-// The version of the library, which is that of the header: major x 65,536 + minor x 256 + patch.
+// The version of the library, which is also that of the header: major x 65,536 + minor x 256 + patch.
 #[no_mangle]
 pub extern "C" fn mooringeye_version() -> u32
     ensures { λ r. ⌜ r ≡ interfaceVersion ⌝ }
@@ -35,7 +35,7 @@ pub extern "C" fn mooringeye_crc8(bytes: &[u8]) -> u8
     base_crc8::crc8(bytes)
 }
 
-// A slot plan under the standard rule: the number of the answer and the first, second and third slot, a byte each from the highest.
+// A slot plan under the standard rule: the number of the answer and the first, second and third slot, one byte each, from the highest byte on.
 #[no_mangle]
 pub extern "C" fn mooringeye_plan(level: u8, duration: u32, draw: u64) -> u32
     ensures { λ r. ⌜ r ≡ packed (planOf level duration draw) ⌝ }
@@ -43,7 +43,7 @@ pub extern "C" fn mooringeye_plan(level: u8, duration: u32, draw: u64) -> u32
     pack_planned(plan_slots::plan(level, duration, draw))
 }
 
-// The same under a named rule, for so many transmissions.
+// The same under a named rule, for a number of transmissions.
 #[no_mangle]
 pub extern "C" fn mooringeye_plan_by(
     rule: u8,

@@ -1,9 +1,9 @@
-// Slot plans: whether one is lawful under a named rule. Plans are drawn, and a site is checked, by the functions beside the modules.
+// Slot plans: whether one is lawful under a named rule. The functions that draw plans and check a site are in lib.rt.
 use plan_slots::SlotPlan;
 ghost use mathlib.Core.Path.{_≡_};
 ghost use Rattle.plan_rules.specs.Rules.{isLawfulBy};
 
-// Whether a plan is lawful under a rule that has so many transmissions at this level: two where the third slot reads 255, else three.
+// Whether a plan is lawful under a rule, which must have its number of transmissions at this level: two if the third slot is 255, else three.
 #[no_mangle]
 pub extern "C" fn mooringeye_is_lawful(
     rule: u8,

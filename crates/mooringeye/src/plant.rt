@@ -25,7 +25,7 @@ pub extern "C" fn mooringeye_state_write(
     journal_state::write(numbers, name, last, image, tail, out)
 }
 
-// The state of a file.
+// Reads the state of a file.
 #[no_mangle]
 pub extern "C" fn mooringeye_state_accept(
     bytes: &[u8],
@@ -45,7 +45,7 @@ pub extern "C" fn mooringeye_state_accept(
     journal_state::accept(bytes, numbers, name, last, image, tail)
 }
 
-// What stands in the block with the last row that a state counts.
+// Judges the block with the last row that a state counts.
 #[no_mangle]
 pub extern "C" fn mooringeye_journal_judge(last: &[u8], rows: usize, block: &[u8]) -> u8
     ensures { λ r. ⌜ r ≡ judgementNumber (judgementOf (now (last .entry)) rows (now (block .entry))) ⌝ }
@@ -53,7 +53,7 @@ pub extern "C" fn mooringeye_journal_judge(last: &[u8], rows: usize, block: &[u8
     journal_calls::block::number(journal_calls::block::judge(last, rows, block))
 }
 
-// How far rows agree with leftovers, and how many of those are put aside.
+// How many rows agree with leftovers, and how many of those must be put aside.
 #[no_mangle]
 pub extern "C" fn mooringeye_journal_compare(
     times: &[u64],
@@ -70,7 +70,7 @@ pub extern "C" fn mooringeye_journal_compare(
     journal_calls::rows::compare(times, rows, moments, left, agreed, going)
 }
 
-// How far the blocks of a piece read as an archive.
+// How many blocks of a piece read as an archive.
 #[no_mangle]
 pub extern "C" fn mooringeye_journal_scan(
     numbers: &mut [u64; journal_calls::scan::NUMBERS],

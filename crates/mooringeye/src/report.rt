@@ -9,7 +9,7 @@ ghost use Rattle.archive_report_model.specs.Pieces as pieces;
 ghost use Rattle.c_report.specs.Calls.{reportAt, reportNumbers, emptyLines, linesWith, Adds, lineCall, shareCall};
 ghost use Rattle.c_pieces.specs.Adding.{addingAt, tallyNumbers, Feeds};
 
-// A report of no archive.
+// Writes a report without archives.
 #[no_mangle]
 pub extern "C" fn mooringeye_report_empty(numbers: &mut [u64; NUMBERS], lines: &mut [u64; LINES])
     ensures { λ _. ⌜ (reportAt (now (numbers .exit)) (now (lines .exit)) ≡ model.emptyReport)
@@ -18,7 +18,7 @@ pub extern "C" fn mooringeye_report_empty(numbers: &mut [u64; NUMBERS], lines: &
     c_report::empty(numbers, lines);
 }
 
-// Adds the rows of an archive. Beside a refusal every number of the report is as it was.
+// Adds the rows of an archive. With a refusal, every number of the report is unchanged.
 #[no_mangle]
 pub extern "C" fn mooringeye_report_add(
     numbers: &mut [u64; NUMBERS],
@@ -66,7 +66,7 @@ pub extern "C" fn mooringeye_report_share(
 
 // ---- in pieces
 
-// Before the first piece of an archive.
+// Writes the numbers before the first piece of an archive.
 #[no_mangle]
 pub extern "C" fn mooringeye_report_start(
     numbers: &[u64; NUMBERS],
@@ -82,7 +82,7 @@ pub extern "C" fn mooringeye_report_start(
     adding::start(numbers, lines, adding, tally);
 }
 
-// The next piece of an archive that is added. Beside a refusal every number is as it was.
+// The next piece of an archive that is added. With a refusal, every number is unchanged.
 #[no_mangle]
 pub extern "C" fn mooringeye_report_feed(
     numbers: &[u64; NUMBERS],
@@ -100,7 +100,7 @@ pub extern "C" fn mooringeye_report_feed(
     adding::feed(numbers, lines, adding, tally, piece)
 }
 
-// All pieces added as one archive. Beside a refusal every number of the report is as it was.
+// Adds all pieces as one archive. With a refusal, every number of the report is unchanged.
 #[no_mangle]
 pub extern "C" fn mooringeye_report_end(
     numbers: &mut [u64; NUMBERS],

@@ -1,5 +1,5 @@
-// Slot plans under three timing rules (document 02, A10): the standard one, the compressed one of source document 000, and the one with a
-// pause of source document 004, 5.1. The search and its theorems are those of `plan_slots`, for any rule.
+// Slot plans under three timing rules (document 02, A10): the standard rule, the compressed rule of source document 000, and the rule with a pause of
+// source document 004, 5.1. The search and its theorems are those of `plan_slots`, for any rule.
 use base_refusal::Refusal;
 use plan_slots::Planned;
 use plan_slots::Rule;
@@ -36,20 +36,20 @@ const PAUSED_FIRST: SlotRange = SlotRange { first: 0, last: 0 };
 
 const PAUSED_NEXT: SlotRange = SlotRange { first: 0, last: 39 };
 
-// The ranges of the compressed rule, by level sent, then transmission.
+// The ranges of the compressed rule, by the level that is sent, then by transmission.
 pub const COMPRESSED_RANGES: [[SlotRange; 3]; 3] = [COMPRESSED_ROW, COMPRESSED_ROW, UNUSED_ROW];
 
-// The ranges of the rule with a pause, by level sent, then transmission: at levels 1 and 2 the standard ones.
+// The ranges of the rule with a pause, by the level that is sent, then by transmission: at levels 1 and 2 the standard ranges.
 pub const PAUSED_RANGES: [[SlotRange; 3]; 3] = [
     PAUSED_ROW,
     plan_slots::LEVEL_1,
     plan_slots::LEVEL_2,
 ];
 
-// By rule, then level sent, then transmission.
+// By rule, then by the level that is sent, then by transmission.
 const RANGES: [[[SlotRange; 3]; 3]; 3] = [plan_slots::RANGES, COMPRESSED_RANGES, PAUSED_RANGES];
 
-// The smallest pause between the first transmission's end and the second's start, in microseconds: by rule, then level sent.
+// The shortest pause between the end of the first transmission and the start of the second, in microseconds: by rule, then by the level that is sent.
 const PAUSES: [[u32; 3]; 3] = [[0, 0, 0], [0, 0, 0], [PAUSE, 0, 0]];
 
 const PAUSE: u32 = 12_000;
@@ -61,7 +61,7 @@ const COMPRESSED_END: u32 = 50_000;
 
 const PAUSED_END: u32 = 40_000;
 
-// The rules that have plans, each with its row. At levels 1 and 2 the standard rule and the one with a pause are the same.
+// The rules that have plans, each with its row. At levels 1 and 2, the standard rule and the rule with a pause are the same.
 const RULE_0: Rule = Rule {
     ranges: plan_slots::LEVEL_0,
     pause: 0,
@@ -98,7 +98,7 @@ const PAUSED_OF_THREE: Rule = Rule {
     end: PAUSED_END,
 };
 
-// How many transmissions may be asked for.
+// How many transmissions may be requested.
 pub struct Offer {
     pub fewest: u8,
     pub most: u8,
@@ -110,14 +110,14 @@ const THREE: Offer = Offer { fewest: 3, most: 3 };
 
 const TWO_OR_THREE: Offer = Offer { fewest: 2, most: 3 };
 
-// By rule, then level sent.
+// By rule, then by the level that is sent.
 const OFFERS: [[Offer; 3]; 3] = [
     [THREE, TWO, TWO],
     [THREE, THREE, TWO],
     [TWO_OR_THREE, TWO, TWO],
 ];
 
-// The plan that a draw picks among the lawful ones under a rule, for so many transmissions. Refused: 10, then 9.
+// The plan that a draw picks among the lawful ones under a rule, for a number of transmissions. Refused: 10, then 9.
 pub fn plan_by(rule: u8, level: u8, transmissions: u8, duration: u32, draw: u64) -> Planned
     ensures { λ r. ⌜ answerOf r ≡ planBy rule level transmissions duration draw ⌝ }
 {
@@ -134,8 +134,8 @@ pub fn plan_by(rule: u8, level: u8, transmissions: u8, duration: u32, draw: u64)
     plan_slots::choose(rule_of(rule, level, transmissions), duration, draw)
 }
 
-// Whether a plan is lawful under a rule that has so many transmissions at this level: two where the third slot reads 255, else three. Of a duration
-// that is not 1 to 65,535 none is.
+// Whether a plan is lawful under a rule, which must have its number of transmissions at this level: two if the third slot is 255, else three. If the
+// duration is not 1 to 65,535, no plan is.
 pub fn is_lawful_by(rule: u8, level: u8, duration: u32, plan: SlotPlan) -> bool
     ensures { λ r. ⌜ r ≡ isLawfulBy rule level duration plan ⌝ }
 {
@@ -152,7 +152,7 @@ pub fn is_lawful_by(rule: u8, level: u8, duration: u32, plan: SlotPlan) -> bool
     is_lawful_of_three(rule, level, duration, plan)
 }
 
-// The same of two transmissions, for a rule and a level that there are. Each rule is named: a table would be made anew at each call.
+// The same for two transmissions, for a rule and a level that exist. Each rule is named, because a table would be built again at each call.
 fn is_lawful_of_two(rule: u8, level: u8, duration: u32, plan: SlotPlan) -> bool
     requires { ⌜ IsKnown rule level ⌝ }
     ensures { λ r. ⌜ r ≡ isLawfulOf 2 rule level duration plan ⌝ }
@@ -172,7 +172,7 @@ fn is_lawful_of_two(rule: u8, level: u8, duration: u32, plan: SlotPlan) -> bool
     plan_slots::is_lawful(PAUSED_OF_TWO, duration, plan)
 }
 
-// The same of three.
+// The same for three.
 fn is_lawful_of_three(rule: u8, level: u8, duration: u32, plan: SlotPlan) -> bool
     requires { ⌜ IsKnown rule level ⌝ }
     ensures { λ r. ⌜ r ≡ isLawfulOf 3 rule level duration plan ⌝ }
@@ -192,14 +192,14 @@ fn is_lawful_of_three(rule: u8, level: u8, duration: u32, plan: SlotPlan) -> boo
     plan_slots::is_lawful(PAUSED_OF_THREE, duration, plan)
 }
 
-// Whether there is such a rule, and such a level.
+// Whether the rule exists, and the level.
 pub fn is_known(rule: u8, level: u8) -> bool
     ensures { λ r. ⌜ r ≡ isKnown rule level ⌝ }
 {
     (rule <= PAUSED) & (level <= plan_slots::MAX_LEVEL)
 }
 
-// Whether so many transmissions may be asked for.
+// Whether this number of transmissions may be requested.
 fn offers(rule: u8, level: u8, transmissions: u8) -> bool
     requires { ⌜ IsKnown rule level ⌝ }
     ensures { λ r. ⌜ r ≡ isOffered rule level transmissions ⌝ }
@@ -208,7 +208,7 @@ fn offers(rule: u8, level: u8, transmissions: u8) -> bool
     (offer.fewest <= transmissions) & (transmissions <= offer.most)
 }
 
-// The rule for so many transmissions: with two there is no third.
+// The rule for a number of transmissions: with two, there is no third.
 fn rule_of(rule: u8, level: u8, transmissions: u8) -> Rule
     requires { ⌜ IsKnown rule level ⌝ }
     ensures { λ r. ⌜ r ≡ ruleOf rule level transmissions ⌝ }

@@ -8,10 +8,10 @@ ghost use Rattle.base_lists.specs.Lists.{all, any, firstOf};
 ghost use Rattle.plan_site.specs.Bytes.{Holds, assignmentOf, assignmentsIn, siteIn};
 ghost use Rattle.plan_site.specs.Site.{isInRange, hasLawfulPlan, transmission, sentBy, overlap, clash, verdictOf, pairOf};
 
-// The most repeaters of a site.
+// The largest number of repeaters on a site.
 pub const MAX_REPEATERS: usize = 32;
 
-// What a repeater sends: under which rule, at which level, for how long, and in which slots.
+// What a repeater sends: its rule, level, duration and slots.
 pub struct Assignment {
     pub rule: u8,
     pub level: u8,
@@ -19,7 +19,7 @@ pub struct Assignment {
     pub slots: SlotPlan,
 }
 
-// What the check says, with the repeaters that it names, counted from 0.
+// The result of the check, with the repeaters that it names, counted from 0.
 pub enum Verdict {
     Accepted,
     // 10.
@@ -30,10 +30,10 @@ pub enum Verdict {
     Overlap(usize, usize),
 }
 
-// The bytes of one repeater.
+// The number of bytes of one repeater.
 pub const SIZE: usize = 9;
 
-// The check of a site in bytes. Refused, in this order: bytes that are no whole repeaters, more than 32 repeaters, or a rule, level or duration out of
+// Checks a site in bytes. Refused, in this order: bytes that are not whole repeaters, more than 32 repeaters, or a rule, level or duration out of
 // range (10); the first unlawful plan (18); the first pair that overlaps (19).
 pub fn check_bytes(bytes: &[u8]) -> Verdict
     ensures { λ r. ⌜ verdictOf r ≡ siteIn (now (bytes .entry)) ⌝ }
@@ -55,7 +55,7 @@ pub fn check_bytes(bytes: &[u8]) -> Verdict
     first_overlap(bytes, count)
 }
 
-// Whether rule, level and duration of every one are in range.
+// Whether rule, level and duration of every repeater are in range.
 fn all_in_range(bytes: &[u8], count: usize) -> bool
     requires { ⌜ Holds count (now bytes) ⌝ }
     ensures { λ r. ⌜ r ≡ all isInRange (take count (assignmentsIn (now (bytes .entry)))) ⌝ }
@@ -76,7 +76,7 @@ fn is_in_range(b: Assignment) -> bool
         & ((1 <= b.duration) & (b.duration <= plan_slots::MAX_DURATION))
 }
 
-// The first repeater whose plan is not lawful; `count` where all are.
+// The first repeater whose plan is not lawful; `count` if all are lawful.
 fn first_unlawful(bytes: &[u8], count: usize) -> usize
     requires { ⌜ Holds count (now bytes) ⌝ }
     ensures { λ r. ⌜ r ≡ firstOf (λ b. not (hasLawfulPlan b)) (take count (assignmentsIn (now (bytes .entry)))) ⌝ }
@@ -108,7 +108,7 @@ fn first_overlap(bytes: &[u8], count: usize) -> Verdict
     Verdict::Accepted
 }
 
-// Whether a transmission of the one overlaps with one of the other.
+// Whether a transmission of one repeater overlaps with one of the other.
 fn clashes(b: Assignment, c: Assignment) -> bool
     ensures { λ r. ⌜ r ≡ clash b c ⌝ }
 {
@@ -145,7 +145,7 @@ fn overlaps(slot: u8, duration: u32, other: u8, length: u32) -> bool
     (start < begin + length as u64) & (begin < start + duration as u64)
 }
 
-// Rule, level, duration in four bytes from the highest, first, second and third slot.
+// Reads rule, level, duration in four bytes from the highest on, first, second and third slot.
 fn read_one(b: &[u8]) -> Assignment
     requires { ⌜ length (now b) ≡ 9 ⌝ }
     ensures { λ r. ⌜ r ≡ assignmentOf (now (b .entry)) ⌝ }

@@ -6,28 +6,28 @@ ghost use Prim.Native.Nat.{_≤_, min, max};
 ghost use Rattle.plan_slots.specs.Plan.{answerOf, planOf, standardRule, plans, drawn, lawful, within, isOfTwo};
 ghost use Rattle.plan_slots.specs.Search.{secondFollows, thirdFollows, IsRow, IsThirds, lookupOf, plansAfter, plansFrom};
 
-// Slots first to last; empty where first is above last.
+// Slots from first to last; empty if first is above last.
 pub struct SlotRange {
     pub first: u8,
     pub last: u8,
 }
 
-// A timing rule: the range of each transmission, an empty third for none; the smallest pause before the second and the last end,
-// in microseconds.
+// A timing rule: the range of each transmission, of which the third may be empty; the shortest pause before the second; and the last end, in
+// microseconds.
 pub struct Rule {
     pub ranges: [SlotRange; 3],
     pub pause: u32,
     pub end: u32,
 }
 
-// A slot for each transmission; the third is NO_SLOT where the rule has none.
+// A slot for each transmission; the third is NO_SLOT if the rule has none.
 pub struct SlotPlan {
     pub first: u8,
     pub second: u8,
     pub third: u8,
 }
 
-// A plan, or why there is none: 10 for an argument, 9 for no lawful plan.
+// A plan, or the reason why there is none: 10 for an argument, 9 if no plan is lawful.
 pub enum Planned {
     Slots(SlotPlan),
     Refused(Refusal),
@@ -36,13 +36,13 @@ pub enum Planned {
 // The length of a slot, in microseconds.
 pub const SLOT: u64 = 1000;
 
-// What the third slot of a plan reads where there is no third transmission.
+// The third slot of a plan without a third transmission.
 pub const NO_SLOT: u8 = 255;
 
-// The range of no transmission.
+// The range of a transmission that there is not.
 pub const EMPTY: SlotRange = SlotRange { first: 1, last: 0 };
 
-// The standard ranges of a telegram sent at level 0, at level 1 and at level 2, by transmission.
+// The standard ranges by transmission, for a telegram sent at level 0; at level 1; and at level 2.
 pub const LEVEL_0: [SlotRange; 3] = [
     SlotRange { first: 0, last: 0 },
     SlotRange { first: 1, last: 9 },
@@ -73,7 +73,7 @@ pub const LEVEL_2: [SlotRange; 3] = [
     EMPTY,
 ];
 
-// The standard ranges, by level sent, then transmission.
+// The standard ranges, by the level that is sent, then by transmission.
 pub const RANGES: [[SlotRange; 3]; 3] = [LEVEL_0, LEVEL_1, LEVEL_2];
 
 // The highest level sent.
@@ -85,7 +85,7 @@ pub const MAX_DURATION: u32 = 65_535;
 // The last end of the standard rule, in microseconds.
 pub const LAST_END: u32 = 40_000;
 
-// The plan that a draw picks among the lawful ones at a level and a duration.
+// The plan that a draw picks among the lawful ones, for a level and a duration.
 pub fn plan(level: u8, duration: u32, draw: u64) -> Planned
     ensures { λ r. ⌜ answerOf r ≡ planOf level duration draw ⌝ }
 {
@@ -96,8 +96,8 @@ pub fn plan(level: u8, duration: u32, draw: u64) -> Planned
     choose(standard_rule(level), duration, draw)
 }
 
-// The plan that a draw picks among the lawful ones under a rule. The first search often counts them all; the second index is below
-// that count, so that it is found.
+// The plan that a draw picks among the lawful ones under a rule. The first search often counts all plans. Then the second search uses an index below
+// that count, so it finds a plan.
 pub fn choose(rule: Rule, duration: u32, draw: u64) -> Planned
     ensures { λ r. ⌜ answerOf r ≡ drawn (plans rule duration) draw ⌝ }
 {
@@ -125,7 +125,7 @@ pub fn is_lawful(rule: Rule, duration: u32, plan: SlotPlan) -> bool
                 & third_follows(rule, duration, plan.second, plan.third)))
 }
 
-// The row of the level, read once a plan.
+// The rule of a level, from its row in the table.
 fn standard_rule(level: u8) -> Rule
     requires { ⌜ level ≤ 2 ⌝ }
     ensures { λ r. ⌜ r ≡ standardRule level ⌝ }
@@ -152,7 +152,7 @@ fn second_follows(rule: Rule, duration: u32, first: u8, second: u8) -> bool
     ended + rule.pause as u64 <= SLOT * second as u64
 }
 
-// Whether a third slot may follow a second and end in time; only NO_SLOT may where the rule has no third.
+// Whether a third slot may follow a second and ends in time; if the rule has no third, only NO_SLOT may.
 fn third_follows(rule: Rule, duration: u32, second: u8, third: u8) -> bool
     ensures { λ r. ⌜ r ≡ thirdFollows rule duration second third ⌝ }
 {
@@ -167,7 +167,7 @@ fn third_follows(rule: Rule, duration: u32, second: u8, third: u8) -> bool
     in_range(range, third) & ((ended <= start) & (start + d <= end))
 }
 
-// What a search finds: the plan at an index of a list, or the length of a list that is too short.
+// The result of a search: the plan at an index of a list, or the length of the list if it is too short.
 enum Lookup {
     Found(SlotPlan),
     Counted(u64),
@@ -228,7 +228,7 @@ fn is_of_two(rule: Rule) -> bool
     range.last < range.first
 }
 
-// The same under a rule of two transmissions, without a loop: the second slots that may follow are in a row.
+// The same under a rule of two transmissions, without a loop: the second slots that may follow are consecutive.
 fn search_pairs(rule: Rule, duration: u32, first: u8, k: u64) -> Lookup
     requires { ⌜ isOfTwo rule ≡ true ⌝ }
     ensures { λ r. ⌜ r ≡ lookupOf (plansFrom rule duration first) k ⌝ }
@@ -270,7 +270,7 @@ fn search_after(rule: Rule, duration: u32, first: u8, second: u8, k: u64) -> Loo
     })
 }
 
-// Slots in a row: so many, from first on.
+// Consecutive slots: how many, and the first.
 struct Run {
     first: u64,
     count: u64,
@@ -293,7 +293,7 @@ fn thirds(rule: Rule, duration: u32, second: u8) -> Run
     row(rule.ranges[2], duration, ended, rule.end)
 }
 
-// The slots of a range that start at `from` or later and end by `end`, without a loop: a start and an end between two bounds leave slots in a row.
+// The slots of a range that start at `from` or later and end by `end`, without a loop: such slots are consecutive.
 fn row(range: SlotRange, duration: u32, from: u64, end: u32) -> Run
     requires { ⌜ from ≤ 10_000_000_000 ⌝ }
     ensures { λ r. ⌜ IsRow range duration from end (r .first) (r .count) ⌝ }

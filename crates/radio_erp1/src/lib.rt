@@ -10,7 +10,7 @@ ghost use Rattle.radio_erp1.specs.Subtelegram.{sumOf, hashOf, wrongHash,
 ghost use Rattle.radio_erp1.specs.Same.{isSame};
 ghost use Rattle.radio_erp1.specs.Private.{Agrees};
 
-// The house limits: the whole length of a subtelegram, and of an addressed one.
+// The house limits: the length of a subtelegram, and of an addressed one.
 pub const MIN_LEN: usize = 8;
 
 pub const MAX_LEN: usize = 21;
@@ -20,13 +20,13 @@ pub const MIN_ADDRESSED_LEN: usize = 13;
 // RORG of an addressed telegram.
 pub const ADDRESSED: u8 = 0xA6;
 
-// What a check says of a subtelegram.
+// The result of a check.
 pub enum Checked {
     Valid,
     Refused(Refusal),
 }
 
-// The check, in document 01's order.
+// The check, with the tests in document 01's order.
 pub fn check(bytes: &[u8]) -> Checked
     ensures { λ r. ⌜ checkedNumber r ≡ checkOf (now (bytes .entry)) ⌝ }
 {
@@ -64,7 +64,7 @@ fn wrong_hash(status: u8) -> Refusal
     Refusal::Sum
 }
 
-// HASH over `body`, all the bytes before it. The last of them is STATUS, which selects the hash. Of no bytes it is 0.
+// HASH over `body`, which is all bytes before it. The last byte of the body is STATUS, which selects the hash. Without bytes it is 0.
 pub fn hash(body: &[u8]) -> u8
     ensures { λ r. ⌜ r ≡ hashOf (now (body .entry)) ⌝ }
 {
@@ -78,7 +78,7 @@ pub fn hash(body: &[u8]) -> u8
     sum(body)
 }
 
-// Whether two subtelegrams are the same telegram: equal but for HASH and the level.
+// Whether two subtelegrams are the same telegram: equal except for HASH and the level.
 pub fn same(a: &[u8], b: &[u8]) -> bool
     ensures { λ r. ⌜ r ≡ isSame (now (a .entry)) (now (b .entry)) ⌝ }
 {
@@ -107,8 +107,8 @@ fn sum(bytes: &[u8]) -> u8
     sum
 }
 
-// Whether the first `n` bytes agree, from the last of them on: that is where TXID stands, by which most telegrams differ. Of most telegrams these are
-// two blocks of eight, or of four, which may meet.
+// Whether the first `n` bytes agree. It compares from their end, because TXID is there, and most telegrams differ in it. For most telegrams these are
+// two blocks of eight bytes, or of four, which may overlap.
 fn agree(a: &[u8], b: &[u8], n: usize) -> bool
     requires { ⌜ (n ≤ length (now a)) × (n ≤ length (now b)) ⌝ }
     ensures { λ r. ⌜ r ≡ equal (take n (now (a .entry))) (take n (now (b .entry))) ⌝ }
@@ -128,7 +128,7 @@ fn agree(a: &[u8], b: &[u8], n: usize) -> bool
     agree_each(a, b, n)
 }
 
-// Whether eight bytes agree: no branch is taken before all are looked at, so that they are compared at once.
+// Whether eight bytes agree. There is no branch before all are read, so they are compared at once.
 fn agree_eight(a: &[u8], b: &[u8], from: usize) -> bool
     requires { ⌜ (from + 8 ≤ length (now a)) × (from + 8 ≤ length (now b)) ⌝ }
     ensures { λ r. ⌜ Agrees (now (a .entry)) (now (b .entry)) from 8 r ⌝ }

@@ -5,9 +5,9 @@ ghost use Rattle.radio_erp1.specs.Status.{splitOf, joinOf, upperOf};
 pub struct Status {
     // Bits 0 to 3: how often the telegram was repeated.
     pub level: u8,
-    // Bits 4 to 6, which are kept as they are.
+    // Bits 4 to 6, which are not changed.
     pub flags: u8,
-    // Bit 7, the hash selector: HASH is the CRC, and else the sum.
+    // Bit 7, the hash selector: HASH is the CRC if it is set, else the sum.
     pub crc: bool,
 }
 
@@ -22,7 +22,7 @@ pub fn split(status: u8) -> Status
     }
 }
 
-// The byte with these parts; of a level and of flags that are too large, the bits that fit.
+// The byte with these parts. If the level or the flags are too large, only the bits that fit are used.
 pub fn join(s: Status) -> u8
     ensures { λ r. ⌜ r ≡ joinOf s ⌝ }
 {
@@ -33,7 +33,7 @@ pub fn join(s: Status) -> u8
     low
 }
 
-// All of a STATUS byte but the level.
+// STATUS without the level.
 pub fn upper(status: u8) -> u8
     ensures { λ r. ⌜ r ≡ upperOf status ⌝ }
 {

@@ -34,16 +34,16 @@ const MIN_LONG: usize = 7;
 
 const MAX_LONG: usize = 255;
 
-// The first reserved address control, and the one with a Destination-ID (004, figure 11).
+// The first reserved address control; and the one with a Destination-ID (004, figure 11).
 const RESERVED: u8 = 4;
 
 const ADDRESSED: u8 = 2;
 
-// The telegram type that says that an extended telegram type follows.
+// The telegram type that means that an extended telegram type follows.
 const EXTENDED_TYPE: u8 = 15;
 
-// Reads a length byte and Data_PL. Refused, in this order: a wrong length (1), and of a long form a wrong CRC (13), a reserved address
-// control (14), fields that do not fit (15); then all is zero.
+// Reads a length byte and Data_PL. Refused, in this order: a wrong length (1), and for a long form a wrong CRC (13), a reserved address control (14),
+// fields that do not fit (15); then everything is zero.
 pub fn read(bytes: &[u8]) -> Reading
     ensures { λ r. ⌜ shownErp2Reading r ≡ readOf (now (bytes .entry)) ⌝ }
 {
@@ -66,8 +66,8 @@ pub fn read(bytes: &[u8]) -> Reading
     }
 }
 
-// Builds a telegram into `out`. Refused, in this order: a value that its bits can't hold or an optional field there or missing against
-// the header (10), a reserved address control (14), fields that do not fit (15), an output that is too short (6).
+// Builds a telegram into `out`. Refused, in this order: a value that its bits can't hold, or an optional field that is present or missing against the
+// header (10), a reserved address control (14), fields that do not fit (15), an output that is too short (6).
 pub fn build(t: Telegram, out: &mut [u8]) -> Built
     ensures { λ r. ⌜ resultOf r (now (out .exit)) ≡ buildOf t (now (out .entry)) ⌝ }
 {
@@ -92,7 +92,7 @@ fn emit(t: Telegram, out: &mut [u8]) -> Built
     Built::Done(end)
 }
 
-// Writes the length byte, the fields by their sizes, one after the other, and the CRC where there is one.
+// Writes the length byte, the fields by their sizes, one after the other, and the CRC if there is one.
 fn put_row(t: Telegram, z: Sizes, out: &mut [u8])
     requires { ⌜ Laid t z (length (now out)) ⌝ }
     ensures { λ _. ⌜ now (out .exit) ≡ rowWritten t z (now (out .entry)) ⌝ }
@@ -111,7 +111,7 @@ fn put_row(t: Telegram, z: Sizes, out: &mut [u8])
     out[end] = crc;
 }
 
-// The length byte, and what stands before the IDs.
+// Writes the length byte, and what comes before the IDs.
 fn put_head(out: &mut [u8], t: Telegram, z: Sizes, size: u8)
     requires { ⌜ length (now out) ≡ 1 + z .header + z .extension + z .subtype ⌝ }
     ensures { λ _. ⌜ now (out .exit) ≡ headBytes t z size ⌝ }
@@ -159,7 +159,7 @@ fn id_number(n: u32) -> u64
     n as u64
 }
 
-// Whether a telegram can be built at all (10, 14, 15).
+// Whether a telegram can be built in any output (10, 14, 15).
 fn admission(t: Telegram) -> Checked
     ensures { λ r. ⌜ checkedNumber r ≡ admissionOf t ⌝ }
 {
@@ -194,7 +194,7 @@ fn is_unholdable(t: Telegram) -> bool
     over | (((7 < h.control) | (15 < h.kind)) | (e.present & ((15 < e.hops) | (15 < e.announced))))
 }
 
-// Whether an optional field is there or missing against the header.
+// Whether an optional field is present or missing against the header.
 fn is_against_header(t: Telegram) -> bool
     ensures { λ r. ⌜ r ≡ isAgainstHeader t ⌝ }
 {
@@ -252,7 +252,7 @@ fn check(s: &[u8]) -> Checked
     Checked::Valid
 }
 
-// The fields of a list that fits.
+// The fields of a list in which they fit.
 fn fields(s: &[u8]) -> Telegram
     requires { ⌜ Fitting (now s) ⌝ }
     ensures { λ r. ⌜ r ≡ fieldsOf (now (s .entry)) ⌝ }
@@ -263,7 +263,7 @@ fn fields(s: &[u8]) -> Telegram
     row(s, z, n, short_of(s[0]))
 }
 
-// The fields by their sizes, one after the other; n bytes of data.
+// The fields by their sizes, one after the other, with n bytes of data.
 fn row(s: &[u8], z: Sizes, n: usize, short: u8) -> Telegram
     requires { ⌜ Placed (now s) z n ⌝ }
     ensures { λ r. ⌜ r ≡ rowOf (now (s .entry)) z n short ⌝ }
@@ -305,7 +305,7 @@ fn row(s: &[u8], z: Sizes, n: usize, short: u8) -> Telegram
     }
 }
 
-// All zero.
+// A telegram that is all zero.
 fn none() -> Telegram
     ensures { λ r. ⌜ r ≡ noTelegram ⌝ }
 {
@@ -362,7 +362,7 @@ fn differ(a: bool, b: bool) -> bool
     b
 }
 
-// The first number that so many bytes can't hold.
+// The first number that a number of bytes can't hold, by that number.
 const LIMITS: [u64; 7] = [
     1,
     256,
@@ -414,7 +414,7 @@ fn sizes_in(s: &[u8]) -> Sizes
     long_sizes(header_of(s[1]), s[2] % 16)
 }
 
-// Those of a short form, by its Length.
+// The sizes for a short form, by its Length.
 fn short_sizes(length: usize) -> Sizes
     ensures { λ r. ⌜ r ≡ shortSizes length ⌝ }
 {
@@ -429,7 +429,7 @@ fn short_sizes(length: usize) -> Sizes
     }
 }
 
-// Those of a long form.
+// The sizes for a long form.
 fn long_sizes(h: Header, announced: u8) -> Sizes
     ensures { λ r. ⌜ r ≡ longSizes h announced ⌝ }
 {
@@ -444,7 +444,7 @@ fn long_sizes(h: Header, announced: u8) -> Sizes
     }
 }
 
-// Bytes of the Originator-ID: of a short form by Length, and of a long one by address control.
+// The number of bytes of the Originator-ID: for a short form by Length, and for a long form by address control.
 const SHORT_ORIGINATORS: [usize; 7] = [0, 1, 1, 2, 3, 4, 4];
 
 const ORIGINATORS: [usize; 4] = [3, 4, 4, 6];
@@ -467,7 +467,7 @@ fn originator_size(control: u8) -> usize
     6
 }
 
-// All of Data_PL but its data.
+// The length of Data_PL without its data.
 fn overhead(z: Sizes) -> usize
     requires { ⌜ overheadOf z ≤ 300 ⌝ }
     ensures { λ r. ⌜ r ≡ overheadOf z ⌝ }
@@ -495,7 +495,7 @@ fn short_of(length: u8) -> u8
 
 // ---- parts as values
 
-// The number that at most one byte spells.
+// The number in at most one byte.
 fn small(part: &[u8]) -> u8
     requires { ⌜ length (now part) ≤ 1 ⌝ }
     ensures { λ r. ⌜ r ≡ unbe (now (part .entry)) ⌝ }
@@ -506,7 +506,7 @@ fn small(part: &[u8]) -> u8
     part[0]
 }
 
-// The number that at most four bytes spell.
+// The number in at most four bytes.
 fn middle(part: &[u8]) -> u32
     requires { ⌜ length (now part) ≤ 4 ⌝ }
     ensures { λ r. ⌜ r ≡ unbe (now (part .entry)) ⌝ }
@@ -518,7 +518,7 @@ fn middle(part: &[u8]) -> u32
     n
 }
 
-// Data, zero filled.
+// Data, filled with zeros.
 fn payload_of(part: &[u8]) -> [u8; MAX_DATA]
     requires { ⌜ length (now part) ≤ 250 ⌝ }
     ensures { λ r. ⌜ r ≡ padded 250 (now (part .entry)) ⌝ }
@@ -528,7 +528,7 @@ fn payload_of(part: &[u8]) -> [u8; MAX_DATA]
     payload
 }
 
-// Optional data, zero filled.
+// Optional data, filled with zeros.
 fn optional_of(part: &[u8]) -> [u8; MAX_OPTIONAL]
     requires { ⌜ length (now part) ≤ 15 ⌝ }
     ensures { λ r. ⌜ r ≡ padded 15 (now (part .entry)) ⌝ }

@@ -1,8 +1,8 @@
-// What an ERP2 telegram is (document 02, A4; source document 004, 4.4 to 4.6): its fields as a value. What is read and built is in specs/, and
-// that each undoes the other in specs/Claims.antt.
+// The fields of an ERP2 telegram as a value (document 02, A4; source document 004, 4.4 to 4.6). Reading and building are defined in specs/; that each
+// undoes the other is in specs/Claims.antt.
 use radio_erp1::Checked;
 
-// The longest data of any telegram: 255 bytes less a header, an Originator-ID of 24 bits and the CRC.
+// The longest data of any telegram: 255 bytes without a header, an Originator-ID of 24 bits and the CRC.
 pub const MAX_DATA: usize = 250;
 
 // The longest optional data: its length has four bits.
@@ -10,7 +10,7 @@ pub const MAX_OPTIONAL: usize = 15;
 
 // The header's three parts (004, figure 11).
 pub struct Header {
-    // Address control: which IDs there are, and of how many bits.
+    // Address control: which IDs there are, and how many bits they have.
     pub control: u8,
     // An extended header is available.
     pub extended: bool,
@@ -18,7 +18,7 @@ pub struct Header {
     pub kind: u8,
 }
 
-// The extended header (004, figure 12), where there is one.
+// The extended header (004, figure 12), if there is one.
 pub struct Extension {
     pub present: bool,
     // Repeater count.
@@ -27,13 +27,13 @@ pub struct Extension {
     pub announced: u8,
 }
 
-// The extended telegram type (004, figure 13), where there is one.
+// The extended telegram type (004, figure 13), if there is one.
 pub struct Subtype {
     pub present: bool,
     pub value: u8,
 }
 
-// The Destination-ID, where there is one.
+// The Destination-ID, if there is one.
 pub struct Destination {
     pub present: bool,
     pub id: u32,
@@ -54,13 +54,13 @@ pub struct Telegram {
     pub optional: [u8; MAX_OPTIONAL],
 }
 
-// What reading answers: all of the telegram is zero beside a refusal.
+// The answer of reading; with a refusal the telegram is all zero.
 pub struct Reading {
     pub checked: Checked,
     pub telegram: Telegram,
 }
 
-// How many bytes each field but the data has; a field that is not there has none.
+// How many bytes each field except the data has; a field that is not present has none.
 pub struct Sizes {
     pub header: usize,
     pub extension: usize,

@@ -8,8 +8,8 @@ use crate::frame::Built;
 use base_refusal::Refusal;
 use radio_erp1::Checked;
 
-// Writes the plain subtelegram `bytes`, addressed to `destid`, into `out`.
-// Refused, in this order: the check's own; an addressed one (3); over 21 bytes (5); an output that is too short (6).
+// Writes the plain subtelegram `bytes`, addressed to `destid`, into `out`. Refused, in this order: the check's numbers; an addressed one (3); more
+// than 21 bytes (5); an output that is too short (6).
 pub fn encapsulate(bytes: &[u8], destid: [u8; 4], out: &mut [u8]) -> Built
     ensures { λ r. ⌜ resultOf r (now (out .exit)) ≡ encapsulateOf (now (bytes .entry)) destid (now (out .entry)) ⌝ }
 {
@@ -27,8 +27,8 @@ pub fn encapsulate(bytes: &[u8], destid: [u8; 4], out: &mut [u8]) -> Built
     }
 }
 
-// Writes what the addressed subtelegram `bytes` carries, as a plain one, into `out`.
-// Refused, in this order: the check's own; a plain one (4); an output that is too short (6).
+// Writes the telegram that the addressed subtelegram `bytes` carries, as a plain one, into `out`. Refused, in this order: the check's numbers; a
+// plain one (4); an output that is too short (6).
 pub fn decapsulate(bytes: &[u8], out: &mut [u8]) -> Built
     ensures { λ r. ⌜ resultOf r (now (out .exit)) ≡ decapsulateOf (now (bytes .entry)) (now (out .entry)) ⌝ }
 {

@@ -20,7 +20,7 @@ pub const MAX_DATA: usize = 14;
 pub const MAX_ADDRESSED_DATA: usize = 9;
 
 pub struct Telegram {
-    // RORG; of an addressed telegram the inner one.
+    // RORG; for an addressed telegram the inner one.
     pub rorg: u8,
     // DATA: the first `len` bytes.
     pub payload: [u8; MAX_DATA],
@@ -32,7 +32,7 @@ pub struct Telegram {
     pub status: u8,
 }
 
-// A reading: the check's answer, and the fields where it is valid, else all zero.
+// The check's answer, and the fields; all zero if it is not valid.
 pub struct Reading {
     pub checked: Checked,
     pub telegram: Telegram,
@@ -121,7 +121,7 @@ fn addressed_fields(s: &[u8]) -> Telegram
     }
 }
 
-// DATA, zero filled.
+// DATA, filled with zeros.
 fn payload_of(part: &[u8]) -> [u8; MAX_DATA]
     requires { ⌜ length (now part) ≤ maxData ⌝ }
     ensures { λ r. ⌜ r ≡ padded maxData (now (part .entry)) ⌝ }
@@ -141,7 +141,7 @@ fn id_of(part: &[u8]) -> [u8; 4]
     id
 }
 
-// All zero.
+// A telegram that is all zero.
 fn none() -> Telegram
     ensures { λ r. ⌜ r ≡ noTelegram ⌝ }
 {
@@ -156,7 +156,7 @@ fn none() -> Telegram
     }
 }
 
-// Whether the fields can be built at all (10, 5).
+// Whether the fields can be built in any output (10, 5).
 fn admission(t: Telegram) -> Checked
     ensures { λ r. ⌜ checkedNumber r ≡ admissionOf t ⌝ }
 {
@@ -188,7 +188,7 @@ fn frame_of(t: Telegram) -> Frame
     f.push(t.status).sealed()
 }
 
-// What stands before DATA.
+// What comes before DATA.
 fn head(t: Telegram) -> Frame
     ensures { λ r. ⌜ r ≡ frameOf (headOf t) ⌝ }
 {
@@ -198,7 +198,7 @@ fn head(t: Telegram) -> Frame
     Frame::empty().push(t.rorg)
 }
 
-// The frame with the IDs more: DESTID if addressed, and TXID.
+// The frame with the IDs appended: DESTID if addressed, and TXID.
 fn with_ids(f: Frame, t: Telegram) -> Frame
     requires { ⌜ f .len + length (idsOf t) ≤ maxLength ⌝ }
     ensures { λ r. ⌜ Extended f r (idsOf t) ⌝ }

@@ -14,7 +14,7 @@ pub struct Frame {
     pub bytes: [u8; radio_erp1::MAX_LEN],
 }
 
-// What writing a subtelegram into a lent output answers: its length, or why nothing was written.
+// The answer of writing a subtelegram into a lent output: its length, or why nothing was written.
 pub enum Built {
     Done(usize),
     Refused(Refusal),
@@ -31,7 +31,7 @@ impl Frame {
         }
     }
 
-    // One byte more.
+    // One byte appended.
     pub(crate) fn push(self, b: u8) -> Frame
         requires { ⌜ self .len < maxLength ⌝ }
         ensures { λ r. ⌜ Extended self r (b ∷ []) ⌝ }
@@ -45,7 +45,7 @@ impl Frame {
         }
     }
 
-    // All of `src` more.
+    // All of `src` appended.
     pub(crate) fn append(self, src: &[u8]) -> Frame
         requires { ⌜ self .len + length (now src) ≤ maxLength ⌝ }
         ensures { λ r. ⌜ Extended self r (now (src .entry)) ⌝ }
@@ -59,7 +59,7 @@ impl Frame {
         }
     }
 
-    // HASH over all the bytes, put after them.
+    // HASH over all the bytes, appended.
     pub(crate) fn sealed(self) -> Frame
         requires { ⌜ self .len < maxLength ⌝ }
         ensures { λ r. ⌜ ((xs : List ℕ) → self ≡ frameOf xs → r ≡ frameOf (sealedOf xs)) ⌝ }

@@ -16,13 +16,13 @@ use radio_erp1::status::Status;
 // The highest setting: 0 is off, 1 repeats level 0, and 2 repeats levels 0 and 1.
 pub const MAX_SETTING: u8 = 2;
 
-// Whether a telegram was taken, and what is sent for it: zero filled, length 0 for nothing.
+// Whether a telegram was accepted, and what is sent for it: filled with zeros; length 0 if nothing is sent.
 pub struct Repeated {
     pub answer: Checked,
     pub sent: Frame,
 }
 
-// What a repeater set to `setting` sends for a valid telegram, if anything; refused with 10, then the check's number, nothing is sent.
+// What a repeater set to `setting` sends for a valid telegram, if anything. Refused: 10, then the check's number; then nothing is sent.
 pub fn repeat(setting: u8, bytes: &[u8]) -> Repeated
     ensures { λ r. ⌜ repeatedOf r ≡ repeatResult setting (now (bytes .entry)) ⌝ }
 {
@@ -52,7 +52,7 @@ fn refused(why: Refusal) -> Repeated
     }
 }
 
-// What is sent for bytes that need no check: written to the front of `out`, with how many bytes it is; none if they are not as long as a
+// Writes what is sent, for bytes that are not checked, to the front of `out`, and returns how many bytes it is: 0 if they do not have the length of a
 // subtelegram, or are not repeated.
 pub fn relay(setting: u8, bytes: &[u8], out: &mut [u8; radio_erp1::MAX_LEN]) -> usize
     ensures { λ r. ⌜ record { number = 0; len = r; output = now (out .exit) }
@@ -80,7 +80,7 @@ fn repeats(setting: u8, level: u8) -> bool
     ((setting == 1) & (level == 0)) | ((setting == 2) & (level <= 1))
 }
 
-// Writes what is sent for a subtelegram of this length to the front of `out`: another STATUS and HASH.
+// Writes what is sent for a subtelegram of this length to the front of `out`, with a new STATUS and HASH.
 fn put_raised(bytes: &[u8], out: &mut [u8])
     requires { ⌜ (minLength ≤ length (now bytes)) × (length (now bytes) ≤ length (now out)) ⌝ }
     ensures { λ _. ⌜ now (out .exit) ≡ written (raisedOf (now (bytes .entry))) (now (out .entry)) .output ⌝ }
@@ -92,7 +92,7 @@ fn put_raised(bytes: &[u8], out: &mut [u8])
     out[last] = radio_erp1::hash(&out[0..last]);
 }
 
-// STATUS with its level raised by one, and all else kept.
+// STATUS with its level raised by one.
 fn raised_status(status: u8) -> u8
     ensures { λ r. ⌜ r ≡ joinOf (raise (splitOf status)) ⌝ }
 {

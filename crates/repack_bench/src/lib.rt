@@ -12,7 +12,7 @@ pub extern "C" fn repack_bench_salvage(
     done.rows as u64
 }
 
-// How many blocks are freed; 2^64 - 1 beside a refusal.
+// How many blocks are freed; 2^64 - 1 for a refusal.
 #[no_mangle]
 pub extern "C" fn repack_bench_remove(buffer: &mut [u8], identities: &[u32]) -> u64 {
     let answer = archive_repack::remove(buffer, identities);

@@ -4,13 +4,13 @@ use archive_report::Added;
 use archive_report::Adding;
 use archive_report::Report;
 
-// An archive added to an empty report: the number of the answer in the highest byte, then the lines in two bytes, and the rows below.
+// Adds an archive to an empty report. The number of the answer is in the highest byte, then the lines in two bytes, then the rows.
 #[no_mangle]
 pub extern "C" fn report_bench_add(buffer: &[u8]) -> u64 {
     packed_of(Report::empty().add(buffer))
 }
 
-// The same in two pieces, the first of them half of the blocks.
+// The same in two pieces; the first has half of the blocks.
 #[no_mangle]
 pub extern "C" fn report_bench_pieces(buffer: &[u8]) -> u64 {
     let half = buffer.len() / 1024 * 512;

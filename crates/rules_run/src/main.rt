@@ -1,5 +1,5 @@
-// Prints how many plans are lawful under each timing rule, at each level and many durations, and what some draws pick: stdout is what a
-// second program lists by plain enumeration.
+// Prints how many plans are lawful under each timing rule, at each level and for many durations, and what some draws pick. The output must equal that
+// of the second program, which lists all plans.
 use plan_slots::Planned;
 use plan_slots::SlotPlan;
 use test_io::field;
@@ -7,7 +7,7 @@ use test_io::last_field;
 use test_io::one_if;
 ghost use Prim.Native.Nat.{_≤_};
 
-// The durations that are tried, in microseconds: about the longest that have a plan, and about multiples of a slot.
+// The durations that are tried, in microseconds: near the longest that have a plan, and near multiples of a slot.
 const DURATIONS: [u32; 39] = [
     1,
     2,
@@ -76,7 +76,7 @@ fn main() {
     refused();
 }
 
-// A rule at a level with a number of transmissions, at every duration.
+// A rule at a level with a number of transmissions, for every duration.
 fn durations(rule: u8, level: u8, number: u8) {
     let all = DURATIONS;
     for i in 0..39 {
@@ -121,7 +121,7 @@ fn refused() {
     drawn(255, 255, 255, 4_294_967_295, 18_446_744_073_709_551_615);
 }
 
-// How many plans with slots 0 to 39 are lawful, the third 255 where two transmissions are asked for.
+// How many plans with slots 0 to 39 are lawful; the third is 255 if two transmissions are requested.
 fn count(rule: u8, level: u8, number: u8, duration: u32) -> u64 {
     let tried = candidates(number);
     let mut n: u64 = 0;

@@ -1,4 +1,4 @@
-// Runs the check of a site on the long records of standard input, and prints a line for each: stdout is what the second program says
+// Runs the check of a site on the long records of standard input, and prints a line for each. The output must equal that of the second program
 // (tests/reference/README.md has the format).
 use plan_site::Verdict;
 use test_io::LONG;
@@ -10,7 +10,7 @@ fn main() {
     records(1_000_000);
 }
 
-// At most so many records, until the input ends.
+// Handles at most `most` records, until the input ends.
 fn records(most: u64) {
     let mut left = most;
     while 0 < left {
@@ -21,7 +21,7 @@ fn records(most: u64) {
     }
 }
 
-// One record, if there is one more.
+// Handles one record, if there is one more.
 fn record() -> bool {
     let mut bytes = [0u8; LONG];
     let more = test_io::next_long_record(&mut bytes);
@@ -31,7 +31,7 @@ fn record() -> bool {
     more
 }
 
-// The repeaters of the record; of a count over 33, which is refused as 33 is, the first 33.
+// Checks the repeaters of the record. If the count is over 33, it checks the first 33, which are refused in the same way.
 fn answer(r: &[u8; LONG]) {
     let whole = &r[..];
     let count = smaller(whole[0] as usize, plan_site::MAX_REPEATERS + 1);

@@ -1,5 +1,5 @@
-// Prints how many plans are lawful at each level and many durations, and what some draws pick: stdout is what a second program lists
-// by plain enumeration.
+// Prints how many plans are lawful at each level and for many durations, and what some draws pick. The output must equal that of the second program,
+// which lists all plans.
 use plan_slots::Planned;
 use plan_slots::Rule;
 use plan_slots::SlotPlan;
@@ -59,7 +59,7 @@ fn at(level: u8, duration: u32) {
     drawn(level, duration, 18_446_744_073_709_551_615);
 }
 
-// How many plans are lawful of those with slots 0 to 39, the third also 255.
+// How many of the plans with slots 0 to 39 are lawful; the third may also be 255.
 fn count(level: u8, duration: u32) -> u64 {
     if 2 < level {
         return 0;

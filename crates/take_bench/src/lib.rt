@@ -1,4 +1,4 @@
-// Receptions taken one after the other, for the benchmark.
+// Takes receptions one after the other, for the benchmark.
 use collector_model::Answer;
 use collector_state::Collector;
 use collector_state::acceptable;
@@ -9,19 +9,19 @@ ghost use lib.ListN.{length};
 
 const CELL: usize = 32;
 
-// What the receptions of a run left behind, and a figure of their answers.
+// The state after the receptions of a run, and a number made of their answers.
 struct Run {
     collector: Collector,
     figure: u64,
 }
 
-// Takes the receptions of `cells`, 32 bytes each (time, length, bytes), into a collector started fresh, and answers a figure of the answers.
+// Takes the receptions of `cells`, 32 bytes each (time, length, bytes), into a collector started fresh, and returns a number made of the answers.
 #[no_mangle]
 pub extern "C" fn bench_take(cells: &[u8]) -> u64 {
     taken_all(cells).figure
 }
 
-// The same, and then the test of the state `rounds` times, each second time with the last entry left out; answers how often it passed.
+// The same, and then tests the state `rounds` times, every second time without the last entry. Returns how often it passed.
 #[no_mangle]
 pub extern "C" fn bench_test(cells: &[u8], rounds: u64) -> u64 {
     let done = taken_all(cells);
@@ -37,7 +37,7 @@ pub extern "C" fn bench_test(cells: &[u8], rounds: u64) -> u64 {
     passed
 }
 
-// The same receptions at arrays that are changed where they lie. A fresh state is acceptable, and so is every next one: none is tested.
+// Takes the same receptions, with arrays that are changed in place. A fresh state is acceptable, and so is every next one, so none is tested.
 #[no_mangle]
 pub extern "C" fn bench_admit(cells: &[u8]) -> u64 {
     let c = Collector::fresh();

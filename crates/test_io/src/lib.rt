@@ -1,10 +1,10 @@
-// What the test programs share: records read, and text, numbers and hexadecimal digits printed.
+// What the test programs have in common: they read records, and print text, numbers and hexadecimal digits.
 use libc::STDIN_FILENO;
 use libc::STDOUT_FILENO;
 ghost use Prim.Native.Nat.{_<_, _≤_, _*_};
 ghost use lib.ListN.{length};
 
-// A record: 64 bytes, a line of 128 upper-case hexadecimal digits in the input. `more` is false past the last one.
+// A record: 64 bytes, a line of 128 upper-case hexadecimal digits in the input. `more` is false after the last one.
 pub struct Record {
     pub more: bool,
     pub bytes: [u8; 64],
@@ -31,7 +31,7 @@ pub fn next_record() -> Record {
     }
 }
 
-// Reads the next long record of standard input, a line of 640 upper-case hexadecimal digits, into `bytes`. False past the last one.
+// Reads the next long record of standard input, a line of 640 upper-case hexadecimal digits, into `bytes`. False after the last one.
 pub fn next_long_record(bytes: &mut [u8; LONG]) -> bool {
     let mut line = [0u8; LONG_LINE];
     let n = io::read_full(STDIN_FILENO, &mut line);
@@ -61,14 +61,14 @@ pub fn last_field(n: u64) {
     text(b"\n");
 }
 
-// 1 for true and 0 for false: what a count adds.
+// 1 for true and 0 for false, for counting.
 pub fn one_if(passes: bool) -> u64
     ensures { λ r. ⌜ r ≤ 1 ⌝ }
 {
     if passes { 1 } else { 0 }
 }
 
-// Prints bytes in upper-case hexadecimal digits, `-` for none.
+// Prints bytes in upper-case hexadecimal digits, or `-` if there are none.
 pub fn hex(s: &[u8]) {
     if s.len() == 0 {
         text(b"-");
@@ -83,7 +83,7 @@ pub fn byte(b: u8) {
     text(&[digit(b / 16), digit(b % 16)]);
 }
 
-// Writes the bytes that a line of digits says.
+// Writes the bytes of a line of digits.
 fn decode(line: &[u8], bytes: &mut [u8])
     requires { ⌜ 2 * length (now bytes) ≤ length (now line) ⌝ }
 {
@@ -92,12 +92,12 @@ fn decode(line: &[u8], bytes: &mut [u8])
     }
 }
 
-// The byte that two digits say.
+// The byte of two digits.
 fn pair(high: u8, low: u8) -> u8 {
     nibble(high) * 16 + nibble(low)
 }
 
-// The value of an upper-case hexadecimal digit, 0 for any other byte.
+// The value of an upper-case hexadecimal digit; 0 for any other byte.
 fn nibble(c: u8) -> u8
     ensures { λ r. ⌜ r < 16 ⌝ }
 {

@@ -1,4 +1,4 @@
-// A run whose rows are printed in a format, with the rows that an archive keeps and what closes.
+// A run that prints its rows in a format, with the rows for an archive and what closes.
 use collector_model::Answer;
 use collector_state::Collector;
 use collector_state::Summary;
@@ -32,8 +32,8 @@ pub const LONGEST: usize = text_rows::LONGEST_NUMBER
     + formats::LONGEST_ROW
     + 2 * (text_lines::MAX_BYTES + Collector::MAX_LEN);
 
-// What a run of lines leaves: the summary of the state, how many bytes of the input they are, how many were written, the rows
-// that an archive keeps, the lines and the telegrams that they close.
+// The result of a run of lines: the summary of the state, how many bytes of the input were used, how many were written, and the numbers of rows for
+// an archive, of lines, and of telegrams that they close.
 pub struct Noted {
     pub summary: Summary,
     pub used: usize,
@@ -43,8 +43,8 @@ pub struct Noted {
     pub closings: usize,
 }
 
-// Takes lines as `take_rows` does, and writes their rows in a format, and what they close, where `closed` has any length: in a
-// loop of its own, since a format that is looked up for each row would cost the text 32 instructions a line.
+// Takes lines as `take_rows` does, and writes their rows in a format. If `closed` is not empty, also writes what they close. It has its own loop: to
+// look up the format for each row would cost the text format 32 instructions a line.
 pub fn take_rows_as<'a>(
     fit: bool,
     setting: u8,
@@ -103,7 +103,7 @@ pub fn take_rows_as<'a>(
             to = formats::put_bad(out, to, format);
             continue;
         }
-        // Behind the time stand a space, two digits for each byte, and the newline.
+        // After the time come a space, two digits for each byte, and the newline.
         let len = l.len;
         let end = at - (2 * len + 2);
         k = put_closed(
@@ -151,7 +151,7 @@ pub fn take_rows_as<'a>(
     }
 }
 
-// Whether what one line more may close fits behind k places.
+// Whether there is room for what one more line may close, after k entries.
 fn has_room(long: usize, k: usize) -> bool
     ensures { λ r. ⌜ r ≡ hasRoom long k ⌝ }
 {
@@ -167,7 +167,7 @@ fn has_room(long: usize, k: usize) -> bool
     true
 }
 
-// Writes what a reception closes, where it is asked for.
+// Writes what a reception closes, if it is asked for.
 fn put_closed<'a>(
     fit: bool,
     times: &'a [u64; Collector::CAPACITY],
@@ -206,7 +206,7 @@ fn put_closed<'a>(
     )
 }
 
-// The row of a reception behind the text of its time, with what is sent for it at the setting and where it came from.
+// Writes the row of a reception after the text of its time, with what is sent for it at the setting and where it came from.
 fn put_answer(
     out: &mut [u8],
     at: usize,

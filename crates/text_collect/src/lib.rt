@@ -25,14 +25,14 @@ ghost use Rattle.text_collect.specs.Session.{modelCollector, runningAt, 
 ghost use Rattle.text_collect.specs.Rows.{storedTime, storedRecord};
 ghost use Rattle.text_collect.specs.Stored.{StoredTo};
 
-// Where a run stands: before its first line, past a right one, or ended by a wrong one.
+// The stage of a run: before its first line, after a right one, or ended by a wrong one.
 pub enum Stage {
     Starting,
     Running,
     Over,
 }
 
-// A run between two lines; its setting and its collector count while it is running.
+// A run between two lines. Its setting and its collector are used only while it is running.
 pub struct Session {
     pub stage: Stage,
     pub setting: u8,
@@ -46,14 +46,14 @@ pub struct Progress {
     pub written: usize,
 }
 
-// What a run of later lines leaves: the summary of the state, how many bytes of the input they are, and how many were written.
+// The result of a run of later lines: the summary of the state, how many bytes of the input were used, and how many were written.
 struct Merged {
     pub summary: Summary,
     pub used: usize,
     pub written: usize,
 }
 
-// The same with the rows that an archive keeps, and how many lines they are.
+// The same with the number of rows for an archive, and of lines.
 pub struct Stored {
     pub summary: Summary,
     pub used: usize,
@@ -79,8 +79,8 @@ impl Session {
         }
     }
 
-    // Takes lines from the start of `input`, each with its newline, and writes what they give to the front of `out`: the first line of a
-    // run by itself, later lines while the longest row fits. Where the longest row fits and none is taken, there is no whole line.
+    // Takes lines from the start of `input`, each with its newline, and writes what they give to the front of `out`: the first line of a run by
+    // itself, later lines as long as the longest row fits. If the longest row fits and no line is taken, there is no whole line.
     pub fn lines(self, input: &[u8], out: &mut [u8]) -> Progress
         ensures { λ r. ⌜ Ran (phaseOf self) (now (input .entry)) (now (out .entry)) (now (out .exit)) r ⌝ }
     {
@@ -95,7 +95,7 @@ impl Session {
         }
     }
 
-    // The end of the output: BAD where there was no line, the totals after a run, nothing after one that was ended.
+    // Writes the end of the output: BAD if there was no line, the totals after a run, nothing after a run that was ended.
     pub fn put_end(self, out: &mut [u8], at: usize) -> usize
         ensures { λ r. ⌜ PrintedIfFits (now (out .entry)) at (longestEnd (phaseOf self))
             (phaseEnd modelCollector (phaseOf self)) (now (out .exit)) r ⌝ }
@@ -153,7 +153,7 @@ fn nothing(s: Session) -> Progress
     }
 }
 
-// A level is the run's setting, any other line ends the run.
+// A level is the run's setting; any other line ends the run.
 fn begin(setting: Setting) -> Session
     ensures { λ r. ⌜ phaseOf r ≡ afterFirst modelCollector setting ⌝ }
 {
@@ -189,7 +189,7 @@ fn put_first(out: &mut [u8], setting: Setting) -> usize
 
 // ---- later lines
 
-// The test of the state is made once for all of them.
+// Takes later lines. The state is tested once for all of them.
 fn later_lines(setting: u8, c: Collector, input: &[u8], out: &mut [u8]) -> Progress
     ensures { λ r. ⌜ Ran (runningAt setting (viewOf c)) (now (input .entry)) (now (out .entry)) (now (out .exit)) r ⌝ }
 {
@@ -229,7 +229,7 @@ fn later_lines(setting: u8, c: Collector, input: &[u8], out: &mut [u8]) -> Progr
     }
 }
 
-// The state is changed where it lies, in its lent arrays and the summary.
+// The same with a state that is changed in place, in its lent arrays and the summary.
 fn merge_lines<'a>(
     fit: bool,
     setting: u8,
@@ -266,7 +266,7 @@ fn merge_lines<'a>(
             to = text_rows::put_bad(out, to);
             continue;
         }
-        // Behind the time stand a space, two digits for each byte, and the newline.
+        // After the time come a space, two digits for each byte, and the newline.
         let len = l.len;
         let end = at - (2 * len + 2);
         let done = merging::admit(
@@ -290,7 +290,7 @@ fn merge_lines<'a>(
     }
 }
 
-// The same with the rows that an archive keeps, while `most` lines were not taken and a place for a row is left.
+// The same with the rows for an archive, as long as fewer than `most` lines were taken and there is an entry for a row.
 pub fn take_rows<'a>(
     fit: bool,
     setting: u8,
@@ -344,7 +344,7 @@ pub fn take_rows<'a>(
             to = behind;
             continue;
         }
-        // Behind the time stand a space, two digits for each byte, and the newline.
+        // After the time come a space, two digits for each byte, and the newline.
         let len = l.len;
         let end = at - (2 + 2 * len);
         let done = merging::admit(
@@ -371,7 +371,7 @@ pub fn take_rows<'a>(
     }
 }
 
-// The row that an archive keeps of a reception that is KEPT or LOOSE, at place n: how many there are then.
+// Writes the row for an archive of a reception that is KEPT or LOOSE, as entry n. Returns how many there are then.
 fn store_row(
     moments: &mut [u64],
     rows: &mut [u8],
@@ -423,7 +423,7 @@ fn put_record(
     n + 1
 }
 
-// The row of a reception behind the text of its time, with what is sent for it at the setting.
+// Writes the row of a reception after the text of its time, with what is sent for it at the setting.
 fn put_answer(
     out: &mut [u8],
     at: usize,
@@ -456,7 +456,7 @@ fn row_of(answer: Answer) -> Row
 
 // ---- after a wrong first line
 
-// A line that says nothing any more.
+// Skips a line, which has no effect.
 fn skip_line(s: Session, input: &[u8]) -> Progress
     requires { ⌜ phaseOf s ≡ over ⌝ }
     ensures { λ r. ⌜ ((out : List ℕ) → Ran over (now (input .entry)) out out r) ⌝ }

@@ -1,5 +1,5 @@
-// The program: reads standard input, makes the step of `text_print` with each chunk, and writes what it gives. No contract can say what is read and what is
-// written; all else is said by `text_print::step`, of which `text_print::print` makes the whole output.
+// The program: reads standard input, calls `text_print::step` with each chunk, and writes what it gives. Contracts can't say what is read and
+// written; everything else is in the contract of `text_print::step`. `text_print::print` makes the whole output with the same step.
 use libc::STDERR_FILENO;
 use libc::STDIN_FILENO;
 use libc::STDOUT_FILENO;
@@ -10,7 +10,7 @@ pub fn run() {
     run_on(STDIN_FILENO);
 }
 
-// Runs `collect` on what is read from a descriptor. A proved loop has to end, and nothing says that the input does: `left` falls from a number that no
+// Runs `collect` on what is read from a descriptor. A proved loop must end, but an input may never end: so `left` counts down from a number that no
 // run uses up.
 pub fn run_on(input: i32) {
     let mut buffer = text_print::chunk_buffer();

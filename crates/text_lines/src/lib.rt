@@ -1,4 +1,4 @@
-// What the lines say that the program `collect` reads (document 01, "Cases").
+// Reads the lines of the program `collect` (document 01, "Cases").
 ghost use mathlib.Core.Path.{_≡_};
 ghost use mathlib.Core.Bool.{true};
 ghost use Prim.Native.Nat.{ℕ, _+_, _*_, _/_, _%_, _<_, _≤_, min};
@@ -8,14 +8,14 @@ ghost use Rattle.text_lines.specs.Private.{Thirteen, Ended, PutTwo, Copi
 ghost use Rattle.text_lines.specs.Hex.{maxBytes, nibbleOf, Decoded};
 ghost use Rattle.text_lines.specs.Reading.{settingOf, frontOf, badFront, lineOf, bytesIn};
 
-// What the first line says.
+// The content of the first line.
 pub enum Setting {
     Level(u8),
     Bad,
 }
 
-// What the line at the start of a text says: a time and the first `len` of the lent bytes; `used` characters with its newline.
-// All but `used` is zero where it is BAD, and `used` too where no newline ends it.
+// The content of the line at the start of a text: a time and the first `len` of the lent bytes; it has `used` characters with its newline. If it is
+// BAD, all but `used` is zero; if no newline ends it, `used` too.
 pub struct Line {
     pub ok: bool,
     pub time: u64,
@@ -23,27 +23,27 @@ pub struct Line {
     pub used: usize,
 }
 
-// The most bytes that a line says, and the digits that say them.
+// The largest number of bytes in a line, and of their digits.
 pub const MAX_BYTES: usize = 64;
 
 const MAX_DIGITS: usize = 2 * MAX_BYTES;
 
-// A line this long is BAD, whatever else it has.
+// A line of this length is always BAD.
 pub const LINE_LIMIT: usize = 150;
 
-// What digits say.
+// The value of digits.
 enum Number {
     Value(u64),
     Bad,
 }
 
-// The time at the start of a text, and how many digits say it.
+// The time at the start of a text, and how many digits it has.
 enum Timed {
     At(u64, usize),
     Bad,
 }
 
-// The repeater setting that the first line says.
+// Reads the repeater setting in the first line.
 pub fn parse_setting(line: &[u8]) -> Setting
     ensures { λ r. ⌜ r ≡ settingOf (now (line .entry)) ⌝ }
 {
@@ -59,7 +59,7 @@ pub fn parse_setting(line: &[u8]) -> Setting
     Setting::Bad
 }
 
-// The reception that the line at the start of a text says, its bytes at the front of `bytes`, zero filled.
+// Reads the reception in the line at the start of a text; its bytes are at the front of `bytes`, filled with zeros.
 pub fn parse(text: &[u8], bytes: &mut [u8; MAX_BYTES]) -> Line
     ensures { λ r. ⌜ (r ≡ lineOf (frontOf (now (text .entry))))
         × (now (bytes .exit) ≡ bytesIn (frontOf (now (text .entry)))) ⌝ }
@@ -85,7 +85,7 @@ pub fn parse(text: &[u8], bytes: &mut [u8; MAX_BYTES]) -> Line
     }
 }
 
-// The answer for a line that says no reception.
+// The answer for a line without a reception.
 fn bad_line(text: &[u8], bytes: &mut [u8; MAX_BYTES]) -> Line
     ensures { λ r. ⌜ (r ≡ lineOf (badFront (now (text .entry)))) × (now (bytes .exit) ≡ replicate maxBytes 0) ⌝ }
 {
@@ -108,7 +108,7 @@ fn bad_line(text: &[u8], bytes: &mut [u8; MAX_BYTES]) -> Line
     }
 }
 
-// The time at the start of a text. In ms it has thirteen digits from 2001 to 2286: these are read at once.
+// Reads the time at the start of a text. In ms it has thirteen digits from 2001 to 2286: these are read at once.
 fn parse_time(text: &[u8]) -> Timed
     ensures { λ r. ⌜ r ≡ timedOf (now (text .entry)) ⌝ }
 {
@@ -120,7 +120,7 @@ fn parse_time(text: &[u8]) -> Timed
     read_time(text)
 }
 
-// Whether thirteen digits and a space stand at the start of a text, the first digit no zero.
+// Whether a text begins with thirteen digits and a space, and the first digit is not 0.
 fn has_thirteen(text: &[u8]) -> bool
     requires { ⌜ 13 < length (now text) ⌝ }
     ensures { λ r. ⌜ (r ≡ true → Thirteen (now (text .entry))) ⌝ }
@@ -128,7 +128,7 @@ fn has_thirteen(text: &[u8]) -> bool
     (are_digits(text, 0) & are_digits(text, 5)) & ((text[0] != 48) & (text[13] == 32))
 }
 
-// Whether eight characters are digits: no branch is taken before all are looked at, so that they are looked at in one vector.
+// Whether eight characters are digits. There is no branch before all are read, so they are tested in one vector.
 fn are_digits(text: &[u8], from: usize) -> bool
     requires { ⌜ from + 8 ≤ length (now text) ⌝ }
     ensures { λ r. ⌜ (r ≡ true → (k : ℕ) → k < 8 → isDigit (getD (now (text .entry)) (from + k) 0) ≡ true) ⌝ }
@@ -146,7 +146,7 @@ fn is_digit(c: u8) -> bool
     (48 <= c) & (c < 58)
 }
 
-// The number that thirteen digits say: none of so many passes 64 bits.
+// The number of thirteen digits, which always fits 64 bits.
 fn thirteen(text: &[u8]) -> u64
     requires { ⌜ Thirteen (now text) ⌝ }
     ensures { λ r. ⌜ r ≡ decimalOf (take 13 (now (text .entry))) ⌝ }
@@ -158,7 +158,7 @@ fn thirteen(text: &[u8]) -> u64
     n
 }
 
-// The time at the start of a text: digits up to the first character that no number goes on with, which has to be a space.
+// Reads the time at the start of a text: digits up to the first character that does not continue the number, which must be a space.
 fn read_time(text: &[u8]) -> Timed
     ensures { λ r. ⌜ r ≡ timedOf (now (text .entry)) ⌝ }
 {
@@ -183,7 +183,7 @@ fn read_time(text: &[u8]) -> Timed
     Timed::Bad
 }
 
-// n with the digit c behind it.
+// n with the digit c appended.
 fn append(n: u64, c: u8) -> Number
     ensures { λ r. ⌜ r ≡ appended n c ⌝ }
 {
@@ -204,7 +204,7 @@ fn append(n: u64, c: u8) -> Number
     Number::Value(m + d)
 }
 
-// Writes the bytes of the pairs of digits at the front of s to the front of `bytes`, MAX_BYTES at most, and answers how many they are.
+// Writes the bytes of the pairs of digits at the front of s to the front of `bytes`, at most MAX_BYTES, and returns how many there are.
 fn decode(s: &[u8], bytes: &mut [u8; MAX_BYTES]) -> usize
     ensures { λ r. ⌜ Decoded (now (s .entry)) (now (bytes .exit)) r ⌝ }
 {
@@ -219,8 +219,8 @@ fn decode(s: &[u8], bytes: &mut [u8; MAX_BYTES]) -> usize
     n
 }
 
-// How many pairs stand before a newline, if they are digits: 8 to 24, which is every length of a subtelegram. 0 where there is none, or where
-// less than 24 pairs and a newline can be looked at.
+// How many pairs of characters come before a newline: 8 to 24, which includes every length of a subtelegram. 0 if there is no such newline, or if the
+// text is too short for 24 pairs and a newline. It does not test whether they are digits.
 fn count_pairs(s: &[u8]) -> usize
     ensures { λ r. ⌜ (0 < r → Ended (now (s .entry)) r) ⌝ }
 {
@@ -237,7 +237,7 @@ fn count_pairs(s: &[u8]) -> usize
     0
 }
 
-// Writes the bytes of n pairs to the front of zeros, eight at a time, the last eight where the pairs end; whether all are of digits.
+// Writes the bytes of n pairs to the front of zeros, eight at a time; the last eight end where the pairs end. Returns whether all are digits.
 fn decode_at_once(s: &[u8], n: usize, bytes: &mut [u8; MAX_BYTES]) -> bool
     requires { ⌜ Ended (now s) n × (now bytes ≡ replicate maxBytes 0) ⌝ }
     ensures { λ r. ⌜ (r ≡ true → Decoded (now (s .entry)) (now (bytes .exit)) n) ⌝ }
@@ -251,8 +251,8 @@ fn decode_at_once(s: &[u8], n: usize, bytes: &mut [u8; MAX_BYTES]) -> bool
     put_two(s, 8, n - 8, bytes)
 }
 
-// Writes the bytes of the eight pairs from pair i on, and of those from pair j on, to their places; whether all are of digits. No branch is taken
-// on a character, so that they are read sixteen in one vector.
+// Writes the bytes of the eight pairs from pair i on, and of those from pair j on. Returns whether all are digits. There is no branch on a character,
+// so sixteen pairs are read in one vector.
 fn put_two(s: &[u8], i: usize, j: usize, bytes: &mut [u8; MAX_BYTES]) -> bool
     requires { ⌜ (i + 8 ≤ maxBytes) × (j + 8 ≤ maxBytes) × (2 * i + 16 ≤ length (now s)) × (2 * j + 16 ≤ length (now s)) ⌝ }
     ensures { λ r. ⌜ PutTwo (now (s .entry)) i j (now (bytes .entry)) (now (bytes .exit)) r ⌝ }
@@ -267,7 +267,7 @@ fn put_two(s: &[u8], i: usize, j: usize, bytes: &mut [u8; MAX_BYTES]) -> bool
     are_nibbles(v)
 }
 
-// Copies n bytes from one place of a slice to a place of another.
+// Copies n bytes of a slice into another slice.
 pub fn copy_part(src: &[u8], from: usize, n: usize, dst: &mut [u8], to: usize)
     requires { ⌜ (from + n ≤ length (now src)) × (to + n ≤ length (now dst)) ⌝ }
     ensures { λ _. ⌜ CopiedPart (now (src .entry)) from n (now (dst .entry)) to (now (dst .exit)) ⌝ }
@@ -288,7 +288,7 @@ fn nibbles(c: [u8; 32]) -> [u8; 32]
     v
 }
 
-// Whether all are of digits.
+// Whether all are digits.
 fn are_nibbles(v: [u8; 32]) -> bool
     ensures { λ r. ⌜ (r ≡ true → (k : ℕ) → k < 32 → getD v k 0 < 16) ⌝ }
 {
@@ -299,7 +299,7 @@ fn are_nibbles(v: [u8; 32]) -> bool
     all
 }
 
-// The bytes of pairs.
+// The bytes of these pairs.
 fn joined(v: [u8; 32]) -> [u8; 16]
     ensures { λ r. ⌜ (length r ≡ 16) × ((k : ℕ) → k < 16
         → getD r k 0 ≡ getD v (2 * k) 0 % 16 * 16 + getD v (2 * k + 1) 0 % 16) ⌝ }
@@ -311,7 +311,7 @@ fn joined(v: [u8; 32]) -> [u8; 16]
     b
 }
 
-// The same one pair after the other, for any text.
+// The same, one pair after the other, for any text.
 fn decode_pairs(s: &[u8], bytes: &mut [u8; MAX_BYTES]) -> usize
     ensures { λ r. ⌜ Decoded (now (s .entry)) (now (bytes .exit)) r ⌝ }
 {
@@ -331,7 +331,7 @@ fn decode_pairs(s: &[u8], bytes: &mut [u8; MAX_BYTES]) -> usize
     i
 }
 
-// The value of c as a hexadecimal digit, or 16.
+// The value of c as a hexadecimal digit; 16 for any other character.
 fn nibble(c: u8) -> u8
     ensures { λ r. ⌜ r ≡ nibbleOf c ⌝ }
 {
@@ -347,7 +347,7 @@ fn nibble(c: u8) -> u8
     16
 }
 
-// How many pairs n characters are, MAX_BYTES at most.
+// How many pairs n characters are, at most MAX_BYTES.
 fn pairs_of(n: usize) -> usize
     ensures { λ r. ⌜ r ≡ min (n / 2) maxBytes ⌝ }
 {

@@ -1,5 +1,5 @@
-// What `collect` prints (document 01, "Cases"). `step` makes the text of a chunk; the program reads, calls it and writes, and `print` goes through a whole
-// input by it.
+// What `collect` prints (document 01, "Cases"). `step` makes the text of a chunk. The program reads, calls it and writes; `print` does the same for a
+// whole input.
 use base_refusal::Refusal;
 use radio_telegram::frame::Built;
 use text_collect::Session;
@@ -21,13 +21,14 @@ ghost use Rattle.text_print.specs.Step.{chunk, capacity, longestFinish, 
 ghost use Rattle.text_print.specs.Print.{printResult};
 ghost use Rattle.text_print.specs.Private.{Drained, Passed};
 
-// The most characters of a chunk, and room for what they give: a line gives at most fifteen characters for each of its own, its newline included, and the
-// end at most 258.
+// The length of a chunk, and room for what it gives: a line gives at most fifteen characters for each of its own characters, with its newline, and
+// the end at most 258.
 pub const CHUNK: usize = 16384;
 
 pub const CAPACITY: usize = 15 * CHUNK + 512;
 
-// The session after a chunk, how much of a line that has not ended stands at the front of the buffer, how much was written, and whether that was all.
+// The session after a chunk, how much of a line that has not ended is kept at the front of the buffer, how much was written, and whether the run has
+// ended.
 pub struct Turn {
     pub session: Session,
     pub kept: usize,
@@ -61,8 +62,8 @@ pub fn text_buffer() -> [u8; CAPACITY]
     [0; CAPACITY]
 }
 
-// Takes the first `end` characters of the buffer, all of them at most, from the start of a line on; `last` says that the input ends with them. What they
-// give goes to the front of `out`, and what is kept of a line that has not ended to the front of the buffer.
+// Takes the first `end` characters of the buffer, or all of them, from the start of a line on; `last` says that the input ends with them. What they
+// give goes to the front of `out`; what is kept of a line that has not ended goes to the front of the buffer.
 pub fn step(
     s: Session,
     buffer: &mut [u8; CHUNK],
@@ -122,7 +123,7 @@ fn is_over(s: Session) -> bool
     }
 }
 
-// Takes all whole lines of the input, as often as `lines` stops.
+// Takes all whole lines of the input; `lines` is called again each time it stops.
 fn take_lines(s: Session, input: &[u8], out: &mut [u8]) -> Drain
     requires { ⌜ (length (now input) ≤ chunk) × (length (now out) ≡ capacity) ⌝ }
     ensures { λ r. ⌜ Drained (phaseOf s) (now (input .entry)) (now (out .entry)) (now (out .exit)) r ⌝ }
@@ -147,7 +148,7 @@ fn take_lines(s: Session, input: &[u8], out: &mut [u8]) -> Drain
     }
 }
 
-// Writes the end of the output: what is kept of a line counts as one more.
+// Writes the end of the output; what is kept of a line counts as one more line.
 fn finish(s: Session, line: &[u8], out: &mut [u8]) -> usize
     requires { ⌜ (length (now line) ≤ lineLimit) × (isUnended (now line) ≡ true) × (longestFinish ≤ length (now out)) ⌝ }
     ensures { λ r. ⌜ Printed (now (out .entry)) 0
@@ -169,7 +170,7 @@ fn finish(s: Session, line: &[u8], out: &mut [u8]) -> usize
 
 // ---- a whole input
 
-// Writes what `collect` prints for the input to the front of the output: 6 where it does not fit, and then the output is as it was.
+// Writes what `collect` prints for the input to the front of the output. Refused: 6 if it does not fit; then the output is unchanged.
 pub fn print(input: &[u8], out: &mut [u8]) -> Built
     ensures { λ r. ⌜ resultOf r (now (out .exit)) ≡ printResult (now (input .entry)) (now (out .entry)) ⌝ }
 {
@@ -181,7 +182,7 @@ pub fn print(input: &[u8], out: &mut [u8]) -> Built
     Built::Done(q.written)
 }
 
-// Goes through the input as the program does, chunk by chunk, and writes what is printed where it is told to.
+// Reads the input as the program does, chunk by chunk, and writes what is printed if `write` is true.
 fn go_through(write: bool, input: &[u8], out: &mut [u8]) -> Pass
     ensures { λ r. ⌜ Passed write (now (input .entry)) (now (out .entry)) (now (out .exit)) r ⌝ }
 {
@@ -216,7 +217,7 @@ fn go_through(write: bool, input: &[u8], out: &mut [u8]) -> Pass
     }
 }
 
-// What a read does: puts more of the input behind what is kept, as much as there is room for.
+// Does what a read does: copies more of the input after what is kept, as much as there is room for.
 fn read_some(input: &[u8], at: usize, buffer: &mut [u8], kept: usize) -> usize
     requires { ⌜ (at ≤ length (now input)) × (kept ≤ chunk) × (length (now buffer) ≡ chunk) ⌝ }
     ensures { λ r. ⌜ (r ≡ min (length (now (input .entry)) - at) (chunk - kept))
@@ -229,7 +230,7 @@ fn read_some(input: &[u8], at: usize, buffer: &mut [u8], kept: usize) -> usize
     n
 }
 
-// What a write does, if it is to.
+// Does what a write does, if `write` is true.
 fn write_some(write: bool, text: &[u8], n: usize, out: &mut [u8], to: usize)
     requires { ⌜ (n ≤ length (now text)) × (to + n ≤ length (now out)) ⌝ }
     ensures { λ _. ⌜ now (out .exit) ≡ cond write (sets (now (out .entry)) to (take n (now (text .entry)))) (now (out .entry)) ⌝ }

@@ -1,12 +1,12 @@
-// A program over the lines of its input, in one piece or in chunks: definitions and laws are in specs/ and proofs/. The code here is what
-// such a program does with its buffer and no collector has a part in.
+// A program over the lines of its input, in one piece or in chunks: definitions and laws are in specs/ and proofs/. The code here is what such a
+// program does with its buffer, without a collector.
 ghost use mathlib.Core.Path.{_≡_};
 ghost use Prim.Native.Nat.{_+_, _≤_};
 ghost use lib.ListN.{length, take, drop};
 ghost use lib.Seq.{sets};
 ghost use Rattle.text_program.specs.Buffer.{Carried};
 
-// Moves what is kept of a line that has not ended yet, which stands from `from` to `end`, to the front of the buffer, and answers its length.
+// Moves what is kept of a line that has not ended, from `from` to `end`, to the front of the buffer, and returns its length.
 pub fn carry(buffer: &mut [u8], from: usize, end: usize) -> usize
     ensures { λ r. ⌜ Carried (now (buffer .entry)) from end (now (buffer .exit)) r ⌝ }
 {

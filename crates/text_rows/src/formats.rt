@@ -1,5 +1,4 @@
-// The rows of a run in three formats (docs/FORMATS.md, "Rows"): as `collect` prints them, comma-separated, and as
-// JSON, an object on each line.
+// The rows of a run in three formats (docs/FORMATS.md, "Rows"): as `collect` prints them, comma-separated, and as JSON with an object on each line.
 use crate::Row;
 ghost use mathlib.Core.Path.{_≡_};
 ghost use mathlib.Core.Bool.{true};
@@ -20,7 +19,7 @@ pub enum Format {
     Json,
 }
 
-// Where a telegram came from: TXID, RORG (the inner one of an addressed telegram) and the level, where they are known.
+// Where a telegram came from: TXID, RORG (the inner one of an addressed telegram) and the level, if they are known.
 pub struct Source {
     pub known: bool,
     pub txid: [u8; 4],
@@ -28,7 +27,7 @@ pub struct Source {
     pub level: u8,
 }
 
-// The longest row in any format, but its time and two characters for each byte that was heard or is sent.
+// The longest row in any format, without its time and without two characters for each byte that was received or is sent.
 pub const LONGEST_ROW: usize = 143;
 
 // The longest row of a line that is BAD.
@@ -37,7 +36,7 @@ pub const LONGEST_BAD: usize = 17;
 // The longest heading.
 pub const LONGEST_HEADING: usize = 50;
 
-// The row of a reception behind the text of its time, as it was read.
+// Writes the row of a reception after the text of its time, as it was read.
 pub fn put_row(
     out: &mut [u8],
     at: usize,
@@ -78,7 +77,7 @@ pub fn put_bad(out: &mut [u8], at: usize, format: Format) -> usize
     }
 }
 
-// What stands before the rows.
+// Writes the heading before the rows.
 pub fn put_heading(out: &mut [u8], at: usize, format: Format) -> usize
     ensures { λ r. ⌜ PrintedIfFits (now (out .entry)) at longestHeading (headingIn format) (now (out .exit)) r ⌝ }
 {

@@ -1,5 +1,5 @@
-// The lines that the program `collect` writes (document 01, "Cases"). Each function writes to a lent buffer from `at` on and answers the
-// position behind its text; where the longest such text would not fit it writes nothing and answers `at`.
+// Writes the lines of the program `collect` (document 01, "Cases"). Each function writes into a lent buffer from `at` on and returns the position
+// after its text. If the longest such text would not fit, it writes nothing and returns `at`.
 pub mod formats;
 
 ghost use mathlib.Core.Path.{_≡_};
@@ -12,7 +12,7 @@ ghost use Rattle.base_buffers.specs.Printed.{Printed, PrintedIfFits};
 ghost use Rattle.text_rows.specs.Longest.{longestNumber, longestAnswer, longestRow, longestTotals};
 ghost use Rattle.text_rows.specs.Private.{DigitsOf};
 
-// What the row of a reception says; a refusal by its number.
+// The answer in the row of a reception; a refusal has its number.
 pub enum Row {
     Kept,
     Copy,
@@ -20,7 +20,7 @@ pub enum Row {
     Refused(u8),
 }
 
-// The longest number, and the longest row behind its time that sends nothing, or more; each byte to send takes two characters more.
+// The longest number; and the longest row, without its time and without two characters for each byte to send.
 pub const LONGEST_NUMBER: usize = 20;
 
 pub const LONGEST_ROW: usize = 30;
@@ -31,7 +31,7 @@ pub const BAD_LENGTH: usize = 4;
 // The longest line of totals.
 pub const LONGEST_TOTALS: usize = 166;
 
-// The row of a reception behind the text of its time, as it was read; `sent` is what KEPT sends.
+// Writes the row of a reception after the text of its time, as it was read; `sent` is what KEPT sends.
 pub fn put_row(out: &mut [u8], at: usize, time: &[u8], row: Row, sent: &[u8]) -> usize
     ensures { λ r. ⌜ PrintedIfFits (now (out .entry)) at
         (longestRow (length (now (time .entry))) (length (now (sent .entry))))
@@ -76,7 +76,7 @@ pub fn put_totals(
     write_totals(out, at, received, kept, copies, loose, damaged, late)
 }
 
-// Whether `fixed` characters and two for each of so many bytes fit from `at` on.
+// Whether `fixed` characters, and two for each of `bytes` bytes, fit from `at` on.
 fn has_capacity(capacity: usize, at: usize, fixed: usize, bytes: usize) -> bool
     ensures { λ r. ⌜ r ≡ leb (at + (fixed + 2 * bytes)) capacity ⌝ }
 {
@@ -163,7 +163,8 @@ fn write_count(out: &mut [u8], at: usize, name: &[u8], n: u64) -> usize
     write_decimal(out, from, n)
 }
 
-// Short texts and those of 8 to 16 characters, as nearly all times are, are the usual ones: the latter are written as two blocks of eight, which meet.
+// Writes a text. Most texts are short, or have 8 to 16 characters, as nearly all times do: the latter are written as two blocks of eight, which may
+// overlap.
 fn write(out: &mut [u8], at: usize, s: &[u8]) -> usize
     requires { ⌜ at + length (now s) ≤ length (now out) ⌝ }
     ensures { λ r. ⌜ Printed (now (out .entry)) at (now (s .entry)) (length (now (s .entry))) (now (out .exit)) r ⌝ }
@@ -191,7 +192,7 @@ fn write_each(out: &mut [u8], at: usize, s: &[u8]) -> usize
     at + s.len()
 }
 
-// Copies eight characters, by an array: nothing else says that the two slices do not meet.
+// Copies eight characters through an array, because the compiler does not know that the two slices do not overlap.
 fn put_eight(out: &mut [u8], at: usize, s: &[u8], from: usize)
     requires { ⌜ (from + 8 ≤ length (now s)) × (at + 8 ≤ length (now out)) ⌝ }
     ensures { λ _. ⌜ CopiedPart (now (s .entry)) from 8 (now (out .entry)) at (now (out .exit)) ⌝ }
@@ -210,7 +211,7 @@ fn write_decimal(out: &mut [u8], at: usize, n: u64) -> usize
     write(out, at, &digits[from..LONGEST_NUMBER])
 }
 
-// Writes n in decimal to the end of `digits`, and answers where it starts. Two digits at a time: a division by 100 costs as much as one by 10.
+// Writes n in decimal to the end of `digits`, and returns where it starts. Two digits at a time: a division by 100 costs as much as one by 10.
 fn spell(n: u64, digits: &mut [u8]) -> usize
     requires { ⌜ length (now digits) ≡ longestNumber ⌝ }
     ensures { λ r. ⌜ (r ≤ longestNumber) × (drop r (now (digits .exit)) ≡ decimalText n) ⌝ }
@@ -233,7 +234,7 @@ fn spell(n: u64, digits: &mut [u8]) -> usize
     i - 2
 }
 
-// The digits of bytes: those of 8 to 24, as telegrams have them, eight at a time, the last eight where the bytes end.
+// Writes the digits of bytes. 8 to 24 bytes, as in telegrams, are written eight at a time; the last eight end where the bytes end.
 fn write_hex(out: &mut [u8], at: usize, s: &[u8]) -> usize
     requires { ⌜ at + 2 * length (now s) ≤ length (now out) ⌝ }
     ensures { λ r. ⌜ Printed (now (out .entry)) at
@@ -267,7 +268,7 @@ fn put_digits(out: &mut [u8], at: usize, s: &[u8], from: usize)
     text_lines::copy_part(&d, 0, 16, out, at);
 }
 
-// The digits of eight bytes, in an array of its own: nothing else says that the two slices do not meet.
+// The digits of eight bytes, in an array of its own, because the compiler does not know that the two slices do not overlap.
 fn digits_of(s: &[u8], from: usize) -> [u8; 16]
     requires { ⌜ from + 8 ≤ length (now s) ⌝ }
     ensures { λ r. ⌜ DigitsOf (now (s .entry)) from r ⌝ }
