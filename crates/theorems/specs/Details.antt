@@ -110,7 +110,7 @@ pub record SlotPlans : Type 0 where
 pub record Model : Type 0 where
   -- A copy is counted for the latest open telegram that is the same, and for no other.
   pub latest-is-credited : collector_model_latest.LatestCredited
-  -- A restore accepts several entries of one telegram just where each was opened more than 40 ms after the one before and has level 0.
+  -- A restore accepts several entries of one telegram exactly if each but the first was opened more than 40 ms after the one before and has level 0.
   pub several-entries-are-apart : collector_model_several.SeveralEntries
   -- Each copy is counted for one telegram: the numbers of copies sum to the total of copies.
   pub copies-count-once : collector_model_copies.EachCountedOnce
@@ -144,21 +144,21 @@ pub record Code : Type 1 where
   pub bytes-tell-replies : history_calls_answers.RepliesBack
   -- After any calls of the library, the collector's state is the model's.
   pub code-state-follows-model : history_calls.ArraysLeft
-  -- After any calls, each element of the collector's arrays is known, also those behind the open telegrams, and also beside a refusal.
+  -- After any calls, each element of the collector's arrays is known, also those after the open telegrams, and also after a refusal.
   pub every-element-is-known : history_calls.ArraysElements
-  -- There is a second set of calls, which take the state and return the next one. It follows the model too,
+  -- A second set of calls, which take the state and return the next one, follows the model too.
   pub value-calls-follow-model : history_calls.ValuesAgree
-  -- gives the same answers to the same receptions, one by one or in groups,
+  -- It gives the same answers to the same receptions, one by one or in groups.
   pub value-groups-change-nothing : history_calls.ValuesDivide
-  -- leaves the model's state,
+  -- It leaves the model's state.
   pub value-state-follows-model : history_calls.ValuesLeft
-  -- answers one sensor without regard to others,
+  -- Its answers to one sensor do not depend on other sensors, as long as none is loose and time does not go back.
   pub value-sensors-are-independent : history_calls.ValuesIsolated
-  -- and leaves each element of the arrays as the library's calls do.
+  -- It leaves each element of the arrays as the library's calls do.
   pub value-elements-are-known : history_calls.ValuesElements
   -- A run of receptions may test its first state only: the test gives the same result for every later state.
   pub one-test-is-enough : collector_state.ToldRightly
-  -- The library's call that is told the result of the test is the call that tests, if the result is right; after a refusal no open telegram is changed.
+  -- The library's call that gets the result of the test from its caller does what the call that tests does, if the result is right. After a refusal no open telegram is changed.
   pub told-call-takes : c_collector.ToldTakes
   -- After each reception, the telegram that the code sends on is the one that the model says.
   pub sent-follows-model : collector_state.RelayedSent
@@ -170,7 +170,7 @@ pub record Code : Type 1 where
 pub record Records : Type 0 where
   -- Two runs with the same record showed the same.
   pub records-tell-all : history_replay_model.ReadsBack
-  -- No number of the model is too large for its place in the record.
+  -- No number of the model is too large for its field in the record.
   pub records-hold-model : history_replay_model.ReferenceWhole
   -- The length of a record depends on the calls alone.
   pub record-length-is-known : history_replay_model.Sized
@@ -204,7 +204,7 @@ pub record Lines : Type 1 where
   pub formats-follow-model : text_collect_formats.FormatsPrint
   -- A run in any format that goes on from any state gives the same, however the input is cut.
   pub format-cuts-change-nothing : text_collect_formats.FormatsInPieces
-  -- In the format text it is what `collect` prints.
+  -- In the format text, such a run gives what `collect` prints.
   pub text-is-printed : text_collect_formats.TextAsPrinted
   -- The rows for an archive and the count of lines are the same however the input is cut.
   pub row-cuts-change-nothing : text_collect.RowsInPieces
@@ -216,25 +216,25 @@ pub record Lines : Type 1 where
   pub rows-are-storable : history_archived.ArchivedStorable
   -- What the lines of a log give as closings is what the log closes, 32 bytes for each telegram.
   pub log-closings-follow-model : history_archived_closed.LogClosed
-  -- Further lines too, from any state on.
+  -- Further lines close what the model closes too, from any state on.
   pub later-closings-follow-model : history_archived_closed.LinesClosed
-  -- What lines close, and what is open behind them, are the kept receptions, in order, each once and with its copies.
+  -- What lines close, and then what is open after them, are the kept receptions, in order, each once and with its copies.
   pub lines-close-once : history_archived_closed.LinesCloseOnce
   -- From any arrays on, without a restart, each element of a collector's arrays after calls of `lines` is what the lines make of it.
   pub calls-lay-elements : history_archived_runs.CallsLay
-  -- After calls of `lines_as` too.
+  -- The same holds after calls of `lines_as`.
   pub format-calls-lay-elements : history_archived_runs.CallsLayAs
-  -- Of the same text, with the same limit, `skip_lines` passes over what `lines` or `lines_as` takes, if these leave room for what one line more may give.
+  -- In the same text, with the same limit, `skip_lines` skips what `lines` or `lines_as` takes, if these leave room for what one more line may give.
   pub skipped-as-taken : history_archived_places.SkipsAsTaken
-  -- At one setting, in one format, the state, the text, the limit and the lengths of the outputs decide how many lines a call of `lines` or `lines_as` takes.
+  -- With a fixed setting and format, the state, the text, the limit and the lengths of the outputs decide how many lines a call of `lines` or `lines_as` takes.
   pub stops-are-decided : history_archived_places.StopsDecided
   -- Called line by line, `read_line` says of each line what `lines` and `lines_as` took of it.
   pub read-as-taken : history_archived_places.ReadsAgree
   -- If `read_line` answers 4, no line has ended.
   pub unended-is-not-read : history_archived_places.NoneRead
-  -- If calls write one behind the other into a shared buffer for text, times or records, it is as it was behind all that they wrote.
+  -- If calls write one after the other into a shared buffer for text, times or records, the rest of the buffer is unchanged.
   pub outputs-stay : history_archived_outputs.OutputsStay
-  -- So is a shared buffer for closings.
+  -- The same holds for a shared buffer for closings.
   pub closings-stay : history_archived_outputs.ClosingsStay
   -- A log kept in any archive is read back: the rows that were there, and then the model's, in order.
   pub kept-log-reads-back : history_log.KeptReadBack
@@ -246,9 +246,9 @@ pub record Rows : Type 1 where
   pub rows-decide : history_rows_alone.RowsAlone
   -- The same holds from the middle of a history on.
   pub rows-decide-from-middle : history_rows_alone.RowsAloneSince
-  -- It holds for the states of any program whose calls meet the contracts,
+  -- It holds for the states of any program whose calls meet the contracts.
   pub contracts-give-rows : {State : Type 0} (view : State → View) → history_rows_states.StatesRowsAlone view
-  -- and from a state that was restored in the middle.
+  -- It holds from a state that was restored in the middle too.
   pub restored-give-rows : {State : Type 0} (view : State → View) → history_rows_states.RestoredRowsAlone view
   -- Each row is a valid telegram with a time of 64 bits, so an archive accepts it.
   pub rows-fit-archive : history_rows_again.RowsFit
@@ -262,9 +262,9 @@ pub record Rows : Type 1 where
   pub contracts-give-recovery : {State : Type 0} (view : State → View) → history_rows_recovered.RecoveredGoesOn view
   -- In the model, each telegram that was opened closes once, in order, with its number of copies, or is still open.
   pub telegrams-close-once : history_rows_closings.ClosedOnce
-  -- The same holds for the states of the collector, with the number of copies counted from the answers,
+  -- The same holds for the states of the collector, with the number of copies counted from the answers.
   pub views-close-once : history_rows_closings.ViewsClosedOnce
-  -- and for any program whose calls meet the contracts.
+  -- It holds for any program whose calls meet the contracts.
   pub contracts-close-once : {State : Type 0} (view : State → View) → history_rows_closings.StatesClosedOnce view
   -- A short history, worked out: its answers, its rows, what closed and what is open.
   pub example-is-worked : history_rows_example.Worked
@@ -284,53 +284,53 @@ pub record Journal : Type 0 where
   pub runs-can-finish : journal_model.Finishes
   -- If the front of a file is an archive, all its rows are found.
   pub whole-front-is-found : journal_model.FoundLongest
-  -- Of the blocks with rows that it finds, a start changes none, except a torn one, which it mends. What stands behind a gap is not found.
+  -- A start changes no block with rows that it finds, except a torn one, which it mends. Rows after a gap are not found.
   pub sound-blocks-stay : journal_model.Untouched
-  -- After a start that is not refused, an archive of one file has the counted rows, and leftovers behind them.
+  -- After a start that is not refused, an archive of one file has the counted rows, and then leftovers.
   pub leftovers-are-rows : journal_model.StartCounts
   -- A start changes no byte of such an archive.
   pub start-keeps-leftovers : journal_model.StartKeeps
-  -- If the leftovers begin with the rows that come, nothing is written and nothing is put aside.
+  -- If the leftovers begin with the new rows, nothing is written and nothing is put aside.
   pub equal-rows-write-nothing : journal_model.EqualRowsWriteNothing
   -- A batch destroys no row: each stays in the archive or is put aside.
   pub batch-destroys-nothing : journal_model.BatchDestroysNothing
-  -- Nor does the end of the log.
+  -- The end of the log destroys no row either.
   pub end-destroys-nothing : journal_model.EndDestroysNothing
-  -- Nor does a crash within a batch: the log gives the row again, or the row is put aside before.
+  -- A crash within a batch destroys no row either: the log gives the row again, or the row was put aside before.
   pub crash-destroys-nothing : journal_model.CrashDestroysNothing
   -- The line of a row gives the collector the reception that the row was.
   pub row-is-handed-over : journal_model.HandedOver
-  -- With a live feed, the rows that are counted at any moment stay in their places.
+  -- With a live feed, the rows that are counted at some time stay at their positions.
   pub live-rows-stay : journal_model.LiveKept
-  -- If the collector answers the leftovers as they stand, nothing is written and every row is counted.
+  -- If the collector gives the leftovers again as the archive has them, nothing is written and every row is counted.
   pub leftovers-are-counted : journal_model.LeftoversTakenIn
   -- Whatever it answers, each row stays in the archive or is put aside.
   pub live-destroys-nothing : journal_model.LiveDestroysNothing
-  -- The rows that lines gave, handed over again after the same lines, are given again.
+  -- If the rows that lines gave are handed over again after the same earlier lines, the same rows are given again.
   pub rows-are-given-again : journal_model.RowsAlone
-  -- So leftovers of lines that were on their way are all taken in.
+  -- So leftovers of lines that were on their way at a crash are all taken in.
   pub leftovers-are-taken-in : journal_model.AllTakenIn
-  -- The judgement on the last counted block refuses what the model refuses, and else leaves the block that the model goes on from.
+  -- The judgement on the last counted block refuses what the model refuses, and else gives the block that the model continues with.
   pub blocks-are-judged : journal_calls.Judged
   -- A scan counts the rows and blocks that the model finds from a block on.
   pub scans-count-the-run : journal_calls.RunCounts
-  -- Blocks that are scanned in two pieces leave what they leave in one.
+  -- Blocks that are scanned in two pieces give what they give in one.
   pub scans-go-by-pieces : journal_calls.RunJoins
-  -- The five numbers of a scan hold it.
+  -- Five numbers hold all that a scan knows.
   pub scans-are-held : journal_calls.RunBack
   -- The numbers that a scan leaves are accepted by its next call.
   pub scans-go-on : journal_calls.RunAccepted
   -- Numbers of a scan that are accepted are those that some blocks give.
   pub scans-are-exact : journal_calls.RunGiven
-  -- In the file of `--out`, the rows of each format stand once, in the order of their lines; before them its heading, just where the file was empty.
+  -- In the file of `--out`, the rows of each format are there once, in the order of their lines. Its heading is before them if the file was empty.
   pub formats-are-in-the-file-once : journal_model_out.OnceInFormat
-  -- For a first line that says a level nothing is written to that file.
+  -- A first line that says a level writes nothing to that file.
   pub first-line-writes-nothing : journal_model_out.FirstLineSilent
   -- A lawful state that is written is accepted, and reads back as it was.
   pub states-read-back : journal_state.StateRead
-  -- An accepted state file is lawful, and is byte for byte what is written of it.
+  -- The state in an accepted file is lawful, and the file is byte for byte what is written for that state.
   pub states-are-exact : journal_state.StateWritten
-  -- A lawful state with one archive file is a state of the model: its copy of the last block is one that the tool writes.
+  -- A lawful state whose archive is one file, with which the collector began, is a state of the model: its copy of the last block is one that the tool writes.
   pub states-are-modelled : journal_state.StateModelled
 
 -- ---- archives
@@ -356,7 +356,7 @@ pub record Archives : Type 0 where
   pub undamaged-is-unchanged : archive_repack_model.Intact
   -- A second salvage changes nothing.
   pub second-salvage-is-same : archive_repack_model.SalvagedAgain
-  -- Salvage writes no byte behind its result, and none at all if it is refused.
+  -- Salvage writes no byte after its result, and none at all if it is refused.
   pub rest-is-untouched : (buffer output positions : List ℕ) → archive_repack_model.Untouched buffer output positions
   -- A second removal of the same sensors changes nothing.
   pub second-removal-is-same : archive_repack_model.RemovedAgain
@@ -374,7 +374,7 @@ pub record Archives : Type 0 where
   pub second-cut-is-same : archive_cut.CutAgain
   -- If the rows that were cut off are appended again, the bytes are the old ones.
   pub cut-is-undone : archive_cut.Undone
-  -- A cut changes one block, keeps those before it and clears those behind it.
+  -- A cut changes one block, keeps those before it and clears those after it.
   pub cut-changes-one-block : archive_cut.AtOneBlock
   -- If whole blocks are cleared from some block on, what is left is the archive cut there.
   pub cleared-end-is-cut : archive_cut.ZerosBehind

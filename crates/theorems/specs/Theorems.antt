@@ -93,17 +93,17 @@ pub record Collector : Type 0 where
   pub restore-is-exact : collector_model_exact.Exact
   -- In fewer than 2^64 receptions, none loose and none earlier than the one before, a sensor's answers do not depend on the other sensors.
   pub sensors-are-independent : history_calls.ArraysIsolated
-  -- Whatever pieces the reads give, the steps of `collect` give what the model says of all that was read. The proof uses only the contract of the step.
+  -- However the input is split into reads, the steps of `collect` print what the model says for all that was read. The proof uses only the contract of the step.
   pub output-follows-model : text_print.RunsPrint
   -- The rows that a log gives for an archive are the receptions that the model keeps, and the loose ones, in order.
   pub rows-follow-model : history_archived.LogArchived
-  -- However a log is cut into calls of `lines`, with restarts between them, text and rows are the model's, and the lines are counted rightly.
+  -- However a log is cut into calls of `lines`, with restarts between them, text and rows are the model's, and the number of lines is right.
   pub calls-follow-model : history_archived_runs.CallsFollow
-  -- Of calls of `lines_as` in one format the same holds, and the text is the model's in that format. Both proofs use only the contracts of the calls.
+  -- The same holds for calls of `lines_as` in one format; the text is the model's in that format. Both proofs use only the contracts of the calls.
   pub format-calls-follow-model : history_archived_runs.CallsFollowAs
-  -- However a log is cut into calls of `lines_as` that ask for closings, with restarts between them, what they close is what the model closes.
+  -- However a log is cut into calls of `lines_as` that ask for closings, with restarts between them, they close what the model closes.
   pub closings-follow-model : history_archived_closed.CallsClose
-  -- If at each restart `skip_lines` passes over as many lines as were taken, the calls take the front of the log: no line twice, none left out.
+  -- If at each restart `skip_lines` skips as many lines as were taken, the calls take the front of the log: no line twice, and none is left out.
   pub restarts-leave-out-no-line : history_archived_places.RestartsCover
   -- A whole log kept in a fresh archive leaves the archive of the receptions that the model keeps, and of the loose ones, and the model's image.
   pub log-is-archived : history_log.FreshKept
@@ -135,17 +135,17 @@ pub record Archives : Type 0 where
 pub record Journal : Type 0 where
   -- After any batches and any crashes, also during a recovery, the archive has the model's rows and the state is the model's.
   pub crashes-lose-nothing : journal_model.CrashSafe
-  -- With a live feed, of which there is no log, the same holds for the lines that were taken and the rows that a crash left.
+  -- With a live feed, which has no log, the same holds for the lines that were taken and the rows that a crash left.
   pub live-crashes-lose-nothing : journal_model.LiveSafe
   -- At a start, no row that is found is destroyed, whoever wrote it.
   pub starts-destroy-nothing : journal_model.NothingDestroyed
   -- What a crash can leave is never refused.
   pub crashes-are-recovered : journal_model.NoFalseAlarm
-  -- The calls that the tool makes at a start, as one function: after a crash it refuses nothing and leaves the model's rows, then leftovers, in one file.
+  -- The calls that the tool makes at a start, as one function on an archive of one file: after a crash it is not refused, and leaves the model's rows, then leftovers.
   pub code-starts-after-crashes : journal_recovery.StartRecovers
-  -- The calls for a batch, as one function: given the model's rows, of one block, a file with room and nothing to put aside, it leaves the model's archive and state.
+  -- The calls for a batch, as one function: for the model's rows, all in one block, with room in the file and nothing to put aside, it leaves the model's archive and state.
   pub code-commits-batches : journal_batch.BatchCommits
-  -- A row that the state on disk counts stays in the archive, in its place; that the tool prints it only then is tested.
+  -- A row that the state on disk counts stays in the archive, at its position. That the tool prints it only then is tested, not proved.
   pub printed-is-kept : journal_model.PrintedIsKept
   -- After any batches and crashes, the file of `--out` has what it had, the heading if it was empty, and each row of the lines taken, once and in order.
   pub rows-are-in-the-file-once : journal_model_out.OnceInFile
