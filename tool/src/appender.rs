@@ -1,5 +1,5 @@
-//! Rows put behind those of one archive file. The rows of a block go into it together, so that its CRC is worked out once; and blocks wait until they
-//! are written together, in one aligned write.
+//! Appends rows to one archive file. The rows of a block are put into it together, so its CRC is computed once. Full blocks wait until they are
+//! written together, in one aligned write.
 use crate::disk::{Disk, Handle};
 use crate::failure::Failure;
 use crate::files::{self, Pieces};
@@ -11,14 +11,14 @@ use std::path::{Path, PathBuf};
 pub const BLOCK: u64 = Archive::BLOCK as u64;
 /// The bytes of a frame: a length and 21 bytes.
 pub const FRAME: usize = RECORD - 1;
-/// The most blocks of an archive.
+/// The largest number of blocks in an archive.
 pub const MAX_BLOCKS: u64 = 1 << 32;
-/// A file grows to a multiple of so many blocks, by zeros, so that it is an archive at every moment.
+/// A file grows by zeros to a multiple of this many blocks, so it is an archive at every moment.
 pub const GROWTH: u64 = 2_048;
-/// The most bytes of full blocks that wait.
+/// The largest number of bytes of full blocks that wait.
 const MOST_WAITING: usize = 1 << 20;
 
-/// The most blocks of a file, and of how many at once it grows.
+/// The largest number of blocks in a file, and by how many it grows.
 #[derive(Clone, Copy)]
 pub struct Size {
     pub limit: u64,
@@ -32,9 +32,9 @@ pub struct Appender {
     blocks: u64,
     size: Size,
     rows: u64,
-    /// The block with the last row; all zero where there is none.
+    /// The block with the last row; all zero if there is none.
     last: Block,
-    /// Whether rows came into the last block since it was written.
+    /// Whether rows were put into the last block since it was written.
     is_changed: bool,
     /// The full blocks before it that are not written yet.
     full: Vec<u8>,
@@ -43,7 +43,7 @@ pub struct Appender {
 }
 
 impl Appender {
-    /// Before anything is known of the file's rows. Bytes behind its last whole block do not count.
+    /// Opens the file, before its rows are known. Bytes after its last whole block do not count.
     pub fn over(file: Box<dyn Handle>, path: &Path, size: Size) -> Result<Appender, Failure> {
         let facts = file.facts().map_err(|e| Failure::of(format!("read {}", path.display()), &e))?;
         if !facts.is_file {
@@ -53,7 +53,7 @@ impl Appender {
         Ok(Appender { path: path.into(), file, blocks, size, rows: 0, last, is_changed: false, full: Vec::new(), is_unsynced: false })
     }
 
-    /// Behind all rows of a file of whole blocks.
+    /// Positions after all rows of a file of whole blocks.
     pub fn behind_all(file: impl Into<Box<dyn Handle>>, path: &Path, limit: u64) -> Result<Appender, Failure> {
         Appender::behind_all_of(file.into(), path, Size { limit, growth: GROWTH })
     }
@@ -67,7 +67,7 @@ impl Appender {
         Ok(appender)
     }
 
-    /// Behind so many rows, the last of which stands in this block.
+    /// Positions after this many rows; the last of them is in this block.
     pub fn stand_behind(&mut self, rows: u64, last: Block) {
         (self.rows, self.last) = (rows, last);
     }
@@ -84,12 +84,12 @@ impl Appender {
         self.blocks
     }
 
-    /// The block with the last row; all zero where there is none.
+    /// The block with the last row; all zero if there is none.
     pub fn last(&self) -> &Block {
         &self.last
     }
 
-    /// How many rows more it can have.
+    /// How many more rows it can have.
     pub fn room(&self) -> u64 {
         (ROWS * self.size.limit).saturating_sub(self.rows)
     }
@@ -98,7 +98,7 @@ impl Appender {
         Failure::of(format!("{verb} {}", self.path.display()), error)
     }
 
-    /// The blocks from one on, in pieces.
+    /// The blocks from this one on, in pieces.
     pub fn pieces(&self, from: u64) -> Pieces<'_> {
         Pieces::of(&*self.file, &self.path, from, self.blocks.max(from))
     }
@@ -107,7 +107,7 @@ impl Appender {
         Pieces::of(&*self.file, &self.path, from, to)
     }
 
-    /// The bytes behind the last whole block.
+    /// The bytes after the last whole block.
     pub fn odd_end(&self) -> Result<Vec<u8>, Failure> {
         let length = self.file.facts().map_err(|e| self.cannot("read", &e))?.length;
         let mut bytes = vec![0; length.saturating_sub(self.blocks * BLOCK) as usize];
@@ -139,7 +139,7 @@ impl Appender {
         self.file.write_at(block.as_bytes(), position * BLOCK).map_err(|e| self.cannot("write", &e))
     }
 
-    /// Zeros over blocks that nobody counts.
+    /// Writes zeros over blocks that nobody counts.
     pub fn clear(&mut self, from: u64, to: u64) -> Result<(), Failure> {
         self.is_unsynced |= from < to;
         let zeros = vec![0; ((to - from) * BLOCK).min(MOST_WAITING as u64) as usize];
@@ -152,7 +152,7 @@ impl Appender {
         Ok(())
     }
 
-    /// Appends a row, of which a frame says the telegram.
+    /// Appends a row; a frame has the telegram.
     pub fn append(&mut self, frame: &[u8; FRAME], time: u64, loose: bool) -> Result<(), Failure> {
         let mut record = [0; RECORD];
         record[0] = loose.into();
@@ -165,7 +165,7 @@ impl Appender {
         self.put_rows(times, records, true)
     }
 
-    /// Counts rows that stand in the file already.
+    /// Counts rows that are in the file already.
     pub fn pass_rows(&mut self, times: &[u64], records: &[u8]) -> Result<(), Failure> {
         debug_assert!(!self.is_changed && self.full.is_empty());
         self.put_rows(times, records, false)
@@ -187,7 +187,7 @@ impl Appender {
         Ok(())
     }
 
-    /// Behind a full block, and before the first one.
+    /// Begins a block: after a full one, or the first one.
     fn begin_block(&mut self) -> Result<(), Failure> {
         self.keep_last();
         if self.full.len() >= MOST_WAITING {
@@ -210,8 +210,8 @@ impl Appender {
         self.write_before(self.rows.div_ceil(ROWS))
     }
 
-    /// Writes the blocks that wait, which stand before this position, in one write: a killed process leaves the first of them, each of which is the
-    /// old block or the new one.
+    /// Writes the blocks that wait, which are before this position, in one write. A killed process leaves the first of them; each block is the old
+    /// one or the new one.
     fn write_before(&mut self, end: u64) -> Result<(), Failure> {
         if self.full.is_empty() {
             return Ok(());
@@ -228,7 +228,7 @@ impl Appender {
         Ok(())
     }
 
-    /// Writes what waits, and returns when it would outlast a power cut.
+    /// Writes what waits, and returns when it would survive a power cut.
     pub fn sync(&mut self) -> Result<(), Failure> {
         self.write()?;
         if self.is_unsynced {
@@ -238,7 +238,7 @@ impl Appender {
         Ok(())
     }
 
-    /// Its path still names this file, and the file is as long as it was made.
+    /// Checks that the path still names this file, and that the file is as long as it was made.
     pub fn notice(&self, disk: &dyn Disk) -> Result<(), Failure> {
         let shown = self.path.display();
         let mine = self.file.facts().map_err(|e| self.cannot("read", &e))?;
@@ -259,7 +259,7 @@ mod tests {
 
     const PRESS: [u8; 8] = [0xD5, 0x09, 1, 2, 3, 4, 0, 0xE8];
 
-    /// The blocks of so many rows, put one after the other.
+    /// The blocks of this many rows, put one after the other.
     fn one_by_one(rows: u64) -> Vec<u8> {
         let mut bytes = Vec::new();
         let mut block = Block::default();
@@ -282,7 +282,7 @@ mod tests {
         record[1] = 8;
         record[2..10].copy_from_slice(&PRESS);
         let mut appender = Appender::behind_all(open(), &path, MAX_BLOCKS).unwrap();
-        // More than 2,048 full blocks wait behind row 2,000: the first of them are written before the end.
+        // After row 2,000, more than 2,048 full blocks wait: the first of them are written before the end.
         let (mut times, mut records) = (Vec::new(), Vec::new());
         for n in 0..40_000 {
             record[0] = u8::from(n % 3 == 0);

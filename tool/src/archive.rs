@@ -1,7 +1,7 @@
 //! `mooringeye archive`: verify, list, append to, salvage, remove from and report on archive files.
 //!
-//! Files are read in pieces, so that any length is handled in the same memory. Nothing is changed in place: what is written is a new file beside the
-//! old one, which takes its place when it is whole and on disk.
+//! Files are read in pieces, so any length is handled in the same memory. Nothing is changed in place: the new content is written to a new file in
+//! the same folder. It replaces the old file when it is complete and on disk.
 use crate::appender::{Appender, FRAME, MAX_BLOCKS};
 use crate::args::{parsed, Args};
 use crate::failure::{complain, Failure};
@@ -31,7 +31,7 @@ impl<'a> Source<'a> {
         Ok(Source { file, path, blocks })
     }
 
-    /// The same, locked against everybody who writes it.
+    /// The same, with a lock against everyone who writes it.
     fn open_locked(path: &'a Path) -> Result<Source<'a>, Failure> {
         let file = files::open_locked(path, false)?;
         let blocks = files::blocks_of(&file, path)?;
@@ -46,7 +46,7 @@ impl<'a> Source<'a> {
         Failure::refused(self.path.display(), why)
     }
 
-    /// What is said of a scan's end.
+    /// The number of rows at the end of a scan, or the failure.
     pub fn rows(&self, scan: &Scan) -> Result<usize, Failure> {
         let failure = |refused| files::while_written(Failure::refused_at(self.path.display(), refused), &self.file, self.path);
         scan.end().map_err(failure)
@@ -57,7 +57,7 @@ impl<'a> Source<'a> {
     }
 }
 
-/// Every file is looked at, and every failure is told; the gravest is the command's.
+/// Verifies every file, and reports every failure; the most serious one decides the exit status.
 pub fn verify(args: &Args) -> Result<(), Failure> {
     let mut output = Output::standard()?;
     let mut worst: Option<Failure> = None;
@@ -83,7 +83,7 @@ pub fn identities<'a>(words: impl Iterator<Item = &'a OsStr>) -> Result<Vec<u32>
     words.map(|word| parsed(word, "the ID of a transmitter", "eight hexadecimal digits", text::identity)).collect()
 }
 
-/// A row as `list` prints it as text.
+/// Reads a row as `list` prints it as text.
 fn row_of(line: &str) -> Result<Row, String> {
     let mut parts = line.splitn(3, ' ');
     let time = parts.next().and_then(text::number);
@@ -123,7 +123,7 @@ pub fn append(args: &Args) -> Result<(), Failure> {
     Output::standard()?.write(format!("{}: {} rows appended, {rows} rows\n", path.display(), rows - before).as_bytes())
 }
 
-/// Appends the rows of standard input to a copy, which takes the place of the file; the rows before and after.
+/// Appends the rows of standard input to a copy, which replaces the file. Returns the number of rows before and after.
 fn append_all(path: &Path) -> Result<(u64, u64), Failure> {
     let file = files::open_locked(path, true)?;
     let source = Source { blocks: files::blocks_of(&file, path)?, file, path };
@@ -141,7 +141,7 @@ fn append_all(path: &Path) -> Result<(u64, u64), Failure> {
     Ok((before, appender.rows()))
 }
 
-/// The rows of every sound block packed into a new file as long as the old one; each dropped position is handed to `dropped`.
+/// Packs the rows of every sound block into a new file as long as the old one; `dropped` gets each dropped position.
 fn pack(source: &Source, mut packer: Packer, new: &mut Replacement, mut dropped: impl FnMut(u64) -> Result<(), Failure>) -> Result<u64, Failure> {
     let size = PIECE.min(source.blocks as usize * Archive::BLOCK);
     let (mut out, mut positions) = (vec![0; size], vec![0; size / Archive::BLOCK]);

@@ -5,7 +5,7 @@ use crate::options::{Command, Takes, COMMON};
 use std::ffi::{OsStr, OsString};
 use std::path::PathBuf;
 
-/// Options and the other words, in the order in which they stand.
+/// Options and the other words, in the order of the command line.
 pub struct Args {
     command: &'static Command,
     options: Vec<(&'static str, OsString)>,
@@ -17,7 +17,7 @@ fn usage(text: String) -> Failure {
 }
 
 impl Args {
-    /// The options of a command, as `--name VALUE` or `--name=VALUE`, or `--name` where they take none. `--` ends them.
+    /// The options of a command, as `--name VALUE` or `--name=VALUE`, or `--name` if they take no value. `--` ends them.
     pub fn of(command: &'static Command, words: impl IntoIterator<Item = OsString>) -> Result<Args, Failure> {
         let mut args = Args { command, options: Vec::new(), rest: Vec::new() };
         let mut words = words.into_iter();
@@ -71,7 +71,7 @@ impl Args {
         }
     }
 
-    /// The value of an option, read by `read`, which knows nothing of a wrong one.
+    /// The value of an option, read by `read`, which returns none for a wrong one.
     pub fn value<T>(&self, name: &str, kind: &str, read: impl Fn(&str) -> Option<T>) -> Result<Option<T>, Failure> {
         self.one(name)?.map(|value| parsed(value, &format!("--{name}"), kind, &read)).transpose()
     }
@@ -80,13 +80,13 @@ impl Args {
         &self.rest
     }
 
-    /// The words that are no options, so many of them.
+    /// The words that are not options; there must be exactly this many.
     pub fn exactly<const N: usize>(&self) -> Result<[&OsStr; N], Failure> {
         let words: Vec<&OsStr> = self.rest.iter().map(OsString::as_os_str).collect();
         words.try_into().map_err(|_| self.wrong())
     }
 
-    /// The words that are no options, at least one.
+    /// The words that are not options; there must be at least one.
     pub fn at_least_one(&self) -> Result<&[OsString], Failure> {
         match &self.rest[..] {
             [] => Err(self.wrong()),
@@ -94,7 +94,7 @@ impl Args {
         }
     }
 
-    /// Says how the command is written.
+    /// The failure that shows how the command is written.
     pub fn wrong(&self) -> Failure {
         let forms: Vec<String> = self.command.forms.iter().map(|form| format!("`mooringeye {} {form}`", self.command.name)).collect();
         usage(format!("{}: {} words are given that are not options. Write {}.", self.command.name, self.rest.len(), forms.join(" or ")))
@@ -112,7 +112,7 @@ impl Args {
     }
 }
 
-/// A word with dashes that is no option, and what to write instead.
+/// The failure for a word with dashes that is not an option, with what to write instead.
 fn no_option(command: &Command, word: &str) -> Failure {
     let names = || command.options.iter().chain(COMMON).map(|o| o.name);
     let advice = match nearest(word.trim_start_matches('-'), names()) {
@@ -122,7 +122,7 @@ fn no_option(command: &Command, word: &str) -> Failure {
     usage(format!("{word}: not an option of {}. {advice}", command.name))
 }
 
-/// What a word says, where it says it.
+/// The value of a word, or the failure that says what was expected.
 pub fn parsed<T>(word: &OsStr, name: &str, kind: &str, read: impl Fn(&str) -> Option<T>) -> Result<T, Failure> {
     word.to_str().and_then(read).ok_or_else(|| usage(format!("{name}: {} is wrong. Write {kind}.", word.display())))
 }

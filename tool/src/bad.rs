@@ -1,21 +1,21 @@
-//! BAD lines, told with their numbers and texts: the first ten, and how many there were.
+//! BAD lines: reports the first ten with their numbers and texts, and how many there were.
 use crate::failure::tell;
 
-/// So many are told one by one.
+/// This many are reported one by one.
 const MOST: u64 = 10;
-/// So many characters of a line are shown.
+/// This many characters of a line are shown.
 const SHOWN: usize = 80;
 
 #[derive(Default)]
 pub struct BadLines {
     count: u64,
-    /// Whether a line that ends in CR LF was told.
+    /// Whether a line that ends in CR LF was reported.
     told_cr: bool,
 }
 
 impl BadLines {
-    /// Takes so many lines with their rows, in any format, of which so many are BAD. The first line has this number. No more of them are looked at than
-    /// have to be told.
+    /// Takes `count` lines with their rows, in any format, of which `bad` are BAD. The first line has this number. Only as many lines are read as
+    /// must be reported.
     pub fn take(&mut self, first: u64, (lines, rows): (&[u8], &[u8]), count: u64, bad: u64) {
         let told = bad.min(MOST.saturating_sub(self.count));
         self.count += bad;
@@ -25,13 +25,13 @@ impl BadLines {
             tell(format!("line {number} is BAD: {}", shown(line)));
             self.look_for_cr(number, line);
         }
-        // Where so many are BAD that it is worth a look, all of them may end in CR LF.
+        // If more than half are BAD, all of them may end in CR LF.
         if told < bad && !self.told_cr && 2 * bad > count {
             (first..).zip(parts(lines)).take_while(|(number, line)| !self.look_for_cr(*number, line)).for_each(drop);
         }
     }
 
-    /// Says once that a line ends in CR LF; whether that was said.
+    /// Reports once that a line ends in CR LF; returns whether it did.
     pub fn look_for_cr(&mut self, number: u64, line: &[u8]) -> bool {
         if !self.told_cr && line.ends_with(b"\r") {
             self.told_cr = true;
@@ -40,7 +40,7 @@ impl BadLines {
         self.told_cr
     }
 
-    /// How many there were, where not all were told.
+    /// Reports how many there were, if not all were reported.
     pub fn end(&self) {
         if self.count > MOST {
             tell(format!("{} lines were BAD. The first {MOST} are listed above.", self.count));
@@ -53,7 +53,7 @@ fn is_bad(row: &[u8]) -> bool {
     row == b"BAD" || row == b",BAD,,,,,," || row == b"{\"answer\":\"BAD\"}"
 }
 
-/// The front of a line, with what can't be printed escaped.
+/// The front of a line, with characters escaped that can't be printed.
 pub fn shown(line: &[u8]) -> String {
     let text: String = String::from_utf8_lossy(&line[..line.len().min(SHOWN)]).escape_default().collect();
     text + if line.len() > SHOWN { ".." } else { "" }

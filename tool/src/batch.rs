@@ -1,4 +1,4 @@
-//! The lines of a batch through the collector, in one call of the library: their rows in a format, the rows that go to the archive, and what they close.
+//! Hands the lines of a batch to the collector, in one call of the library: their rows in a format, the rows for the archive, and what they close.
 use crate::failure::Failure;
 use mooringeye::{Closing, Collector, Format, Lines, Taken};
 
@@ -13,13 +13,13 @@ impl Batch {
         Batch { taken: if with_closings { Taken::with_closings() } else { Taken::new() } }
     }
 
-    /// Takes whole lines from the start of a text, at most so many, in the place of those it had.
+    /// Takes whole lines from the start of a text, at most `most`. They replace the lines before.
     pub fn take(&mut self, collector: &mut Collector, level: u8, format: Format, text: &[u8], most: usize) -> Result<Lines, Failure> {
         let took = collector.lines_as(level, format, text, most, &mut self.taken);
         took.map_err(|why| Failure::refused("the collector", why))
     }
 
-    /// Their rows, in the format that was asked for.
+    /// Their rows, in the requested format.
     pub fn printed(&self) -> &[u8] {
         self.taken.text()
     }

@@ -1,7 +1,8 @@
-//! The file of `--heard`: a line for each telegram when it closes, which stands in it once.
+//! The file of `--heard`: a line for each telegram when it closes. Each line is in it once.
 //!
-//! A line counts where the state's collector has closed its telegram, and the time in the line tells that. So the state needs no place for the file: at
-//! a start, lines of telegrams that are still open there, or not opened yet, are cut. They are of a batch that did not end, which comes again.
+//! A line counts if the state's collector has closed its telegram; the time in the line tells that. So the state does not need a position in the
+//! file. At a start, lines of telegrams that are still open, or not opened yet, are cut off. They belong to a batch that did not end, which comes
+//! again.
 use crate::disk::Shared;
 use crate::failure::Failure;
 use crate::files;
@@ -13,22 +14,22 @@ use std::path::Path;
 
 pub const HEADING: &str = "opened,txid,level,copies,interrupted\n";
 
-/// The bytes of the longest line, and of a batch that did not end with the line before it.
+/// The length of the longest line; and how much a batch that did not end can leave, with the line before it.
 const LONGEST: u64 = 42;
 const LONGEST_BATCH: u64 = LONGEST * (MAX_BATCH + Collector::CAPACITY + 2) as u64;
 
 pub struct Closings {
     disk: Shared,
     out: Out,
-    /// Whether what stands in the file is not of this collector: it begins, or the file is too short for a line.
+    /// Whether the content of the file is not of this collector: the collector is new, or the file is too short for a line.
     goes_aside: bool,
-    /// Telegrams that were opened up to this time may have been heard more often: nobody listened while they were open.
+    /// Telegrams that were opened up to this time may have been received more often: nobody listened while they were open.
     interrupted: Option<u64>,
     lines: Vec<u8>,
 }
 
 impl Closings {
-    /// Opens the file, makes it where it is missing, and finds how much of it counts. Nothing of it is changed yet.
+    /// Opens the file, creates it if it is missing, and finds how much of it counts. Nothing in it is changed yet.
     pub fn open(disk: &Shared, path: &Path, collector: &Collector, is_new: bool) -> Result<Closings, Failure> {
         let mut out = Out::open(disk, Named::Heard, path, None)?;
         let goes_aside = is_new || out.length() <= HEADING.len() as u64;
@@ -39,7 +40,8 @@ impl Closings {
         Ok(Closings { disk: disk.clone(), out, goes_aside, interrupted: None, lines: Vec::new() })
     }
 
-    /// Cuts what does not count, and sees that the heading is there. What another collector left, or a heading that was not written whole, goes aside.
+    /// Cuts off what does not count, and writes the heading if it is missing. What another collector left, or a heading that was not written
+    /// completely, is put aside.
     pub fn settle(&mut self) -> Result<(), Failure> {
         let is_begun = self.out.length() == HEADING.len() as u64 && self.out.starts_with(HEADING.as_bytes())?;
         if self.goes_aside && !self.out.is_empty() && !is_begun {
@@ -61,12 +63,12 @@ impl Closings {
         Ok(())
     }
 
-    /// The collector did not listen up to now: telegrams that were opened up to this time may lack copies; none where no telegram was open.
+    /// The collector did not listen until now: telegrams that were opened up to this time may lack copies; none if no telegram was open.
     pub fn interrupt(&mut self, opened: Option<u64>) {
         self.interrupted = opened;
     }
 
-    /// Brings what closed to disk.
+    /// Writes what closed to disk.
     pub fn write(&mut self, closings: impl Iterator<Item = Closing>) -> Result<(), Failure> {
         self.lines.clear();
         closings.for_each(|closing| put_line(&mut self.lines, &closing, self.interrupted));
@@ -94,8 +96,8 @@ fn put_line(out: &mut Vec<u8>, closing: &Closing, interrupted: Option<u64>) {
     out.push(b'\n');
 }
 
-/// How much of a file a collector counts whose latest reception is of this time: up to the last line whose telegram is no longer open then, or the
-/// heading.
+/// How much of a file counts for a collector whose latest reception has this time: up to the last line whose telegram is no longer open then, or up
+/// to the heading.
 fn counted(out: &Out, latest: u64) -> Result<u64, Failure> {
     let from = out.length().saturating_sub(LONGEST_BATCH).max(HEADING.len() as u64 - 1);
     let end = out.read_from(from)?;
@@ -117,7 +119,7 @@ fn counted(out: &Out, latest: u64) -> Result<u64, Failure> {
     }
 }
 
-/// The time at which the telegram of a line was opened; none where it is not a whole line of such a file.
+/// The time at which the telegram of a line was opened; none if it is not a whole line of such a file.
 fn opened(line: &[u8]) -> Option<u64> {
     let columns: Vec<&str> = std::str::from_utf8(line).ok()?.split(',').collect();
     let [opened, txid, numbers @ ..] = &columns[..] else { return None };

@@ -1,6 +1,6 @@
-//! `mooringeye collect`: lines go through the proved collector, and its state and rows survive whatever happens to the process.
+//! `mooringeye collect`: hands lines to the proved collector; its state and rows survive whatever happens to the process.
 //!
-//! This module reads the lines, from standard input or from a log, and cuts them into batches; `keeper` brings each to disk.
+//! This module reads the lines, from standard input or from a log, and cuts them into batches; `keeper` writes each to disk.
 use crate::appender::MAX_BLOCKS;
 use crate::args::Args;
 use crate::bad::{shown, BadLines};
@@ -22,7 +22,7 @@ use std::io::{self, IsTerminal};
 use std::path::{Path, PathBuf};
 use std::rc::Rc;
 
-/// How much is read at once, and where each row is synced: a signal waits until it is taken.
+/// How much is read at once; and how much if each row is synced, because a signal waits until all of it is taken.
 const CHUNK: usize = 1 << 20;
 const SYNCED_CHUNK: usize = 1 << 12;
 const NO_LEVEL: &str = "without --level the first line must be `level 0`, `level 1` or `level 2`";
@@ -38,7 +38,7 @@ pub fn run(args: &Args) -> Result<(), Failure> {
 struct Options {
     level: Option<u8>,
     files: Files,
-    /// Lines of a batch.
+    /// How many lines a batch has.
     batch: usize,
     replay: bool,
     log: Option<PathBuf>,
@@ -132,7 +132,7 @@ impl Source {
         }
     }
 
-    /// How far a log is that is read again, for a terminal on which no rows are printed; none of lines that are still to come.
+    /// How far a log is that is read again, for a terminal on which no rows are printed; none for lines that are still to come.
     fn progress(&self, is_replayed: bool, has_out: bool) -> Option<Progress> {
         let total = match self {
             Source::Standard(input) => input.length(),
@@ -158,11 +158,11 @@ struct Run {
     format: Format,
     batch: usize,
     level: Option<u8>,
-    /// Whether the input is a feed that nobody can read again.
+    /// Whether the input is a feed that cannot be read again.
     is_live: bool,
     /// Whether the next line is the first one of the input, or of a log.
     is_first: bool,
-    /// Lines that were read.
+    /// How many lines were read.
     read: u64,
     skipping: Skipping,
     is_settled: bool,
@@ -193,7 +193,7 @@ impl Skipping {
 }
 
 impl Run {
-    /// Locks and reads the files. Where lines have to be skipped nothing is changed before they are compared.
+    /// Locks and reads the files. If lines must be skipped, nothing is changed before they are compared.
     fn start(options: &Options) -> Result<Run, Failure> {
         let disk: Shared = Rc::new(Real);
         let input = if options.log.is_none() { Some(Input::standard()?) } else { None };
@@ -239,7 +239,7 @@ impl Run {
         }
     }
 
-    /// Compares what was skipped with what was taken, and puts the files in order: from now on lines can be taken.
+    /// Compares what was skipped with what was taken, and repairs the files: from now on lines can be taken.
     fn settle(&mut self) -> Result<(), Failure> {
         if self.skipping.is_on {
             self.compare_skipped()?;
@@ -285,7 +285,7 @@ impl Run {
         if self.is_settled {
             self.take_in(signals)?;
         }
-        // The part of a line that has not ended yet stands at the front.
+        // The part of a line that has not ended is at the front.
         let mut carried = 0;
         loop {
             let filled = match self.source.read(&mut buffer[carried..carried + chunk], signals)? {
@@ -308,7 +308,7 @@ impl Run {
             if let Some(progress) = &mut self.progress {
                 progress.show((filled - carried) as u64, |_| format!("{} rows", self.read));
             }
-            // A line that is longer than the longest is BAD, whatever else it has.
+            // A line that is longer than the longest is always BAD.
             carried = (filled - used).min(LINE_LIMIT);
             buffer.copy_within(used..used + carried, 0);
         }
@@ -350,7 +350,7 @@ impl Run {
         self.is_first = true;
     }
 
-    /// Prints the totals where they were asked for, and says whether to stop.
+    /// Prints the totals if they were requested, and returns whether to stop.
     fn sees_to_signal(&mut self) -> bool {
         if sys::take_totals_request() {
             complain(self.keeper.totals());
@@ -361,8 +361,8 @@ impl Run {
         true
     }
 
-    /// Takes the whole lines of a text in batches; how long they are. A signal that comes meanwhile waits: what was read is taken, since nobody could
-    /// read it again.
+    /// Takes the whole lines of a text in batches; returns how long they are. A signal that comes meanwhile waits: what was read is taken first,
+    /// because it could not be read again.
     fn take_lines(&mut self, text: &[u8], signals: &Signals) -> Result<usize, Failure> {
         let mut used = 0;
         if self.is_first {
@@ -389,7 +389,7 @@ impl Run {
             if took.lines == 0 {
                 return Ok(used);
             }
-            // Lines that are no receptions are BAD.
+            // Lines that are not receptions are BAD.
             let bad = took.lines as u64 - (self.keeper.received() - received);
             if bad > 0 {
                 self.bad.take(self.read + 1, (&text[used..used + took.used], self.keeper.printed()), took.lines as u64, bad);
@@ -406,8 +406,8 @@ impl Run {
         Ok(())
     }
 
-    /// A feed that nobody can read again: rows that a stop left are handed to the collector, as soon as the level is known. Where the state stands in a
-    /// log they wait for it.
+    /// For a feed that cannot be read again: hands the rows that a stop left to the collector, as soon as the level is known. If the state has a
+    /// position in a log, they wait for that log.
     fn take_in(&mut self, signals: &Signals) -> Result<(), Failure> {
         match self.level {
             Some(level) if self.is_live && !self.keeper.is_beside_log && self.keeper.leftovers() > 0 => {
@@ -418,8 +418,8 @@ impl Run {
         }
     }
 
-    /// The first line, where it says a level and is not to be skipped: how long it is. It has to agree with `--level`, and is needed where that is
-    /// left out.
+    /// Takes the first line, if it has a level and must not be skipped; returns how long it is. It must agree with `--level`, and is required if that
+    /// is left out.
     fn take_first(&mut self, text: &[u8]) -> Result<usize, Failure> {
         let first = FirstLine::of(text);
         if self.is_first && text::is_packed(text) {
@@ -448,7 +448,7 @@ impl Run {
         }
     }
 
-    /// The state as it stands at the end, and the totals.
+    /// Writes the state at the end, and the totals.
     fn end(&mut self, signals: &Signals) -> Result<(), Failure> {
         if self.is_settled {
             self.keeper.end()?;
@@ -464,12 +464,12 @@ impl Run {
     }
 }
 
-/// Opens the log where the state stands; how many lines have to be skipped by their number, and the level that its first line says.
+/// Opens the log at the position in the state. Returns how many lines must be skipped by their number, and the level in its first line.
 fn open_log(path: &Path, options: &Options, keeper: &mut Keeper) -> Result<(Source, u64, Option<u8>), Failure> {
     let stood = keeper.state.log.as_ref().is_some_and(|place| place.inode != 0);
     let begins = options.adopt_log || keeper.state.lines == 0 && !stood;
     let log = Log::open(path, options.follow, keeper.state.log.as_ref().filter(|_| !begins))?;
-    // A state of version 1 has no place: its lines are skipped.
+    // A state of version 1 has no position: its lines are skipped.
     let skip = if begins || keeper.state.log.is_some() { 0 } else { keeper.state.lines };
     let offset = match (&mut keeper.state.log, begins) {
         (Some(place), false) => {

@@ -1,4 +1,4 @@
-//! Rows as PostgreSQL's COPY BINARY takes them, and the months in which they are.
+//! Rows in PostgreSQL's COPY BINARY format, and the months of their times.
 use crate::times::Date;
 use mooringeye::Row;
 use std::fmt::{self, Display};
@@ -10,7 +10,7 @@ pub const TRAILER: &[u8; 2] = b"\xFF\xFF";
 /// The columns: row (bigint), at (timestamptz), time (numeric), loose (boolean), txid and telegram (bytea).
 const COLUMNS: u16 = 6;
 
-/// Where PostgreSQL begins to count, 2000-01-01, in ms of Unix time.
+/// The time from which PostgreSQL counts, 2000-01-01, in ms of Unix time.
 const EPOCH: i128 = 946_684_800_000;
 /// The first microsecond that a timestamptz cannot hold.
 const END: i128 = 9_223_371_331_200_000_000;
@@ -32,7 +32,7 @@ fn put(out: &mut Vec<u8>, value: &[u8]) {
     out.extend_from_slice(value);
 }
 
-/// Microseconds since 2000-01-01; infinity for a time that is too late for them.
+/// Microseconds since 2000-01-01; infinity for a time that is too late.
 fn timestamp(time: u64) -> i64 {
     match 1_000 * (i128::from(time) - EPOCH) {
         late if late >= END => INFINITY,
@@ -40,7 +40,8 @@ fn timestamp(time: u64) -> i64 {
     }
 }
 
-/// A whole number as a numeric: how many digits it has by 10,000, the power of the first, no sign, nothing behind the point, and the digits.
+/// A whole number as a numeric: the number of its digits to the base 10,000, the power of the first, no sign, no digits after the point, and the
+/// digits.
 fn put_numeric(out: &mut Vec<u8>, mut value: u64) {
     let mut digits = [0; 5]; // 2^64 is below 10,000^5
     let mut start = digits.len();

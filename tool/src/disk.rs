@@ -1,5 +1,5 @@
-//! The file operations on which crash safety rests (docs/CRASH.md), in one small trait: the real ones, and those of a simulated disk with a volatile
-//! cache (`powercut`), which shows that their order is right.
+//! The file operations on which crash safety depends (docs/CRASH.md), in one small trait: the real ones, and those of a simulated disk with a
+//! volatile cache (`powercut`), which shows that their order is right.
 use crate::failure::tell;
 use crate::sys;
 use std::ffi::OsString;
@@ -30,9 +30,9 @@ impl Facts {
 
 #[derive(Clone, Copy, Debug, PartialEq, Eq)]
 pub enum Open {
-    /// A file that is there, to be read.
+    /// An existing file, to be read.
     Read,
-    /// A file to be read and written, made where it is missing.
+    /// A file to be read and written; it is created if it is missing.
     OrNew,
     /// An empty file, whatever was there.
     Empty,
@@ -40,19 +40,19 @@ pub enum Open {
 
 /// An open file.
 pub trait Handle {
-    /// Reads what is there from a byte on; fewer bytes at the file's end.
+    /// Reads the bytes from an offset on; fewer at the end of the file.
     fn read_at(&self, buffer: &mut [u8], at: u64) -> io::Result<usize>;
     fn write_at(&self, bytes: &[u8], at: u64) -> io::Result<()>;
     /// Cuts the file, or grows it by zeros.
     fn set_length(&self, length: u64) -> io::Result<()>;
-    /// Returns when its bytes and its length would outlast a power cut.
+    /// Returns when its bytes and its length would survive a power cut.
     fn sync(&self) -> io::Result<()>;
     fn facts(&self) -> io::Result<Facts>;
     /// Takes the file's lock, or says that another process has it.
     fn lock(&self) -> io::Result<bool>;
-    /// Lets the same users in as another file does.
+    /// Gives the same users access as another file does.
     fn share_as(&self, other: &Path) -> io::Result<()>;
-    /// Whether there may be data from a byte before the end on; else only zeros follow.
+    /// Whether there may be data from this offset on; if not, only zeros follow.
     fn has_data_from(&self, _at: u64) -> bool {
         true
     }
@@ -70,17 +70,17 @@ pub trait Handle {
     }
 }
 
-/// Names of files, and what can be done with them.
+/// File names, and the operations on them.
 pub trait Disk {
     fn open(&self, path: &Path, how: Open) -> io::Result<Box<dyn Handle>>;
-    /// Of what stands at a path, through symbolic links; none where nothing does.
+    /// The facts of the file at a path, through symbolic links; none if there is no file.
     fn facts(&self, path: &Path) -> io::Result<Option<Facts>>;
     fn rename(&self, from: &Path, to: &Path) -> io::Result<()>;
     fn remove(&self, path: &Path) -> io::Result<()>;
-    /// Makes what was created, renamed or removed in a folder outlast a power cut.
+    /// Returns when what was created, renamed or removed in a folder would survive a power cut.
     fn sync_folder(&self, folder: &Path) -> io::Result<()>;
     fn names(&self, folder: &Path) -> io::Result<Vec<OsString>>;
-    /// Says something on standard error.
+    /// Writes a message to standard error.
     fn tell(&self, text: &dyn Display);
 }
 

@@ -1,15 +1,15 @@
-//! Why a command ends before its time, and the exit status that says so.
+//! Why a command fails, and the exit status for it.
 use mooringeye::{Refusal, Refused};
 use std::fmt::Display;
 use std::io;
 use std::sync::atomic::{AtomicBool, Ordering};
 
-/// What went wrong, in words for standard error.
+/// What went wrong, as a message for standard error.
 #[derive(Debug)]
 pub enum Failure {
     /// An input or an output failed, or what was read is refused: status 1.
     Failed(String),
-    /// Nobody reads standard output any more: status 1, or 0 where a command only prints.
+    /// Nobody reads standard output any more: status 1, or 0 for a command that only prints.
     Closed(String),
     /// Wrong usage: status 2.
     Usage(String),
@@ -31,12 +31,12 @@ impl Failure {
         text
     }
 
-    /// An input or output that failed: what was asked of it, and the system's own words.
+    /// An input or output that failed: what was requested, and the system's own words.
     pub fn of(asked: impl Display, error: &io::Error) -> Failure {
         Failure::Failed(format!("cannot {asked}: {error}"))
     }
 
-    /// A refusal of the library. 11, 12 and 16 are told of states and archives, 10 of an argument.
+    /// A refusal of the library. 11, 12 and 16 are reported for states and archives, 10 for an argument.
     pub fn refused(what: impl Display, why: Refusal) -> Failure {
         let text = format!("{what}: {why}");
         match why {
@@ -66,22 +66,22 @@ pub fn is_quiet() -> bool {
     IS_QUIET.load(Ordering::Relaxed)
 }
 
-/// Says something on standard error, but not with `--quiet`.
+/// Writes a message to standard error, except with `--quiet`.
 pub fn tell(text: impl Display) {
     if !is_quiet() {
         complain(text);
     }
 }
 
-/// Whether a line of progress stands on the terminal.
+/// Whether a line of progress is on the terminal.
 static HAS_LINE: AtomicBool = AtomicBool::new(false);
 
-/// Notes whether one stands there now, and says whether one did before.
+/// Notes whether one is there now, and returns whether one was before.
 pub fn set_line(is_there: bool) -> bool {
     HAS_LINE.swap(is_there, Ordering::Relaxed)
 }
 
-/// Says why a command fails, in the place of a line of progress. Where standard error cannot be written there is nobody to tell.
+/// Writes why a command fails, over a line of progress. If standard error cannot be written, nothing more can be done.
 pub fn complain(text: impl Display) {
     use io::Write;
     let front = if set_line(false) { "\r\x1b[K" } else { "" };

@@ -14,7 +14,7 @@ use std::thread;
 pub const PIECE: usize = 1 << 20;
 const BLOCK: u64 = Archive::BLOCK as u64;
 
-/// A path with letters behind its name.
+/// A path with a suffix after its name.
 pub fn with_suffix(path: &Path, suffix: &str) -> PathBuf {
     let mut name = OsString::from(path);
     name.push(suffix);
@@ -28,7 +28,7 @@ pub fn folder(path: &Path) -> &Path {
     }
 }
 
-/// Where a symbolic link leads: a rename would put the new file in the place of the link.
+/// The target of a symbolic link: a rename would replace the link itself.
 pub fn resolved(path: &Path) -> PathBuf {
     match fs::symlink_metadata(path) {
         Ok(metadata) if metadata.is_symlink() => fs::canonicalize(path).unwrap_or_else(|_| path.into()),
@@ -36,7 +36,7 @@ pub fn resolved(path: &Path) -> PathBuf {
     }
 }
 
-/// Makes what was created, renamed or removed in the folder of a file outlast a power cut.
+/// Returns when what was created, renamed or removed in the folder of a file would survive a power cut.
 pub fn sync_folder(disk: &dyn Disk, path: &Path) -> Result<(), Failure> {
     let folder = folder(path);
     disk.sync_folder(folder).map_err(|e| Failure::of(format!("sync {}", folder.display()), &e))
@@ -50,7 +50,7 @@ fn lock(file: &dyn Handle, path: &Path) -> Result<(), Failure> {
     }
 }
 
-/// The lock of a file that is replaced by rename: a file beside it, which stays. To be locked it has to be readable, and no more.
+/// The lock of a file that is replaced by rename: another file in the same folder, which stays. To lock it, it only has to be readable.
 pub fn lock_beside(disk: &Shared, path: &Path) -> Result<Box<dyn Handle>, Failure> {
     let beside = with_suffix(path, ".lock");
     let opened = match disk.open(&beside, Open::Read) {
@@ -68,11 +68,11 @@ pub fn lock_beside(disk: &Shared, path: &Path) -> Result<Box<dyn Handle>, Failur
     Ok(file)
 }
 
-/// Locks an open file, and looks whether its path still names it.
+/// Locks an open file, and checks whether its path still names it.
 fn own(disk: &dyn Disk, file: &dyn Handle, path: &Path) -> Result<(), Failure> {
     lock(file, path)?;
     let cannot = |e: io::Error| Failure::of(format!("open {}", path.display()), &e);
-    // Between the two another process may have put a new file in its place.
+    // Between the two steps another process may have replaced the file.
     let (mine, named) = (file.facts().map_err(cannot)?, disk.facts(path).map_err(cannot)?);
     match named.is_some_and(|named| named.is_same(&mine)) {
         true => Ok(()),
@@ -80,7 +80,7 @@ fn own(disk: &dyn Disk, file: &dyn Handle, path: &Path) -> Result<(), Failure> {
     }
 }
 
-/// Opens an archive to be written, makes it where it is missing and may be, and locks it.
+/// Opens an archive to be written, creates it if it is missing and `create` allows it, and locks it.
 pub fn open_locked(path: &Path, create: bool) -> Result<File, Failure> {
     let cannot = |e: io::Error| Failure::of(format!("open {}", path.display()), &e);
     let file = OpenOptions::new().create(create).truncate(false).read(true).write(true).open(path).map_err(cannot)?;
@@ -88,7 +88,7 @@ pub fn open_locked(path: &Path, create: bool) -> Result<File, Failure> {
     Ok(file)
 }
 
-/// The same on any disk; a file that was made outlasts a power cut.
+/// The same on any disk; a file that was created survives a power cut.
 pub fn open_kept(disk: &dyn Disk, path: &Path) -> Result<Box<dyn Handle>, Failure> {
     let file = disk.open(path, Open::OrNew).map_err(|e| Failure::of(format!("open {}", path.display()), &e))?;
     own(disk, &*file, path)?;
@@ -96,13 +96,13 @@ pub fn open_kept(disk: &dyn Disk, path: &Path) -> Result<Box<dyn Handle>, Failur
     Ok(file)
 }
 
-/// Puts a file that is whole and synced in the place of another.
+/// Replaces a file by one that is complete and synced.
 pub fn put_in_place(disk: &Shared, from: &Path, to: &Path) -> Result<(), Failure> {
     disk.rename(from, to).map_err(|e| Failure::of(format!("replace {}", to.display()), &e))?;
     sync_folder(&**disk, to)
 }
 
-/// The first name behind a path, with a word and a number, that nothing has.
+/// The first free name made of a path, a word and a number.
 pub fn free_name(disk: &dyn Disk, path: &Path, word: &str) -> Result<PathBuf, Failure> {
     for n in 1.. {
         let name = with_suffix(path, &format!(".{word}-{n}"));
@@ -114,7 +114,7 @@ pub fn free_name(disk: &dyn Disk, path: &Path, word: &str) -> Result<PathBuf, Fa
     unreachable!("there are fewer files than numbers")
 }
 
-/// Moves what stands at a path aside, under the first free name, and says where it is.
+/// Moves a file aside, to the first free name, and returns that name.
 pub fn put_aside(disk: &Shared, path: &Path) -> Result<PathBuf, Failure> {
     let aside = free_name(&**disk, path, "aside")?;
     disk.rename(path, &aside).map_err(|e| Failure::of(format!("put {} aside", path.display()), &e))?;
@@ -122,7 +122,7 @@ pub fn put_aside(disk: &Shared, path: &Path) -> Result<PathBuf, Failure> {
     Ok(aside)
 }
 
-/// A new content of a file: written beside it under another name, with its permissions, and put in its place in one step.
+/// New content of a file: written to a file of another name, with the same permissions, which then replaces the file in one step.
 pub struct Replacement {
     pub file: File,
     target: PathBuf,
@@ -150,7 +150,7 @@ impl Replacement {
         Failure::of(format!("{verb} {}", self.beside.display()), error)
     }
 
-    /// Puts it in its place: from now on, and after a power cut, the file has the new content whole.
+    /// Replaces the file: from now on, and after a power cut, it has all of the new content.
     pub fn commit(mut self) -> Result<(), Failure> {
         self.file.sync_all().map_err(|e| self.cannot("sync", &e))?;
         fs::rename(&self.beside, &self.target).map_err(|e| Failure::of(format!("replace {}", self.target.display()), &e))?;
@@ -158,13 +158,13 @@ impl Replacement {
         sync_folder(&Real, &self.target)
     }
 
-    /// The same where nothing may be there yet.
+    /// The same if there must not be a file yet.
     pub fn commit_new(mut self) -> Result<(), Failure> {
         self.file.sync_all().map_err(|e| self.cannot("sync", &e))?;
         let cannot = |e: io::Error| Failure::of(format!("make {}", self.target.display()), &e);
         match fs::hard_link(&self.beside, &self.target) {
             Ok(()) => fs::remove_file(&self.beside).map_err(|e| self.cannot("remove", &e))?,
-            // A file system without hard links, such as a stick's.
+            // A file system without hard links, for example on a USB stick.
             Err(error) if error.kind() != io::ErrorKind::AlreadyExists && fs::symlink_metadata(&self.target).is_err() => {
                 fs::rename(&self.beside, &self.target).map_err(cannot)?;
             }
@@ -188,7 +188,7 @@ fn not_a_file(path: &Path) -> Failure {
     Failure::Failed(format!("cannot read {shown}: it is not a file. An archive is a regular file; write what a pipe gives to one first."))
 }
 
-/// Opens an archive to be read. A pipe is refused before it is opened, which would wait for its writer.
+/// Opens an archive to be read. A pipe is refused before it is opened, because opening it would wait for its writer.
 pub fn open_archive(path: &Path) -> Result<File, Failure> {
     let cannot = |e: io::Error| Failure::of(format!("open {}", path.display()), &e);
     match fs::metadata(path).map_err(cannot)?.is_file() {
@@ -238,8 +238,8 @@ impl<'a> Pieces<'a> {
         }
     }
 
-    /// The next piece. Where the file has no data from there on, as a sparse one at its end, there is none: what follows are zeros, and no reader of an
-    /// archive makes anything of zeros at its end.
+    /// The next piece. If the file has no data from there on, as a sparse file at its end, there is none: only zeros follow, and zeros at the end of
+    /// an archive have no meaning.
     pub fn next(&mut self) -> Result<Option<&[u8]>, Failure> {
         if self.at == self.end || !self.file.has_data_from(self.at) {
             return Ok(None);
@@ -254,7 +254,7 @@ impl<'a> Pieces<'a> {
     }
 }
 
-/// What a scan of all pieces says. Two threads share each long piece but the first.
+/// Scans all pieces. Two threads share each long piece except the first.
 pub fn scan(mut pieces: Pieces) -> Result<Scan, Failure> {
     let mut scan = Scan::new();
     let path = pieces.path;
@@ -265,7 +265,7 @@ pub fn scan(mut pieces: Pieces) -> Result<Scan, Failure> {
     Ok(scan)
 }
 
-/// The scan behind a piece. Another thread scans its second half as if all blocks before it were full; where they are not, the half is scanned again.
+/// The scan after a piece. Another thread scans its second half as if all blocks before it were full; if they are not, the half is scanned again.
 fn scan_by_two(mut scan: Scan, piece: &[u8]) -> Result<Scan, Refusal> {
     let blocks = piece.len() / Archive::BLOCK / 2;
     let (front, back) = piece.split_at(blocks * Archive::BLOCK);
@@ -282,7 +282,7 @@ fn scan_by_two(mut scan: Scan, piece: &[u8]) -> Result<Scan, Refusal> {
     }
 }
 
-/// Copies an archive of so many blocks; zeros at its end take no room.
+/// Copies an archive of `blocks` blocks; zeros at its end use no disk space.
 pub fn copy(from: &File, path: &Path, blocks: u64, to: &mut Replacement) -> Result<(), Failure> {
     let mut pieces = Pieces::of(from, path, 0, blocks);
     while let Some(piece) = pieces.next()? {
@@ -291,7 +291,7 @@ pub fn copy(from: &File, path: &Path, blocks: u64, to: &mut Replacement) -> Resu
     to.file.set_len(blocks * BLOCK).map_err(|e| to.cannot("write", &e))
 }
 
-/// Says in a failure of damage that somebody is writing the file, where it is so.
+/// Adds to a failure of a damaged file that someone is writing it, if that is so.
 pub fn while_written(failure: Failure, file: &File, path: &Path) -> Failure {
     if matches!(failure, Failure::Damaged(_)) && matches!(file.try_lock_shared(), Err(TryLockError::WouldBlock)) {
         tell(format!("{} is being written: a block may have been read half old and half new. Try again.", path.display()));
@@ -307,7 +307,7 @@ mod tests {
     const PRESS: [u8; 8] = [0xD5, 0x09, 1, 2, 3, 4, 0, 0xE8];
     const BLOCKS: usize = 7;
 
-    /// Seven blocks behind so many full ones, of which so many rows are there and the rest is zero.
+    /// Seven blocks after `before` full ones, with `rows` rows in them; the rest is zero.
     fn piece(before: usize, rows: usize) -> Vec<u8> {
         let first = before * Archive::ROWS_PER_BLOCK;
         let mut blocks = vec![Block::default(); BLOCKS];
@@ -317,7 +317,7 @@ mod tests {
         blocks.iter().flat_map(|block| *block.as_bytes()).collect()
     }
 
-    /// Both ways to scan a piece say the same, to the last number.
+    /// Both ways to scan a piece give the same numbers.
     fn compare(before: usize, piece: &[u8]) {
         let mut scan = Scan::behind(before as u64);
         let by_two = scan_by_two(scan.clone(), piece).unwrap();

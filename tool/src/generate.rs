@@ -6,7 +6,7 @@ use std::collections::BTreeMap;
 use std::fs;
 use std::path::Path;
 
-/// The day that stands on the man pages.
+/// The date on the man pages.
 const DAY: &str = "November 17, 2026";
 
 pub fn run(args: &Args) -> Result<(), Failure> {
@@ -25,7 +25,7 @@ pub fn run(args: &Args) -> Result<(), Failure> {
     Ok(())
 }
 
-/// The name of a command's page: `mooringeye-archive-list`.
+/// The name of a command's page, for example `mooringeye-archive-list`.
 fn page_name(command: &Command) -> String {
     format!("mooringeye-{}", command.name.replace(' ', "-"))
 }
@@ -37,7 +37,7 @@ fn pages() -> Vec<(String, String)> {
     pages
 }
 
-/// A text for mdoc: a new line for each sentence, short lines, and none that is taken for a request.
+/// A text for mdoc: a new line for each sentence, short lines, and no line that mdoc takes for a request.
 fn mdoc(text: &str) -> String {
     let mut out = String::new();
     let mut width = 0;
@@ -119,7 +119,7 @@ fn see_also(own: &str) -> String {
     names.iter().enumerate().map(|(i, name)| format!(".Xr {name} 1{}\n", if i < last { " ," } else { "" })).collect()
 }
 
-/// The words that may stand first, and those that may stand behind the name of a group.
+/// The words that may come first, and those that may follow the name of a group.
 fn first_words() -> BTreeMap<&'static str, Vec<&'static str>> {
     let mut groups: BTreeMap<&str, Vec<&str>> = BTreeMap::new();
     for command in COMMANDS {
@@ -132,7 +132,7 @@ fn first_words() -> BTreeMap<&'static str, Vec<&'static str>> {
 }
 
 impl Command {
-    /// The words that its first word may be, where the table says them.
+    /// The words that its first word may be, if the table lists them.
     fn words_of_first(&self) -> Vec<&'static str> {
         match self.words {
             Takes::Words(words) => words.to_vec(),
@@ -190,7 +190,7 @@ fn bash() -> String {
     out + "    esac\n}\ncomplete -o filenames -F _mooringeye mooringeye\n"
 }
 
-/// A text between single quotes of a shell, without what ends it or means something to zsh's _arguments.
+/// A text between single quotes of a shell, without the characters that would end it or that zsh's _arguments interprets.
 fn quoted(text: &str) -> String {
     text.replace('\'', "").replace(['[', ']', ':', '\\', '`'], " ").split_ascii_whitespace().collect::<Vec<_>>().join(" ")
 }

@@ -1,4 +1,5 @@
-//! `mooringeye heard`: how often the telegrams of each transmitter were heard, by week. One that is often heard once is at the edge of reach.
+//! `mooringeye heard`: how often the telegrams of each transmitter were received, by week. A transmitter whose telegrams are often received only once
+//! is at the edge of reach.
 use crate::args::Args;
 use crate::closings;
 use crate::failure::{tell, Failure};
@@ -37,7 +38,7 @@ pub fn run(args: &Args) -> Result<(), Failure> {
     quietly(Output::standard()?.write(text.as_bytes()))
 }
 
-/// Of telegrams, how many were heard again so many times.
+/// How many telegrams were received again a number of times, by that number.
 #[derive(Clone, Default)]
 pub struct Counts {
     by_copies: BTreeMap<u16, u64>,
@@ -48,17 +49,17 @@ impl Counts {
         self.by_copies.values().sum()
     }
 
-    /// Heard once: no copy came.
+    /// How many were received once: no copy came.
     fn once(&self) -> u64 {
         self.by_copies.get(&0).copied().unwrap_or(0)
     }
 
-    /// The share of those in thousandths, rounded down.
+    /// Their share in thousandths, rounded down.
     pub fn share(&self) -> u64 {
         (u128::from(self.once()) * 1_000 / u128::from(self.telegrams().max(1))) as u64
     }
 
-    /// The copies of the telegram at this place, from 0, in the order of copies.
+    /// The copies of the telegram with this index, from 0, in order of copies.
     fn at(&self, place: u64) -> u16 {
         let mut before = 0;
         let is_there = |(_, n): &(&u16, &u64)| {
@@ -109,7 +110,8 @@ impl Heard {
         Ok(())
     }
 
-    /// A line `opened,txid,level,copies`, and 1 behind it where the collector was stopped while the telegram was open: such a line says nothing sure.
+    /// Takes a line `opened,txid,level,copies`. A 1 after it means that the collector was stopped while the telegram was open: such a line is not
+    /// reliable.
     fn take(&mut self, line: &str) -> Option<()> {
         let (opened, txid, level, copies, interrupted) = match line.split(',').collect::<Vec<_>>()[..] {
             [opened, txid, level, copies] => (opened, txid, level, copies, "0"),
@@ -130,7 +132,7 @@ impl Heard {
         Some(())
     }
 
-    /// Transmitters with the greatest share of telegrams that were heard once first, then those with more telegrams: as a whole, and by week.
+    /// Transmitters, those with the greatest share of telegrams received once first, then those with more telegrams: as a whole, and by week.
     pub fn lines(&self) -> Vec<(u32, &Counts, &BTreeMap<String, Counts>)> {
         let mut all: Vec<_> = self.all.iter().map(|(id, (whole, weeks))| (*id, whole, weeks)).collect();
         all.sort_by_key(|(id, whole, _)| (Reverse((whole.share(), whole.telegrams())), *id));

@@ -1,16 +1,16 @@
-//! Help from the table of commands, and which command words mean.
+//! Help from the table of commands, and finding the command that words mean.
 use crate::failure::Failure;
 use crate::options::{Command, Opt, COMMANDS, COMMON};
 use std::ffi::OsString;
 
-/// How wide help is.
+/// The width of help texts.
 const WIDTH: usize = 100;
 /// Where the second column of a list begins.
 const COLUMN: usize = 20;
 
 /// What the words of a command line ask for.
 pub enum Asked {
-    /// A command, with the words behind its name.
+    /// A command, with the words after its name.
     Run(&'static Command, Vec<OsString>),
     /// Help on a command, on a group of them, or on all.
     Help(String),
@@ -27,7 +27,7 @@ impl Asked {
         let found = COMMANDS.iter().find(|c| names(c, named));
         let is_group = named.first().is_some_and(|w| !group(w).is_empty());
         let behind = found.map_or(usize::from(is_group), |c| c.name.split(' ').count());
-        // `help` stands first or behind the words of a command: a file of that name is ./help.
+        // `help` comes first or after the words of a command: a file of that name is ./help.
         let wants_help = is_first || has(&["-h", "--help"]) || named.get(behind) == Some(&"help");
         match found {
             _ if has(&["--version", "-V"]) => Ok(Asked::Version),
@@ -50,7 +50,7 @@ fn group(name: &str) -> Vec<&'static Command> {
     COMMANDS.iter().filter(|c| c.name.strip_prefix(name).is_some_and(|rest| rest.starts_with(' '))).collect()
 }
 
-/// Help on a group; on all commands where no word is left.
+/// Help on a group; on all commands if no word is left.
 fn of_group(words: &[&str]) -> Result<String, Failure> {
     let words: Vec<&str> = words.iter().copied().filter(|w| *w != "help" && !w.starts_with('-')).collect();
     let Some(first) = words.first() else { return Ok(of_all()) };
@@ -111,7 +111,7 @@ fn put_pair(out: &mut String, word: &str, what: &str) {
     put_wrapped(out, what, COLUMN, COLUMN);
 }
 
-/// A text in lines, where the first begins in one column and the others in another.
+/// Puts a text in lines; the first begins in one column, and the others in another.
 fn put_wrapped(out: &mut String, text: &str, mut column: usize, indent: usize) {
     let start = column;
     for word in text.split_ascii_whitespace() {
@@ -129,7 +129,7 @@ fn put_wrapped(out: &mut String, text: &str, mut column: usize, indent: usize) {
     out.push('\n');
 }
 
-/// Words that name no command, and what to write instead.
+/// The failure for words that name no command, with what to write instead.
 fn unknown(words: &[&str]) -> Failure {
     let Some(first) = words.first() else { return Failure::Usage(of_all()) };
     let all = group(first);
@@ -149,14 +149,14 @@ fn unknown(words: &[&str]) -> Failure {
     Failure::Usage(format!("{said}: no such command. {advice}"))
 }
 
-/// The name that is nearest to a word, where one is near.
+/// The name that is nearest to a word, if one is near.
 pub fn nearest<'a>(word: &str, names: impl Iterator<Item = &'a str>) -> Option<&'a str> {
     let near = |name: &&str| distance(word.as_bytes(), name.as_bytes());
     let best = names.min_by_key(near)?;
     (near(&best) <= 1 + word.len() / 4).then_some(best)
 }
 
-/// How many letters have to be put in, left out, changed or swapped with the next.
+/// How many letters must be added, left out, changed or swapped with the next.
 fn distance(a: &[u8], b: &[u8]) -> usize {
     let mut rows = vec![(0..=b.len()).collect::<Vec<usize>>()];
     for i in 1..=a.len() {

@@ -1,11 +1,11 @@
-//! What the journal decides, as pure functions over bytes: the state file's bytes, the judgement on the block with the last counted row, where the run
-//! of leftover rows ends, and how many of them are what the log gives again. What is read, written and synced meanwhile is `store` and `keeper`
-//! (docs/CRASH.md has the whole picture; crates/journal_model its model and theorems).
+//! The decisions of the journal, as pure functions over bytes: the bytes of the state file, the judgement on the block with the last counted row,
+//! where the leftover rows end, and how many of them equal the rows that the log gives again. Reading, writing and syncing is in `store` and `keeper`
+//! (docs/CRASH.md has the whole picture; crates/journal_model has the model and the theorems).
 use mooringeye::{raw, Archive, Block, Collector, Refusal};
 
 const BLOCK: usize = Archive::BLOCK;
 pub const ROWS: u64 = Archive::ROWS_PER_BLOCK as u64;
-/// The bytes of a row but its time: 1 for LOOSE and else 0, a length, 21 bytes.
+/// The length of a row without its time: 1 for LOOSE, else 0; a length; 21 bytes.
 pub const RECORD: usize = raw::ROW;
 /// The bytes of a state file.
 pub const LENGTH: usize = raw::STATE;
@@ -20,7 +20,7 @@ pub struct State {
     /// How many lines were taken.
     pub lines: u64,
     pub archive: Option<Attached>,
-    /// Where the log stands; none in a state of version 1.
+    /// The position in the log; none in a state of version 1.
     pub log: Option<LogPlace>,
     pub out: Option<OutPlace>,
 }
@@ -30,17 +30,17 @@ pub struct State {
 pub struct Attached {
     /// Its file name, or its pattern.
     pub name: Vec<u8>,
-    /// The number of the file, where a pattern names it.
+    /// The number of the file, if a pattern names it.
     pub number: u64,
     /// KEPT and LOOSE rows that the collector had counted when this file began.
     pub counted: u64,
-    /// Rows that the file had then.
+    /// How many rows the file had then.
     pub had: u64,
-    /// The block with its last counted row; all zero where it has none.
+    /// The block with its last counted row; all zero if it has none.
     pub last: Block,
 }
 
-/// The place in the log behind the last line that was taken.
+/// The position in the log after the last line that was taken.
 #[derive(Clone, Debug, Default, PartialEq, Eq)]
 pub struct LogPlace {
     /// Bytes before it: of the file, or of standard input in all runs.
@@ -53,14 +53,14 @@ pub struct LogPlace {
 }
 
 impl LogPlace {
-    /// The place behind more text.
+    /// The position after more text.
     pub fn pass(&mut self, text: &[u8]) {
         self.offset += text.len() as u64;
         keep_last(&mut self.tail, text);
     }
 }
 
-/// The last bytes, at most `TAIL`, of some that are kept and of more behind them.
+/// Keeps the last bytes, at most `TAIL`, of those that are kept and of more after them.
 pub fn keep_last(tail: &mut Vec<u8>, text: &[u8]) {
     let text = &text[text.len().saturating_sub(TAIL)..];
     let keep = tail.len().min(TAIL - text.len());
@@ -87,7 +87,7 @@ impl State {
         totals.kept + totals.loose
     }
 
-    /// The bytes of docs/FORMATS.md, "State file". Refused: a state whose parts do not agree.
+    /// The bytes of docs/FORMATS.md, "State file of mooringeye collect". Refused: a state whose parts do not agree.
     pub fn to_bytes(&self) -> Result<Vec<u8>, Refusal> {
         let (mut numbers, mut name, mut tail) = ([0; raw::STATE_NUMBERS], [0; raw::STATE_NAME], [0; TAIL]);
         let mut last = Block::default();
@@ -111,7 +111,7 @@ impl State {
         }
     }
 
-    /// The state of these bytes, or why there is none. Accepted is just what is written of a state, in this version or in version 1.
+    /// The state of these bytes, or why they have none. Accepted are exactly the bytes that are written for a state, in this version or in version 1.
     pub fn of_bytes(bytes: &[u8]) -> Result<State, String> {
         let (mut numbers, mut name, mut tail) = ([0; raw::STATE_NUMBERS], [0; raw::STATE_NAME], [0; TAIL]);
         let (mut last, mut image) = ([0; BLOCK], [0; Collector::IMAGE]);
@@ -136,7 +136,7 @@ impl State {
     }
 }
 
-/// Of so many rows of a file how many stand in the last block.
+/// How many of this many rows of a file are in its last block.
 pub fn in_last(rows: u64) -> usize {
     match rows {
         0 => 0,
@@ -144,13 +144,13 @@ pub fn in_last(rows: u64) -> usize {
     }
 }
 
-/// How the block with the last counted row stands, against the state's copy of it.
+/// The block with the last counted row, compared with the state's copy of it.
 #[derive(Clone, Copy, Debug, PartialEq, Eq)]
 pub enum Found {
     Same,
-    /// The counted rows, and leftovers behind them.
+    /// The counted rows, and leftovers after them.
     Longer,
-    /// Bytes that are no block: a write that did not end.
+    /// Bytes that are not a block: a write that did not end.
     Torn,
     /// A block of another archive, or none.
     Another,
@@ -173,7 +173,7 @@ pub struct Stored {
     pub record: [u8; RECORD],
 }
 
-/// The rows of a block; none of one that is not sound.
+/// The rows of a block; none if it is not sound.
 pub fn rows_of(block: &Block) -> Vec<Stored> {
     if !block.is_sound() {
         return Vec::new();
@@ -185,7 +185,8 @@ pub fn rows_of(block: &Block) -> Vec<Stored> {
     (0..Archive::ROWS_PER_BLOCK).map_while(row_at).collect()
 }
 
-/// How many rows that come are what stands there, from the first on. Where all are they are counted; else the leftovers behind go aside.
+/// How many of the new rows, from the first on, equal the rows that are there. If all do, they are counted; else the leftovers after them are put
+/// aside.
 pub fn agreeing(times: &[u64], records: &[u8], left: &[Stored]) -> usize {
     let moments: Vec<u64> = left.iter().map(|row| row.time).collect();
     let standing: Vec<u8> = left.iter().flat_map(|row| row.record).collect();
@@ -195,13 +196,13 @@ pub fn agreeing(times: &[u64], records: &[u8], left: &[Stored]) -> usize {
     agreed
 }
 
-/// Where a run of blocks ends that reads as an archive: sound, rightly numbered, only the last one short.
+/// Where a run of blocks ends that reads as an archive: sound, with the right numbers, and only the last one short.
 pub struct Run {
     numbers: [u64; raw::RUN_NUMBERS],
 }
 
 impl Run {
-    /// The next block has this number; in one file none is too large.
+    /// The next block has this number; in one file no number is too large.
     pub fn from(next: u64) -> Run {
         Run { numbers: [1 << 32, next, 0, 0, 0] }
     }
@@ -211,7 +212,7 @@ impl Run {
         Run { numbers: [1 << 32, 0, 0, 0, 1] }
     }
 
-    /// The blocks of it, and their rows.
+    /// How many blocks it has, and how many rows.
     pub fn blocks(&self) -> u64 {
         self.numbers[2]
     }
@@ -231,7 +232,7 @@ fn is_zero(bytes: &[u8]) -> bool {
     bytes.iter().fold(0, |any, b| any | b) == 0
 }
 
-/// What stands behind a run of blocks: bytes that nobody counts.
+/// What comes after a run of blocks: bytes that nobody counts.
 #[derive(Clone, Copy, Debug, Default, PartialEq, Eq)]
 pub struct Behind {
     /// Blocks up to the last that is not all zero.
@@ -280,7 +281,7 @@ mod tests {
         }
     }
 
-    /// What version 1 wrote of a state without a place in a log.
+    /// What version 1 wrote for a state without a position in a log.
     fn bytes_1(state: State) -> Vec<u8> {
         let mut bytes = State { log: None, out: None, ..state }.to_bytes().unwrap();
         bytes.truncate(LENGTH - TAIL);

@@ -1,8 +1,9 @@
-//! What a collector keeps on disk: its state, its archive and the files of `--out` and `--heard`; and the order in which they are written (docs/CRASH.md).
+//! What a collector keeps on disk: its state, its archive and the files of `--out` and `--heard`; and the order in which they are written
+//! (docs/CRASH.md).
 //!
-//! A batch is what one read brought, at most so many lines. Its rows go to the archive first, then to the file of `--out`, what it closes to that of
-//! `--heard`, then the state is replaced, then the rows are printed: so a row that was printed is counted, and what stands behind the state's counts is
-//! at most one batch.
+//! A batch is what one read brought, up to a number of lines. Its rows go to the archive first, then to the file of `--out`. What it closes goes to
+//! the file of `--heard`. Then the state is replaced, and then the rows are printed. So a row that was printed is counted, and at most one batch is
+//! on disk that the state does not count.
 use crate::batch::Batch;
 use crate::closings::Closings;
 use crate::disk::Shared;
@@ -16,9 +17,9 @@ use crate::text;
 use mooringeye::Lines;
 use std::path::PathBuf;
 
-/// The most lines of a batch.
+/// The largest number of lines in a batch.
 pub const MAX_BATCH: usize = 16_384;
-/// A time so far ahead of the one before it is told: where a clock is wrong, all later lines are LATE.
+/// A time that is this far ahead of the one before it is reported: if a clock is wrong, all later lines are LATE.
 const DAY: u64 = 24 * 60 * 60 * 1000;
 
 /// The steps of a commit.
@@ -30,7 +31,7 @@ pub enum Step {
     Print,
 }
 
-/// Their order, which is the model's.
+/// The order of the steps, which is the model's.
 pub const ORDER: [Step; 4] = [Step::Archive, Step::Out, Step::State, Step::Print];
 
 /// Which files are kept.
@@ -40,9 +41,9 @@ pub struct Files {
     pub archive: Option<Place>,
     pub out: Option<PathBuf>,
     pub heard: Option<PathBuf>,
-    /// Begins with a fresh collector, and keeps the old state aside.
+    /// Begins with a fresh collector, and puts the old state aside.
     pub new_state: bool,
-    /// Goes on with the archive as it is.
+    /// Continues with the archive as it is.
     pub adopt: bool,
     pub format: Format,
     pub order: [Step; 4],
@@ -56,7 +57,7 @@ pub struct Keeper {
     file: Option<StateFile>,
     /// Whether there was no state before.
     pub is_new: bool,
-    /// Whether the lines come from a feed, while the state stands in a log: its place there stays.
+    /// Whether the lines come from a feed, while the state has a position in a log: that position is kept.
     pub is_beside_log: bool,
     store: Option<Store>,
     out: Option<Out>,
@@ -71,7 +72,7 @@ pub struct Keeper {
 pub type Print<'a> = &'a mut dyn FnMut(&[u8]) -> Result<(), Failure>;
 
 impl Keeper {
-    /// Locks and reads the files, and looks at what a stop may have left. Nothing is changed yet.
+    /// Locks and reads the files, and finds what a stop may have left. Nothing is changed yet.
     pub fn open(disk: &Shared, files: &Files) -> Result<Keeper, Failure> {
         let file = files.state.as_deref().map(|path| StateFile::lock(disk, path)).transpose()?;
         let read = match &file {
@@ -90,7 +91,7 @@ impl Keeper {
         Ok(Keeper { disk, state, saved, file, is_new, is_beside_log: false, store, out, closings, new_state, format, order, batch })
     }
 
-    /// Puts in order what a stop left, and writes the state: from now on lines can be taken.
+    /// Repairs what a stop left, and writes the state: from now on lines can be taken.
     pub fn settle(&mut self) -> Result<(), Failure> {
         if let (true, Some(file)) = (self.new_state, &self.file) {
             if let Some(aside) = file.put_aside()? {
@@ -147,7 +148,7 @@ impl Keeper {
         Ok(())
     }
 
-    /// Takes whole lines from the start of a text, at most so many, as the next batch. They stand next in the log.
+    /// Takes whole lines from the start of a text, at most `most`, as the next batch. They are the next lines of the log.
     pub fn take(&mut self, level: u8, text: &[u8], most: usize) -> Result<Lines, Failure> {
         let before = self.state.collector.latest();
         let took = self.batch.take(&mut self.state.collector, level, self.format, text, most)?;
@@ -164,7 +165,7 @@ impl Keeper {
         }
     }
 
-    /// The log goes on at another place.
+    /// Continues the log at another position.
     pub fn stand_at(&mut self, place: LogPlace) {
         self.state.log = Some(place);
     }
@@ -180,7 +181,7 @@ impl Keeper {
         }
     }
 
-    /// Brings the batch to disk, and prints its rows.
+    /// Writes the batch to disk, and prints its rows.
     pub fn commit(&mut self, print: Print) -> Result<(), Failure> {
         if let Some(out) = &self.out {
             if !out.is_named()? {
@@ -200,7 +201,7 @@ impl Keeper {
         Ok(())
     }
 
-    /// Rows to the file of `--out`, and what closed to that of `--heard`.
+    /// Writes rows to the file of `--out`, and what closed to the file of `--heard`.
     fn put_out(&mut self) -> Result<(), Failure> {
         if let Some(out) = &mut self.out {
             if out.is_empty() {
@@ -215,7 +216,7 @@ impl Keeper {
         }
     }
 
-    /// The lines come from a feed, and nobody listened to it up to now: telegrams that are open may have been heard more often.
+    /// The lines come from a feed, and nobody listened to it until now: open telegrams may have been received more often.
     pub fn interrupt(&mut self) {
         if let Some(closings) = &mut self.closings {
             let collector = &self.state.collector;
@@ -223,7 +224,7 @@ impl Keeper {
         }
     }
 
-    /// Goes on with the file that the path of `--out` names now: the state says so before the first row stands in it.
+    /// Continues with the file that the path of `--out` names now: the state says so before the first row is in it.
     fn renew_out(&mut self) -> Result<(), Failure> {
         let Some(out) = &self.out else { return Ok(()) };
         let new = out.again()?;
@@ -235,12 +236,12 @@ impl Keeper {
         Ok(())
     }
 
-    /// The log has ended: what it did not give again goes aside.
+    /// The log has ended: leftovers that it did not give again are put aside.
     pub fn log_ended(&mut self) -> Result<(), Failure> {
         self.store.as_mut().map_or(Ok(()), Store::end)
     }
 
-    /// Hands leftovers to the collector, where there is no log that gives them again. Each is counted where it is answered as it stands there.
+    /// Hands leftovers to the collector, if there is no log that gives them again. Each is counted if it gets the answer that the archive has.
     pub fn take_in(&mut self, level: u8, print: Print) -> Result<(), Failure> {
         let counted = self.state.counted();
         if let Some(closings) = &mut self.closings {
@@ -261,13 +262,13 @@ impl Keeper {
         self.log_ended()
     }
 
-    /// The state as it stands at the end.
+    /// Writes the state at the end.
     pub fn end(&mut self) -> Result<(), Failure> {
         self.save()
     }
 }
 
-/// Refuses to put rows behind those of another format.
+/// Refuses to write rows after those of another format.
 fn check_format(out: &Out, format: Format) -> Result<(), Failure> {
     let (is_json, is_csv) = (out.starts_with(b"{")?, out.starts_with(Format::Csv.heading().as_bytes())?);
     let fits = match format {

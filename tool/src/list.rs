@@ -1,7 +1,7 @@
 //! `mooringeye archive list`: the rows of archives with their numbers, for people and for a database.
 //!
-//! Rows are counted over the files, in the order of the files' numbers. Of a file whose first rows are not wanted only the blocks from there on are
-//! read: where the rows end is found by halving, and what is read from there to the end of the file has to say the same.
+//! Rows are counted over the files, in the order of the files' numbers. If the first rows of a file are not wanted, only the blocks after them are
+//! read: the end of the rows is found by binary search, and reading from there to the end of the file must give the same.
 use crate::appender::BLOCK;
 use crate::archive::{identities, Source};
 use crate::args::Args;
@@ -20,7 +20,7 @@ use std::os::unix::ffi::OsStrExt;
 use std::os::unix::fs::FileExt;
 use std::path::Path;
 
-/// The greatest number that a first row may have, so that counting on never leaves 63 bits, which databases have.
+/// The greatest number of a first row, so that row numbers never exceed 63 bits, as databases have them.
 const MAX_FIRST: u64 = 1 << 62;
 
 pub fn run(args: &Args) -> Result<(), Failure> {
@@ -44,8 +44,8 @@ fn first_row(text: &str) -> Option<u64> {
     text::number(text).filter(|n| (1..=MAX_FIRST).contains(n))
 }
 
-/// The rows of a file whose first one has this number, and then how many it has. The rows before the first block that does not match are printed, and
-/// then the failure is told.
+/// Prints the rows of a file whose first one has this number, and returns how many it has. The rows before the first block that does not match are
+/// printed, and then the failure is reported.
 pub fn list_one(source: &Source, first: u64, wanted: &Wanted, left: &mut u64, printer: &mut impl Sink) -> Result<u64, Failure> {
     if *left == 0 {
         return Ok(0);
@@ -89,7 +89,7 @@ fn used_blocks(source: &Source) -> Result<u64, Failure> {
     Ok(used)
 }
 
-/// Files in the order of their numbers, where their names differ in a number alone: a shell sorts plant-10 before plant-9. Others stay as they are given.
+/// Files in the order of their numbers, if their names differ only in a number: a shell sorts plant-10 before plant-9. Others keep their order.
 pub fn in_order(names: &[OsString]) -> Vec<&OsStr> {
     let mut sorted: Vec<&OsStr> = names.iter().map(OsString::as_os_str).collect();
     let numbered: Option<Vec<Numbered>> = sorted.iter().map(|name| Numbered::of(name)).collect();
@@ -121,7 +121,7 @@ impl Numbered<'_> {
     }
 }
 
-/// Takes the rows that are wanted.
+/// Takes the wanted rows.
 pub trait Sink {
     fn put(&mut self, number: u64, row: &Row);
 
@@ -131,11 +131,11 @@ pub trait Sink {
 
 /// Which rows are wanted.
 pub struct Wanted {
-    /// The last row that is not, by its number; 0 where the first one is wanted.
+    /// The number of the last row that is not wanted; 0 if the first one is wanted.
     after: u64,
     pub from: u64,
     pub to: u64,
-    /// None listed: those of every transmitter.
+    /// Empty for every transmitter.
     transmitters: Vec<[u8; 4]>,
 }
 
@@ -188,10 +188,10 @@ impl Form {
     }
 }
 
-/// Rows on their way to standard output.
+/// Rows for standard output.
 struct Printer {
     form: Form,
-    /// How rows as text, CSV and JSON are written beyond that.
+    /// How rows as text, CSV and JSON are written.
     style: Style,
     output: Output,
     printed: Vec<u8>,
@@ -207,7 +207,7 @@ impl Printer {
         Ok(Printer { form, style, output: Output::standard()?, printed: Vec::with_capacity(4 * PIECE), months: BTreeMap::new() })
     }
 
-    /// What stands before the first row.
+    /// Prints what comes before the first row.
     fn begin(&mut self) -> Result<(), Failure> {
         match self.form {
             Form::Plain(format) => self.style.put_heading(&mut self.printed, format),
@@ -217,7 +217,7 @@ impl Printer {
         self.write()
     }
 
-    /// What stands behind the last row. It is missing where a file could not be read to its end, so that nobody takes a part for the whole.
+    /// Prints what comes after the last row. It is missing if a file could not be read to its end, so nobody takes a part for the whole.
     fn end(&mut self) -> Result<(), Failure> {
         if self.form == Form::Binary {
             self.printed.extend_from_slice(copy::TRAILER);
@@ -270,7 +270,7 @@ mod tests {
     fn numbered_files_are_in_order() {
         assert_eq!(sorted(&["d2/p-10.arc", "d2/p-9.arc", "d2/p-008.arc"]), ["d2/p-008.arc", "d2/p-9.arc", "d2/p-10.arc"]);
         assert_eq!(sorted(&["7", "11", "9"]), ["7", "9", "11"]);
-        // Names that differ otherwise, or have no number in their last part, stay as they are given.
+        // Names that differ otherwise, or have no number in their last part, keep their order.
         for names in [&["p-10.arc", "q-9.arc"][..], &["p-10.arc", "p-9.old"], &["b", "a"], &["d2/b", "d1/b"], &["p-2.arc", "p.arc"]] {
             assert_eq!(sorted(names), names);
         }

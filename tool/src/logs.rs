@@ -1,8 +1,8 @@
-//! `--log FILE`: the log is read from where the state stands, followed as it grows, and through rotation by rename.
+//! `--log FILE`: the log is read from the position in the state, followed as it grows, and through rotation by rename.
 //!
-//! A log is known by its inode and by its last bytes before the place (`LogPlace`). Rotated logs are the files beside it with its name and a number or
-//! a date: FILE.1, FILE.2, .. are newer first; others are older where they were changed earlier. Of a log that was cut (copytruncate) or is gone
-//! nothing can be known, so it is refused.
+//! A log is known by its inode and by its last bytes before the position (`LogPlace`). Rotated logs are files in the same folder with its name and a
+//! number or a date: of FILE.1, FILE.2, .. the first is the newest; of others, the one that was changed earlier is older. If a log was cut
+//! (copytruncate) or is gone, nothing can be known, so it is refused.
 use crate::failure::{tell, Failure};
 use crate::files;
 use crate::journal::LogPlace;
@@ -20,10 +20,10 @@ use std::os::unix::fs::{FileExt, MetadataExt};
 use std::path::{Path, PathBuf};
 use std::time::SystemTime;
 
-/// How long a log at its end is left alone, in milliseconds: where its growth is watched, and where it is not.
+/// How long the tool waits at the end of a log, in milliseconds: if its growth is watched, and if it is not.
 const WATCHED: i32 = 1_000;
 const POLLED: i32 = 20;
-/// What a rotated log that is packed ends with.
+/// The endings of rotated logs that are packed.
 const PACKED: [&str; 6] = [".gz", ".xz", ".bz2", ".zst", ".lz4", ".zip"];
 
 /// A log that is open.
@@ -49,7 +49,7 @@ impl Opened {
         Failure::of(format!("read {}", self.path.display()), error)
     }
 
-    /// What stands before a place is what was taken, or from which byte on it is not.
+    /// Whether the bytes before a position are those that were taken; if not, the first byte that differs.
     fn compare(&self, place: &LogPlace) -> Result<Result<(), u64>, Failure> {
         let length = self.length()?;
         if length < place.offset {
@@ -65,7 +65,7 @@ impl Opened {
     }
 }
 
-/// Where two texts differ first.
+/// Where two texts first differ.
 pub fn differ(one: &[u8], other: &[u8]) -> Option<u64> {
     let at = one.iter().zip(other).position(|(a, b)| a != b);
     at.or((one.len() != other.len()).then(|| one.len().min(other.len()))).map(|at| at as u64)
@@ -75,14 +75,14 @@ pub struct Log {
     path: PathBuf,
     current: Opened,
     at: u64,
-    /// Newer ones that are to be read next.
+    /// Newer logs that are to be read next.
     newer: VecDeque<Opened>,
     follows: bool,
     watcher: Option<File>,
 }
 
 impl Log {
-    /// Opens the log where a place says; at its first byte where there is none.
+    /// Opens the log at a position; at its first byte if there is none.
     pub fn open(path: &Path, follows: bool, place: Option<&LogPlace>) -> Result<Log, Failure> {
         let (current, newer, at) = match place {
             Some(place) if place.inode != 0 => find(path, place)?,
@@ -104,7 +104,7 @@ impl Log {
         Ok(log)
     }
 
-    /// Where it stands before anything is read: of a log that is begun, or of the one where the state stands.
+    /// The position before anything is read: of a log that is begun, or of the one in the state.
     pub fn place(&self) -> LogPlace {
         LogPlace { offset: 0, device: self.current.device, inode: self.current.inode, tail: Vec::new() }
     }
@@ -118,7 +118,7 @@ impl Log {
         &self.current.path
     }
 
-    /// How many bytes there are to be read now; none where more is waited for.
+    /// How many bytes there are to read now; none if more is waited for.
     pub fn left(&self) -> Option<u64> {
         let newer = self.newer.iter().filter_map(|log| log.length().ok()).sum::<u64>();
         (!self.follows).then(|| self.current.length().unwrap_or(0).saturating_sub(self.at) + newer)
@@ -190,7 +190,7 @@ impl Log {
             Some(_) if is_current && !self.follows => Ok(Next::End),
             None => Ok(Next::Wait(POLLED)), // renamed, and the new one is not there yet
             Some(_) if is_current => Ok(Next::Wait(if self.watcher.is_some() { WATCHED } else { POLLED })),
-            // As long as the new one is empty the old one may be written still.
+            // As long as the new one is empty, the old one may still be written.
             Some(metadata) if metadata.len() == 0 && self.follows => Ok(Next::Wait(POLLED)),
             Some(_) => {
                 self.newer = newer_than(&self.path, self.identity().1)?;
@@ -199,7 +199,7 @@ impl Log {
         }
     }
 
-    /// The log that is read has come to its end: it is read once more, since something may have been written before it was renamed.
+    /// The log that is read has ended: it is read once more, because something may have been written before it was renamed.
     fn go_on(&mut self, next: Opened) -> Result<Next, Failure> {
         if self.current.length()? > self.at {
             self.newer.push_front(next);
@@ -232,7 +232,7 @@ fn cut(path: &Path, length: u64, taken: u64) -> Failure {
 fn find(path: &Path, place: &LogPlace) -> Result<(Opened, VecDeque<Opened>, u64), Failure> {
     let mut all = rotated(path)?;
     let Some(at) = all.iter().position(|o| o.inode == place.inode) else {
-        // A copy of the same log, as from a backup, is as good.
+        // A copy of the same log, for example from a backup, will do as well.
         let own = all.pop_back();
         return match own {
             Some(own) if own.path == path && own.compare(place)?.is_ok() => Ok((own, VecDeque::new(), place.offset)),
@@ -269,7 +269,7 @@ enum Age {
     Changed(SystemTime),
 }
 
-/// The log and the rotated ones beside it, the oldest first. They may be renamed meanwhile: they are looked at until nothing changes.
+/// The log and the rotated ones in its folder, the oldest first. They may be renamed meanwhile: the search is repeated until nothing changes.
 fn rotated(path: &Path) -> Result<VecDeque<Opened>, Failure> {
     for _ in 0..1_000 {
         let listed = list(path)?;
@@ -306,7 +306,7 @@ fn list(path: &Path) -> Result<Vec<(PathBuf, u64)>, Failure> {
     Ok(found.into_iter().map(|(_, path, inode)| (path, inode)).chain(own).collect())
 }
 
-/// Whether a file is a rotated log by its name, and which number it has: FILE.N, or FILE with a date behind it or before its ending.
+/// Whether a file is a rotated log by its name, and its number: FILE.N, or FILE with a date after it or before its extension.
 fn rotation(name: &OsStr, other: &OsStr) -> Option<Option<u64>> {
     let (name, other) = (name.to_str()?, other.to_str()?);
     if PACKED.iter().any(|ending| other.ends_with(ending)) {

@@ -1,6 +1,6 @@
 //! `mooringeye`: a collector that runs at a plant and survives what happens to it, and the tools for its archives.
 //!
-//! Every decision is made by the proved library; this program reads, writes, locks, syncs and speaks.
+//! Every decision is made by the proved library; this program reads, writes, locks, syncs and reports.
 #![deny(unsafe_code)]
 
 mod appender;

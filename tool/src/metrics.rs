@@ -9,13 +9,13 @@ use std::fs::{self, Permissions};
 use std::os::unix::fs::PermissionsExt;
 use std::path::PathBuf;
 
-/// Another program reads the file, whatever the umask of this one is.
+/// Another program reads the file, whatever umask this one has.
 const MODE: u32 = 0o644;
 
-/// The file, replaced in one step. It is not synced: after a power cut the next batch writes it.
+/// The file, which is replaced in one step. It is not synced: after a power cut, the next batch writes it.
 pub struct Metrics {
     path: Option<PathBuf>,
-    /// Whether a failure was told. A collector goes on without its metrics.
+    /// Whether a failure was reported. A collector continues without its metrics.
     told: bool,
 }
 
@@ -24,7 +24,7 @@ impl Metrics {
         Metrics { path, told: false }
     }
 
-    /// Writes what a state says.
+    /// Writes the numbers of a state.
     pub fn write(&mut self, state: &State) {
         let Some(path) = &self.path else { return };
         let beside = with_suffix(path, ".new");

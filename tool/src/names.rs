@@ -11,7 +11,7 @@ pub struct Names {
 }
 
 impl Names {
-    /// The names of the file; none where `--names` is left out.
+    /// The names in the file; none if `--names` is left out.
     pub fn of(args: &Args) -> Result<Option<Names>, Failure> {
         let Some(path) = args.path("names")? else { return Ok(None) };
         let text = fs::read_to_string(&path).map_err(|e| Failure::of(format!("read {}", path.display()), &e))?;
@@ -20,7 +20,7 @@ impl Names {
         Names::read(&text).map(Some).map_err(wrong)
     }
 
-    /// Of a text, or the number of the first wrong line. A first line `txid,name` is a heading.
+    /// Reads a text; the number of the first wrong line if there is one. A first line `txid,name` is a heading.
     fn read(text: &str) -> Result<Names, usize> {
         let mut names = Names::default();
         for (number, line) in (1_usize..).zip(text.lines()) {
@@ -35,7 +35,7 @@ impl Names {
         Ok(names)
     }
 
-    /// The name of a transmitter; empty where it has none.
+    /// The name of a transmitter; empty if it has none.
     pub fn name(&self, id: &[u8]) -> &str {
         <[u8; 4]>::try_from(id).ok().and_then(|id| self.all.get(&id)).map_or("", String::as_str)
     }
@@ -52,7 +52,7 @@ fn unquoted(cell: &str) -> Option<String> {
     }
 }
 
-/// A cell of CSV, with quotes where it needs them.
+/// A cell of CSV, with quotes if it needs them.
 pub fn quoted(cell: &str) -> String {
     match cell.contains([',', '"']) {
         true => format!("\"{}\"", cell.replace('"', "\"\"")),

@@ -1,4 +1,4 @@
-//! The table of commands and options. Parsing, help, man pages and completions come from it, so that they can't differ.
+//! The table of commands and options. Parsing, help, man pages and completions come from it, so they can't differ.
 use crate::args::Args;
 use crate::failure::Failure;
 use crate::{archive, collect, generate, heard, list, picture, plans, receptions, status, telegrams};
@@ -21,7 +21,7 @@ pub enum Takes {
 #[derive(Debug)]
 pub struct Opt {
     pub name: &'static str,
-    /// How its value is called; empty where it takes none.
+    /// The name of its value; empty if it takes none.
     pub value: &'static str,
     pub takes: Takes,
     /// What it does.
@@ -32,7 +32,7 @@ pub struct Opt {
 pub struct Command {
     /// Its words: `archive list`.
     pub name: &'static str,
-    /// The words behind them, in each of its forms.
+    /// The words after them, in each of its forms.
     pub forms: &'static [&'static str],
     /// What those words are.
     pub words: Takes,

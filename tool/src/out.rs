@@ -1,5 +1,5 @@
-//! The file of `--out`: each row stands in it once. Its length stands in the state, and at a start it is cut to that length: what stands behind are rows
-//! of a batch that did not end, which comes again. The file of `--heard` (`closings`) is such a file too, whose length does not stand in the state.
+//! The file of `--out`: each row is in it once. The state has its length, and at a start it is cut to that length: the bytes after it are rows of a
+//! batch that did not end, which comes again. The file of `--heard` (`closings`) is such a file too, but the state does not have its length.
 use crate::disk::{Facts, Handle, Shared};
 use crate::failure::Failure;
 use crate::files;
@@ -23,7 +23,7 @@ impl Named {
         })
     }
 
-    /// What stands in it.
+    /// What it contains.
     fn content(self) -> &'static str {
         match self {
             Named::Out => "rows",
@@ -38,13 +38,13 @@ pub struct Out {
     path: PathBuf,
     file: Box<dyn Handle>,
     facts: Facts,
-    /// How much of it is rows.
+    /// How many bytes of it are rows.
     length: u64,
     is_unsynced: bool,
 }
 
 impl Out {
-    /// Opens the file, makes it where it is missing, and finds how much of it the state counts. Nothing of it is changed yet.
+    /// Opens the file, creates it if it is missing, and finds how much of it the state counts. Nothing in it is changed yet.
     pub fn open(disk: &Shared, named: Named, path: &Path, kept: Option<OutPlace>) -> Result<Out, Failure> {
         let file = files::open_kept(&**disk, path)?;
         let facts = file.facts().map_err(|e| cannot(path, &e))?;
@@ -65,7 +65,7 @@ impl Out {
         Ok(out)
     }
 
-    /// Cuts what the state does not count, and says so before.
+    /// Cuts off what the state does not count, and reports it before.
     pub fn settle(&mut self) -> Result<(), Failure> {
         if self.facts.length > self.length {
             let (shown, cut) = (self.path.display(), self.facts.length - self.length);
@@ -85,19 +85,19 @@ impl Out {
         self.length
     }
 
-    /// Says how much of it counts.
+    /// Sets how much of it counts.
     pub fn count(&mut self, length: u64) {
         self.length = length;
     }
 
-    /// What stands in it behind so many bytes, as it was opened.
+    /// The bytes after this many, of the file that was opened.
     pub fn read_from(&self, from: u64) -> Result<Vec<u8>, Failure> {
         let mut bytes = vec![0; self.facts.length.saturating_sub(from) as usize];
         self.file.read_all_at(&mut bytes, from).map_err(|e| Failure::of(format!("read {}", self.path.display()), &e))?;
         Ok(bytes)
     }
 
-    /// Whether it begins so.
+    /// Whether it begins with this text.
     pub fn starts_with(&self, text: &[u8]) -> Result<bool, Failure> {
         let mut bytes = vec![0; text.len()];
         match self.facts.length < text.len() as u64 {
@@ -117,13 +117,13 @@ impl Out {
         self.length == 0
     }
 
-    /// Whether the path still names the open file. It does not where the file was renamed or removed, as logs are rotated.
+    /// Whether the path still names the open file. It does not if the file was renamed or removed, as in log rotation.
     pub fn is_named(&self) -> Result<bool, Failure> {
         let named = self.disk.facts(&self.path).map_err(|e| cannot(&self.path, &e))?;
         Ok(named.is_some_and(|named| named.is_same(&self.facts)))
     }
 
-    /// Rows behind the others.
+    /// Writes rows after the others.
     pub fn write(&mut self, rows: &[u8]) -> Result<(), Failure> {
         if !rows.is_empty() {
             self.file.write_at(rows, self.length).map_err(|e| cannot(&self.path, &e))?;

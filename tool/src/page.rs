@@ -1,26 +1,26 @@
-//! What pictures share: one HTML page that needs no other file, its colours, and an axis of times.
+//! What pictures have in common: one HTML page that needs no other file, its colours, and an axis of times.
 use crate::failure::Failure;
 use crate::text::put_hex;
 use crate::times::iso;
 use std::fmt::Write;
 
-/// The most marks of a picture: browsers are slow beyond.
+/// The largest number of marks in a picture: with more, browsers are slow.
 pub const MAX_MARKS: usize = 20_000;
-/// Colours that can be told apart, for the data that comes first; the rest is grey.
+/// Colours that are easy to tell apart, for the data that comes first; the rest is grey.
 const COLOURS: [&str; 10] = ["#1b9e77", "#d95f02", "#7570b3", "#e7298a", "#1f78b4", "#b8860b", "#a6761d", "#66a61e", "#6a3d9a", "#e31a1c"];
 const GREY: &str = "#777777";
 /// Widths and heights in pixels.
 pub const LEFT: f64 = 230.0;
 pub const WIDTH: f64 = 1_000.0;
 pub const TOP: f64 = 16.0;
-/// What stands below the lanes.
+/// What is below the lanes.
 pub const BOTTOM: f64 = 28.0;
-/// The picture ends so far behind its lanes.
+/// How far the picture extends after its lanes.
 const MARGIN: f64 = 30.0;
-/// A picture that is higher does not fit a screen: what stands below the lanes stands above them too.
+/// A higher picture does not fit a screen: then the labels below the lanes are above them too.
 const TALL: f64 = 600.0;
 
-/// Refuses more marks than a picture has.
+/// Refuses more marks than a picture may have.
 pub fn check_marks(count: usize, what: &str) -> Result<(), Failure> {
     match count > MAX_MARKS {
         true => Err(Failure::Failed(format!("more than {MAX_MARKS} {what} are too many for a picture. Choose fewer by --from, --to or --txid."))),
@@ -93,7 +93,7 @@ impl Colours {
         at.and_then(|at| COLOURS.get(at)).unwrap_or(&GREY)
     }
 
-    /// Which colour is what.
+    /// Writes which colour is what.
     pub fn put_legend(&self, out: &mut String) {
         *out += if self.kinds.is_empty() { "<p>RORG and data: none" } else { "<p>RORG and data:" };
         for (kind, colour) in self.kinds.iter().zip(COLOURS) {
@@ -112,7 +112,7 @@ pub struct Axis {
 }
 
 impl Axis {
-    /// What was asked for; where no time is given, from the first of these times to the last.
+    /// The requested times; without a request, from the first of these times to the last.
     pub fn of(span: (u64, u64), times: impl Iterator<Item = u64> + Clone) -> Axis {
         let from = if span.0 == 0 { times.clone().min().unwrap_or(0) } else { span.0 };
         let to = if span.1 == u64::MAX { times.max().unwrap_or(0) } else { span.1 };
@@ -148,7 +148,7 @@ impl Axis {
     }
 }
 
-/// Where labels stand that belong below the lanes of a picture: there, and above them where it is tall.
+/// The heights of labels that belong below the lanes of a picture: there, and above them if it is tall.
 pub fn label_heights(height: f64, below: f64) -> impl Iterator<Item = f64> {
     [Some(below), (height > TALL).then_some(TOP - 4.0)].into_iter().flatten()
 }
@@ -163,12 +163,12 @@ fn step(span: u64) -> u64 {
     steps.chain(longer).chain(hours).find(|step| span / step < 10).unwrap_or(span / 10 + 1)
 }
 
-/// A time on the axis, as exact as the lines need it.
+/// A time on the axis, as exact as its lines.
 fn label(time: u64, step: u64, last: u64) -> String {
     let text = iso(time);
     let Some((date, clock)) = text.split_once('T') else { return text };
     match step {
-        // Times that begin at 0 are counted by a gateway, and are no dates.
+        // Times that begin at 0 are counted by a gateway from its start; they are not dates.
         _ if last < 86_400_000 && step < 1_000 => format!("{time} ms"),
         0..1_000 => clock[..12].into(),
         1_000..60_000 => clock[..8].into(),

@@ -46,7 +46,7 @@ impl Sink for Rows {
     }
 }
 
-/// What is drawn of a row.
+/// What is drawn for a row.
 struct Drawn {
     time: u64,
     loose: bool,
@@ -116,7 +116,7 @@ impl<'a> Picture<'a> {
         }
     }
 
-    /// A mark stands on its lane; that of a LOOSE row is a triangle with a dark edge.
+    /// Puts a mark on its lane; a LOOSE row is a triangle with a dark edge.
     fn put_mark(&self, out: &mut String, row: &Drawn) {
         let lane = self.lanes.iter().position(|id| *id == row.txid).unwrap_or(0);
         let (x, y) = (self.axis.x(row.time), TOP + LANE * (lane as f64 + 0.5));

@@ -14,7 +14,7 @@ fn rule(name: &str) -> Option<Rule> {
     }
 }
 
-/// A number that the library looks at: what is too large for its type is out of range to it too.
+/// A number for the library; a number that is too large for its type is out of range for the library too.
 fn small<T: TryFrom<u64>>(text: &str) -> Option<T> {
     text::number(text).and_then(|n| T::try_from(n).ok())
 }

@@ -1,15 +1,15 @@
-//! How far long work is, on standard error where that is a terminal: one line, which is written again each second and goes away at the end.
+//! The progress of long work, on standard error if that is a terminal: one line, which is written again each second and removed at the end.
 use crate::failure::{is_quiet, set_line};
 use std::io::{self, IsTerminal, Write};
 use std::time::{Duration, Instant};
 
 pub struct Progress {
     name: String,
-    /// How many bytes there are, where that is known.
+    /// How many bytes there are, if that is known.
     total: Option<u64>,
     done: u64,
     started: Instant,
-    /// When it was shown last, or began; none where nobody looks.
+    /// When it was last shown, or began; none if nobody sees it.
     shown: Option<Instant>,
     is_shown: bool,
 }
@@ -21,7 +21,7 @@ impl Progress {
         Progress { name, total, done: 0, started, shown, is_shown: false }
     }
 
-    /// So many bytes more are done; `rows` says how many rows all of them are. It is shown once a second, so that work of less than a second shows nothing.
+    /// `more` bytes are done; `rows` says how many rows all of them are. It is shown once a second, so work of less than a second shows nothing.
     pub fn show(&mut self, more: u64, rows: impl FnOnce(u64) -> String) {
         self.done += more;
         let Some(last) = self.shown else { return };

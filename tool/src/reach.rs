@@ -1,5 +1,5 @@
-//! `mooringeye heard --picture`: which transmitter needs a repeater, as one HTML page. A line for each transmitter, the one that is heard once most often
-//! first: a bar for its share of telegrams that were heard once, and a field for each week.
+//! `mooringeye heard --picture`: which transmitter needs a repeater, as one HTML page. A line for each transmitter, the one with the greatest share
+//! of telegrams received once first: a bar for that share, and a field for each week.
 use crate::failure::Failure;
 use crate::heard::{Counts, Heard};
 use crate::names::Names;
@@ -7,13 +7,13 @@ use crate::page::{self, escaped, BOTTOM, LEFT, MAX_MARKS, TOP, WIDTH};
 use std::collections::BTreeSet;
 use std::fmt::Write;
 
-/// Widths and heights in pixels: of a transmitter's line, of its bar where the share is 1, and of what stands before the weeks.
+/// Widths and heights in pixels: of a transmitter's line, of its bar if the share is 1, and of what comes before the weeks.
 const LINE: f64 = 22.0;
 const BAR: f64 = 180.0;
 const WEEKS: f64 = 260.0;
 /// The widest field of a week.
 const MAX_FIELD: f64 = 60.0;
-/// Colours of shares in thousandths, from each on.
+/// Colours of shares, each from a number of thousandths on.
 const COLOURS: [(u64, &str); 5] = [(750, "#d73027"), (500, "#fc8d59"), (250, "#fee08b"), (100, "#d9ef8b"), (0, "#66bd63")];
 
 /// The page.
@@ -89,7 +89,7 @@ impl Picture<'_> {
             let [telegrams, once, share, median, _] = counts.cells();
             format!("{when}: {telegrams} telegrams, {once} heard once ({share}), median {median} copies")
         };
-        // A bar of no length could not be seen.
+        // A bar of length 0 could not be seen.
         put("share", LEFT, (BAR * whole.share() as f64 / 1_000.0).max(1.0), whole, title(whole, "all"));
         for (week, counts) in weeks.iter() {
             let at = self.weeks.iter().position(|w| *w == week).unwrap_or(0);
@@ -99,7 +99,7 @@ impl Picture<'_> {
         let _ = writeln!(out, "<text x=\"{x}\" y=\"{y:.1}\" fill=\"#333333\">{share}</text>");
     }
 
-    /// Names of weeks, as many as there is place for.
+    /// Puts the names of weeks, as many as there is space for.
     fn put_weeks(&self, out: &mut String, y: f64) {
         let every = (MAX_FIELD / self.field()).ceil() as usize;
         for (at, week) in self.weeks.iter().enumerate().step_by(every.max(1)) {

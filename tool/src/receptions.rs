@@ -1,5 +1,5 @@
-//! `mooringeye picture`: every reception of a log as one HTML page. A lane for each transmitter and repeater level, a mark for each reception by its answer,
-//! and the times in which a telegram is open shaded. The log goes through a collector of its own, so that nothing of the plant's is touched.
+//! `mooringeye picture`: every reception of a log as one HTML page. A lane for each transmitter and repeater level, a mark for each reception by its
+//! answer, and a shade for the times in which a telegram is open. The log is handed to a separate collector, so nothing of the plant is changed.
 use crate::args::Args;
 use crate::failure::{tell, Failure};
 use crate::journal::RECORD;
@@ -90,13 +90,13 @@ impl Fields {
 struct Reception {
     time: u64,
     answer: Answer,
-    /// None of a damaged one.
+    /// None for a damaged one.
     fields: Option<Fields>,
     bytes: String,
 }
 
 impl Reception {
-    /// Of a line and its row as text; none where the line is BAD.
+    /// The reception of a line and its row as text; none if the line is BAD.
     fn of(line: &str, row: &str) -> Option<Reception> {
         let (time, digits) = line.split_once(' ')?;
         let word = row.split(' ').nth(1)?;
@@ -120,12 +120,12 @@ struct Opening {
     kind: String,
 }
 
-/// Logs on their way through a collector.
+/// Logs that are being handed to a collector.
 struct Reader<'a> {
     wanted: &'a Wanted,
     level: Option<u8>,
     collector: Collector,
-    /// Those that were chosen.
+    /// The chosen ones.
     receptions: Vec<Reception>,
     openings: Vec<Opening>,
     bad: u64,
@@ -141,7 +141,7 @@ impl<'a> Reader<'a> {
         Reader { wanted, level, collector: Collector::new(), receptions, openings, bad: 0, ended_by_cr: 0, span: None }
     }
 
-    /// Says which lines are not drawn, and why a picture is empty.
+    /// Reports which lines are not drawn, and why a picture is empty.
     fn tell_what_is_missing(&self) {
         if self.bad > 0 {
             let cr = format!(". {} of them end in CR LF: `tr -d '\\r'` takes the CR away", self.ended_by_cr);
@@ -158,7 +158,7 @@ impl<'a> Reader<'a> {
         }
     }
 
-    /// A log to its end; a last line without a newline does not count.
+    /// Reads a log to its end; a last line without a newline does not count.
     fn read(&mut self, path: &Path) -> Result<(), Failure> {
         let mut file = File::open(path).map_err(|e| Failure::of(format!("open {}", path.display()), &e))?;
         let mut buffer = vec![0; LINE_LIMIT + CHUNK];
@@ -179,13 +179,13 @@ impl<'a> Reader<'a> {
             if read == 0 {
                 return Ok(());
             }
-            // A line that is longer than the longest is BAD, whatever else it has.
+            // A line that is longer than the longest is always BAD.
             carried = (filled - used).min(LINE_LIMIT);
             buffer.copy_within(used..used + carried, 0);
         }
     }
 
-    /// The first line of a log, where it says a level: how long it is.
+    /// Takes the first line of a log, if it has a level; returns how long it is.
     fn begin(&mut self, path: &Path, text: &[u8]) -> Result<usize, Failure> {
         match (FirstLine::of(text), self.level) {
             _ if text::is_packed(text) => Err(Failure::Failed(format!("{0}: packed. Unpack it first; for gzip, write <(zcat {0}).", path.display()))),
@@ -201,7 +201,7 @@ impl<'a> Reader<'a> {
         }
     }
 
-    /// Takes the whole lines of a text: how long they are.
+    /// Takes the whole lines of a text; returns how long they are.
     fn take(&mut self, text: &[u8]) -> Result<usize, Failure> {
         let level = self.level.expect("known since the first line");
         let (mut out, mut times, mut records) = (vec![0; LONGEST_ROW * (LINES + 1)], vec![0; LINES + 1], vec![0; RECORD * (LINES + 1)]);
@@ -218,7 +218,7 @@ impl<'a> Reader<'a> {
         }
     }
 
-    /// Looks at lines and their rows.
+    /// Chooses from lines and their rows.
     fn choose(&mut self, lines: &[u8], rows: &[u8]) {
         let each = |text| String::from_utf8_lossy(text).into_owned();
         for (line, row) in each(lines).split('\n').zip(each(rows).lines()) {
@@ -238,7 +238,7 @@ impl<'a> Reader<'a> {
             Some(fields) if reception.answer == Answer::Kept && time <= to && from <= time.saturating_add(OPEN) => {
                 self.openings.push(Opening { time, txid: fields.txid, kind: fields.kind() });
             }
-            // Of a damaged one nobody knows the transmitter.
+            // The transmitter of a damaged one is not known.
             None if !self.wanted.has_every_transmitter() => return,
             _ => {}
         }
@@ -248,7 +248,7 @@ impl<'a> Reader<'a> {
     }
 }
 
-/// The lanes of a transmitter, one for each level at which it was heard.
+/// The lanes of a transmitter, one for each level at which it was received.
 struct Group {
     txid: [u8; 4],
     levels: BTreeSet<u8>,
@@ -275,7 +275,7 @@ struct Picture<'a> {
     groups: Vec<Group>,
     colours: Colours,
     axis: Axis,
-    /// Where the lane of damaged ones begins, and where all ends.
+    /// Where the lane of damaged ones begins, and where everything ends.
     damaged: f64,
     height: f64,
 }
@@ -312,7 +312,7 @@ impl<'a> Picture<'a> {
         page::svg(self.height, &format!("Receptions of {} transmitters", self.groups.len()), &out)
     }
 
-    /// The time in which a telegram is open, darker as long as its sender may still send it, over the lanes of its transmitter.
+    /// Puts the time in which a telegram is open, darker as long as its sender may still send it, over the lanes of its transmitter.
     fn put_window(&self, out: &mut String, opening: &Opening) {
         let Some(group) = self.groups.iter().find(|group| group.txid == opening.txid) else { return };
         let fill = self.colours.of(&opening.kind);

@@ -7,7 +7,7 @@ use crate::times;
 pub use mooringeye::Format;
 use mooringeye::{Row, Totals};
 
-/// The format that `--rows` names; text where it is left out.
+/// The format that `--rows` names; text if it is left out.
 pub fn format(args: &Args) -> Result<Format, Failure> {
     let named = |name: &str| match name {
         "text" => Some(Format::Text),
@@ -26,9 +26,9 @@ pub fn totals(totals: &Totals) -> String {
 
 /// How rows of an archive are written.
 pub struct Style {
-    /// ISO times, and not ms.
+    /// ISO times instead of ms.
     iso: bool,
-    /// A name stands behind each row.
+    /// A name comes after each row.
     names: Option<Names>,
 }
 
@@ -37,7 +37,7 @@ impl Style {
         Ok(Style { iso: times::is_iso(args)?, names: Names::of(args)? })
     }
 
-    /// Whether it is as formats for programs have it.
+    /// Whether it is as formats for programs need it.
     pub fn is_plain(&self) -> bool {
         !self.iso && self.names.is_none()
     }

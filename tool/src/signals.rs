@@ -4,13 +4,13 @@ use std::io::{self, Read};
 use std::os::fd::{AsFd, AsRawFd};
 use std::os::unix::net::UnixStream;
 
-/// A way to be woken by signals.
+/// Wakes a wait when a signal comes.
 pub struct Signals {
     woken: UnixStream,
     wake: UnixStream,
 }
 
-/// What a wait ended with.
+/// How a wait ended.
 #[derive(PartialEq, Eq)]
 pub enum Waited {
     Ready,
@@ -25,7 +25,7 @@ impl Signals {
         Ok(signals)
     }
 
-    /// For a command that has nothing to put in order: signals do what they always do.
+    /// For a command that has nothing to clean up: signals do what they do by default.
     pub fn none() -> io::Result<Signals> {
         let (woken, wake) = UnixStream::pair()?;
         woken.set_nonblocking(true)?;
@@ -33,7 +33,7 @@ impl Signals {
         Ok(Signals { woken, wake })
     }
 
-    /// A signal that came before is not waited for: the caller sees to it first.
+    /// Returns at once if a signal came before: the caller handles it first.
     pub fn wait_to_read(&self, from: &impl AsFd) -> io::Result<Waited> {
         match sys::is_signalled() {
             true => Ok(Waited::Not),
@@ -41,7 +41,7 @@ impl Signals {
         }
     }
 
-    /// Waits at most so many milliseconds, until something can be read, where there is something to read from.
+    /// Waits at most `timeout` milliseconds, or until something can be read, if there is something to read from.
     pub fn rest(&self, from: Option<&impl AsFd>, timeout: i32) -> io::Result<()> {
         match (sys::is_signalled(), from) {
             (true, _) => Ok(()),

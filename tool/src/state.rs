@@ -1,4 +1,4 @@
-//! The state file: one file, replaced in one step, so that its parts never disagree (docs/FORMATS.md, "State of the tool"). What stands in it is
+//! The state file: one file, replaced in one step, so its parts never disagree (docs/FORMATS.md, "State file of mooringeye collect"). Its content is
 //! `journal::State`.
 use crate::disk::{Handle, Open, Shared};
 use crate::failure::Failure;
@@ -6,7 +6,7 @@ use crate::files::{self, with_suffix};
 use crate::journal::{State, LENGTH, MAX_NAME};
 use std::path::{Path, PathBuf};
 
-/// A state file that this process alone writes.
+/// A state file that only this process writes.
 pub struct StateFile {
     disk: Shared,
     path: PathBuf,
@@ -19,7 +19,7 @@ impl StateFile {
         Ok(StateFile { disk: disk.clone(), _lock: files::lock_beside(disk, &path)?, path })
     }
 
-    /// What the file holds; none where there is no file. Anything else is refused and stays as it is.
+    /// The content of the file; none if there is no file. Anything else is refused and left unchanged.
     pub fn read(&self) -> Result<Option<State>, Failure> {
         let shown = self.path.display();
         let damaged = |why: String| {
@@ -40,7 +40,7 @@ impl StateFile {
         State::of_bytes(&bytes).map(Some).map_err(damaged)
     }
 
-    /// Replaces the file: after a crash it holds the old state or the new one.
+    /// Replaces the file: after a crash it has the old state or the new one.
     pub fn write(&self, state: &State) -> Result<(), Failure> {
         let beside = with_suffix(&self.path, ".new");
         let bytes = state.to_bytes().map_err(|why| Failure::refused(self.path.display(), why))?;
@@ -57,7 +57,7 @@ impl StateFile {
         files::put_in_place(&self.disk, &beside, &self.path)
     }
 
-    /// Keeps a state that is there aside, and says where.
+    /// Puts an existing state aside, and returns where it is.
     pub fn put_aside(&self) -> Result<Option<PathBuf>, Failure> {
         match self.disk.facts(&self.path).map_err(|e| Failure::of(format!("read {}", self.path.display()), &e))? {
             None => Ok(None),
@@ -67,7 +67,7 @@ impl StateFile {
     }
 }
 
-/// The name by which a state knows its archive: what stands behind the last slash.
+/// The name by which a state knows its archive: the part after the last slash.
 pub fn name_of(path: &Path) -> Result<Vec<u8>, Failure> {
     use std::os::unix::ffi::OsStrExt;
     let name = path.file_name().map(|n| n.as_bytes()).unwrap_or_default();

@@ -1,4 +1,4 @@
-//! `mooringeye status`: what a state file says, for people and for programs. The file is only read, while a collector may run.
+//! `mooringeye status`: the content of a state file, for people and for programs. The file is only read, so a collector may run meanwhile.
 use crate::args::Args;
 use crate::failure::Failure;
 use crate::journal::{State, LENGTH};
@@ -12,7 +12,7 @@ use std::io::Read;
 use std::path::Path;
 use std::time::{SystemTime, UNIX_EPOCH};
 
-/// Times before 2000 are counted by a gateway from its start, and are no dates.
+/// Times before 2000 are counted by a gateway from its start; they are not dates.
 const FIRST_DATE: u64 = 946_684_800_000;
 
 pub fn run(args: &Args) -> Result<(), Failure> {
@@ -38,7 +38,7 @@ fn read(path: &Path) -> Result<State, Failure> {
     }
 }
 
-/// How often each open telegram was heard again.
+/// How often each open telegram was received again.
 fn open(state: &State) -> Vec<u16> {
     (0..state.collector.open()).filter_map(|entry| state.collector.copies(entry)).collect()
 }
@@ -48,7 +48,7 @@ pub fn archive_rows(state: &State) -> Option<u64> {
     state.archive.as_ref().map(|archive| state.counted() - archive.counted + archive.had)
 }
 
-/// How long ago the latest reception was, where its time is a date.
+/// How long ago the latest reception was, if its time is a date.
 fn age(state: &State, now: u64) -> Option<u64> {
     let latest = state.collector.latest();
     now.checked_sub(latest).filter(|_| latest >= FIRST_DATE)

@@ -1,8 +1,8 @@
-//! The archive of a collector: one file, or files numbered by a pattern of which a new one begins where one is full.
+//! The archive of a collector: one file, or files numbered by a pattern; when one is full, a new one begins.
 //!
-//! Rows behind those that the state counts are leftovers of a stop between two writes, or somebody else's. None is destroyed: rows that come are
-//! compared with them; where they are equal they are counted, else the leftovers go into an archive of their own (crates/journal_model, `started`,
-//! `committed`, `ended`).
+//! Rows after those that the state counts are leftovers of a stop between two writes, or someone else's. None is destroyed: new rows are compared
+//! with them. If they are equal, they are counted; else the leftovers go into an archive of their own (crates/journal_model, `started`, `committed`,
+//! `ended`).
 use crate::appender::{Appender, Size, BLOCK, GROWTH, MAX_BLOCKS};
 use crate::disk::{Disk, Handle, Open, Shared};
 use crate::failure::Failure;
@@ -19,7 +19,7 @@ use std::path::{Path, PathBuf};
 #[derive(Clone)]
 pub struct Place {
     path: PathBuf,
-    /// Blocks of a file, where a pattern names it.
+    /// How many blocks a file has, if a pattern names it.
     blocks: Option<u64>,
     /// By how many blocks a file grows.
     growth: u64,
@@ -67,14 +67,14 @@ impl Place {
         self.path.with_file_name(OsString::from_vec([before, digits.as_bytes(), after].concat()))
     }
 
-    /// The file with a number, where it is there.
+    /// The file with a number, if it exists.
     fn existing(&self, disk: &dyn Disk, number: u64) -> Result<Option<PathBuf>, Failure> {
         let path = self.file(number);
         let facts = disk.facts(&path).map_err(|e| Failure::of(format!("read {}", path.display()), &e))?;
         Ok(facts.map(|_| path))
     }
 
-    /// The number of the last file there is, 0 where there is none.
+    /// The number of the last file that exists, 0 if there is none.
     fn last(&self, disk: &dyn Disk) -> Result<u64, Failure> {
         if self.blocks.is_none() {
             return Ok(0);
@@ -93,7 +93,7 @@ impl Place {
     }
 }
 
-/// What stands before the run of `#`, how long it is, and what stands behind it.
+/// What comes before the run of `#`, how long it is, and what comes after it.
 fn pattern(name: &[u8]) -> Option<(&[u8], usize, &[u8])> {
     let start = name.iter().position(|c| *c == b'#')?;
     let width = name[start..].iter().take_while(|c| **c == b'#').count();
@@ -106,19 +106,19 @@ pub struct Store {
     place: Place,
     number: u64,
     file: Appender,
-    /// KEPT and LOOSE rows that the collector has counted, with the last one appended.
+    /// KEPT and LOOSE rows that the collector has counted, including the last one appended.
     seen: u64,
-    /// How many it had counted when this file began, and the rows that the file had then.
+    /// How many it had counted when this file began, and how many rows the file had then.
     counted: u64,
     had: u64,
-    /// Leftovers: rows that stand behind ours, in this file and those that follow, and that nobody counts.
+    /// Leftovers: how many rows are after ours, in this file and the following ones, that nobody counts.
     left: u64,
-    /// What the start has to put in order before the first row comes.
+    /// What the start must repair before the first row comes.
     untidy: Vec<Untidy>,
     is_torn: bool,
 }
 
-/// A file with bytes behind its rows that are no archive: a write that did not end.
+/// A file with bytes after its rows that are not an archive: a write that did not end.
 struct Untidy {
     number: u64,
     /// The first block of them.
@@ -129,7 +129,7 @@ struct Untidy {
 }
 
 impl Store {
-    /// Opens the archive of a collector that has counted so many rows. Nothing is known of the archive but what it says itself.
+    /// Opens the archive of a collector that has counted `seen` rows. Nothing is known of the archive except its content.
     pub fn begin(disk: &Shared, place: Place, seen: u64) -> Result<Store, Failure> {
         let number = place.last(&**disk)?;
         let path = place.file(number);
@@ -138,7 +138,7 @@ impl Store {
         Ok(Store { disk: disk.clone(), place, number, file, seen, counted: seen, had, left: 0, untidy: Vec::new(), is_torn: false })
     }
 
-    /// Opens the archive that a state keeps, and looks at what a stop may have left. Nothing is changed yet.
+    /// Opens the archive that a state keeps, and finds what a stop may have left. Nothing is changed yet.
     pub fn resume(disk: &Shared, place: Place, kept: &Attached, seen: u64) -> Result<Store, Failure> {
         let mut rows = kept.had + (seen - kept.counted);
         let (mut number, mut counted, mut had, mut last) = (kept.number, kept.counted, kept.had, kept.last.clone());
@@ -159,7 +159,7 @@ impl Store {
         Ok(store)
     }
 
-    /// Compares the block with the last counted row with the state's copy, and finds the leftovers and what stands behind them.
+    /// Compares the block with the last counted row with the state's copy, and finds the leftovers and what comes after them.
     fn look(&mut self) -> Result<(), Failure> {
         let used = self.file.rows().div_ceil(ROWS);
         let found = find_last(&self.file, used)?;
@@ -186,7 +186,7 @@ impl Store {
         Ok(())
     }
 
-    /// Goes on with a run from a block on, in a later file or in this one, and notes what stands behind it.
+    /// Continues a run from a block on, in a later file or in this one, and notes what comes after it.
     fn look_behind(&mut self, number: u64, later: Option<&Appender>, from: u64, run: &mut Run) -> Result<(), Failure> {
         let (file, before) = (later.unwrap_or(&self.file), run.blocks());
         let mut behind = Behind::default();
@@ -204,7 +204,7 @@ impl Store {
         Ok(())
     }
 
-    /// Puts in order what `look` found: mends the torn block from the state's copy, and clears what is no archive.
+    /// Repairs what `look` found: mends the torn block from the state's copy, and clears what is not an archive.
     pub fn settle(&mut self) -> Result<(), Failure> {
         if std::mem::take(&mut self.is_torn) {
             let position = self.file.rows().div_ceil(ROWS) - 1;
@@ -247,7 +247,7 @@ impl Store {
         self.left
     }
 
-    /// Leftovers, from the first on, at most so many.
+    /// Leftovers, from the first on, at most `most`.
     pub fn leftovers(&self, most: usize) -> Result<Vec<Stored>, Failure> {
         self.leftovers_from(0, most as u64)
     }
@@ -281,7 +281,7 @@ impl Store {
         Ok(rows)
     }
 
-    /// Puts the rows of a batch behind the others, and returns when they would outlast a power cut. Those that stand there already are counted.
+    /// Writes the rows of a batch after the others, and returns when they would survive a power cut. Rows that are there already are counted.
     pub fn put(&mut self, times: &[u64], records: &[u8]) -> Result<(), Failure> {
         self.file.notice(&*self.disk)?;
         let mut agreed = 0;
@@ -297,7 +297,7 @@ impl Store {
         self.file.notice(&*self.disk)
     }
 
-    /// Rows that stand there, or new ones, into one file after the other.
+    /// Puts new rows, or rows that are there already, into one file after the other.
     fn each_file(&mut self, times: &[u64], records: &[u8], is_there: bool) -> Result<(), Failure> {
         let mut at = 0;
         while at < times.len() {
@@ -319,7 +319,7 @@ impl Store {
         Ok(())
     }
 
-    /// Goes on with the next file of the pattern, which has leftovers or is to be begun. The lock of the full one is held until the new one has its own.
+    /// Continues with the next file of the pattern, which has leftovers or is begun. The lock of the full one is held until the new one is locked.
     fn next_file(&mut self, has_leftovers: bool) -> Result<(), Failure> {
         if self.place.blocks.is_none() {
             return Err(Failure::Failed(format!("{} has as many blocks as an archive can have", self.path().display())));
@@ -337,7 +337,7 @@ impl Store {
         Ok(())
     }
 
-    /// The log has ended: leftovers that it did not give again go aside.
+    /// The log has ended: leftovers that it did not give again are put aside.
     pub fn end(&mut self) -> Result<(), Failure> {
         match self.left {
             0 => Ok(()),
@@ -369,7 +369,7 @@ impl Store {
         Ok(())
     }
 
-    /// Zeros in the place of the leftovers.
+    /// Writes zeros over the leftovers.
     fn clear_left(&mut self) -> Result<(), Failure> {
         let (rows, end) = (self.file.rows(), self.file.rows() + std::mem::take(&mut self.left));
         let full = self.place.full();
@@ -388,7 +388,7 @@ impl Store {
     }
 }
 
-/// Whether a file has no byte but zeros.
+/// Whether a file has only zeros.
 fn is_empty(file: &Appender) -> Result<bool, Failure> {
     let mut behind = Behind::default();
     let mut pieces = file.pieces(0);
@@ -398,7 +398,7 @@ fn is_empty(file: &Appender) -> Result<bool, Failure> {
     Ok(behind.blocks == 0)
 }
 
-/// Clears what is no archive; where a sound block stands among it, all of it is copied to a file of its own before.
+/// Clears what is not an archive; if there is a sound block in it, all of it is copied to a file of its own before.
 fn tidy(disk: &Shared, file: &mut Appender, untidy: &Untidy) -> Result<(), Failure> {
     let Untidy { from, behind, .. } = untidy;
     let to = (from + behind.blocks).min(file.blocks());
@@ -437,7 +437,7 @@ fn not_its_own(text: String) -> Failure {
     Failure::Damaged(format!("{text}. Nothing was changed. Use --adopt-archive to continue with the archive as it is."))
 }
 
-/// Looks at the blocks that the state counts. The last of them, cut to the counted rows, has to be the state's copy, or torn.
+/// Finds the last block that the state counts. Cut to the counted rows, it must be the state's copy, or torn.
 fn find_last(file: &Appender, used: u64) -> Result<Found, Failure> {
     if used == 0 {
         return Ok(Found::Same);

@@ -9,9 +9,9 @@ use std::os::fd::AsFd;
 use std::os::unix::fs::FileTypeExt;
 use std::time::{Duration, Instant};
 
-/// How long an output that takes nothing is waited for after a signal.
+/// How long the tool waits, after a signal, for an output that takes nothing.
 const GRACE: Duration = Duration::from_secs(5);
-/// A pipe that is ready takes so many bytes without blocking, all of them or none (PIPE_BUF).
+/// A pipe that is ready takes this many bytes without blocking, all of them or none (PIPE_BUF).
 const PIPE_PART: usize = 4096;
 
 pub struct Input {
@@ -24,7 +24,7 @@ pub enum Got {
     End,
     /// A signal came: it asks to stop, or for the totals.
     Signal,
-    /// The next log begins: what was read before belongs to the one before it.
+    /// The next log begins: what was read before belongs to the log before it.
     Next,
 }
 
@@ -37,7 +37,7 @@ impl Input {
         open().map(|file| Input { file }).map_err(cannot_read)
     }
 
-    /// How long it is, where it is a file.
+    /// Its length, if it is a file.
     pub fn length(&self) -> Option<u64> {
         self.file.metadata().ok().filter(Metadata::is_file).map(|m| m.len())
     }
@@ -59,7 +59,7 @@ impl Input {
 
 pub struct Output {
     file: File,
-    /// A pipe, a socket or a terminal: what it takes without blocking is little.
+    /// A pipe, a socket or a terminal, which takes little without blocking.
     may_block: bool,
 }
 
@@ -93,7 +93,7 @@ impl Output {
         sys::wait((fd, sys::POLLOUT), (fd, 0), -1).map(|_| ())
     }
 
-    /// Writes all; after a signal that asks to stop the reader has a few seconds to take the rest.
+    /// Writes all; after a signal that asks to stop, the reader has a few seconds to take the rest.
     pub fn write_until_stopped(&mut self, mut bytes: &[u8], signals: &Signals) -> Result<(), Failure> {
         if !self.may_block {
             return self.write(bytes);
@@ -121,14 +121,14 @@ impl Output {
     }
 }
 
-/// What a pipe takes at once: whole lines, so that whoever reads it finds no part of one where the tool was stopped or killed; a part of a line that is
-/// longer by itself.
+/// What a pipe takes at once: whole lines, so its reader finds no part of a line if the tool is stopped or killed; a part of a line only if the line
+/// is longer.
 fn pipe_part(bytes: &[u8]) -> &[u8] {
     let most = &bytes[..bytes.len().min(PIPE_PART)];
     most.iter().rposition(|c| *c == b'\n').map_or(most, |at| &most[..=at])
 }
 
-/// What a command that only prints makes of a reader that went away, as `head` does: it has all it wanted.
+/// For a command that only prints: a reader that closed the pipe, as `head` does, has all it wanted.
 pub fn quietly(done: Result<(), Failure>) -> Result<(), Failure> {
     match done {
         Err(Failure::Closed(_)) => Ok(()),

@@ -40,7 +40,7 @@ pub const SIGHUP: i32 = 1;
 pub const SIGINT: i32 = 2;
 pub const SIGUSR1: i32 = 10;
 pub const SIGTERM: i32 = 15;
-/// Sent where a file would grow past the limit of its size; ignored, the write fails with words of its own.
+/// Sent if a file would grow past the limit of its size; if it is ignored, the write fails with a message of its own.
 const SIGXFSZ: i32 = 25;
 const SIG_IGN: usize = 1;
 const F_GETFD: i32 = 1;
@@ -51,14 +51,14 @@ pub const POLLOUT: i16 = 4;
 /// Whether standard input, output and error were closed when the program began.
 static CLOSED: [AtomicBool; 3] = [const { AtomicBool::new(false) }; 3];
 
-/// Run by the loader before std, which opens /dev/null for what is closed: rows would vanish there without a word.
+/// Run by the loader before std, which opens /dev/null for closed descriptors: rows would be lost there without a message.
 #[used]
 #[link_section = ".init_array"]
 static AT_START: extern "C" fn() = note_closed;
 
 extern "C" fn note_closed() {
     for (fd, closed) in CLOSED.iter().enumerate() {
-        // SAFETY: numbers alone; a descriptor that is not open is answered with -1.
+        // SAFETY: only numbers; the answer for a descriptor that is not open is -1.
         closed.store(unsafe { c::fcntl(fd as i32, F_GETFD) } == -1, Ordering::Relaxed);
     }
 }
@@ -71,20 +71,20 @@ pub fn was_open(fd: usize) -> io::Result<()> {
     }
 }
 
-/// The signal that asked to stop, 0 for none.
+/// The signal that asked to stop, or 0.
 static STOP: AtomicI32 = AtomicI32::new(0);
 /// Whether the totals were asked for.
 static TOTALS: AtomicBool = AtomicBool::new(false);
-/// Where a handler writes a byte, so that a wait ends.
+/// Where a handler writes a byte, to end a wait.
 static WAKE: AtomicI32 = AtomicI32::new(-1);
 
-/// Stores into atomics and `write` are all that it does: both are allowed in a handler.
+/// It only stores into atomics and calls `write`: both are allowed in a handler.
 extern "C" fn handle(number: i32) {
     match number {
         SIGUSR1 => TOTALS.store(true, Ordering::Relaxed),
         number => STOP.store(number, Ordering::Relaxed),
     }
-    // SAFETY: one byte of a constant; a full or closed descriptor is answered with -1. The place of the error number is this thread's own.
+    // SAFETY: one byte of a constant; the answer for a full or closed descriptor is -1. The location of the error number belongs to this thread.
     unsafe {
         let errno = c::__errno_location();
         let before = *errno;
@@ -93,7 +93,7 @@ extern "C" fn handle(number: i32) {
     }
 }
 
-/// From now on the signals that end the collector in order, and SIGUSR1, are noted and wake a wait on the other end of `wake`.
+/// From now on, the signals that end the collector in order, and SIGUSR1, are noted and wake a wait on the other end of `wake`.
 pub fn catch_signals(wake: RawFd) {
     WAKE.store(wake, Ordering::Relaxed);
     let handler = handle as extern "C" fn(i32) as usize;
@@ -108,7 +108,7 @@ pub fn catch_signals(wake: RawFd) {
     }
 }
 
-/// A file that would grow past its limit, and a reader that closed its pipe, are failed writes and no deaths.
+/// A file that would grow past its limit, or a reader that closed its pipe, makes a write fail and does not end the process.
 pub fn ignore_file_size_signal() {
     // SAFETY: SIG_IGN is a disposition that this signal can have. std has done the same for SIGPIPE.
     unsafe { c::signal(SIGXFSZ, SIG_IGN) };
@@ -119,7 +119,7 @@ pub fn stop_signal() -> Option<i32> {
     Some(STOP.load(Ordering::Relaxed)).filter(|n| *n != 0)
 }
 
-/// Whether a signal came that was not seen to yet.
+/// Whether a signal came that was not handled yet.
 pub fn is_signalled() -> bool {
     stop_signal().is_some() || TOTALS.load(Ordering::Relaxed)
 }
@@ -129,8 +129,8 @@ pub fn take_totals_request() -> bool {
     TOTALS.swap(false, Ordering::Relaxed)
 }
 
-/// Waits until one of two descriptors is ready for `events`, or `timeout` milliseconds are over (-1: for ever). Says of each whether it is ready; an
-/// interrupted wait says that none is.
+/// Waits until one of two descriptors is ready for `events`, or `timeout` milliseconds are over (-1: no limit). Returns for each whether it is ready;
+/// after an interrupted wait, none is.
 pub fn wait(one: (BorrowedFd<'_>, i16), other: (BorrowedFd<'_>, i16), timeout: i32) -> io::Result<[bool; 2]> {
     let mut fds = [one, other].map(|(fd, events)| c::PollFd { fd: fd.as_raw_fd(), events, revents: 0 });
     // SAFETY: two records that live during the call, and their number.
@@ -153,7 +153,7 @@ pub const IN_MOVE_SELF: u32 = 0x800;
 pub const IN_MOVED_TO: u32 = 0x80;
 pub const IN_CREATE: u32 = 0x100;
 
-/// A descriptor that is ready to be read when something happens to what it watches; an error where the system has none.
+/// A descriptor that is ready to be read when something happens to what it watches; an error if the system has none.
 pub fn watcher() -> io::Result<File> {
     // SAFETY: numbers alone.
     match unsafe { c::inotify_init1(IN_NONBLOCK | IN_CLOEXEC) } {
@@ -163,7 +163,7 @@ pub fn watcher() -> io::Result<File> {
     }
 }
 
-/// From now on this is watched too.
+/// Watches this path too, from now on.
 pub fn watch(watcher: &File, path: &CStr, events: u32) -> io::Result<()> {
     // SAFETY: a string that ends with a zero and lives during the call.
     match unsafe { c::inotify_add_watch(watcher.as_raw_fd(), path.as_ptr(), events) } {
@@ -173,11 +173,12 @@ pub fn watch(watcher: &File, path: &CStr, events: u32) -> io::Result<()> {
 }
 
 const SEEK_DATA: i32 = 3;
-/// No data from there on, or the file ends before.
+/// No data from there on, or the file ends before that offset.
 const ENXIO: i32 = 6;
 
-/// Whether a file may have data from a byte on; what is no data reads as zeros. Where the system does not know, it may, and where the file ends there or
-/// before, so that a read fails. This moves the file's own offset, which nobody uses who reads and writes at offsets.
+/// Whether a file may have data from this offset on; where there is no data, it reads as zeros. If the system does not know, it may have. If the file
+/// ends there or before, it may have too, so that a read fails. This moves the file's own offset, which is not used: all reads and writes are at
+/// offsets.
 pub fn has_data_from(file: &File, at: u64) -> bool {
     let Ok(offset) = i64::try_from(at) else { return true };
     // SAFETY: numbers alone, of a descriptor that is open.
@@ -189,7 +190,7 @@ pub fn has_data_from(file: &File, at: u64) -> bool {
 mod tests {
     use super::*;
 
-    /// A hole at the end has no data. A file that became shorter than its reader believes has no hole there: the read has to fail.
+    /// A hole at the end has no data. If a file became shorter than its reader believes, there is no hole: the read must fail.
     #[test]
     fn data_in_a_file_that_ends() {
         let path = std::env::temp_dir().join(format!("mooringeye-data-{}", std::process::id()));

@@ -22,7 +22,7 @@ fn byte(text: &str) -> Option<u8> {
     }
 }
 
-/// A number of up to twelve digits, of which the first may be left out where it is 0.
+/// A number of up to twelve digits, without leading zeros if they are left out.
 fn originator_of(text: &str) -> Option<u64> {
     let digits = if text.len() % 2 == 1 { format!("0{text}") } else { text.into() };
     let bytes = text::bytes_of_hex(&digits).filter(|bytes| (1..=6).contains(&bytes.len()))?;

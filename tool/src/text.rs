@@ -46,7 +46,7 @@ pub fn identity(text: &str) -> Option<u32> {
     Some(u32::from_be_bytes(bytes))
 }
 
-/// Whether a text begins as a file that gzip, bzip2, xz or zstd packed.
+/// Whether a text begins like a file that gzip, bzip2, xz or zstd packed.
 pub fn is_packed(text: &[u8]) -> bool {
     [&b"\x1F\x8B"[..], b"BZh", b"\xFD7zXZ", b"\x28\xB5\x2F\xFD"].iter().any(|mark| text.starts_with(mark))
 }

@@ -1,4 +1,4 @@
-//! Times for people: dates of the calendar in UTC, as ISO 8601 writes them, of times in ms since 1970.
+//! Times for people: ms since 1970 as dates in UTC, as ISO 8601 writes them.
 use crate::args::Args;
 use crate::failure::Failure;
 use crate::text;
@@ -18,7 +18,7 @@ pub struct Date {
 impl Date {
     /// The day of a time.
     pub fn of(time: u64) -> Date {
-        // Years of 400 with 146,097 days each, counted from 0000-03-01, so that a leap day is the last of its year.
+        // Cycles of 400 years with 146,097 days each, counted from 0000-03-01, so a leap day is the last day of its year.
         let day = time / DAY + 719_468;
         let (era, day) = (day / 146_097, day % 146_097);
         let year = (day - day / 1_460 + day / 36_524 - day / 146_096) / 365;
@@ -29,7 +29,7 @@ impl Date {
         Date { year: 400 * era + year + u64::from(is_after_december), month, day: day - (153 * from_march + 2) / 5 + 1 }
     }
 
-    /// Its first ms; none before 1970 and for days that no month has.
+    /// Its first ms; none before 1970, and for a day that its month does not have.
     fn start(&self) -> Option<u64> {
         let (year, from_march) = if self.month > 2 { (self.year, self.month - 3) } else { (self.year.checked_sub(1)?, self.month + 9) };
         let days = 365 * year + year / 4 - year / 100 + year / 400 + (153 * from_march + 2) / 5 + self.day.checked_sub(1)?;
@@ -40,7 +40,7 @@ impl Date {
 
 /// The week of a time as ISO 8601 counts them: `2026-W47`.
 pub fn week(time: u64) -> String {
-    // The Thursday of a week says its year. Day 0 was a Thursday.
+    // The Thursday of a week decides its year. Day 0 was a Thursday.
     let day = time / DAY;
     let thursday = (day + 3) / 7 * 7;
     let year = Date::of(thursday * DAY).year;
@@ -48,7 +48,7 @@ pub fn week(time: u64) -> String {
     format!("{year:04}-W{:02}", (thursday - first) / 7 + 1)
 }
 
-/// `2026-11-16T08:00:00.000Z`; the ms where the year has more than four digits.
+/// `2026-11-16T08:00:00.000Z`; the ms if the year has more than four digits.
 pub fn iso(time: u64) -> String {
     let Date { year, month, day } = Date::of(time);
     if year > 9_999 {
@@ -59,7 +59,7 @@ pub fn iso(time: u64) -> String {
     format!("{year:04}-{month:02}-{day:02}T{hour:02}:{minute:02}:{second:02}.{ms:03}Z")
 }
 
-/// Numbers of so many digits each, with these characters between them and nothing behind.
+/// Numbers with these widths, with these characters between them and nothing after.
 fn parts<const N: usize>(text: &str, widths: [usize; N], between: &[char]) -> Option<[u64; N]> {
     let mut rest = text;
     let mut numbers = [0; N];
@@ -82,7 +82,7 @@ fn day(text: &str) -> Option<u64> {
     Date { year, month, day }.start()
 }
 
-/// How far a clock is ahead of UTC, in ms: `Z`, `+01:00` or `-05:00` at the end of a text. And the text before it.
+/// How far a clock is ahead of UTC, in ms, from `Z`, `+01:00` or `-05:00` at the end of a text; and the text before it.
 fn zone(text: &str) -> Option<(&str, i64)> {
     if let Some(before) = text.strip_suffix('Z') {
         return Some((before, 0));
@@ -102,7 +102,7 @@ fn clock(text: &str) -> Option<u64> {
     (hour < 24 && minute < 60 && second < 60).then_some(((hour * 60 + minute) * 60 + second) * 1_000 + ms)
 }
 
-/// A time as a person writes it; a day is its first ms, or its last one.
+/// A time as a person writes it; for a day, its first ms or its last one.
 fn time(text: &str, of_day: u64) -> Option<u64> {
     match text.split_once('T') {
         Some((date, rest)) => {

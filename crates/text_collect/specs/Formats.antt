@@ -1,4 +1,4 @@
--- A run that prints its rows in a format (docs/FORMATS.md, "Rows"), over the same lines as `collect`.
+-- A run that prints its rows in a format (docs/FORMATS.md, "Text of mooringeye"), over the same lines as `collect`.
 use Prim.Native.Nat.{ℕ}
 use mathlib.Core.List.{List, []}
 use Rattle.radio_erp1.specs.Status.{splitOf}

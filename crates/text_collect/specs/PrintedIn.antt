@@ -1,4 +1,4 @@
--- What a run prints in a format for an input, by the reference model (docs/FORMATS.md, "Rows"), and the claims on it.
+-- What a run prints in a format for an input, by the reference model (docs/FORMATS.md, "Text of mooringeye"), and the claims on it.
 -- proofs/PrintedIn.antt proves them.
 use Prim.Native.Nat.{ℕ}
 use mathlib.Core.Path.{_≡_}

@@ -1,4 +1,4 @@
--- The rows of a run in three formats (docs/FORMATS.md, "Rows"): as `collect` prints them, comma-separated, and as JSON
+-- The rows of a run in three formats (docs/FORMATS.md, "Text of mooringeye"): as `collect` prints them, comma-separated, and as JSON
 -- with an object on each line.
 use Prim.Native.Nat.{ℕ, _+_, _*_}
 use mathlib.Core.Bool.{cond}

@@ -1,4 +1,4 @@
-//! The rows of a run as CSV and as JSON lines, and what each telegram was heard when it closes (docs/FORMATS.md, "Rows").
+//! The rows of a run as CSV and as JSON lines, and what each telegram was heard when it closes (docs/FORMATS.md, "Text of mooringeye").
 
 use crate::clerk::{Answer, Clerk, CEILING, OPEN_FOR};
 use crate::collect::{reception, setting};

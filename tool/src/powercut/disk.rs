@@ -1,4 +1,4 @@
-//! A simulated disk with a volatile cache: what was not synced may be there after a power cut or not, in any part.
+//! A simulated disk with a volatile cache: after a power cut, what was not synced may be there or not, in any part.
 use crate::disk::{Disk, Facts, Handle, Open, Shared};
 use std::cell::RefCell;
 use std::collections::BTreeMap;
@@ -33,7 +33,7 @@ impl Random {
 #[derive(Clone, Copy, Debug, PartialEq, Eq)]
 pub enum Fault {
     None,
-    /// A sync of files with this in their name does nothing.
+    /// A sync of files with this text in their name does nothing.
     NotSynced(&'static str),
     FolderNotSynced,
 }
@@ -44,7 +44,7 @@ enum Change {
     Length(usize),
 }
 
-/// A file: what would outlast a power cut, what is read, and the changes between the two.
+/// A file: what would survive a power cut, what is read, and the changes between the two.
 #[derive(Clone, Default)]
 struct Node {
     name: PathBuf,
@@ -70,7 +70,7 @@ pub struct Content {
     pending: Vec<Naming>,
 }
 
-/// How many of the changes that were not synced a power cut leaves.
+/// How many of the changes that were not synced survive a power cut.
 #[derive(Clone, Copy)]
 enum Leaves {
     None,
@@ -105,7 +105,7 @@ fn overwrite(file: &mut Vec<u8>, at: usize, bytes: &[u8]) {
 }
 
 impl Node {
-    /// What a power cut may leave of it: of each sector that was written the old bytes, the new ones, or both, parted anywhere; and any length
+    /// What a power cut may leave of it: for each sector that was written, the old bytes, the new ones, or both, split anywhere; and any length
     /// between the old one and the new one.
     fn left(&self, random: &mut Random) -> Vec<u8> {
         let leaves = Leaves::any(random);
@@ -165,7 +165,7 @@ impl Content {
         left
     }
 
-    /// The files whose names begin so, and what they hold.
+    /// The files whose names begin with this text, and their contents.
     pub fn files(&self, start: &str) -> BTreeMap<String, &[u8]> {
         let named = self.now.iter().map(|(name, node)| (name.to_str().expect("a plain name").to_string(), &self.nodes[*node].now[..]));
         named.filter(|(name, _)| name.starts_with(start)).collect()
@@ -189,13 +189,13 @@ fn apply(names: &mut BTreeMap<PathBuf, usize>, naming: &Naming) {
     }
 }
 
-/// The disk of one run, which may be cut short.
+/// The disk of one run, in which the power may be cut.
 pub struct Simulated {
     content: RefCell<Content>,
     fault: Fault,
-    /// How many changes are still made before the power is cut.
+    /// How many more changes are made before the power is cut.
     left: RefCell<usize>,
-    /// The disk before each change, where they are kept.
+    /// The disk before each change, if these are recorded.
     pub history: Option<RefCell<Vec<Content>>>,
     pub told: RefCell<Vec<String>>,
 }
@@ -229,7 +229,7 @@ fn inode_of(name: &Path) -> u64 {
     name.to_str().expect("a plain name").bytes().fold(7, |hash: u64, b| hash.wrapping_mul(31).wrapping_add(b.into()))
 }
 
-/// A disk that is shared by what is open on it.
+/// A disk that is shared by the files that are open on it.
 pub struct Sharing(pub Rc<Simulated>);
 
 impl Sharing {
@@ -294,7 +294,7 @@ impl Disk for Sharing {
         self.0.change(|content| {
             content.durable = content.now.clone();
             content.pending.clear();
-            // Files without a name take no room in what is kept of the disk.
+            // Files without a name use no space in the recorded disk.
             for (at, node) in content.nodes.iter_mut().enumerate() {
                 if !content.now.values().any(|named| *named == at) {
                     *node = Node::default();

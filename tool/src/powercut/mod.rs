@@ -1,7 +1,7 @@
-//! Power cuts on a simulated disk (tests/powercut): a run of the tool's own code is recorded change by change; from each moment disks are made as a power
-//! cut may leave them, each is recovered, also where the power is cut again meanwhile, and compared with the run that nobody disturbed.
+//! Power cuts on a simulated disk (tests/powercut): a run of the tool's own code is recorded change by change. From each moment, disks are made as a
+//! power cut may leave them. Each is recovered, sometimes with another power cut meanwhile, and compared with the undisturbed run.
 //!
-//! MOORINGEYE_IMAGES says how many disks are tried, 3,000 where it is left out.
+//! MOORINGEYE_IMAGES says how many disks are tried; 3,000 if it is not set.
 mod disk;
 use crate::failure::Failure;
 use crate::journal::{rows_of, Stored};
@@ -23,11 +23,11 @@ enum Kind {
     Log,
     /// There is none.
     Feed,
-    /// There is one, and another collector has put rows behind ours.
+    /// There is one, and another collector has written rows after ours.
     TwoStates,
 }
 
-/// A log, the files that are kept, and what stands on disk when all of it was taken without a disturbance.
+/// A log, the files that are kept, and what is on disk after all of it was taken without a disturbance.
 struct Plant {
     log: Vec<u8>,
     /// Where each line begins, and where the last one ends.
@@ -38,7 +38,7 @@ struct Plant {
     /// The disk before each change, how many lines were read then, and what was printed.
     moments: Vec<Moment>,
     end: Content,
-    /// The line from which on rows were printed, and the rows.
+    /// The line from which rows were printed, and the rows.
     start: usize,
     printed: Vec<u8>,
 }
@@ -49,7 +49,7 @@ struct Moment {
     printed: usize,
 }
 
-/// How a run of the tool ended, and what it printed: from which line on.
+/// How a run of the tool ended, and what it printed, from which line on.
 struct Ran {
     from: usize,
     read: usize,
@@ -124,7 +124,7 @@ impl Plant {
         Ok(())
     }
 
-    /// The first lines taken, and rows of another collector behind theirs.
+    /// The disk after the first lines are taken, with rows of another collector after theirs.
     fn with_other_rows(&self, random: &mut Random) -> Content {
         let disk = Simulated::of(Content::default(), Fault::None, usize::MAX, false);
         let print: &mut dyn FnMut(&[u8]) -> Result<(), Failure> = &mut |_| Ok(());
@@ -141,7 +141,7 @@ impl Plant {
         disk.content()
     }
 
-    /// A run of the tool on a disk, to the end of the log or until the power is cut. `mark` is told how many lines were read and how much printed.
+    /// A run of the tool on a disk, to the end of the log or until the power is cut. `mark` gets how many lines were read and how much was printed.
     fn run(&self, disk: &Rc<Simulated>, from: usize, random: &mut Random, mut mark: impl FnMut(usize, usize)) -> Ran {
         let mut ran = Ran { from, read: from, printed: Vec::new(), end: Ok(()) };
         ran.end = self.take_all(disk, &mut ran.from, &mut ran.read, &mut ran.printed, random, &mut mark);
@@ -195,7 +195,7 @@ impl Plant {
         self.printed.split_inclusive(|c| *c == b'\n').take(line - self.start).map(<[u8]>::len).sum()
     }
 
-    /// Cuts the power at a moment, recovers, now and then cuts it again meanwhile, and says what is wrong at the end.
+    /// Cuts the power at some moment, recovers, sometimes cuts it again meanwhile, and returns what is wrong at the end.
     fn cut(&self, random: &mut Random, found: &mut Found) -> Result<(), String> {
         let moment = &self.moments[random.below(self.moments.len())];
         let mut content = moment.disk.left(random);
@@ -224,7 +224,7 @@ impl Plant {
         }
     }
 
-    /// Rows are printed once at most, in their order.
+    /// Rows are printed at most once, in their order.
     fn check_printed(&self, printed: &[u8], from: usize, printed_to: usize) -> Result<usize, String> {
         let start = self.row(from);
         match () {
@@ -266,7 +266,7 @@ fn sound(content: &Content) -> Vec<Stored> {
     blocks.filter(|block| block.iter().any(|b| *b != 0)).flat_map(|block| rows_of(&Block::new(block.try_into().unwrap()))).collect()
 }
 
-/// Rows that have to be there at the end.
+/// Rows that must be there at the end.
 #[derive(Default)]
 struct Rows {
     may_go_aside: bool,
@@ -300,7 +300,7 @@ impl Rows {
     }
 }
 
-/// What the recoveries met, so often.
+/// How often the recoveries met each case.
 #[derive(Debug, Default)]
 struct Found {
     cut_again: usize,
@@ -327,7 +327,7 @@ fn images() -> usize {
     std::env::var("MOORINGEYE_IMAGES").map_or(3_000, |n| n.parse().unwrap())
 }
 
-/// So many disks after power cuts; what was wrong with the first that was wrong.
+/// Tries this many disks after power cuts; returns what was wrong with the first wrong one.
 fn cut_often(count: usize, seed: u64, kind: Kind, fault: Fault, order: [Step; 4]) -> Result<Found, String> {
     let mut random = Random(seed);
     let (mut done, mut found) = (0, Found::default());
