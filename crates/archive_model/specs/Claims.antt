@@ -40,7 +40,8 @@ pub record LaidRow (block : List ℕ) (a : ℕ) (r : Row) : Type 0 where
   pub loose : getD block (a + 30) 0 ≡ cond (r .loose) 1 0
   pub last : getD block (a + 31) 0 ≡ 0
 
--- "number (4 bytes big-endian, from 0), row count 1 to 15 (1), zeros to byte 23, then rows ..; zeros to byte 510; the CRC of bytes 0 to 510 in byte 511"
+-- "number (4 bytes big-endian, from 0), row count 1 to 15 (1), zeros to byte 23, then rows ..; zeros to byte 510; the
+-- CRC of bytes 0 to 510 in byte 511"
 pub record Laid (k : ℕ) (rows : List Row) (block : List ℕ) : Type 0 where
   pub long : length block ≡ 512
   pub number : (i : ℕ) → i < 4 → getD block i 0 ≡ digit 4 k i

@@ -9,7 +9,8 @@ use Rattle.base_buffers.specs.Buffer.{resized}
 abbrev pub wrongSize : ℕ
 wrongSize = 255
 
--- a telegram with its length: "in 21 bytes, zero filled, with its length, 0 if none" (document 01, "Numbers a caller sees")
+-- a telegram with its length: "in 21 bytes, zero filled, with its length, 0 if none" (document 01, "Numbers a caller
+-- sees")
 abbrev pub frameLength : ℕ
 frameLength = 22
 

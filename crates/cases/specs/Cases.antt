@@ -110,7 +110,8 @@ shortForm = 0x05 ∷ 0x01 ∷ 0x02 ∷ 0x03 ∷ 0x04 ∷ 0xAA ∷ []
 abbrev pub oneByteLong : List ℕ
 oneByteLong = 0x07 ∷ 0x21 ∷ 0x01 ∷ 0x02 ∷ 0x03 ∷ 0x04 ∷ 0x09 ∷ 0x8A ∷ []
 
--- every field: header 5F, repeater count 1 and two bytes of optional data, extended telegram type 32, both IDs, data AA, optional data BB CC
+-- every field: header 5F, repeater count 1 and two bytes of optional data, extended telegram type 32, both IDs, data
+-- AA, optional data BB CC
 abbrev pub everyField : List ℕ
 everyField =
     0x0F ∷ 0x5F ∷ 0x12 ∷ 0x32 ∷ 0x01 ∷ 0x02 ∷ 0x03 ∷ 0x04 ∷ 0xF1 ∷ 0xF2 ∷ 0xF3 ∷ 0xF4 ∷ 0xAA ∷ 0xBB ∷ 0xCC ∷ 0x23 ∷ []

@@ -67,7 +67,8 @@ layouts =
       got = codec.fieldsBytes (fieldsOf oneByteRepeated);
       want = (0xD5 ∷ 1 ∷ 0 ∷ 0x81 ∷ 0 ∷ 0 ∷ 0 ∷ 0 ∷ 1 ∷ 2 ∷ 3 ∷ 4 ∷ 9 ∷ []) ++ replicate 13 0;
     }
-    -- mooringeye_erp2: form, control, extended, kind, has_extension, hops, announced, has_subtype, subtype, has_destination, length, data, optional
+    -- mooringeye_erp2: form, control, extended, kind, has_extension, hops, announced, has_subtype, subtype,
+    -- has_destination, length, data, optional
     ∷ record {
       got =
           take 12 (erp2.fieldsBytes (readOf everyField .telegram))
@@ -81,7 +82,8 @@ layouts =
           (readOf (0x0B ∷ 0x43 ∷ 1 ∷ 2 ∷ 3 ∷ 4 ∷ 0xF1 ∷ 0xF2 ∷ 0xF3 ∷ 0xF4 ∷ 0xAA ∷ 0xE9 ∷ []) .telegram));
       want = 0 ∷ 2 ∷ 0 ∷ 3 ∷ 0 ∷ 0 ∷ 0 ∷ 0 ∷ 0 ∷ 1 ∷ 1 ∷ 0xAA ∷ [];
     }
-    -- the eight numbers of mooringeye_collector: open telegrams, latest time, received, kept, copies, loose, damaged, late
+    -- the eight numbers of mooringeye_collector: open telegrams, latest time, received, kept, copies, loose, damaged,
+    -- late
     ∷ record { got = numbersOf sample; want = 1 ∷ 11 ∷ 12 ∷ 13 ∷ 14 ∷ 15 ∷ 16 ∷ 17 ∷ [] }
     -- what mooringeye_take answers: MOORINGEYE_KEPT, MOORINGEYE_COPY, MOORINGEYE_LOOSE, a refusal
     ∷ record {

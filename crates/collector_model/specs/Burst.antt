@@ -1,4 +1,5 @@
--- Receptions handed over in one list with a repeater setting, and a second list for the replies (document 02, A1 and A7).
+-- Receptions handed over in one list with a repeater setting, and a second list for the replies (document 02, A1 and
+-- A7).
 use mathlib.Core.Bool.{cond, not}
 use mathlib.Core.List.{List, [], _∷_, _++_}
 use Prim.Native.Nat.{ℕ}
@@ -26,7 +27,8 @@ pub record Replied : Type 0 where
 abbrev pub replyWith : ℕ → Shown → Reception → Replied
 replyWith setting a r = record { answer = a; sent = sentFor setting a r }
 
--- "The outcome must equal handing them over one by one, refused ones included": the state after them, and the reply to each
+-- "The outcome must equal handing them over one by one, refused ones included": the state after them, and the reply to
+-- each
 unfoldable pub afterAll : View → List Reception → View
 afterAll v [] = v
 afterAll v (r ∷ rs) = afterAll (step v r .next) rs

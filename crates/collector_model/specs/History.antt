@@ -69,7 +69,8 @@ pub data Seen : Type 0 where
   Heard : ℕ → ℕ → Totals → Seen
   Looked : Totals → Seen
 
--- what the collector shows: "each call gets the state that the one before returned, save the reload of a cut, which gets a fresh one"
+-- what the collector shows: "each call gets the state that the one before returned, save the reload of a cut, which
+-- gets a fresh one"
 abbrev pub run : View → List Call → List Seen
 run v [] = []
 run v (Receive setting r ∷ h) =

@@ -110,7 +110,8 @@ accepts image =
     && (acceptable (parse image)
     && equal (imageWith (settingIn image) (parse image)) image))
 
--- ---- the calls, for every state: "a collector state from which no image that reload accepts could be parked gets 11 before all else"
+-- ---- the calls, for every state: "a collector state from which no image that reload accepts could be parked gets 11
+-- before all else"
 
 -- the number, and every byte of the output after the call
 pub record CheckpointResult : Type 0 where

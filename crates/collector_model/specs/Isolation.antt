@@ -1,4 +1,5 @@
--- One noisy sensor does not touch another's rows (document 02, A13). Receptions and log are newest first, as in specs/Reference.
+-- One noisy sensor does not touch another's rows (document 02, A13). Receptions and log are newest first, as in
+-- specs/Reference.
 use Prim.Native.Nat.{ℕ, _<_, _^_}
 use mathlib.Core.Path.{_≡_}
 use mathlib.Core.Bool.{Bool, true, false, cond, not, _&&_}

@@ -11,7 +11,8 @@ pub record Reception : Type 0 where
   pub bytes : List ℕ
   pub time : ℕ
 
--- an open telegram: what opened it, and how often it was heard again ("the number of copies for each telegram open", document 02, A8)
+-- an open telegram: what opened it, and how often it was heard again ("the number of copies for each telegram open",
+-- document 02, A8)
 pub record Entry : Type 0 where
   pub bytes : List ℕ
   pub time : ℕ

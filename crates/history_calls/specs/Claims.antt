@@ -17,7 +17,8 @@ use Rattle.history_calls.specs.Arrays.{ArraysShow}
 use Rattle.history_calls.specs.Values.{ValuesShow}
 
 module _ {State : Type 0} (view : State → View) (IsStart : State → Type 0) (Show : State → List Call → List Seen → State → Type 0) where
-  -- all that is seen in a history "equals the clerk's after the receptions up to there, and the uncut run's" (document 01)
+  -- all that is seen in a history "equals the clerk's after the receptions up to there, and the uncut run's" (document
+  -- 01)
   abbrev pub Agree : Type 0
   Agree =
       (h : List Call) → IsHistory h → (c d c' d' : State) → IsStart c → IsStart d

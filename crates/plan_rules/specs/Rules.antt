@@ -1,5 +1,5 @@
--- The three timing rules (document 02, A10; source documents 000 and 004, 5.1): their ranges, pauses, last ends and numbers of
--- transmissions, and the plan that a draw picks.
+-- The three timing rules (document 02, A10; source documents 000 and 004, 5.1): their ranges, pauses, last ends and
+-- numbers of transmissions, and the plan that a draw picks.
 use mathlib.Core.Bool.{Bool, cond, not, _&&_}
 use mathlib.Core.List.{List, [], _∷_}
 use Prim.Native.Nat.{ℕ, _≤_}
@@ -43,7 +43,8 @@ lastEndOf rule = getD (40_000 ∷ 50_000 ∷ 40_000 ∷ []) rule 0
 abbrev pub offer : ℕ → ℕ → Offer
 offer a b = record { fewest = a; most = b }
 
--- "the caller asks for two or three"; "elsewhere the number asked for must be the rule's own, and two for compressed level 2"
+-- "the caller asks for two or three"; "elsewhere the number asked for must be the rule's own, and two for compressed
+-- level 2"
 abbrev pub offers : List (List Offer)
 offers =
     (offer 3 3 ∷ offer 2 2 ∷ offer 2 2 ∷ [])

@@ -62,7 +62,8 @@ unfoldable pub pastAfterLines : List Reception → List (List ℕ) → List Rece
 pastAfterLines past [] = past
 pastAfterLines past (l ∷ ls) = pastAfterLines (pastAfterLine past (lineReading l)) ls
 
--- "`level N`, then lines of time and hex": a row for each line, and the totals; "a first line .. other than level 0, 1 or 2 prints BAD alone"
+-- "`level N`, then lines of time and hex": a row for each line, and the totals; "a first line .. other than level 0, 1
+-- or 2 prints BAD alone"
 abbrev pub printedWith : Setting → List (List ℕ) → List ℕ
 printedWith (Setting.Level n) ls = joined (rowsAfter n [] ls) ++ totalsLine (totalsOf (logOf (pastAfterLines [] ls)))
 printedWith Setting.Bad ls = badText

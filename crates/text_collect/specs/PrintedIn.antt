@@ -1,5 +1,5 @@
--- What a run prints in a format for an input, by the reference model (docs/FORMATS.md, "Text of mooringeye"), and the claims on it.
--- proofs/PrintedIn.antt proves them.
+-- What a run prints in a format for an input, by the reference model (docs/FORMATS.md, "Text of mooringeye"), and the
+-- claims on it. proofs/PrintedIn.antt proves them.
 use Prim.Native.Nat.{ℕ}
 use mathlib.Core.Path.{_≡_}
 use mathlib.Core.List.{List, [], _∷_, _++_}

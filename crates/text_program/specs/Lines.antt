@@ -16,7 +16,8 @@ unfoldable pub linesOf : List ℕ → List (List ℕ)
 linesOf [] = []
 linesOf (c ∷ s) = cond (eqb c newline) ([] ∷ linesOf s) (prepend c (linesOf s))
 
--- What a program does, in any state: the state after a line, what it writes for the line, and what it writes at the end.
+-- What a program does, in any state: the state after a line, what it writes for the line, and what it writes at the
+-- end.
 pub record Program (S : Type 0) : Type 0 where
   pub next : S → List ℕ → S
   pub text : S → List ℕ → List ℕ

@@ -1,5 +1,5 @@
--- The rows of a run in three formats (docs/FORMATS.md, "Text of mooringeye"): as `collect` prints them, comma-separated, and as JSON
--- with an object on each line.
+-- The rows of a run in three formats (docs/FORMATS.md, "Text of mooringeye"): as `collect` prints them,
+-- comma-separated, and as JSON with an object on each line.
 use Prim.Native.Nat.{ℕ, _+_, _*_}
 use mathlib.Core.Bool.{cond}
 use mathlib.Core.List.{List, [], _∷_, _++_}

@@ -1,4 +1,5 @@
-// The rows of a run in three formats (docs/FORMATS.md, "Text of mooringeye"): as `collect` prints them, comma-separated, and as JSON with an object on each line.
+// The rows of a run in three formats (docs/FORMATS.md, "Text of mooringeye"): as `collect` prints them, comma-separated, and as JSON with an object
+// on each line.
 use crate::Row;
 ghost use mathlib.Core.Path.{_≡_};
 ghost use mathlib.Core.Bool.{true};
