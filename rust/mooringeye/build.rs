@@ -34,7 +34,7 @@ fn installed() -> Option<PathBuf> {
     (!dir.trim().is_empty()).then(|| PathBuf::from(dir.trim()))
 }
 
-/// The folder in the repository that has this crate; the library is built where it is missing.
+/// The folder in the repository that has this crate; the library is built if it is missing.
 fn built() -> Option<PathBuf> {
     let root = Path::new(env!("CARGO_MANIFEST_DIR")).join("../..");
     let dir = root.join("target/library");

@@ -2,11 +2,12 @@
 //!
 //! cargo run --release --example session -- text|csv|json [PIECE [CLOSINGS]] < LINES > ROWS
 //!
-//! PIECE is how many bytes are read at once, 65536 where it is left out. What each telegram was heard goes to the file CLOSINGS when it closes.
+//! PIECE is how many bytes are read at once, 65536 if it is left out. When a telegram closes, a line with its number of copies goes to the file
+//! CLOSINGS.
 use mooringeye::{Closing, Collector, FirstLine, Format, Session};
 use std::io::{self, BufRead, Read, Write};
 
-/// When a telegram was opened, its bytes, and how often it was heard again.
+/// Writes when a telegram was opened, its bytes, and how often it was received again.
 fn put(closing: &Closing, out: &mut impl Write) -> io::Result<()> {
     writeln!(out, "{} {} {}", closing.opened, closing.telegram, closing.copies)
 }

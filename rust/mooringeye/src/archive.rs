@@ -189,7 +189,7 @@ mod tests {
         Row { telegram, time, loose: time % 2 == 1 }
     }
 
-    /// So many blocks, with rows at the times from 0 on.
+    /// This many blocks, with rows at the times from 0 on.
     fn filled(blocks: usize, rows: u64) -> Vec<u8> {
         let mut buffer = vec![0; blocks * Archive::BLOCK];
         let mut archive = Archive::open(&mut buffer).unwrap();

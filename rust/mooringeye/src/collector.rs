@@ -240,12 +240,12 @@ impl Collector {
     /// ```
     pub fn lines_as(&mut self, setting: u8, format: Format, input: &[u8], most: usize, to: &mut Taken) -> Result<Lines, Refusal> {
         to.clear();
-        // Lines are counted only where they may be far fewer than `most`.
+        // Lines are counted only if there may be far fewer than `most`.
         let lines = if most <= input.len() / 16 { most } else { most.min(newlines(input)) };
         let mut told = [0; raw::LINES_AS_DONE];
         let state = &mut self.arrays_mut();
         if format == Format::Text && !to.asks_closings() {
-            // The same rows, by the quicker call.
+            // The same rows, with the faster call.
             let raw::RowsAsMut { text, moments, rows, .. } = to.lend(lines, raw::LONGEST_ROW);
             let mut four = [0; raw::LINES_DONE];
             done(raw::collector_lines(state, setting, input, most, &mut raw::RowsMut { text, moments, rows }, &mut four))?;
@@ -359,7 +359,7 @@ mod tests {
         Telegram::build(&Fields { rorg: 0xF6, data: vec![0x50], destid: None, txid: x.to_be_bytes(), status: 0x30 }).unwrap()
     }
 
-    /// So many telegrams, one a millisecond.
+    /// A collector that took this many telegrams, one a millisecond.
     fn heard(n: u32) -> Collector {
         let mut collector = Collector::new();
         for x in 0..n {

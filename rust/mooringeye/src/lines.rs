@@ -161,7 +161,7 @@ impl Taken {
         self.moments.resize(grow(self.moments.len(), lines), 0);
         self.records.resize(raw::ROW * self.moments.len(), 0);
         if self.asks_closings {
-            // Those that are open, those that these lines open, and what one line more may close.
+            // Telegrams that are open, those that these lines open, and what one more line may close.
             self.closed.resize(grow(self.closed.len(), raw::CLOSING * (lines + 2 * raw::CAPACITY)), 0);
         }
         raw::RowsAsMut { text: &mut self.text, moments: &mut self.moments, rows: &mut self.records, closed: &mut self.closed }
@@ -210,14 +210,14 @@ pub struct Session {
     collector: Collector,
     setting: u8,
     format: Format,
-    /// A line that has not ended, as far as it matters.
+    /// A line that has not ended, as much of it as matters.
     rest: Vec<u8>,
     part: Taken,
     whole: Taken,
 }
 
 impl Session {
-    /// Lines of a call.
+    /// How many lines a call takes.
     const BATCH: usize = 4_096;
 
     /// Behind the first line of a log, which says the setting: [`FirstLine`] reads it. Refused: [`Refusal::Argument`] for a setting over 2.
@@ -242,7 +242,7 @@ impl Session {
             used += done.used;
         }
         self.rest.drain(..used);
-        // A line that is longer than the longest is BAD, whatever else it has.
+        // A line that is longer than the longest is always BAD.
         self.rest.truncate(raw::LINE_LIMIT);
         &self.whole
     }
@@ -339,7 +339,7 @@ pub fn skip_lines(text: &[u8], most: usize) -> (usize, usize) {
     (used, lines)
 }
 
-/// The lines that end in a text. In parts that a byte can count, so that many characters are looked at at once.
+/// How many lines end in a text. Counted in parts that fit a byte, so many characters are compared at once.
 pub(crate) fn newlines(text: &[u8]) -> usize {
     let in_part = |part: &[u8]| part.iter().map(|c| u8::from(*c == b'\n')).sum::<u8>();
     text.chunks(usize::from(u8::MAX)).map(|part| usize::from(in_part(part))).sum()
@@ -357,7 +357,7 @@ mod tests {
     const TEXT: &[u8] = b"1000 D5090102030400E8\n1012 D5090102030401E9\nnothing\n1101 d5090102030400e8\n1102 D5";
     const PRINTED: &[u8] = b"1000 KEPT SEND D5090102030401E9\n1012 COPY\nBAD\n1101 KEPT SEND D5090102030401E9\n";
 
-    /// The text in pieces of so many bytes, at most so many lines and rows a call: all that was printed, and the rows.
+    /// The text in pieces of `piece` bytes, with at most `most` lines and `places` rows a call: all that was printed, and the rows.
     fn fed(piece: usize, most: usize, places: usize) -> (Vec<u8>, Vec<u64>, Vec<u8>) {
         let mut collector = Collector::new();
         let (mut kept, mut text, mut moments, mut rows) = (vec![], vec![], vec![], vec![]);
@@ -395,7 +395,7 @@ mod tests {
     const CSV: &[u8] = b"1000,KEPT,,D5090102030400E8,D5090102030401E9,01020304,D5,0\n1012,COPY,,D5090102030401E9,,01020304,D5,1\n\
         ,BAD,,,,,,\n1101,KEPT,,D5090102030400E8,D5090102030401E9,01020304,D5,0\n";
 
-    /// All that a session gives for the text in pieces of so many bytes, without its last line.
+    /// All that a session gives for the text in pieces of `piece` bytes, without its last line.
     fn session(piece: usize, format: Format) -> (Vec<u8>, Vec<Row>, Vec<Closing>, Session) {
         let mut session = Session::new(Collector::new(), 1, format).unwrap();
         let (mut text, mut rows, mut closings) = (vec![], vec![], vec![]);

@@ -312,7 +312,7 @@ mod tests {
         buffer
     }
 
-    /// Archives that are right, and archives with a byte changed.
+    /// Archives that are right, and archives with one byte changed.
     fn archives() -> Vec<Vec<u8>> {
         let mut all: Vec<Vec<u8>> = [(0, 0), (3, 0), (1, 15), (9, 100), (9, 120), (9, 135)].map(|(blocks, rows)| archive(blocks, rows)).into();
         for at in [0, 4, 30, 511, 2 * BLOCK + 4, 6 * BLOCK + 4, 6 * BLOCK + 40, 8 * BLOCK - 1, 9 * BLOCK - 1] {
@@ -323,7 +323,7 @@ mod tests {
         all
     }
 
-    /// The pieces of a buffer, of so many blocks each.
+    /// The pieces of a buffer, of `blocks` blocks each.
     fn pieces(buffer: &[u8], blocks: usize) -> std::slice::Chunks<'_, u8> {
         buffer.chunks(blocks * BLOCK)
     }
@@ -358,7 +358,7 @@ mod tests {
         assert_eq!(Block::new([1; BLOCK]).rows().count(), 0);
     }
 
-    /// What packing leaves, with the positions that were dropped.
+    /// What packing leaves, with the dropped positions.
     fn packed(buffer: &[u8], blocks: usize, identities: &[u32]) -> (Vec<u8>, Vec<u64>, u64) {
         let (mut packer, mut all, mut dropped, mut before) = (Packer::new(identities), Vec::new(), Vec::new(), 0);
         for piece in pieces(buffer, blocks) {

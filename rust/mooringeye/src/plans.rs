@@ -44,7 +44,7 @@ pub struct SlotPlan {
     pub third: Option<u8>,
 }
 
-// What the library reads and writes where there is no third slot.
+// The third slot of the library if there is none.
 const NONE: u8 = 255;
 
 impl SlotPlan {

@@ -110,7 +110,7 @@ impl fmt::Display for Refused {
 
 impl Error for Refused {}
 
-/// What a number says: 0 is done.
+/// The result of a number: 0 is done.
 pub(crate) fn done(number: u8) -> Result<(), Refusal> {
     match number {
         0 => Ok(()),
@@ -118,7 +118,7 @@ pub(crate) fn done(number: u8) -> Result<(), Refusal> {
     }
 }
 
-/// The same of a call on an archive.
+/// The same for a call on an archive.
 pub(crate) fn done_at(number: u8, position: usize) -> Result<(), Refused> {
     done(number).map_err(|why| Refused { why, position })
 }

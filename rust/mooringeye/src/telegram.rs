@@ -130,7 +130,7 @@ impl Telegram {
     }
 }
 
-/// Bytes as a frame. More than one holds have a length that no telegram has, and the first of them.
+/// Bytes as a frame. If there are more than it holds, it gets a length that no telegram has, and the first of the bytes.
 pub(crate) fn frame(bytes: &[u8]) -> [u8; raw::FRAME] {
     let mut frame = [0; raw::FRAME];
     frame[0] = u8::try_from(bytes.len()).unwrap_or(u8::MAX);
@@ -197,7 +197,7 @@ impl Fields {
         self.status & 15
     }
 
-    // A length that a byte does not hold is no length that can be built.
+    // If a length does not fit a byte, the telegram cannot be built.
     fn to_bytes(&self) -> [u8; raw::FIELDS] {
         let mut bytes = [0; raw::FIELDS];
         bytes[0] = self.rorg;
@@ -212,7 +212,7 @@ impl Fields {
         bytes
     }
 
-    /// Where an ID is in them.
+    /// Where an ID is in these bytes.
     const DESTID: usize = 4;
     const TXID: usize = 8;
 

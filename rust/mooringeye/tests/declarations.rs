@@ -1,10 +1,10 @@
-//! The header, which include/mooringeye.abi lists, the declarations of this crate, the sources of the exports and the symbols of
-//! the library say the same: names, and of each parameter which number it is, or a pointer to which numbers, read or changed.
+//! The header, which include/mooringeye.abi lists, the declarations of this crate, the sources of the exports and the symbols of the library agree:
+//! on the names, and for each parameter on its number type, or on the pointer, to which numbers it points, and whether they are read or changed.
 use std::collections::BTreeMap;
 use std::path::{Path, PathBuf};
 use std::process::Command;
 
-/// The parameters of each function, and its answer last.
+/// The parameters of each function, and its result last.
 type Functions = BTreeMap<String, Vec<String>>;
 
 fn root() -> PathBuf {
@@ -32,7 +32,7 @@ fn bare(text: &str) -> String {
     out.lines().map(|l| l.split("//").next().unwrap()).collect::<Vec<_>>().join("\n")
 }
 
-/// What stands between the parenthesis at `open` and the one that closes it, and the rest.
+/// The text between the parenthesis at `open` and the one that closes it, and the rest.
 fn parenthesis(text: &str, open: usize) -> (&str, &str) {
     let mut depth = 0;
     for (i, c) in text[open..].char_indices() {
@@ -101,7 +101,7 @@ fn functions(text: &str, word: &str, kinds: impl Fn(&str) -> Vec<String>) -> Fun
     found
 }
 
-/// The declarations of `raw.rs`, in which a type may go by a name of its own.
+/// The declarations of `raw.rs`, in which a type may have a name of its own.
 fn declared() -> Functions {
     let text = bare(&text("rust/mooringeye/src/raw.rs"));
     let names = text.split("type ").skip(1).filter_map(|t| t.split_once(';')?.0.split_once(" = "));
@@ -135,7 +135,7 @@ fn exported() -> Functions {
     all
 }
 
-/// What the texts say: this file alone, compiled by `rustc --test`, shows it before the library is built.
+/// Compares the sources: this file alone, compiled by `rustc --test`, does it before the library is built.
 mod sources {
     use super::*;
 
@@ -162,7 +162,7 @@ mod sources {
     }
 }
 
-/// What was built of them.
+/// Compares what was built from them.
 mod built {
     use super::*;
 

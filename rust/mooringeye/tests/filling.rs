@@ -1,4 +1,4 @@
-//! Rows put into one block together: what `archive_put_row` makes of them one after the other, or a refusal and the block as it was.
+//! Several rows put into one block: the result is that of `archive_put_row` one after the other, or a refusal and an unchanged block.
 use mooringeye::raw;
 
 const BLOCK: usize = 512;
@@ -7,7 +7,7 @@ fn sum_of(bytes: &[u8]) -> u8 {
     bytes.iter().fold(0, |s, b| s.wrapping_add(*b))
 }
 
-/// A telegram of so many bytes that the check takes, with its CRC or its sum.
+/// A telegram of this many bytes that the check accepts, with its CRC or its sum.
 fn telegram(length: usize, crc: bool) -> Vec<u8> {
     let mut bytes: Vec<u8> = (0..length as u8).map(|i| 0xD2 ^ (17 * i)).collect();
     bytes[length - 2] = if crc { 0x80 } else { 0 };
@@ -17,7 +17,7 @@ fn telegram(length: usize, crc: bool) -> Vec<u8> {
     bytes
 }
 
-/// A record: the byte for LOOSE, the length, and the bytes with 0xEE behind them.
+/// A record: the byte for LOOSE, the length, and the bytes with 0xEE after them.
 fn record(loose: u8, length: u8, bytes: &[u8]) -> Vec<u8> {
     let mut record = vec![0xEE; raw::ROW];
     (record[0], record[1]) = (loose, length);
@@ -43,7 +43,7 @@ fn rows(n: usize, count: usize) -> (Vec<u64>, Vec<u8>) {
     )
 }
 
-/// A block where these rows are put one by one.
+/// Puts these rows into a block one by one.
 fn one_by_one(block: &mut [u8], n: usize, count: usize) {
     for i in n..n + count {
         let (time, bytes, loose) = row(i);
@@ -52,14 +52,14 @@ fn one_by_one(block: &mut [u8], n: usize, count: usize) {
     }
 }
 
-/// The block of an archive of `n` rows where row `n` goes.
+/// The block where row `n` goes, of an archive of `n` rows.
 fn block_before(n: usize) -> Vec<u8> {
     let mut block = vec![0; BLOCK];
     one_by_one(&mut block, n - n % 15, n % 15);
     block
 }
 
-/// The answer and the position, 7 where none goes with it.
+/// The answer and the position; 7 if no position goes with it.
 fn put(block: &mut [u8], n: usize, times: &[u64], records: &[u8]) -> (u8, usize) {
     let mut position = 7;
     (raw::archive_put_rows(block, n, times, records, &mut position), position)
@@ -98,7 +98,7 @@ fn blocks_make_an_archive() {
     }
 }
 
-/// A call that is refused with these numbers, and leaves the block as it was.
+/// Checks that a call is refused with these numbers, and leaves the block unchanged.
 fn refused(block: &[u8], n: usize, times: &[u64], records: &[u8], answer: (u8, usize)) {
     let mut after = block.to_vec();
     assert_eq!(put(&mut after, n, times, records), answer, "row {n}, {} times, {} bytes", times.len(), records.len());
@@ -108,7 +108,7 @@ fn refused(block: &[u8], n: usize, times: &[u64], records: &[u8], answer: (u8, u
 #[test]
 fn sizes() {
     let (times, records) = rows(17, 3);
-    // Before what would be refused otherwise: a block that does not match, a row that the check refuses, and too many rows.
+    // It comes before other refusals: a block that does not match, a row that the check refuses, and too many rows.
     for (block, n) in [(block_before(17), 17), (vec![0xEE; BLOCK], 16), (block_before(17), 29)] {
         for size in [0, 1, 511, 513, 1024] {
             let mut other = block.clone();
@@ -142,7 +142,7 @@ fn blocks_that_do_not_match() {
         }
         records[1] = if broken { 7 } else { 22 };
     }
-    // No more than the first five bytes are looked at.
+    // Only the first five bytes are read.
     let mut block = block_before(17);
     block[5..].fill(0xEE);
     assert_eq!(put(&mut block.clone(), 17, &times[1..], &records[raw::ROW..]), (0, 7));
@@ -168,7 +168,7 @@ fn rows_that_the_check_refuses() {
         (3, record(2, 21, &nested)),
         (13, record(0, 9, &crc)),
     ];
-    // With room for all of them, and with none.
+    // With room for all of them, and with room for none.
     for (n, count) in [(15, 15), (15, 16), (29, 1), (29, 40)] {
         let block = block_before(n);
         let (times, records) = rows(n, count);

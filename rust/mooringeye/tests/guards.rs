@@ -12,11 +12,11 @@ const NONE: i32 = 0;
 const READ_WRITE: i32 = 3;
 const PRIVATE_ANONYMOUS: i32 = 0x22;
 
-/// `len` bytes, or numbers, between two pages that may not be touched: at the end of what lies between them, or at its start.
+/// `len` bytes, or numbers, between two pages that must not be touched: at the end of the memory between them, or at its start.
 fn guarded<T: Clone>(content: &[T], at_end: bool) -> &'static mut [T] {
     let size = std::mem::size_of_val(content);
     let pages = size.div_ceil(PAGE).max(1);
-    // SAFETY: a new mapping of its own, never unmapped; the part that is handed out lies in it, is aligned, and is handed out once.
+    // SAFETY: a new mapping of its own, never unmapped; the returned part is inside it, is aligned, and is returned once.
     unsafe {
         let base = mmap(std::ptr::null_mut(), (pages + 2) * PAGE, NONE, PRIVATE_ANONYMOUS, -1, 0);
         assert!(base as isize > 0);
@@ -33,7 +33,7 @@ fn both(mut call: impl FnMut(bool)) {
     call(false);
 }
 
-/// Bytes that look right and bytes that do not, of a length.
+/// Bytes of a length that are valid, and bytes that are not.
 fn contents(n: usize) -> Vec<Vec<u8>> {
     let mut right = vec![0xD5; n];
     if n >= 2 {
@@ -141,7 +141,7 @@ fn sites() {
     }
 }
 
-/// The arrays of a collector, each between guard pages of its own, with this in every number.
+/// The arrays of a collector, each between guard pages of its own, with this value in every number.
 fn arrays(content: u8, end: bool) -> raw::ArraysMut<'static> {
     let wide = u64::from(content);
     raw::ArraysMut {
@@ -153,7 +153,7 @@ fn arrays(content: u8, end: bool) -> raw::ArraysMut<'static> {
     }
 }
 
-/// Every call but those that take receptions.
+/// Makes every call except those that take receptions.
 fn asked(state: &mut raw::ArraysMut<'_>, end: bool) {
     raw::collector_totals(&state.shared(), guarded(&[0; raw::TOTALS], end).try_into().unwrap());
     for index in [0, 63, 64, usize::MAX] {
@@ -189,7 +189,7 @@ fn collectors() {
         for content in [1, 21, 64, 65, 0xFF] {
             let mut other = arrays(content, end);
             assert_eq!(raw::collector_take(&mut other, guarded(&contents(8)[0], end), 0), 11);
-            // Told that they are accepted, the call stays within them.
+            // Told that the state is accepted, the call stays inside the arrays.
             raw::collector_take_tested(&mut arrays(content, end), guarded(&contents(8)[0], end), 0);
             asked(&mut other, end);
         }
@@ -206,7 +206,7 @@ fn bursts() {
                 let record = [&[8u8][..], &contents(8)[0], &[0xEE; 13]].concat();
                 let (records, replies) = (guarded(&record.repeat(n), end), guarded(&vec![0u8; raw::REPLY * places], end));
                 raw::collector_burst(&mut state, setting, moments, records, replies);
-                // Lists that do not fit one another.
+                // Lists whose lengths do not agree.
                 raw::collector_burst(&mut state, setting, moments, guarded(&vec![0u8; 22 * n + 1], end), replies);
                 raw::collector_burst(&mut state, setting, guarded(&vec![0; n + 1], end), records, replies);
                 raw::collector_burst(&mut state, setting, moments, records, guarded(&vec![0u8; 24 * places + 23], end));

@@ -1,4 +1,4 @@
-//! The calls of the plant tool's journal: its state file, and what a start and a batch decide.
+//! The calls of the journal of the plant's tool: its state file, and what a start and a batch decide.
 use mooringeye::{raw, Block, Collector};
 
 const PRESS: [u8; 8] = [0xD5, 0x09, 1, 2, 3, 4, 0, 0xE8];

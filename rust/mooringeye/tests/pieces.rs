@@ -1,10 +1,10 @@
-//! Archives in pieces: on the buffers of the stored records these calls answer what the calls over a whole buffer do, whatever the pieces are.
+//! Archives in pieces: on the buffers of the stored records, these calls answer what the calls on a whole buffer answer, whatever the pieces are.
 use mooringeye::raw;
 use std::path::Path;
 
 const BLOCK: usize = 512;
 
-/// The buffers that the stored records of `archive_run` put together, each once where it is asked for more than once in a row.
+/// The buffers that the stored records of `archive_run` build, each once if it is requested several times in a row.
 fn buffers() -> Vec<Vec<u8>> {
     let path = Path::new(env!("CARGO_MANIFEST_DIR")).join("../../crates/archive_run/stdin");
     let text = std::fs::read_to_string(path).unwrap();
@@ -29,7 +29,7 @@ fn buffers() -> Vec<Vec<u8>> {
     found
 }
 
-/// Pieces of so many blocks, the last one as it comes.
+/// Pieces of `blocks` blocks; the last one may be shorter.
 fn pieces(buffer: &[u8], blocks: usize) -> impl Iterator<Item = &[u8]> {
     buffer.chunks(BLOCK * blocks)
 }
@@ -64,7 +64,7 @@ fn a_scan_in_pieces_is_verify() {
 #[test]
 fn any_numbers_of_a_scan_are_answered() {
     for (numbers, answer) in [
-        // Every block is full.
+        // All blocks are full.
         ([0, 0, 0, 0], (0, 0, 7)),
         ([1 << 32, 15 << 32, 0, 9], (0, 15 << 32, 7)),
         ([1, 0, 0, 0], (11, 7, 7)),
@@ -76,7 +76,7 @@ fn any_numbers_of_a_scan_are_answered() {
         ([2, 29, 1, 0], (0, 29, 7)),
         ([2, 30, 1, 0], (11, 7, 7)),
         ([0, 0, 1, 0], (11, 7, 7)),
-        // An all-zero one was passed.
+        // There was an all-zero one.
         ([0, 0, 2, 0], (11, 7, 7)),
         ([2, 0, 2, 0], (0, 0, 7)),
         ([2, 15, 2, 0], (0, 15, 7)),
@@ -129,7 +129,7 @@ fn no_block_number_is_used_twice() {
     assert_eq!(count, 0);
 }
 
-/// What a packer writes of pieces, zeros up to the buffer's length, and the positions dropped.
+/// What a packer writes for pieces, with zeros up to the length of the buffer, and the dropped positions.
 fn packed(buffer: &[u8], blocks: usize, identities: &[u32]) -> (Vec<u8>, Vec<u64>, usize) {
     let (mut numbers, mut waiting) = ([0; raw::PACKER_NUMBERS], [0xEE; raw::PACKER_BYTES]);
     let (mut all, mut dropped) = (Vec::new(), Vec::new());
@@ -170,7 +170,7 @@ fn packing_in_pieces_is_salvage_and_removal() {
 
 type Report = ([u64; raw::REPORT_NUMBERS], [u64; raw::REPORT_LINES]);
 
-/// What a report says: its numbers, and its lines.
+/// The content of a report: its numbers, and its lines.
 fn said((numbers, lines): &Report) -> (Vec<u64>, Vec<u64>) {
     (numbers.to_vec(), lines[..raw::LINE_NUMBERS * numbers[1] as usize].to_vec())
 }
@@ -179,7 +179,7 @@ fn said((numbers, lines): &Report) -> (Vec<u64>, Vec<u64>) {
 fn adding_in_pieces_is_adding() {
     let mut report: Report = ([0; raw::REPORT_NUMBERS], [0; raw::REPORT_LINES]);
     let mut answers = [0; 256];
-    // Archives of no rows at the end, so that there are more than 64.
+    // Archives without rows at the end, so that there are more than 64.
     let empty = std::iter::repeat_n(vec![0; BLOCK], 70);
     for buffer in buffers().into_iter().filter(|b| b.len() % BLOCK == 0).chain(empty) {
         let (mut whole, mut position, mut other) = (report, 7, 7);
@@ -197,14 +197,14 @@ fn adding_in_pieces_is_adding() {
         }
     }
     assert!(answers[0] > 50 && answers[10] > 50 && answers[12] > 100 && answers[17] > 0, "{answers:?}");
-    // A report that was changed in between no longer fits.
+    // A report that was changed in between does not fit any more.
     let (mut adding, mut tally) = ([0; raw::ADDING_NUMBERS], [0; raw::REPORT_LINES]);
     raw::report_start(&report.0, &report.1, &mut adding, &mut tally);
     report.0[2] += 1;
     assert_eq!(raw::report_feed(&report.0, &report.1, &mut adding, &mut tally, &[]), 11);
 }
 
-/// A cut of the whole buffer is a cut of one block and zeros behind it, and the file is an archive after each write.
+/// A cut of the whole buffer is a cut of one block and zeros after it; and the file is an archive after each write.
 #[test]
 fn a_cut_from_the_end() {
     let mut cuts = 0;

@@ -1,4 +1,4 @@
-//! The stored records of the test programs through this crate, with the second program's answers.
+//! Runs the stored records of the test programs through this crate, and compares with the second program's answers.
 use mooringeye::raw;
 use std::fmt::Write;
 use std::path::Path;
@@ -32,7 +32,7 @@ fn size(bytes: &[u8]) -> usize {
     number(bytes) as usize
 }
 
-/// Every call answered as the second program has it. The first difference is shown. A call may take the records that follow it.
+/// Checks every call against the second program's answer, and shows the first difference. A call may use the records that follow it.
 fn compare_calls(name: &str, mut answer: impl FnMut(&[u8], &mut dyn FnMut() -> Vec<u8>) -> String) {
     let (input, wanted) = (stored(&format!("{name}/stdin")), stored(&format!("{name}/stdout")));
     let mut wanted = wanted.lines();
@@ -46,7 +46,7 @@ fn compare_calls(name: &str, mut answer: impl FnMut(&[u8], &mut dyn FnMut() -> V
     assert_eq!(wanted.next(), None, "{name}");
 }
 
-/// The same where each record is a call.
+/// The same if each record is a call.
 fn compare(name: &str, mut answer: impl FnMut(&[u8]) -> String) {
     compare_calls(name, |r, _| answer(r));
 }
@@ -124,7 +124,7 @@ fn erp2_run() {
 
 // ---- slot plans
 
-/// Lines of a draw: what is asked, and the number and slots that are answered. Lines that count plans are passed.
+/// Lines of a draw: the request, and the number and slots of the answer. Lines that count plans are skipped.
 fn plans(name: &str, asked: usize, plan: impl Fn(&[u64]) -> u32) {
     for line in stored(&format!("{name}/stdout")).lines() {
         let n: Vec<u64> = line.split(' ').map(|w| w.parse().unwrap()).collect();
@@ -244,7 +244,7 @@ impl Room {
         }
     }
 
-    /// A row by the three calls that take its number, which must agree where its block is in the room.
+    /// Appends a row by the three calls that take its number; they must agree if its block is inside the buffer.
     fn append_at(&mut self, r: &[u8]) -> String {
         let (time, loose, bytes) = self.row(r);
         let (mut position, mut other, n) = (0, 0, size(&r[80..88]));
@@ -318,7 +318,7 @@ fn archive_run() {
 
 // ---- histories of a collector
 
-/// A history under way.
+/// A history in progress.
 struct History {
     state: raw::ArraysMut<'static>,
     setting: u8,
@@ -368,7 +368,7 @@ impl History {
                 let mut heard = 7;
                 let answer = raw::collector_copies(&self.state.shared(), n as usize, &mut heard);
                 if answer != 0 {
-                    // Lent memory stays as it was; the record says 0 beside a refusal.
+                    // Lent memory is unchanged; the record says 0 with a refusal.
                     assert_eq!(heard, 7);
                     heard = 0;
                 }

@@ -1,4 +1,4 @@
-//! Slices of other sizes than a call asks for: 255, and nothing is touched. Empty slices and the longest ones. The version of the interface.
+//! Slices of a wrong size: 255, and nothing is changed. Empty slices and the longest ones. The version of the interface.
 use mooringeye::raw;
 
 mod arrays;
@@ -6,7 +6,7 @@ mod arrays;
 const WRONG: u8 = 255;
 const VALID: [u8; 8] = [0xD5, 0x09, 1, 2, 3, 4, 0, 0xE8];
 
-/// Every size up to twice the right one but the right one itself, each filled with 0xEE.
+/// Every size up to twice the right one, except the right one, each filled with 0xEE.
 fn others(right: usize) -> impl Iterator<Item = Vec<u8>> {
     (0..2 * right + 2).filter(move |n| *n != right).map(|n| vec![0xEE; n])
 }
@@ -164,7 +164,7 @@ fn lines() {
     }
 }
 
-/// Where a call on lines stops: `most`, the places for rows, the text. What is behind the text and the rows is untouched.
+/// Where a call on lines stops: at `most`, at the entries for rows, at the text. What comes after the text and the rows is unchanged.
 #[test]
 fn lines_that_do_not_fit() {
     let text = b"1000 D5090102030400E8\n1000 D5090102030400E8\n2000 D5090102030400E8\nx\n3000 D5";
@@ -214,7 +214,7 @@ fn lines_in_a_format() {
     }
 }
 
-/// Where a call with a format stops, beside where one on text does: at the rows' bytes and at the places for what closes.
+/// Where a call with a format stops, in addition to where one on text does: at the bytes of the rows, and at the entries for closings.
 #[test]
 fn formatted_lines_that_do_not_fit() {
     let text = b"1000 D5090102030400E8\n1000 D5090102030400E8\n2000 D5090102030400E8\nx\n3000 D5";

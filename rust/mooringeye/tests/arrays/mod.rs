@@ -1,7 +1,7 @@
 //! The arrays of a collector for tests.
 use mooringeye::raw;
 
-/// Arrays that hold this in every number.
+/// Arrays with this value in every number.
 pub fn arrays(content: u8) -> raw::ArraysMut<'static> {
     let wide = u64::from(content);
     raw::ArraysMut {
