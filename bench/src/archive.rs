@@ -1,4 +1,4 @@
-//! Archives: opening, appending at the cursor and the CRC over a block, against Rust of the same job with the same CRC by eight bytes; and a
+//! Archives: opening, appending at the cursor and the CRC over a block, compared with Rust of the same job with the same CRC by eight bytes; and a
 //! buffer of more addresses than memory, which is refused by its length alone.
 use crate::{report, time, Random};
 use collect_rust::hash::{crc, hash};
@@ -30,7 +30,7 @@ extern "C" {
 
 pub const BLOCK: usize = 512;
 pub const ROWS: usize = 15;
-/// The number of an answer stands in the highest byte.
+/// The number of an answer is in the highest byte.
 pub const NUMBER: u64 = 1 << 56;
 
 fn proved_crc(bytes: &[u8]) -> u8 {
@@ -284,7 +284,7 @@ fn crcs(random: &mut Random) {
     );
 }
 
-/// 2^41 + 512 bytes of addresses without access: 16 by the length alone, as any look at a byte would end the run with a signal.
+/// 2^41 + 512 bytes of addresses without access: 16 by the length alone, because a read of any byte would end the run with a signal.
 fn reserved() {
     const BYTES: usize = (1 << 41) + BLOCK;
     let (private, anonymous, no_reserve) = (2, 0x20, 0x4000);

@@ -1,5 +1,5 @@
-//! Receptions in bursts: the proved call, which tests its state once and copies it in and out once, against a hand-written walk over a slice
-//! of the same records, which writes the same replies and trusts its state. Both start each burst from the same state.
+//! Receptions in bursts: the proved call, which tests its state once and copies it in and out once, compared with a hand-written loop over a slice of
+//! the same records, which writes the same replies and does not test its state. Both start each burst from the same state.
 use crate::collector::{cells, CELL};
 use crate::{report, time};
 use collect_rust::collector::{repeat, Answer, Collector};
@@ -71,8 +71,8 @@ fn walk(collector: &mut Collector, setting: u8, records: &[Record], replies: &mu
     }
 }
 
-/// Bursts of the first `size` of the second 256 receptions, each from the state that the first 256 left. A figure of the totals and of one reply
-/// each.
+/// Bursts of the first `size` of the second 256 receptions, each from the state after the first 256. Returns a number made of the totals and of one
+/// reply of each.
 pub fn by_hand(cells: &[u8], size: usize, rounds: usize) -> u64 {
     let all = records(&cells[..2 * MOST * CELL]);
     let none = Reply {
@@ -101,7 +101,7 @@ pub fn by_hand(cells: &[u8], size: usize, rounds: usize) -> u64 {
     figure
 }
 
-/// Nanoseconds of a burst of so many from the state that 256 receptions left, without what is done once before all bursts.
+/// Nanoseconds of a burst of `size` receptions, from the state after 256 receptions, without what is done once before all bursts.
 pub fn burst_time(burst: fn(&[u8], usize, usize) -> u64, cells: &[u8], size: usize) -> f64 {
     const BURSTS: usize = 16;
     let whole = |rounds: usize| {
@@ -118,8 +118,8 @@ fn run(calls: unsafe extern "C" fn(*const u8, usize) -> u64, cells: &[u8]) -> f6
     })
 }
 
-/// The proved call is reached through lists held by value, which are copied: what a burst of none takes is taken off, and what its own
-/// part of that is, the test and the copies of the state, put on again: as much as `take` takes more than `admit`.
+/// The proved call is reached through lists held by value, which are copied. So the time of an empty burst is subtracted, and the call's own part of
+/// it, the test and the copies of the state, is added again: that is the difference between `take` and `admit`.
 pub fn bench() {
     for open in [4, 16, 64] {
         let cells = &cells(open)[..2 * MOST * CELL];

@@ -1,5 +1,5 @@
-//! Receptions taken one after the other and classified, nothing sent: the proved collector, by value and with the test of its state at each call
-//! (`take`), and in place with none (`admit`), against a hand-written one of the same job each time.
+//! Receptions are taken one after the other and classified; nothing is sent. The proved collector, by value with the test of its state at each call
+//! (`take`), and in place without it (`admit`), is compared with a hand-written one of the same job each time.
 use crate::{report, time, Random};
 use collect_rust::collector::{Answer, Collector};
 use collect_rust::hash::{hash, sum};
@@ -23,7 +23,7 @@ fn proved_in_place(cells: &[u8]) -> u64 {
     unsafe { bench_admit(cells.as_ptr(), cells.len()) }
 }
 
-/// The test of the state that these receptions leave behind, so many times.
+/// Tests the state after these receptions, `rounds` times.
 fn tests(cells: &[u8], rounds: u64) -> u64 {
     unsafe { bench_test(cells.as_ptr(), cells.len(), rounds) }
 }
@@ -65,7 +65,7 @@ fn by_hand(cells: &[u8]) -> u64 {
     figure
 }
 
-/// The state that these receptions leave behind, tested so many times, each second time with the last entry left out.
+/// The state after these receptions, tested `rounds` times, every second time without the last entry.
 fn tests_by_hand(cells: &[u8], rounds: u64) -> u64 {
     let mut collector = Collector::new();
     for (time, bytes) in receptions(cells) {
@@ -76,7 +76,7 @@ fn tests_by_hand(cells: &[u8], rounds: u64) -> u64 {
         .sum()
 }
 
-/// Different telegrams so far apart that `open` of them are open at any time; each second one is heard again through a repeater.
+/// Different telegrams, so far apart that `open` of them are open at any time; every second one is received again through a repeater.
 pub fn cells(open: usize) -> Vec<u8> {
     let mut random = Random::new();
     let mut cells = Vec::new();
@@ -99,7 +99,7 @@ pub fn cells(open: usize) -> Vec<u8> {
     cells
 }
 
-/// 21 telegrams opened three times each, and so 63 open.
+/// 21 telegrams, each opened three times, so 63 are open.
 fn openings() -> Vec<u8> {
     let mut random = Random::new();
     let telegrams: Vec<Vec<u8>> = (0..21).map(|_| telegram(random.next())).collect();
@@ -159,7 +159,7 @@ pub fn bench() {
     );
 }
 
-/// The test of the state that these receptions leave behind.
+/// Reports the test of the state after these receptions.
 fn report_test(what: &str, cells: &[u8]) {
     report(what, test_time(cells), time_of(tests_by_hand, cells));
 }

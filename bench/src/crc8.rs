@@ -1,4 +1,4 @@
-//! CRC-8 over 512 bytes: the proved loop against the same table-driven loop in Rust.
+//! CRC-8 over 512 bytes: the proved loop compared with the same table-driven loop in Rust.
 use crate::{report, time, Random};
 use collect_rust::hash::crc;
 use std::hint::black_box;

@@ -1,4 +1,4 @@
-//! ERP2 telegrams of 14, 60 and 255 bytes: read, and read and built again, against the same job in Rust with the same table-driven CRC.
+//! ERP2 telegrams of 14, 60 and 255 bytes: read, and read and built again, compared with the same job in Rust with the same table-driven CRC.
 use crate::{report, time, Random};
 use collect_rust::hash::crc;
 use std::hint::black_box;
@@ -105,7 +105,7 @@ fn read(bytes: &[u8]) -> Option<Telegram> {
     Some(t)
 }
 
-/// Puts bytes behind the others.
+/// Puts bytes after the others.
 fn put(out: &mut [u8], at: &mut usize, bytes: &[u8]) -> Option<()> {
     out.get_mut(*at..*at + bytes.len())?.copy_from_slice(bytes);
     *at += bytes.len();
@@ -198,7 +198,7 @@ fn proved_again(bytes: &[u8], out: &mut [u8]) -> usize {
     unsafe { bench_erp2_again(bytes.as_ptr(), bytes.len(), out.as_mut_ptr(), out.len()) }
 }
 
-/// A telegram of so many bytes with its length byte: header 5F, an extended header that announces two bytes, both IDs.
+/// A telegram of this many bytes with its length byte: header 5F, an extended header that announces two bytes, both IDs.
 fn telegram(bytes: usize, random: &mut Random) -> Vec<u8> {
     let mut t = vec![bytes as u8 - 1, if bytes < 18 { 0x21 } else { 0x5F }];
     if bytes >= 18 {

@@ -1,5 +1,5 @@
-//! The collector as a program in C calls it, on five arrays that are changed where they lie and whose state is tested at each call: one reception
-//! at a time, and bursts of 256. Against it the hand-written one, in place, which trusts its state.
+//! The collector as a C program calls it, on five arrays that are changed in place and whose state is tested at each call: one reception at a time,
+//! and bursts of 256. It is compared with the hand-written one, in place, which does not test its state.
 use crate::bursts::{burst_time, MOST};
 use crate::collector::{cells, receptions, test_time, CELL, RECEPTIONS};
 use crate::{bursts, collector, report, time};
@@ -63,7 +63,7 @@ struct Records {
 }
 
 impl Collector {
-    /// All zero is a fresh one.
+    /// All zero is a fresh collector.
     fn fresh() -> Collector {
         Collector {
             times: [0; 64],
@@ -89,7 +89,7 @@ impl Collector {
         }
     }
 
-    /// As `take`, told that the state is accepted.
+    /// Like `take`, where the caller tells that the state is accepted.
     fn take_tested(&mut self, time: u64, bytes: &[u8]) -> u16 {
         unsafe {
             mooringeye_collector_take_tested(
@@ -126,7 +126,7 @@ impl Collector {
     }
 }
 
-/// What a kind without a refusal counts in a figure.
+/// What a kind counts in the number that is compared, if it is not refused.
 fn weight(kind: u8) -> u64 {
     [1, 1 << 32, 1 << 48][usize::from(kind)]
 }
@@ -167,7 +167,7 @@ fn records(cells: &[u8]) -> Records {
     }
 }
 
-/// As `bursts::by_hand`.
+/// Like `bursts::by_hand`.
 fn in_bursts(cells: &[u8], size: usize, rounds: usize) -> u64 {
     let mut replies = vec![0; REPLY * MOST];
     replies.chunks_mut(REPLY).for_each(|r| r[0] = 2); // LOOSE, as there

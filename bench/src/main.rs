@@ -1,4 +1,4 @@
-//! The proved code against hand-written Rust of the same job: same input, one run, answers compared before they are timed.
+//! The proved code compared with hand-written Rust of the same job: the same input, in one run; the answers are compared before the times are taken.
 use std::time::Instant;
 
 mod archive;
@@ -25,7 +25,7 @@ fn main() {
     reports::bench();
 }
 
-/// Nanoseconds a call: the best of many rounds of `calls` calls.
+/// Nanoseconds per call: the best of many rounds of `calls` calls.
 fn time(calls: usize, mut round: impl FnMut()) -> f64 {
     (0..200)
         .map(|_| {

@@ -1,4 +1,4 @@
-//! Salvage of a damaged archive and removal of sensors against Rust of the same walks, with the same test of a block and the same CRC.
+//! Salvage of a damaged archive and removal of sensors, compared with Rust of the same loops, with the same test of a block and the same CRC.
 use crate::archive::{
     crc_by_eight, is_zero, open, proved_open, rows_of, telegram, BLOCK, NUMBER, ROWS,
 };
@@ -67,7 +67,7 @@ fn is_dropped(block: &[u8]) -> bool {
     rows_of(block) == 0 && !is_zero(block)
 }
 
-/// How many rows remain, and 0 beside a refusal.
+/// How many rows remain; 0 for a refusal.
 fn salvage(buffer: &[u8], out: &mut [u8], positions: &mut [u64]) -> u64 {
     let blocks = buffer.len() / BLOCK;
     if !buffer.len().is_multiple_of(BLOCK) || blocks > 1 << 32 || out.len() < buffer.len() {
@@ -107,7 +107,7 @@ fn salvage(buffer: &[u8], out: &mut [u8], positions: &mut [u64]) -> u64 {
     (ROWS * next + used) as u64
 }
 
-/// How many blocks are freed; 2^64 - 1 beside a refusal.
+/// How many blocks are freed; 2^64 - 1 for a refusal.
 fn remove(buffer: &mut [u8], identities: &[u32]) -> u64 {
     let rows = open(buffer);
     if rows >= NUMBER || identities.len() > 32 {
@@ -116,7 +116,7 @@ fn remove(buffer: &mut [u8], identities: &[u32]) -> u64 {
     remove_from(buffer, rows as usize, identities)
 }
 
-/// The same from an archive of so many rows, in place from left to right.
+/// The same for an archive of `rows` rows, in place from left to right.
 fn remove_from(buffer: &mut [u8], rows: usize, identities: &[u32]) -> u64 {
     let blocks = rows.div_ceil(ROWS);
     let (mut pending, mut used, mut next) = ([0u8; 960], 0, 0);
@@ -155,7 +155,7 @@ fn remove_from(buffer: &mut [u8], rows: usize, identities: &[u32]) -> u64 {
 
 // ---- the runs
 
-/// Blocks with these counts of rows in turn, one of them spoiled.
+/// Blocks with these counts of rows in turn, one of them damaged.
 fn damaged(random: &mut Random, counts: &[usize]) -> Vec<u8> {
     let mut buffer = vec![0; BLOCK * BLOCKS];
     for (k, block) in buffer.chunks_exact_mut(BLOCK).enumerate() {
@@ -222,8 +222,8 @@ fn of_sixteen(random: &mut Random) -> Vec<u8> {
     buffer
 }
 
-/// No row leaves, an eighth, and half of them, by lists of 8 and of 32. Without `open` the time of that call, and for both the time of copying the
-/// archive anew for each round, are taken off.
+/// No row is removed, an eighth, and half of them, by lists of 8 and of 32. The time of copying the archive for each round is subtracted; for the
+/// rows without `open`, the time of that call too.
 fn removals() {
     let buffer = of_sixteen(&mut Random::new());
     let rows = ROWS * BLOCKS;

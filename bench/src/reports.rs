@@ -1,4 +1,4 @@
-//! A whole archive added to an empty report: opened and its rows counted by transmitter.
+//! A whole archive is added to an empty report: it is opened, and its rows are counted by transmitter.
 use crate::archive::{open, BLOCK, NUMBER};
 use crate::{report as print, time, Random};
 
@@ -83,7 +83,7 @@ fn row(random: &mut Random, transmitters: u64) -> [u8; 32] {
     cell
 }
 
-/// Full blocks with rows of so many transmitters.
+/// Full blocks with rows of this many transmitters.
 fn archive(blocks: usize, transmitters: u64) -> Vec<u8> {
     let mut random = Random::new();
     let mut buffer = Vec::new();

@@ -1,4 +1,4 @@
-//! The check of a site: the proved one against a hand-written one that does the same comparisons, on the same bytes.
+//! The check of a site: the proved one compared with a hand-written one that does the same comparisons, on the same bytes.
 use crate::{report, time};
 use std::hint::black_box;
 

@@ -1,4 +1,4 @@
-//! Slot plans: the proved search against a hand-written one, on the same draws, under the standard rule and under each named rule.
+//! Slot plans: the proved search compared with a hand-written one, on the same draws, under the standard rule and under each named rule.
 use crate::{report, time, Random};
 use std::hint::black_box;
 
@@ -10,7 +10,7 @@ extern "C" {
 
 const DRAWS: usize = 4_096;
 
-/// The ranges of each transmission, none where the first is above the last; the pause before the second; the last end.
+/// The ranges of each transmission, empty if the first is above the last; the pause before the second; the last end.
 #[derive(Clone, Copy)]
 struct Rule {
     ranges: [(u32, u32); 3],
@@ -20,7 +20,7 @@ struct Rule {
 
 const NONE: (u32, u32) = (1, 0);
 
-/// The standard ranges by level sent, then transmission.
+/// The standard ranges, by the level that is sent, then by transmission.
 const STANDARD: [[(u32, u32); 3]; 3] = [
     [(0, 0), (1, 9), (20, 39)],
     [(10, 19), (20, 29), NONE],
@@ -101,7 +101,7 @@ fn by_hand(level: u8, duration: u32, draw: u64) -> u32 {
     )
 }
 
-/// A rule at a level with so many transmissions.
+/// A rule at a level, for a number of transmissions.
 fn rule_by_hand(rule: u8, level: u8, transmissions: u8) -> Option<Rule> {
     let (ranges, pause, end) = match (rule, level, transmissions) {
         (0, 0, 3) => (STANDARD[0], 0, 40_000),
@@ -153,7 +153,7 @@ const ROWS: [(u8, u8, u8); 10] = [
     (2, 2, 2),
 ];
 
-/// The proved functions and those by hand answer the same.
+/// Checks that the proved functions and those by hand give the same answers.
 fn compare(draws: &[u64]) {
     for level in 0..=3 {
         for duration in DURATIONS {
@@ -184,7 +184,7 @@ fn compare(draws: &[u64]) {
     }
 }
 
-/// Nanoseconds a plan at 1,000 microseconds.
+/// Nanoseconds per plan at 1,000 microseconds.
 fn timed(draws: &[u64], plan: impl Fn(u32, u64) -> u32) -> f64 {
     time(DRAWS, || {
         for &draw in draws {

@@ -2,8 +2,8 @@
  *
  *   archive FILE < ROWS
  *
- * A line of ROWS is a time, KEPT or LOOSE, and the bytes of a subtelegram in hexadecimal digits. A row that is refused is answered with its number.
- * FILE is made with room for 960 rows where it does not exist. */
+ * A line of ROWS is a time, KEPT or LOOSE, and the bytes of a subtelegram in hexadecimal digits. For a refused row it prints the number.
+ * FILE is created with room for 960 rows if it does not exist. */
 #include "mooringeye.h"
 
 #include <inttypes.h>
@@ -16,7 +16,7 @@ enum {
     LINE = 200
 };
 
-/* The bytes that pairs of hexadecimal digits say, at most `most`. Answers how many there are. */
+/* The bytes of pairs of hexadecimal digits, at most `most`. Returns how many there are. */
 static size_t parse_hex(const char *text, uint8_t *bytes, size_t most)
 {
     size_t n = 0;
@@ -27,7 +27,7 @@ static size_t parse_hex(const char *text, uint8_t *bytes, size_t most)
     return n;
 }
 
-/* Appends the rows of standard input to an archive of `rows` rows. Answers how many it has then. */
+/* Appends the rows of standard input to an archive of `rows` rows. Returns how many it has then. */
 static size_t append_all(uint8_t *buffer, size_t rows)
 {
     char line[LINE];

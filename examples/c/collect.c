@@ -2,8 +2,8 @@
  *
  *   collect [STATE] < LINES > ROWS
  *
- * The state is restored from the file STATE, where there is one, and stored there at the end, so that the next call goes on from it. Ends with
- * status 0, or with 1 where something could not be read or written, or a state was not accepted; then the file is as it was. */
+ * The state is restored from the file STATE, if there is one, and stored there at the end, so the next call continues from it. Ends with status 0,
+ * or with 1 if something could not be read or written, or a state was not accepted; then the file is unchanged. */
 #define _POSIX_C_SOURCE 200809L
 #include "mooringeye.h"
 
@@ -17,7 +17,7 @@
 
 /* ---- lines and rows */
 
-/* The next line with its newline, which the last one may lack. Answers its length, 0 at the end of the input. */
+/* The next line with its newline, which the last one may not have. Returns its length, 0 at the end of the input. */
 static size_t next_line(char **line, size_t *size)
 {
     ssize_t n = getline(line, size, stdin);
@@ -25,7 +25,7 @@ static size_t next_line(char **line, size_t *size)
         return 0;
     }
     if ((*line)[n - 1] != '\n') {
-        (*line)[n++] = '\n'; /* in the place of the zero behind it */
+        (*line)[n++] = '\n'; /* over the terminating zero */
     }
     return (size_t)n;
 }
@@ -49,7 +49,7 @@ static void print_totals(const mooringeye_collector *c)
     printf(" LOOSE %" PRIu64 " DAMAGED %" PRIu64 " LATE %" PRIu64 "\n", t[3], t[4], t[5]);
 }
 
-/* All lines of standard input. False where the first is not right, and then nothing was taken. */
+/* Takes all lines of standard input. False if the first is not right, and then nothing was taken. */
 static bool collect(mooringeye_collector *c)
 {
     char *line = NULL;
@@ -69,8 +69,8 @@ static bool collect(mooringeye_collector *c)
 
 /* ---- the state file */
 
-/* Restores a state into a fresh collector, which stays as it is where there is no file. A byte more than an image has is read, so that a longer file
- * is not accepted. */
+/* Restores a state into a fresh collector, which is unchanged if there is no file. One byte more than an image has is read, so a longer file is not
+ * accepted. */
 static bool restore(mooringeye_collector *c, const char *path)
 {
     uint8_t image[MOORINGEYE_IMAGE + 1];
@@ -84,7 +84,7 @@ static bool restore(mooringeye_collector *c, const char *path)
     return !failed && mooringeye_restore(c, image, size) == MOORINGEYE_DONE;
 }
 
-/* All bytes, and on the disk. */
+/* Writes all bytes, and syncs them to disk. */
 static bool write_all(int file, const uint8_t *bytes, size_t size)
 {
     while (size > 0) {
@@ -100,7 +100,7 @@ static bool write_all(int file, const uint8_t *bytes, size_t size)
     return fsync(file) == 0;
 }
 
-/* Into another file, which is then renamed: at any moment the old state or the new one is there, complete. */
+/* Writes to another file, which is then renamed: at every moment the complete old state or the complete new one is there. */
 static bool store(const mooringeye_collector *c, const char *path)
 {
     uint8_t image[MOORINGEYE_IMAGE];

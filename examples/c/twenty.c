@@ -12,7 +12,7 @@ int main(void) {
     size_t size = 0;
     mooringeye_fresh(&collector);
     for (ssize_t n; (n = getline(&line, &size, stdin)) > 0;) {
-        if (line[n - 1] != '\n') line[n++] = '\n'; /* in the place of the zero behind it */
+        if (line[n - 1] != '\n') line[n++] = '\n'; /* over the terminating zero */
         mooringeye_lines(&collector, 0, (uint8_t *)line, (size_t)n, 1, text, sizeof text, &moment, &row, 1, done);
         fwrite(text, 1, (size_t)done[1], stdout);
     }

@@ -8,7 +8,7 @@
 
 namespace {
 
-// The next line with its newline, which the last one may lack; empty at the end of the input.
+// The next line with its newline, which the last one may not have; empty at the end of the input.
 std::string next_line() {
     std::string line;
     return std::getline(std::cin, line) ? line + '\n' : std::string();

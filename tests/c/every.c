@@ -13,7 +13,7 @@ static uint64_t invoke(call function, const uint64_t *w) {
     return INVOKE(function, w);
 }
 
-/* Told once for each export, number and thing. */
+/* Reported once for each export, number and parameter. */
 static void wrong(const struct export *e, uint8_t number, const char *what) {
     static const char *told[1000];
     static const struct export *of[1000];

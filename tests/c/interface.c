@@ -1,5 +1,5 @@
-/* What users of the header stumbled over: whole answers, names of refusals, bytes that lie in the state, structs for
- * reports, scans and packers, NULL beside length 0. */
+/* What users of the header had trouble with: whole answers, names of refusals, bytes that are inside the state, structs
+ * for reports, scans and packers, NULL with length 0. */
 #include "mooringeye.h"
 #include "random.h"
 #include "should.h"
@@ -35,7 +35,7 @@ static void parts(void) {
     SHOULD(plan.number == MOORINGEYE_DONE && plan.first == 0 && plan.second == 1 && plan.third == 27);
     SHOULD(mooringeye_plan(0, 1000, 7) == mooringeye_plan_by(0, 0, 3, 1000, 7));
     SHOULD(mooringeye_plan(0, 1000, 7) ==
-           (0u << 24 | 0u << 16 | 1u << 8 | 27u)); /* as programs have read it before 1.0 */
+           (0u << 24 | 0u << 16 | 1u << 8 | 27u)); /* as programs read it before 1.0 */
     plan = mooringeye_draw_slots(0, 0, 3, 9001, 7);
     SHOULD(plan.number == MOORINGEYE_NO_PLAN && plan.first == 0 && plan.second == 0 && plan.third == 0);
     mooringeye_repeater site[2] = {{0, 1, {0, 0, 0x07, 0xCF}, {10, 20, 255}},
@@ -72,7 +72,7 @@ static void versions(void) {
     SHOULD(strcmp(text, MOORINGEYE_VERSION_TEXT) == 0);
 }
 
-/* Receptions whose bytes lie in the collector that takes them are answered as copies of these bytes are. */
+/* Receptions whose bytes are inside the collector that takes them get the answers that copies of these bytes get. */
 static void overlaps(void) {
     mooringeye_collector c, same;
     uint64_t time = 0;
@@ -96,7 +96,7 @@ static void overlaps(void) {
     }
 }
 
-/* At a state that is accepted the call that does not test it leaves what the one that does leaves, byte for byte. */
+/* For an accepted state, the call that does not test it leaves what the one that tests leaves, byte for byte. */
 static void tested_states(void) {
     mooringeye_collector c, same;
     uint64_t time = 0;
@@ -116,8 +116,8 @@ static void tested_states(void) {
     }
 }
 
-/* At a state that is not accepted, here with an entry that is no longer open, a refused reception is counted, and the
- * entries stay; more entries than there can be are refused with 11. */
+/* For a state that is not accepted, here with an entry that is no longer open, a refused reception is counted, and the
+ * entries are unchanged; more entries than there can be are refused with 11. */
 static void untested_states(void) {
     mooringeye_collector c, before;
     mooringeye_fresh(&c);
@@ -136,7 +136,7 @@ static void untested_states(void) {
     SHOULD(memcmp(&c, &before, sizeof c) == 0);
 }
 
-/* Length 0 with NULL: as an empty std::vector has it. Long bytes are only counted. */
+/* Length 0 with NULL, as with an empty std::vector. Long bytes are only counted. */
 static void nothing(void) {
     mooringeye_collector c;
     static uint8_t zeros[1 << 16];

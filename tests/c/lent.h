@@ -1,6 +1,6 @@
-/* A call of any export with arbitrary contents: memory between pages that may not be touched, canaries around it, what
- * is read only write-protected, and afterwards every byte compared. Where the call is refused, all that was lent must
- * be as it was. The choices come from `choose`, which the program that includes this defines: at random, or of a
+/* Calls any export with arbitrary contents: the memory is between pages that must not be touched, with canaries around
+ * it; what is only read is write-protected. Afterwards every byte is compared. If the call is refused, all lent memory
+ * must be unchanged. The choices come from `choose`, which the including program defines: at random, or from a
  * fuzzer. */
 #ifndef LENT_H
 #define LENT_H
@@ -31,7 +31,7 @@ struct parameter {
     enum kind kind;
     size_t width; /* of an element */
     size_t count; /* of an array */
-    bool is_read; /* and not changed */
+    bool is_read; /* not changed */
 };
 
 typedef uint64_t (*call)(uint64_t, uint64_t, uint64_t, uint64_t, uint64_t, uint64_t, uint64_t, uint64_t, uint64_t,
@@ -42,8 +42,8 @@ struct export {
     const char *name;
     call function;
     size_t width;     /* of the answer */
-    bool has_numbers; /* the answer has 0 or a refusal */
-    unsigned shift;   /* in these bits and above */
+    bool has_numbers; /* the answer contains 0 or a refusal */
+    unsigned shift;   /* from this bit on */
     size_t count;
     struct parameter parameters[MOST_PARAMETERS];
     int refusals[9];
@@ -55,13 +55,13 @@ enum {
     EXPORTS = sizeof exports / sizeof *exports
 };
 
-/* A number under `limit`, and whether something happens that happens once in so many times. */
+/* A number below `limit`; and whether something happens that happens once in n times. */
 static uint32_t choose(uint32_t limit);
 static inline bool once_in(uint32_t times) {
     return choose(times) == 0;
 }
 
-/* What is not as it should be beside this number. */
+/* Reports what is wrong with this answer. */
 static void wrong(const struct export *e, uint8_t number, const char *what);
 
 /* The memory of each parameter, and what was there before the call. */
@@ -87,8 +87,8 @@ static void open_rooms(void) {
 
 #include "material.h"
 
-/* Bytes or numbers lent at one end of a room, beside the page that may not be touched, and canaries over the rest. A
- * slice of nothing is NULL at times. */
+/* Lends bytes or numbers at one end of the memory, next to the page that must not be touched, with canaries in the
+ * rest. An empty slice is sometimes NULL. */
 static void lend(const struct export *e, size_t i, size_t size) {
     const struct parameter *p = &e->parameters[i];
     bool at_end = choose(2) == 0;
@@ -127,7 +127,7 @@ static bool takes(const struct export *e) {
            strcmp(e->name, "mooringeye_collector_take_tested") == 0;
 }
 
-/* What may change beside a refusal: the position that goes with it, the place of a row that the check refuses, and the
+/* What may change with a refusal: the position that goes with it, the position of a row that the check refuses, and the
  * counters of a collector that takes a damaged or late reception. */
 static bool may_change(const struct export *e, const char *parameter, uint8_t number) {
     bool is_check = number == 1 || number == 2 || number == 3 || number == 13;
@@ -137,7 +137,7 @@ static bool may_change(const struct export *e, const char *parameter, uint8_t nu
     return takes(e) && strcmp(parameter, "numbers") == 0 && (is_check || number == 7);
 }
 
-/* The first parameter of which a byte changed that should not have; NULL for none. */
+/* The first parameter with a changed byte that should be unchanged; NULL for none. */
 static const char *changed(const struct export *e, uint8_t number) {
     for (size_t i = 0; i < e->count; i++) {
         const struct parameter *p = &e->parameters[i];
@@ -152,7 +152,7 @@ static const char *changed(const struct export *e, uint8_t number) {
     return NULL;
 }
 
-/* A call that was refused and counted: one more received, and one more damaged or late; nothing else. */
+/* A call that was refused and counted: one more received, one more damaged or late, and no other change. */
 static bool counted(const struct export *e, uint8_t number) {
     if (!takes(e) || number == 0 || number == 8 || number == 11) return true;
     const uint64_t *then = (const uint64_t *)(const void *)(before[4] + starts[4]);
@@ -164,7 +164,7 @@ static bool counted(const struct export *e, uint8_t number) {
     return true;
 }
 
-/* Beside success, what stands in `out` behind the length that is handed back is as it was. */
+/* After success, the bytes of `out` after the returned length are unchanged. */
 static bool is_rest_left(const struct export *e) {
     for (size_t i = 0; i + 2 < e->count; i++) {
         if (strcmp(e->parameters[i].name, "out") != 0 || strcmp(e->parameters[i + 2].name, "out_length") != 0) continue;
@@ -184,14 +184,14 @@ static bool is_named(const struct export *e, uint8_t number) {
     return false;
 }
 
-/* The call itself, which a program may put something around. */
+/* The call itself; a program may wrap it. */
 static uint64_t invoke(call function, const uint64_t *w);
 
 #define INVOKE(function, w)                                                                                      \
     (function)((w)[0], (w)[1], (w)[2], (w)[3], (w)[4], (w)[5], (w)[6], (w)[7], (w)[8], (w)[9], (w)[10], (w)[11], \
                (w)[12], (w)[13], (w)[14], (w)[15], (w)[16], (w)[17], (w)[18])
 
-/* Makes one call and compares; the number of its answer. */
+/* Makes one call and compares; returns the number of its answer. */
 static uint8_t make_call(const struct export *e) {
     lend_all(e);
     uint64_t answer = invoke(e->function, words);

@@ -20,7 +20,7 @@ static void print_bytes(FILE *file, const mooringeye_frame *frame) {
     for (size_t i = 0; i < frame->length; i++) fprintf(file, "%02X", frame->bytes[i]);
 }
 
-/* Lent at random sizes, at least what one line asks for. Answers how many bytes of the text were used. */
+/* Lends buffers of random sizes, at least what one line needs. Returns how many bytes of the text were used. */
 static size_t take(mooringeye_collector *c, uint8_t setting, uint8_t format, const uint8_t *text, size_t length) {
     static uint8_t out[LINES * MOORINGEYE_LONGEST_ROW_AS];
     static uint64_t moments[LINES];

@@ -1,5 +1,5 @@
-/* Contents for the calls of lent.h. States are those that earlier calls left, so that calls are accepted; spoiled ones,
- * zeros and chance stand beside them. A parameter is known by its name; one that is not gets random bytes. */
+/* Contents for the calls of lent.h. States are those that earlier calls left, so calls are accepted; there are also
+ * damaged ones, zeros and random ones. A parameter is known by its name; an unknown one gets random bytes. */
 #ifndef MATERIAL_H
 #define MATERIAL_H
 
@@ -22,11 +22,11 @@ static mooringeye_adding addings[REPORTS];
 static mooringeye_scan scanned;
 static mooringeye_packer packing;
 static uint64_t running[MOORINGEYE_RUN_NUMBERS];
-static size_t judged; /* rows that are counted of a block */
+static size_t judged; /* how many rows of a block are counted */
 static uint8_t archive[ARCHIVE];
 static size_t archive_rows;
 
-/* Of this call. */
+/* The values of this call. */
 static enum spoil spoil;
 static mooringeye_collector state;
 static size_t report;
@@ -52,7 +52,7 @@ static void any_bytes(uint8_t *at, size_t size) {
     for (size_t i = 0; i < size; i++) at[i] = (uint8_t)choose(256);
 }
 
-/* A telegram of one of fifty transmitters, most often valid. */
+/* A telegram of one of fifty transmitters, usually valid. */
 static size_t make_telegram(uint8_t *out) {
     mooringeye_fields f = {0};
     size_t length = 0;
@@ -92,7 +92,7 @@ static void make_row(mooringeye_row *row) {
     if (once_in(40)) row->frame.length = (uint8_t)choose(256);
 }
 
-/* An archive of some rows, and the states that grow of it. */
+/* An archive of some rows, and the states made from it. */
 static void make_archive(size_t rows) {
     memset(archive, 0, sizeof archive);
     archive_rows = 0;
@@ -126,7 +126,7 @@ static void start_states(void) {
     make_reports();
 }
 
-/* Anew, now and then: a collector, an archive, reports, a scan and a packer. */
+/* Sometimes starts again: a collector, an archive, reports, a scan and a packer. */
 static void start_over(void) {
     if (once_in(300)) mooringeye_fresh(&collector);
     if (once_in(200)) make_archive(choose(140));
@@ -147,7 +147,7 @@ static void start_material(const struct export *e) {
     telegram_length = make_telegram(telegram);
     erp2_length = make_erp2(erp2);
     state = collector;
-    if (once_in(25)) { /* as many receptions as can be counted, all others of them damaged */
+    if (once_in(25)) { /* as many receptions as can be counted; the rest of them are damaged */
         uint64_t *n = state.numbers;
         n[6] += UINT64_MAX - n[2];
         n[2] = UINT64_MAX;
@@ -179,7 +179,7 @@ static uint64_t number_of(const struct export *e, size_t i) {
     return any_number() & most;
 }
 
-/* A length that is most often right. */
+/* A length that is usually right. */
 static size_t about(size_t right) {
     if (!once_in(8)) return right;
     return once_in(2) ? choose((uint32_t)right + 40) : right + choose(3) - (right > 0 ? 1 : 0);
@@ -231,7 +231,7 @@ static size_t length_of(const struct export *e, size_t i) {
 
 /* ---- contents */
 
-/* Where the live value of an array lies; NULL for one that no state has. */
+/* The address of the current value of an array; NULL for one that no state has. */
 static const void *live(const struct export *e, const struct parameter *p) {
     if (p->kind != ARRAY) return NULL;
     if (starts_with(e->name, "mooringeye_collector_")) {
@@ -340,7 +340,7 @@ static void fill_text(uint8_t *at, size_t size) {
     }
 }
 
-/* A state without an archive, or the file of one; of a block the copy that a state has where it counts some of its rows. */
+/* A state without an archive, or the file of one; for a block, the copy in a state that counts some of its rows. */
 static void fill_journal(const struct export *e, const char *name, uint8_t *at, size_t size) {
     static const uint64_t numbers[MOORINGEYE_STATE_NUMBERS];
     static const uint8_t name_of[MOORINGEYE_STATE_NAME], last[MOORINGEYE_BLOCK], tail[MOORINGEYE_STATE_TAIL];

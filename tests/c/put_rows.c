@@ -1,5 +1,5 @@
-/* Several rows put into one block: what mooringeye_archive_put_row makes of them one after the other, or a refusal and
- * the block as it was. Ends with status 0 where all is as it should be, and else with the line that was not. */
+/* Several rows put into one block: the result is that of mooringeye_archive_put_row one after the other, or a refusal
+ * and an unchanged block. Ends with status 0 if everything is right, else it prints the line that was wrong. */
 #include "mooringeye.h"
 #include "should.h"
 
@@ -16,7 +16,7 @@ static uint8_t block[MOORINGEYE_BLOCK];
 static uint8_t before[MOORINGEYE_BLOCK];
 static size_t position;
 
-/* The number of rows n to n + count - 1; a refusal leaves the block as it was. */
+/* Puts rows n to n + count - 1, and returns the number; a refusal leaves the block unchanged. */
 static uint8_t put(size_t n, size_t count) {
     memcpy(before, block, sizeof block);
     position = 7;
@@ -41,7 +41,7 @@ int main(void) {
         times[i] = UINT64_MAX - i;
         rows[i].loose = (uint8_t)(i * 5 % 3); /* 0, and two bytes that are LOOSE */
         rows[i].frame.length = sizeof press;
-        memset(rows[i].frame.bytes, 0xEE, sizeof rows[i].frame.bytes); /* what stands behind the bytes does not count */
+        memset(rows[i].frame.bytes, 0xEE, sizeof rows[i].frame.bytes); /* what comes after the bytes does not count */
         memcpy(rows[i].frame.bytes, press, sizeof press);
     }
     for (size_t n = 15; n < 30; n++) {

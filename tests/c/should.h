@@ -1,4 +1,4 @@
-/* What a test asks for: where it is not so, the line is told and the program ends. */
+/* A condition of a test: if it is false, the line is printed and the program ends. */
 #ifndef SHOULD_H
 #define SHOULD_H
 

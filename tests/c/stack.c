@@ -1,5 +1,5 @@
-/* How much stack each export uses: the stack below a call is painted, and what is no longer painted afterwards was
- * used. Ends with status 1 where it is more than the header says.
+/* How much stack each export uses: the stack below a call is filled with a pattern, and what has changed afterwards was
+ * used. Ends with status 1 if it is more than the header says.
  *
  *   stack [CALLS] */
 #include "lent.h"
@@ -15,7 +15,7 @@ enum {
 static size_t used;
 
 static void wrong(const struct export *e, uint8_t number, const char *what) {
-    (void)e, (void)number, (void)what; /* every.c tells it */
+    (void)e, (void)number, (void)what; /* every.c reports it */
 }
 
 __attribute__((noinline)) static void paint(void) {

@@ -1,4 +1,4 @@
-// The types of mooringeye.hpp: what they answer is what the calls answer, and what is refused is an exception.
+// The types of mooringeye.hpp: they return what the calls answer, and a refusal is an exception.
 #include "mooringeye.hpp"
 #include "should.h"
 

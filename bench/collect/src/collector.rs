@@ -1,11 +1,11 @@
-//! The collector (document 01, "Merging" and "Repeater step"; document 02, A3, A6, A7 and A8), its
-//! state changed in place.
+//! The collector (document 01, "Merging" and "Repeater step"; document 02, A3, A6, A7 and A8). Its
+//! state is changed in place.
 
 use crate::hash::{hash, renew};
 
 /// How long a telegram is open, in ms.
 const MATURITY: u64 = 100;
-/// How long a sender takes, in ms: a later original is a telegram of its own.
+/// How long a sender takes, in ms: a later original is a new telegram.
 const TX_MATURITY: u64 = 40;
 /// How many telegrams can be open at once.
 const CAPACITY: usize = 64;
@@ -40,22 +40,23 @@ pub struct Totals {
     pub late: u64,
 }
 
-/// What is equal in two receptions just where they are the same telegram: all bytes before
-/// HASH with the level cleared, zero filled, and the length.
+/// Equal for two receptions exactly if they are the same telegram: all bytes before HASH with the
+/// level cleared, filled with zeros, and the length.
 type Key = [u8; 24];
 
 #[derive(Clone)]
 pub struct Collector {
     pub totals: Totals,
     latest: u64,
-    /// The open telegrams, in order of time, are the `count` from `first` on, going round.
+    /// The open telegrams, in order of time, are the `count` from `first` on; the array is used as
+    /// a ring.
     first: usize,
     count: usize,
     times: [u64; CAPACITY],
     keys: [Key; CAPACITY],
     /// STATUS and HASH as first received.
     ends: [[u8; 2]; CAPACITY],
-    /// How often each was heard again.
+    /// How often each was received again.
     copies: [u16; CAPACITY],
 }
 
@@ -79,7 +80,7 @@ impl Collector {
         }
     }
 
-    /// Takes a reception and classifies it; what is sent for one that is kept is `repeat`.
+    /// Takes a reception and classifies it; `repeat` makes what is sent for a kept one.
     pub fn take(&mut self, time: u64, bytes: &[u8]) -> Answer {
         if self.totals.received == u64::MAX {
             return Answer::Refused(FULL);
@@ -111,7 +112,7 @@ impl Collector {
         Answer::Kept
     }
 
-    /// Drops those that are no longer open: the oldest stand first.
+    /// Drops those that are no longer open: the oldest come first.
     fn expire(&mut self) {
         while self.count > 0 && self.latest - self.times[self.first] > MATURITY {
             self.first = (self.first + 1) % CAPACITY;
@@ -119,13 +120,13 @@ impl Collector {
         }
     }
 
-    /// Of the open telegrams that are the same the latest decides: where it stands, for a copy.
+    /// The latest open telegram that is the same decides; for a copy, its index.
     fn copied(&self, key: &Key, original: bool) -> Option<usize> {
         self.last(key)
             .filter(|&at| !original || self.latest - self.times[at] <= TX_MATURITY)
     }
 
-    /// Where the latest open telegram with this key stands.
+    /// The index of the latest open telegram with this key.
     fn last(&self, key: &Key) -> Option<usize> {
         let end = self.first + self.count;
         let last_of = |from: usize, to: usize| {
@@ -163,7 +164,7 @@ impl Open {
     }
 }
 
-/// What an image is written of.
+/// What an image is made from.
 impl Collector {
     pub fn latest(&self) -> u64 {
         self.latest
@@ -185,7 +186,8 @@ impl Collector {
     }
 }
 
-/// The test of a state (document 01, "Parked collector"): whether an image could be written of it.
+/// The test of a state (document 01, "Parked collector"): whether an image could be written from
+/// it.
 impl Collector {
     pub fn is_acceptable(&self) -> bool {
         self.count <= CAPACITY
@@ -196,7 +198,7 @@ impl Collector {
             && self.count as u64 <= self.totals.kept
     }
 
-    /// Takes a reception into a state of which nothing is known, and hands the next one back.
+    /// Takes a reception into any state, and returns the next one.
     pub fn taken(mut self, time: u64, bytes: &[u8]) -> (Collector, Answer) {
         if !self.is_acceptable() {
             return (self, Answer::Refused(NOT_ACCEPTED));
@@ -209,7 +211,7 @@ impl Collector {
         (0..self.count).map(|i| (self.first + i) % CAPACITY)
     }
 
-    /// In order of time, open at the latest, and none later than it.
+    /// In order of time, open at the latest time, and none later than it.
     fn are_timely(&self) -> bool {
         let mut earliest = self.latest.saturating_sub(MATURITY);
         for at in self.places() {
@@ -221,7 +223,7 @@ impl Collector {
         earliest <= self.latest
     }
 
-    /// Valid, and none a copy of one before it: only where a mark was seen are those searched.
+    /// Valid, and none a copy of one before it: these are searched only if a mark was seen.
     fn are_telegrams(&self) -> bool {
         let mut seen = [false; 1024];
         for (i, at) in self.places().enumerate() {
@@ -265,7 +267,7 @@ impl Totals {
     }
 }
 
-/// The number that the check answers, if any.
+/// The number of the check, if it refuses.
 fn refusal(bytes: &[u8]) -> Option<u8> {
     let n = bytes.len();
     if !(MIN_LEN..=MAX_LEN).contains(&n) {
@@ -283,7 +285,7 @@ fn refusal(bytes: &[u8]) -> Option<u8> {
     (bytes[1] == ADDRESSED).then_some(NESTED)
 }
 
-/// Of a valid one.
+/// The key of a valid reception.
 fn key(bytes: &[u8]) -> Key {
     let mut key = [0; 24];
     let n = bytes.len();
@@ -293,7 +295,7 @@ fn key(bytes: &[u8]) -> Key {
     key
 }
 
-/// Makes the bytes of a valid telegram those that the setting sends on, if any.
+/// Changes the bytes of a valid telegram to those that are sent at the setting, if any.
 #[inline]
 pub fn repeat(setting: u8, bytes: &mut [u8]) -> bool {
     let status = bytes.len() - 2;

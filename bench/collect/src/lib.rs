@@ -1,5 +1,5 @@
-//! `collect` (document 01, "Cases"), written by hand: reading and writing in large pieces, a
-//! state that is changed in place.
+//! `collect` (document 01, "Cases"), written by hand: it reads and writes in large pieces, and
+//! changes its state in place.
 
 pub mod collector;
 pub mod hash;
@@ -23,7 +23,7 @@ struct Run {
     collector: Collector,
 }
 
-/// Where the run stands.
+/// The stage of the run.
 enum Stage {
     /// Before the first line.
     Start,
@@ -34,7 +34,7 @@ enum Stage {
 
 pub fn run(mut input: impl Read, mut output: impl Write) -> Result<(), Failure> {
     let mut buffer = vec![0; MAX_LINE + 2 + CHUNK];
-    // The part of a line that has not ended yet stands at the front.
+    // The part of a line that has not ended is at the front.
     let mut carried = 0;
     let mut rows = Vec::with_capacity(2 * CHUNK);
     let mut stage = Stage::Start;
@@ -52,7 +52,7 @@ pub fn run(mut input: impl Read, mut output: impl Write) -> Result<(), Failure> 
             None => 0,
         };
         stage = lines(stage, &buffer[..end], &mut rows);
-        // A line longer than the longest right one is BAD, whatever else it has.
+        // A line longer than the longest right one is always BAD.
         let kept = (filled - end).min(MAX_LINE + 1);
         buffer.copy_within(end..end + kept, 0);
         carried = kept;

@@ -2,12 +2,12 @@
 
 use crate::collector::{Answer, Totals};
 
-/// The most bytes a line carries.
+/// The largest number of bytes in a line.
 pub const MAX_BYTES: usize = 64;
 /// The longest right line: 20 digits, a space, 64 bytes of two digits.
 pub const MAX_LINE: usize = 20 + 1 + 2 * MAX_BYTES;
 
-/// The value of each character as a hexadecimal digit; 0xFF where it is none.
+/// The value of each character as a hexadecimal digit; 0xFF if it is not one.
 const NIBBLES: [u8; 256] = nibbles();
 /// The two digits of each byte.
 const HEX: [[u8; 2]; 256] = pairs(16, b"0123456789ABCDEF");
@@ -35,7 +35,7 @@ const fn pairs<const N: usize>(base: usize, digits: &[u8]) -> [[u8; 2]; N] {
     table
 }
 
-/// The setting that a first line says.
+/// The setting in a first line.
 pub fn setting(line: &[u8]) -> Option<u8> {
     match line {
         [b'l', b'e', b'v', b'e', b'l', b' ', digit @ b'0'..=b'2'] => Some(digit - b'0'),
@@ -43,7 +43,7 @@ pub fn setting(line: &[u8]) -> Option<u8> {
     }
 }
 
-/// What a right line says.
+/// The content of a right line.
 pub struct Reception {
     pub time: u64,
     pub count: usize,
@@ -51,8 +51,7 @@ pub struct Reception {
     pub used: usize,
 }
 
-/// Reads the line at the start of the text, which holds its newline; the bytes it says go to
-/// `bytes`.
+/// Reads the line at the start of the text, which includes its newline; its bytes go to `bytes`.
 pub fn reception(text: &[u8], bytes: &mut [u8; MAX_BYTES]) -> Option<Reception> {
     let (time, width) = time(text)?;
     let digits = text[width..].strip_prefix(b" ")?;

@@ -1,10 +1,10 @@
-//! The hand-written program prints what the second program says, however its input is cut.
+//! The hand-written program prints what the second program prints, however its input is cut.
 
 use std::fs;
 use std::io::Read;
 use std::path::Path;
 
-/// Hands out at most so many bytes at once.
+/// Hands out at most this many bytes at once.
 struct Pieces<'a>(&'a [u8], usize);
 
 impl Read for Pieces<'_> {
@@ -43,7 +43,7 @@ fn the_sample_and_the_scope() {
     );
 }
 
-/// The rows of each input stand under a line with its name; no row begins like that line.
+/// The rows of each input come after a line with its name; no row begins like that line.
 #[test]
 fn further_inputs() {
     let stored = String::from_utf8(read("crates/collect_runs/stdout")).unwrap();

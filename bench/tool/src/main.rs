@@ -1,5 +1,5 @@
-//! `archives make FILE ROWS`, `list FILE`, `salvage FILE NEW`, `sheet FILE`: the same work as `mooringeye archive`, written by hand, in pieces of 1 MiB,
-//! with the CRC of each block worked out byte by byte.
+//! `archives make FILE ROWS`, `list FILE`, `salvage FILE NEW`, `sheet FILE`: the same work as `mooringeye archive`, written by hand, in pieces of 1
+//! MiB, with the CRC of each block computed byte by byte.
 use collect_rust::hash::{crc, renew};
 use std::collections::BTreeMap;
 use std::fs::File;
@@ -44,7 +44,7 @@ fn each_block(file: &str, mut take: impl FnMut(usize, &[u8]) -> io::Result<()>) 
     }
 }
 
-/// The rows of a block: time, bytes, whether LOOSE. None where its CRC or its count is wrong.
+/// The rows of a block: time, bytes, whether LOOSE. None if its CRC or its count is wrong.
 fn rows(block: &[u8]) -> Option<impl Iterator<Item = (u64, &[u8], bool)>> {
     let count = usize::from(block[4]);
     let is_right = crc(&block[..BLOCK - 1]) == block[BLOCK - 1] && (1..=ROWS).contains(&count);
@@ -57,7 +57,7 @@ fn is_zero(block: &[u8]) -> bool {
     block.iter().fold(0, |any, b| any | b) == 0
 }
 
-/// The rows of the blocks of an archive; whatever does not match ends the program.
+/// The rows of the blocks of an archive; a block that does not match ends the program.
 fn each_row(file: &str, mut take: impl FnMut(u64, &[u8], bool)) -> io::Result<()> {
     each_block(file, |position, block| {
         if !is_zero(block) {

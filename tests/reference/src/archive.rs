@@ -1,5 +1,5 @@
-//! Archive block files (document 02, A2): each position is tested by itself, and a row is
-//! appended by writing the whole room anew.
+//! Archive block files (document 02, A2): each position is tested by itself, and an append writes
+//! the whole room again.
 
 use crate::hash::crc;
 use crate::subtelegram::{check, Refusal, LONGEST, OUTPUT_SHORT, OUT_OF_RANGE};
@@ -7,7 +7,7 @@ use crate::subtelegram::{check, Refusal, LONGEST, OUTPUT_SHORT, OUT_OF_RANGE};
 pub const BLOCK: usize = 512;
 pub const ROWS: usize = 15;
 const CELL: usize = 32;
-/// Where the first row of a block stands.
+/// Where the first row of a block begins.
 const FIRST: usize = 24;
 
 pub const MISMATCH: Refusal = 12;
@@ -131,7 +131,7 @@ pub fn read(room: &[u8]) -> Result<Vec<Row>, (Refusal, usize)> {
     Ok(used.flat_map(|b| rows_of(b).unwrap()).collect())
 }
 
-/// What a row is refused for, in an archive of so many rows.
+/// The refusal of a row, in an archive of `rows` rows.
 fn refused(room: &[u8], rows: usize, row: &Row) -> Result<(), Refusal> {
     check(&row.bytes)?;
     if rows / ROWS >= room.len() / BLOCK {
@@ -148,9 +148,9 @@ pub fn append(room_: &mut Vec<u8>, row: &Row) -> Result<(), (Refusal, usize)> {
     Ok(())
 }
 
-/// A row appended as row n, which looks at one block alone: it is the next row where the
-/// block's number and count say so, or, for the first row of a block, where they are zero.
-/// The header, the row's cell and the CRC are written, and nothing else.
+/// A row is appended as row n; only one block is read. It is the next row if the block's number and
+/// count say so, or, for the first row of a block, if they are zero. Only the header, the row's
+/// cell and the CRC are written.
 pub fn append_at(room: &mut [u8], n: u64, row: &Row) -> Result<(), (Refusal, usize)> {
     if !is_whole(room.len()) {
         return Err((SIZE, 0));
@@ -181,7 +181,7 @@ pub fn append_at(room: &mut [u8], n: u64, row: &Row) -> Result<(), (Refusal, usi
     Ok(())
 }
 
-/// Row i as it stands: time, LOOSE and bytes; a length over 21 does not match.
+/// Row i from its cell: time, LOOSE and bytes; a length over 21 does not match.
 pub fn row_at(room: &[u8], i: u64) -> Result<Row, Refusal> {
     if !is_whole(room.len()) {
         return Err(SIZE);
@@ -216,7 +216,7 @@ mod tests {
         Row { bytes, time, loose }
     }
 
-    /// Blocks whose CRC was worked out by hand beforehand.
+    /// Blocks whose CRC was computed by hand before.
     #[test]
     fn vectors() {
         let first = row("D5090102030400E8", 0x0102_0304_0506_0708, false);

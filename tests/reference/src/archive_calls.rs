@@ -11,27 +11,27 @@ use std::fmt::Write;
 
 #[derive(Debug, Clone, PartialEq)]
 pub enum Call {
-    /// A room of so many zero bytes.
+    /// A room of this many zero bytes.
     New(u32),
-    /// Bytes stored in the room from this place on.
+    /// Bytes are stored in the room from this position on.
     Put(u32, Vec<u8>),
     Append(Row),
-    /// Appended as row n.
+    /// A row is appended as row n.
     AppendAt(Row, u64),
     Open,
     Row(u64),
     Block(u32),
-    /// The room read in pieces of so many blocks.
+    /// The room is read in pieces of this many blocks.
     Scan(u32),
     /// Salvage and removal.
     Repack(Repack),
     Unknown(u8),
 }
 
-/// The most bytes of a room.
+/// The largest length of a room.
 pub const MOST: usize = 24_576;
 
-/// What the calls are put to: the rules here, others in the tests.
+/// What answers the calls: the rules here, others in the tests.
 pub trait Archive {
     fn append(&self, room: &mut Vec<u8>, row: &Row) -> Result<(), (Refusal, usize)>;
     fn append_at(&self, room: &mut [u8], n: u64, row: &Row) -> Result<(), (Refusal, usize)>;
@@ -209,7 +209,7 @@ pub fn put_block(calls: &mut Vec<Call>, k: usize, block: &[u8]) {
     calls.push(Call::Put(place + 256, block[256..].to_vec()));
 }
 
-/// What is asked of every room.
+/// The calls that are made on every room.
 fn looks(calls: &mut Vec<Call>) {
     calls.extend([Call::Open, Call::Scan(1), Call::Scan(2)]);
 }
@@ -245,7 +245,8 @@ fn lengths(calls: &mut Vec<Call>) {
     calls.push(Call::Open);
 }
 
-/// Rooms filled by appending, up to 6 and once more; times fall, are equal, and go to both ends.
+/// Rooms that are filled by appending, up to 6 and once more; times fall, are equal, and reach both
+/// ends.
 fn fills(calls: &mut Vec<Call>) {
     let mut random = Random::new(21);
     for blocks in [1, 3] {
@@ -276,7 +277,7 @@ fn fills(calls: &mut Vec<Call>) {
     calls.extend([Call::Block(0), Call::Block(1), Call::Row(29), Call::Row(30)]);
 }
 
-/// The same rows by `append` and by the cursor, which looks at one block.
+/// The same rows by `append` and by the cursor, which reads one block.
 fn at_cursor(calls: &mut Vec<Call>) {
     let mut random = Random::new(22);
     let rows = random_rows(&mut random, 47);
@@ -322,7 +323,8 @@ fn at_cursor(calls: &mut Vec<Call>) {
         calls.extend([Call::Open, Call::Block(1)]);
     }
     put_block(calls, 1, &block(1, &rows[15..17]));
-    // A block that the cursor does not look at is garbled, and the one that it looks at is, behind its first five bytes.
+    // A block that the cursor does not read is damaged; then the one that it reads, after its first
+    // five bytes.
     calls.push(Call::Put(100, vec![0xFF]));
     calls.extend([Call::AppendAt(rows[21].clone(), 17), Call::Open]);
     calls.push(Call::Put(512 + 6, vec![0xFF, 0xFF]));
@@ -367,7 +369,7 @@ fn refused_rows(calls: &mut Vec<Call>) {
     }
 }
 
-/// Where an archive ends: full and short blocks with nothing, zeros or more behind them.
+/// Where an archive ends: full and short blocks with nothing, zeros or more after them.
 fn ends(calls: &mut Vec<Call>) {
     let mut random = Random::new(24);
     for counts in [
@@ -389,7 +391,7 @@ fn ends(calls: &mut Vec<Call>) {
             }
             looks(calls);
             calls.push(Call::Append(random_row(&mut random)));
-            // Behind the end: the last byte of a block, and the first.
+            // After the end: the last byte of a block, and the first.
             for at in [BLOCK * blocks - 1, BLOCK * (blocks - 1)] {
                 calls.push(Call::Put(at as u32, vec![1]));
                 calls.push(Call::Open);
@@ -397,7 +399,7 @@ fn ends(calls: &mut Vec<Call>) {
             }
         }
     }
-    // A right block behind an all-zero one, by its own number.
+    // A right block after an all-zero one, with its own number.
     let rows = random_rows(&mut random, 15);
     for k in 1..4 {
         calls.push(Call::New(2048));
@@ -407,7 +409,7 @@ fn ends(calls: &mut Vec<Call>) {
     }
 }
 
-/// Numbers and counts that are wrong in blocks that are right otherwise.
+/// Numbers and counts that are wrong, in blocks that are otherwise right.
 fn headers(calls: &mut Vec<Call>) {
     let mut random = Random::new(25);
     let rows = random_rows(&mut random, 15);
@@ -497,7 +499,7 @@ fn changed(calls: &mut Vec<Call>) {
             let place = BLOCK * k;
             let mut before = 0;
             for at in (0..BLOCK).filter(|at| renewed == (k == 1) || is_edge(*at)) {
-                // One store sets the byte before right again and changes this one.
+                // One store corrects the byte before and changes this one.
                 let mut other = right[before..=at].to_vec();
                 *other.last_mut().unwrap() ^= 1;
                 calls.push(Call::Put((place + before) as u32, other));
@@ -517,7 +519,7 @@ fn changed(calls: &mut Vec<Call>) {
     }
 }
 
-/// The header, the first, third and fourth cells, some of another and what stands behind the last.
+/// The header, the first, third and fourth cells, some of another, and what comes after the last.
 fn is_edge(at: usize) -> bool {
     at < 56 || (88..152).contains(&at) || (320..324).contains(&at) || at >= 500
 }

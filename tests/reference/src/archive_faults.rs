@@ -1,6 +1,6 @@
-//! What the calls to archives must show: everything that can occur, and the faults a program
-//! could have. Each fault is put into an archive of its own, which reads a room in one pass
-//! and writes one block, and its lines must differ from the rules'.
+//! What the calls on archives must show: everything that can occur, and the faults that a program
+//! could have. Each fault is put into an archive program of its own, which reads a room in one pass
+//! and writes one block. Its lines must differ from those of the rules.
 
 use crate::archive::{is_whole, Row, BLOCK, MISMATCH, ROWS, SIZE};
 use crate::archive_calls::{calls, show, stdin, stdout, Archive, Call};
@@ -251,7 +251,7 @@ fn every_answer_occurs() {
     assert!(seen.contains_key("?"));
 }
 
-/// The rows appended one after the other give the same blocks by both calls.
+/// Rows that are appended one after the other give the same blocks with both calls.
 #[test]
 fn the_cursor_writes_what_appending_writes() {
     let calls = calls();

@@ -1,5 +1,6 @@
 //! Bursts (document 02, A1 and A7): receptions as records in one list with a setting, and a second
-//! list for the replies. What a burst is answered, and histories whose receptions are handed over so.
+//! list for the replies. What a burst is answered, and histories whose receptions are handed over
+//! in bursts.
 
 use crate::clerk::{Answer, Totals};
 use crate::hex::hex_or_dash;
@@ -11,7 +12,7 @@ use crate::subtelegram::{LONGEST, OUTPUT_SHORT, OUT_OF_RANGE};
 use crate::telegrams::{at_level, plain, random_kind, valid};
 use std::fmt::Write;
 
-/// The most receptions of a burst.
+/// The largest number of receptions in a burst.
 pub const MOST: usize = 256;
 
 /// A record of a list: bytes, a length byte, and a time.
@@ -23,7 +24,7 @@ pub struct Record {
 }
 
 impl Record {
-    /// The record of a reception. Of one that is too long the first 21 bytes are in it.
+    /// The record of a reception. If that is too long, the record has its first 21 bytes.
     pub fn of(time: u64, bytes: &[u8]) -> Record {
         let mut kept = bytes.to_vec();
         kept.resize(LONGEST, 0);
@@ -34,8 +35,8 @@ impl Record {
         }
     }
 
-    /// What it hands over: as many bytes as its length says. "A record whose length is over 21
-    /// fails the check with 1", whatever its bytes, so that those past 21 may be zero.
+    /// The bytes that it hands over: as many as its length says. "A record whose length is over 21
+    /// fails the check with 1", whatever its bytes are, so the bytes after 21 may be zero.
     pub fn handed(&self) -> Vec<u8> {
         let mut bytes = self.bytes.to_vec();
         bytes.resize(usize::from(self.len), 0);
@@ -86,7 +87,8 @@ pub fn deliver(model: &mut impl Model, burst: &Burst, places: &mut [Place]) -> u
     number
 }
 
-/// The records that follow that of the burst: each a reception's, its length byte as it stands.
+/// The records that follow that of the burst: each is that of a reception, with its length byte
+/// unchanged.
 pub fn parts(burst: &Burst) -> impl Iterator<Item = [u8; 64]> + '_ {
     burst.records.iter().map(|reception| {
         let mut record = [0; 64];
@@ -117,8 +119,8 @@ const SIZES: [usize; 6] = [0, 1, 3, 17, MOST, MOST + 1];
 /// The settings of bursts, one after the other.
 const SETTINGS: [u8; 7] = [1, 0, 2, 3, 0, 1, 255];
 
-/// Every size with as many places, one fewer and two more, other calls between; each refused
-/// burst is handed over again one by one. The settings of short bursts go round, and past 2.
+/// Every size with as many places, one fewer and two more, and other calls between. Each refused
+/// burst is handed over again one by one. The settings of short bursts rotate, also over 2.
 pub fn sizes(setting: u8, random: &mut Random) -> Vec<Call> {
     let pool: Vec<Vec<u8>> = (0..90).map(|_| valid(random)).collect();
     let mut calls = vec![Call::Start(setting)];
@@ -160,8 +162,8 @@ pub fn sizes(setting: u8, random: &mut Random) -> Vec<Call> {
     calls
 }
 
-/// Mostly one of the pool at some level; now and then late, damaged, or with a length byte
-/// that no bytes stand behind.
+/// Mostly one of the pool at some level; sometimes late, damaged, or with a length byte that is
+/// greater than the number of bytes.
 fn some_record(random: &mut Random, pool: &[Vec<u8>], time: u64) -> Record {
     let at = random.below(pool.len());
     let level = random.pick(&[0, 0, 1, 2, 15]);
@@ -175,7 +177,7 @@ fn some_record(random: &mut Random, pool: &[Vec<u8>], time: u64) -> Record {
     record
 }
 
-/// Its first 21 bytes are a valid subtelegram, but its length is another.
+/// Its first 21 bytes are a valid subtelegram, but it has another length.
 fn odd_record(random: &mut Random, time: u64) -> Record {
     let kind = random_kind(random);
     let mut record = Record::of(time, &plain(random, LONGEST, kind));
@@ -214,8 +216,8 @@ pub fn full_count(random: &mut Random) -> Vec<Call> {
     ]
 }
 
-/// One telegram heard nearly 300 times in two bursts, another now and then among them; asked for after each,
-/// and after a burst that is refused and counts nothing.
+/// One telegram is received nearly 300 times in two bursts, with another one sometimes among them.
+/// Its copies are asked for after each, and after a burst that is refused and counts nothing.
 pub fn often(random: &mut Random) -> Vec<Call> {
     let (one, other) = (valid(random), valid(random));
     let burst = |from: usize, n: usize, places: usize| {
@@ -245,8 +247,8 @@ pub fn often(random: &mut Random) -> Vec<Call> {
     calls
 }
 
-/// The same histories with their receptions in bursts, refused bursts among them. Other calls
-/// stand between the bursts.
+/// The same histories with their receptions in bursts, with refused bursts among them. Other calls
+/// come between the bursts.
 pub fn divided(calls: Vec<Call>, random: &mut Random) -> Vec<Call> {
     let mut out = Vec::new();
     let (mut records, mut others) = (Vec::new(), Vec::new());
@@ -284,7 +286,8 @@ pub fn divided(calls: Vec<Call>, random: &mut Random) -> Vec<Call> {
     out
 }
 
-/// In one burst, now and then after one that is refused for its places or its setting, or one by one.
+/// Hands them over in one burst, sometimes after one that is refused for its places or its setting,
+/// or one by one.
 fn hand_over(out: &mut Vec<Call>, records: &mut Vec<Record>, setting: u8, random: &mut Random) {
     let records = std::mem::take(records);
     let n = records.len();
@@ -323,7 +326,7 @@ mod tests {
     use crate::telegrams::Kind;
     use std::collections::BTreeMap;
 
-    /// The clerk, with a fault in how he takes a burst.
+    /// The clerk with a fault in how it takes a burst.
     struct Faulty {
         clerk: Clerk,
         setting: u8,

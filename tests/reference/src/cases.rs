@@ -1,5 +1,4 @@
-//! Document 01, "Cases": each one, in its order. The program's sample run is beside it, in
-//! collect.rs.
+//! Document 01, "Cases": each one, in its order. The sample run of the program is in collect.rs.
 
 use crate::clerk::{Answer, Clerk};
 use crate::hash::{crc, sum};
@@ -55,7 +54,7 @@ fn valid_by_crc_and_repeated() {
     assert_eq!(repeat(1, &BY_CRC).unwrap()[6..], [0x81, 0xF9]);
 }
 
-/// Document 02, A3: one bit of HASH changed, and the hash that STATUS selects is named.
+/// Document 02, A3: one bit of HASH is changed, and the answer names the hash that STATUS selects.
 #[test]
 fn which_hash_failed() {
     for (bytes, number) in [(&TELEGRAM[..], 2), (&BY_CRC, 13)] {

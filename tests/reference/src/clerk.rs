@@ -5,11 +5,11 @@ use crate::subtelegram::{check, level, same, Refusal, CLOCK_BACK, FULL_COUNT, OU
 
 /// RX maturity: a telegram kept at f is open at t while t - f is at most this.
 pub const OPEN_FOR: u64 = 100;
-/// TX maturity: a sender is finished so many ms after it began (document 02, A6).
+/// TX maturity: a sender has finished this many ms after it began (document 02, A6).
 pub const SENT_WITHIN: u64 = 40;
-/// So many telegrams can be open at once.
+/// How many telegrams can be open at once.
 pub const PLACES: usize = 64;
-/// The number of copies of a telegram goes up to this and stays there (document 02, A8).
+/// The number of copies of a telegram rises to this and stays there (document 02, A8).
 pub const CEILING: u16 = 65_535;
 
 #[derive(Debug, Clone, Copy, PartialEq)]
@@ -32,7 +32,7 @@ pub struct Noted {
     pub time: u64,
     pub bytes: Vec<u8>,
     pub answer: Answer,
-    /// Of a COPY, where in `noted` the opening stands that it belongs to.
+    /// For a COPY, the index in `noted` of the opening that it belongs to.
     pub opening: Option<usize>,
 }
 
@@ -47,7 +47,7 @@ pub struct Totals {
 }
 
 impl Totals {
-    /// With so many KEPT fewer.
+    /// The same with n fewer KEPT.
     pub fn without_kept(self, n: u64) -> Totals {
         Totals {
             received: self.received - n,
@@ -75,21 +75,21 @@ impl Totals {
     }
 }
 
-/// He keeps every reception with its answer. The two lists of positions say only where in
-/// `noted` the accepted ones and the KEPT ones stand; nothing is ever taken out of them.
+/// The clerk keeps every reception with its answer. The two lists of positions only say where in
+/// `noted` the accepted ones and the KEPT ones are; nothing is ever removed from them.
 ///
-/// An accepted reception (KEPT, COPY, LOOSE) has no accepted one before it with a greater
-/// time, else it would have got 7. So accepted times never fall, and two shortcuts give what
-/// a look at all receptions gives: the greatest accepted time is that of the last accepted
-/// one; and, looking back over the KEPT ones, the first with t - f above 100 ends the search,
-/// since all before it are as old or older.
+/// An accepted reception (KEPT, COPY, LOOSE) has no accepted one before it with a greater time,
+/// else it would have got 7. So accepted times never fall, and two shortcuts give what a search in
+/// all receptions gives. The greatest accepted time is that of the last accepted one. And in a
+/// search back over the KEPT ones, the first with t - f above 100 ends the search, because all
+/// before it are as old or older.
 #[derive(Clone)]
 pub struct Clerk {
     pub noted: Vec<Noted>,
     accepted: Vec<usize>,
     kept: Vec<usize>,
-    /// Of an image that he goes on from: its totals without the entries, its latest time, and the
-    /// copies of each entry, which are the first in `noted`.
+    /// For a clerk that continues from an image: its totals without the entries, its latest time,
+    /// and the copies of each entry. The entries are the first in `noted`.
     earlier: Totals,
     earlier_latest: u64,
     earlier_copies: Vec<u16>,
@@ -107,8 +107,8 @@ impl Clerk {
         }
     }
 
-    /// Goes on from an image that was accepted and belongs to no history: its entries are the
-    /// receptions that he answered KEPT, and the rest is in its numbers.
+    /// Continues from an image that was accepted and belongs to no history: its entries are the
+    /// receptions that were answered KEPT, and the rest is in its numbers.
     pub fn going_on(image: image::Reloaded) -> Clerk {
         let mut clerk = Clerk::new();
         for (at, entry) in image.entries.into_iter().enumerate() {
@@ -127,7 +127,7 @@ impl Clerk {
         clerk
     }
 
-    /// Takes one reception: his answer.
+    /// Takes one reception, and returns the answer.
     pub fn take(&mut self, time: u64, bytes: &[u8]) -> Answer {
         let (answer, opening) = self.answer(time, bytes);
         if answer.accepted() {
@@ -145,7 +145,7 @@ impl Clerk {
         answer
     }
 
-    /// The first that fits; and of a COPY the opening that it belongs to.
+    /// The first answer that fits; and for a COPY the opening that it belongs to.
     fn answer(&self, time: u64, bytes: &[u8]) -> (Answer, Option<usize>) {
         if self.counted_full() {
             return (Answer::Refused(FULL_COUNT), None);
@@ -170,15 +170,15 @@ impl Clerk {
         (Answer::Kept, None)
     }
 
-    /// Whether 2^64 - 1 have another answer than 8. With fewer receptions in all there is
-    /// nothing to count.
+    /// Whether 2^64 - 1 have another answer than 8. If there are fewer receptions in all, it need
+    /// not count.
     fn counted_full(&self) -> bool {
         let left = u64::MAX - self.earlier.received;
         self.noted.len() as u64 >= left && self.totals().received == u64::MAX
     }
 
-    /// Where the KEPT ones with time - f <= 100 stand, the latest first. The time is no accepted
-    /// one's past.
+    /// The indices of the KEPT ones with time - f <= 100, the latest first. No accepted reception
+    /// is later than this time.
     fn open_at(&self, time: u64) -> Vec<usize> {
         let latest_first = self.kept.iter().rev().copied();
         latest_first
@@ -192,15 +192,15 @@ impl Clerk {
         noted.max(self.earlier_latest)
     }
 
-    /// Where the KEPT ones with latest - f <= 100 stand, in the order handed over.
+    /// The indices of the KEPT ones with latest - f <= 100, in the order handed over.
     fn places(&self) -> Vec<usize> {
         let mut places = self.open_at(self.latest());
         places.reverse();
         places
     }
 
-    /// "the number of his own COPY answers for that opening, to the same ceiling" (document 02, A8);
-    /// in an image that he goes on from, some are counted already.
+    /// "the number of his own COPY answers for that opening, to the same ceiling" (document 02,
+    /// A8); for a clerk that continues from an image, some are counted already.
     fn copies_of(&self, opening: usize) -> u16 {
         let earlier = self.earlier_copies.get(opening).copied().unwrap_or(0);
         let answers = self.noted[opening..].iter();
@@ -209,7 +209,7 @@ impl Clerk {
         all.min(usize::from(CEILING)) as u16
     }
 
-    /// The copies of the telegram at a place, in opening order and from 0 on (document 02, A8).
+    /// The copies of the telegram with this index, in opening order and from 0 (document 02, A8).
     pub fn copies(&self, place: u64) -> Result<u16, Refusal> {
         let places = self.places();
         let place = usize::try_from(place).map_err(|_| OUT_OF_RANGE)?;
@@ -227,12 +227,12 @@ impl Clerk {
         self.places().into_iter().map(entry).collect()
     }
 
-    /// His totals count his own answers.
+    /// The totals count the clerk's own answers.
     pub fn totals(&self) -> Totals {
         self.earlier.plus(totals_of(&self.noted))
     }
 
-    /// His image, with zero in the setting's place (document 02, A7).
+    /// The clerk's image, with zero in the setting's place (document 02, A7).
     pub fn image(&self) -> Vec<u8> {
         image::write(self.latest(), &self.totals(), 0, &self.entries())
     }

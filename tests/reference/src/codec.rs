@@ -167,7 +167,7 @@ pub fn answer(record: &Record) -> String {
 
 // The records.
 
-/// Document 01, "Cases": the sum's telegram, once plain and once addressed, and the CRC's.
+/// Document 01, "Cases": the telegram with a sum, plain and addressed, and the one with a CRC.
 const SUM_CASE: [u8; 11] = [0xA5, 0, 0, 0, 8, 1, 2, 3, 4, 0, 0xB7];
 const ADDRESSED_CASE: [u8; 16] = [
     0xA6, 0xA5, 0, 0, 0, 8, 0xF1, 0xF2, 0xF3, 0xF4, 1, 2, 3, 4, 0, 0x27,
@@ -200,7 +200,7 @@ fn case_records() -> Vec<Record> {
         renew_hash(&mut bytes);
         all.push(read_record(&bytes));
     }
-    // DATA of 9 addresses, of 10 gives 5: built and encapsulated.
+    // DATA of 9 bytes can be addressed, DATA of 10 gives 5: built and encapsulated.
     for length in [9, 10] {
         let mut random = Random::new(9);
         all.push(build_record(28, length, true, 0xD2, 0, &mut random));
@@ -260,7 +260,7 @@ fn hash_bit_wrong(bytes: &[u8], bit: usize) -> Vec<u8> {
     wrong
 }
 
-/// HASH by the other function; None where both agree.
+/// HASH by the other function; None if both agree.
 fn other_hash(bytes: &[u8]) -> Option<Vec<u8>> {
     let n = bytes.len();
     if n < 2 {
@@ -290,7 +290,7 @@ fn read_records(random: &mut Random) -> Vec<Record> {
             }
         }
     }
-    // Every bit of every byte of one telegram each changed, HASH left.
+    // One telegram of each hash: every bit of every byte is changed, and HASH is not.
     for bytes in [&PROGRAM_CASE[..], &CRC_CASE] {
         for at in 0..bytes.len() {
             for bit in 0..8 {
@@ -315,7 +315,7 @@ fn read_records(random: &mut Random) -> Vec<Record> {
         let n = random.range(13, 21);
         all.push(read_record(&hashed(random, n, &[ADDRESSED, value], kind)));
     }
-    // Addressed twice, right in all else.
+    // Addressed twice, otherwise right.
     for n in 12..=21 {
         let kind = random_kind(random);
         all.push(read_record(&hashed(
@@ -342,7 +342,7 @@ fn read_records(random: &mut Random) -> Vec<Record> {
     all
 }
 
-/// One short, exact, one larger and the largest; 0 among them at times.
+/// One less than needed, exactly enough, one more, and the largest; sometimes 0 too.
 fn capacities(random: &mut Random, need: usize) -> Vec<usize> {
     let need = need.min(27);
     let mut all = vec![need.saturating_sub(1), need, need + 1];
@@ -364,7 +364,7 @@ fn build_records(random: &mut Random) -> Vec<Record> {
                     ));
                 }
             }
-            // RORG 0xA6 beside whatever else is wrong: room, length, addressed length.
+            // RORG 0xA6 together with other faults: room, length, addressed length.
             for capacity in [0, 28] {
                 let status = random.byte();
                 all.push(build_record(
@@ -386,7 +386,8 @@ fn build_records(random: &mut Random) -> Vec<Record> {
     all
 }
 
-/// Bytes of every length, form and fault, each with room for a result of `change` bytes more.
+/// Bytes of every length, form and fault, each with room for a result that is `change` bytes
+/// longer.
 fn address_records(
     random: &mut Random,
     change: isize,
@@ -399,7 +400,7 @@ fn address_records(
             let destination = random.bytes(4);
             let right = check(&bytes).is_ok();
             for capacity in capacities(random, need) {
-                // The bare check's refusals need fewer records than what passes it.
+                // Refusals of the check alone need fewer records than what passes it.
                 if right || random.chance(30) {
                     all.push(make(capacity, &bytes, &destination));
                 }
@@ -467,7 +468,7 @@ fn repeat_records(random: &mut Random) -> Vec<Record> {
     all
 }
 
-/// Pairs next to each other: one byte or bit apart, HASH right in both.
+/// Pairs that differ in one byte or bit, with HASH right in both.
 fn neighbours(random: &mut Random, a: &[u8]) -> Vec<Vec<u8>> {
     let n = a.len();
     let status = n - 2;
@@ -479,11 +480,11 @@ fn neighbours(random: &mut Random, a: &[u8]) -> Vec<Vec<u8>> {
     // The level and an upper bit.
     let both = with_bit(a, status, random.range(4, 7));
     all.push(at_level(&both, level));
-    // Upper STATUS bits, bit 7 with the hash it asks for.
+    // Upper STATUS bits; for bit 7, with the hash that it selects.
     for bit in 4..8 {
         all.push(with_bit(a, status, bit));
     }
-    // One bit of some byte: RORG, DATA, DESTID and TXID alike.
+    // One bit of some byte: of RORG, DATA, DESTID or TXID.
     for _ in 0..4 {
         let at = random.below(status);
         let bit = random.below(8);
@@ -491,7 +492,7 @@ fn neighbours(random: &mut Random, a: &[u8]) -> Vec<Vec<u8>> {
     }
     all.push(with_bit(a, n - 6, 7));
     all.push(with_bit(a, n - 3, 0));
-    // One byte longer or shorter, the rest as it was.
+    // One byte longer or shorter, the rest unchanged.
     let mut longer = a.to_vec();
     longer.insert(n - 6, random.byte());
     renew_hash(&mut longer);
@@ -511,7 +512,7 @@ fn neighbours(random: &mut Random, a: &[u8]) -> Vec<Vec<u8>> {
     generator[n - 4] ^= 0x07;
     renew_hash(&mut generator);
     all.push(generator);
-    // One level up and one off TXID: an equal sum, another level.
+    // Level one up and TXID one down: an equal sum, another level.
     let mut shifted = at_level(a, (a[status] & 0x0F).wrapping_add(1) & 0x0F);
     shifted[n - 3] = shifted[n - 3].wrapping_sub(1);
     renew_hash(&mut shifted);
@@ -559,7 +560,7 @@ fn same_records(random: &mut Random) -> Vec<Record> {
             }
         }
     }
-    // Plain and addressed of one content; other telegrams of one length.
+    // Plain and addressed with the same content; other telegrams of the same length.
     for n in 8..=16 {
         let kind = random_kind(random);
         let a = plain(random, n, kind);

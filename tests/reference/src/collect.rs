@@ -5,7 +5,7 @@ use crate::hex::{hex, unhex};
 use crate::repeater::sent_for;
 use std::fmt::Write;
 
-/// The most bytes a line may carry.
+/// The largest number of bytes in a line.
 const MOST: usize = 64;
 
 /// A decimal 64-bit number without leading zeros.
@@ -41,7 +41,7 @@ pub fn setting(line: Option<&[u8]>) -> Option<u8> {
 }
 
 pub fn run(input: &[u8]) -> String {
-    // Lines end with a newline; the last one may lack it.
+    // Lines end with a newline; the last one may have none.
     let text = input.strip_suffix(b"\n").unwrap_or(input);
     let mut lines = text.split(|&c| c == b'\n').filter(|_| !input.is_empty());
     let Some(setting) = setting(lines.next()) else {

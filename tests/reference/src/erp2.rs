@@ -12,7 +12,7 @@ pub const CRC: Refusal = 13;
 pub const RESERVED: Refusal = 14;
 pub const MISFIT: Refusal = 15;
 
-/// Figure 9: bytes of the Originator-ID of a short form, by Length; there is no Length 0.
+/// Figure 9: the bytes of the Originator-ID of a short form, by Length; there is no Length 0.
 pub const SHORT_IDS: [usize; 7] = [0, 1, 1, 2, 3, 4, 4];
 
 /// The most bytes of Data_PL without a header, and with one.
@@ -66,7 +66,7 @@ impl Header {
     }
 }
 
-/// Bytes of the Originator-ID by address control; a reserved one holds no more than 48 bits.
+/// Bytes of the Originator-ID by address control; for a reserved one at most 48 bits.
 pub fn id_bytes(control: u8) -> usize {
     match control {
         0 => 3,
@@ -188,7 +188,7 @@ impl Codec {
         Ok(self.read_long(body))
     }
 
-    /// Bytes before the CRC that a header asks for, with so many bytes of optional data; data
+    /// How many bytes before the CRC a header needs, with this many bytes of optional data; data
     /// may be empty.
     fn needed(&self, header: Header, announced: u8) -> usize {
         let least = usize::from(self.is("data never empty"));
@@ -290,7 +290,7 @@ impl Codec {
         }
     }
 
-    /// Bytes of Data_PL: those of the fields that are there.
+    /// The length of Data_PL: the bytes of the fields that are present.
     fn length(&self, t: &Telegram) -> usize {
         let fields = self.id_bytes_of(t) + t.data.len();
         if t.short != 0 {
@@ -323,7 +323,7 @@ impl Codec {
         id_over || t.header.control > 7 || t.header.kind > 15 || extension_over
     }
 
-    /// Each optional field is there just where the header says so; a short form has none.
+    /// Whether an optional field is present or missing against the header; a short form has none.
     fn is_against_header(&self, t: &Telegram) -> bool {
         let long = t.short == 0;
         let wrong = [

@@ -15,7 +15,7 @@ const BUILD: u8 = 2;
 /// An output is filled with this before the call.
 const FILL: u8 = 0xEE;
 
-/// The bytes of data, and of optional data, that a record holds.
+/// How many bytes of data, and of optional data, a record holds.
 const DATA: usize = 250;
 const OPTIONAL: usize = 15;
 
@@ -29,7 +29,7 @@ fn read_record(bytes: &[u8]) -> Record {
     record
 }
 
-/// What a record asks to build: every value, whether its flag is set or not.
+/// The telegram that a record describes: every value, whether its flag is set or not.
 #[derive(Clone, Debug)]
 struct Order {
     capacity: usize,
@@ -51,7 +51,7 @@ struct Order {
 }
 
 impl Order {
-    /// A long form as its header byte has it, with so many bytes of data and of optional data.
+    /// A long form with this header byte, with this many bytes of data and of optional data.
     fn long(header: u8, length: usize, announced: u8, random: &mut Random) -> Order {
         let header = Header::of(header);
         let announced = if header.extended { announced } else { 0 };
@@ -92,7 +92,7 @@ impl Order {
         }
     }
 
-    /// Bytes of Data_PL beside the data.
+    /// The length of Data_PL without the data.
     fn overhead(&self) -> usize {
         if self.short != 0 {
             return SHORT_IDS[usize::from(self.short)];
@@ -127,7 +127,7 @@ impl Order {
     }
 }
 
-/// The telegram that a record asks to build.
+/// The telegram that a record describes.
 fn ordered(record: &Record) -> Telegram {
     let announced = record[9];
     let two = |at: usize| usize::from(u16::from_be_bytes([record[at], record[at + 1]]));
@@ -220,7 +220,7 @@ fn long(header: u8, length: usize, random: &mut Random) -> Vec<u8> {
     sealed(&body)
 }
 
-/// A long form with all that its header announces, and so many bytes behind the fields.
+/// A long form with all fields of its header, and this many bytes after them.
 fn fitting(header: u8, announced: u8, data: usize, random: &mut Random) -> Vec<u8> {
     let parts = Header::of(header);
     let mut body = vec![header];
@@ -255,7 +255,7 @@ fn header_records(random: &mut Random) -> Vec<Vec<u8>> {
     all
 }
 
-/// Every announced length at the Length that just fits, and one byte less, its CRC right.
+/// Every announced length at the Length that exactly fits, and one byte less, with a right CRC.
 fn announced_records(random: &mut Random) -> Vec<Vec<u8>> {
     let mut all = Vec::new();
     for announced in 0..16 {
@@ -290,13 +290,13 @@ fn length_records(random: &mut Random) -> Vec<Vec<u8>> {
         all.push(right);
         all.push(more);
     }
-    // A length byte that wraps: 256 and 257 bytes behind it.
+    // A length byte that wraps: 256 and 257 bytes after it.
     for wrapped in [0, 1] {
         let mut bytes = vec![wrapped];
         bytes.extend(random.bytes(256 + usize::from(wrapped)));
         all.push(bytes);
     }
-    // The CRC of Length too, and of nothing but the header.
+    // The CRC over the Length too, and over the header only.
     let right = long(0x21, 9, random);
     let mut other = right.clone();
     other[9] = crc(&right[..9]);
@@ -356,7 +356,7 @@ fn random_reads(random: &mut Random) -> Vec<Vec<u8>> {
 
 // The records to build.
 
-/// Each value at its last right and first wrong number.
+/// Each value at its greatest right and smallest wrong number.
 fn value_orders(random: &mut Random) -> Vec<Order> {
     let mut all = Vec::new();
     let base = Order::long(0x5F, 3, 2, random);
@@ -427,14 +427,14 @@ fn flag_orders(random: &mut Random) -> Vec<Order> {
     for header in [0x21, 0x31, 0x2F, 0x41, 0x5F] {
         flags(Order::long(header, 6, 2, random));
     }
-    // The header of a short form is not looked at.
+    // The header of a short form is not read.
     for header in [0x00, 0x5F] {
         let mut order = Order::long(header, 1, 1, random);
         order.short = 5;
         order.originator &= 0xFFFF_FFFF;
         flags(order);
     }
-    // Values beside flags that are not set: not looked at.
+    // Values whose flags are not set are not read.
     for _ in 0..12 {
         let mut order = Order::long(0x21, random.range(1, 9), 0, random);
         if random.chance(40) {

@@ -1,5 +1,6 @@
-//! What the histories must show: everything that can occur, and the faults a collector could
-//! have. Each fault is put into a model of its own, and its lines must differ from the clerk's.
+//! What the histories must show: everything that can occur, and the faults that a collector could
+//! have. Each fault is put into a model of its own, and its lines must differ from those of the
+//! clerk.
 
 use crate::bursts;
 use crate::clerk::{totals_of, Answer, Clerk, Noted, Totals};
@@ -15,12 +16,12 @@ use std::sync::OnceLock;
 /// The last byte of the setting's place.
 const SETTING_AT: usize = 3 * 512 + 23;
 
-/// The clerk word for word: every look goes over all receptions. One fault can be set.
+/// The clerk word for word: every search goes over all receptions. One fault can be set.
 #[derive(Default)]
 pub struct PlainClerk {
     noted: Vec<Noted>,
-    /// Of an image that is gone on from: its totals without the entries, its latest time, and the
-    /// copies of its entries.
+    /// For a model that continues from an image: its totals without the entries, its latest time,
+    /// and the copies of its entries.
     earlier: Totals,
     earlier_latest: u64,
     earlier_copies: Vec<u16>,
@@ -28,8 +29,7 @@ pub struct PlainClerk {
 }
 
 impl PlainClerk {
-    /// Whether a reception is a copy, its openings being those of the same telegram that are
-    /// open, in order.
+    /// Whether a reception is a copy; `openings` are the open ones of the same telegram, in order.
     fn is_copy(&self, openings: &[&Noted], time: u64, bytes: &[u8]) -> bool {
         let (Some(first), Some(latest)) = (openings.first(), openings.last()) else {
             return false;
@@ -169,7 +169,7 @@ impl PlainClerk {
         latest.max(self.earlier_latest)
     }
 
-    /// Where the KEPT ones with latest - f <= 100 stand, in the order handed over.
+    /// The indices of the KEPT ones with latest - f <= 100, in the order handed over.
     fn places(&self) -> Vec<usize> {
         let latest = self.latest();
         let all = self.noted.iter().enumerate();
@@ -188,8 +188,8 @@ impl PlainClerk {
         }
     }
 
-    /// Whether the reception at `at` belongs to the opening: it is the same telegram, open then,
-    /// and no later opening is. Its own answer is not looked at.
+    /// Whether the reception at `at` belongs to the opening: it is the same telegram, which is open
+    /// then, and no later opening is. Its own answer is not read.
     fn belongs(&self, at: usize, opening: usize) -> bool {
         let heard = &self.noted[at];
         let is_open = |n: &Noted| {
@@ -333,7 +333,7 @@ fn agrees(model: &mut impl Model) -> bool {
         .all(|(history, lines)| show(history, model) == *lines)
 }
 
-/// Whether it answers what he answers where the copies are asked for.
+/// Whether it gives the same answers as the clerk when the copies are asked for.
 fn agrees_where_asked(model: &mut impl Model) -> bool {
     let asks = |lines: &str| -> Vec<String> {
         let asks = lines.lines().filter(|line| line.starts_with("A "));
@@ -355,7 +355,8 @@ fn the_short_look_back_is_the_long_one() {
     assert!(agrees(&mut PlainClerk::new("")));
 }
 
-/// Faults in which opening a COPY belongs to and what counts (document 02, A8): some ask shows each.
+/// Faults in which opening a COPY belongs to, and in what counts (document 02, A8): a question for
+/// the copies shows each.
 #[test]
 fn faults_of_the_copies_are_seen() {
     for fault in [
@@ -417,11 +418,11 @@ fn faults_are_seen() {
     }
 }
 
-/// A collector with a window of open telegrams, as an image holds it: one that a cut
-/// really goes through. One fault can be set.
+/// A collector that holds only the open telegrams, as an image does: at a cut it really restores from
+/// the image. One fault can be set.
 struct Window {
     state: image::Reloaded,
-    /// What the caller's setting was at the start, and what a fault sends by in its place.
+    /// The caller's setting at the start; and the one that a fault uses instead.
     setting: u8,
     other: Option<u8>,
     fault: &'static str,
@@ -606,7 +607,7 @@ impl Model for Window {
             "restore refused" => return 11,
             "lost at a cut" => state.entries.iter_mut().for_each(|e| e.copies = 0),
             "zeros parked" | "bytes swapped" => {
-                // As if a cut were right by itself.
+                // The cut itself keeps the copies: only the image has the fault.
                 let kept = self.state.entries.iter().map(|e| e.copies);
                 let entries = state.entries.iter_mut().zip(kept);
                 entries.for_each(|(e, copies)| e.copies = copies);
@@ -650,7 +651,7 @@ impl Model for Window {
 }
 
 impl Window {
-    /// Refuses an accepted image for the copies in it.
+    /// Refuses an accepted image because of the copies in it.
     fn refuses_copies(&self, state: &image::Reloaded) -> bool {
         let some = |f: fn(u64) -> bool| state.entries.iter().any(|e| f(u64::from(e.copies)));
         match self.fault {
@@ -665,7 +666,8 @@ impl Window {
     }
 }
 
-/// Faults in keeping the copies and in the ask (document 02, A8): some ask shows each.
+/// Faults in keeping the copies and in the question for them (document 02, A8): some question shows
+/// each.
 #[test]
 fn faults_of_the_ask_are_seen() {
     for fault in [
@@ -764,7 +766,7 @@ fn everything_occurs() {
                     count("cut with another number".to_string());
                 }
                 count(format!("entries cut {}", clerk.entries().len()));
-                // Most cuts are followed by a reception, which meets what was restored.
+                // Most cuts are followed by a reception, which meets the restored state.
                 if matches!(calls.get(i + 1), Some(Call::Reception(..))) {
                     count("cut, then reception".to_string());
                 }

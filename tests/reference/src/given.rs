@@ -1,5 +1,5 @@
-//! Images that the input gives, to be restored: each condition of a reload (document 01, "Parked
-//! collector"; document 02, A6 and A8) at its edge and one past it, with right checks around wrong
+//! Images in the input that are to be restored: each condition of a reload (document 01, "Parked
+//! collector"; document 02, A6 and A8) at its limit and one past it, with right checks around wrong
 //! fields. An accepted one starts a history of its own.
 
 use crate::clerk::Totals;
@@ -10,7 +10,7 @@ use crate::random::Random;
 use crate::subtelegram::{ADDRESSED, LONGEST};
 use crate::telegrams::{addressed, at_level, hashed, plain, valid, Kind};
 
-/// A record holds so many bytes of an image, from this byte on.
+/// How many bytes of an image a record holds, and where they begin in it.
 const PART: usize = 54;
 const PART_AT: usize = 10;
 
@@ -24,7 +24,7 @@ pub fn parts(bytes: &[u8]) -> Vec<[u8; 64]> {
     bytes.chunks(PART).map(part).collect()
 }
 
-/// What an image says.
+/// The content of an image.
 #[derive(Clone)]
 struct State {
     latest: u64,
@@ -39,7 +39,7 @@ impl State {
     }
 }
 
-/// Bytes past 21, which no entry of a collector has, go on where the copies stand.
+/// Bytes after 21, which no entry of a collector has, overwrite the copies.
 fn entry(time: u64, bytes: &[u8]) -> Entry {
     let past = |at: usize| bytes.get(at).copied().unwrap_or(0);
     Entry {
@@ -56,7 +56,7 @@ fn heard_again(time: u64, bytes: &[u8], copies: u16) -> Entry {
     }
 }
 
-/// A state with these entries that breaks no condition by its totals.
+/// A state with these entries whose totals break no condition.
 fn state(latest: u64, entries: Vec<Entry>) -> State {
     let kept = entries.len() as u64 + 2;
     State {
@@ -74,7 +74,7 @@ fn state(latest: u64, entries: Vec<Entry>) -> State {
     }
 }
 
-/// One byte set, and the check of its block made right.
+/// One byte is set, and the check of its block corrected.
 fn with_byte(mut image: Vec<u8>, at: usize, value: u8) -> Vec<u8> {
     image[at] = value;
     let block = &mut image[at / BLOCK * BLOCK..][..BLOCK];
@@ -102,7 +102,7 @@ impl Maker {
         self.calls.push(Call::Reception(time, bytes.to_vec()));
     }
 
-    /// An image that must be refused, and a reception at the state that stays.
+    /// An image that must be refused, and a reception for the state, which is unchanged.
     fn refused(&mut self, image: Vec<u8>) {
         assert!(reload(&image).is_err(), "an image that is accepted");
         self.calls.push(Call::Given(image));
@@ -110,8 +110,8 @@ impl Maker {
         self.heard(u64::MAX, &bytes[1..]);
     }
 
-    /// A state whose image must be accepted, and what meets its entries: copies, originals after
-    /// 40 and 41 ms, the first as long as it is open, another telegram; then a cut.
+    /// A state whose image must be accepted, and receptions for its entries: copies, originals
+    /// after 40 and 41 ms, the first one as long as it is open, another telegram; then a cut.
     fn accepted(&mut self, state: &State) {
         let image = state.image();
         assert!(reload(&image).is_ok(), "an image that is refused");
@@ -137,7 +137,7 @@ impl Maker {
             .collect()
     }
 
-    /// The window, the order, the setting, how many.
+    /// The window, the order, the setting, the number of entries.
     fn edges(&mut self) {
         self.start(1);
         let pool = self.telegrams(75);
@@ -229,7 +229,7 @@ impl Maker {
                 self.refused(given.image());
             }
         }
-        // The same but for HASH's kind: two telegrams.
+        // The same except for the kind of HASH: two telegrams.
         let mut other = a.clone();
         let status = other.len() - 2;
         other[status] ^= 0x80;
@@ -284,7 +284,7 @@ impl Maker {
         self.end();
     }
 
-    /// The totals: their sum, and that it does not wrap; a received of 2^64 - 1.
+    /// The totals: their sum, which must not wrap; and a received of 2^64 - 1.
     fn totals(&mut self) {
         self.start(2);
         let bytes = self.telegrams(2);
@@ -367,7 +367,8 @@ impl Maker {
             (7, 0x80),
             (504, 1),
             (510, 1),
-            // Past the bytes of an entry, and entries that are not used, their last two bytes too.
+            // After the bytes of an entry, and in entries that are not used, also in their last two
+            // bytes.
             (24 + 9 + length.min(20), if length < 21 { 1 } else { 0 }),
             (BLOCK + 24 + 32, 1),
             (BLOCK + 24 + 32 + 30, 1),
@@ -384,11 +385,11 @@ impl Maker {
                 self.refused(with_byte(image.clone(), at, value));
             }
         }
-        // Each block in the place of the next, its own number in it.
+        // Each block at the position of the next, with its own number.
         let mut exchanged = image.clone();
         exchanged[..2 * BLOCK].rotate_left(BLOCK);
         self.refused(exchanged);
-        // A check that is not right, and lengths.
+        // A wrong check, and wrong lengths.
         let mut unchecked = image.clone();
         unchecked[5 * BLOCK - 1] ^= 1;
         self.refused(unchecked);
@@ -404,15 +405,16 @@ impl Maker {
     }
 }
 
-/// Histories around the copies that an image says (document 02, A8): any value is accepted, and goes
-/// on from there.
+/// Histories about the copies in an image (document 02, A8): any value is accepted, and counting
+/// continues from it.
 impl Maker {
     fn ask_each(&mut self, open: u64) {
         self.calls.extend((0..=open).map(Call::Ask));
         self.calls.push(Call::Ask(u64::MAX));
     }
 
-    /// An image that must be accepted, all its entries asked for; a cut, and all again.
+    /// An image that must be accepted, with questions for all its entries; a cut, and all questions
+    /// again.
     fn accepted_and_asked(&mut self, state: &State) {
         let image = state.image();
         assert!(reload(&image).is_ok(), "an image that is refused");
@@ -423,7 +425,7 @@ impl Maker {
         self.ask_each(open);
     }
 
-    /// Each number and two copies more, asked for after each: 65,534 says 65,535 twice.
+    /// Each number, and two more copies, asked for after each: 65,534 becomes 65,535 and stays.
     fn copies(&mut self) {
         self.start(1);
         let pool = self.telegrams(64);
@@ -439,7 +441,8 @@ impl Maker {
             self.ask_each(EDGES.len() as u64);
             self.calls.push(Call::Park(IMAGE));
         }
-        // Another opening of each starts from 0, and the first ones keep theirs until they close.
+        // Another opening of each starts from 0, and the first ones keep their numbers until they
+        // close.
         for (i, entry) in given.entries.iter().enumerate() {
             let time = 1010 + 5 * i as u64;
             self.heard(time, &at_level(&entry.bytes, 0));
@@ -450,7 +453,8 @@ impl Maker {
         self.heard(1061, &at_level(&given.entries[0].bytes, 1));
         self.ask_each(EDGES.len() as u64);
         self.calls.push(Call::Park(IMAGE));
-        // An image that is refused for one bit of a number, its check left as it was: all stays.
+        // An image that is refused for one bit of a number, with its check unchanged: everything
+        // stays.
         let mut image = given.image();
         image[24 + 31] ^= 1;
         self.refused(image);
@@ -461,7 +465,7 @@ impl Maker {
         self.end();
     }
 
-    /// An older image has zeros there; and one says more copies than its total has.
+    /// An older image has zeros there; and one has more copies than its total.
     fn older(&mut self, pool: &[Vec<u8>]) {
         for copies in [0, 65_535] {
             let entries = pool[..3].iter().map(|b| heard_again(490, b, copies));
@@ -475,8 +479,8 @@ impl Maker {
         }
     }
 
-    /// Three openings of one telegram, another between: a copy belongs to the latest, and those that
-    /// stay open move up with their numbers.
+    /// Three openings of one telegram, with another between: a copy belongs to the latest, and
+    /// those that stay open move up with their numbers.
     fn of_one_telegram(&mut self, one: &[u8], other: &[u8]) {
         let given = state(
             1090,
@@ -501,7 +505,7 @@ impl Maker {
         }
     }
 
-    /// Any number at each of 64, a copy of each, and some that close.
+    /// Any number for each of 64, a copy of each, and some that close.
     fn of_all_64(&mut self, pool: &[Vec<u8>]) {
         let mut entries = Vec::new();
         for (i, bytes) in pool.iter().enumerate() {
@@ -520,10 +524,10 @@ impl Maker {
     }
 }
 
-/// Numbers of copies at the edges of their two bytes, and of the ceiling.
+/// Numbers of copies at the limits of their two bytes, and of the ceiling.
 const EDGES: [u16; 9] = [0, 1, 254, 255, 256, 32_767, 65_533, 65_534, 65_535];
 
-/// Histories around images that the input gives.
+/// Histories with images in the input.
 pub fn calls() -> Vec<Call> {
     let mut maker = Maker {
         random: Random::new(0x0003_4D6F_6F72_696E),

@@ -1,6 +1,6 @@
 //! The two hashes (document 01, "Subtelegram"; 001, 3.3.2 and 3.3.3).
 
-/// The sum of all bytes, kept to eight bits.
+/// The low eight bits of the sum of all bytes.
 pub fn sum(bytes: &[u8]) -> u8 {
     let total: u64 = bytes.iter().map(|&b| u64::from(b)).sum();
     (total % 256) as u8
@@ -22,7 +22,7 @@ pub fn crc(bytes: &[u8]) -> u8 {
     remainder
 }
 
-/// The HASH that STATUS asks for: bit 7 clear, the sum; set, the CRC.
+/// The HASH that STATUS selects: bit 7 clear, the sum; set, the CRC.
 pub fn hash(status: u8, bytes: &[u8]) -> u8 {
     if status & 0x80 == 0 {
         sum(bytes)

@@ -19,32 +19,32 @@ pub enum Call {
     /// A collector started fresh, whose caller keeps this setting: a new history.
     Start(u8),
     Reception(u64, Vec<u8>),
-    /// A checkpoint into so many bytes.
+    /// A checkpoint into this many bytes.
     Park(usize),
     /// A checkpoint into 2,560 bytes and its restore into another collector, started fresh. The
-    /// number says nothing.
+    /// number has no effect.
     Cut(u8),
     /// A restore of the present image with one bit of this byte changed; for 2,560, of the
     /// image without its last byte.
     Spoiled(usize),
-    /// A restore of these bytes. Where they are accepted, a history of its own goes on from them.
+    /// A restore of these bytes. If they are accepted, a history of its own continues from them.
     Given(Vec<u8>),
     /// A burst.
     Burst(Burst),
-    /// The copies of the telegram at this place are asked for.
+    /// The copies of the telegram with this index are asked for.
     Ask(u64),
 }
 
 // What must be shown.
 
-/// Of each history the images of so many checkpoints are shown in full.
+/// For each history, this many images of checkpoints are shown in full.
 pub const SHOWN: usize = 3;
 /// An output is filled with this before the call.
 const FILL: u8 = 0xEE;
 
-/// What the calls are put to: the clerk here, others in the tests.
+/// What answers the calls: the clerk here, others in the tests.
 pub trait Model {
-    /// The setting is the caller's, and no collector should look at it.
+    /// The setting is the caller's; no collector should read it.
     fn start(&mut self, setting: u8);
     fn take(&mut self, time: u64, bytes: &[u8]) -> Answer;
     /// What the caller sends for a reception with this answer, at its setting.
@@ -52,7 +52,7 @@ pub trait Model {
         sent_for(setting, answer, bytes)
     }
     fn totals(&self) -> Totals;
-    /// The number of the answer, and the copies of the telegram at this place, 0 beside a refusal.
+    /// The number of the answer, and the copies of the telegram with this index, 0 with a refusal.
     fn copies(&mut self, place: u64) -> (Refusal, u16);
     fn image(&self) -> Vec<u8>;
     /// The open telegrams, as the image has them.
@@ -60,11 +60,10 @@ pub trait Model {
     fn opened(&self) -> Vec<Entry> {
         reload(&self.image()).map_or(Vec::new(), |state| state.entries)
     }
-    /// The restore of this image into a collector started fresh, with which the history goes on;
-    /// the number says nothing.
+    /// The restore of this image into a collector started fresh, with which the history continues;
+    /// the number has no effect.
     fn restore(&mut self, image: &[u8], number: u8) -> u8;
-    /// The restore of an image that the input gives; where it is accepted, what it says is gone
-    /// on with.
+    /// The restore of an image in the input; if it is accepted, the history continues from it.
     fn restore_given(&mut self, image: &[u8]) -> u8;
     /// A burst: its number, and the second list after it.
     fn burst(&mut self, burst: &Burst, places: &mut [Place]) -> u8
@@ -101,8 +100,8 @@ impl Model for Clerk {
         self.entries()
     }
 
-    /// The clerk stays as he was: he is fed the receptions and nothing else. The number is that
-    /// of the conditions of a reload.
+    /// The clerk is unchanged: it is fed the receptions and nothing else. The number is that of the
+    /// conditions of a reload.
     fn restore(&mut self, image: &[u8], _number: u8) -> u8 {
         restore_number(image)
     }
@@ -128,7 +127,8 @@ fn park(model: &impl Model, n: usize) -> (u8, Vec<u8>) {
     (0, output)
 }
 
-/// A figure of all the bytes, in their order: 31 times the one before it, plus the byte, kept to 32 bits.
+/// A number made of all the bytes, in order: for each byte, 31 times the number so far, plus the
+/// byte, in 32 bits.
 fn digest(bytes: &[u8]) -> u32 {
     bytes.iter().fold(0, |h: u32, b| {
         h.wrapping_mul(31).wrapping_add(u32::from(*b))
@@ -206,7 +206,7 @@ pub fn show(calls: &[Call], model: &mut impl Model) -> String {
     out
 }
 
-/// The records of a call: one, and for bytes that are given and for a burst those that hold them.
+/// The records of a call: one, and for given bytes and for a burst those that hold them.
 fn records(call: &Call) -> Vec<[u8; 64]> {
     let mut all = vec![record(call)];
     match call {

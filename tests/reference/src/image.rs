@@ -77,9 +77,9 @@ pub struct Reloaded {
     pub entries: Vec<Entry>,
 }
 
-/// Reload: the numbers and entries are taken from where the layout has them; what they would
-/// be written as has to be the image itself, byte for byte, which covers the layout and the
-/// checks; then come the conditions of the paper.
+/// Reload: the numbers and entries are read from their positions in the layout. Written again, they
+/// must give the image byte for byte, which covers the layout and the checks. Then come the
+/// conditions of the paper.
 pub fn reload(image: &[u8]) -> Result<Reloaded, Refusal> {
     accept(image).ok_or(NOT_ACCEPTED)
 }
@@ -120,7 +120,7 @@ fn accept(image: &[u8]) -> Option<Reloaded> {
         late: first(3),
     };
     let latest = first(0);
-    // "an older image with 1 or 2 there is accepted" (document 02, A7), and nothing is said of it
+    // "an older image with 1 or 2 there is accepted" (document 02, A7), and the setting is not used
     if second(3) > 2 {
         return None;
     }
@@ -218,8 +218,8 @@ mod tests {
         assert!(reload(&image).is_ok());
     }
 
-    /// An image of before, with the setting in its place, says what one with zero there says, and
-    /// what is parked after it has zero there.
+    /// An older image, with the setting in its place, gives the same state as one with zero there;
+    /// a checkpoint after it has zero there.
     #[test]
     fn an_older_image_is_accepted() {
         let clerk = full_clerk();
@@ -246,7 +246,7 @@ mod tests {
             for bit in 0..8 {
                 let mut spoiled = image.clone();
                 spoiled[k] ^= 1 << bit;
-                // By the block's CRC alone, and by the whole of reload.
+                // By the CRC of the block alone, and by the whole reload.
                 let block = &spoiled[k / 512 * 512..][..512];
                 assert_ne!(block[511], crc(&block[..511]));
                 assert_eq!(reload(&spoiled), Err(11));
@@ -348,7 +348,8 @@ mod tests {
         assert!(!good(60, &wrapping, 0, &[a, b]));
     }
 
-    /// Document 02, A8: "any value there accepted on reload", in each entry, and it is written again.
+    /// Document 02, A8: "any value there accepted on reload", in each entry, and it is written
+    /// again.
     #[test]
     fn every_number_of_copies_is_accepted() {
         let clerk = full_clerk();

@@ -1,6 +1,6 @@
-//! Inputs of `collect` (document 01, "Cases", the program's text), a file each in the data of the
-//! crate collect_runs: first lines and last lines, lines of every BAD kind beside right ones,
-//! lines longer than any chunk, garbage, the sample, and a long random run.
+//! Inputs of `collect` (document 01, "Cases", the program's text), each a file in the data of the
+//! crate collect_runs: first lines and last lines, lines of every BAD kind among right ones, lines
+//! longer than any chunk, garbage, the sample, and a long random run.
 
 use crate::collect;
 use crate::hex::hex;
@@ -11,8 +11,8 @@ use crate::telegrams::{at_level, hashed, random_kind, valid, with_bit};
 
 /// A right telegram of document 01.
 const TELEGRAM: &str = "D5090102030400E8";
-/// Where long lines and garbage end: programs read in chunks, and most chunks are a power of
-/// two not above this.
+/// Where long lines and garbage end: programs read in chunks, and the length of most chunks is a
+/// power of two up to this.
 const BLOCK: usize = 65_536;
 
 pub const NAMES: [&str; 9] = [
@@ -51,8 +51,8 @@ pub fn stdout() -> String {
         .collect()
 }
 
-/// Lines, each with the row that it gets at setting 2. `%` stands for the right telegram.
-/// Only the rows for 1000, 1101 and the last time open anything.
+/// Lines, each with the row that it gets at setting 2. `%` means the right telegram. Only the rows
+/// for 1000, 1101 and the last time open anything.
 const LINES: &[(&str, &str)] = &[
     // Nothing, or no space.
     ("", "BAD"),
@@ -75,7 +75,7 @@ const LINES: &[(&str, &str)] = &[
     ("1001 d5090102030400e8", "1001 COPY"),
     ("1002 d5090102030401E9", "1002 COPY"),
     ("1002 aABbcCDdeEFf", "1002 REFUSED 1"),
-    // Times that are none.
+    // Wrong times.
     ("01003 %", "BAD"),
     ("-1 %", "BAD"),
     ("+1003 %", "BAD"),
@@ -108,7 +108,7 @@ const LINES: &[(&str, &str)] = &[
     ("1003\0%", "BAD"),
     ("1003 \0%", "BAD"),
     ("1003 D509\0\0", "BAD"),
-    // Digits that are none, and an odd number of them.
+    // Characters that are not digits, and an odd number of digits.
     ("1003 D", "BAD"),
     ("1003 %0", "BAD"),
     ("1003 D5090102030400E", "BAD"),
@@ -152,7 +152,7 @@ const LINES: &[(&str, &str)] = &[
     ("0 %", "0 REFUSED 7"),
 ];
 
-/// Times, and how many digits go with them, with the row.
+/// Times, and how many digits follow them, with the row.
 const LENGTHS: &[(&str, usize, &str)] = &[
     ("0", 126, "0 REFUSED 1"),
     ("0", 128, "0 REFUSED 1"),
@@ -183,14 +183,14 @@ fn bad_lines() -> Vec<u8> {
     text
 }
 
-/// Goes on with the pattern up to the end of block number `blocks`.
+/// Repeats the pattern up to the end of block number `blocks`.
 fn fill(text: &mut Vec<u8>, pattern: &[u8], blocks: usize) {
     let n = blocks * BLOCK - text.len();
     text.extend(pattern.iter().cycle().take(n));
 }
 
-/// Two lines of about 200 KB and a last one of more than 1.2 MB without a newline, right ones
-/// between them. A long line goes on past the end of a block by what would be a right line.
+/// Two lines of about 200 KB and a last one of more than 1.2 MB without a newline, with right ones
+/// between them. After the end of a block, a long line continues with what would be a right line.
 fn long_lines() -> Vec<u8> {
     let mut text = format!("level 2\n1000 {TELEGRAM}\n1001 ").into_bytes();
     fill(&mut text, b"D5", 3);
@@ -227,8 +227,8 @@ fn garbage_first() -> Vec<u8> {
     text
 }
 
-/// One that the check refuses, nearly always: cut short, run together, one bit wrong, or
-/// addressed inside addressed, at any length and with a wrong HASH too.
+/// A telegram that the check nearly always refuses: cut short, joined with another, one bit wrong,
+/// or addressed inside addressed, of any length, and with a wrong HASH too.
 fn damaged(random: &mut Random, bytes: &[u8]) -> Vec<u8> {
     match random.below(4) {
         0 => bytes[..random.range(0, bytes.len() - 1)].to_vec(),
@@ -248,8 +248,8 @@ fn damaged(random: &mut Random, bytes: &[u8]) -> Vec<u8> {
     }
 }
 
-/// Another telegram, nearly always: one bit apart, the upper ones of STATUS too, or longer by
-/// a zero before STATUS.
+/// Nearly always another telegram: one bit different, also one of the upper ones of STATUS, or
+/// longer by a zero before STATUS.
 fn near(random: &mut Random, bytes: &[u8]) -> Vec<u8> {
     let status = bytes.len() - 2;
     match random.below(4) {
@@ -264,8 +264,8 @@ fn near(random: &mut Random, bytes: &[u8]) -> Vec<u8> {
     }
 }
 
-/// With one character put in, taken out or exchanged: BAD, or another right line, which is
-/// not later, since it would make all that follow it late.
+/// With one character inserted, removed or exchanged: BAD, or another right line, which must not be
+/// later, because all lines after it would then be late.
 fn edited(random: &mut Random, line: &str) -> Vec<u8> {
     let mut line = line.as_bytes().to_vec();
     let at = random.below(line.len());
@@ -316,18 +316,18 @@ fn random_line(random: &mut Random, pool: &[Vec<u8>], now: u64) -> Vec<u8> {
     }
 }
 
-/// How many ms pass between two lines: crowded to sparse.
+/// How many ms are between two lines: from crowded to sparse.
 const GAPS: [&[u64]; 4] = [
     &[0, 0, 0, 1],
     &[0, 1, 1, 2, 5],
     &[0, 3, 10, 20, 40, 60],
     &[1, 20, 99, 100, 101, 102, 250],
 ];
-/// How many telegrams are around.
+/// How many different telegrams there are.
 const POOLS: [usize; 5] = [130, 3, 300, 12, 70];
 
-/// 60 stretches of 500 lines: each of the gaps with each of the pools three times; the last
-/// one goes up to the greatest time.
+/// 60 parts of 500 lines: each of the gaps with each of the pools three times; the last one reaches
+/// the greatest time.
 fn random() -> Vec<u8> {
     let mut random = Random::new(0x7261_6E64_6F6D_0001);
     let mut text = b"level 2\n".to_vec();
@@ -383,7 +383,7 @@ mod tests {
         );
     }
 
-    /// The rows written by hand beside the lines are those that are printed.
+    /// The rows written by hand next to the lines are those that are printed.
     #[test]
     fn rows_of_bad_lines() {
         let mut rows: Vec<&str> = LINES.iter().map(|&(_, row)| row).collect();

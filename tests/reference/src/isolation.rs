@@ -1,5 +1,5 @@
-//! One noisy sensor does not touch another's rows (document 02, A13): the statement, run over histories
-//! that fulfil its premises, and over some that break one and must differ.
+//! One noisy sensor does not touch another's rows (document 02, A13): the statement, run over
+//! histories that fulfil its premises, and over some that break one and must differ.
 
 use crate::bursts;
 use crate::clerk::{Answer, Clerk, PLACES};
@@ -21,14 +21,14 @@ fn transmitter(bytes: &[u8]) -> Option<Transmitter> {
 
 /// What is seen of X: the answer to a valid reception of X, and, asked directly after it, each open
 /// telegram of X in opening order, as it was first received and when, with its copies. Places are
-/// excluded.
+/// not compared.
 #[derive(Debug, PartialEq)]
 struct Seen {
     answer: Answer,
     open: Vec<(u64, Vec<u8>, u16)>,
 }
 
-/// What a model shows of X, put through the receptions from a fresh start.
+/// What a model shows of X for the receptions, from a fresh start.
 fn seen_of(x: Transmitter, receptions: &[Reception], model: &mut impl Model) -> Vec<Seen> {
     model.start(0);
     let mut seen = Vec::new();
@@ -42,7 +42,7 @@ fn seen_of(x: Transmitter, receptions: &[Reception], model: &mut impl Model) -> 
     seen
 }
 
-/// The open telegrams of X, each with the copies that the ask at its place says.
+/// The open telegrams of X, each with the copies that the question for its place gives.
 fn open_of(x: Transmitter, model: &mut impl Model) -> Vec<(u64, Vec<u8>, u16)> {
     let mut open = Vec::new();
     for (place, entry) in model.opened().into_iter().enumerate() {
@@ -84,8 +84,8 @@ fn is_crowded(receptions: &[Reception]) -> bool {
     answers.any(|answer| answer == Answer::Loose)
 }
 
-/// The receptions that a history's calls stand for, up to an image accepted from elsewhere, which
-/// belongs to no history. "A refused burst stands for no reception."
+/// The receptions of a history's calls, up to an image accepted from elsewhere, which belongs to no
+/// history. "A refused burst stands for no reception."
 fn receptions_of(history: &[Call]) -> Vec<Reception> {
     let mut all = Vec::new();
     for call in history {
@@ -120,8 +120,8 @@ fn quietened(receptions: &[Reception]) -> Vec<Reception> {
     quiet
 }
 
-/// Few transmitters, each with telegrams that are near one another's: the same data from two of them,
-/// plain and addressed, one bit apart; one of them chatters.
+/// Few transmitters, each with telegrams that are near those of the others: the same data from two
+/// of them, plain and addressed, one bit different; one of them chatters.
 fn noisy(random: &mut Random) -> Vec<Reception> {
     let pool = neighbours(random);
     let chatterer = pool[random.below(pool.len())].clone();
@@ -193,7 +193,7 @@ fn compare(receptions: &[Reception], figures: &mut Figures) {
     }
 }
 
-/// The stored histories that fulfil the premises, as they stand; the rest without what breaks one.
+/// The stored histories that fulfil the premises, unchanged; the others without what breaks one.
 #[test]
 fn stored_histories_are_isolated() {
     let (mut whole, mut quiet) = (Figures::default(), Figures::default());
@@ -210,7 +210,7 @@ fn stored_histories_are_isolated() {
     assert!(quiet.histories >= 40 && quiet.answers >= 2_000, "{quiet:?}");
 }
 
-/// Transmitters that send one another's data, a button among them that chatters.
+/// Transmitters that send the data of the others, with a button among them that chatters.
 #[test]
 fn noisy_histories_are_isolated() {
     let mut random = Random::new(0x4131_334D_6F6F_7269);
@@ -241,7 +241,7 @@ fn telegram(transmitter: Transmitter, data: u8) -> Vec<u8> {
     })
 }
 
-/// So many others at one moment.
+/// This many others at one time.
 fn crowd(time: u64, n: usize) -> Vec<Reception> {
     let other = |i: usize| (time, telegram([0, 0, 0, i as u8], 0x09));
     (0..n).map(other).collect()
@@ -257,7 +257,7 @@ fn a_crowd_breaks_it() {
         assert_eq!(is_quiet(&receptions), fits);
         assert_eq!(isolated(x, &receptions, &mut Clerk::new()), fits);
     }
-    // The gate's second event is LOOSE, and a copy of it would have been counted for it.
+    // The gate's second event is LOOSE; otherwise a copy of it would have been counted for it.
     let mut receptions = vec![(1_000, gate())];
     receptions.extend(crowd(1_000, PLACES - 1));
     receptions.extend([(1_041, gate()), (1_042, at_level(&gate(), 1))]);
@@ -265,7 +265,7 @@ fn a_crowd_breaks_it() {
     assert!(!isolated(x, &receptions, &mut Clerk::new()));
 }
 
-/// Another's clock that is ahead makes the gate late; at an equal time it does not.
+/// If another's clock is ahead, the gate is late; at an equal time it is not.
 #[test]
 fn a_clock_that_goes_back_breaks_it() {
     let x = transmitter(&gate()).unwrap();
@@ -275,7 +275,7 @@ fn a_clock_that_goes_back_breaks_it() {
         assert_eq!(is_quiet(&receptions), fits);
         assert_eq!(isolated(x, &receptions, &mut Clerk::new()), fits);
     }
-    // The gate is heard again in the past of another: no COPY, and one fewer counted.
+    // The gate is received again in the past of another: no COPY, and one fewer is counted.
     let receptions = [(990, gate()), (1_000, other), (999, at_level(&gate(), 1))];
     assert!(!is_quiet(&receptions));
     assert!(!isolated(x, &receptions, &mut Clerk::new()));
@@ -298,7 +298,8 @@ fn asked_later_it_differs() {
     assert_eq!(open_after(&struck(x, &receptions)), 1);
 }
 
-/// Wrong collectors that one transmitter's noise reaches another's rows in: some history shows each.
+/// Wrong collectors, in which the noise of one transmitter reaches another's rows: some history
+/// shows each.
 #[test]
 fn faults_of_isolation_are_seen() {
     let shown = |fault: &'static str| {

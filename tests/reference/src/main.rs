@@ -1,4 +1,4 @@
-//! The second program: what Mooringeye's test programs must read and print, from the papers
+//! The second program: what Mooringeye's test programs must read and print, written from the papers
 //! alone. README.md says how it is run.
 
 mod archive;

@@ -1,4 +1,4 @@
-//! A fixed-seed generator (splitmix64), so that no run differs from another.
+//! A fixed-seed generator (splitmix64), so all runs are equal.
 
 pub struct Random {
     state: u64,

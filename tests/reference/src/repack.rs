@@ -1,5 +1,5 @@
-//! Salvage of a damaged archive (document 02, A9), the removal of sensors that left (A11) and rows
-//! taken back, over lists of rows: what stays is written as a new archive.
+//! Salvage of a damaged archive (document 02, A9), the removal of sensors that left (A11) and cuts,
+//! over lists of rows: what stays is written as a new archive.
 
 use crate::archive::{identity, is_whole, read, room, rows_of, Row, BLOCK, ROWS, SIZE};
 use crate::subtelegram::{Refusal, OUTPUT_SHORT, OUT_OF_RANGE};
@@ -7,8 +7,8 @@ use crate::subtelegram::{Refusal, OUTPUT_SHORT, OUT_OF_RANGE};
 /// What salvage answers, with 0: the positions dropped and how many rows remain.
 pub type Salvaged = (Vec<u64>, usize);
 
-/// "Keeps every block whose layout, rows and check are right apart from its number", wherever it
-/// stands; an all-zero block is not counted.
+/// "Keeps every block whose layout, rows and check are right apart from its number", at any
+/// position; an all-zero block is not counted.
 fn sorted(room: &[u8]) -> (Vec<u64>, Vec<Row>) {
     let (mut dropped, mut rows) = (Vec::new(), Vec::new());
     for (k, block) in room.chunks(BLOCK).enumerate() {
@@ -50,7 +50,7 @@ pub fn remove(from: &mut Vec<u8>, identities: &[u32]) -> Result<usize, (Refusal,
     Ok(before - rows.len().div_ceil(ROWS))
 }
 
-/// Leaves the first rows of an archive, which must have so many.
+/// Keeps the first rows of an archive, which must have that many.
 pub fn cut(from: &mut Vec<u8>, first: u64) -> Result<(), (Refusal, usize)> {
     let mut rows = read(from)?;
     if (rows.len() as u64) < first {

@@ -1,5 +1,5 @@
-//! Calls of salvage, of removal and of a cut, and what is shown of each (document 02, A9 and A11), on the room of archive_calls. The records and the
-//! lines are in README.md.
+//! Calls of salvage, of removal and of a cut, and what is shown for each (document 02, A9 and A11),
+//! on the room of archive_calls. The records and the lines are in README.md.
 
 use crate::archive::{block, room, seal, Row, BLOCK, ROWS};
 use crate::archive_calls::{put_block, random_row, random_rows, Call, MOST};
@@ -17,14 +17,14 @@ pub enum Repack {
     List,
     /// The rows of these transmitters removed.
     Remove(Vec<u32>),
-    /// So many rows left.
+    /// A cut that keeps this many rows.
     Cut(u64),
 }
 
-/// The most identities of a record.
+/// The largest number of identities in a record.
 const MOST_LISTED: usize = 70;
 
-/// What the calls are put to: the rules here, others in the tests.
+/// What answers the calls: the rules here, others in the tests.
 pub trait Repacker {
     fn salvage(&self, room: &[u8], out: &mut [u8], list: &mut [u64]) -> Result<Salvaged, Refusal>;
     /// How many blocks are no longer needed.
@@ -142,7 +142,7 @@ pub fn calls(calls: &mut Vec<Call>) {
     cut_damaged(calls);
 }
 
-/// What is asked of a salvage into this output and list: all that was written.
+/// The calls after a salvage into this output and list: all that was written.
 fn salvages(calls: &mut Vec<Call>, end: usize, len: usize) {
     calls.push(Call::Repack(Repack::Salvage(end as u32, len as u32)));
     let blocks = (end / BLOCK) as u32 + 1;
@@ -181,8 +181,8 @@ fn salvage_lengths(calls: &mut Vec<Call>) {
     calls.push(Call::Open);
 }
 
-/// Short blocks, blocks behind an all-zero one, other numbers and two of the same number; an
-/// intact archive, and what salvage wrote, salvaged again.
+/// Short blocks, blocks after an all-zero one, other numbers and two of the same number; an intact
+/// archive, and what salvage wrote, salvaged again.
 fn salvage_blocks(calls: &mut Vec<Call>) {
     let mut random = Random::new(32);
     for counts in [
@@ -254,7 +254,7 @@ fn salvage_changed(calls: &mut Vec<Call>) {
 
 // Removal.
 
-/// Transmitters of the rows; the last one only ever is a DESTID.
+/// Transmitters of the rows; the last one is only ever a DESTID.
 const SENDERS: [u32; 5] = [0, 1, 0x0102_0304, 0x0403_0201, u32::MAX];
 const DESTID: u32 = 0x0505_0505;
 
@@ -308,7 +308,7 @@ fn remove_lengths(calls: &mut Vec<Call>) {
     }
 }
 
-/// Rows at an edge, with the blocks of their room: as many as they need, or one more.
+/// Numbers of rows at a limit, with the blocks of their room: as many as they need, or one more.
 const ROWS_AND_BLOCKS: [(usize, usize); 8] = [
     (0, 1),
     (1, 1),
@@ -320,7 +320,7 @@ const ROWS_AND_BLOCKS: [(usize, usize); 8] = [
     (45, 3),
 ];
 
-/// Archives of every number of rows at an edge, with room behind them and without: none, some and
+/// Archives of every number of rows at a limit, with room after them and without: none, some and
 /// all rows removed, twice each, and then appended to until 6.
 fn remove_rows(calls: &mut Vec<Call>) {
     let mut random = Random::new(34);
@@ -341,7 +341,7 @@ fn remove_rows(calls: &mut Vec<Call>) {
             calls.push(Call::Repack(Repack::Remove(list.to_vec())));
             calls.extend((0..blocks as u32).map(Call::Block));
         }
-        // Of four senders one is left: the freed blocks are used again.
+        // One of four senders is left: the freed blocks are used again.
         put_rows(calls, blocks, &rows);
         removes(calls, blocks, &SENDERS[1..]);
         for _ in 0..=ROWS * blocks {
@@ -351,8 +351,8 @@ fn remove_rows(calls: &mut Vec<Call>) {
     }
 }
 
-/// Whole blocks of one sender, first, in the middle and last, and rows that leave in turn; lists of
-/// 32, in which the last one counts.
+/// Whole blocks of one sender, first, in the middle and last, and rows removed in turn; lists of
+/// 32, of which the last one counts.
 fn remove_blocks(calls: &mut Vec<Call>) {
     let mut random = Random::new(35);
     let senders = |k: usize, i: usize| [k as u32, (i % 2) as u32, (i % 15) as u32];
@@ -375,7 +375,8 @@ fn remove_blocks(calls: &mut Vec<Call>) {
     }
 }
 
-/// A damaged archive and too many identities: 12 first; bytes of rooms that are refused stay.
+/// A damaged archive and too many identities: 12 comes first; the bytes of refused rooms are
+/// unchanged.
 fn remove_damaged(calls: &mut Vec<Call>) {
     let mut random = Random::new(36);
     let rows = rows_of_senders(&mut random, 20);
@@ -390,7 +391,7 @@ fn remove_damaged(calls: &mut Vec<Call>) {
     removes(calls, 3, &[SENDERS[0]; 32]);
 }
 
-// Rows taken back.
+// Cuts.
 
 /// A cut, and all that it leaves.
 fn cuts(calls: &mut Vec<Call>, blocks: usize, rows: u64) {
@@ -410,8 +411,8 @@ fn cut_lengths(calls: &mut Vec<Call>) {
     }
 }
 
-/// Archives of every number of rows at an edge, with room behind them and without: cut at every row
-/// at an edge, twice each, and the rows that were taken back appended again where they are few.
+/// Archives of every number of rows at a limit, with room after them and without: cut at every row
+/// at a limit, twice each; if only few rows were cut off, they are appended again.
 fn cut_rows(calls: &mut Vec<Call>) {
     let mut random = Random::new(37);
     for (n, blocks) in ROWS_AND_BLOCKS {
@@ -428,7 +429,7 @@ fn cut_rows(calls: &mut Vec<Call>) {
                 calls.extend((0..blocks as u32).map(Call::Block));
             }
         }
-        // One row after the other is taken back, and then another one appended.
+        // One row after the other is cut off, and then another one appended.
         put_rows(calls, blocks, &rows);
         for left in (0..n as u64).rev() {
             calls.push(Call::Repack(Repack::Cut(left)));
@@ -438,7 +439,7 @@ fn cut_rows(calls: &mut Vec<Call>) {
     }
 }
 
-/// A damaged archive and too many rows: 12 first; bytes of rooms that are refused stay.
+/// A damaged archive and too many rows: 12 comes first; the bytes of refused rooms are unchanged.
 fn cut_damaged(calls: &mut Vec<Call>) {
     let mut random = Random::new(38);
     let rows = random_rows(&mut random, 20);

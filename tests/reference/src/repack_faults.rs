@@ -1,6 +1,6 @@
 //! What the calls of salvage, of removal and of a cut must show: everything that can occur, and the
-//! faults a program could have. Each fault is put into a program of its own, which copies cells and
-//! changes blocks in place, and its lines must differ from the rules'.
+//! faults that a program could have. Each fault is put into a program of its own, which copies
+//! cells and changes blocks in place. Its lines must differ from those of the rules.
 
 use crate::archive::{is_whole, read, rows_of, seal, BLOCK, ROWS, SIZE};
 use crate::archive_calls::{self, calls, show, stdout};
@@ -38,7 +38,7 @@ impl Cells {
         !spared && !self.is_kept(k, block)
     }
 
-    /// Blocks of so many cells, as the source has them.
+    /// Blocks of n cells each, with the numbers of the source.
     fn pack(&self, cells: &[[u8; 32]], n: usize, numbers: &[[u8; 4]]) -> Vec<u8> {
         let mut out = Vec::new();
         let full = if self.has("14 rows are full") {

@@ -1,5 +1,4 @@
-//! The repeater step (document 01, "Repeater step"), and the call that asks for it (document 02,
-//! A7).
+//! The repeater step (document 01, "Repeater step"), and the call for it (document 02, A7).
 
 use crate::clerk::Answer;
 use crate::subtelegram::{check, level, renew_hash, Refusal, OUT_OF_RANGE};
@@ -20,7 +19,7 @@ pub fn repeat(setting: u8, bytes: &[u8]) -> Option<Vec<u8>> {
     if !repeated {
         return None;
     }
-    // The level raised by one and HASH; nothing else differs.
+    // The level is raised by one, and HASH changes; nothing else differs.
     let mut sent = bytes.to_vec();
     let status = sent.len() - 2;
     sent[status] += 1;
@@ -41,7 +40,7 @@ pub fn ask(setting: u8, bytes: &[u8]) -> Result<Option<Vec<u8>>, Refusal> {
     Ok(repeat(setting, bytes))
 }
 
-/// "Only KEPT is ever repeated": what the caller then has of a reception with this answer.
+/// "Only KEPT is ever repeated": what the caller sends for a reception with this answer.
 pub fn sent_for(setting: u8, answer: Answer, bytes: &[u8]) -> Vec<u8> {
     match answer {
         Answer::Kept => ask(setting, bytes).ok().flatten().unwrap_or_default(),

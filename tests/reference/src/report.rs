@@ -1,4 +1,4 @@
-//! The yearly sheet (document 02, A12): rows are kept in groups by transmitter, and a sheet
+//! The yearly sheet (document 02, A12): rows are kept in groups by transmitter, and a sheet that is
 //! handed in is judged by what archives could give.
 
 use crate::archive::{identity, read, Row};
@@ -9,10 +9,10 @@ pub const TRANSMITTERS: Refusal = 17;
 
 pub const ARCHIVES: u64 = 64;
 pub const LINES: usize = 256;
-/// The most rows of one archive: 2^32 blocks of 15.
+/// The largest number of rows in one archive: 2^32 blocks of 15.
 pub const ROWS: u128 = 15 << 32;
 
-/// What a sheet says of one transmitter.
+/// The line of one transmitter.
 #[derive(Debug, Clone, Copy, PartialEq, Default)]
 pub struct Line {
     pub identity: u64,
@@ -34,8 +34,8 @@ fn rows(line: &Line) -> u128 {
     u128::from(line.kept) + u128::from(line.loose)
 }
 
-/// Rows that give just this line: one at the earliest and one at the latest time at least, if
-/// there are two.
+/// Whether rows can give exactly this line: if there are two or more, at least one at the earliest
+/// and one at the latest time.
 fn could_be(line: &Line) -> bool {
     let times = line.earliest <= line.latest;
     let one = line.earliest == line.latest;
@@ -57,7 +57,7 @@ pub fn is_given(sheet: &Sheet) -> bool {
         && total <= ROWS * u128::from(sheet.archives)
 }
 
-/// The lines of a sheet with these rows beside them, grouped by transmitter.
+/// The lines of a sheet with these rows added, grouped by transmitter.
 fn grouped(lines: &[Line], rows: &[Row]) -> Vec<Line> {
     let mut groups: BTreeMap<u64, Vec<Line>> = BTreeMap::new();
     for line in lines {
@@ -83,7 +83,7 @@ fn grouped(lines: &[Line], rows: &[Row]) -> Vec<Line> {
     groups.into_iter().map(line).collect()
 }
 
-/// One archive more; a refused one adds nothing.
+/// Adds one more archive; a refused one adds nothing.
 pub fn add(sheet: &mut Sheet, room: &[u8]) -> Result<(), (Refusal, usize)> {
     if !is_given(sheet) {
         return Err((NOT_ACCEPTED, 0));

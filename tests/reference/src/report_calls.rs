@@ -10,9 +10,9 @@ use std::fmt::Write;
 
 #[derive(Debug, Clone, PartialEq)]
 pub enum Call {
-    /// A room of so many zero bytes.
+    /// A room of this many zero bytes.
     New(u32),
-    /// Bytes stored in the room from this place on.
+    /// Bytes are stored in the room from this position on.
     Put(u32, Vec<u8>),
     /// An empty sheet.
     Report,
@@ -20,11 +20,11 @@ pub enum Call {
     Add,
     Line(u64),
     Share(u64),
-    /// A field of the sheet overwritten: its number, an index, the value.
+    /// A field of the sheet is overwritten: its number, an index, the value.
     Spoil(u8, u16, u64),
 }
 
-/// What the calls are put to: the rules here, others in the tests.
+/// What answers the calls: the rules here, others in the tests.
 pub trait Sheets {
     fn add(&self, sheet: &mut Sheet, room: &[u8]) -> Result<(), (Refusal, usize)>;
     fn line(&self, sheet: &Sheet, i: u64) -> Result<Line, Refusal>;
@@ -50,8 +50,8 @@ impl Sheets for Rules {
 
 const NUMBERS: usize = 5 * LINES;
 
-/// A sheet as the test program holds it: what stands past its lines stays there, so that
-/// a spoiled count shows it.
+/// A sheet as the test program holds it: the numbers after its lines stay there, so a wrong count
+/// shows them.
 struct Held {
     archives: u64,
     count: u64,
@@ -71,7 +71,7 @@ impl Held {
         }
     }
 
-    /// A count over 256 shows as lines of zeros past the array, which no sheet has.
+    /// A count over 256 gives lines of zeros after the array, which no sheet has.
     fn sheet(&self) -> Sheet {
         let count = self.count.min(LINES as u64 + 1) as usize;
         let mut numbers = self.numbers.clone();
@@ -234,7 +234,7 @@ fn row(identity: u32, time: u64, loose: bool) -> Row {
     Row { bytes, time, loose }
 }
 
-/// An addressed one: its DESTID is no transmitter.
+/// An addressed one: its DESTID is not a transmitter.
 fn addressed_row(identity: u32, time: u64, loose: bool) -> Row {
     let mut bytes = vec![
         0xA6, 0xD5, 0x09, 0xF1, 0xF2, 0xF3, 0xF4, 0, 0, 0, 0, 0x80, 0,
@@ -244,7 +244,7 @@ fn addressed_row(identity: u32, time: u64, loose: bool) -> Row {
     Row { bytes, time, loose }
 }
 
-/// A room with these rows and some blocks more.
+/// A room with these rows and some more blocks.
 fn put_room(calls: &mut Vec<Call>, rows: &[Row], more: usize) {
     let n = BLOCK * (rows.len().div_ceil(ROWS) + more);
     calls.push(Call::New(n as u32));
@@ -314,7 +314,7 @@ fn many_transmitters(calls: &mut Vec<Call>) {
     }
 }
 
-/// Rooms that are no archive, and the order of the refusals.
+/// Rooms that are not archives, and the order of the refusals.
 fn refused_rooms(calls: &mut Vec<Call>) {
     calls.push(Call::Report);
     put_room(calls, &[row(7, 100, false)], 2);
@@ -358,7 +358,7 @@ fn asked(calls: &mut Vec<Call>) {
     calls.extend([Call::Add, Call::Line(0), Call::Share(u64::MAX)]);
 }
 
-/// Sheets at the edge of what archives could give, and one past it.
+/// Sheets at the limit of what archives could give, and one past it.
 fn edges(calls: &mut Vec<Call>) {
     const FULL: u64 = 15 << 32;
     calls.push(Call::New(512));
@@ -390,7 +390,7 @@ fn edges(calls: &mut Vec<Call>) {
         sheet(calls, archives, line);
         asked(calls);
     }
-    // An identity of 33 bits, totals that are no sums, lines out of order and twice, too many.
+    // An identity of 33 bits, totals that are not the sums, lines out of order and twice, too many.
     for (field, index, value) in [
         (4, 0, 1 << 32),
         (2, 0, 2),

@@ -11,21 +11,21 @@ enum Fault {
     LooseLeftOut,
     /// The share rounded to the nearest.
     Rounded,
-    /// A received figure of as many as the rows refused.
+    /// Refuses a number received that equals the number of rows.
     AsManyRefused,
-    /// A received figure of 0 taken as a share of 0.
+    /// Takes a number received of 0 as a share of 0.
     NoneReceived,
     /// One row with two times accepted.
     TwoTimes,
-    /// As many rows as 64 archives hold accepted of fewer.
+    /// Accepts for fewer archives as many rows as 64 archives hold.
     RowsOf64,
     /// A 65th archive accepted.
     Archive65,
-    /// A 257th transmitter dropped and the archive taken.
+    /// Drops a 257th transmitter and takes the archive.
     Dropped,
-    /// 10 tested before the archive is looked at.
+    /// Tests 10 before the archive is read.
     CountFirst,
-    /// The earliest time of the last archive.
+    /// Has the earliest time of the last archive only.
     LastEarliest,
     /// KEPT and LOOSE changed for each other.
     Exchanged,
@@ -52,7 +52,7 @@ const FAULTS: [Fault; 12] = [
 
 struct Wrong(Fault);
 
-/// The identities of a sheet whose addressed rows were told apart by DESTID.
+/// The identities of a sheet that uses DESTID for addressed rows.
 fn by_destid(rows: &[Row]) -> Vec<u64> {
     let identity = |row: &Row| match row.bytes[0] {
         0xA6 => u32::from_be_bytes(row.bytes[3..7].try_into().unwrap()).into(),

@@ -1,4 +1,5 @@
-//! The rows of a run as CSV and as JSON lines, and what each telegram was heard when it closes (docs/FORMATS.md, "Text of mooringeye").
+//! The rows of a run as CSV and as JSON lines, and how often each telegram was received when it
+//! closes (docs/FORMATS.md, "Text of mooringeye").
 
 use crate::clerk::{Answer, Clerk, CEILING, OPEN_FOR};
 use crate::collect::{reception, setting};
@@ -7,7 +8,7 @@ use crate::image::{write_entry, Entry};
 use crate::repeater::sent_for;
 use crate::subtelegram::{level, read};
 
-/// What a row says of a line; nothing but `answer` of one that is BAD.
+/// The values in the row of a line; only `answer` for a BAD line.
 #[derive(Default)]
 struct Row {
     time: Option<u64>,
@@ -81,7 +82,7 @@ fn json(row: &Row) -> String {
     format!("{{{}}}", members.join(","))
 }
 
-/// The lines of an input behind its first one, which says the setting.
+/// The lines of an input after its first one, which has the setting.
 fn lines(input: &[u8]) -> Option<(u8, impl Iterator<Item = &[u8]>)> {
     let text = input.strip_suffix(b"\n").unwrap_or(input);
     let mut lines = text.split(|&c| c == b'\n');

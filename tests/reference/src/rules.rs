@@ -1,18 +1,18 @@
-//! Slot plans under three timing rules (document 02, A10), by plain enumeration.
+//! Slot plans under three timing rules (document 02, A10): all plans are listed.
 
 use crate::slots::candidates;
 use crate::subtelegram::{Refusal, NO_PLAN, OUT_OF_RANGE};
 use std::fmt::Write;
 
-/// A rule at a level sent, for a number of transmissions that may be asked for.
+/// A rule at the level that is sent, for a number of transmissions that may be requested.
 #[derive(Clone)]
 pub struct Row {
     pub rule: u8,
     pub level: u8,
     pub number: u8,
-    /// First and last slot of each transmission; none where the level is not used.
+    /// First and last slot of each transmission; none if the level is not used.
     ranges: Vec<(u64, u64)>,
-    /// The smallest pause after the first and after the second transmission, in microseconds.
+    /// The shortest pause after the first and after the second transmission, in microseconds.
     pauses: [u64; 2],
     /// When the last transmission must have ended, in microseconds.
     last_end: u64,
@@ -81,7 +81,7 @@ impl Row {
     }
 }
 
-/// What a caller asks for: rule, level, number of transmissions, duration and draw.
+/// What a caller requests: rule, level, number of transmissions, duration and draw.
 type Call = (u8, u8, u8, u32, u64);
 
 fn find(table: &[Row], rule: u8, level: u8, number: u8) -> Option<&Row> {
@@ -90,7 +90,8 @@ fn find(table: &[Row], rule: u8, level: u8, number: u8) -> Option<&Row> {
         .find(|row| (row.rule, row.level, row.number) == (rule, level, number))
 }
 
-/// The plan of a draw; several refusals at once: 10, 9. No third reads 255.
+/// The plan of a draw; if several refusals fit: 10, then 9. Without a third transmission the third
+/// slot is 255.
 fn plan(table: &[Row], (rule, level, number, duration, draw): Call) -> Result<[u64; 3], Refusal> {
     if !(1..=65_535).contains(&duration) {
         return Err(OUT_OF_RANGE);
@@ -162,7 +163,7 @@ fn line(out: &mut String, table: &[Row], call: Call) {
     .unwrap();
 }
 
-/// What is printed of the standing rows where `table` decides.
+/// What is printed for the rows if `table` decides.
 fn shown(table: &[Row]) -> String {
     let mut out = String::new();
     for asked in self::table() {
@@ -233,7 +234,7 @@ mod tests {
         }
     }
 
-    /// Each wrong table shows in what is printed.
+    /// Each wrong table changes what is printed.
     #[test]
     fn faults_are_seen() {
         type Fault = (&'static str, fn(&mut Vec<Row>));

@@ -1,5 +1,5 @@
-//! The sameness rule in the order of document 02, A5, over the fields that reading answers,
-//! beside document 01's rule over the bytes (`same`): of valid subtelegrams they say the same.
+//! The sameness rule in the order of document 02, A5, over the fields that reading gives, next to
+//! document 01's rule over the bytes (`same`): for valid subtelegrams they agree.
 
 use crate::codec::{records, Record, SAME};
 use crate::history::Call;
@@ -41,8 +41,8 @@ fn same_but_for(left_out: &str, a: &[u8], b: &[u8]) -> bool {
         .all(|(_, agree)| agree(&a, &b))
 }
 
-/// Valid subtelegrams that differ from the fields in one field, and the field's name; a level
-/// is no field of its own in the rule.
+/// Valid subtelegrams that differ from the fields in one field, and the field's name; the level is
+/// not a field of the rule.
 fn one_field_off(fields: &Fields) -> Vec<(&'static str, Vec<u8>)> {
     let mut all = Vec::new();
     let mut other = |name, change: &dyn Fn(&mut Fields)| {
@@ -77,7 +77,7 @@ fn one_field_off(fields: &Fields) -> Vec<(&'static str, Vec<u8>)> {
             other("data", &|f| f.data[at] ^= 1 << bit);
         }
     }
-    // A byte of zero more or less, which a zero fill would hide; another byte more.
+    // A zero byte more or less, which a zero fill would hide; another byte more.
     other("data", &|f| f.data.push(0));
     other("data", &|f| f.data.insert(0, 0x5A));
     if fields.data.len() > 1 {
@@ -128,8 +128,8 @@ fn one_field_at_a_time() {
     assert!(seen.iter().all(|&n| n > 500), "{seen:?}");
 }
 
-/// An addressed one against the plain one whose bytes before TXID are nearest: those of RORG
-/// and DATA hold what the other has as 0xA6, RORG, DATA and DESTID.
+/// An addressed telegram and the plain one whose bytes before TXID are nearest: its RORG and DATA
+/// are the bytes that the other has as 0xA6, RORG, DATA and DESTID.
 #[test]
 fn addressed_against_plain_of_near_bytes() {
     for a in bases() {

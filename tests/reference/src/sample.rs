@@ -1,4 +1,4 @@
-//! samples/plant.txt: a morning at a cold store, as a receiver's log hands it to `collect`.
+//! samples/plant.txt: a morning at a cold store, as the log of a receiver hands it to `collect`.
 
 use crate::hex::hex;
 use crate::random::Random;
@@ -77,7 +77,7 @@ impl Log {
         self.text.push('\n');
     }
 
-    /// Heard so many ms after the present.
+    /// Received this many ms after the present.
     fn heard(&mut self, after: u64, bytes: &[u8]) {
         self.line(&format!("{} {}", self.now + after, hex(bytes)));
     }
@@ -91,7 +91,7 @@ impl Log {
         ));
     }
 
-    /// The telegram's three subtelegrams and a repeater's two, each lost now and then.
+    /// The telegram's three subtelegrams and a repeater's two; each is sometimes lost.
     fn transmission(&mut self, bytes: &[u8]) {
         let first = self.random.range(1, 9);
         let second = self.random.range(20, 39);
@@ -106,8 +106,8 @@ impl Log {
         }
     }
 
-    /// A short excursion, a press heard through two repeaters, damage, a clock that went
-    /// back, a line that is none, and a release whose first subtelegrams were lost.
+    /// A short excursion, a press received through two repeaters, damage, a clock that went back, a
+    /// line that is not a reception, and a release whose first subtelegrams were lost.
     fn opening(&mut self) {
         self.now = 1000;
         self.heard(0, &gate_open());
@@ -139,7 +139,7 @@ impl Log {
         self.now += 5000;
     }
 
-    /// A button that hangs: one press every 40 ms for half a second.
+    /// A button that is stuck: one press every 40 ms for half a second.
     fn chatter(&mut self) {
         for _ in 0..13 {
             self.heard(0, &pressed());
@@ -161,7 +161,7 @@ impl Log {
         self.now += 3000;
     }
 
-    /// Power returns, and 80 lamps report within 80 ms; some are heard twice.
+    /// Power returns, and 80 lamps report within 80 ms; some are received twice.
     fn burst(&mut self) {
         for number in 0..80 {
             self.heard(u64::from(number), &lamp(number));
@@ -197,7 +197,7 @@ impl Log {
         let mut hit = telegram(0xA6, &[0xA6; 6], BUTTON, CRC);
         hit[4] ^= 0x08;
         self.heard(52, &hit);
-        // Addressed by its first byte, and too short for it.
+        // Addressed by its first byte, but too short for that.
         self.heard(60, &telegram(0xA6, &[0x01], BUTTON, SUM));
         self.now += 1000;
     }

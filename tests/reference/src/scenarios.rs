@@ -1,5 +1,5 @@
-//! The calls of the histories: sparse traffic, repeaters, bursts, edges, both ends of time, a
-//! clock that goes back, damage, and checkpoints, cuts and refused restores among them.
+//! The calls of the histories: sparse traffic, repeaters, bursts, limits, both ends of time, a
+//! clock that goes back, damage; with checkpoints, cuts and refused restores among them.
 
 use crate::bursts;
 use crate::clerk::{Answer, Clerk, OPEN_FOR, PLACES, SENT_WITHIN};
@@ -10,13 +10,13 @@ use crate::random::Random;
 use crate::subtelegram::{check, renew_hash, ADDRESSED};
 use crate::telegrams::{addressed, at_level, hashed, plain, random_kind, valid, with_bit};
 
-/// The levels copies are heard at.
+/// The levels at which copies are received.
 const LEVELS: [u8; 8] = [0, 0, 0, 1, 1, 2, 3, 15];
-/// Rooms of a checkpoint.
+/// Lengths of the output of a checkpoint.
 pub const ROOMS: [usize; 6] = [0, 100, 2559, 2560, 2561, 3000];
 const ROOMS_ENOUGH: [usize; 3] = [2560, 2561, 3000];
 
-/// Places past every end, and such as look open where some of their bytes are lost.
+/// Places after every end, and places that look open if some of their bytes are lost.
 const FAR_PLACES: [u64; 9] = [
     64,
     65,
@@ -28,13 +28,13 @@ const FAR_PLACES: [u64; 9] = [
     1 << 63,
     u64::MAX,
 ];
-/// Of more open telegrams than this, some are asked for in place of all.
+/// If more telegrams than this are open, only some are asked for.
 const FEW: usize = 8;
 
-/// Writes calls, with a clerk at hand to aim at what is open.
+/// Makes calls; it has a clerk, to aim at what is open.
 struct Maker {
     random: Random,
-    /// Decides what is asked for, so that other calls do not hang on it.
+    /// Decides what is asked for, so that the other calls do not depend on it.
     asking: Random,
     clerk: Clerk,
     now: u64,
@@ -61,13 +61,13 @@ impl Maker {
         self.calls.push(Call::Start(setting));
     }
 
-    /// Hands over one reception and no other call.
+    /// Hands over one reception, and makes no other call.
     fn reception_alone(&mut self, time: u64, bytes: &[u8]) -> Answer {
         self.calls.push(Call::Reception(time, bytes.to_vec()));
         self.clerk.take(time, bytes)
     }
 
-    /// Hands over one reception, and now and then another call after it.
+    /// Hands over one reception, and sometimes makes another call after it.
     fn reception(&mut self, time: u64, bytes: &[u8]) -> Answer {
         let answer = self.reception_alone(time, bytes);
         match self.random.below(100) {
@@ -90,7 +90,8 @@ impl Maker {
         self.calls.push(Call::Ask(place as u64));
     }
 
-    /// Asks at a place that is open, or at the first that is not; or for the one heard most often.
+    /// Asks at a place that is open, or at the first that is not; or for the telegram received most
+    /// often.
     fn ask_one(&mut self) {
         let entries = self.clerk.entries();
         let most = (0..entries.len()).max_by_key(|&place| entries[place].copies);
@@ -101,7 +102,7 @@ impl Maker {
         self.ask(place);
     }
 
-    /// Asks at a place past the end.
+    /// Asks at a place after the end.
     fn ask_far(&mut self) {
         let open = self.clerk.entries().len() as u64;
         let far = self.asking.pick(&FAR_PLACES);
@@ -109,7 +110,8 @@ impl Maker {
         self.calls.push(Call::Ask(place));
     }
 
-    /// Asks at every open place, of many at some: around the ends of blocks, and any.
+    /// Asks at every open place; if there are many, at some: around the ends of blocks, and at
+    /// random.
     fn ask_each(&mut self) {
         let open = self.clerk.entries().len();
         for place in self.some_places(open) {
@@ -139,7 +141,7 @@ impl Maker {
         places.iter().for_each(|&place| self.ask(place));
     }
 
-    /// The first three of a history have room enough.
+    /// The first three of a history have enough room.
     fn park(&mut self) {
         let rooms = if self.parked < SHOWN {
             &ROOMS_ENOUGH[..]
@@ -172,7 +174,7 @@ impl Maker {
         self.calls.push(Call::Spoiled(k));
     }
 
-    /// Several calls at this very state.
+    /// Several calls at this state.
     fn several(&mut self) {
         self.cut();
         self.cut();
@@ -180,7 +182,7 @@ impl Maker {
         self.park();
     }
 
-    /// The end of a history: as many checkpoints as are shown, and a cut and its sequel.
+    /// The end of a history: as many checkpoints as are shown, and a cut and what follows.
     fn end(&mut self) {
         while self.parked < SHOWN {
             self.park();
@@ -214,8 +216,8 @@ impl Maker {
         at_level(&pool[at], level)
     }
 
-    /// Next to the given one, and another telegram: one bit apart, two bytes exchanged (an
-    /// equal sum), the generator XORed in (an equal CRC), one byte longer.
+    /// Near the given one, but another telegram: one bit different, two bytes exchanged (an equal
+    /// sum), the generator XORed in (an equal CRC), one byte longer.
     fn near(&mut self, bytes: &[u8]) -> Vec<u8> {
         let n = bytes.len();
         loop {
@@ -241,7 +243,8 @@ impl Maker {
         }
     }
 
-    /// One that the check refuses: by 1, 2, 3 or 13, the outer lengths and short addressed ones too.
+    /// A telegram that the check refuses: with 1, 2, 3 or 13, also of the outer lengths, and short
+    /// addressed ones.
     fn damaged(&mut self, pool: &[Vec<u8>]) -> Vec<u8> {
         let random = &mut self.random;
         let kind = random_kind(random);
@@ -271,7 +274,7 @@ impl Maker {
             }
         };
         if check(&bytes).is_ok() {
-            // A changed bit can ask for the other hash and find it right.
+            // A changed bit can select the other hash, and that may be right.
             return Vec::new();
         }
         bytes
@@ -283,7 +286,7 @@ impl Maker {
         let now = self.now;
         match self.random.below(100) {
             0..=7 => {
-                // Damaged, at any time: it moves no clock.
+                // Damaged, at any time: it does not move the clock.
                 let bytes = self.damaged(pool);
                 let time = match self.random.below(4) {
                     0 => self.random.next(),
@@ -340,7 +343,7 @@ impl Maker {
                     offsets.push((self.random.range(first + 10, first + 19), level));
                 }
             }
-            // Some are lost on the way, so any level can be the first one heard.
+            // Some are lost on the way, so any level can be the first one received.
             offsets.sort();
             let start = self.now;
             for (offset, level) in offsets {
@@ -369,7 +372,7 @@ impl Maker {
         }
     }
 
-    /// Aims at the edges of what is open: 99, 100 and 101 ms after it was kept.
+    /// Aims at the limits of what is open: 99, 100 and 101 ms after it was kept.
     fn edges(&mut self, setting: u8, count: usize) {
         self.start(setting, 7);
         let pool = self.pool(16);
@@ -389,7 +392,7 @@ impl Maker {
                     .random
                     .pick(&[OPEN_FOR - 1, OPEN_FOR, OPEN_FOR, OPEN_FOR + 1, OPEN_FOR + 1]);
             let level = self.random.pick(&LEVELS);
-            // Times before the latest are refused by 7, which is an edge too.
+            // Times before the latest are refused with 7, which is a limit too.
             self.reception(time, &at_level(bytes, level));
         }
     }
@@ -429,8 +432,8 @@ impl Maker {
         }
     }
 
-    /// A full table that late originals meet: they are LOOSE, and open nothing; each opening holds a
-    /// place of its own.
+    /// A full table and late originals: they are LOOSE, and open nothing; each opening uses a place
+    /// of its own.
     fn crowded_originals(&mut self, setting: u8, count: usize) {
         self.start(setting, 3_000);
         let pool = self.pool(30);
@@ -480,7 +483,7 @@ impl Maker {
         }
     }
 
-    /// Up to the greatest time and at it.
+    /// Up to the greatest time, and at it.
     fn top(&mut self, setting: u8, count: usize) {
         self.start(setting, u64::MAX - 260);
         let pool = self.pool(75);
@@ -491,7 +494,7 @@ impl Maker {
                 0
             };
             if i == count / 2 {
-                // 100 and 101 before the end have their own telegrams open.
+                // 100 and 101 ms before the end have their own open telegrams.
                 self.now = self.now.max(u64::MAX - 1);
             }
             if i > count * 2 / 3 {
@@ -502,7 +505,7 @@ impl Maker {
         }
     }
 
-    /// One jump over nearly all times, either end.
+    /// One jump over nearly all times, from both ends.
     fn leap(&mut self, setting: u8) {
         self.start(setting, 0);
         let pool = self.pool(6);
@@ -542,7 +545,8 @@ impl Maker {
                     self.reception(time, &heard);
                 }
                 1 => {
-                    // Damaged and early at once: damaged. Damaged and far ahead: no later clock.
+                    // Damaged and early at once: damaged. Damaged and far ahead: the clock does not
+                    // move.
                     let bytes = self.damaged(&pool);
                     let time = if self.random.chance(50) {
                         0
@@ -558,8 +562,8 @@ impl Maker {
         }
     }
 
-    /// 64 open and the edges around that: what opens a place and what moves the latest time.
-    /// At twelve states come further calls, checkpoints only from the one of number `from`.
+    /// 64 open and the limits around that: what frees a place and what moves the latest time. At
+    /// twelve states come further calls; checkpoints only from state number `from` on.
     fn full(&mut self, setting: u8, from: usize) {
         self.start(setting, 5_000);
         let pool = self.pool(PLACES + 6);
@@ -577,14 +581,14 @@ impl Maker {
             self.reception_alone(5_000 + i as u64 / 2, bytes);
         }
         state(self);
-        // Full: other telegrams are LOOSE, twice the same LOOSE again, copies stay COPY.
+        // Full: other telegrams are LOOSE, the same one twice is LOOSE again, copies stay COPY.
         for bytes in rest.iter().chain(rest) {
             self.reception_alone(5_031, bytes);
         }
         for bytes in first.iter().step_by(7) {
             self.reception_alone(5_031, &at_level(bytes, 15));
         }
-        // 5,100: all open still. 5,101: the first two are gone, two places are free.
+        // 5,100: all are still open. 5,101: the first two are gone, two places are free.
         self.reception_alone(5_100, &rest[0]);
         state(self);
         self.reception_alone(5_101, &rest[0]);
@@ -593,7 +597,7 @@ impl Maker {
         self.reception_alone(5_101, &first[1]);
         self.reception_alone(5_101, &rest[1]);
         state(self);
-        // Copies alone move the latest time and so shorten the image.
+        // Copies alone move the latest time, and so shorten the image.
         for time in [5_110, 5_120, 5_131] {
             self.reception_alone(time, &at_level(&rest[0], 3));
             state(self);
@@ -601,7 +605,7 @@ impl Maker {
         self.reception_alone(5_201, &rest[0]);
         self.reception_alone(5_202, &rest[0]);
         state(self);
-        // 64 at one moment, and LOOSE alone moves the latest time.
+        // 64 at one time; LOOSE alone moves the latest time.
         for bytes in first {
             self.reception_alone(6_000, bytes);
         }
@@ -616,8 +620,8 @@ impl Maker {
         self.end();
     }
 
-    /// One telegram heard 301 times within 100 ms (document 02, A8), a few others beside it; then it
-    /// closes, those opened after it move up, and it opens anew.
+    /// One telegram received 301 times within 100 ms (document 02, A8), with a few others; then it
+    /// closes, those opened after it move up, and it opens again.
     fn often(&mut self, setting: u8) {
         self.start(setting, 7_000);
         let pool = self.pool(3);
@@ -637,7 +641,7 @@ impl Maker {
                 self.park();
             }
         }
-        // 7,101: the first two are gone; the third, opened at 7,013, stands at place 0.
+        // 7,101: the first two are gone; the third, opened at 7,013, is at place 0.
         self.reception_alone(7_101, &at_level(often, 1));
         self.ask_around_a_cut();
         self.ask(2);
@@ -648,8 +652,8 @@ impl Maker {
         self.ask_each();
     }
 
-    /// Openings of one telegram 41 ms apart, with copies of each; another telegram between; 64 open and
-    /// originals that are LOOSE, which count nowhere.
+    /// Openings of one telegram 41 ms apart, with copies of each, and another telegram between
+    /// them; 64 open, and originals that are LOOSE, which are not counted as copies.
     fn credited(&mut self, setting: u8) {
         self.start(setting, 900);
         let pool = self.pool(PLACES);
@@ -683,7 +687,8 @@ impl Maker {
         (0..=PLACES).for_each(|place| self.ask(place));
         self.cut();
         (0..=PLACES).for_each(|place| self.ask(place));
-        // The first opening closes, and one place is free; late originals take it, then none.
+        // The first opening closes, and one place is free; late originals use it, then there is
+        // none.
         for (time, bytes) in [(1_027, &rest[0]), (1_027, &rest[1]), (1_028, &rest[2])] {
             self.reception_alone(time, &at_level(bytes, 0));
             self.ask_around_a_cut();
@@ -699,9 +704,10 @@ impl Maker {
         self.ask_around_a_cut();
     }
 
-    /// Document 01's cases that are run and not proved: first heard at level 2 and the original 5 ms
-    /// later, which is a copy with nothing to send; and lengths 7 and 22. Then the two hashes (document 02,
-    /// A3): a telegram by each with one bit of HASH changed, and one whose STATUS names the other hash.
+    /// Document 01's cases that are run and not proved: first received at level 2, and the original
+    /// 5 ms later, which is a copy with nothing to send; and lengths 7 and 22. Then the two hashes
+    /// (document 02, A3): a telegram with each, with one bit of HASH changed, and one whose STATUS
+    /// names the other hash.
     fn cases(&mut self) {
         let telegram = [0xD5, 0x09, 0x01, 0x02, 0x03, 0x04, 0x00, 0xE8];
         self.start(2, 10);
@@ -803,7 +809,7 @@ fn asked_for() -> Vec<Call> {
     maker.calls
 }
 
-/// More than 10^5 receptions with gaps around 40 and 100 ms, full tables and cuts, too long to be
+/// More than 10^5 receptions with gaps around 40 and 100 ms, full tables and cuts; too long to be
 /// stored.
 pub fn long_calls() -> Vec<Call> {
     let mut maker = Maker::new(0x0004_4D6F_6F72_696E);

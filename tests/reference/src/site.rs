@@ -23,7 +23,7 @@ struct Repeater {
 /// The number, and the repeaters that it names.
 type Answer = (Refusal, usize, usize);
 
-/// Where a repeater is on the air, in microseconds: from a start up to, not including, an end.
+/// When a repeater is on the air, in microseconds: from a start up to, but not including, an end.
 type Interval = (u64, u64);
 
 impl Repeater {
@@ -31,7 +31,7 @@ impl Repeater {
         self.rule <= 2 && self.level <= 2 && (1..=65_535).contains(&self.duration)
     }
 
-    /// The slots in which it sends: 255 as third is none.
+    /// The slots in which it sends; 255 as third means none.
     fn sends_in(&self) -> Vec<u64> {
         let number = if self.slots[2] == NONE { 2 } else { 3 };
         self.slots[..number].iter().map(|&n| u64::from(n)).collect()
@@ -95,12 +95,12 @@ fn level_1(duration: u32, first: u8, second: u8) -> Repeater {
     sent(0, 1, duration, [first, second, NONE])
 }
 
-/// Sends for 1,000 microseconds at level 1, in the same place of both ranges.
+/// Sends for 1,000 microseconds at level 1, at the same position of both ranges.
 fn beside(n: u8) -> Repeater {
     level_1(1000, 10 + n, 20 + n)
 }
 
-/// Twelve that fit, at 1,000 microseconds: two compressed, ten standard. No thirteen do.
+/// Twelve that fit, at 1,000 microseconds: two compressed, ten standard. Thirteen never fit.
 fn twelve() -> Vec<Repeater> {
     let mut site = vec![sent(1, 0, 1000, [0, 4, 14]), sent(1, 0, 1000, [1, 5, 15])];
     for (second, first) in (20..).zip([2, 3, 6, 7, 8, 9]) {
@@ -112,7 +112,7 @@ fn twelve() -> Vec<Repeater> {
     site
 }
 
-/// Each site, and the same the other way round.
+/// Each site, and the same site reversed.
 fn both_ways(sites: &mut Vec<Vec<Repeater>>, site: &[Repeater]) {
     sites.push(site.to_vec());
     sites.push(site.iter().rev().copied().collect());
@@ -125,7 +125,7 @@ fn touching(sites: &mut Vec<Vec<Repeater>>) {
             &[level_1(duration, 10, 20), level_1(duration, 12, 22)],
         );
     }
-    // a long one reaches into the next slot of a short one, and not the other way round
+    // a long one reaches into the next slot of a short one, and not the other way
     both_ways(sites, &[level_1(1500, 10, 20), level_1(500, 11, 21)]);
     both_ways(sites, &[level_1(500, 10, 20), level_1(1500, 11, 21)]);
     // third against second, and first against third
@@ -193,7 +193,7 @@ fn unlawful(sites: &mut Vec<Vec<Repeater>>) {
             sites.push(site);
         }
     }
-    // a plan that overlaps with itself behind a pair that clashes
+    // a plan that overlaps with itself, after a pair that overlaps
     let own = sent(0, 0, 1001, [0, 1, 20]);
     sites.push(vec![beside(0), beside(0), own]);
     sites.push(vec![own, beside(0), beside(0)]);
@@ -243,7 +243,7 @@ fn drawn(random: &mut Random, table: &[Row]) -> Repeater {
     }
 }
 
-/// One field changed, to what may still be lawful or is out of range.
+/// One field is changed, to a value that may still be lawful or is out of range.
 fn spoil(random: &mut Random, repeater: &mut Repeater) {
     match random.below(6) {
         0 => repeater.rule = random.pick(&[0, 1, 2, 2, 3]),
@@ -253,7 +253,7 @@ fn spoil(random: &mut Random, repeater: &mut Repeater) {
     }
 }
 
-/// Filled one after the other while it stays accepted.
+/// Filled one after the other, as long as it is accepted.
 fn filled(random: &mut Random, table: &[Row]) -> Vec<Repeater> {
     let mut site = vec![];
     for _ in 0..random.range(1, 40) {
@@ -437,7 +437,7 @@ mod tests {
         })
     }
 
-    /// Each wrong check shows in what is printed.
+    /// Each wrong check changes what is printed.
     #[test]
     fn faults_are_seen() {
         let (sites, table) = (sites(), table());

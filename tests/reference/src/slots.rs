@@ -3,7 +3,7 @@
 use crate::subtelegram::{Refusal, NO_PLAN, OUT_OF_RANGE};
 use std::fmt::Write;
 
-/// First and last slot of each transmission, by level sent.
+/// First and last slot of each transmission, by the level that is sent.
 fn ranges(level: u8) -> Vec<(u64, u64)> {
     match level {
         0 => vec![(0, 0), (1, 9), (20, 39)],
@@ -44,7 +44,8 @@ pub fn lawful_plans(level: u8, duration: u64) -> Vec<Vec<u64>> {
     plans
 }
 
-/// The plan of a draw; several refusals at once: 10, 9. No third reads 255.
+/// The plan of a draw; if several refusals fit: 10, then 9. Without a third transmission the third
+/// slot is 255.
 pub fn plan(level: u8, duration: u32, draw: u64) -> Result<[u64; 3], Refusal> {
     if level > 2 || !(1..=65_535).contains(&duration) {
         return Err(OUT_OF_RANGE);

@@ -39,7 +39,7 @@ pub fn renew_hash(bytes: &mut [u8]) {
     bytes[last] = hash(bytes[last - 1], &bytes[..last]);
 }
 
-/// "Order of a check"; which hash is wrong (document 02, A3) is said by the selector, STATUS bit 7.
+/// "Order of a check"; the selector, STATUS bit 7, decides which hash is wrong (document 02, A3).
 pub fn check(bytes: &[u8]) -> Result<(), Refusal> {
     let n = bytes.len();
     if !(SHORTEST..=LONGEST).contains(&n) {
@@ -98,7 +98,7 @@ pub fn read(bytes: &[u8]) -> Result<Fields, Refusal> {
     }
 }
 
-/// The bytes of the fields, whatever their lengths.
+/// The bytes of the fields, for any lengths.
 pub fn write(fields: &Fields) -> Vec<u8> {
     let mut bytes = Vec::new();
     if fields.destination.is_some() {
@@ -116,7 +116,7 @@ pub fn write(fields: &Fields) -> Vec<u8> {
     bytes
 }
 
-/// Copies the result into the lent output; its bytes past the result stay ("Numbers").
+/// Copies the result into the lent output; the bytes after the result are unchanged ("Numbers").
 fn hand_back(result: &[u8], output: &mut [u8]) -> Result<usize, Refusal> {
     if output.len() < result.len() {
         return Err(OUTPUT_SHORT);
@@ -125,7 +125,7 @@ fn hand_back(result: &[u8], output: &mut [u8]) -> Result<usize, Refusal> {
     Ok(result.len())
 }
 
-/// Building; several at once: 10, 5, 6.
+/// Building; if several refusals fit: 10, 5, 6.
 pub fn build(fields: &Fields, output: &mut [u8]) -> Result<usize, Refusal> {
     if !(1..=14).contains(&fields.data.len()) || fields.rorg == ADDRESSED {
         return Err(OUT_OF_RANGE);
@@ -136,7 +136,7 @@ pub fn build(fields: &Fields, output: &mut [u8]) -> Result<usize, Refusal> {
     hand_back(&write(fields), output)
 }
 
-/// Encapsulating; several at once: the check's own, 3, 5, 6.
+/// Encapsulating; if several refusals fit: the check's, 3, 5, 6.
 pub fn encapsulate(
     bytes: &[u8],
     destination: [u8; 4],
@@ -149,7 +149,7 @@ pub fn encapsulate(
     if bytes.len() + 5 > LONGEST {
         return Err(ADDRESSED_TOO_LONG);
     }
-    // 0xA6 before all, DESTID before TXID; STATUS stays, HASH is renewed.
+    // 0xA6 comes first, DESTID before TXID; STATUS is unchanged, HASH is renewed.
     let before_transmitter = bytes.len() - 6;
     let mut result = vec![ADDRESSED];
     result.extend(&bytes[..before_transmitter]);
@@ -159,7 +159,7 @@ pub fn encapsulate(
     hand_back(&result, output)
 }
 
-/// Removing; several at once: the check's own, 4, 6.
+/// Removing; if several refusals fit: the check's, 4, 6.
 pub fn decapsulate(bytes: &[u8], output: &mut [u8]) -> Result<usize, Refusal> {
     check(bytes)?;
     if bytes[0] != ADDRESSED {

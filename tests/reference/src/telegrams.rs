@@ -3,7 +3,7 @@
 use crate::random::Random;
 use crate::subtelegram::{check, renew_hash, ADDRESSED, LONGEST, SHORTEST, SHORTEST_ADDRESSED};
 
-/// Which hash STATUS bit 7 asks for.
+/// Which hash STATUS bit 7 selects.
 #[derive(Debug, Clone, Copy, PartialEq)]
 pub enum Kind {
     Sum,
@@ -16,8 +16,8 @@ pub fn random_kind(random: &mut Random) -> Kind {
     random.pick(&KINDS)
 }
 
-/// Random bytes of length n whose first ones are `start`, with the hash kind as asked
-/// and HASH right. For n below 2 there is no STATUS: random bytes then.
+/// Random bytes of length n that begin with `start`, with the requested kind of hash and a right
+/// HASH. For n below 2 there is no STATUS: then only random bytes.
 pub fn hashed(random: &mut Random, n: usize, start: &[u8], kind: Kind) -> Vec<u8> {
     let mut bytes = random.bytes(n);
     if n < 2 {

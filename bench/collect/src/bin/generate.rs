@@ -1,4 +1,4 @@
-//! Writes an input of `collect`: `generate sparse|crowded|year LINES`. The same on every run.
+//! Writes an input of `collect`: `generate sparse|crowded|year LINES`. It is the same on every run.
 
 use collect_rust::hash::renew;
 use std::fmt::Write as _;
@@ -27,21 +27,21 @@ impl Random {
 
 /// How crowded the air is.
 struct Traffic {
-    /// The ms between two lines, one of these.
+    /// The ms between two lines are one of these.
     gaps: &'static [u64],
-    /// New telegrams among a hundred; the others are copies.
+    /// How many of a hundred lines are new telegrams; the others are copies.
     fresh: usize,
-    /// A copy is of one of so many new telegrams.
+    /// A copy is of one of this many new telegrams.
     recent: usize,
 }
 
-/// Three telegrams open at most times.
+/// Three telegrams are open most of the time.
 const SPARSE: Traffic = Traffic {
     gaps: &[2, 5, 10, 15, 28],
     fresh: 33,
     recent: 2,
 };
-/// 100 new telegrams in 100 ms, so 64 open at all times.
+/// 100 new telegrams in 100 ms, so 64 are always open.
 const CROWDED: Traffic = Traffic {
     gaps: &[0, 0, 1, 1],
     fresh: 50,
@@ -76,7 +76,7 @@ fn at_level(mut bytes: Vec<u8>, level: u8) -> Vec<u8> {
     bytes
 }
 
-/// A line at the present time, or damaged, late or BAD now and then.
+/// A line at the present time; sometimes damaged, late or BAD.
 fn line(random: &mut Random, now: u64, mut bytes: Vec<u8>) -> String {
     let (mut time, mut bad) = (now, "");
     match random.below(100) {
@@ -92,7 +92,7 @@ fn line(random: &mut Random, now: u64, mut bytes: Vec<u8>) -> String {
     text
 }
 
-/// The first moment of a log, in ms.
+/// The first time of a log, in ms.
 const START: u64 = 1_767_225_600_000;
 
 fn generate(traffic: &Traffic, lines: usize, out: &mut impl Write) -> io::Result<()> {
@@ -114,12 +114,12 @@ fn generate(traffic: &Traffic, lines: usize, out: &mut impl Write) -> io::Result
     Ok(())
 }
 
-/// A plant's year has 9,800,000 telegrams and 31,400,000 receptions: a telegram every 3.2 s, heard
-/// 3.2 times within 40 ms.
+/// A plant's year has 9,800,000 telegrams and 31,400,000 receptions: a telegram every 3.2 s,
+/// received 3.2 times within 40 ms.
 fn generate_year(lines: usize, out: &mut impl Write) -> io::Result<()> {
     let mut random = Random(0x636F_6C6C_6563_7402);
     let mut sent = START;
-    // What will be heard of the telegrams that were sent, in order of time.
+    // The receptions to come of the telegrams that were sent, in order of time.
     let mut to_come: Vec<(u64, Vec<u8>)> = Vec::new();
     for _ in 1..lines {
         while to_come.first().is_none_or(|(time, _)| sent <= *time) {

@@ -1,6 +1,6 @@
-//! `collect_kept STATE ARCHIVE < LOG`: what `mooringeye collect --state STATE --archive ARCHIVE` does with a log that begins with its level, written by
-//! hand over the collector of `bench/collect`: the same rows, and byte for byte the same archive and the same state, each on disk before the rows of a
-//! batch are printed.
+//! `collect_kept STATE ARCHIVE < LOG`: does what `mooringeye collect --state STATE --archive ARCHIVE` does with a log that begins with its level,
+//! written by hand over the collector of `bench/collect`. It gives the same rows, and byte for byte the same archive and the same state, each on disk
+//! before the rows of a batch are printed.
 use collect_rust::collector::{repeat, Answer, Collector};
 use collect_rust::text::{self, MAX_BYTES, MAX_LINE};
 use std::fs::{self, File, OpenOptions};
@@ -14,7 +14,7 @@ const MAX_BATCH: usize = 16_384;
 const BLOCK: usize = 512;
 const CELL: usize = 32;
 const CELLS: usize = 15;
-/// The file of an archive has a multiple of so many blocks.
+/// The file of an archive has a multiple of this many blocks.
 const GROWTH: u64 = 2_048;
 
 fn main() -> io::Result<()> {
@@ -44,7 +44,7 @@ struct Run {
     setting: Option<u8>,
     collector: Collector,
     lines: u64,
-    /// Bytes that were taken, and the last 512 of them.
+    /// The number of bytes that were taken, and the last 512 of them.
     offset: u64,
     tail: Vec<u8>,
     archive: Archive,
@@ -84,7 +84,7 @@ impl Run {
         Ok(())
     }
 
-    /// These bytes of the log were taken.
+    /// Counts these bytes of the log as taken.
     fn pass(&mut self, taken: &[u8]) {
         self.offset += taken.len() as u64;
         self.tail.extend_from_slice(&taken[taken.len().saturating_sub(BLOCK)..]);
@@ -157,7 +157,7 @@ impl Run {
     }
 }
 
-/// The rows of an archive, of which whole blocks wait until they are written together.
+/// The rows of an archive; whole blocks wait until they are written together.
 struct Archive {
     file: File,
     /// The file's length in blocks.
@@ -182,7 +182,7 @@ impl Archive {
         self.is_changed = true;
     }
 
-    /// Seals the last block, and puts it behind those that wait.
+    /// Seals the last block, and puts it after those that wait.
     fn close(&mut self) {
         if self.is_changed {
             self.block[..4].copy_from_slice(&self.number.to_be_bytes());

@@ -1,4 +1,4 @@
-//! The library against the second program, on random inputs: what both answer is compared, and the first difference ends the run.
+//! Compares the library with the second program on random inputs; the first difference in their answers ends the run.
 //!
 //! differential SECONDS [SEED]
 use mooringeye::{raw, Answer as Said, Archive, Collector, Fields, FirstLine, Report, Telegram};
@@ -61,7 +61,7 @@ mod telegrams;
 
 const BLOCK: usize = Archive::BLOCK;
 
-/// A telegram of few transmitters, so that some are open already, and sometimes a damaged one or bytes of any length.
+/// A telegram of one of few transmitters, so some are open already; sometimes a damaged one, or bytes of any length.
 fn bytes(random: &mut Random) -> Vec<u8> {
     let mut telegram = match random.below(4) {
         0 => telegrams::valid(random),
@@ -112,7 +112,7 @@ fn histories(random: &mut Random) {
     assert_eq!(Collector::restore(&image).map(|_| ()).map_err(|e| e.number()), image::reload(&image).map(|_| ()), "an image");
 }
 
-/// What `collect` prints of a text, by the calls on lines.
+/// What `collect` prints for a text, by the calls on lines.
 fn collected(text: &[u8]) -> Vec<u8> {
     let mut whole = text.to_vec();
     if !text.is_empty() && !text.ends_with(b"\n") {
