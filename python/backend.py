@@ -1,6 +1,6 @@
-"""Builds the wheel: the module with the shared object inside. It needs Python alone, and no network.
+"""Builds the wheel: the module with the shared object inside. It needs only Python, and no network.
 
-The shared object is that of the folder MOORINGEYE_LIB_DIR, or of this repository, where bin/library makes it first.
+The shared object is that of the folder MOORINGEYE_LIB_DIR, or of this repository, where bin/library builds it first.
 Two builds of the same files give the same bytes.
 """
 import base64
@@ -13,7 +13,7 @@ from pathlib import Path
 
 HERE = Path(__file__).resolve().parent
 TAG = "py3-none-manylinux_2_17_x86_64"
-TIME = (1980, 1, 1, 0, 0, 0)  # what a zip file can say at the earliest
+TIME = (1980, 1, 1, 0, 0, 0)  # the earliest time that a zip file can have
 
 
 def library() -> Path:
@@ -29,7 +29,7 @@ def library() -> Path:
 
 
 def metadata(project: dict[str, str]) -> dict[str, bytes]:
-    """The three files of a wheel about itself but RECORD."""
+    """The three files of a wheel about itself, without RECORD."""
     about = "Metadata-Version: 2.1\nName: {name}\nVersion: {version}\nSummary: {description}\n"
     about += "Requires-Python: {requires-python}\n"
     wheel = f"Wheel-Version: 1.0\nGenerator: mooringeye\nRoot-Is-Purelib: false\nTag: {TAG}\n"

@@ -1,6 +1,6 @@
 """What include/mooringeye.h declares, read by the compiler's preprocessor: constants, structs and functions.
 
-The tests that compare the header with something else share it.
+The tests that compare the header with something else use it.
 """
 import re
 import subprocess

@@ -1,12 +1,12 @@
 #!/usr/bin/env python3
-"""A radio signal as an RTL-SDR stick records it (8-bit I and Q), of lines with a time in ms and a telegram: ERP1 at 125 kbit/s. RATE is the samples a second."""
+"""A radio signal as an RTL-SDR stick records it (8-bit I and Q), for lines with a time in ms and a telegram: ERP1 at 125 kbit/s. RATE is samples per second."""
 import sys
 
 BITS = 125_000
 
 
 def coded(telegram):
-    """Preamble and start, then 12 bits for each byte: inverse bits behind the third and the sixth, and whether another byte follows."""
+    """Preamble and start, then 12 bits for each byte: inverse bits after the third and the sixth, and whether another byte follows."""
     yield from "01010101" "001"
     for i, byte in enumerate(telegram):
         b = f"{byte:08b}"

@@ -1,4 +1,4 @@
-"""Every function of libmooringeye: what it answers, and each parameter.
+"""Every function of libmooringeye: its result, and each parameter.
 
 `u8`, `u16`, `u32`, `u64`, `size` and `bool` are numbers; `in:` is a pointer to numbers that are read, and `out:` to
 numbers that are changed. tests/abi compares this table with the header.

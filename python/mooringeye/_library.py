@@ -35,7 +35,7 @@ def _path() -> str:
 
 def _load() -> ctypes.PyDLL:
     try:
-        # PyDLL holds Python's lock during a call: no other thread can lend the same memory meanwhile.
+        # PyDLL holds Python's lock during a call, so no other thread can lend the same memory meanwhile.
         return ctypes.PyDLL(_path())
     except OSError as error:
         raise ImportError(

@@ -182,7 +182,7 @@ class Collector:
             raise ValueError(f"{format!r} is not one of {', '.join(FORMATS)}")
         lent, size = lend(text)
         places = max(1, min(most, bytes(text).count(b"\n")))
-        # Those that are open may close, those that these lines open, and what one line more may close has to fit.
+        # Room for the telegrams that are open, those that these lines open, and what one more line may close.
         room = 32 * (places + 128)
         out, moments = (ctypes.c_uint8 * (333 * places))(), (ctypes.c_uint64 * places)()
         rows, closed, told = (ctypes.c_uint8 * (23 * places))(), (ctypes.c_uint8 * room)(), (ctypes.c_uint64 * 5)()
@@ -262,7 +262,7 @@ class Session:
                     break
                 parts.append(self.collector.lines_as(self._setting, self._format, text[at : end + 1]))
                 at = end + 1
-            # A line that is longer than the longest is BAD, whatever else it has.
+            # A line that is longer than the longest is always BAD.
             self._rest = text[at : at + self.LINE_LIMIT]
         rows = [row for part in parts for row in part.rows]
         closings = [closing for part in parts for closing in part.closings]

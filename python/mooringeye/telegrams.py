@@ -110,7 +110,7 @@ class Erp2:
     data: bytes
     control: int = 0
     kind: int = 0
-    hops: Optional[int] = None  # with it, an extended header is there
+    hops: Optional[int] = None  # if it is not None, there is an extended header
     optional: bytes = b""
     subtype: Optional[int] = None
     destination: Optional[int] = None

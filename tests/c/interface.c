@@ -35,7 +35,7 @@ static void parts(void) {
     SHOULD(plan.number == MOORINGEYE_DONE && plan.first == 0 && plan.second == 1 && plan.third == 27);
     SHOULD(mooringeye_plan(0, 1000, 7) == mooringeye_plan_by(0, 0, 3, 1000, 7));
     SHOULD(mooringeye_plan(0, 1000, 7) ==
-           (0u << 24 | 0u << 16 | 1u << 8 | 27u)); /* as programs read it before 1.0 */
+           (0u << 24 | 0u << 16 | 1u << 8 | 27u)); /* as programs have read it before 1.0 */
     plan = mooringeye_draw_slots(0, 0, 3, 9001, 7);
     SHOULD(plan.number == MOORINGEYE_NO_PLAN && plan.first == 0 && plan.second == 0 && plan.third == 0);
     mooringeye_repeater site[2] = {{0, 1, {0, 0, 0x07, 0xCF}, {10, 20, 255}},

@@ -1,4 +1,4 @@
-"""The Python package: what users stumbled over, every export, and the numbers and names of the header.
+"""The Python package: what users had trouble with, every export, and the numbers and names of the header.
 
     PYTHONPATH=python python3 -m unittest discover -s tests/python
 """
@@ -26,7 +26,7 @@ def load_tests(loader, tests, pattern):
 
 
 class Ranges(unittest.TestCase):
-    """A number that a parameter cannot hold is told, and not cut."""
+    """A number that a parameter cannot hold raises an error; it is not cut."""
 
     def test_time(self):
         c = mooringeye.Collector()
@@ -85,7 +85,7 @@ class Threads(unittest.TestCase):
 
 
 class Calls(unittest.TestCase):
-    """What the classes answer; each export is called at least once by this file."""
+    """What the classes return; this file calls each export at least once."""
 
     called: set[str] = set()
 
@@ -237,7 +237,7 @@ class Calls(unittest.TestCase):
 
     @classmethod
     def tearDownClass(cls):
-        # Python's fields are open to everyone, so its collector keeps the step that tests the state.
+        # Anyone can write Python's fields, so its collector uses the call that tests the state.
         missing = EXPORTS.keys() - cls.called - {"mooringeye_collector_take_tested"}
         assert not missing, f"exports that no class of the package calls: {sorted(missing)}"
 
