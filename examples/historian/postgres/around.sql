@@ -1,6 +1,6 @@
--- The rows of a transmitter around a moment, for the maintenance engineer:
+-- The rows of a transmitter around a time, for the maintenance engineer:
 -- psql --set=plant=north --set=txid=0583A1C0 --set=moment='1970-01-01 00:00:01Z' --file=around.sql
--- The moment is in quotes; the rows of 30 seconds before and behind it are shown, or of `within`.
+-- The moment is in quotes; the rows of 30 seconds before and after it are shown, or of `within`.
 \if :{?within}
 \else
 \set within '30 seconds'

@@ -1,4 +1,4 @@
--- Moves the rows behind a row aside. psql's variables: plant, stream, row.
+-- Moves the rows after a row aside. psql's variables: plant, stream, row.
 SELECT historian.stream_of(:'plant', :'stream') AS id \gset
 BEGIN;
 SELECT historian.lock(:id) \g /dev/null

@@ -1,4 +1,4 @@
--- The sensors that are at the edge of reach, for the storage manager: of their telegrams, how many were heard once only.
+-- The sensors at the edge of reach, for the storage manager: how many of their telegrams were received only once.
 -- psql --set=plant=north --file=heard-once.sql
 SELECT upper(encode(txid, 'hex')) AS txid, count(*) AS telegrams, count(*) FILTER (WHERE copies = 0) AS heard_once,
     count(*) FILTER (WHERE copies = 0) * 100 / count(*) AS percent

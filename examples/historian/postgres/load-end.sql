@@ -1,4 +1,4 @@
--- Refuses files that were all loaded whole before: those that go on behind the last row are not among them, or were numbered anew.
+-- Refuses files that were all loaded completely before: the files that continue after the last row are missing, or were numbered again.
 \if :is_any
 \else
 SELECT historian.none_goes_on(historian.stream_of(:'plant', :'stream'));

@@ -5,7 +5,7 @@ SELECT historian.is_passed(:id, :'file') AS is_passed \gset
 \if :is_passed
 \else
 \set is_any on
--- The months of the new rows get their partitions first, so that loading waits for nobody who reads.
+-- The months of the new rows get their partitions first, so loading does not wait for readers.
 SELECT historian.first_row(:id, :'file') AS first, rows AS last FROM historian.stream WHERE id = :id \gset
 \setenv FILE :path
 \setenv FIRST :first
@@ -15,7 +15,7 @@ CREATE TEMPORARY TABLE month (name text, rows bigint);
 \copy pg_temp.month FROM PROGRAM '"$MOORINGEYE" archive list --rows months --first "$FIRST" --after "$LAST" -- "$FILE"'
 SELECT :last + coalesce(sum(rows), 0) AS until, historian.make_months(array_agg(name)) FROM pg_temp.month \gset
 
--- What another has loaded meanwhile is not sent again; what came into the archive meanwhile is sent the next time.
+-- Rows that another load has sent meanwhile are not sent again; rows that came into the archive meanwhile are sent the next time.
 BEGIN;
 SELECT historian.lock(:id) \g /dev/null
 SELECT historian.first_row(:id, :'file') AS first, rows AS last, greatest(:until - rows, 0) AS count, rows - 1 AS before, rows + 1 AS next

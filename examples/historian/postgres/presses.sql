@@ -1,4 +1,4 @@
--- How often each switch was pressed on each day (UTC), for whoever plans the lines: psql --set=plant=north --file=presses.sql
+-- How often each switch was pressed on each day (UTC), for those who plan the lines: psql --set=plant=north --file=presses.sql
 -- A press is a telegram of a rocker switch (RORG F6) whose DATA says that the energy bow is pressed (bit 4). Each KEPT row is one event.
 SELECT (at AT TIME ZONE 'UTC')::date AS day, upper(encode(txid, 'hex')) AS txid, count(*) AS presses
 FROM historian.reception

@@ -2,7 +2,7 @@
 SET client_min_messages = warning;
 CREATE SCHEMA IF NOT EXISTS historian;
 
--- A stream is one archive: a file, or files numbered by a pattern. Two gateways are two streams, whatever their files are called.
+-- A stream is one archive: a file, or files numbered by a pattern. Two gateways are two streams, whatever the names of their files.
 CREATE TABLE IF NOT EXISTS historian.stream (
     id    integer GENERATED ALWAYS AS IDENTITY PRIMARY KEY,
     plant text   NOT NULL,
@@ -11,7 +11,7 @@ CREATE TABLE IF NOT EXISTS historian.stream (
     UNIQUE (plant, name)
 );
 
--- Which row is the first of each file, so that full files may be moved away.
+-- The first row of each file, so that full files may be moved away.
 CREATE TABLE IF NOT EXISTS historian.file (
     stream    integer REFERENCES historian.stream,
     name      text,
@@ -19,8 +19,8 @@ CREATE TABLE IF NOT EXISTS historian.file (
     PRIMARY KEY (stream, name)
 );
 
--- A row of an archive: (plant, stream, row) names it. The key has its moment too, since a key has the column of the partitions in it.
--- A time is below 2^64, which bigint does not hold; `at` is the same time as Unix time in ms.
+-- A row of an archive: (plant, stream, row) identifies it. The key has its time too, because a key must include the column of the partitions.
+-- A time is below 2^64, which bigint can't hold; `at` is the same time as Unix time in ms.
 CREATE TABLE IF NOT EXISTS historian.reception (
     stream   integer     NOT NULL DEFAULT current_setting('historian.stream')::integer,
     loose    boolean     NOT NULL,
@@ -36,10 +36,10 @@ CREATE TABLE IF NOT EXISTS historian.reception_later PARTITION OF historian.rece
 CREATE INDEX IF NOT EXISTS reception_by_transmitter ON historian.reception (txid, at);
 CREATE INDEX IF NOT EXISTS reception_by_time ON historian.reception USING brin (at);
 
--- Rows that were loaded and are not in the archive any more, as `aside` moves them.
+-- Rows that were loaded and are no longer in the archive; `aside` moves them here.
 CREATE TABLE IF NOT EXISTS historian.aside (LIKE historian.reception, moved timestamptz NOT NULL DEFAULT now());
 
--- How often each telegram was heard, by the line of the file that has it.
+-- How often each telegram was received, by its line in the file.
 CREATE TABLE IF NOT EXISTS historian.heard (
     stream integer     NOT NULL REFERENCES historian.stream,
     line   bigint      NOT NULL,
@@ -49,7 +49,7 @@ CREATE TABLE IF NOT EXISTS historian.heard (
     copies integer     NOT NULL,
     PRIMARY KEY (stream, line)
 );
--- Whether the collector was stopped while it was open, so that it may have been heard more often.
+-- Whether the collector was stopped while it was open, so it may have been received more often.
 ALTER TABLE historian.heard ADD COLUMN IF NOT EXISTS interrupted boolean NOT NULL DEFAULT false;
 
 -- The rows as `archive list --rows tsv` has them, with the names of plant and stream.
@@ -58,7 +58,7 @@ SELECT s.plant, s.name AS stream, r.row, r.at, r.time, CASE WHEN r.loose THEN 'L
     upper(encode(r.txid, 'hex')) AS txid, upper(encode(r.telegram, 'hex')) AS telegram
 FROM historian.reception r JOIN historian.stream s ON s.id = r.stream;
 
--- The number of a stream, which is made where it is new.
+-- The number of a stream; a new stream gets one.
 CREATE OR REPLACE FUNCTION historian.stream_of(plant text, stream text) RETURNS integer LANGUAGE plpgsql AS $$
 DECLARE found integer;
 BEGIN
@@ -78,7 +78,7 @@ CREATE OR REPLACE FUNCTION historian.lock(stream integer) RETURNS void LANGUAGE 
 CREATE OR REPLACE FUNCTION historian.file_number(name text) RETURNS numeric LANGUAGE sql IMMUTABLE AS
     $$ SELECT (regexp_match($1, '(\d+)\D*$'))[1]::numeric $$;
 
--- The number of the first row of a file: that of before, or the next row where the file is the first one or follows the last one.
+-- The number of the first row of a file: the known one, or the next row if the file is the first one or follows the last one.
 CREATE OR REPLACE FUNCTION historian.first_row(stream integer, file text) RETURNS bigint LANGUAGE plpgsql AS $$
 DECLARE known bigint; latest text; loaded bigint;
 BEGIN
@@ -132,7 +132,7 @@ BEGIN
     END IF;
 END $$;
 
--- Makes the partitions of months that have none, `2026-11` each. What is there stays.
+-- Makes the partitions of months that have none, each as `2026-11`. Existing ones are not changed.
 CREATE OR REPLACE FUNCTION historian.make_months(months text[]) RETURNS void LANGUAGE plpgsql AS $$
 DECLARE month text; first timestamptz; part text;
 BEGIN
