@@ -89,7 +89,7 @@ impl Collector {
         }
     }
 
-    /// Like `take`, where the caller tells that the state is accepted.
+    /// Like `take`, where the caller says that the state is accepted.
     fn take_tested(&mut self, time: u64, bytes: &[u8]) -> u16 {
         unsafe {
             mooringeye_collector_take_tested(

@@ -23,7 +23,7 @@ pub record Packing : Type 0 where
 abbrev pub startPacking : Packing
 startPacking = record { next = 0; waiting = [] }
 
--- the bytes of 15 cells
+-- the length of 15 cells
 abbrev pub fullLength : ℕ
 fullLength = cellLength * cellsPerBlock
 
@@ -72,7 +72,7 @@ packing next used pending = record { next = next; waiting = take (cellLength * u
 abbrev pub hasBlocks : ℕ → ℕ → Bool
 hasBlocks full used = leb (cellsPerBlock * full + used) maxRows
 
--- fewer than 15 cells wait, and there is a block number for them
+-- the buffer has the right length, fewer than 15 cells wait, and there is a block number for them
 unfoldable pub isPacking : ℕ → ℕ → List ℕ → Bool
 isPacking next used pending =
     eqb (length pending) pendingLength && (ltb used cellsPerBlock && hasBlocks next used)
@@ -186,6 +186,6 @@ packAll identities r (c ∷ cs) =
     (ran r (c .piece)
     (packOf (r .next) (r .used) (r .pending) (c .piece) identities (c .output) (c .positions))) cs
 
--- the end
+-- the call that ends the run
 abbrev pub endOf : Run → List ℕ → Finished
 endOf r output = finishOf (r .next) (r .used) (r .pending) output

@@ -8,12 +8,12 @@ unfoldable pub be : ℕ → ℕ → List ℕ
 be zero n = []
 be (suc w) n = be w (n / 256) ++ (n % 256 ∷ [])
 
--- the number of these bytes, after bytes whose number is `high`
+-- the value of these bytes as a number, after bytes with the value `high`
 unfoldable pub unbeFrom : ℕ → List ℕ → ℕ
 unbeFrom high [] = high
 unbeFrom high (b ∷ bs) = unbeFrom (high * 256 + b) bs
 
--- the number of these bytes
+-- the value of these bytes as a number
 unfoldable pub unbe : List ℕ → ℕ
 unbe bs = unbeFrom 0 bs
 

@@ -38,7 +38,7 @@ pub record Takes (s : Arrays) (r : Reception) (answer : ℕ) (s' : Arrays) : Typ
   -- with 8 and 11, every number of the five arrays is unchanged
   pub stays : isReceived (step (stateAt s) r .answer) ≡ false → s' ≡ s
 
--- one reception, where the caller tells whether the state is acceptable: what the step does with any five arrays
+-- one reception, where the caller says whether the state is acceptable: what the step does with any five arrays
 pub record TakesTold (fit : Bool) (s : Arrays) (r : Reception) (answer : ℕ) (s' : Arrays) : Type 0 where
   pub answered : answer ≡ answerNumber (admission fit (stateAt s) r .answer)
   pub next : stateAt s' ≡ admission fit (stateAt s) r .next
@@ -48,8 +48,8 @@ pub record TakesTold (fit : Bool) (s : Arrays) (r : Reception) (answer : ℕ) (s
   -- with 8 and 11, every number of the five arrays is unchanged
   pub stays : isReceived (admission fit (stateAt s) r .answer) ≡ false → s' ≡ s
 
--- THE CLAIM: if the caller tells the truth, this is the step of the reference model. After a refusal the four arrays
--- are unchanged, whatever the caller told.
+-- THE CLAIM: if the caller is right, this is the step of the reference model. After a refusal the four arrays
+-- are unchanged, whatever the caller said.
 pub record ToldTakes : Type 0 where
   pub isTake : (fit : Bool) (s s' : Arrays) (r : Reception) (n : ℕ) → fit ≡ acceptable (stateAt s) → TakesTold fit s r n s' → Takes s r n s'
   pub refused : (fit : Bool) (s s' : Arrays) (r : Reception) (n : ℕ) → TakesTold fit s r n s' → isAccepted (admission fit (stateAt s) r .answer) ≡ false

@@ -67,8 +67,8 @@ pub fn take<'a>(
     take_told(fit, times, lengths, bytes, copies, numbers, received, time)
 }
 
-// Takes one reception; the caller tells the result of the test of the state, so the test is not made again. If the caller tells it wrongly, the
-// arrays become what `admission` says. With every refusal the entries are unchanged.
+// Takes one reception; the caller gives the result of the test of the state, so the test is not made again. If that result is wrong, the arrays
+// become what `admission` says. With every refusal the entries are unchanged.
 pub fn take_told<'a>(
     fit: bool,
     times: &'a mut [u64; CAPACITY],

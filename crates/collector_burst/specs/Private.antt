@@ -29,7 +29,7 @@ pub record StepResult : Type 0 where
 abbrev pub steppedOf : Columns → Stepped → StepResult
 steppedOf a r = record { reply = repliedOf (r .reply); next = viewIn a (r .summary) }
 
--- one reception, where the caller tells whether the state is acceptable, with the telegram to send at a setting
+-- one reception, where the caller says whether the state is acceptable, with the telegram to send at a setting
 abbrev pub admittedWith : ℕ → Bool → View → view.Reception → StepResult
 admittedWith setting fit v r =
     let o = admission fit v r in

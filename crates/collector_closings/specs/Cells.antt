@@ -29,7 +29,7 @@ isPast opened time = not (leb (time - opened) maturity)
 abbrev pub pastCell : (opened : ℕ) (bytes : List ℕ) (copies time : ℕ) → List ℕ
 pastCell opened bytes copies time = cond (isPast opened time) (cellOf opened bytes copies) []
 
--- whether a reception is KEPT, COPY or LOOSE: the tests of a step that come before, where the caller tells whether the
+-- whether a reception is KEPT, COPY or LOOSE: the tests of a step that come before, where the caller says whether the
 -- state is acceptable
 abbrev pub isTaken : (fit : Bool) (received latest : ℕ) (bytes : List ℕ) (time : ℕ) → Bool
 isTaken fit received latest bytes time =

@@ -30,7 +30,7 @@ module _ {State : Type 0} (view : State → View) where
     restored : {c c′ : State} {image : List ℕ} {n : ℕ} {h : List Call} {l : List Seen}
         → record { number = n; next = view c′ } ≡ restoreOf (view c) image
         → Shows c′ h l → Shows c (Restore image ∷ h) (Restored n (view c′ .totals) ∷ l)
-    -- d is the other collector
+    -- d is the collector that restores the image of the cut
     resumed : {c d c′ : State} {output after : List ℕ} {n m : ℕ} {h : List Call} {l : List Seen}
         → record { number = n; output = after } ≡ checkpointOf (view c) output
         → view d ≡ fresh

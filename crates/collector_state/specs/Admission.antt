@@ -1,4 +1,4 @@
--- One reception at any state, where the caller tells whether the state is acceptable. In a run of receptions only the
+-- One reception at any state, where the caller says whether the state is acceptable. In a run of receptions only the
 -- first state is tested (document 01, "Merging").
 use Prim.Native.Nat.{ℕ, _+_, _<_, _^_}
 use mathlib.Core.List.{List, [], _++_, _∷_}
@@ -104,7 +104,7 @@ abbrev pub notAdmitted : Refusal → View → Outcome
 notAdmitted why v = record { answer = Refused (numberOf why); next = v }
 
 -- "11: .. state not accepted; the collector stays as it was"; "8: received is 2^64 - 1"; else the reception is taken. A
--- state is accepted here if the caller tells that it is acceptable, and it is safe.
+-- state is accepted here if the caller says that it is acceptable, and it is safe.
 unfoldable pub admission : Bool → View → Reception → Outcome
 admission fit v r =
     cond (not (fit && isSafe v)) (notAdmitted NotAccepted v)
@@ -116,7 +116,7 @@ unfoldable pub columnsAdmitted : Bool → View → Reception → Columns → Col
 columnsAdmitted fit v r a =
     cond (isAccepted (admission fit v r .answer)) (columnsWith (answerOn v r) r (length (v .entries)) (leftAfter v r) a) a
 
--- what `admit` does with columns and a summary; the caller tells whether the state is acceptable
+-- what `admit` does with columns and a summary; the caller says whether the state is acceptable
 pub record Admits (fit : Bool) (a : Columns) (s : Summary) (r : Reception) (a' : Columns) (d : Admitted) : Type 0 where
   pub outcome : admittedOf a' d ≡ admission fit (viewIn a s) r
   -- every element
@@ -126,13 +126,13 @@ pub record Admits (fit : Bool) (a : Columns) (s : Summary) (r : Reception) (a' :
   -- with 8 and 11, the summary too
   pub stays : isReceived (shownOf (d .answer)) ≡ false → (a' ≡ a) × (d .summary ≡ s)
 
--- `fit` tells whether a state is acceptable, and its numbers have 64 bits. This holds for the first state of a run, and
+-- `fit` says whether a state is acceptable, and its numbers have 64 bits. This holds for the first state of a run, and
 -- for every next one.
 pub record Tested (fit : Bool) (v : View) : Type 0 where
   pub said : fit ≡ acceptable v
   pub fits : Fits v
 
--- THE CLAIM for a run of receptions: if the caller tells the truth, each is admitted as the model's step, and what was
+-- THE CLAIM for a run of receptions: if the caller is right, each is admitted as the model's step, and what was
 -- told is true of the next state too
 pub record ToldRightly : Type 0 where
   pub isStep : (fit : Bool) (v : View) (r : Reception) → fit ≡ acceptable v → admission fit v r ≡ step v r

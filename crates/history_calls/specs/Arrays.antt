@@ -41,7 +41,7 @@ pub data ArraysShow : Arrays → List Call → List Seen → Arrays → Type 0 w
   received : {s s' e : Arrays} {setting n : ℕ} {r : Reception} {t : Totals} {h : List Call} {l : List Seen}
       → Takes s r n s' → TotalsSeen s' t → ArraysShow s' h l e
       → ArraysShow s (Receive setting r ∷ h) (Answered (shownIn n) (sentAt setting n r) t ∷ l) e
-  -- the caller tells that the state is acceptable, which it is
+  -- the caller says that the state is acceptable, and it is
   told : {s s' e : Arrays} {setting n : ℕ} {r : Reception} {t : Totals} {h : List Call} {l : List Seen}
       → acceptable (stateAt s) ≡ true → TakesTold true s r n s' → TotalsSeen s' t → ArraysShow s' h l e
       → ArraysShow s (Receive setting r ∷ h) (Answered (shownIn n) (sentAt setting n r) t ∷ l) e
@@ -51,7 +51,7 @@ pub data ArraysShow : Arrays → List Call → List Seen → Arrays → Type 0 w
   restored : {s s' e : Arrays} {image : List ℕ} {n : ℕ} {t : Totals} {h : List Call} {l : List Seen}
       → Restores s image n s' → TotalsSeen s' t → ArraysShow s' h l e
       → ArraysShow s (Restore image ∷ h) (Restored n t ∷ l) e
-  -- d is the other collector
+  -- d is the collector that restores the image of the cut
   resumed : {s d s' e : Arrays} {output after : List ℕ} {n m : ℕ} {t u : Totals} {h : List Call} {l : List Seen}
       → record { number = n; output = after } ≡ checkpointOf (stateAt s) output → TotalsSeen s t
       → Fresh d → Restores d (take imageLength after) m s' → TotalsSeen s' u → ArraysShow s' h l e

@@ -44,7 +44,7 @@ pub data ValuesShow : Collector → List Call → List Seen → Collector → Ty
   restored : {c e : Collector} {image : List ℕ} {h : List Call} {l : List Seen} (q : Restored)
       → Restores c image q → ValuesShow (q .next) h l e
       → ValuesShow c (Restore image ∷ h) (history.Restored (loadedNumber (q .answer)) (viewOf (q .next) .totals) ∷ l) e
-  -- d is the other collector
+  -- d is the collector that restores the image of the cut
   resumed : {c d e : Collector} {output after : List ℕ} {h : List Call} {l : List Seen} (s : Saved) (q : Restored)
       → checkpointResult s after ≡ checkpointOf (viewOf c) output → IsFresh d → Restores d (take imageLength after) q
       → ValuesShow (q .next) h l e

@@ -14,7 +14,7 @@ use Rattle.text_lines.specs.declared.Timed.{Timed}
 abbrev pub isDigit : ℕ → Bool
 isDigit c = isAmong 10 digit0 c
 
--- the number of these digits: each has its value times a power of ten
+-- the value of these digits: each counts its value times a power of ten
 unfoldable pub decimalOf : List ℕ → ℕ
 decimalOf [] = 0
 decimalOf (c ∷ s) = (c - digit0) * 10 ^ length s + decimalOf s

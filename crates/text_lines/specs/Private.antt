@@ -28,7 +28,7 @@ pub record Covered (s bytes : List ℕ) (k : ℕ) : Type 0 where
   pub low : nibbleOf (getD s (2 * k + 1) 0) < 16
   pub value : getD bytes k 0 ≡ nibbleOf (getD s (2 * k) 0) * 16 + nibbleOf (getD s (2 * k + 1) 0)
 
--- eight bytes from index i on and eight from index j on were written; r tells that all their pairs have digits
+-- eight bytes from index i on and eight from index j on were written; r says whether all their pairs have digits
 pub record PutTwo (s : List ℕ) (i j : ℕ) (old new : List ℕ) (r : Bool) : Type 0 where
   pub long : length new ≡ length old
   pub first : r ≡ true → (k : ℕ) → i ≤ k → k < i + 8 → Covered s new k

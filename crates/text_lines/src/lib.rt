@@ -146,7 +146,7 @@ fn is_digit(c: u8) -> bool
     (48 <= c) & (c < 58)
 }
 
-// The number of thirteen digits, which always fits 64 bits.
+// The value of thirteen digits, which always fits 64 bits.
 fn thirteen(text: &[u8]) -> u64
     requires { ⌜ Thirteen (now text) ⌝ }
     ensures { λ r. ⌜ r ≡ decimalOf (take 13 (now (text .entry))) ⌝ }

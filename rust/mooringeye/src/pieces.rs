@@ -28,7 +28,7 @@ impl Scan {
         Scan::default()
     }
 
-    /// A scan after `blocks` full blocks, which are not looked at: for a caller that read them before.
+    /// A scan after `blocks` full blocks, which are not read: for a caller that read them before.
     ///
     /// ```
     /// let mut scan = mooringeye::Scan::behind(7);
@@ -40,7 +40,7 @@ impl Scan {
         Scan { numbers: [blocks, rows, 0, 0] }
     }
 
-    /// Takes the blocks of the next piece. Refused: [`Refusal::Size`], and the scan is as it was. A block that does not match is told by [`Scan::end`].
+    /// Takes the blocks of the next piece. Refused: [`Refusal::Size`], and the scan is unchanged. [`Scan::end`] reports a block that does not match.
     pub fn feed(&mut self, piece: &[u8]) -> Result<(), Refusal> {
         done(raw::scan_feed(&mut self.numbers, piece))
     }
@@ -113,7 +113,7 @@ impl Block {
     /// Puts rows `first`, first + 1 and so on of an archive after the others of their block, all or none, with one CRC: as [`Block::put`] one after the
     /// other. `rows` has for each of `times` a record of [`raw::ROW`] bytes: 1 for LOOSE and else 0, a length, and 21 bytes, zero filled. Refused:
     /// [`Refusal::Size`] for a row that no archive has or another number of bytes, [`Refusal::Mismatch`] where the block does not say that row
-    /// `first` is next, the check's own with the place of the first such row among these, and [`Refusal::ShortOutput`] where there is no room for all.
+    /// `first` is next, the check's own with the position of the first such row in the list, and [`Refusal::ShortOutput`] if there is no room for all.
     ///
     /// ```
     /// use mooringeye::{Block, Refusal};
@@ -192,7 +192,7 @@ impl Iterator for PieceRows<'_> {
     }
 }
 
-/// An archive that is added to a report in pieces. Where it is dropped without [`Adding::end`] the report is as it was.
+/// An archive that is added to a report in pieces. If it is dropped without [`Adding::end`], the report is unchanged.
 ///
 /// ```
 /// use mooringeye::{Adding, Report};

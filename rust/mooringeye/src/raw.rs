@@ -26,17 +26,17 @@ pub const IMAGE: usize = 2_560;
 pub const REPLY: usize = 24;
 /// The bytes of the longest text of a line.
 pub const LONGEST_ROW: usize = 92;
-/// A line of this many bytes is BAD, whatever it has.
+/// A line of this many bytes is always BAD.
 pub const LINE_LIMIT: usize = 150;
-/// What lines that were taken are told by: bytes used, bytes of text, rows and lines.
+/// How many numbers a call on lines returns: bytes used, bytes of text, rows and lines.
 pub const LINES_DONE: usize = 4;
-/// The most bytes that a line says.
+/// The largest number of bytes of a reception in a line.
 pub const LINE_BYTES: usize = 64;
-/// What a line is told by: its time, how many bytes it says, and its own bytes.
+/// How many numbers the reading of a line returns: its time, how many bytes its reception has, and its own length.
 pub const LINE_READ: usize = 3;
 /// The bytes of the longest row of a line in any format.
 pub const LONGEST_ROW_AS: usize = 333;
-/// What lines that were taken in a format are told by: bytes used, bytes of rows, rows for an archive, lines and closings.
+/// How many numbers a call on lines in a format returns: bytes used, bytes of rows, rows for an archive, lines and closings.
 pub const LINES_AS_DONE: usize = 5;
 /// The bytes of a closing: when it was opened, a frame, and the copies.
 pub const CLOSING: usize = 32;
@@ -486,7 +486,7 @@ pub struct RowsAsMut<'a> {
     pub moments: &'a mut [u64],
     /// The rest of it.
     pub rows: &'a mut [u8],
-    /// What each telegram was heard that closed.
+    /// The telegrams that closed, with their copies.
     pub closed: &'a mut [u8],
 }
 
@@ -515,13 +515,13 @@ pub fn collector_lines_as(
     }
 }
 
-/// The setting of the first line, 3 for another line, 4 for none that has ended; and its bytes.
+/// The setting of the first line, 3 for another line, 4 if no line has ended; and its length.
 pub fn first_line(input: &[u8], used: &mut u64) -> u8 {
     // SAFETY: a slice that is read, and a number that is `&mut`.
     unsafe { c::mooringeye_first_line(input.as_ptr(), input.len(), used) }
 }
 
-/// What the line at the start of a text says: 0 for a reception, 3 for another line, 4 for none that has ended.
+/// Reads the line at the start of a text: 0 for a reception, 3 for another line, 4 if no line has ended.
 pub fn read_line(input: &[u8], bytes: &mut [u8; LINE_BYTES], done: &mut [u64; LINE_READ]) -> u8 {
     // SAFETY: a slice that is read, and two arrays of the sizes that the header names, both `&mut`.
     unsafe { c::mooringeye_read_line(input.as_ptr(), input.len(), bytes.as_mut_ptr(), done.as_mut_ptr()) }
@@ -541,7 +541,7 @@ pub fn archive_verify(buffer: &[u8], rows: &mut usize, position: &mut usize) -> 
     unsafe { c::mooringeye_archive_verify(buffer.as_ptr(), buffer.len(), rows, position) }
 }
 
-/// Appending, with every block looked at.
+/// Appending, with every block read.
 pub fn archive_append(buffer: &mut [u8], bytes: &[u8], time: u64, loose: bool, position: &mut usize) -> u8 {
     // SAFETY: a slice that is read, and a slice and a number that are `&mut`.
     unsafe { c::mooringeye_archive_append(buffer.as_mut_ptr(), buffer.len(), bytes.as_ptr(), bytes.len(), time, loose, position) }
@@ -606,7 +606,7 @@ pub fn scan_feed(numbers: &mut [u64; SCAN_NUMBERS], piece: &[u8]) -> u8 {
     unsafe { c::mooringeye_scan_feed(numbers.as_mut_ptr(), piece.as_ptr(), piece.len()) }
 }
 
-/// What all pieces answer together.
+/// The answer for all pieces together.
 pub fn scan_end(numbers: &[u64; SCAN_NUMBERS], rows: &mut usize, position: &mut usize) -> u8 {
     // SAFETY: an array of the size that the header names, which is read, and two numbers that are `&mut`.
     unsafe { c::mooringeye_scan_end(numbers.as_ptr(), rows, position) }
@@ -666,13 +666,13 @@ pub fn state_accept(
     unsafe { c::mooringeye_state_accept(from, size, numbers.as_mut_ptr(), text, block, image.as_mut_ptr(), tail.as_mut_ptr()) }
 }
 
-/// What the block with the last row that a state counts is.
+/// The judgement on the block with the last row that a state counts.
 pub fn journal_judge(last: &[u8], rows: usize, block: &[u8]) -> u8 {
     // SAFETY: two slices that are read.
     unsafe { c::mooringeye_journal_judge(last.as_ptr(), last.len(), rows, block.as_ptr(), block.len()) }
 }
 
-/// How far rows agree with leftovers, and how many of those are put aside.
+/// How many rows agree with leftovers, and how many of those must be put aside.
 pub fn journal_compare(times: &[u64], rows: &[u8], moments: &[u64], left: &[u8], agreed: &mut usize, going: &mut usize) -> u8 {
     let (at, size) = (rows.as_ptr(), rows.len());
     let (before, count) = (moments.as_ptr(), moments.len());
@@ -680,7 +680,7 @@ pub fn journal_compare(times: &[u64], rows: &[u8], moments: &[u64], left: &[u8],
     unsafe { c::mooringeye_journal_compare(times.as_ptr(), times.len(), at, size, before, count, left.as_ptr(), left.len(), agreed, going) }
 }
 
-/// How far the blocks of a piece read as an archive.
+/// How many blocks of a piece read as an archive.
 pub fn journal_scan(numbers: &mut [u64; RUN_NUMBERS], piece: &[u8]) -> u8 {
     // SAFETY: an array of the size that the header names, which is `&mut`, and a slice that is read.
     unsafe { c::mooringeye_journal_scan(numbers.as_mut_ptr(), piece.as_ptr(), piece.len()) }
@@ -688,7 +688,7 @@ pub fn journal_scan(numbers: &mut [u64; RUN_NUMBERS], piece: &[u8]) -> u8 {
 
 // ---- reports
 
-/// A report of no archive.
+/// A report without archives.
 pub fn report_empty(numbers: &mut [u64; REPORT_NUMBERS], lines: &mut [u64; REPORT_LINES]) {
     // SAFETY: two arrays of the sizes that the header names, both `&mut`.
     unsafe { c::mooringeye_report_empty(numbers.as_mut_ptr(), lines.as_mut_ptr()) }

@@ -189,7 +189,7 @@ fn collectors() {
         for content in [1, 21, 64, 65, 0xFF] {
             let mut other = arrays(content, end);
             assert_eq!(raw::collector_take(&mut other, guarded(&contents(8)[0], end), 0), 11);
-            // Told that the state is accepted, the call stays inside the arrays.
+            // The caller says that the state is accepted; the call still stays inside the arrays.
             raw::collector_take_tested(&mut arrays(content, end), guarded(&contents(8)[0], end), 0);
             asked(&mut other, end);
         }
