@@ -29,6 +29,7 @@ cutOf m buffer =
 unfoldable pub firstRows : ℕ → List ℕ → List ℕ
 firstRows m block = cond (eqb m 0) (replicate blockLength 0) (rowsBlock (blockNumber block) (take m (rowsOf block)))
 
+-- the number, and every byte of the block after the call
 pub record CutBlock : Type 0 where
   pub number : ℕ
   pub block : List ℕ

@@ -51,6 +51,7 @@ pub record Shown : Type 0 where
   pub time : ℕ
   pub loose : Bool
 
+-- a row that a call returns, as the model names it
 abbrev pub readResult : RowAt → Shown
 readResult r = record {
   number = foundNumber (r .answer);
@@ -90,6 +91,7 @@ abbrev pub openFound : buffer.Found → ℕ → Opening
 openFound (buffer.At k) n = record { number = numberOf Mismatch; position = k; rows = 0 }
 openFound buffer.None n = record { number = 0; position = 0; rows = n }
 
+-- the number of an answer; 0 for done
 abbrev pub takenNumber : Taken → ℕ
 takenNumber taken.Done = 0
 takenNumber (taken.Refused why) = numberOf why

@@ -16,6 +16,7 @@ use Rattle.archive_model.specs.Append.{Verdict, Appended, refusedAppend, stored
 
 -- ---- the rows that a caller hands over
 
+-- the length of a record of a row without its time
 abbrev pub rowLength : ℕ
 rowLength = 23
 

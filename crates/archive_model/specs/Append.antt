@@ -19,10 +19,12 @@ pub record Verdict : Type 0 where
   pub number : ℕ
   pub position : ℕ
 
+-- the verdict by the first block that does not match
 abbrev pub found : Found → Verdict
 found (At k) = record { number = numberOf Mismatch; position = k }
 found None = record { number = 0; position = 0 }
 
+-- the verdict on a buffer: first its length, then its blocks
 unfoldable pub verdict : List ℕ → Verdict
 verdict buffer =
     cond (not (isWhole (length buffer))) (record { number = numberOf Size; position = 0 }) (found (mismatch buffer))
@@ -33,6 +35,7 @@ pub record Opening : Type 0 where
   pub position : ℕ
   pub rows : ℕ
 
+-- opening an archive
 unfoldable pub openOf : List ℕ → Opening
 openOf buffer = record {
   number = verdict buffer .number;
@@ -61,6 +64,7 @@ refusedAppend number position buffer = record { number = number; position = posi
 abbrev pub stored : List ℕ → Appended
 stored buffer = record { number = 0; position = 0; buffer = buffer }
 
+-- appending a row to an archive: the verdict, then the numbers of the row, then the rows with the new one
 unfoldable pub appendOf : List ℕ → Row → Appended
 appendOf buffer r =
     cond (not (eqb (verdict buffer .number) 0))
@@ -70,6 +74,7 @@ appendOf buffer r =
 
 -- ---- row n of an archive is in block n / 15, in cell n % 15, so the number of rows tells where the next one goes
 
+-- block k of a buffer
 abbrev pub blockAt : ℕ → List ℕ → List ℕ
 blockAt k buffer = part (blockLength * k) blockLength buffer
 
@@ -98,6 +103,7 @@ putRowOf block n r =
     (cond (not (isValid (r .bytes))) (refusedAppend (checkOf (r .bytes)) 0 block)
     (stored (putRow n r block))))
 
+-- the buffer has the block of row n
 abbrev pub isInside : ℕ → List ℕ → Bool
 isInside n buffer = ltb (n / cellsPerBlock) (length buffer / blockLength)
 
@@ -130,6 +136,7 @@ isScan s =
     leb (s .blocks) maxBlocks
     && (leb (s .rows) (cellsPerBlock * s .blocks) && isStage (s .stage) (s .blocks) (s .rows))
 
+-- the number, and the scan after a piece
 pub record Feeding : Type 0 where
   pub number : ℕ
   pub next : Scan
@@ -145,6 +152,7 @@ feedOf s piece =
 
 -- ---- row i, read from its cell
 
+-- the number, and the row; no row with a refusal
 pub record ReadRow : Type 0 where
   pub number : ℕ
   pub row : Row

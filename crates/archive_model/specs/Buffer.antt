@@ -19,6 +19,7 @@ blocksFor n = (n + (cellsPerBlock - 1)) / cellsPerBlock
 abbrev pub rowsAt : ℕ → List Row → List Row
 rowsAt k rows = part (cellsPerBlock * k) cellsPerBlock rows
 
+-- the bytes of an archive of these rows: full blocks, and a last one that may be short
 unfoldable pub archiveOf : List Row → List ℕ
 archiveOf rows = flatten (map (λ k. rowsBlock k (rowsAt k rows)) (upFrom 0 (blocksFor (length rows))))
 
@@ -29,6 +30,7 @@ bufferOf n rows = padded n (archiveOf rows)
 
 -- ---- reading
 
+-- the largest number of blocks of an archive
 abbrev pub maxBlocks : ℕ
 maxBlocks = 2 ^ 32
 
@@ -40,6 +42,7 @@ maxRows = cellsPerBlock * maxBlocks
 unfoldable pub isWhole : ℕ → Bool
 isWhole n = eqb (n % blockLength) 0 && leb (n / blockLength) maxBlocks
 
+-- the whole blocks of a buffer
 unfoldable pub blocksIn : List ℕ → List (List ℕ)
 blocksIn buffer = map (λ k. part (blockLength * k) blockLength buffer) (upFrom 0 (length buffer / blockLength))
 
@@ -57,6 +60,7 @@ abbrev pub nonZero : ℕ → List (List ℕ) → Found
 nonZero k [] = None
 nonZero k (b ∷ bs) = cond (isBlank b) (nonZero (suc k) bs) (At k)
 
+-- a block has fewer than 15 rows
 abbrev pub isShort : List ℕ → Bool
 isShort block = ltb (rowCount block) cellsPerBlock
 
@@ -75,23 +79,27 @@ mismatchFrom k (b ∷ bs) =
     (cond (isShort b && isFollowed bs) (At k)
     (mismatchFrom (suc k) bs)))
 
+-- the first block of a buffer that does not match
 unfoldable pub mismatch : List ℕ → Found
 mismatch buffer = mismatchFrom 0 (blocksIn buffer)
 
 -- ---- the same in pieces: what is known after some blocks, so that a file can be read once, in parts
 
+-- what is known of the blocks so far
 pub data Stage : Type 0 where
   -- Filling: all blocks so far are full. Short: the last one is short. Ended: there was an all-zero block.
   Filling Short Ended : Stage
   -- the position of the first block that does not match
   Wrong : ℕ → Stage
 
+-- a scan after some blocks
 pub record Scan : Type 0 where
   -- how many blocks were read, and how many rows they have
   pub blocks : ℕ
   pub rows : ℕ
   pub stage : Stage
 
+-- the scan before the first block
 abbrev pub startScan : Scan
 startScan = record { blocks = 0; rows = 0; stage = Filling }
 
@@ -109,6 +117,7 @@ stageBlank Short = Ended
 stageBlank Ended = Ended
 stageBlank (Wrong j) = Wrong j
 
+-- the scan after one more block
 unfoldable pub scanBlock : Scan → List ℕ → Scan
 scanBlock s b = record {
   blocks = s .blocks + 1;
@@ -116,10 +125,12 @@ scanBlock s b = record {
   stage = cond (isBlank b) (stageBlank (s .stage)) (stageAfter (s .stage) (s .blocks) b);
 }
 
+-- the scan after more blocks
 unfoldable pub scanBlocks : Scan → List (List ℕ) → Scan
 scanBlocks s [] = s
 scanBlocks s (b ∷ bs) = scanBlocks (scanBlock s b) bs
 
+-- the first block that does not match, by the stage after all blocks: a short last block is allowed
 abbrev pub stageFound : Stage → Found
 stageFound Filling = None
 stageFound Short = None

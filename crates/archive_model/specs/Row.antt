@@ -21,6 +21,7 @@ pub record Row : Type 0 where
 abbrev pub rowLast : Bool → ℕ
 rowLast loose = cond loose 256 0
 
+-- the cell of a row
 abbrev pub rowCell : Row → List ℕ
 rowCell r = cellOf (r .time) (r .bytes) (rowLast (r .loose))
 
@@ -34,18 +35,23 @@ rowsBlock k rows = blockOf (rowsHeader k (length rows)) (map rowCell rows)
 
 -- ---- what a block says, sound or not
 
+-- the number in the first four bytes
 abbrev pub blockNumber : List ℕ → ℕ
 blockNumber block = unbe (part 0 4 block)
 
+-- the count of rows in byte 4
 abbrev pub rowCount : List ℕ → ℕ
 rowCount block = getD block 4 0
 
+-- the row in a cell
 abbrev pub rowIn : List ℕ → Row
 rowIn cell = record { bytes = cellBytes cell; time = cellTime cell; loose = eqb (cellLast cell) (rowLast true) }
 
+-- the rows of a block, as many as its count says
 unfoldable pub rowsOf : List ℕ → List Row
 rowsOf block = map (λ i. rowIn (blockCell i block)) (upFrom 0 (rowCount block))
 
+-- a row is valid: its bytes pass the check
 abbrev pub isRow : Row → Bool
 isRow r = isValid (r .bytes)
 
@@ -57,5 +63,6 @@ isSound block =
     && (all isRow (rowsOf block)
     && equal (rowsBlock (blockNumber block) (rowsOf block)) block))
 
+-- all bytes are zero
 abbrev pub isBlank : List ℕ → Bool
 isBlank block = all (λ b. eqb b 0) block

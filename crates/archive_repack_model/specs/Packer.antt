@@ -20,6 +20,7 @@ pub record Packing : Type 0 where
   pub next : ℕ
   pub waiting : List ℕ
 
+-- the packing before the first piece
 abbrev pub startPacking : Packing
 startPacking = record { next = 0; waiting = [] }
 
@@ -51,6 +52,7 @@ pushed p cells = record {
 unfoldable pub lastBlock : Packing → List ℕ
 lastBlock p = cond (eqb (length (p .waiting)) 0) [] (cellsBlock (p .next) (p .waiting))
 
+-- the cells of rows, as bytes
 abbrev pub cellsOf : List Row → List ℕ
 cellsOf rows = flatten (map rowCell rows)
 
@@ -129,6 +131,7 @@ packOf next used pending piece identities output positions =
     (fronted (pushedBlocks (packing next used pending) (keptCells identities piece)) output)
     (fronted (dropped piece) positions)))))
 
+-- the number, the length of the last block, and every byte of the output after the call
 pub record Finished : Type 0 where
   pub number : ℕ
   pub length : ℕ
@@ -164,6 +167,7 @@ pub record Run : Type 0 where
   pub dropped : List ℕ
   pub taken : List ℕ
 
+-- before the first call
 abbrev pub startRun : List ℕ → Run
 startRun pending = record { next = 0; used = 0; pending = pending; written = []; dropped = []; taken = [] }
 
@@ -179,6 +183,7 @@ ran r piece a = record {
   taken = r .taken ++ cond (eqb (a .number) 0) piece [];
 }
 
+-- after all calls
 abbrev pub packAll : List ℕ → Run → List Call → Run
 packAll identities r [] = r
 packAll identities r (c ∷ cs) =

@@ -27,6 +27,7 @@ isDropped block = not (isSound block || isBlank block)
 unfoldable pub dropped : List ℕ → List ℕ
 dropped buffer = keep (λ k. isDropped (blockAt k buffer)) (upFrom 0 (length buffer / blockLength))
 
+-- the number, how many blocks were dropped, how many rows remain, and every byte and element of output and list
 pub record Salvaged : Type 0 where
   pub number : ℕ
   pub count : ℕ
@@ -68,6 +69,7 @@ isListed identities r = any (eqb (identityOf r)) identities
 abbrev pub others : List ℕ → List Row → List Row
 others identities rows = keep (λ r. not (isListed identities r)) rows
 
+-- the number, the position that goes with 12, how many blocks were freed, and every byte of the buffer
 pub record Removed : Type 0 where
   pub number : ℕ
   pub position : ℕ

@@ -9,6 +9,7 @@ use Rattle.archive_report_model.specs.Report.{Line, maxLines}
 abbrev pub lineLength : ℕ
 lineLength = 5
 
+-- the length of the array: 256 lines
 abbrev pub linesLength : ℕ
 linesLength = lineLength * maxLines
 
@@ -36,6 +37,7 @@ linesAt xs n = linesFrom xs 0 n
 abbrev pub lineNumbers : Line → List ℕ
 lineNumbers a = a .identity ∷ a .kept ∷ a .loose ∷ a .earliest ∷ a .latest ∷ []
 
+-- the numbers of several lines
 unfoldable pub linesNumbers : List Line → List ℕ
 linesNumbers [] = []
 linesNumbers (a ∷ lines) = lineNumbers a ++ linesNumbers lines

@@ -96,6 +96,7 @@ pub record RoundedDown (t n received : ℕ) : Type 0 where
   pub low : t * received ≤ 1000 * n
   pub high : 1000 * n < (t + 1) * received
 
+-- Share rounded down: every share that is not refused is this one.
 abbrev pub ShareRoundedDown : Type 0
 ShareRoundedDown =
     (s : Report) (received : ℕ) → shareOf s received .number ≡ 0

@@ -21,6 +21,7 @@ pub record Tally : Type 0 where
   pub over : Bool
   pub scan : Scan
 
+-- the tally before the first block: the lines and the totals of the report
 abbrev pub startTally : Report → Tally
 startTally s = record { lines = s .lines; kept = s .kept; loose = s .loose; over = false; scan = startScan }
 
@@ -41,9 +42,11 @@ counted t rows scan =
       scan = scan;
     })
 
+-- the tally after one more block
 unfoldable pub addBlock : Tally → List ℕ → Tally
 addBlock t block = counted t (countedRows block) (scanBlock (t .scan) block)
 
+-- the tally after more blocks
 unfoldable pub addBlocks : Tally → List (List ℕ) → Tally
 addBlocks t [] = t
 addBlocks t (b ∷ bs) = addBlocks (addBlock t b) bs
@@ -56,6 +59,7 @@ closed s t None =
     (cond (t .over) (answer (numberOf Transmitters) 0 s)
     (answer 0 0 (record { archives = s .archives + 1; lines = t .lines; kept = t .kept; loose = t .loose })))
 
+-- the answer after all blocks, by the stage of the scan
 unfoldable pub closing : Report → Tally → Addition
 closing s t = closed s t (stageFound (t .scan .stage))
 
@@ -69,6 +73,7 @@ pub record Adding : Type 0 where
 abbrev pub adding : Report → Tally → Adding
 adding s t = record { report = s; tally = t }
 
+-- before the first piece
 abbrev pub startAdding : Report → Adding
 startAdding s = adding s (startTally s)
 
@@ -89,6 +94,7 @@ isAdding a =
 abbrev pub isPiece : Scan → List ℕ → Bool
 isPiece scan piece = isWhole (blockLength * scan .blocks + length piece)
 
+-- the number, and what is known after the piece
 pub record Feeding : Type 0 where
   pub number : ℕ
   pub next : Adding

@@ -35,6 +35,7 @@ maxArchives = 64
 abbrev pub maxLines : ℕ
 maxLines = 256
 
+-- a report without archives
 abbrev pub emptyReport : Report
 emptyReport = record { archives = 0; lines = []; kept = 0; loose = 0 }
 
@@ -68,6 +69,7 @@ insert a (b ∷ lines) =
     (cond (eqb (a .identity) (b .identity)) (joined a b ∷ lines)
     (b ∷ insert a lines))
 
+-- the lines after more rows
 unfoldable pub addRows : List Row → List Line → List Line
 addRows [] lines = lines
 addRows (r ∷ rows) lines = addRows rows (insert (lineOf r) lines)
@@ -82,6 +84,7 @@ keptIn rows = count (λ r. not (r .loose)) rows
 -- ---- the reports that archives give; the calls answer 11 for any other (`Sound` and `Complete` of Claims.antt prove
 -- both directions)
 
+-- how many rows a line has
 abbrev pub rowsOfLine : Line → ℕ
 rowsOfLine a = a .kept + a .loose
 
@@ -94,9 +97,11 @@ isLine a =
     && (ltb (a .latest) (2 ^ 64)
     && (ltb 1 (rowsOfLine a) || eqb (a .earliest) (a .latest)))))
 
+-- the identities of the lines rise
 abbrev pub isRising : List Line → Bool
 isRising lines = pairwise (λ a b. ltb (a .identity) (b .identity)) lines
 
+-- the sum of a number over all lines
 abbrev pub sumBy : (Line → ℕ) → List Line → ℕ
 sumBy f [] = 0
 sumBy f (a ∷ lines) = f a + sumBy f lines
@@ -146,6 +151,7 @@ addOf s buffer =
     (cond (ltb maxLines (length (addRows (rowsIn buffer) (s .lines)))) (answer (numberOf Transmitters) 0 s)
     (answer 0 0 (added s (rowsIn buffer))))))
 
+-- the number, and the share in thousandths; 0 with a refusal
 pub record Share : Type 0 where
   pub number : ℕ
   pub thousandths : ℕ
@@ -166,6 +172,7 @@ pub record LineAnswer : Type 0 where
 abbrev pub noLine : Line
 noLine = record { identity = 0; kept = 0; loose = 0; earliest = 0; latest = 0 }
 
+-- line i of a report
 unfoldable pub lineOfReport : Report → ℕ → LineAnswer
 lineOfReport s i =
     cond (not (isReport s)) (record { number = numberOf NotAccepted; line = noLine })

@@ -3,6 +3,7 @@ use Prim.Native.Nat.{ℕ}
 use Rattle.base_refusal.specs.declared.Refusal.{Refusal}
 use Rattle.base_refusal.specs.declared.Refusal.the-variants.{Length, Sum, Nested, NotAddressed, TooLong, ShortOutput, Late, Full, NoPlan, Argument, NotAccepted, Mismatch, Crc, ReservedAddress, Misfit, Size, Transmitters, Unlawful, Overlap}
 
+-- the number of a refusal
 abbrev pub numberOf : Refusal → ℕ
 numberOf Length = 1
 numberOf Sum = 2

@@ -28,6 +28,7 @@ putCell time bytes last old =
 
 -- ---- reading a cell
 
+-- the time opened
 abbrev pub cellTime : List ℕ → ℕ
 cellTime cell = unbe (part 0 8 cell)
 
@@ -43,5 +44,6 @@ cellField cell = part 9 cellCapacity cell
 unfoldable pub cellBytes : List ℕ → List ℕ
 cellBytes cell = resized (cellUsed cell) (cellField cell)
 
+-- the last two bytes, as a number
 abbrev pub cellLast : List ℕ → ℕ
 cellLast cell = unbe (part 30 2 cell)

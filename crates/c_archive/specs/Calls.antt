@@ -38,6 +38,7 @@ hasPlace n =
     eqb n (numberOf Mismatch)
     || (eqb n (numberOf Length) || eqb n (numberOf Sum) || (eqb n (numberOf Crc) || eqb n (numberOf Nested)))
 
+-- the result of `put_rows` in lent memory
 abbrev pub putRowsCall : Appended → ℕ → Appended
 putRowsCall a position = record {
   number = a .number;
@@ -45,6 +46,7 @@ putRowsCall a position = record {
   buffer = a .buffer;
 }
 
+-- the result of a salvage in lent memory
 abbrev pub salvageCall : Salvaged → ℕ → ℕ → Salvaged
 salvageCall a dropped rows = record {
   number = a .number;
@@ -54,6 +56,7 @@ salvageCall a dropped rows = record {
   positions = a .positions;
 }
 
+-- the result of a removal in lent memory
 abbrev pub removeCall : Removed → ℕ → ℕ → Removed
 removeCall a freed position = record {
   number = a .number;

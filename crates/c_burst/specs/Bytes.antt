@@ -26,6 +26,7 @@ receptionsIn moments records =
 abbrev pub replyLength : ℕ
 replyLength = 24
 
+-- the bytes of a reply
 unfoldable pub replyBytes : Replied → List ℕ
 replyBytes r = (kindOf (r .answer) ∷ shownNumber (r .answer) ∷ []) ++ frameBytes (r .sent .len) (r .sent .bytes)
 

@@ -6,6 +6,7 @@ use Rattle.collector_model.specs.Image.{RestoreResult, parse, restoreOf}
 use Rattle.collector_state.specs.Collector.{columnsHolding}
 use Rattle.c_collector.specs.State.{Arrays, columnsAt, stateAt, numbersOf}
 
+-- the result of a restore: the number, and the state in the arrays
 abbrev pub restoreResult : ℕ → Arrays → RestoreResult
 restoreResult number s = record { number = number; next = stateAt s }
 

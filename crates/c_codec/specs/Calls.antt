@@ -42,6 +42,7 @@ buildCall fields was output =
 abbrev pub sentBytes : Frame → List ℕ
 sentBytes f = frameBytes (f .len) (f .bytes)
 
+-- repeats a telegram into a frame
 unfoldable pub repeatCall : ℕ → List ℕ → List ℕ → Call
 repeatCall setting s old =
     sized frameLength old (answered (repeatResult setting s .number) (sentBytes (repeatResult setting s .sent)) old)

@@ -26,6 +26,7 @@ arrays times lengths bytes copies numbers = record {
   numbers = numbers;
 }
 
+-- the four arrays of the entries
 abbrev pub columnsAt : Arrays → Columns
 columnsAt s = columns (s .times) (s .lengths) (s .bytes) (s .copies)
 
@@ -48,6 +49,7 @@ summaryIn numbers = record {
 abbrev pub stateAt : Arrays → View
 stateAt s = viewIn (columnsAt s) (summaryIn (s .numbers))
 
+-- the six totals, in the order of the eight numbers
 abbrev pub totalNumbers : Totals → List ℕ
 totalNumbers n = n .received ∷ n .kept ∷ n .copies ∷ n .loose ∷ n .damaged ∷ n .late ∷ []
 

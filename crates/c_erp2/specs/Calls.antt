@@ -35,6 +35,7 @@ readCall s old originator destination =
     (ifDone (readOf s .number) (readOf s .telegram .originator) originator)
     (ifDone (readOf s .number) (readOf s .telegram .destination .id) destination))
 
+-- builds an ERP2 telegram from its fields and its two IDs
 unfoldable pub buildCall : List ℕ → ℕ → ℕ → ℕ → List ℕ → Result
 buildCall fields originator destination was output =
     cond (not (eqb (length fields) fieldsLength)) (record { number = wrongSize; len = was; output = output })

@@ -36,6 +36,7 @@ fieldsBytes t = headBytes t ++ resized maxData (t .payload) ++ resized maxOption
 abbrev pub flagAt : ℕ → List ℕ → Bool
 flagAt i bytes = not (eqb (getD bytes i 0) 0)
 
+-- the telegram in 276 bytes and two IDs
 unfoldable pub telegramIn : List ℕ → ℕ → ℕ → Telegram
 telegramIn bytes originator destination = record {
   short = getD bytes 0 0;

@@ -14,6 +14,7 @@ wrongSize = 255
 abbrev pub frameLength : ℕ
 frameLength = 22
 
+-- the bytes of a frame: a length byte, and 21 bytes
 unfoldable pub frameBytes : ℕ → List ℕ → List ℕ
 frameBytes len bytes = (len ∷ []) ++ resized maxLength bytes
 

@@ -17,18 +17,21 @@ unfoldable pub stageAt : ℕ → ℕ → Stage
 stageAt stage position =
     cond (eqb stage 0) Filling (cond (eqb stage 1) Short (cond (eqb stage 2) Ended (Wrong position)))
 
+-- the number of a stage
 abbrev pub stageNumber : Stage → ℕ
 stageNumber Filling = 0
 stageNumber Short = 1
 stageNumber Ended = 2
 stageNumber (Wrong k) = 3
 
+-- the position of the block that does not match; 0 if there is none
 abbrev pub stagePosition : Stage → ℕ
 stagePosition Filling = 0
 stagePosition Short = 0
 stagePosition Ended = 0
 stagePosition (Wrong k) = k
 
+-- the scan in four numbers
 abbrev pub scanAt : List ℕ → Scan
 scanAt numbers = record {
   blocks = getD numbers 0 0;
@@ -36,6 +39,7 @@ scanAt numbers = record {
   stage = stageAt (getD numbers 2 0) (getD numbers 3 0);
 }
 
+-- the four numbers of a scan
 abbrev pub scanNumbers : Scan → List ℕ
 scanNumbers s = s .blocks ∷ s .rows ∷ stageNumber (s .stage) ∷ stagePosition (s .stage) ∷ []
 

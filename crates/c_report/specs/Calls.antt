@@ -51,6 +51,7 @@ pub record LineCall : Type 0 where
 abbrev pub answeredLine : model.LineAnswer → List ℕ → LineCall
 answeredLine a old = record { number = a .number; values = ifDone (a .number) (lineNumbers (a .line)) old }
 
+-- line i of a report in lent memory
 abbrev pub lineCall : model.Report → ℕ → List ℕ → LineCall
 lineCall r i old = answeredLine (model.lineOfReport r i) old
 

@@ -20,6 +20,7 @@ use Rattle.collector_model.specs.Answer.{Shown, Kept, Copy, Loose, Refused}
 use Rattle.collector_model.specs.View.{fresh}
 use Rattle.collector_model.specs.History.{Call, Receive, Seen, Answered, Wrote, Restored, Delivered, Heard, Looked, run}
 
+-- what a definition gives, and what the documents say
 pub record Case : Type 0 where
   pub got : List ℕ
   pub want : List ℕ
@@ -67,6 +68,7 @@ shownAs Copy = copy
 shownAs Loose = 102
 shownAs (Refused n) = n
 
+-- the answers in what is seen of a history
 abbrev pub answersOf : List Seen → List ℕ
 answersOf [] = []
 answersOf (Answered a sent n ∷ l) = shownAs a ∷ answersOf l
@@ -76,6 +78,7 @@ answersOf (Delivered number replies n ∷ l) = answersOf l
 answersOf (Heard number copies n ∷ l) = answersOf l
 answersOf (Looked n ∷ l) = answersOf l
 
+-- a reception of these bytes at a time, at setting 1
 abbrev pub received : List ℕ → ℕ → Call
 received s t = Receive 1 (record { bytes = s; time = t })
 
@@ -95,6 +98,7 @@ shownFields t =
     ++ take (t .len) (t .payload)
     ++ take (t .extension .announced) (t .optional)
 
+-- the number, and the fields
 abbrev pub shownRead : Read → List ℕ
 shownRead r = r .number ∷ shownFields (r .telegram)
 
@@ -116,6 +120,7 @@ abbrev pub everyField : List ℕ
 everyField =
     0x0F ∷ 0x5F ∷ 0x12 ∷ 0x32 ∷ 0x01 ∷ 0x02 ∷ 0x03 ∷ 0x04 ∷ 0xF1 ∷ 0xF2 ∷ 0xF3 ∷ 0xF4 ∷ 0xAA ∷ 0xBB ∷ 0xCC ∷ 0x23 ∷ []
 
+-- the table of cases
 abbrev pub cases : List Case
 cases =
     record { got = crcOf (0x01 ∷ []) ∷ []; want = 0x07 ∷ [] }

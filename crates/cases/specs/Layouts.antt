@@ -43,6 +43,7 @@ bytesAt places bytes = map (λ (i : ℕ). getD bytes i 0) places
 abbrev pub shownAssignment : Assignment → List ℕ
 shownAssignment a = a .rule ∷ a .level ∷ a .duration ∷ a .slots .first ∷ a .slots .second ∷ a .slots .third ∷ []
 
+-- the table of layouts
 abbrev pub layouts : List Case
 layouts =
     -- an image: for each block its number, its count of entries, and the last byte of each of its two numbers

@@ -46,10 +46,12 @@ columnsTested fit v [] a = a
 columnsTested fit v (r ∷ rs) a =
     columnsTested fit (admission fit v (receptionOf r) .next) rs (columnsAdmitted fit v (receptionOf r) a)
 
+-- the state after the receptions of records, one by one
 unfoldable pub afterTested : Bool → View → List Reception → View
 afterTested fit v [] = v
 afterTested fit v (r ∷ rs) = afterTested fit (admission fit v (receptionOf r) .next) rs
 
+-- the replies to the receptions of records, one by one
 unfoldable pub replies : ℕ → Bool → View → List Reception → List Replied
 replies setting fit v [] = []
 replies setting fit v (r ∷ rs) =

@@ -12,6 +12,7 @@ pub data Shown : Type 0 where
   Kept Copy Loose : Shown
   Refused : ℕ → Shown
 
+-- an answer of the code, as a caller sees it
 abbrev pub shownOf : Answer → Shown
 shownOf answer.Kept = Kept
 shownOf answer.Copy = Copy

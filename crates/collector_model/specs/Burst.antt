@@ -33,6 +33,7 @@ unfoldable pub afterAll : View → List Reception → View
 afterAll v [] = v
 afterAll v (r ∷ rs) = afterAll (step v r .next) rs
 
+-- the reply to each of several receptions
 unfoldable pub repliesTo : ℕ → View → List Reception → List Replied
 repliesTo setting v [] = []
 repliesTo setting v (r ∷ rs) = replyWith setting (step v r .answer) r ∷ repliesTo setting (step v r .next) rs

@@ -28,6 +28,7 @@ standsFor (Burst setting rs places) = map (givenAt setting) (burstTaken setting 
 standsFor (Ask k) = []
 standsFor Look = []
 
+-- the receptions of a list of calls, each with its setting
 abbrev pub receptionsOf : List Call → List Given
 receptionsOf [] = []
 receptionsOf (c ∷ h) = standsFor c ++ receptionsOf h

@@ -26,6 +26,7 @@ pub record Fits (v : View) : Type 0 where
 abbrev pub fitsCell : Entry → Bool
 fitsCell e = ltb (e .time) (2 ^ 64) && (leb (length (e .bytes)) cellCapacity && leb (e .copies) ceiling)
 
+-- the same for a whole view
 pub record FitsLayout (v : View) : Type 0 where
   pub latest : v .latest < 2 ^ 64
   pub received : v .totals .received < 2 ^ 64
@@ -37,6 +38,7 @@ pub record FitsLayout (v : View) : Type 0 where
   pub few : length (v .entries) ≤ 5 * cellsPerBlock
   pub entries : all fitsCell (v .entries) ≡ true
 
+-- Exact (THE CLAIM): a restore accepts exactly these images
 pub record Exact : Type 0 where
   -- the image of every acceptable view, with 0, 1 or 2 as the setting, is accepted, and reads back as that view
   pub accepted : (setting : ℕ) → setting ≤ maxSetting → (v : View) → acceptable v ≡ true → Fits v

@@ -11,11 +11,14 @@ headerOf k used a b = (k ∷ used ∷ []) ++ replicate 6 0 ++ be 8 a ++ be 8 b
 
 -- ---- what a header says
 
+-- the number of entries used
 abbrev pub headerUsed : List ℕ → ℕ
 headerUsed header = getD header 1 0
 
+-- the first of the two numbers
 abbrev pub headerFirst : List ℕ → ℕ
 headerFirst header = unbe (part 8 8 header)
 
+-- the second of the two numbers
 abbrev pub headerSecond : List ℕ → ℕ
 headerSecond header = unbe (part 16 8 header)

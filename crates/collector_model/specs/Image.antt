@@ -58,12 +58,15 @@ imageOf v = imageWith 0 v
 abbrev pub blockIn : ℕ → List ℕ → List ℕ
 blockIn k image = part (blockLength * k) blockLength image
 
+-- the number of entries used in block k
 abbrev pub usedIn : ℕ → List ℕ → ℕ
 usedIn k image = headerUsed (blockHeader (blockIn k image))
 
+-- the first number of block k
 abbrev pub firstIn : ℕ → List ℕ → ℕ
 firstIn k image = headerFirst (blockHeader (blockIn k image))
 
+-- the second number of block k
 abbrev pub secondIn : ℕ → List ℕ → ℕ
 secondIn k image = headerSecond (blockHeader (blockIn k image))
 
@@ -83,6 +86,7 @@ cellEntry cell = record { bytes = cellBytes cell; time = cellTime cell; copies =
 unfoldable pub entryIn : List ℕ → ℕ → Entry
 entryIn image i = cellEntry (blockCell (i % cellsPerBlock) (blockIn (i / cellsPerBlock) image))
 
+-- the totals in an image
 unfoldable pub totalsIn : List ℕ → Totals
 totalsIn image = record {
   received = secondIn 0 image;

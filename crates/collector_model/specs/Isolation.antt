@@ -71,6 +71,7 @@ module _ {State : Type 0} (view : State → View) where
     pub replies : repliesOf x (receptionsOf h) (repliesIn h l) ≡ repliesIn (struck x h) m
     pub entries : isNewest x (pastOf h) ≡ true → keep (isEntryOf x) (view left .entries) ≡ view alone .entries
 
+  -- States isolated: this holds for every history that fulfils the premises.
   abbrev pub StatesIsolated : Type 0
   StatesIsolated =
       (x : List ℕ) (h : List Call) → IsHistory h → Quiet (pastOf h)

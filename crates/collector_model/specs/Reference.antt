@@ -22,6 +22,7 @@ use Rattle.collector_model.specs.Burst.{Replied}
 use Rattle.collector_model.specs.Heard.{HeardResult, copiesIn}
 use Rattle.collector_model.specs.Image.{CheckpointResult, imageLength, imageOf}
 
+-- a reception, and the answer that it got
 pub record Logged : Type 0 where
   pub reception : Reception
   pub answer : Shown
@@ -126,6 +127,7 @@ abbrev pub pastAfter : List Reception → List Reception → List Reception
 pastAfter past [] = past
 pastAfter past (r ∷ rs) = pastAfter (r ∷ past) rs
 
+-- the reply to each reception of a burst
 abbrev pub repliesBy : ℕ → List Reception → List Reception → List Replied
 repliesBy setting past [] = []
 repliesBy setting past (r ∷ rs) =

@@ -52,6 +52,7 @@ capacity = 64
 abbrev pub ceiling : ℕ
 ceiling = 65535
 
+-- a number of copies, cut off at the ceiling
 abbrev pub capped : ℕ → ℕ
 capped n = min n ceiling
 
@@ -65,6 +66,7 @@ stillOpen t v = keep (isOpen t) (v .entries)
 
 -- ---- a collector started fresh
 
+-- all totals are 0
 abbrev pub noTotals : Totals
 noTotals = record { received = 0; kept = 0; copies = 0; loose = 0; damaged = 0; late = 0 }
 

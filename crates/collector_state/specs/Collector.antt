@@ -46,6 +46,7 @@ viewIn a s = record { latest = s .latest; totals = s .totals; entries = entriesA
 abbrev pub columnsOf : Collector → Columns
 columnsOf c = columns (c .times) (c .lens) (c .bytes) (c .copies)
 
+-- the view of a state
 unfoldable pub viewOf : Collector → View
 viewOf c = viewIn (columnsOf c) (c .summary)
 

@@ -45,6 +45,7 @@ isRepeatedAt a i = hasCopy (entriesAt a i) (openedBy (entryAt a i))
 abbrev pub shownAt : List ℕ → List ℕ → ℕ → List ℕ
 shownAt lens bytes i = resized (getD lens i 0) (part (maxLength * i) maxLength bytes)
 
+-- how many marks there are
 abbrev pub marks : ℕ
 marks = 1024
 

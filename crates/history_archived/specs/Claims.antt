@@ -43,5 +43,6 @@ pub record Storable (rows : List Row) : Type 0 where
   pub fit : all isFit rows ≡ true
   pub checked : checkRows 0 rows .number ≡ 0
 
+-- Archived storable: this holds for the rows of every input.
 abbrev pub ArchivedStorable : Type 0
 ArchivedStorable = (input : List ℕ) → Storable (archivedOf input)

@@ -27,6 +27,7 @@ abbrev pub handedBy : Reading → List Reception
 handedBy (reception time bytes) = receptionAt time bytes ∷ []
 handedBy bad = []
 
+-- the receptions in several lines
 unfoldable pub handedOver : List (List ℕ) → List Reception
 handedOver [] = []
 handedOver (l ∷ ls) = handedBy (lineReading l) ++ handedOver ls
@@ -41,6 +42,7 @@ abbrev pub closedFor : List (List ℕ) → List Entry
 closedFor [] = []
 closedFor (l ∷ ls) = closedWith (settingOf l) ls
 
+-- what closes in a log
 unfoldable pub closedOf : List ℕ → List Entry
 closedOf input = closedFor (linesOf input)
 

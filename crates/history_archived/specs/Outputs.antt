@@ -15,18 +15,23 @@ pub record Output : Type 0 where
   pub left : Call → List ℕ
   pub count : Call → ℕ
 
+-- the output for text
 abbrev pub textOut : Output
 textOut = record { lent = λ c. c .out; left = λ c. c .out'; count = λ c. getD (c .done') 1 0 }
 
+-- the output for the times of rows
 abbrev pub timesOut : Output
 timesOut = record { lent = λ c. c .moments; left = λ c. c .moments'; count = λ c. getD (c .done') 2 0 }
 
+-- the output for the records of rows
 abbrev pub recordsOut : Output
 recordsOut = record { lent = λ c. c .rows; left = λ c. c .rows'; count = λ c. rowLength * getD (c .done') 2 0 }
 
+-- the output for closings
 abbrev pub closingsOut : Output
 closingsOut = record { lent = λ c. c .closed; left = λ c. c .closed'; count = λ c. 32 * getD (c .done') 4 0 }
 
+-- what a call wrote into an output
 abbrev pub writtenTo : Output → Call → List ℕ
 writtenTo o c = take (o .count c) (o .left c)
 
@@ -42,13 +47,16 @@ Behind o Is =
     (a : Arrays) (cs : List Call) (buffer rest : List ℕ) → IsRun GoesOn Is a cs → Shares o buffer cs rest
     → rest ≡ drop (length (joined (map (writtenTo o) cs))) buffer
 
+-- the claim for text, times and records
 pub record Stay (Is : Call → Type 0) : Type 0 where
   pub text : Behind textOut Is
   pub times : Behind timesOut Is
   pub records : Behind recordsOut Is
 
+-- Outputs stay: it holds for calls of `lines` and of `lines_as`.
 abbrev pub OutputsStay : Type 0
 OutputsStay = OfBoth Stay
 
+-- Closings stay: the same for the closings of `lines_as`.
 abbrev pub ClosingsStay : Type 0
 ClosingsStay = (setting format : ℕ) → Behind closingsOut (TakesAs setting format)

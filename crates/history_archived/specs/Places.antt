@@ -50,6 +50,7 @@ Covers Is =
     (log : List ℕ) (a : Arrays) (cs : List Call) (end : ℕ) → IsRun GoesOn Is a cs → Walks log 0 0 cs end
     → usedIn cs ≡ take end log
 
+-- Restarts cover: it holds for calls of `lines` and of `lines_as`.
 abbrev pub RestartsCover : Type 0
 RestartsCover = OfBoth Covers
 
@@ -81,6 +82,7 @@ pub record Alike (c d : Call) : Type 0 where
 abbrev pub TakenAlike : (Call → Type 0) → Type 0
 TakenAlike Is = (c d : Call) → Is c → Is d → Alike c d → getD (c .done') 0 0 ≡ getD (d .done') 0 0
 
+-- Stops decided: this holds for calls of `lines` and of `lines_as`.
 abbrev pub StopsDecided : Type 0
 StopsDecided = OfBoth TakenAlike
 
@@ -98,6 +100,7 @@ pub record IsRead (r : Read) : Type 0 where
   pub call : ReadLine (r .input) (r .number) (r .bytes) (r .told)
   pub some : r .number ≡ 4 → ⊥
 
+-- calls of `read_line`, each of which read a line
 pub data AreRead : List Read → Type 0 where
   none : AreRead []
   one : {r : Read} {rs : List Read} → IsRead r → AreRead rs → AreRead (r ∷ rs)
@@ -117,6 +120,7 @@ ReadAlike Is =
     → usedIn cs ++ rest ≡ joined (map lineBy rs) ++ rest' → linesIn cs ≡ length rs
     → map lineReading (linesOf (usedIn cs)) ≡ map saidBy rs
 
+-- Reads agree: it holds for calls of `lines` and of `lines_as`.
 abbrev pub ReadsAgree : Type 0
 ReadsAgree = OfBoth ReadAlike
 

@@ -95,6 +95,7 @@ leftBy a (c ∷ cs) = leftBy (c .after) cs
 abbrev pub usedIn : List Call → List ℕ
 usedIn cs = joined (map usedBy cs)
 
+-- how many lines the calls took
 unfoldable pub linesIn : List Call → ℕ
 linesIn [] = 0
 linesIn (c ∷ cs) = linesBy c + linesIn cs
@@ -135,9 +136,11 @@ Lays setting a cs =
     ElementsAfter (runningAt setting (stateAt a)) (columnsAt a) (usedIn cs)
     (runningAt setting (stateAt (leftBy a cs))) (columnsAt (leftBy a cs))
 
+-- Calls lay: this holds for calls of `lines`.
 abbrev pub CallsLay : Type 0
 CallsLay = (setting : ℕ) (a : Arrays) (cs : List Call) → IsRun _≡_ (Takes setting) a cs → Lays setting a cs
 
+-- Calls lay as: the same for calls of `lines_as`.
 abbrev pub CallsLayAs : Type 0
 CallsLayAs =
     (setting format : ℕ) (a : Arrays) (cs : List Call) → IsRun _≡_ (TakesAs setting format) a cs → Lays setting a cs

@@ -16,6 +16,7 @@ use Rattle.collector_burst.specs.Records.{listed}
 use Rattle.history_calls.specs.Answers.{formIn}
 use Rattle.history_replay_model.specs.Operation.{receiving, saving, cutting, restoring, delivering, asking}
 
+-- the length of a record
 abbrev pub callLength : ℕ
 callLength = 64
 
@@ -57,6 +58,7 @@ burstReceptionIn r = record { bytes = resized (getD r 9 0) (part 10 maxLength r)
 abbrev pub countIn : List ℕ → ℕ
 countIn bytes = min (length bytes / callLength) listed
 
+-- the receptions of a burst, from its records
 unfoldable pub receptionsIn : List ℕ → List Reception
 receptionsIn bytes = map (λ (i : ℕ). burstReceptionIn (recordAt bytes i)) (upFrom 0 (countIn bytes))
 

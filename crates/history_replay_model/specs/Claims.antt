@@ -32,6 +32,7 @@ abbrev pub WholeReplies : List Replied → Type 0
 WholeReplies [] = Unit {0}
 WholeReplies (r ∷ l) = WholeFrame (r .sent) × WholeReplies l
 
+-- the limits for one thing seen
 abbrev pub Whole : Seen → Type 0
 Whole (Answered a sent n) = WholeFrame sent × WholeTotals n
 Whole (Wrote number output n) = (length output < 2 ^ 64) × WholeTotals n
@@ -40,6 +41,7 @@ Whole (Delivered number replies n) = (length replies < 2 ^ 64) × WholeReplies r
 Whole (Heard number copies n) = (copies < 2 ^ 64) × WholeTotals n
 Whole (Looked n) = WholeTotals n
 
+-- the limits for all things seen
 abbrev pub AllWhole : List Seen → Type 0
 AllWhole [] = Unit {0}
 AllWhole (s ∷ l) = Whole s × AllWhole l
@@ -50,6 +52,7 @@ ReadsBack = (l m : List Seen) → AllWhole l → AllWhole m → recordOf l ≡ r
 
 -- ---- the same for each call: outputs and lists shorter than 2^64, and telegrams in 21 bytes in the replies of a burst
 
+-- the limits for a list of calls
 abbrev pub Held : List Call → Type 0
 Held [] = Unit {0}
 Held (Receive setting r ∷ h) = Held h

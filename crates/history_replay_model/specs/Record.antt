@@ -13,6 +13,7 @@ use Rattle.history_replay_model.specs.Operation.{looking, receiving, sav
 
 -- ---- the parts of a cell
 
+-- the length of the head
 abbrev pub headLength : ℕ
 headLength = 50
 
@@ -33,6 +34,7 @@ formOf Copy = 1
 formOf Loose = 2
 formOf (Refused n) = 3
 
+-- the length of a reply
 abbrev pub replyLength : ℕ
 replyLength = 31
 
@@ -54,5 +56,6 @@ seenBytes (Delivered number replies n) =
 seenBytes (Heard number copies n) = headOf asking number n ++ be 8 copies
 seenBytes (Looked n) = headOf looking 0 n
 
+-- the record of all things seen
 unfoldable pub recordOf : List Seen → List ℕ
 recordOf l = flatten (map seenBytes l)

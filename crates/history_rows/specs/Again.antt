@@ -28,6 +28,7 @@ rowsFrom v (r ∷ rs) =
 abbrev pub isFit : Logged → Bool
 isFit e = isValid (e .reception .bytes) && ltb (e .reception .time) (2 ^ 64)
 
+-- Rows fit: this holds for the rows of every collector, if the times of the receptions are below 2^64.
 abbrev pub RowsFit : Type 0
 RowsFit = (v : View) (rs : List Reception) → Timely rs → all isFit (rowsFrom v rs) ≡ true
 

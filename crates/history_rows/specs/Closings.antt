@@ -63,6 +63,7 @@ pub record EachOnce (telegrams : List Entry) (past : List Reception) : Type 0 wh
   pub receptions : map openedBy telegrams ≡ keptReceptions (logOf past)
   pub copies : copiesIn telegrams ≡ map (λ n. capped (copyAnswers n (logOf past))) (upFrom 0 (length telegrams))
 
+-- Views closed once: from a fresh collector, what closed and then what is open are these telegrams.
 abbrev pub ViewsClosedOnce : Type 0
 ViewsClosedOnce =
     (rs : List Reception) → Timely rs

@@ -9,12 +9,15 @@ use Rattle.collector_model.specs.Reference.{openAt, latestOf, logOf}
 use Rattle.history_rows.specs.Rows.{alone}
 use Rattle.history_rows.specs.Closings.{closings}
 
+-- F6 30 00123456 at level 0
 abbrev pub original : List ℕ
 original = 246 ∷ 48 ∷ 0 ∷ 18 ∷ 52 ∷ 86 ∷ 32 ∷ 226 ∷ []
 
+-- the same at level 1
 abbrev pub repeated : List ℕ
 repeated = 246 ∷ 48 ∷ 0 ∷ 18 ∷ 52 ∷ 86 ∷ 33 ∷ 227 ∷ []
 
+-- the same data of another sensor
 abbrev pub another : List ℕ
 another = 246 ∷ 48 ∷ 0 ∷ 18 ∷ 52 ∷ 87 ∷ 32 ∷ 227 ∷ []
 
@@ -26,6 +29,7 @@ abbrev pub sample : List Reception
 sample =
     heard original 1160 ∷ heard another 1149 ∷ heard (246 ∷ []) 1151 ∷ heard another 1150 ∷ heard repeated 1100 ∷ heard original 1000 ∷ []
 
+-- Worked (THE CLAIM): the answers, the rows, what closed and what is open
 pub record Worked : Type 0 where
   pub answers : map (λ e. e .answer) (logOf sample) ≡ (Kept ∷ Refused 7 ∷ Refused 1 ∷ Kept ∷ Copy ∷ Kept ∷ [])
   pub rows : alone (logOf sample) ≡ (heard original 1160 ∷ heard another 1150 ∷ heard original 1000 ∷ [])

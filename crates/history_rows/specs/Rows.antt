@@ -33,6 +33,7 @@ pub record RowsOnly (past : List Reception) : Type 0 where
   pub answers : rowsOf (logOf past) ≡ logOf (alone (logOf past))
   pub openings : (t : ℕ) → map openedBy (openAt t (logOf past)) ≡ map openedBy (openAt t (logOf (alone (logOf past))))
 
+-- Rows alone: this holds after any receptions.
 abbrev pub RowsAlone : Type 0
 RowsAlone = (past : List Reception) → RowsOnly past
 
@@ -42,5 +43,6 @@ pub record RowsSince (past more : List Reception) : Type 0 where
   pub openings : (t : ℕ)
       → map openedBy (openAt t (logOf (more ++ past))) ≡ map openedBy (openAt t (logOf (alone (logSince past more) ++ past)))
 
+-- Rows alone since: this holds for any past and any receptions after it.
 abbrev pub RowsAloneSince : Type 0
 RowsAloneSince = (past more : List Reception) → RowsSince past more

@@ -17,6 +17,7 @@ use Rattle.journal_state.specs.Lawful.{lawful}
 
 -- ---- the block
 
+-- the number, and the block with the rows
 pub record Filled : Type 0 where
   pub number : ℕ
   pub block : List ℕ

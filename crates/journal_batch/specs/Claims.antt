@@ -16,6 +16,7 @@ use Rattle.journal_batch.specs.Batch.{Commit, commitOf}
 
 -- the next lines of a log, on a disk that is as the model says
 module _ (before : List Row) (log : List (List ℕ)) (d : Disk) (count : ℕ) where
+  -- the lines of the batch
   abbrev pub batch : List (List ℕ)
   batch = nextLines log (d .state) count
 

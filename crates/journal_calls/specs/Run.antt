@@ -27,6 +27,7 @@ runOf r = record { limit = r .limit; place = r .place; blocks = r .blocks; rows 
 abbrev pub startRun : (limit k : ℕ) → Run
 startRun limit k = record { limit = limit; place = k % limit; blocks = 0; rows = 0; ended = false }
 
+-- the run has ended
 abbrev pub stopped : Run → Run
 stopped r = record { limit = r .limit; place = r .place; blocks = r .blocks; rows = r .rows; ended = true }
 
@@ -40,10 +41,12 @@ passed r b = record {
   ended = isShort b;
 }
 
+-- the run after one more block: it ends if the block does not belong to it
 unfoldable pub runBlock : Run → List ℕ → Run
 runBlock r b =
     cond (r .ended) r (cond (isSound b && eqb (blockNumber b) (r .place)) (passed r b) (stopped r))
 
+-- the run after more blocks
 unfoldable pub runBlocks : Run → List (List ℕ) → Run
 runBlocks r [] = r
 runBlocks r (b ∷ bs) = runBlocks (runBlock r b) bs
@@ -65,6 +68,7 @@ isRun r =
     && (leb (r .blocks) maxBlocks
     && isDense (r .ended) (r .blocks) (r .rows)))
 
+-- the run in five numbers
 abbrev pub runAt : List ℕ → Run
 runAt numbers = record {
   limit = getD numbers 0 0;
@@ -74,6 +78,7 @@ runAt numbers = record {
   ended = not (eqb (getD numbers 4 0) 0);
 }
 
+-- the five numbers of a run
 abbrev pub runNumbers : Run → List ℕ
 runNumbers r = r .limit ∷ r .place ∷ r .blocks ∷ r .rows ∷ cond (r .ended) 1 0 ∷ []
 

@@ -20,6 +20,7 @@ pub record Out : Type 0 where
   pub size : ℕ
   pub file : List ℕ
 
+-- what can happen to the file
 pub data OutEvent : Type 0 where
   -- a batch of `count` lines
   Print : (count : ℕ) → OutEvent
@@ -38,6 +39,7 @@ module _ (text : List (List ℕ) → List ℕ → List ℕ) (heading : List ℕ)
   abbrev pub nextOf : Out → ℕ → List (List ℕ)
   nextOf o count = take count (drop (o .lines) log)
 
+  -- what a batch prints; the heading first, if the file is empty
   abbrev pub batchText : Out → ℕ → List ℕ
   batchText o count = cond (eqb (o .size) 0) heading [] ++ textOf (take (o .lines) log) (nextOf o count)
 
@@ -62,18 +64,22 @@ module _ (text : List (List ℕ) → List ℕ → List ℕ) (heading : List ℕ)
         → OutLeft o (record { lines = o .lines; size = o .size; file = file })
     late : (count : ℕ) → OutLeft o (printed o count)
 
+  -- the file after an event
   abbrev pub outNext : Out → OutEvent → Out
   outNext o (Print count) = printed o count
   outNext o (Stop left) = cutOut left
 
+  -- the file after all events
   abbrev pub outRun : Out → List OutEvent → Out
   outRun o [] = o
   outRun o (e ∷ es) = outRun (outNext o e) es
 
+  -- an event is possible
   abbrev pub OutMay : Out → OutEvent → Type 0
   OutMay o (Print count) = Unit {0}
   OutMay o (Stop left) = OutLeft o left
 
+  -- every event is possible, each after the one before
   abbrev pub IsOutRun : Out → List OutEvent → Type 0
   IsOutRun o [] = Unit {0}
   IsOutRun o (e ∷ es) = OutMay o e × IsOutRun (outNext o e) es

@@ -31,6 +31,7 @@ pub record IsCounted (numbers image : List ℕ) : Type 0 where
   pub accepted : accepts image ≡ true
   pub few : getD numbers 2 0 + imageRows image ≤ maxRows
 
+-- a start of every such state gives what the model's start gives
 abbrev pub Settles : ℕ → List ℕ → List ℕ → ℕ → Start → Type 0
 Settles n copy file left r = (s : State) → Says n copy s → r ≡ settledOf s file left
 
@@ -47,17 +48,19 @@ pub record Found (s : State) (file : List ℕ) (j : Judgement) : Type 0 where
   pub mends : eqb (judgementNumber j) 3 ≡ false → 0 < counted s
       → mendedBy j (s .last) (blockAt (lastUsed s) file) ≡ mended s file
 
+-- the judgement for every such state, and that the file has the counted blocks
 pub record Finds (n : ℕ) (copy file : List ℕ) (j : Judgement) : Type 0 where
   pub found : (s : State) → Says n copy s → Found s file j
   pub none : n ≡ 0 → j ≡ Same
   pub room : eqb (judgementNumber j) 3 ≡ false → blocksFor n ≤ wholeBlocks file
 
--- a torn block, which is written anew, is in the file
+-- a torn block, which is written again, is in the file
 abbrev pub IsThere : Judgement → ℕ → List ℕ → Type 0
 IsThere j at file = j ≡ Torn → at < wholeBlocks file
 
 -- ---- what is read from the last counted block on
 
+-- the rows that are read from block `at` on
 abbrev pub runRows : ℕ → List ℕ → List Row
 runRows at file = runFrom maxBlocks at (blocksOn at file)
 
@@ -67,6 +70,7 @@ sweptAt at file =
     withWhole (padded (blockLength * wholeBlocks file)
     (take (blockLength * at) file ++ blocksFrom maxBlocks at (runRows at file))) file
 
+-- the number of leftovers, and the file after the sweep
 pub record Sweeps (n : ℕ) (file : List ℕ) (r : ℕ) (after : List ℕ) : Type 0 where
   pub rows : r ≡ length (runRows (blocksFor n - 1) file) - (n - cellsPerBlock * (blocksFor n - 1))
   pub bytes : after ≡ sweptAt (blocksFor n - 1) file

@@ -12,6 +12,7 @@ use Rattle.journal_state.specs.declared.Counted.{Counted}
 use Rattle.journal_state.specs.State.{Kept, oldLength, stateLength, stateBytes, readState}
 use Rattle.journal_state.specs.Lawful.{imageRows, lawful, acceptsState}
 
+-- the number, and every byte of the output after the call
 pub record Written : Type 0 where
   pub number : ℕ
   pub output : List ℕ
@@ -25,6 +26,7 @@ writeOf k output =
           output;
     })
 
+-- the number, and the state after the call
 pub record Accepted : Type 0 where
   pub number : ℕ
   pub next : Kept

@@ -45,10 +45,12 @@ isPlaced k =
     && cond (eqb (logged k) 0) (eqb (nth k 6) 0 && eqb (nth k 7) 0 && eqb (nth k 8) 0 && eqb (nth k 9) 0)
     (eqb (logged k) 1 && eqb (tailLength k) (min (offset k) maxTail)))
 
+-- the numbers of the file for rows: all zero if there is none
 unfoldable pub isPrinted : Kept → Bool
 isPrinted k =
     cond (eqb (printed k) 0) (eqb (nth k 11) 0 && eqb (nth k 12) 0 && eqb (nth k 13) 0) (eqb (printed k) 1)
 
+-- a lawful state: its image is accepted, and its archive, its position in the log and its file for rows are right
 unfoldable pub lawful : Kept → Bool
 lawful k = accepts (k .image) && (isAttached k (imageRows (k .image)) && (isPlaced k && isPrinted k))
 

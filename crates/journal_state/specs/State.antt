@@ -80,6 +80,7 @@ oldLength = 3584
 abbrev pub stateLength : ℕ
 stateLength = 4096
 
+-- the version of a file, by its length
 abbrev pub versionOf : ℕ → ℕ
 versionOf n = cond (eqb n oldLength) 1 2
 
@@ -113,6 +114,7 @@ module _ (k : Kept) where
 
 -- ---- reading
 
+-- the fourteen numbers in a file
 abbrev pub numbersIn : List ℕ → List ℕ
 numbersIn bytes =
     unbe (part 8 8 bytes)

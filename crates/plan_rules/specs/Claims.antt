@@ -14,6 +14,7 @@ pub record ChosenBy (rule level n d : ℕ) (a : Answer) : Type 0 where
   pub argument : isAllowed rule level n d ≡ false → a ≡ noPlan Argument
   pub chosen : isAllowed rule level n d ≡ true → Chosen (ruleOf rule level n) d a
 
+-- every answer is such an answer
 abbrev pub PlanByChosen : Type 0
 PlanByChosen = (rule level n d draw : ℕ) → ChosenBy rule level n d (planBy rule level n d draw)
 

@@ -18,6 +18,7 @@ use Rattle.plan_rules.specs.declared.Offer.{Offer}
 abbrev pub compressedRow : List SlotRange
 compressedRow = range 0 1 ∷ range 4 12 ∷ range 14 22 ∷ []
 
+-- the ranges of the compressed rule, by level
 abbrev pub compressedRanges : List (List SlotRange)
 compressedRanges = compressedRow ∷ compressedRow ∷ (none ∷ none ∷ none ∷ []) ∷ []
 
@@ -52,6 +53,7 @@ offers =
     ∷ (offer 2 3 ∷ offer 2 2 ∷ offer 2 2 ∷ [])
     ∷ []
 
+-- how many transmissions a rule offers at a level
 abbrev pub offerOf : ℕ → ℕ → Offer
 offerOf rule level = getD (getD offers rule []) level (offer 0 0)
 

@@ -16,6 +16,7 @@ use Rattle.plan_site.specs.Site.{maxRepeaters, Answer, answer, siteOf}
 abbrev pub size : ℕ
 size = 9
 
+-- the repeater in nine bytes
 abbrev pub assignmentOf : List ℕ → Assignment
 assignmentOf b = record {
   rule = getD b 0 0;
@@ -32,6 +33,7 @@ assignmentAt s i = assignmentOf (take size (drop (size * i) s))
 abbrev pub countIn : List ℕ → ℕ
 countIn s = min (length s / size) maxRepeaters
 
+-- the repeaters in these bytes
 abbrev pub assignmentsIn : List ℕ → List Assignment
 assignmentsIn s = map (assignmentAt s) (upFrom 0 (countIn s))
 

@@ -13,6 +13,7 @@ use Rattle.plan_rules.specs.Rules.{planBy}
 use Rattle.plan_site.specs.declared.Assignment.{Assignment}
 use Rattle.plan_site.specs.Site.{maxRepeaters, isInRange, hasLawfulPlan, Transmission, sentBy, overlap, clash, noAssignment, answer, siteOf}
 
+-- two transmissions do not overlap
 abbrev pub apart : Transmission → Transmission → Bool
 apart t u = not (overlap t u)
 

@@ -48,6 +48,7 @@ abbrev pub sentIn : ℕ → List ℕ → List Transmission
 sentIn d [] = []
 sentIn d (n ∷ l) = transmission d n ∷ sentIn d l
 
+-- the transmissions of a repeater
 abbrev pub sentBy : Assignment → List Transmission
 sentBy a = sentIn (a .duration) (slotsOf (a .slots))
 
@@ -72,6 +73,7 @@ pub record Answer : Type 0 where
 abbrev pub answer : ℕ → ℕ → ℕ → Answer
 answer n i j = record { number = n; repeater = i; other = j }
 
+-- the answer of a verdict of the code
 abbrev pub verdictOf : Verdict → Answer
 verdictOf Accepted = answer 0 0 0
 verdictOf OutOfRange = answer (numberOf refusal.Argument) 0 0

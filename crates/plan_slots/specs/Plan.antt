@@ -44,6 +44,7 @@ rangeAt r transmission = getD (r .ranges) transmission (range 0 0)
 abbrev pub empty : SlotRange → Bool
 empty s = ltb (s .last) (s .first)
 
+-- a slot is in a range
 abbrev pub within : SlotRange → ℕ → Bool
 within s n = leb (s .first) n && leb n (s .last)
 
@@ -90,6 +91,7 @@ lawful r d p = isInRange r p && (isInOrder r d p && isInTime r d p)
 
 -- ── all of them, in order ──
 
+-- the slots of a range, in order
 abbrev pub slotsIn : SlotRange → List ℕ
 slotsIn s = upFrom (s .first) (s .last + 1 - s .first)
 
@@ -118,9 +120,11 @@ pub record Answer : Type 0 where
 abbrev pub noPlan : Refusal → Answer
 noPlan e = record { number = numberOf e; slots = plan 0 0 0 }
 
+-- a plan is the answer
 abbrev pub planned : SlotPlan → Answer
 planned p = record { number = 0; slots = p }
 
+-- the answer of a result of the code
 abbrev pub answerOf : Planned → Answer
 answerOf (Slots p) = planned p
 answerOf (Refused e) = noPlan e
@@ -131,9 +135,11 @@ drawn ps draw =
     cond (eqb (length ps) 0) (noPlan NoPlan)
     (planned (getD ps (draw % length ps) (plan 0 0 0)))
 
+-- a level is 0 to 2
 abbrev pub isLevel : ℕ → Bool
 isLevel level = leb level 2
 
+-- a duration is 1 to 65,535 microseconds
 abbrev pub isDuration : ℕ → Bool
 isDuration d = leb 1 d && leb d 65_535
 
@@ -141,6 +147,7 @@ isDuration d = leb 1 d && leb d 65_535
 abbrev pub allowed : ℕ → ℕ → Bool
 allowed level d = isLevel level && isDuration d
 
+-- the call: 10 for an argument that is not allowed, else what the draw picks
 unfoldable pub planOf : ℕ → ℕ → ℕ → Answer
 planOf level d draw =
     cond (not (allowed level d)) (noPlan Argument)

@@ -37,6 +37,7 @@ bodyOf s = take (length s - 1) s
 abbrev pub statusOf : List ℕ → ℕ
 statusOf s = lastOf (bodyOf s)
 
+-- all bytes before STATUS
 abbrev pub beforeStatus : List ℕ → List ℕ
 beforeStatus s = bodyOf (bodyOf s)
 
@@ -59,12 +60,15 @@ sealedOf body = body ++ (hashOf body ∷ [])
 abbrev pub isLengthWrong : List ℕ → Bool
 isLengthWrong s = ltb (length s) minLength || ltb maxLength (length s)
 
+-- HASH is right
 abbrev pub isHashed : List ℕ → Bool
 isHashed s = eqb (lastOf s) (hashOf (bodyOf s))
 
+-- the first byte says that the telegram is addressed
 abbrev pub isAddressed : List ℕ → Bool
 isAddressed s = eqb (getD s 0 0) addressed
 
+-- the RORG inside an addressed telegram is 0xA6 again
 abbrev pub isNested : List ℕ → Bool
 isNested s = eqb (getD s 1 0) addressed
 

@@ -18,6 +18,7 @@ use Rattle.radio_erp2_model.specs.Sizes.{maxShort, maxLength, shortSizes
 abbrev pub isShortForm : Telegram → Bool
 isShortForm t = not (eqb (t .short) 0)
 
+-- the sizes of a telegram's fields
 abbrev pub sizesFor : Telegram → Sizes
 sizesFor t = cond (isShortForm t) (shortSizes (t .short)) (longSizes (t .header) (t .extension .announced))
 
@@ -53,9 +54,11 @@ isMisfitting t =
 
 -- ---- the bytes
 
+-- the data, without the zeros after it
 abbrev pub dataOf : Telegram → List ℕ
 dataOf t = take (t .len) (t .payload)
 
+-- the optional data, without the zeros after it
 abbrev pub optionalOf : Telegram → List ℕ
 optionalOf t = take (sizesFor t .optional) (t .optional)
 
@@ -70,6 +73,7 @@ rowBytes t z =
     ++ dataOf t
     ++ take (z .optional) (t .optional)
 
+-- all of Data_PL before the CRC
 unfoldable pub bodyOf : Telegram → List ℕ
 bodyOf t = rowBytes t (sizesFor t)
 
@@ -83,6 +87,7 @@ erp2Bytes t = telegramSize t ∷ (bodyOf t ++ sealOf t)
 
 -- ---- the answer of building: the refusals of document 02, A4, in their order: 10, 14, 15, 6
 
+-- building a telegram into an output
 unfoldable pub buildOf : Telegram → List ℕ → Result
 buildOf t output =
     cond (isUnholdable t || isAgainstHeader t) (refused (numberOf Argument) output)

@@ -69,6 +69,7 @@ idRow b = 8 * longSizes (headerOf b) 0 .originator ∷ 8 * longSizes (headerOf b
 abbrev pub optionalRow : ℕ → List ℕ
 optionalRow b = 8 * longSizes (headerOf b) 0 .extension ∷ 8 * longSizes (headerOf b) 0 .subtype ∷ []
 
+-- Figures: the sizes are those in the tables.
 pub record Figures : Type 0 where
   -- figure 9, Length 1 to 6; 7 is a long form
   pub short : map shortRow (1 ∷ 2 ∷ 3 ∷ 4 ∷ 5 ∷ 6 ∷ [])

@@ -7,9 +7,11 @@ use Rattle.radio_erp2_model.specs.declared.Extension.{Extension}
 
 -- ---- the header (figure 11): bits 5 to 7 address control, bit 4 extended header available, bits 0 to 3 telegram type
 
+-- the parts of a header byte
 abbrev pub headerOf : ℕ → Header
 headerOf b = record { control = b / 32; extended = eqb (b / 16 % 2) 1; kind = b % 16 }
 
+-- the byte of a header
 abbrev pub headerByte : Header → ℕ
 headerByte h = h .control * 32 + cond (h .extended) 16 0 + h .kind
 
@@ -27,8 +29,10 @@ isAddressed h = eqb (h .control) 2
 
 -- ---- the extended header (figure 12): bits 4 to 7 repeater count, bits 0 to 3 length of optional data
 
+-- the parts of an extended header byte
 abbrev pub extensionOf : Bool → ℕ → Extension
 extensionOf present b = record { present = present; hops = b / 16; announced = b % 16 }
 
+-- the byte of an extended header
 abbrev pub extensionByte : Extension → ℕ
 extensionByte e = e .hops * 16 + e .announced

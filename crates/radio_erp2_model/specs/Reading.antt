@@ -50,6 +50,7 @@ isIntact s = eqb (getD s (lengthByte s) 0) (crcOf (part 1 (lengthByte s - 1) s))
 abbrev pub headerIn : List ℕ → Header
 headerIn s = headerOf (getD s 1 0)
 
+-- the sizes of the fields in a list
 abbrev pub sizesIn : List ℕ → Sizes
 sizesIn s = cond (isShort s) (shortSizes (lengthByte s)) (longSizes (headerIn s) (getD s 2 0 % 16))
 
@@ -128,5 +129,6 @@ pub record Read : Type 0 where
 abbrev pub shownErp2Reading : Reading → Read
 shownErp2Reading r = record { number = checkedNumber (r .checked); telegram = r .telegram }
 
+-- reading a list
 unfoldable pub readOf : List ℕ → Read
 readOf s = record { number = checkOf s; telegram = cond (eqb (checkOf s) 0) (fieldsOf s) noTelegram }

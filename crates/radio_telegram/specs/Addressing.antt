@@ -22,9 +22,11 @@ withAddress t flag to = record {
   status = t .status;
 }
 
+-- a telegram addressed to a DESTID
 abbrev pub addressedTo : Telegram → List ℕ → Telegram
 addressedTo t to = withAddress t true to
 
+-- the same telegram, plain
 abbrev pub unaddressed : Telegram → Telegram
 unaddressed t = withAddress t false (replicate 4 0)
 

@@ -71,11 +71,13 @@ pub record Read : Type 0 where
 abbrev pub shownReading : Reading → Read
 shownReading r = record { number = checkedNumber (r .checked); telegram = r .telegram }
 
+-- reading a subtelegram
 unfoldable pub readOf : List ℕ → Read
 readOf s = record { number = checkOf s; telegram = cond (isValid s) (fieldsOf s) noTelegram }
 
 -- ---- building
 
+-- DATA, without the zeros after it
 abbrev pub dataOf : Telegram → List ℕ
 dataOf t = take (t .len) (t .payload)
 

@@ -14,6 +14,7 @@ abbrev pub columnsByLine : Receiver → Reading → Columns → Columns
 columnsByLine c (reception time bytes) a = columnsAfter (c .view) (receptionAt time bytes) a
 columnsByLine c bad a = a
 
+-- the columns after a line, by the phase of the run
 abbrev pub columnsIn : Phase Receiver → List ℕ → Columns → Columns
 columnsIn starting l a = a
 columnsIn (running c) l a = columnsByLine c (lineReading l) a

@@ -38,6 +38,7 @@ module _ (f : Format) where
       (sourceOf bytes)
   lineIn c bad = badIn f
 
+  -- what a line prints, by the phase of the run
   abbrev pub textIn : Phase Receiver → List ℕ → List ℕ
   textIn starting l = firstIn (settingOf l)
   textIn (running c) l = lineIn c (lineReading l)
@@ -49,6 +50,7 @@ totalsIn Format.Text n = totalsLine n
 totalsIn Format.Csv n = []
 totalsIn Format.Json n = []
 
+-- what is printed at the end
 abbrev pub endIn : Format → Phase Receiver → List ℕ
 endIn f starting = badIn f
 endIn f (running c) = totalsIn f (c .view .totals)

@@ -22,10 +22,12 @@ use Rattle.text_collect.specs.Formats.{collectIn, longestLineIn}
 
 -- ---- what lines close, 32 bytes for each telegram
 
+-- what a later line closes
 abbrev pub closedByLine : Receiver → Reading → List ℕ
 closedByLine c (reception time bytes) = closedCells (c .view) (receptionAt time bytes)
 closedByLine c bad = []
 
+-- what a line closes, by the phase of the run
 abbrev pub closedIn : Phase Receiver → List ℕ → List ℕ
 closedIn starting l = []
 closedIn (running c) l = closedByLine c (lineReading l)
@@ -46,6 +48,7 @@ isAsked closed = not (eqb (length closed) 0)
 abbrev pub hasRoomBehind : (long bytes : ℕ) → Bool
 hasRoomBehind long bytes = eqb long 0 || leb (bytes + 2048) long
 
+-- the same after a number of closings
 abbrev pub hasRoom : (long count : ℕ) → Bool
 hasRoom long count = hasRoomBehind long (32 * count)
 

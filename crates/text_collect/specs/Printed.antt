@@ -34,6 +34,7 @@ totalsLine n = totalsText (n .received) (n .kept) (n .copies) (n .loose) (n .dam
 
 -- ---- the rows of an input
 
+-- a reception of these bytes at a time
 abbrev pub receptionAt : (time : ℕ) (bytes : List ℕ) → Reception
 receptionAt time bytes = record { bytes = bytes; time = time }
 

@@ -39,6 +39,7 @@ module _ (f : Format) where
       headingIn f ++ (joined (rowsAfterIn n [] ls) ++ totalsIn f (totalsOf (logOf (pastAfterLines [] ls))))
   printedWithIn Setting.Bad ls = badIn f
 
+  -- the same, also if there is no first line
   abbrev pub printedForIn : List (List ℕ) → List ℕ
   printedForIn [] = badIn f
   printedForIn (l ∷ ls) = printedWithIn (settingOf l) ls

@@ -34,11 +34,13 @@ abbrev pub recordOfLine : Receiver → Reading → List ℕ
 recordOfLine c (reception time bytes) = storedRecord (takenAt (c .view) time bytes .answer) bytes
 recordOfLine c bad = []
 
+-- the time of a line's row, by the phase of the run
 abbrev pub timesIn : Phase Receiver → List ℕ → List ℕ
 timesIn starting l = []
 timesIn (running c) l = timeOfLine c (lineReading l)
 timesIn over l = []
 
+-- the record of a line's row, by the phase of the run
 abbrev pub recordsIn : Phase Receiver → List ℕ → List ℕ
 recordsIn starting l = []
 recordsIn (running c) l = recordOfLine c (lineReading l)

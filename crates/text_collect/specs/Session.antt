@@ -27,6 +27,7 @@ pub record Receiver : Type 0 where
   pub setting : ℕ
   pub view : View
 
+-- the collector of the model, as `collect` needs it
 abbrev pub modelCollector : Collector Receiver
 modelCollector = record {
   fresh = λ setting. record { setting = setting; view = fresh };
@@ -43,11 +44,13 @@ modelCollector = record {
 abbrev pub runningAt : ℕ → View → Phase Receiver
 runningAt setting v = running (record { setting = setting; view = v })
 
+-- the phase of a stage of the code
 abbrev pub atStage : Stage → Receiver → Phase Receiver
 atStage Stage.Starting c = starting
 atStage Stage.Running c = running c
 atStage Stage.Over c = over
 
+-- the phase of a session
 abbrev pub phaseOf : Session → Phase Receiver
 phaseOf s = atStage (s .stage) (record { setting = s .setting; view = viewOf (s .collector) })
 
@@ -67,5 +70,6 @@ pub record RanTo (s : Phase Receiver) (input out out' : List ℕ) (s' : Phase Re
   pub fed : Fed (collect modelCollector) s (take used input) out s' out' written
   pub rest : used ≡ 0 → longestLine ≤ length out → isUnended input ≡ true
 
+-- the same for the result of the code
 abbrev pub Ran : (s : Phase Receiver) (input out out' : List ℕ) (r : Progress) → Type 0
 Ran s input out out' r = RanTo s input out out' (phaseOf (r .session)) (r .used) (r .written)

@@ -11,6 +11,7 @@ pub record SaysNothing (l : List ℕ) : Type 0 where
   pub reading : lineReading l ≡ bad
   pub setting : settingOf l ≡ Setting.Bad
 
+-- Long lines: this holds for every line of 150 characters or more.
 abbrev pub LongLines : Type 0
 LongLines = (l : List ℕ) → lineLimit ≤ length l → SaysNothing l
 
@@ -19,5 +20,6 @@ pub record ToldByFront (l : List ℕ) : Type 0 where
   pub reading : lineReading (take lineLimit l) ≡ lineReading l
   pub setting : settingOf (take lineLimit l) ≡ settingOf l
 
+-- Fronts tell: this holds for every line.
 abbrev pub FrontsTell : Type 0
 FrontsTell = (l : List ℕ) → ToldByFront l

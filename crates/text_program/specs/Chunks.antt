@@ -32,6 +32,7 @@ module _ {S : Type 0} (p : Program S) (limit : ℕ) where
       cond (eqb c newline) (atLineStart (p .next (a .state) (a .line)))
       (inLine (a .state) (take limit (a .line ++ (c ∷ []))))
 
+  -- what is written for one character: the text of the line if it ends
   abbrev pub fedText : Position S → ℕ → List ℕ
   fedText a c = cond (eqb c newline) (p .text (a .state) (a .line)) []
 
@@ -40,6 +41,7 @@ module _ {S : Type 0} (p : Program S) (limit : ℕ) where
   feed a [] = a
   feed a (c ∷ s) = feed (fed a c) s
 
+  -- what is written for a piece of text
   unfoldable pub feedText : Position S → List ℕ → List ℕ
   feedText a [] = []
   feedText a (c ∷ s) = fedText a c ++ feedText (fed a c) s
@@ -49,6 +51,7 @@ module _ {S : Type 0} (p : Program S) (limit : ℕ) where
   feedAll a [] = a
   feedAll a (x ∷ xs) = feedAll (feed a x) xs
 
+  -- what is written for several pieces
   unfoldable pub feedAllText : Position S → List (List ℕ) → List ℕ
   feedAllText a [] = []
   feedAllText a (x ∷ xs) = feedText a x ++ feedAllText (feed a x) xs
@@ -58,6 +61,7 @@ unfoldable pub lastText : {S : Type 0} → Program S → S → List ℕ → List
 lastText p s [] = p .end s
 lastText p s (c ∷ l) = p .text s (c ∷ l) ++ p .end (p .next s (c ∷ l))
 
+-- what is written at the end, from a position
 abbrev pub endText : {S : Type 0} → Program S → Position S → List ℕ
 endText p a = lastText p (a .state) (a .line)
 

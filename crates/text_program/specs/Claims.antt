@@ -29,5 +29,6 @@ pub record Ended {C : Type 0} (m : Collector C) (line input : List ℕ) : Type 0
   pub silent : feedText (collect m) lineLimit (inLine over line) input ≡ []
   pub noEnd : endText (collect m) (feed (collect m) lineLimit (inLine over line) input) ≡ []
 
+-- Stays ended: this holds for any input, also inside a line.
 abbrev pub StaysEnded : {C : Type 0} → Collector C → Type 0
 StaysEnded m = (line input : List ℕ) → Ended m line input

@@ -28,6 +28,7 @@ module _ {C : Type 0} (m : Collector C) where
   afterFirst (Setting.Level n) = running (m .fresh n)
   afterFirst Setting.Bad = over
 
+  -- what the first line prints
   abbrev pub firstText : Setting → List ℕ
   firstText (Setting.Level n) = []
   firstText Setting.Bad = badText
@@ -37,15 +38,18 @@ module _ {C : Type 0} (m : Collector C) where
   afterLine c (reception t bs) = m .next c t bs
   afterLine c bad = c
 
+  -- what a later line prints
   abbrev pub lineText : C → Reading → List ℕ
   lineText c (reception t bs) = rowText t (m .answer c t bs) (m .sent c t bs)
   lineText c bad = badText
 
+  -- the phase after a line
   abbrev pub nextPhase : Phase C → List ℕ → Phase C
   nextPhase starting l = afterFirst (settingOf l)
   nextPhase (running c) l = running (afterLine c (lineReading l))
   nextPhase over l = over
 
+  -- what a line prints
   abbrev pub phaseText : Phase C → List ℕ → List ℕ
   phaseText starting l = firstText (settingOf l)
   phaseText (running c) l = lineText c (lineReading l)
@@ -57,6 +61,7 @@ module _ {C : Type 0} (m : Collector C) where
   phaseEnd (running c) = m .totals c
   phaseEnd over = []
 
+  -- `collect` as a program over lines
   abbrev pub collect : Program (Phase C)
   collect = record { next = nextPhase; text = phaseText; end = phaseEnd }
 

@@ -29,6 +29,7 @@ module _ {S : Type 0} (p : Program S) where
   stateAfter s [] = s
   stateAfter s (l ∷ ls) = stateAfter (p .next s l) ls
 
+  -- what is written for lines
   unfoldable pub textOf : S → List (List ℕ) → List ℕ
   textOf s [] = []
   textOf s (l ∷ ls) = p .text s l ++ textOf (p .next s l) ls

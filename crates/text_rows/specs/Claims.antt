@@ -17,6 +17,7 @@ pub record NumberRead (n : ℕ) : Type 0 where
   pub time : isTime (decimalText n) ≡ true
   pub value : decimalOf (decimalText n) ≡ n
 
+-- Numbers back: this holds for every number of 64 bits.
 abbrev pub NumbersBack : Type 0
 NumbersBack = (n : ℕ) → n < 2 ^ 64 → NumberRead n
 
@@ -33,6 +34,7 @@ pub record BytesRead (bs : List ℕ) : Type 0 where
   pub hex : isHex (hexText bs) ≡ true
   pub value : hexBytes (hexText bs) ≡ bs
 
+-- Bytes back: this holds for all such bytes.
 abbrev pub BytesBack : Type 0
 BytesBack = (bs : List ℕ) → areBytes bs ≡ true → length bs ≤ maxBytes → BytesRead bs
 

@@ -9,5 +9,6 @@ abbrev pub codesFrom : String → ℕ → ℕ → List ℕ
 codesFrom s i zero = []
 codesFrom s i (suc n) = code (charAt s i) ∷ codesFrom s (i + 1) n
 
+-- the codes of a whole text
 abbrev pub codes : String → List ℕ
 codes s = codesFrom s 0 (len s)

@@ -50,6 +50,7 @@ unfoldable pub jsonSource : Source → List ℕ
 jsonSource s =
     cond (s .known) (sourceAfter (codes ",\"txid\":\"") (codes "\",\"rorg\":\"") (codes "\",\"level\":") s) []
 
+-- a row as a JSON object
 unfoldable pub jsonRow : (time : List ℕ) → Row → (heard sent : List ℕ) → Source → List ℕ
 jsonRow time row heard sent source =
     codes "{\"time\":" ++ time ++ jsonAnswer row ++ hexAfter (codes ",\"telegram\":\"") heard ++ jsonSend sent
