@@ -106,8 +106,8 @@ modelView log = record {
   entries = map (recount capped) (openAt (latestOf log) log);
 }
 
--- the model's answer on the copies of open telegram k: the telegrams open at the latest time, in the order handed over;
--- 10 if there is none
+-- the model's answer on the copies of telegram k, of those that are open at the latest time, in the order handed over;
+-- 10 if there is no telegram k
 unfoldable pub heardBy : List Logged → ℕ → HeardResult
 heardBy log k =
     let counts = copiesIn (openAt (latestOf log) log) in
@@ -121,8 +121,8 @@ savedBy log output =
     cond (ltb (length output) imageLength) (record { number = numberOf refusal.ShortOutput; output = output })
     (record { number = 0; output = imageOf (modelView log) ++ drop imageLength output })
 
--- the receptions of a burst, oldest first, are fed to the model one by one: all receptions after them, and the reply to
--- each (document 02, A1)
+-- all receptions, newest first, after those of a burst, oldest first, were fed to the model one by one (document 02,
+-- A1)
 abbrev pub pastAfter : List Reception → List Reception → List Reception
 pastAfter past [] = past
 pastAfter past (r ∷ rs) = pastAfter (r ∷ past) rs

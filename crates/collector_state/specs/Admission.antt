@@ -59,7 +59,7 @@ admittedOf a r = record { answer = shownOf (r .answer); next = viewIn a (r .summ
 abbrev pub isSafe : View → Bool
 isSafe v = leb (length (v .entries)) capacity && isSummed (v .totals)
 
--- the number of the tests before the search ("then the check (1, 2, 3) ..; then .. (7)")
+-- the number that the tests before the search answer ("then the check (1, 2, 3) ..; then .. (7)")
 abbrev pub numberOn : View → Reception → ℕ
 numberOn v r = receptionCheck (v .latest) r
 
@@ -67,8 +67,7 @@ numberOn v r = receptionCheck (v .latest) r
 abbrev pub latestAfter : View → Reception → ℕ
 latestAfter v r = cond (eqb (numberOn v r) 0) (r .time) (v .latest)
 
--- the entries from the first one on that is open at t. In order of time, as in an acceptable state, these are the open
--- ones.
+-- the entries from the first open one on. In order of time, as in an acceptable state, these are all open ones.
 abbrev pub openFrom : ℕ → List Entry → List Entry
 openFrom t [] = []
 openFrom t (e ∷ l) = cond (isOpen t e) (e ∷ l) (openFrom t l)
@@ -132,8 +131,8 @@ pub record Tested (fit : Bool) (v : View) : Type 0 where
   pub said : fit ≡ acceptable v
   pub fits : Fits v
 
--- THE CLAIM for a run of receptions: if the caller is right, each is admitted as the model's step, and what was
--- told is true of the next state too
+-- THE CLAIM for a run of receptions: if the caller is right, each is admitted as the model's step, and what the caller
+-- said is true for the next state too
 pub record ToldRightly : Type 0 where
   pub isStep : (fit : Bool) (v : View) (r : Reception) → fit ≡ acceptable v → admission fit v r ≡ step v r
   pub elements : (fit : Bool) (v : View) (r : Reception) (a : Columns) → fit ≡ acceptable v → columnsAdmitted fit v r a ≡ columnsAfter v r a

@@ -112,8 +112,8 @@ lineBy r = take (getD (r .told) 2 0) (r .input)
 abbrev pub saidBy : Read → Reading
 saidBy r = cond (eqb (r .number) 0) (reception (getD (r .told) 0 0) (take (getD (r .told) 1 0) (r .bytes))) bad
 
--- THE CLAIM on `read_line`: as many calls of it, from the start of the same text on, say of each line what the calls
--- took
+-- THE CLAIM on `read_line`: as many calls of it, from the start of the same text on, read each line as the calls took
+-- it
 abbrev pub ReadAlike : (Call → Type 0) → Type 0
 ReadAlike Is =
     (a : Arrays) (cs : List Call) (rs : List Read) (rest rest' : List ℕ) → IsRun GoesOn Is a cs → AreRead rs
