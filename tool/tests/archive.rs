@@ -63,7 +63,7 @@ fn list() {
     let json = out("archive list a --rows json", &dir);
     assert!(json.starts_with(&format!("{{\"time\":{time},\"answer\":\"{word}\",\"txid\":\"{}\",\"telegram\":\"{hex}\"}}\n", id(all[0]))));
 
-    // Rows before the block that does not match, in whichever piece it is.
+    // Rows before the block that does not match, whichever piece it is in.
     for block in [0, 3, 2_047, 2_048, 2_060] {
         fs::copy(dir.join("a"), dir.join("b")).unwrap();
         spoil(&dir, "b", 512 * block + 30);
@@ -125,7 +125,7 @@ fn salvage() {
     fs::write(dir.join("odd"), [0; 513]).unwrap();
     run("archive salvage odd c", &dir, b"").with(3).says("refused with 16");
     assert!(!dir.join("c").exists() && !dir.join("c.new").exists());
-    // What the library does with the whole of it in memory.
+    // What the library does with all of it in memory.
     fs::write(dir.join("empty"), "").unwrap();
     assert_eq!(out("archive salvage empty e", &dir), "e: 0 rows, 0 blocks dropped\n");
 }
@@ -161,7 +161,7 @@ fn remove() {
 fn sheet() {
     let dir = folder("sheet");
     let rows = archive(&dir, "a", 5_000, 6) + &archive(&dir, "b", 7_000, 7);
-    // Added up here from the rows as text.
+    // The totals, computed here from the rows as text.
     let mut lines = std::collections::BTreeMap::new();
     for row in rows.lines() {
         let time: u64 = row.split(' ').next().unwrap().parse().unwrap();

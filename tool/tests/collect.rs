@@ -118,7 +118,7 @@ fn long_lines_are_bad() {
     assert_eq!(run("collect --level 0", &dir, &input).with(0).out.lines().collect::<Vec<_>>()[..3], ["BAD", "2 REFUSED 1", "BAD"]);
 }
 
-/// Reads until so many lines are there.
+/// Reads until there are this many lines.
 fn lines_of(from: &mut impl Read, count: usize) -> String {
     let (mut all, mut byte) = (Vec::new(), [0]);
     while all.iter().filter(|c| **c == b'\n').count() < count {
@@ -182,7 +182,7 @@ fn a_signal_while_nobody_reads() {
         let _ = (0..).try_for_each(|i| writeln!(stdin, "{} D5090102030400E8", 200 * i));
         // until nobody takes it
     });
-    // A pipe holds some 5,000 of these rows; then the state does not change any more.
+    // A pipe holds about 5,000 of these rows; then the state does not change any more.
     let taken = || fs::read(dir.join("s")).ok().and_then(|state| Some(u64::from_be_bytes(state.get(8..16)?.try_into().unwrap()))).unwrap_or(0);
     wait_for(|| {
         let before = taken();
@@ -218,7 +218,7 @@ fn a_signal_at_any_moment() {
         }
         let ran = running.end();
         feeder.join().unwrap();
-        // Before the handlers stand a signal ends it at once; then nothing was taken.
+        // Before the handlers are set, a signal ends it at once; then nothing was taken.
         let is_in_order = ran.status == Some(0) && (is_last || ran.err.contains("stopped normally"));
         assert!(is_in_order || ran.status.is_none() && ran.out.is_empty(), "{}", ran.err);
         printed += &ran.out;
@@ -365,7 +365,7 @@ fn damaged_states_are_refused_and_stay() {
     run("collect --state s --archive a", &dir, b"").with(3).says("4097 bytes");
     run("collect --level 1 --state s --archive a --fresh", &dir, b"").with(0).says("kept as s.aside-1");
     run("collect --level 1 --state s --archive a --new-state", &dir, b"").with(0).says("kept as s.aside-2");
-    // What is no file is neither read nor renamed.
+    // A path that is not a file is neither read nor renamed.
     fs::create_dir(dir.join("d")).unwrap();
     for words in ["", "--fresh", "--new-state"] {
         run(&format!("collect --level 1 --state d --archive a {words}"), &dir, b"").with(3).says("d: not a regular file");
@@ -386,7 +386,7 @@ fn replay_skips_what_was_taken() {
     assert_eq!(again.out.lines().count() + first.out.lines().count(), whole.out.lines().count() + 1);
     assert!(whole.out.ends_with(&again.out));
     assert!(fs::read(dir.join("a")).unwrap() == fs::read(dir.join("whole.arc")).unwrap());
-    // The log that ends before what was taken is not this log.
+    // A log that ends before what was taken is not this log.
     run("collect --level 1 --state s --archive a --replay", &dir, &log.as_bytes()[..cut]).with(1).says("the input ended 3300 lines before the 5000");
     // A log in two inputs, each with a level line.
     let dir = folder("two_inputs");
@@ -403,7 +403,7 @@ fn archives_that_are_not_the_states() {
     run("collect --level 1 --state s", &dir, b"").with(2).says("the state belongs to the archive a");
     assert!(!dir.join("b").exists());
     let good = fs::read(dir.join("a")).unwrap();
-    // Rows that were removed, a file that is gone, and another file of that name.
+    // Rows that were removed, a missing file, and another file of that name.
     run("archive remove a --txid 01814D10", &dir, b"").with(0);
     run("collect --level 1 --state s --archive a", &dir, b"").with(3).says("--adopt-archive");
     fs::remove_file(dir.join("a")).unwrap();
@@ -437,7 +437,7 @@ fn rotation() {
     for name in &files[..files.len() - 1] {
         assert_eq!(run(&format!("archive verify {name}"), &dir, b"").with(0).out, format!("{name}: 300 rows, 20 blocks\n"));
     }
-    // It goes on in the last file, and old ones may have been moved away.
+    // It continues in the last file; old ones may have been moved away.
     fs::remove_file(dir.join(&files[0])).unwrap();
     run("collect --level 1 --state s --archive plant-##.arc --blocks 20", &dir, b"9999999 A500000000010203040FBE\n")
         .with(0)

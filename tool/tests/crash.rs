@@ -1,7 +1,7 @@
-//! A collector that is killed at random moments, runs into a full disk or finds a torn block: at the end state and archive are byte for byte those of a
-//! run that nobody disturbed, and every row that was printed stands in the archive.
+//! A collector that is killed at random moments, meets a full disk or finds a torn block: at the end, state and archive are byte for byte those of an
+//! undisturbed run, and every row that was printed is in the archive.
 //!
-//! MOORINGEYE_KILLS says how often it is killed, 20 where it is left out.
+//! MOORINGEYE_KILLS says how often it is killed; 20 if it is not set.
 mod common;
 use common::*;
 use std::fs;
@@ -9,7 +9,7 @@ use std::path::{Path, PathBuf};
 use std::thread::sleep;
 use std::time::Duration;
 
-/// A log, and what an undisturbed run makes of it.
+/// A log, and the result of an undisturbed run.
 struct Whole {
     log: String,
     dir: PathBuf,
@@ -26,7 +26,7 @@ impl Whole {
         Whole { printed: ran.out.lines().map(String::from).collect(), log, dir, words }
     }
 
-    /// The rows of the archive that the first so many printed rows are.
+    /// How many rows of the archive are among the first `printed` rows.
     fn stored(&self, printed: usize) -> usize {
         let is_stored = |row: &&String| matches!(row.split(' ').nth(1), Some("KEPT" | "LOOSE"));
         self.printed[..printed].iter().filter(is_stored).count()
@@ -39,7 +39,7 @@ impl Whole {
         files
     }
 
-    /// State and archives, in another folder, are byte for byte those of the undisturbed run.
+    /// State and archives in another folder are byte for byte those of the undisturbed run.
     #[track_caller]
     fn is_same(&self, dir: &Path) {
         let (mine, other) = (Whole::files(&self.dir), Whole::files(dir));
@@ -50,7 +50,7 @@ impl Whole {
         }
     }
 
-    /// What a disturbed run printed is what the undisturbed one prints from the line on where the state stood; answers up to which row.
+    /// What a disturbed run printed is what the undisturbed one prints, from the line of the state on. Returns up to which row.
     #[track_caller]
     fn printed_to(&self, ran: &Ran) -> usize {
         let Some(at) = ran.err.find(" lines taken") else {
@@ -58,14 +58,14 @@ impl Whole {
             return 0;
         };
         let taken: usize = ran.err[..at].rsplit(' ').next().unwrap().parse().unwrap();
-        // The first line says the level, and has no row.
+        // The first line has the level, and no row.
         let from = taken.saturating_sub(1);
         let rows: Vec<&str> = ran.out.split_inclusive('\n').filter(|row| row.ends_with('\n')).map(str::trim_end).collect();
         assert!(self.printed[from..].iter().zip(&rows).all(|(a, b)| a == b), "rows differ behind row {from}");
         from + rows.len()
     }
 
-    /// Every row that a disturbed run printed stands in the archive. Answers whether it found rows that its state did not count, 0 or 1.
+    /// Every row that a disturbed run printed is in the archive. Returns whether it found rows that its state did not count, 0 or 1.
     #[track_caller]
     fn survived(&self, dir: &Path, ran: &Ran) -> usize {
         self.has_rows(dir, self.stored(self.printed_to(ran)));
@@ -89,14 +89,14 @@ impl Whole {
     }
 }
 
-/// How often a run was killed, and how often the archive was ahead of the state then.
+/// How often a run was killed, and how often the archive was then ahead of the state.
 #[derive(Default)]
 struct Count {
     kills: usize,
     ahead: usize,
 }
 
-/// Starts the tool again and again, and kills it at a random moment each time, until it was killed so often or came to an end.
+/// Starts the tool again and again, and kills it at a random moment each time, until it was killed often enough or has ended.
 fn killed(whole: &Whole, name: &str, kills: usize, seed: u64) -> Count {
     let dir = folder(&format!("crash_{name}"));
     let words = format!("{} --replay", whole.words);
@@ -125,7 +125,7 @@ fn kills() -> usize {
     std::env::var("MOORINGEYE_KILLS").map_or(20, |n| n.parse().unwrap())
 }
 
-/// So many kills, over as many logs as that takes.
+/// Kills it this many times, over as many logs as necessary.
 fn killed_in_all(name: &str, options: &str, lines: usize) {
     let (mut all, mut logs) = (Count::default(), 0);
     while all.kills < kills() {
@@ -163,7 +163,7 @@ fn listed(dir: &Path) -> String {
     run("archive list a", dir, b"").with(0).out
 }
 
-/// A feed that nobody can read again: what stood in the archive when it was killed stands there ever after, and what was printed is among it.
+/// A feed that cannot be read again: what was in the archive at a kill stays there, and it includes what was printed.
 #[test]
 fn killed_without_a_log() {
     let (mut random, mut kills_done, mut taken_in) = (Random(55), 0, 0);
@@ -204,7 +204,7 @@ fn rotate(dir: &Path, text: &str) {
     fs::write(dir.join("gateway.log"), text).unwrap();
 }
 
-/// A log that is followed, rotated so often while the tool is down, and rotated while it runs.
+/// A log that is followed, rotated this often while the tool is down, and rotated while it runs.
 fn killed_while_the_log_is_rotated(name: &str, rotations: usize) {
     let whole = Whole::of(name, 9_000, 31, "--archive a");
     let dir = folder(&format!("crash_{name}"));
@@ -216,7 +216,7 @@ fn killed_while_the_log_is_rotated(name: &str, rotations: usize) {
     'all: loop {
         let mut running = start(tool(&format!("{words} --follow"), &dir));
         while !dir.join("s").exists() {
-            sleep(Duration::from_millis(1)); // a collector that never stood anywhere begins with the log that is there
+            sleep(Duration::from_millis(1)); // a collector without a position begins with the log that is there
         }
         sleep(Duration::from_micros(random.below(60_000)));
         if let Some(text) = if random.below(2) == 0 { parts.next() } else { None } {
@@ -235,7 +235,7 @@ fn killed_while_the_log_is_rotated(name: &str, rotations: usize) {
     assert!(!dir.join("a.aside-1").exists(), "{}", ran.err);
     assert!(fs::read(dir.join("a")).unwrap() == fs::read(whole.dir.join("a")).unwrap());
     let (mine, other) = (fs::read(dir.join("s")).unwrap(), fs::read(whole.dir.join("s")).unwrap());
-    // All but the place in the log: lines, archive, its last block, and the image.
+    // All except the position in the log: lines, archive, its last block, and the image.
     assert!(mine[..296] == other[..296] && mine[512..3_584] == other[512..3_584]);
 }
 
@@ -255,7 +255,7 @@ fn a_full_disk() {
     let length = fs::metadata(whole.dir.join("a")).unwrap().len();
     assert!(length > 1 << 20, "the archive has to grow twice");
     let dir = folder("crash_full");
-    // No room for the archive at all, and for its first part alone: then it fails where the file has to grow.
+    // No room for the archive, or only for its first part: then it fails when the file has to grow.
     for (limit, words) in [(1_000, "cannot write"), (500_000, "cannot write a: File too large"), (1_500_000, "cannot write a: File too large")] {
         let words_of_tool = format!("{} --replay", whole.words);
         let mut running = start(limited(&format!("--fsize={limit}"), &words_of_tool, &dir));
@@ -268,7 +268,7 @@ fn a_full_disk() {
     whole.is_same(&dir);
 }
 
-/// A limit of the file's size that lies inside a block stops its write there. Answers whether the block was left torn, and whether it was mended.
+/// A limit of the file size inside a block stops its write there. Returns whether the block was left torn, and whether it was mended.
 fn torn_at(whole: &Whole, dir: &Path, at: usize) -> (bool, bool) {
     let words = format!("{} --replay", whole.words);
     let mut running = start(limited(&format!("--fsize={at}"), &words, dir));
@@ -288,7 +288,7 @@ fn a_write_that_stops_in_a_new_block() {
     let whole = Whole::of("torn_new", 3_000, 12, "--archive a");
     for i in 0..20 {
         let dir = folder("crash_torn_new");
-        // The file is as long as it will be, so that the limit stops a write and not its growth.
+        // The file already has its final length, so the limit stops a write and not its growth.
         fs::write(dir.join("a"), vec![0; 1 << 20]).unwrap();
         let (is_torn, is_mended) = torn_at(&whole, &dir, 512 * (20 + i) + 7 + 24 * i);
         assert!(is_torn && !is_mended, "no row of it is counted");
@@ -326,7 +326,7 @@ fn a_block_that_a_power_cut_spoiled() {
         run(&whole.words, &dir, &whole.log.as_bytes()[..cut]).with(0);
         let mut bytes = fs::read(dir.join("a")).unwrap();
         let rows: usize = bytes.chunks(512).map(|b| usize::from(b[4])).sum();
-        // The block with the last row, and blocks behind it, hold anything.
+        // The block with the last row, and the blocks after it, have any content.
         let last = 512 * ((rows - 1) / 15);
         let from = last + random.below(512) as usize;
         let to = from + 1 + random.below(3_000) as usize;
@@ -338,7 +338,7 @@ fn a_block_that_a_power_cut_spoiled() {
     }
 }
 
-/// A state that somebody spoiled is refused and stays; begun anew from the log, with the archive moved away, everything is as it should be.
+/// A damaged state is refused and unchanged; after a new start from the log, with the archive moved away, everything is right.
 #[test]
 fn a_state_that_is_damaged() {
     let whole = Whole::of("state", 3_000, 14, "--archive a");

@@ -1,5 +1,5 @@
-//! What used to lose rows without a word, done to the real tool with real files: each row of the table of what a plant may do stands here, and each
-//! sentence of docs/GUIDE.md on crashes and logs.
+//! What used to lose rows without a message, done to the real tool with real files: each row of the table of what a plant may do, and each sentence
+//! of docs/GUIDE.md on crashes and logs, has a test here.
 mod common;
 use common::*;
 use std::fs::{self, File, OpenOptions};
@@ -22,7 +22,7 @@ fn listed(dir: &Path, name: &str) -> Vec<String> {
     run(&format!("archive list {name}"), dir, b"").with(0).out.lines().map(String::from).collect()
 }
 
-/// A state from before a batch, and the archive from behind it: what a kill between the two leaves.
+/// A state from before a batch, and the archive from after it: what a kill between the two leaves.
 fn archive_ahead(name: &str) -> (std::path::PathBuf, Vec<String>, Vec<String>) {
     let (dir, lines) = (folder(name), lines(3_000, 41));
     run(KEPT, &dir, lines[..1_000].concat().as_bytes()).with(0);
@@ -40,7 +40,7 @@ fn a_feed_goes_on_from_its_rows() {
     let now = listed(&dir, "a");
     assert!(now.starts_with(&rows) && now.len() > rows.len());
     assert!(!dir.join("a.aside-1").exists(), "{}", ran.err);
-    // The rows that came later are those of a collector that nobody stopped.
+    // The rows that came later are those of a collector that was not stopped.
     let whole = folder("journal_feed_whole");
     run(KEPT, &whole, lines.concat().as_bytes()).with(0);
     assert!(listed(&whole, "a") == now);
@@ -62,24 +62,24 @@ fn rows_that_were_appended_are_kept() {
     run(LOGGED, &dir, b"").with(0);
     let rows = listed(&dir, "a");
     let more = "5 KEPT D5090102030400E8\n7 LOOSE D5090102030400E8\n";
-    // With a log: what it does not give again goes aside.
+    // With a log: what it does not give again is put aside.
     run("archive append a", &dir, more.as_bytes()).with(0);
     run(LOGGED, &dir, b"").with(0).says("2 rows that the state does not count are not in the log. They were moved to a.aside-1.");
     assert!(listed(&dir, "a") == rows);
     assert_eq!(listed(&dir, "a.aside-1").join("\n") + "\n", more);
-    // Other rows come in their place.
+    // Other rows come instead.
     run("archive append a", &dir, more.as_bytes()).with(0);
     let next = "99999999 D5090102030400E8\n";
     OpenOptions::new().append(true).open(dir.join("gateway.log")).unwrap().write_all(next.as_bytes()).unwrap();
     run(LOGGED, &dir, b"").with(0).says("2 rows that the state does not count are not what came in their place. They were moved to a.aside-2.");
     assert_eq!(listed(&dir, "a").len(), rows.len() + 1);
     assert_eq!(listed(&dir, "a.aside-2").join("\n") + "\n", more);
-    // Where the state stands in a log they wait for it.
+    // If the state has a position in a log, they wait for that log.
     run("archive append a", &dir, more.as_bytes()).with(0);
     run(KEPT, &dir, b"").with(0);
     assert_eq!(listed(&dir, "a").len(), rows.len() + 3);
     run(LOGGED, &dir, b"").with(0).says("They were moved to a.aside-3.");
-    // Of a feed: the collector answers LATE, so they go aside too.
+    // From a feed: the collector answers LATE, so they are put aside too.
     let dir = folder("journal_appended_feed");
     run(KEPT, &dir, lines(2_000, 42).concat().as_bytes()).with(0);
     run("archive append a", &dir, more.as_bytes()).with(0);
@@ -93,7 +93,7 @@ fn two_states_on_one_archive_by_turns() {
     let other = KEPT.replace("--state s", "--state t");
     let mut rows: Vec<String> = Vec::new();
     for (turn, part) in lines.chunks(1_000).enumerate() {
-        // What the other one kept is taken in as far as this one would have kept it too, and else put aside; then the other one refuses to go on.
+        // What the other one kept is taken in if this one would have kept it too, else put aside; then the other one refuses to continue.
         let ran = run(if turn % 2 == 0 { KEPT } else { &other }, &dir, part.concat().as_bytes());
         assert!(ran.status == Some(0) || turn == 3 && ran.status == Some(3) && ran.err.contains("--adopt-archive"), "{}", ran.err);
         let mut now = listed(&dir, "a");
@@ -138,7 +138,7 @@ fn the_log_was_rotated() {
         let dir = folder(&format!("journal_rotated_{name}"));
         fs::write(dir.join("gateway.log"), lines[..1_000].concat()).unwrap();
         run(LOGGED, &dir, b"").with(0);
-        // More came before it was rotated; and it was rotated once more.
+        // More lines came before it was rotated; and it was rotated once more.
         OpenOptions::new().append(true).open(dir.join("gateway.log")).unwrap().write_all(lines[1_000..1_500].concat().as_bytes()).unwrap();
         rotate(&dir, rotated[0], &lines[1_500..2_000].concat());
         sleep(Duration::from_millis(20));
@@ -148,7 +148,7 @@ fn the_log_was_rotated() {
     }
 }
 
-/// Refused with status 3, a message, and no file changed.
+/// Checks that it is refused with status 3 and a message, and that no file is changed.
 #[track_caller]
 fn is_refused(dir: &Path, words: &str, input: &[u8], says: &str) {
     let files = || ["s", "a"].map(|name| fs::read(dir.join(name)).unwrap());
@@ -163,7 +163,7 @@ fn a_log_that_is_not_the_one_that_was_taken() {
     fs::write(dir.join("gateway.log"), lines[..1_000].concat()).unwrap();
     run(LOGGED, &dir, b"").with(0);
     let taken = lines[..1_000].concat().len();
-    // Cut, as copytruncate does; cut and grown again; gone.
+    // Cut, as copytruncate does; cut and grown again; missing.
     let file = OpenOptions::new().write(true).open(dir.join("gateway.log")).unwrap();
     fs::copy(dir.join("gateway.log"), dir.join("gateway.log.1")).unwrap();
     file.set_len(0).unwrap();
@@ -209,7 +209,7 @@ fn a_copy_of_the_log_is_as_good() {
 fn a_replayed_log_is_compared() {
     let (dir, lines) = (folder("journal_replay"), lines(1_500, 48));
     run(KEPT, &dir, lines[..1_000].concat().as_bytes()).with(0);
-    // Parts of the log in another order, a log whose oldest part is gone, and one with another line.
+    // Parts of the log in another order, a log whose oldest part is missing, and one with another line.
     let swapped = [&lines[500..1_000], &lines[..500], &lines[1_000..]].concat().concat();
     let oldest_gone = lines[100..].concat();
     let mut other = lines.clone();
@@ -244,7 +244,7 @@ fn a_state_of_version_1_goes_on() {
     assert_eq!(fs::read(copy.join("s")).unwrap().len(), 4_096);
 }
 
-/// As document 01 has it: x^8 + x^2 + x + 1, from 0.
+/// As in document 01: x^8 + x^2 + x + 1, from 0.
 fn crc8(bytes: &[u8]) -> u8 {
     bytes.iter().fold(0, |crc, byte| (0..8).fold(crc ^ byte, |c: u8, _| if c & 0x80 != 0 { c << 1 ^ 7 } else { c << 1 }))
 }
@@ -269,7 +269,7 @@ fn a_log_is_followed_through_rotation() {
         gateway.write_all(line.as_bytes()).unwrap();
     }
     rows(320);
-    // Half a line is not taken; it is written to its end after the log was renamed.
+    // Half a line is not taken; its end is written after the log was renamed.
     gateway.write_all(&lines[320].as_bytes()[..9]).unwrap();
     rotate(&dir, "gateway.log.1", "");
     sleep(Duration::from_millis(60));
@@ -307,7 +307,7 @@ fn delays(words: &str, dir: &Path) -> Vec<Duration> {
     delays
 }
 
-/// The collector is woken where the log grows. One that looks at it each 20 ms takes more than 15 ms here.
+/// The collector is woken when the log grows. One that checks it every 20 ms takes more than 15 ms here.
 #[test]
 fn a_line_is_out_soon() {
     let without = delays("collect --level 1 --log gateway.log --follow", &folder("journal_soon"))[100];
@@ -340,14 +340,14 @@ fn rows_stand_in_the_out_file_once() {
         }
     }
     assert!(fs::read_to_string(dir.join("rows.txt")).unwrap() == expected);
-    // Rows that the state does not count are cut; a file that is too short is refused.
+    // Rows that the state does not count are cut off; a file that is too short is refused.
     OpenOptions::new().append(true).open(dir.join("rows.txt")).unwrap().write_all(b"1767226157845 KEP").unwrap();
     run(words, &dir, log.as_bytes()).with(0).says("rows.txt: the last 17 bytes are cut, because the state does not count them");
     assert!(!run(words, &dir, log.as_bytes()).with(0).err.contains("are cut"));
     assert!(fs::read_to_string(dir.join("rows.txt")).unwrap() == expected);
     OpenOptions::new().write(true).open(dir.join("rows.txt")).unwrap().set_len(10).unwrap();
     is_refused(&dir, words, log.as_bytes(), "rows.txt has 10 bytes, but the state has written");
-    // One that was moved away is begun anew.
+    // After the file was moved away, a new one begins.
     fs::rename(dir.join("rows.txt"), dir.join("rows.1")).unwrap();
     run(words, &dir, log.as_bytes()).with(0);
     assert_eq!(fs::read(dir.join("rows.txt")).unwrap(), b"");
@@ -375,7 +375,7 @@ fn closings_stand_in_the_heard_file_once() {
         }
     }
     assert!(fs::read_to_string(dir.join("heard.csv")).unwrap() == expected);
-    // Lines of telegrams that the state has not closed, and a line that was not written whole, are cut.
+    // Lines of telegrams that the state has not closed, and an incomplete line, are cut off.
     let latest = u64::MAX - 5;
     for behind in ["1767226157845,010203".to_string(), format!("{latest},01020304,0,0,0\n"), format!("{latest},01020304,0,0,0\n\0\0\0\n17")] {
         OpenOptions::new().append(true).open(dir.join("heard.csv")).unwrap().write_all(behind.as_bytes()).unwrap();
@@ -383,13 +383,13 @@ fn closings_stand_in_the_heard_file_once() {
         run(words, &dir, log.as_bytes()).with(0).says(&says);
         assert!(fs::read_to_string(dir.join("heard.csv")).unwrap() == expected, "{behind:?}");
     }
-    // Another file is refused, and stays.
+    // Another file is refused, and is unchanged.
     fs::rename(dir.join("heard.csv"), dir.join("heard.1")).unwrap();
     let diary = "dear diary\n".repeat(9);
     fs::write(dir.join("heard.csv"), &diary).unwrap();
     is_refused(&dir, words, log.as_bytes(), "heard.csv: not the file that this state has written");
     assert!(fs::read_to_string(dir.join("heard.csv")).unwrap() == diary);
-    // One that was moved away is begun anew, and so is that of another collector, which is kept.
+    // After the file was moved away, a new one begins; also after that of another collector, which is kept.
     fs::remove_file(dir.join("heard.csv")).unwrap();
     run(words, &dir, log.as_bytes()).with(0);
     assert_eq!(fs::read(dir.join("heard.csv")).unwrap(), b"opened,txid,level,copies,interrupted\n");
@@ -398,7 +398,7 @@ fn closings_stand_in_the_heard_file_once() {
     assert!([("heard.csv"), ("heard.csv.aside-1")].iter().all(|name| fs::read_to_string(dir.join(name)).unwrap() == expected));
 }
 
-/// Telegrams that were open while nobody listened to a feed are marked; of a log nothing is missed.
+/// Telegrams that were open while nobody listened to a feed are marked; with a log nothing is missed.
 #[test]
 fn interrupted_telegrams_are_marked() {
     let dir = folder("journal_interrupted");
@@ -451,7 +451,7 @@ fn an_out_file_that_is_rotated() {
     assert_eq!(fs::read_to_string(dir.join("rows.old")).unwrap().lines().count(), 2);
 }
 
-/// One file has rows of one format.
+/// A file has rows of only one format.
 #[test]
 fn an_out_file_of_another_format() {
     let dir = folder("journal_out_format");
@@ -467,7 +467,7 @@ fn an_out_file_of_another_format() {
     }
 }
 
-/// Of the file of `--heard` no message speaks of rows or of `--out`.
+/// Messages on the file of `--heard` do not speak of rows or of `--out`.
 #[test]
 fn words_for_the_heard_file() {
     let dir = folder("journal_heard_words");
@@ -521,7 +521,7 @@ fn a_full_file_may_be_moved_away() {
     let dir = folder("journal_moved");
     let words = "collect --level 1 --state s --archive a-##.arc --blocks 2";
     let lines = lines(400, 53);
-    // As many lines as fill a file: the state stands behind its last row.
+    // As many lines as fill a file: the state ends with its last row.
     let rows = |upto: usize| {
         let dir = folder("journal_moved_try");
         run(KEPT, &dir, lines[..upto].concat().as_bytes()).with(0);
@@ -538,7 +538,8 @@ fn a_full_file_may_be_moved_away() {
     assert!(listed(&dir, &names.join(" ")) == listed(&whole, "a"));
 }
 
-/// What a power cut can leave of a numbered archive that was just begun: a file of any length, with nothing, with anything, or with some of its blocks.
+/// What a power cut can leave of a numbered archive that was just begun: a file of any length, with nothing, with anything, or with some of its
+/// blocks.
 #[test]
 fn numbered_files_after_a_power_cut() {
     let lines = lines(400, 54);
@@ -577,7 +578,7 @@ fn blocks_behind_an_unfinished_write_are_copied() {
     run(KEPT, &dir, lines[100..].concat().as_bytes()).with(0);
     fs::write(dir.join("s"), state).unwrap();
     let mut bytes = fs::read(dir.join("a")).unwrap();
-    bytes[512 * (counted / 15 + 2) + 100] ^= 1; // the second block behind the counted ones
+    bytes[512 * (counted / 15 + 2) + 100] ^= 1; // the second block after the counted ones
     fs::write(dir.join("a"), &bytes).unwrap();
     run(&format!("{KEPT} --replay"), &dir, lines.concat().as_bytes()).with(0).says("were copied to a.torn-1").says("were cleared");
     assert!(run("archive salvage a.torn-1 saved", &dir, b"").with(0).out.contains("1 blocks dropped"));
@@ -611,12 +612,12 @@ fn is_root() -> bool {
     fs::metadata("/proc/self").unwrap().uid() == 0
 }
 
-/// The tool as a user whom permissions stop: nobody, where the tests run as root.
+/// The tool as a user who is stopped by permissions: `nobody`, if the tests run as root.
 fn as_a_user(words: &str, dir: &Path) -> Ran {
     if !is_root() {
         return run(words, dir, b"");
     }
-    // A copy, since nobody may not go into every folder.
+    // A copy, because `nobody` cannot open every folder.
     let program = dir.join("mooringeye");
     fs::copy(env!("CARGO_BIN_EXE_mooringeye"), &program).unwrap();
     let mut command = Command::new("setpriv");
@@ -641,7 +642,7 @@ fn a_lock_file_of_another_user() {
     fs::remove_dir_all(&dir).unwrap();
 }
 
-/// What is in a pipe whose writer has ended.
+/// The content of a pipe whose writer has ended.
 fn rest_of(mut pipe: impl Read) -> String {
     let mut text = String::new();
     pipe.read_to_string(&mut text).unwrap();
@@ -654,7 +655,7 @@ fn a_stalled_reader_fuses_no_line() {
     let whole = folder("journal_stalled_whole");
     let expected = run("collect --state s --archive a", &whole, log.as_bytes()).with(0).out;
     fs::write(dir.join("log"), &log).unwrap();
-    // Nobody reads: the pipe is full long before the end, and the collector waits. A signal ends it when its reader had time enough.
+    // Nobody reads: the pipe is full long before the end, and the collector waits. A signal ends it after its reader had enough time.
     let mut child = tool("collect --state s --archive a", &dir)
         .stdin(File::open(dir.join("log")).unwrap())
         .stdout(Stdio::piped())
@@ -668,7 +669,7 @@ fn a_stalled_reader_fuses_no_line() {
     assert_eq!(child.wait().unwrap().code(), Some(1));
     let first = rest_of(child.stdout.take().unwrap());
     assert!(first.ends_with('\n') && first.len() > 32_768 && expected.starts_with(&first), "whole rows, from the first on");
-    // What comes behind them, in the same file, is rows of their own: some are missing, none is there twice and none is fused.
+    // The rows that come after them, in the same file, are whole rows: some are missing, none is there twice and none is joined with another.
     let second = run("collect --state s --archive a --replay", &dir, log.as_bytes()).with(0).out;
     assert!(expected.ends_with(&second) && first.len() + second.len() < expected.len());
     assert!(listed(&dir, "a") == listed(&whole, "a"), "the archive has every row");
@@ -677,7 +678,7 @@ fn a_stalled_reader_fuses_no_line() {
 #[test]
 fn a_stalled_reader_does_not_stop_the_out_file() {
     let (dir, log) = (folder("journal_stalled_out"), log(30_000, 58));
-    // A pipe that is full: whatever is written to it waits for ever.
+    // A full pipe: a write to it waits for ever.
     let (reader, mut writer) = std::io::pipe().unwrap();
     writer.write_all(&[b'x'; 65_536]).unwrap();
     fs::write(dir.join("log"), &log).unwrap();

@@ -11,7 +11,7 @@ use std::time::{Duration, Instant};
 #[test]
 fn more_blocks_than_an_archive_has() {
     let dir = folder("large");
-    // Sparse: it takes no room.
+    // Sparse: it uses no disk space.
     File::create(dir.join("a")).unwrap().set_len(((1 << 32) + 1) * 512).unwrap();
     for words in ["verify a", "list a", "salvage a b", "sheet a", "append a", "remove a --txid 01020304", "picture a"] {
         let started = Instant::now();
@@ -22,8 +22,8 @@ fn more_blocks_than_an_archive_has() {
     assert!(!dir.join("b").exists());
 }
 
-/// An archive of all the blocks that there can be, of which the first few have rows and the rest is a hole: every command answers as of a short one,
-/// and at once.
+/// An archive of the largest number of blocks, of which the first few have rows and the rest is a hole: every command answers as for a short one, and
+/// at once.
 #[test]
 fn zeros_at_the_end_of_a_sparse_archive() {
     let dir = folder("large_sparse");
@@ -58,14 +58,14 @@ fn zeros_at_the_end_of_a_sparse_archive() {
     }
     same("archive list a", b"");
     assert!(started.elapsed() < Duration::from_secs(30));
-    // A block behind the hole is found where it is.
+    // A block after the hole is found at its position.
     let far = File::options().write(true).open(dir.join("short/a")).unwrap();
     far.set_len(1 << 30).unwrap();
     far.write_all_at(&[1; 512], (1 << 30) - 512).unwrap();
     run("archive verify a", &dir.join("short"), b"").with(3).says("(block 2097151)");
 }
 
-/// What a command shows on a terminal, where it is stopped for a second in its middle.
+/// What a command shows on a terminal, if it is stopped for a second in the middle.
 fn on_terminal(command: &str, dir: &Path) -> String {
     let mut child = Command::new("script");
     child.args(["--quiet", "--flush", "--command", command, "/dev/null"]).current_dir(dir).env("TERM", "dumb");
@@ -85,7 +85,7 @@ fn on_terminal(command: &str, dir: &Path) -> String {
 #[test]
 fn progress_on_a_terminal() {
     let dir = folder("large_progress");
-    // A hole with a block behind it: it is read to its end, which takes a while, and takes no room.
+    // A hole with a block after it: it is read to its end, which takes a while, and uses no disk space.
     let file = File::create(dir.join("a")).unwrap();
     file.set_len(1 << 30).unwrap();
     file.write_all_at(&[1; 512], (1 << 30) - 512).unwrap();
@@ -97,7 +97,7 @@ fn progress_on_a_terminal() {
         assert!(shown.contains("\r\x1b[K"), "it goes away: {shown:?}");
     }
     assert!(!on_terminal(&format!("exec {program} archive verify a --quiet"), &dir).contains("MB/s"));
-    // A log that is read again, while whoever reads the rows takes his time.
+    // A log that is read again, while the reader of the rows is slow.
     fs::write(dir.join("log"), log(60_000, 8)).unwrap();
     for words in ["--log log", "--replay <log"] {
         let command = format!("{program} collect --level 1 --state s --archive c {words} | (sleep 1.5; cat >rows)");
@@ -116,7 +116,7 @@ fn progress_on_a_terminal() {
     shell.args(["--quiet", "--flush", "--command", &command, "/dev/null"]).current_dir(&dir);
     let shown = run_command(shell, b"").out;
     assert!(shown.split('\r').any(|l| l.starts_with("the input: ") && l.contains(" rows, ") && l.contains(" MB/s")), "{shown:?}");
-    // Where the rows are printed on the terminal there is none.
+    // If the rows are printed on the terminal, there is no progress.
     assert!(!on_terminal(&format!("exec {program} collect --level 1 --log log"), &dir).contains("MB/s"));
 }
 
@@ -143,7 +143,7 @@ fn a_reader_that_goes_away() {
         let done = child.wait_with_output().unwrap();
         assert_eq!((done.status.code(), done.stderr.len()), (Some(0), 0), "{words}");
     }
-    // A collector whose rows nobody reads has failed.
+    // If nobody reads the rows of a collector, it has failed.
     fs::write(dir.join("log"), &log).unwrap();
     let mut child = tool("collect", &dir).stdin(File::open(dir.join("log")).unwrap()).stdout(Stdio::piped()).stderr(Stdio::piped()).spawn().unwrap();
     drop(child.stdout.take());
@@ -167,7 +167,7 @@ fn bad_lines_are_told() {
         let expected: Vec<String> = (0..10).map(|i| format!("mooringeye: line {} is BAD: noise", 2 + 2 * i)).collect();
         assert_eq!(told(&ran.err), expected);
     }
-    // The number of a line is that of the input also where lines are skipped.
+    // The number of a line is that of the input, also if lines are skipped.
     run("collect --state s", &dir, b"level 1\n1 D5080583A1C000C6\n").with(0);
     let ran = run("collect --state s --replay", &dir, b"level 1\n1 D5080583A1C000C6\nnoise\n").with(0);
     assert_eq!(told(&ran.err), ["mooringeye: line 3 is BAD: noise"]);

@@ -47,7 +47,7 @@ fn numbers_go_on_from_file_to_file() {
             assert_eq!(some, all[after.min(all.len())..(after + count).min(all.len())].concat(), "{count} after {after}");
         }
     }
-    // A file by itself, by the number of its first row.
+    // A single file, by the number of its first row.
     let third = out("archive list p-2.arc --rows tsv --first 121 --after 130", &dir);
     assert_eq!(third, all[130..180].concat());
     // The other options choose among those rows.
@@ -75,7 +75,7 @@ fn only_what_is_behind_is_read() {
         let ran = run(&format!("archive list b --rows tsv --after {after}"), &dir, b"").with(3).says("(block 3)");
         assert!(ran.out == all[after.min(45)..45].concat(), "after {after}");
     }
-    // Blocks that were lost: the end is not where it seems to be, which the blocks behind it say.
+    // Blocks that were lost: the end is not where it seems to be, and the blocks after it show that.
     bytes[512 * 2_040..512 * 2_060].fill(0);
     fs::write(dir.join("c"), &bytes).unwrap();
     for after in [30_599, 30_700, 30_899, all.len(), all.len() + 100] {
@@ -132,7 +132,7 @@ fn copy_binary() {
     assert_eq!(copied(&binary("--after 3").1).len(), 0);
     assert_eq!(out("archive list a --rows months", &dir), "1970-01\t1\n2000-01\t1\nlater\t1\n");
     assert_eq!(out("archive list a --rows months --after 1 --count 1", &dir), "2000-01\t1\n");
-    // What is cut short has no end, which COPY refuses.
+    // If it is cut short, it has no trailer, and COPY refuses it.
     let mut spoiled = fs::read(dir.join("a")).unwrap();
     spoiled[30] ^= 1;
     fs::write(dir.join("a"), spoiled).unwrap();

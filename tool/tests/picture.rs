@@ -1,4 +1,4 @@
-//! Times and names for people in `archive list` and `archive sheet`; pictures of archives, of logs, and of how often telegrams were heard.
+//! Times and names for people in `archive list` and `archive sheet`; pictures of archives, of logs, and of how often telegrams were received.
 mod common;
 use common::*;
 use std::collections::HashMap;
@@ -87,7 +87,7 @@ fn many_rows() {
     run("archive picture a", &dir, b"").with(1).says("more than 20000 rows are too many for a picture. Choose fewer by --from, --to or --txid.");
 }
 
-/// A picture that is higher than a screen has its times above the lanes too, and no label ends behind it.
+/// A picture that is higher than a screen has its times above the lanes too, and no label ends outside it.
 #[test]
 fn labels_of_times() {
     let dir = plant("picture_labels");
@@ -175,7 +175,7 @@ fn a_mark_for_each_reception() {
     }
     let page = run("picture log --names names", &dir, b"").with(0).out;
     assert!(page.contains("Gate &lt;2&gt;") && !page.contains("Gate <2>"));
-    // Of one transmitter: nothing damaged, since that says no transmitter.
+    // For one transmitter: nothing damaged, because a damaged reception has no transmitter.
     let page = run("picture log --txid 0583A1C0", &dir, b"").with(0).out;
     assert!(!page.contains("reception damaged") && page.contains("Transmitters: 1."));
     let svg = run("picture log --svg --to 1800", &dir, b"").with(0).out;
@@ -207,7 +207,7 @@ fn the_gate_explains_itself() {
     assert_eq!(all("window open").iter().map(|l| fill(l)).collect::<Vec<_>>(), fills);
 }
 
-/// Every COPY stands in the shade of its telegram's colour, over the lanes of its transmitter.
+/// Every COPY is in the shade of its telegram's colour, over the lanes of its transmitter.
 #[test]
 fn copies_stand_in_the_shade() {
     let dir = folder("picture_shade");
@@ -239,7 +239,7 @@ fn lanes_by_repeater_level() {
     let svg = run("picture log --svg --level 1", &dir, b"").with(0).out;
     let labels: Vec<&str> = ["original", "level 1", "level 2"].into_iter().filter(|l| svg.contains(&format!(">{l}</text>"))).collect();
     assert_eq!((labels.len(), svg.matches("class=\"lane\"").count()), (3, 3));
-    // Logs that follow each other are one: the second is open still.
+    // Logs that follow each other are one: the second telegram is still open.
     fs::write(dir.join("old"), "level 1\n1500 F650FEF1B2C330DA\n").unwrap();
     fs::write(dir.join("new"), "level 1\n1512 F650FEF1B2C331DB\n").unwrap();
     assert!(run("picture old new", &dir, b"").with(0).out.contains("class=\"reception copy\""));
@@ -251,7 +251,7 @@ fn lanes_by_repeater_level() {
     assert!(run("picture many --to 1010000", &dir, b"").with(0).out.contains("class=\"reception kept\""));
 }
 
-/// The first line of a pipe may come in pieces, with `--level` and without; the last one has no end.
+/// The first line of a pipe may come in pieces, with `--level` and without; the last one has no newline.
 #[test]
 fn a_log_from_a_slow_pipe() {
     let dir = folder("picture_pipe");
@@ -269,7 +269,7 @@ fn a_log_from_a_slow_pipe() {
         assert!(page.contains("BAD lines of the whole log: 0.") && page.contains("class=\"reception copy\""), "{words}");
         assert!(page == run(&format!("picture log {words}"), &dir, b"").with(0).out, "{words}");
     }
-    // A line that is longer than the longest is not waited for, and one that never ends says no level.
+    // A line that is longer than the longest is not waited for, and one that never ends has no level.
     run("picture /dev/stdin", &dir, "x".repeat(1_000).as_bytes()).with(2).says("without --level the first line must be");
     run("picture /dev/stdin", &dir, b"level 1").with(2).says("without --level the first line must be");
     assert!(run("picture /dev/stdin --level 1", &dir, b"level 1").with(0).out.contains("BAD lines of the whole log: 0."));
@@ -278,7 +278,7 @@ fn a_log_from_a_slow_pipe() {
 #[test]
 fn a_bar_for_each_transmitter() {
     let dir = folder("picture_heard");
-    // Two transmitters in weeks 1 and 2 of 1970, a third in week 2 alone.
+    // Two transmitters in weeks 1 and 2 of 1970, a third only in week 2.
     let (one, two) = (1_000, 7 * 86_400_000);
     let lines = [(one, "0583A1C0", 2), (two, "0583A1C0", 1), (one, "FEF1B2C3", 0), (two, "FEF1B2C3", 0), (two, "01020304", 0), (two, "01020304", 3)];
     let text: String = lines.iter().map(|(opened, txid, copies)| format!("{opened},{txid},0,{copies}\n")).collect();

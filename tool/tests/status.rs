@@ -29,7 +29,7 @@ fn edge_of_reach() {
         fs::write(dir.join("c"), format!("1,01020304,1,0\n{wrong}\n")).unwrap();
         run("heard c", &dir, b"").with(1).says("c: line 2 is wrong. Write opened,txid,level,copies,interrupted.");
     }
-    // Of a telegram that was open while the collector was stopped nobody knows how often it was heard.
+    // For a telegram that was open while the collector was stopped, it is not known how often it was received.
     fs::write(dir.join("d"), "opened,txid,level,copies,interrupted\n1,01020304,0,0,1\n2,01020304,0,3,0\n").unwrap();
     let ran = run("heard d --rows csv", &dir, b"").with(0).says("1 telegrams are left out");
     assert!(ran.out.contains("\n01020304,all,1,0,0.000,3,3\n"), "{}", ran.out);
@@ -70,7 +70,7 @@ fn status_of_the_sample() {
     assert_eq!(fs::read(dir.join("s")).unwrap(), before, "nothing is changed");
 }
 
-/// What stands in quotes before a colon.
+/// The text in quotes before a colon.
 fn members(json: &str) -> Vec<&str> {
     json.match_indices("\":").map(|(end, _)| &json[json[..end].rfind('"').unwrap() + 1..end]).collect()
 }
@@ -105,7 +105,7 @@ fn status_tells_open_telegrams_and_ages() {
     assert!(text.contains("open telegrams    2, heard again 2, 0 times\n") && text.contains(" s ago\n"), "{text}");
     let json = run("status --state s --json", &dir, b"").with(0).out;
     assert!(json.contains("\"open\":[2,0]") && !json.contains("\"age_ms\":null"), "{json}");
-    // Another file, and a clock that is ahead, as where local times are taken for UTC.
+    // Another file, and a clock that is ahead, as if local times were taken for UTC.
     fs::write(dir.join("long"), vec![0; 1 << 20]).unwrap();
     run("status --state long", &dir, b"").with(3).says("long: damaged: 1048576 bytes, expected 4096. The file was not changed.");
     for (seconds, text) in
@@ -154,7 +154,7 @@ fn metrics() {
         .unwrap();
     assert!(ran.status.success());
     assert_eq!(fs::metadata(dir.join("n.prom")).unwrap().permissions().mode() & 0o777, 0o644);
-    // A collector goes on where they can't be written, and says so once.
+    // A collector continues if they can't be written, and reports that once.
     let ran = run("collect --sync row --metrics none/m", &dir, &sample()).with(0);
     assert_eq!(ran.out, sample_expected());
     assert_eq!(ran.err.matches("cannot write the metrics none/m").count(), 1, "{}", ran.err);

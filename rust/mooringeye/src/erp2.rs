@@ -85,8 +85,9 @@ impl Erp2 {
     }
 
     /// The length byte and Data_PL. Refused: [`Refusal::Argument`] for a value that its bits can't hold or a field against the header,
-    /// [`Refusal::ReservedAddress`], [`Refusal::Misfit`] for fields that do not fit the length. Beside [`Refusal::Misfit`] for data of over 250
-    /// bytes nothing else is tested.
+    /// [`Refusal::ReservedAddress`], [`Refusal::Misfit`] for fields that do not fit the length. For data of more than 250 bytes the answer is
+    /// [`Refusal::Misfit`] before other values are tested; only a Length of 0 and optional data of more than 15 bytes are refused before, with
+    /// [`Refusal::Argument`].
     pub fn build(&self) -> Result<Vec<u8>, Refusal> {
         let (fields, originator, destination) = self.parts()?;
         let (mut out, mut length) = (vec![0; 256], 0);

@@ -339,7 +339,7 @@ pub fn skip_lines(text: &[u8], most: usize) -> (usize, usize) {
     (used, lines)
 }
 
-/// How many lines end in a text. Counted in parts that fit a byte, so many characters are compared at once.
+/// How many lines end in a text. It counts in parts whose count fits a byte, which lets the compiler compare many characters at once.
 pub(crate) fn newlines(text: &[u8]) -> usize {
     let in_part = |part: &[u8]| part.iter().map(|c| u8::from(*c == b'\n')).sum::<u8>();
     text.chunks(usize::from(u8::MAX)).map(|part| usize::from(in_part(part))).sum()

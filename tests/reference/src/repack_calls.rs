@@ -280,7 +280,7 @@ fn rows_of_senders(random: &mut Random, n: usize) -> Vec<Row> {
     rows
 }
 
-/// An archive of these rows in a room of so many blocks.
+/// An archive of these rows in a room of `blocks` blocks.
 fn put_rows(calls: &mut Vec<Call>, blocks: usize, rows: &[Row]) {
     calls.push(Call::New((BLOCK * blocks) as u32));
     let used = rows.len().div_ceil(ROWS);

@@ -1,4 +1,4 @@
-//! What the tests of the tool share: running it, folders of their own, and logs.
+//! What the tests of the tool have in common: running it, folders of their own, and logs.
 #![allow(dead_code)] // each test file uses a part of it
 use std::fs;
 use std::io::{Read, Write};
@@ -28,16 +28,16 @@ pub fn folder(name: &str) -> PathBuf {
     path
 }
 
-/// How a run ended, and what it said.
+/// How a run ended, and what it printed.
 pub struct Ran {
-    /// None where a signal ended it.
+    /// None if a signal ended it.
     pub status: Option<i32>,
     pub out: String,
     pub err: String,
 }
 
 impl Ran {
-    /// The same, once it is known that it ended with this status.
+    /// The same, after a check that it ended with this status.
     #[track_caller]
     pub fn with(self, status: i32) -> Ran {
         assert_eq!(self.status, Some(status), "standard error: {}", self.err);
@@ -101,7 +101,7 @@ impl Running {
     }
 }
 
-/// Feeds a log in small parts, with pauses, so that there are many batches. The input ends behind it, or stays open.
+/// Feeds a log in small parts, with pauses, so that there are many batches. After it the input ends, or stays open.
 pub fn feed(running: &mut Running, log: &str, seed: u64, ends: bool) -> JoinHandle<Option<ChildStdin>> {
     let mut stdin = running.child.stdin.take().unwrap();
     let log = log.as_bytes().to_vec();
@@ -172,7 +172,7 @@ pub fn log(lines: usize, seed: u64) -> String {
     let mut now = 1_000_000;
     let mut latest = telegram(&mut random, 0);
     for i in 1..lines {
-        // Now and then so many come at once that some are LOOSE.
+        // Sometimes so many receptions come at once that some are LOOSE.
         now += if i % 1_000 < 100 { 0 } else { random.below(40) };
         let line = match random.below(100) {
             0 => "gateway restarted".to_string(),
@@ -191,7 +191,7 @@ pub fn log(lines: usize, seed: u64) -> String {
     text
 }
 
-/// The rows of an archive that a log has, as `archive list` prints them, by its rows as `collect` prints them.
+/// The rows for an archive of a log, as `archive list` prints them, made from its rows as `collect` prints them.
 pub fn kept_rows(log: &str, printed: &str) -> String {
     let lines = log.lines().skip(1).zip(printed.lines());
     let mut out = String::new();
