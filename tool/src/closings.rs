@@ -1,6 +1,6 @@
 //! The file of `--heard`: a line for each telegram when it closes. Each line is in it once.
 //!
-//! A line counts if the state's collector has closed its telegram; the time in the line tells that. So the state does not need a position in the
+//! A line counts if the state's collector has closed its telegram; the time in the line shows that. So the state does not need a position in the
 //! file. At a start, lines of telegrams that are still open, or not opened yet, are cut off. They belong to a batch that did not end, which comes
 //! again.
 use crate::disk::Shared;

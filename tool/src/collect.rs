@@ -132,7 +132,7 @@ impl Source {
         }
     }
 
-    /// How far a log is that is read again, for a terminal on which no rows are printed; none for lines that are still to come.
+    /// The progress in a log that is read again, for a terminal on which no rows are printed; none for lines that are still to come.
     fn progress(&self, is_replayed: bool, has_out: bool) -> Option<Progress> {
         let total = match self {
             Source::Standard(input) => input.length(),

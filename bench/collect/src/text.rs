@@ -2,7 +2,7 @@
 
 use crate::collector::{Answer, Totals};
 
-/// The largest number of bytes in a line.
+/// The largest number of bytes of a reception in a line.
 pub const MAX_BYTES: usize = 64;
 /// The longest right line: 20 digits, a space, 64 bytes of two digits.
 pub const MAX_LINE: usize = 20 + 1 + 2 * MAX_BYTES;

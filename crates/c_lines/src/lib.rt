@@ -28,7 +28,7 @@ const NO_LINE: u8 = 4;
 // The numbers of characters used, of characters written, of rows, and of lines.
 pub const DONE: usize = 4;
 
-// The largest number of bytes in a line.
+// The largest number of bytes of a reception in a line.
 pub const MAX_BYTES: usize = text_lines::MAX_BYTES;
 
 // How many numbers the calls write: the characters of a first line; time, length and characters of a line; characters and number of skipped lines.
@@ -162,7 +162,7 @@ fn line_number(ok: bool, used: usize) -> u8
     BAD_LINE
 }
 
-// Skips whole lines at the start of a text, at most `most`: how many characters they have, and how many lines there are.
+// Skips whole lines at the start of a text, at most `most`. `done` gets how many characters they have, and how many lines there are.
 pub fn skip_lines(input: &[u8], most: usize, done: &mut [u64; SKIPPED])
     ensures { λ _. ⌜ Skipped (now (input .entry)) most (now (done .exit)) ⌝ }
 {

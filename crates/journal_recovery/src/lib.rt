@@ -30,8 +30,8 @@ ghost use Rattle.journal_recovery.specs.Private.{IsCounted, lostAt, Find
 
 // Starts on the bytes of a state file and of an archive: mends a torn block from the state's copy, keeps leftovers, writes their number to `left`,
 // and clears what comes after them. Refused: 16 for an archive of more than 2^32 blocks; 16 and 11 as `accept` answers; 10 for a state without an
-// archive, or if the collector had counted rows when the file began; 12 for an archive that is not the state's; then everything is unchanged. Bytes
-// after the last whole block are unchanged.
+// archive, or if the collector had counted rows when the file began; 12 for an archive that is not the state's; then everything is unchanged. In
+// every case, bytes after the last whole block are unchanged.
 pub fn start(state: &[u8], file: &mut [u8], left: &mut usize) -> u8
     ensures { λ r. ⌜ record { number = r; archive = now (file .exit); left = now (left .exit) }
         ≡ startOf (now (state .entry)) (now (file .entry)) (now (left .entry)) ⌝ }

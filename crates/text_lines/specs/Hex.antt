@@ -8,7 +8,7 @@ use lib.ListN.{length}
 use Rattle.base_lists.specs.Lists.{all, padded}
 use Rattle.text_lines.specs.Ascii.{digit0, upperA, lowerA, isAmong}
 
--- the largest number of bytes in a line
+-- the largest number of bytes of a reception in a line
 abbrev pub maxBytes : ℕ
 maxBytes = 64
 

@@ -23,7 +23,7 @@ pub struct Line {
     pub used: usize,
 }
 
-// The largest number of bytes in a line, and of their digits.
+// The largest number of bytes of a reception in a line, and of their digits.
 pub const MAX_BYTES: usize = 64;
 
 const MAX_DIGITS: usize = 2 * MAX_BYTES;

@@ -21,8 +21,8 @@ ghost use Rattle.text_print.specs.Step.{chunk, capacity, longestFinish, 
 ghost use Rattle.text_print.specs.Print.{printResult};
 ghost use Rattle.text_print.specs.Private.{Drained, Passed};
 
-// The length of a chunk, and room for what it gives: a line gives at most fifteen characters for each of its own characters, with its newline, and
-// the end at most 258.
+// The length of a chunk, and room for what it gives: a line of n characters, with its newline, gives at most 15 n characters, and the end gives at
+// most 258.
 pub const CHUNK: usize = 16384;
 
 pub const CAPACITY: usize = 15 * CHUNK + 512;

@@ -5,7 +5,7 @@ use crate::hex::{hex, unhex};
 use crate::repeater::sent_for;
 use std::fmt::Write;
 
-/// The largest number of bytes in a line.
+/// The largest number of bytes of a reception in a line.
 const MOST: usize = 64;
 
 /// A decimal 64-bit number without leading zeros.
