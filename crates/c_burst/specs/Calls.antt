@@ -46,5 +46,5 @@ pub record Bursts (s : Arrays) (setting : ℕ) (moments records old : List ℕ) 
       ≡ burstCall setting (stateAt s) moments records old
   pub counted : number ≡ 0 → s' .numbers ≡ numbersOf (burstCall setting (stateAt s) moments records old .next)
   pub elements : columnsAt s' ≡ columnsAfterAll (stateAt s) (taken number (receptionsIn moments records)) (columnsAt s)
-  -- after any number but 0, every number of the five arrays is unchanged
+  -- if the number is not 0, every number of the five arrays is unchanged
   pub stays : (number ≡ 0 → ⊥) → s' ≡ s

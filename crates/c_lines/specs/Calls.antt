@@ -43,7 +43,7 @@ pub record Lines (s : Arrays) (setting : ℕ) (input : List ℕ) (most : ℕ) (o
       → StoredTo (runningAt setting (stateAt s)) (columnsAt s) input most out moments rows out' moments' rows'
       (runningAt setting (stateAt s')) (columnsAt s')
       (getD done' 0 0) (getD done' 1 0) (getD done' 2 0) (getD done' 3 0)
-  -- after any number but 0, everything is unchanged
+  -- if the number is not 0, everything is unchanged
   pub stays : (number ≡ 0 → ⊥) → (s' ≡ s) × (out' ≡ out) × (moments' ≡ moments) × (rows' ≡ rows) × (done' ≡ done)
 
 -- ---- the first line

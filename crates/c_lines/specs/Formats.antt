@@ -37,6 +37,6 @@ pub record LinesAs (s : Arrays) (setting format : ℕ) (input : List ℕ) (most 
       → HeardIn (formatOf format) (runningAt setting (stateAt s)) (columnsAt s) input most out moments rows closed
       out' moments' rows' closed' (runningAt setting (stateAt s')) (columnsAt s')
       (getD done' 0 0) (getD done' 1 0) (getD done' 2 0) (getD done' 3 0) (getD done' 4 0)
-  -- after any number but 0, everything is unchanged
+  -- if the number is not 0, everything is unchanged
   pub stays : (number ≡ 0 → ⊥)
       → (s' ≡ s) × (out' ≡ out) × (moments' ≡ moments) × (rows' ≡ rows) × (closed' ≡ closed) × (done' ≡ done)

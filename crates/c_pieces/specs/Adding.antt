@@ -35,9 +35,9 @@ addingAt numbers lines so-far tally = adding (reportAt numbers lines) (tallyAt s
 pub record Feeds (expected : Feeding) (numbers lines so-far tally : List ℕ) (number : ℕ)
     (so-far' tally' : List ℕ) : Type 0 where
   pub result : fed number (addingAt numbers lines so-far' tally') ≡ expected
-  -- after any number but 0, every number of both arrays is unchanged
+  -- if the number is not 0, every number of both arrays is unchanged
   pub numbersStay : (number ≡ 0 → ⊥) → so-far' ≡ so-far
   pub linesStay : (number ≡ 0 → ⊥) → tally' ≡ tally
-  -- after 0, every number of both is known; after the lines comes what was there before
+  -- if it is 0, every number of both is known; after the lines comes what was there before
   pub numbersAre : number ≡ 0 → so-far' ≡ tallyNumbers (expected .next .tally)
   pub linesAre : number ≡ 0 → tally' ≡ linesFed expected tally

@@ -36,10 +36,10 @@ pub record Adds (expected : model.Addition) (done numbers lines : List ℕ) (pos
   -- the position goes with 12 only
   pub place : position' ≡ ifMismatch (expected .number) (expected .position) position
   pub next : reportAt numbers' lines' ≡ expected .next
-  -- after any number but 0, every number of both arrays is unchanged
+  -- if the number is not 0, every number of both arrays is unchanged
   pub numbersStay : (number ≡ 0 → ⊥) → numbers' ≡ numbers
   pub linesStay : (number ≡ 0 → ⊥) → lines' ≡ lines
-  -- after 0, every number of both is known
+  -- if it is 0, every number of both is known
   pub numbersAre : number ≡ 0 → numbers' ≡ reportNumbers (expected .next)
   pub linesAre : number ≡ 0 → lines' ≡ done
 

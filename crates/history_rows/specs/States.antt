@@ -44,7 +44,7 @@ endsInRow [] = false
 endsInRow (e ∷ log) = isRow (e .answer)
 
 module _ {State : Type 0} (view : State → View) where
-  -- what calls after the past show, and what their rows alone show, and the states after both
+  -- what calls after the past show agrees with what their rows alone show, and so do the states after both
   pub record RowsShown (past : List Reception) (h : List Call) (l m : List Seen) (left alone : State) : Type 0 where
     -- the same answers, with the same telegrams to send
     pub replies : rowReplies (repliesIn h l) ≡ repliesIn (struck past h) m
@@ -55,7 +55,7 @@ module _ {State : Type 0} (view : State → View) where
         ≡ map openedBy (openAt (lastTime (latestOf (logOf past)) (rowsGiven past (receptionsOf h))) (logOf (pastBy past h)))
     -- those of them that are still open when the whole history has ended are the entries of its state
     pub later : map openedBy (stillOpen (view left .latest) (view alone)) ≡ map openedBy (view left .entries)
-    -- if the history ends with a row, all of them are
+    -- if the history ends with a row, all of them are, and the latest times are equal
     pub newest : endsInRow (logOf (pastBy past h)) ≡ true
         → (view alone .latest ≡ view left .latest) × (map openedBy (view alone .entries) ≡ map openedBy (view left .entries))
 

@@ -15,20 +15,21 @@ use Rattle.journal_state.specs.State.{Kept, nth, began, had, fileNumber,
 unfoldable pub imageRows : List ℕ → ℕ
 imageRows image = totalsIn image .kept + totalsIn image .loose
 
--- the block with the last of `rows` rows of a file
+-- a block is the one with the last of `rows` rows of a file; it is all zero if there are none
 unfoldable pub isLastOf : ℕ → List ℕ → Bool
 isLastOf rows block =
     cond (eqb rows 0) (isBlank block)
     (isSound block
     && (eqb (blockNumber block) ((rows - 1) / cellsPerBlock) && eqb (rowCount block) ((rows - 1) % cellsPerBlock + 1)))
 
--- the file of the archive: of its rows, the collector gave as many as it has counted since the file began
+-- the file of the archive is right: it has the rows that it had when it began, and those that the collector has counted
+-- since; the copy is its last block
 unfoldable pub isFile : Kept → ℕ → Bool
 isFile k counted =
     leb (began k) counted
     && (leb (had k + (counted - began k)) maxRows && isLastOf (had k + (counted - began k)) (k .last))
 
--- the name of the archive, filled with zeros; without a name there is no archive
+-- the archive is right: its name is filled with zeros; without a name there is no archive, and its numbers are zero
 unfoldable pub isAttached : Kept → ℕ → Bool
 isAttached k counted =
     leb (nameLength k) maxName
@@ -37,7 +38,8 @@ isAttached k counted =
     (eqb (began k) 0 && eqb (had k) 0 && eqb (fileNumber k) 0 && isBlank (k .last))
     (isFile k counted))
 
--- the last bytes of the log before the offset: 512 of them, or all if there are fewer
+-- the position in the log is right: the last 512 bytes before the offset are kept, or all if there are fewer; all is
+-- zero if the position is not known
 unfoldable pub isPlaced : Kept → Bool
 isPlaced k =
     leb (tailLength k) maxTail
@@ -45,7 +47,7 @@ isPlaced k =
     && cond (eqb (logged k) 0) (eqb (nth k 6) 0 && eqb (nth k 7) 0 && eqb (nth k 8) 0 && eqb (nth k 9) 0)
     (eqb (logged k) 1 && eqb (tailLength k) (min (offset k) maxTail)))
 
--- the numbers of the file for rows: all zero if there is none
+-- the file for rows is right: its numbers are all zero if there is none
 unfoldable pub isPrinted : Kept → Bool
 isPrinted k =
     cond (eqb (printed k) 0) (eqb (nth k 11) 0 && eqb (nth k 12) 0 && eqb (nth k 13) 0) (eqb (printed k) 1)

@@ -18,7 +18,7 @@ use Rattle.text_collect.specs.Elements.{ElementsAfter}
 abbrev pub givenBy : Program (Phase Receiver) → Phase Receiver → List ℕ → ℕ
 givenBy p s text = length (feedText p lineLimit (atLineStart s) text)
 
--- it holds before each line of the first `used` characters: after each shorter front that is whole lines
+-- `Holds` is true before each line of the first `used` characters: for each shorter front that is whole lines
 abbrev pub BeforeEach : (List ℕ → Type 0) → Phase Receiver → List ℕ → ℕ → Type 0
 BeforeEach Holds s input used =
     (n : ℕ) (s' : Phase Receiver) → n < used → feed rowTimes lineLimit (atLineStart s) (take n input) ≡ atLineStart s'
