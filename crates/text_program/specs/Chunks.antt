@@ -26,7 +26,7 @@ abbrev pub atLineStart : {S : Type 0} → S → Position S
 atLineStart s = inLine s []
 
 module _ {S : Type 0} (p : Program S) (limit : ℕ) where
-  -- one character: a newline ends the line; any other is kept, up to `limit` characters of a line
+  -- the position after one character: a newline ends the line; any other is kept, up to `limit` characters of a line
   abbrev pub fed : Position S → ℕ → Position S
   fed a c =
       cond (eqb c newline) (atLineStart (p .next (a .state) (a .line)))
@@ -36,7 +36,7 @@ module _ {S : Type 0} (p : Program S) (limit : ℕ) where
   abbrev pub fedText : Position S → ℕ → List ℕ
   fedText a c = cond (eqb c newline) (p .text (a .state) (a .line)) []
 
-  -- a piece of text
+  -- the position after a piece of text
   unfoldable pub feed : Position S → List ℕ → Position S
   feed a [] = a
   feed a (c ∷ s) = feed (fed a c) s
@@ -46,7 +46,7 @@ module _ {S : Type 0} (p : Program S) (limit : ℕ) where
   feedText a [] = []
   feedText a (c ∷ s) = fedText a c ++ feedText (fed a c) s
 
-  -- pieces, one after the other
+  -- the position after several pieces
   unfoldable pub feedAll : Position S → List (List ℕ) → Position S
   feedAll a [] = a
   feedAll a (x ∷ xs) = feedAll (feed a x) xs
