@@ -5,7 +5,7 @@ use c_collector::NUMBERS;
 ghost use Rattle.c_collector.specs.State.{arrays};
 ghost use Rattle.c_burst.specs.Calls.{Bursts};
 
-// Takes receptions that are handed over in one list, and replies in a second.
+// Takes receptions that are handed over in one list, and writes the replies into a second list.
 #[no_mangle]
 pub extern "C" fn mooringeye_collector_burst(
     times: &mut [u64; CAPACITY],

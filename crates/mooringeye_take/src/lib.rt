@@ -26,7 +26,7 @@ pub extern "C" fn mooringeye_collector_take<'a>(
     c_collector::take(times, lengths, bytes, copies, numbers, received, time)
 }
 
-// Takes one reception at a state that was tested: it is told that the state is acceptable.
+// Takes one reception, with a state that was tested: the caller says that the state is acceptable.
 #[no_mangle]
 pub extern "C" fn mooringeye_collector_take_tested<'a>(
     times: &'a mut [u64; CAPACITY],
