@@ -10,7 +10,10 @@ use Rattle.radio_erp2.proofs.admission.Tie as tie
 holds : (c : tie.Else1) → isUnholdable (c .before .before .args .t) ≡ false
 holds c = sym (c .before .is-unholdable .ensures) ∙ c .if1 .left
 
-agrees : (c : tie.Else2) → isAgainstHeader (c .before .before .before .before .args .t) ≡ false
+abbrev held : tie.Else2 → tie.Else1
+held c = c .before .before
+
+agrees : (c : tie.Else2) → isAgainstHeader (held c .before .before .args .t) ≡ false
 agrees c = sym (c .before .is-against-header .ensures) ∙ c .if2 .left
 
 returns : tie.Need-returns
@@ -21,24 +24,26 @@ returns-2 c = admits-against _ (sym (c .before .is-against-header .ensures) ∙ 
 
 returns-3 : tie.Need-returns-3
 returns-3 c =
-    admits-reserved _ (holds (c .before .before .before .before .before))
-    (agrees (c .before .before .before)) (c .if3 .taken)
+    let agreed = c .before .before .before in
+    admits-reserved _ (holds (held agreed)) (agrees agreed) (c .if3 .taken)
 
 is-misfitting-requires : tie.Need-is-misfitting-requires
-is-misfitting-requires c κs = short-most _ (holds (c .before .before .before .before .before))
+is-misfitting-requires c κs =
+    let agreed = c .before .before .before in
+    short-most _ (holds (held agreed))
 
 returns-4 : tie.Need-returns-4
 returns-4 c =
-    let at = c .before .before in
-    admits-misfit _ (holds (at .before .before .before .before .before))
-    (agrees (at .before .before .before)) (at .if3 .left)
+    let unreserved = c .before .before in
+    let agreed = unreserved .before .before .before in
+    admits-misfit _ (holds (held agreed)) (agrees agreed) (unreserved .if3 .left)
     (sym (c .before .is-misfitting .ensures) ∙ c .if4 .taken)
 
 returns-5 : tie.Need-returns-5
 returns-5 c =
-    let at = c .before .before in
-    admits-all _ (holds (at .before .before .before .before .before))
-    (agrees (at .before .before .before)) (at .if3 .left)
+    let unreserved = c .before .before in
+    let agreed = unreserved .before .before .before in
+    admits-all _ (holds (held agreed)) (agrees agreed) (unreserved .if3 .left)
     (sym (c .before .is-misfitting .ensures) ∙ c .if4 .left)
 
 pub admission-spec : {M : Type 1} → statement M

@@ -19,10 +19,15 @@ use Rattle.radio_erp2.proofs.check.Tie as tie
 -- ---- the list, and what is known of it
 
 abbrev text : tie.After-wide → List ℕ
-text c = now (c .before .before .before .before .args .s)
+text c =
+    let some = c .before .before in
+    now (some .before .before .args .s)
 
 l-is : (c : tie.After-wide) → c .wide .result ≡ lengthByte (text c)
 l-is c = c .wide .ensures .0
+
+last-is : (c : tie.After-wide) → getD (text c) (c .wide .result) 0 ≡ getD (text c) (lengthByte (text c)) 0
+last-is c = ap (λ (x : ℕ). getD (text c) x 0) (l-is c)
 
 some : (c : tie.Else2) → lengthByte (text (c .before)) ≡ 0 → ⊥
 some c e = c .if2 .left (l-is (c .before) ∙ e)
@@ -30,43 +35,55 @@ some c e = c .if2 .left (l-is (c .before) ∙ e)
 long : (c : tie.Else3) → length (text (c .before .before)) ≡ 1 + lengthByte (text (c .before .before))
 long c = c .if3 .left ∙ ap (λ (x : ℕ). 1 + x) (l-is (c .before .before))
 
-high : (c : tie.Else4) → 6 < lengthByte (text (c .before .before .before))
-high c = rw (l-is (c .before .before .before)) at (c .if4 .left)
+-- of a long form
+abbrev measured : tie.Else4 → tie.After-wide
+measured c = c .before .before .before
 
+high : (c : tie.Else4) → 6 < lengthByte (text (measured c))
+high c = rw (l-is (measured c)) at (c .if4 .left)
+
+-- its CRC
 abbrev crcIn : List ℕ → ℕ
 crcIn s = crcOf (part 1 (lengthByte s - 1) s)
 
-crc-is : (c : tie.After-crc8) → c .crc8 .result ≡ crcIn (text (c .before .before .before .before .before .before))
-crc-is c =
-    c .crc8 .ensures ∙ ap (λ (x : ℕ). crcOf (part 1 (x - 1) (text (c .before .before .before .before .before .before))))
-    (l-is (c .before .before .before .before .before .before))
+abbrev summed : tie.After-crc8 → tie.Else4
+summed c = c .before .before .before
 
-last-is : (c : tie.After-wide) → getD (text c) (c .wide .result) 0 ≡ getD (text c) (lengthByte (text c)) 0
-last-is c = ap (λ (x : ℕ). getD (text c) x 0) (l-is c)
+abbrev list : tie.After-crc8 → List ℕ
+list c = text (measured (summed c))
 
-intact : (c : tie.Else5) → getD (text (c .before .before .before .before .before .before .before))
-    (lengthByte (text (c .before .before .before .before .before .before .before))) 0
-    ≡ crcIn (text (c .before .before .before .before .before .before .before))
-intact c = sym (last-is (c .before .before .before .before .before .before .before)) ∙ c .if5 .left ∙ crc-is (c .before)
+crc-is : (c : tie.After-crc8) → c .crc8 .result ≡ crcIn (list c)
+crc-is c = c .crc8 .ensures ∙ ap (λ (x : ℕ). crcOf (part 1 (x - 1) (list c))) (l-is (measured (summed c)))
 
-control-is : (c : tie.After-header-of) → c .header-of .result ≡ headerIn
-    (text (c .before .before .before .before .before .before .before .before .before))
+intact : (c : tie.Else5) → getD (list (c .before)) (lengthByte (list (c .before))) 0 ≡ crcIn (list (c .before))
+intact c = sym (last-is (measured (summed (c .before)))) ∙ c .if5 .left ∙ crc-is (c .before)
+
+-- its header
+abbrev sealed : tie.After-header-of → tie.Else5
+sealed c = c .before .before
+
+control-is : (c : tie.After-header-of) → c .header-of .result ≡ headerIn (list (sealed c .before))
 control-is c = c .header-of .ensures
 
--- at the last test
-abbrev known : tie.After-overhead → tie.After-header-of
-known c = c .before .before .before .before .before
+-- its sizes
+abbrev addressed : tie.After-long-sizes → tie.Else6
+addressed c = c .before .before
 
-abbrev whole : tie.After-overhead → List ℕ
-whole c = text (known c .before .before .before .before .before .before .before .before .before)
+abbrev known : tie.After-long-sizes → tie.After-header-of
+known c = addressed c .before .before
+
+abbrev whole : tie.After-long-sizes → List ℕ
+whole c = list (sealed (known c) .before)
 
 overhead-is : (c : tie.After-overhead)
-    → c .overhead .result ≡ overhead (longSizes (headerIn (whole c)) (getD (whole c) 2 0 % 16))
+    → (let s = whole (c .before) in c .overhead .result ≡ overhead (longSizes (headerIn s) (getD s 2 0 % 16)))
 overhead-is c =
     c .overhead .ensures
     ∙ ap overhead
     (c .before .long-sizes .ensures
-    ∙ ap (λ (h : Header). longSizes h (getD (whole c) 2 0 % 16)) (control-is (known c)))
+    ∙ ap (λ (h : Header). longSizes h (getD (whole (c .before)) 2 0 % 16)) (control-is (known (c .before))))
+
+-- ---- the returns
 
 returns : tie.Need-returns
 returns c = check-empty _ (c .if1 .taken)
@@ -84,54 +101,41 @@ returns-4 c =
 
 returns-5 : tie.Need-returns-5
 returns-5 c =
-    let tested = c .before .before .before .before in
+    let tested = summed (c .before) in
     check-crc _ (some (tested .before .before)) (long (tested .before)) (high tested)
-    (λ e. c .if5 .taken (last-is (tested .before .before .before) ∙ e ∙ sym (crc-is (c .before))))
+    (λ e. c .if5 .taken (last-is (measured tested) ∙ e ∙ sym (crc-is (c .before))))
 
 returns-6 : tie.Need-returns-6
 returns-6 c =
-    let sealed = c .before .before .before .before in
-    let tested = sealed .before .before .before .before in
-    check-reserved _ (some (tested .before .before)) (long (tested .before)) (high tested) (intact sealed)
-    (rw (control-is (c .before .before)) at (c .if6 .taken))
+    let header = c .before .before in
+    let tested = summed (sealed header .before) in
+    check-reserved _ (some (tested .before .before)) (long (tested .before)) (high tested) (intact (sealed header))
+    (rw (control-is header) at (c .if6 .taken))
 
 overhead-requires : tie.Need-overhead-requires
 overhead-requires c κs =
-    let h = c .before .before .before .before .header-of .result in
-    let a =
-    getD
-    (text
-    (c .before .before .before .before .before .before .before .before .before .before .before .before .before))
-    2 0
-    % 16 in
+    let h = known c .header-of .result in
+    let a = getD (whole c) 2 0 % 16 in
     let e : c .long-sizes .result ≡ longSizes h a = c .long-sizes .ensures in
-    rw e
-    (long-small h a
-    (low-bits
-    (getD
-    (text
-    (c .before .before .before .before .before .before .before .before .before .before .before .before .before))
-    2 0)))
+    rw e (long-small h a (low-bits (getD (whole c) 2 0)))
 
 returns-7 : tie.Need-returns-7
 returns-7 c =
-    let last = c .before in
-    let opened = last .before .before .before in
-    let sealed = opened .before .before .before .before in
-    let tested = sealed .before .before .before .before in
-    check-misfit _ (some (tested .before .before)) (long (tested .before)) (high tested) (intact sealed)
-    (rw (control-is (opened .before .before)) at (opened .if6 .left))
-    (rw (l-is (tested .before .before .before), overhead-is last) at (c .if7 .taken))
+    let sized = c .before .before in
+    let header = known sized in
+    let tested = summed (sealed header .before) in
+    check-misfit _ (some (tested .before .before)) (long (tested .before)) (high tested) (intact (sealed header))
+    (rw (control-is header) at (addressed sized .if6 .left))
+    (rw (l-is (measured tested), overhead-is (c .before)) at (c .if7 .taken))
 
 returns-8 : tie.Need-returns-8
 returns-8 c =
-    let last = c .before in
-    let opened = last .before .before .before in
-    let sealed = opened .before .before .before .before in
-    let tested = sealed .before .before .before .before in
-    check-long _ (some (tested .before .before)) (long (tested .before)) (high tested) (intact sealed)
-    (rw (control-is (opened .before .before)) at (opened .if6 .left))
-    (rw (l-is (tested .before .before .before), overhead-is last) at (c .if7 .left))
+    let sized = c .before .before in
+    let header = known sized in
+    let tested = summed (sealed header .before) in
+    check-long _ (some (tested .before .before)) (long (tested .before)) (high tested) (intact (sealed header))
+    (rw (control-is header) at (addressed sized .if6 .left))
+    (rw (l-is (measured tested), overhead-is (c .before)) at (c .if7 .left))
 
 pub check-spec : {M : Type 1} → statement M
 check-spec =

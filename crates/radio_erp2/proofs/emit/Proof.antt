@@ -23,24 +23,21 @@ small c = for-small (c .args .t) (search needs)
 overhead-requires : tie.Need-overhead-requires
 overhead-requires c κs = rw (c .sizes-for .ensures) (small (c .before .before))
 
-add-end : tie.Need-add-end
-add-end c =
-    let n : c .overhead .result ≤ 300 =
-    rw (c .overhead .ensures, c .before .sizes-for .ensures) (small (c .before .before .before)) in
-    omega (arith, n)
+abbrev start : tie.After-overhead → tie.Start
+start c = c .before .before .before
+
+few : (c : tie.After-overhead) → c .overhead .result ≤ 300
+few c = rw (c .overhead .ensures, c .before .sizes-for .ensures) (small (start c))
 
 add-end-2 : tie.Need-add-end-2
 add-end-2 c =
-    let n : c .before .overhead .result ≤ 300
-    = rw (c .before .overhead .ensures, c .before .before .sizes-for .ensures)
-    (small (c .before .before .before .before)) in
-    let m : c .before .before .before .before .args .t .len ≤ 250
-    = data-most (c .before .before .before .before .args .t) (c .before .before .before .before .pre) in
-    omega (arith, n, m)
+    let s = start (c .before) in
+    let m : s .args .t .len ≤ 250 = data-most (s .args .t) (s .pre) in
+    omega (arith, few (c .before), m)
 
 end-is : (c : tie.After-overhead)
-    → 1 + c .overhead .result + c .before .before .before .args .t .len
-    ≡ 1 + telegramSize (c .before .before .before .args .t)
+    → (let t = c .before .before .before .args .t in
+    1 + c .overhead .result + t .len ≡ 1 + telegramSize t)
 unfolding telegramSize
 end-is c =
     let e = c .overhead .ensures ∙ ap overhead (c .before .sizes-for .ensures) in
@@ -48,28 +45,34 @@ end-is c =
 
 returns : tie.Need-returns
 returns c =
-    build-short _ (c .before .before .before .before .before .pre) _
-    (rw (end-is (c .before .before)) at (c .if1 .taken))
+    let sized = c .before .before in
+    build-short _ (start sized .pre) _ (rw (end-is sized) at (c .if1 .taken))
 
 put-row-requires : tie.Need-put-row-requires
 put-row-requires c κs =
-    let at = c .before .before .before in
-    rw (at .before .sizes-for .ensures)
-    (laid-built _ (at .before .before .before .pre) _ (rw (end-is at) at (c .before .if1 .left)))
+    let sized = c .before .before .before in
+    rw (sized .before .sizes-for .ensures)
+    (laid-built _ (start sized .pre) _ (rw (end-is sized) at (c .before .if1 .left)))
 
 returns-2 : tie.Need-returns-2
 returns-2 c =
     let put = c .before .before in
-    let at = put .before .before .before .before in
-    build-done _ (at .before .before .before .pre) _ (shaped (at .before .before .before))
-    (rw (end-is at) at (put .before .before .if1 .left)) _
-    (end-is at) _
+    let room = put .before .before in
+    let sized = room .before .before in
+    let s = start sized in
+    build-done _ (s .pre) _ (shaped s) (rw (end-is sized) at (room .if1 .left)) _ (end-is sized) _
     (put .put-row .ensures
-    ∙ ap (λ (z : Sizes). rowWritten (at .before .before .before .args .t) z
-    (now (at .before .before .before .args .out)))
-    (at .before .sizes-for .ensures))
+    ∙ ap (λ (z : Sizes). rowWritten (s .args .t) z (now (s .args .out))) (sized .before .sizes-for .ensures))
 
 pub emit-spec : {M : Type 1} → statement M
 emit-spec =
-    tie.close (tie.spec (λ c κs. search needs) overhead-requires add-end add-end-2 returns put-row-requires
-    (λ c. search needs) returns-2)
+    tie.close
+    (tie.spec
+    (λ c κs. search needs)
+    overhead-requires
+    (λ c. omega (arith, few c))
+    add-end-2
+    returns
+    put-row-requires
+    (λ c. search needs)
+    returns-2)

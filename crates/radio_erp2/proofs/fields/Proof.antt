@@ -9,34 +9,37 @@ use Rattle.radio_erp2_model.proofs.Placing.{placed}
 use Rattle.radio_erp2.proofs.fields.Statement.{statement}
 use Rattle.radio_erp2.proofs.fields.Tie as tie
 
+abbrev start : tie.After-wide → tie.Start
+start c = c .before .before .before
+
 overhead-requires : tie.Need-overhead-requires
 overhead-requires c κs =
-    let s = now (c .before .before .before .before .args .s) in
-    let v = c .before .before .before .before .pre in
-    rw (c .sizes-in .ensures) (omega (arith, v .fits, c .before .wide .ensures .0, c .before .wide .ensures .1))
+    let w = c .before .wide .ensures in
+    rw (c .sizes-in .ensures) (omega (arith, start (c .before) .pre .fits, w .0, w .1))
 
 sub-n : tie.Need-sub-n
 sub-n c =
-    let v = c .before .before .before .before .before .pre in
-    rw (c .overhead .ensures, c .before .sizes-in .ensures, c .before .before .wide .ensures .0) (v .fits)
+    let read = c .before .before in
+    rw (c .overhead .ensures, c .before .sizes-in .ensures, read .wide .ensures .0) (start read .pre .fits)
 
 row-requires : tie.Need-row-requires
 row-requires c κs =
-    let s = now (c .before .before .before .before .before .before .before .args .s) in
-    let w = c .before .before .before .before .wide .ensures in
-    rw (c .before .before .overhead .ensures, c .before .before .before .sizes-in .ensures, w .0)
-    (placed s (c .before .before .before .before .before .before .before .pre) (rw (w .0) at (w .1)))
+    let counted = c .before .before in
+    let read = counted .before .before in
+    let w = read .wide .ensures in
+    rw (counted .overhead .ensures, counted .before .sizes-in .ensures, w .0)
+    (placed (now (start read .args .s)) (start read .pre) (rw (w .0) at (w .1)))
 
 returns : tie.Need-returns
 unfolding fieldsOf
 returns c =
-    let s = now (c .before .before .before .before .before .before .before .before .args .s) in
-    let w = c .before .before .before .before .before .wide .ensures in
+    let counted = c .before .before .before in
+    let read = counted .before .before in
     rw (
       c .row .ensures,
-      c .before .before .before .overhead .ensures,
-      c .before .before .before .before .sizes-in .ensures,
-      w .0,
+      counted .overhead .ensures,
+      counted .before .sizes-in .ensures,
+      read .wide .ensures .0,
       c .before .short-of .ensures,
     )
 
@@ -49,7 +52,9 @@ fields-spec =
     (λ c κs. search needs)
     overhead-requires
     sub-n
-    (λ c. omega (arith, c .before .before .before .before .before .before .pre .long))
+    (λ c.
+    let read = c .before .before .before in
+    omega (arith, start read .pre .long))
     (λ c κs. search needs)
     row-requires
     returns)

@@ -7,7 +7,9 @@ use Rattle.radio_erp2.proofs.is_against_header.Tie as tie
 returns : tie.Need-returns
 unfolding isAgainstHeader
 returns c =
-    rw (c .before .before .before .before .differ .ensures, c .before .before .differ2 .ensures, c .differ3 .ensures)
+    let subtype = c .before .before in
+    let extension = subtype .before .before in
+    rw (extension .differ .ensures, subtype .differ2 .ensures, c .differ3 .ensures)
 
 pub is-against-header-spec : {M : Type 1} → statement M
 is-against-header-spec =

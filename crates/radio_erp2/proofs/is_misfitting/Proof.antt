@@ -5,6 +5,7 @@ use Prim.Native.Nat.{ℕ, _+_, _≤_}
 use native.Mathlib.Omega.{arith}
 use borrow.Author.Needs.{needs}
 use borrow.Author.Tests.{eq-eqb, ne-eqb}
+use Rattle.radio_erp2_model.specs.declared.Telegram.{Telegram}
 use Rattle.radio_erp2_model.specs.Sizes.{overhead}
 use Rattle.radio_erp2_model.specs.Building.{telegramSize}
 use Rattle.radio_erp2.proofs.Admitting.{for-small, long-data, short-misfit, long-misfit}
@@ -17,33 +18,36 @@ returns c = long-data _ (c .before .before .pre) (c .if1 .taken)
 overhead-requires : tie.Need-overhead-requires
 overhead-requires c κs = rw (c .sizes-for .ensures) (for-small (c .before .before .before .args .t) (search needs))
 
-size-is : (c : tie.After-overhead)
-    → c .overhead .result + c .before .before .before .before .args .t .len ≡ telegramSize
-    (c .before .before .before .before .args .t)
+-- the data is not too long
+abbrev fitting : tie.After-overhead → tie.Else1
+fitting c = c .before .before
+
+abbrev telegram : tie.After-overhead → Telegram
+telegram c = fitting c .before .before .args .t
+
+size-is : (c : tie.After-overhead) → c .overhead .result + telegram c .len ≡ telegramSize (telegram c)
 unfolding telegramSize
 size-is c =
-    ap (λ (n : ℕ). n + c .before .before .before .before .args .t .len)
-    (c .overhead .ensures ∙ ap overhead (c .before .sizes-for .ensures))
+    ap (λ (n : ℕ). n + telegram c .len) (c .overhead .ensures ∙ ap overhead (c .before .sizes-for .ensures))
 
 add-size : tie.Need-add-size
 add-size c =
-    let small : c .before .overhead .result ≤ 300
-    = rw (c .before .overhead .ensures, c .before .before .sizes-for .ensures)
-    (for-small (c .before .before .before .before .before .args .t) (search needs)) in
-    let least : c .before .before .before .before .before .args .t .len ≤ 250 = c .before .before .before .if1 .left in
+    let sized = c .before in
+    let small : sized .overhead .result ≤ 300
+    = rw (sized .overhead .ensures, sized .before .sizes-for .ensures) (for-small (telegram sized) (search needs)) in
+    let least : telegram sized .len ≤ 250 = fitting sized .if1 .left in
     omega (arith, small, least)
 
 returns-2 : tie.Need-returns-2
 returns-2 c =
-    rw (size-is (c .before .before .before .before), c .wide .ensures .0)
-    (short-misfit (c .before .before .before .before .before .before .before .before .args .t)
-    (ap not (ne-eqb _ _ (c .before .if2 .taken))))
+    let short = c .before in
+    let sized = short .before .before .before in
+    rw (size-is sized, c .wide .ensures .0) (short-misfit (telegram sized) (ap not (ne-eqb _ _ (short .if2 .taken))))
 
 returns-3 : tie.Need-returns-3
 returns-3 c =
-    rw (size-is (c .before .before .before))
-    (long-misfit (c .before .before .before .before .before .before .before .args .t)
-    (ap not (eq-eqb _ _ (c .if2 .left))))
+    let sized = c .before .before .before in
+    rw (size-is sized) (long-misfit (telegram sized) (ap not (eq-eqb _ _ (c .if2 .left))))
 
 pub is-misfitting-spec : {M : Type 1} → statement M
 is-misfitting-spec =

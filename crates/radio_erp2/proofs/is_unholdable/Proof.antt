@@ -17,16 +17,17 @@ limit-is c = c .limit .ensures ∙ ap (λ (z : Sizes). 256 ^ z .originator) (c .
 
 returns : tie.Need-returns
 unfolding isUnholdable
-returns c = rw (limit-is (c .before .before .before .before), ne-eqb _ _ (c .before .if1 .taken))
+returns c =
+    let short = c .before in
+    rw (limit-is (short .before .before .before), ne-eqb _ _ (short .if1 .taken))
 
 returns-2 : tie.Need-returns-2
 unfolding isUnholdable
 returns-2 c =
-    rw (
-      limit-is (c .before .before .before .before .before .before .before .before .before .before),
-      eq-eqb _ _
-          (c .before .before .before .before .before .before .before .if1 .left),
-    )
+    let kind = c .before .before .before in
+    let header = kind .before .before .before in
+    let long = header .before in
+    rw (limit-is (long .before .before .before), eq-eqb _ _ (long .if1 .left))
 
 pub is-unholdable-spec : {M : Type 1} → statement M
 is-unholdable-spec = tie.close (tie.spec (λ c κs. search needs) limit-requires returns returns-2)

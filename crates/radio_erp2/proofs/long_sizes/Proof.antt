@@ -5,13 +5,19 @@ use Rattle.radio_erp2.proofs.long_sizes.Tie as tie
 
 returns : tie.Need-returns
 returns c =
-    let a = c .before .before .before .before .before .before .before .if-set .ensures in
-    let b = c .before .before .before .before .before .if-set2 .ensures in
-    let d = c .before .before .before .before .originator-size .ensures in
-    let e = c .before .before .if-set3 .ensures in
-    let w = c .before .wide .ensures .0 in
-    let f = c .if-set4 .ensures in
-    rw (f, w, e, d, b, a)
+    let announced = c .before in
+    let destination = announced .before in
+    let originator = destination .before .before in
+    let subtype = originator .before in
+    let extension = subtype .before .before in
+    rw (
+      c .if-set4 .ensures,
+      announced .wide .ensures .0,
+      destination .if-set3 .ensures,
+      originator .originator-size .ensures,
+      subtype .if-set2 .ensures,
+      extension .if-set .ensures,
+    )
 
 pub long-sizes-spec : {M : Type 1} → statement M
 long-sizes-spec =

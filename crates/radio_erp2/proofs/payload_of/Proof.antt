@@ -6,7 +6,9 @@ use Rattle.radio_erp2.proofs.payload_of.Statement.{statement}
 use Rattle.radio_erp2.proofs.payload_of.Tie as tie
 
 returns : tie.Need-returns
-returns c = padded-copy 250 (now (c .before .before .before .before .args .part)) _ (c .before .copy .ensures .1)
+returns c =
+    let copied = c .before in
+    padded-copy 250 (now (copied .before .before .before .args .part)) _ (copied .copy .ensures .1)
 
 pub payload-of-spec : {M : Type 1} → statement M
 payload-of-spec = tie.close (tie.spec (λ c. search needs) (λ c κs. search needs) returns)

@@ -17,8 +17,20 @@ payload-long c = search needs
 optional-long : (c : tie.Start) → length (c .args .t .optional) ≡ 15
 optional-long c = search needs
 
+-- states on the way
+abbrev first : tie.After-payload2 → tie.Start
+first c =
+    let copied = c .before .before in
+    let sized = copied .before .before in
+    sized .before .before
+
 abbrev start : tie.After-put-bytes → tie.Start
-start c = c .before .before .before .before .before .before .before .before
+start c = first (c .before .before)
+
+abbrev put-payload : tie.After-extra2 → tie.After-put-bytes
+put-payload c =
+    let lent = c .before in
+    lent .before .before .before
 
 abbrev step1 : (c : tie.After-put-bytes) → Writing (start c .args .t .len)
 step1 c =
@@ -29,11 +41,10 @@ step1 c =
     (c .put-bytes .kept .0) (omega arith)
     (omega (arith, start c .pre .0)))
 
-abbrev step2 : (c : tie.After-put-bytes2) → Writing
-    (start (c .before .before .before .before .before .before) .args .t .len + start
-    (c .before .before .before .before .before .before) .args .z .optional)
+abbrev step2 : (c : tie.After-put-bytes2)
+    → (let a = start (put-payload (c .before .before)) .args in Writing (a .t .len + a .z .optional))
 step2 c =
-    let at = c .before .before .before .before .before .before in
+    let at = put-payload (c .before .before) in
     let a = start at .args in
     packed
     (lend-sized (step1 at .begun) _
@@ -44,7 +55,7 @@ step2 c =
 returns : tie.Need-returns
 returns c =
     let last = c .before .before in
-    let at = last .before .before .before .before .before .before in
+    let at = put-payload (last .before .before) in
     let a = start at .args in
     let v = start at .pre in
     done (step2 last .begun) (v .0)
@@ -60,7 +71,7 @@ put-data-spec =
     (λ c. search needs)
     (λ c. search needs)
     (λ c. search needs)
-    (λ c. omega (arith, payload-long (c .before .before .before .before .before .before), c .before .before .before .before .before .before .pre .1))
+    (λ c. omega (arith, payload-long (first c), first c .pre .1))
     (λ c κs. search needs)
     (λ c. search needs)
     (λ c. search needs)
@@ -68,7 +79,9 @@ put-data-spec =
     (λ c. search needs)
     (λ c. search needs)
     (λ c. search needs)
-    (λ c. omega (arith, optional-long (c .before .before .before .before .before .before .before .before .before .before .before .before), c .before .before .before .before .before .before .before .before .before .before .before .before .pre .2))
+    (λ c.
+    let s = start (put-payload c) in
+    omega (arith, optional-long s, s .pre .2))
     (λ c κs. search needs)
     (λ c. search needs)
     returns)

@@ -10,8 +10,16 @@ use Rattle.radio_erp2.proofs.Rows.{ids-is}
 use Rattle.radio_erp2.proofs.put_ids.Statement.{statement}
 use Rattle.radio_erp2.proofs.put_ids.Tie as tie
 
+-- states on the way
 abbrev start : tie.After-put-number → tie.Start
-start c = c .before .before .before .before
+start c =
+    let lent = c .before in
+    lent .before .before .before
+
+abbrev put-originator : tie.After-put-number2 → tie.After-put-number
+put-originator c =
+    let lent = c .before .before in
+    lent .before .before .before
 
 abbrev step1 : (c : tie.After-put-number) → Writing (start c .args .z .originator)
 step1 c =
@@ -21,10 +29,10 @@ step1 c =
     (a .z .originator) (c .put-number .ensures) (c .put-number .kept .0)
     (omega arith) (omega (arith, start c .pre)))
 
-abbrev step2 : (c : tie.After-put-number2) → Writing
-    (start (c .before .before .before .before .before) .args .z .originator + start (c .before .before .before .before .before) .args .z .destination)
+abbrev step2 : (c : tie.After-put-number2)
+    → (let z = start (put-originator c) .args .z in Writing (z .originator + z .destination))
 step2 c =
-    let at = c .before .before .before .before .before in
+    let at = put-originator c in
     let a = start at .args in
     packed
     (lend-sized (step1 at .begun) _ (λ w. be w (c .before .id-number .result))
@@ -35,7 +43,7 @@ step2 c =
 returns : tie.Need-returns
 returns c =
     let last = c .before .before in
-    let at = last .before .before .before .before .before in
+    let at = put-originator last in
     let a = start at .args in
     done (step2 last .begun) (start at .pre) ∙ ids-is (a .t) (a .z) _ (last .before .id-number .ensures)
 

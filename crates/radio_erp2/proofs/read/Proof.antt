@@ -9,8 +9,11 @@ use Rattle.radio_erp2.proofs.Answers.{read-valid, read-refused}
 use Rattle.radio_erp2.proofs.read.Statement.{statement}
 use Rattle.radio_erp2.proofs.read.Tie as tie
 
-passed : (c : tie.After-enum-told) → checkOf (now (c .before .before .before .before .args .bytes)) ≡ 0
-passed c = sym (c .before .before .check .ensures) ∙ ap checkedNumber (c .enum-told .given .1)
+abbrev checked : tie.After-enum-told → tie.After-check
+checked c = c .before .before
+
+passed : (c : tie.After-enum-told) → checkOf (now (checked c .before .before .args .bytes)) ≡ 0
+passed c = sym (checked c .check .ensures) ∙ ap checkedNumber (c .enum-told .given .1)
 
 fields-requires : tie.Need-fields-requires
 fields-requires c κs =

@@ -15,10 +15,25 @@ use borrow.Author.Needs.{needs}
 use Rattle.radio_erp2.proofs.row.Statement.{statement}
 use Rattle.radio_erp2.proofs.row.Tie as tie
 
+-- states on the way
+abbrev start : tie.After-header-of → tie.Start
+start c =
+    let end = c .before .before .before in
+    let destination = end .before .before in
+    let extension = destination .before .before .before in
+    extension .before .before
+
+abbrev headed : tie.After-middle → tie.After-header-of
+headed c =
+    let from = c .before .before in
+    let value = from .before .before in
+    let byte = value .before .before in
+    byte .before .before
+
 optional-of-requires : tie.Need-optional-of-requires
 optional-of-requires c κs =
-    let header = c .before .before .before .before .before .before .before .before .before .before .before in
-    let first = header .before .before .before .before .before .before .before .before .before .before in
+    let id = c .before .before .before in
+    let first = start (headed id) in
     let a = first .args in
     part-short (payloadAt (a .z) + a .n) (a .z .optional) 15 (now (a .s)) (first .pre .optional)
 
@@ -32,7 +47,7 @@ returns c =
     let value = from .before .before in
     let byte = value .before .before in
     let header = byte .before .before in
-    let first = header .before .before .before .before .before .before .before .before .before .before in
+    let first = start header in
     let a = first .args in
     let s = now (a .s) in
     let z = a .z in

@@ -14,24 +14,27 @@ use Rattle.radio_erp2_model.specs.Reading.{lengthByte}
 use Rattle.radio_erp2.proofs.sizes_in.Statement.{statement}
 use Rattle.radio_erp2.proofs.sizes_in.Tie as tie
 
+abbrev start : tie.After-wide → tie.Start
+start c = c .before .before .before
+
 returns : tie.Need-returns
 returns c =
-    let at = c .before .before in
-    let s = now (c .before .before .before .before .before .args .s) in
-    let l : at .wide .result ≡ lengthByte s = at .wide .ensures .0 in
+    let read = c .before .before in
+    let s = now (start read .args .s) in
+    let l : read .wide .result ≡ lengthByte s = read .wide .ensures .0 in
     let h : leb (lengthByte s) 6 ≡ true = le-leb (lengthByte s) 6 (rw l at (c .before .if1 .taken)) in
     rw h (c .short-sizes .ensures ∙ ap shortSizes l)
 
 returns-2 : tie.Need-returns-2
 returns-2 c =
-    let at = c .before .before .before .before .before in
-    let s = now (c .before .before .before .before .before .before .before .before .args .s) in
-    let l : at .wide .result ≡ lengthByte s = at .wide .ensures .0 in
-    let h : leb (lengthByte s) 6 ≡ false =
-    lt-leb (lengthByte s) 6 (rw l at (c .before .before .before .before .if1 .left)) in
+    let header = c .before .before in
+    let long = header .before .before in
+    let read = long .before in
+    let s = now (start read .args .s) in
+    let l : read .wide .result ≡ lengthByte s = read .wide .ensures .0 in
+    let h : leb (lengthByte s) 6 ≡ false = lt-leb (lengthByte s) 6 (rw l at (long .if1 .left)) in
     rw h
-    (c .long-sizes .ensures
-    ∙ ap (λ (x : Header). longSizes x (getD s 2 0 % 16)) (c .before .before .header-of .ensures))
+    (c .long-sizes .ensures ∙ ap (λ (x : Header). longSizes x (getD s 2 0 % 16)) (header .header-of .ensures))
 
 pub sizes-in-spec : {M : Type 1} → statement M
 sizes-in-spec =
@@ -42,16 +45,11 @@ sizes-in-spec =
     (λ c κs. search needs)
     returns
     (λ c.
-    let l = c .before .before .wide .ensures .0 in
-    omega (arith, c .before .before .before .before .before .pre .long, l, c .before .if1 .left))
+    let long = c .before in
+    omega (arith, start (long .before) .pre .long, long .before .wide .ensures .0, long .if1 .left))
     (λ c κs. search needs)
     (λ c.
-    let l = c .before .before .before .before .wide .ensures .0 in
-    omega (
-      arith,
-      c .before .before .before .before .before .before .before .pre .long,
-      l,
-      c .before .before .before .if1 .left,
-    ))
+    let long = c .before .before .before in
+    omega (arith, start (long .before) .pre .long, long .before .wide .ensures .0, long .if1 .left))
     (λ c κs. search needs)
     returns-2)
