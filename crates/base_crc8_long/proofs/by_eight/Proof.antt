@@ -38,6 +38,12 @@ eight-more bytes i crc h =
 rest-is : (bytes : List ℕ) (i : ℕ) → i ≤ length bytes → take (length bytes - i) (drop i bytes) ≡ drop i bytes
 rest-is bytes i h = take-all (length bytes - i) (drop i bytes) (rw length-drop (omega arith))
 
+eight-requires : tie.Need-eight-requires Inv-loop μ-loop
+eight-requires c κs =
+    let a = c .before .before in
+    let s = a .before .before in
+    (s .pre, eight-length (now (s .args .bytes)) (a .loop .i) (omega arith))
+
 loop-again : tie.Need-loop-again Inv-loop μ-loop
 loop-again c =
     let a = c .before .before .before in
@@ -67,7 +73,7 @@ by-eight-spec =
     (λ c. omega arith)
     (λ c. search needs)
     (λ c. search needs)
-    (λ c κs. (c .before .before .before .before .pre, eight-length (now (c .before .before .before .before .args .bytes)) (c .before .before .loop .i) (omega arith)))
+    eight-requires
     (λ c. omega arith)
     (λ c. omega arith)
     loop-again

@@ -23,84 +23,64 @@ four-range n e =
     let w = both (leb 4 n) (ltb n 8) e in
     (leb-true 4 n (w .0), ltb-true n 8 (w .1))
 
-sub-agree-eight : tie.Need-sub-agree-eight
-sub-agree-eight c = eight-range (c .before .before .before .args .n) (c .if1 .taken) .0
+-- what the two tests of the length say, from the start that they look at
+abbrev eight-start : tie.Then1 → tie.Start
+eight-start c = c .before .before .before
 
-agree-eight-requires : tie.Need-agree-eight-requires
-agree-eight-requires c κs = let r = eight-range (c .before .before .before .args .n) (c .if1 .taken) in search needs
+eight : (c : tie.Then1) → (8 ≤ eight-start c .args .n) × (eight-start c .args .n ≤ 16)
+eight c = eight-range (eight-start c .args .n) (c .if1 .taken)
+
+abbrev four-start : tie.Then3 → tie.Start
+four-start c = let other = c .before in other .before .before .before
+
+four : (c : tie.Then3) → (4 ≤ four-start c .args .n) × (four-start c .args .n < 8)
+four c = four-range (four-start c .args .n) (c .if3 .taken)
 
 returns : tie.Need-returns
 returns c =
-    let r = eight-range (c .before .before .before .before .before .args .n) (c .before .before .if1 .taken) in
-    let s = c .before .before .before .before .before in
+    let r = eight (c .before .before) in
+    let s = eight-start (c .before .before) in
     differ (now (s .args .a)) (now (s .args .b)) (s .args .n) 8 (s .pre .0) (s .pre .1) (omega arith)
     (rw (not-true (c .before .agree-eight .result) (c .if2 .taken)) at (c .before .agree-eight .ensures))
 
-agree-eight-requires-2 : tie.Need-agree-eight-requires-2
-agree-eight-requires-2 c κs = let r =
-    eight-range (c .before .before .before .before .before .args .n) (c .before .before .if1 .taken) in
-    search needs
-
 returns-2 : tie.Need-returns-2
 returns-2 c =
-    let r =
-    eight-range (c .before .before .before .before .before .before .args .n)
-    (c .before .before .before .if1 .taken) in
-    let s = c .before .before .before .before .before .before in
+    let first = c .before .before in
+    let r = eight (first .before) in
+    let s = eight-start (first .before) in
     agreed (now (s .args .a)) (now (s .args .b)) (s .args .n) 8 (s .pre .0) (s .pre .1) (omega arith) (omega arith)
-    (rw (not-false (c .before .before .agree-eight .result) (c .before .if2 .left)) at
-    (c .before .before .agree-eight .ensures))
+    (rw (not-false (first .agree-eight .result) (c .before .if2 .left)) at (first .agree-eight .ensures))
     (c .agree-eight2 .ensures)
-
-sub-agree-four : tie.Need-sub-agree-four
-sub-agree-four c = four-range (c .before .before .before .before .args .n) (c .if3 .taken) .0
-
-agree-four-requires : tie.Need-agree-four-requires
-agree-four-requires c κs = let r = four-range (c .before .before .before .before .args .n) (c .if3 .taken) in
-    search needs
 
 returns-3 : tie.Need-returns-3
 returns-3 c =
-    let r = four-range (c .before .before .before .before .before .before .args .n) (c .before .before .if3 .taken) in
-    let s = c .before .before .before .before .before .before in
+    let r = four (c .before .before) in
+    let s = four-start (c .before .before) in
     differ (now (s .args .a)) (now (s .args .b)) (s .args .n) 4 (s .pre .0) (s .pre .1) (omega arith)
     (rw (not-true (c .before .agree-four .result) (c .if4 .taken)) at (c .before .agree-four .ensures))
 
-agree-four-requires-2 : tie.Need-agree-four-requires-2
-agree-four-requires-2 c κs = let r =
-    four-range (c .before .before .before .before .before .before .args .n) (c .before .before .if3 .taken) in
-    search needs
-
 returns-4 : tie.Need-returns-4
 returns-4 c =
-    let r =
-    four-range (c .before .before .before .before .before .before .before .args .n)
-    (c .before .before .before .if3 .taken) in
-    let s = c .before .before .before .before .before .before .before in
+    let first = c .before .before in
+    let r = four (first .before) in
+    let s = four-start (first .before) in
     agreed (now (s .args .a)) (now (s .args .b)) (s .args .n) 4 (s .pre .0) (s .pre .1) (omega arith) (omega arith)
-    (rw (not-false (c .before .before .agree-four .result) (c .before .if4 .left)) at
-    (c .before .before .agree-four .ensures))
+    (rw (not-false (first .agree-four .result) (c .before .if4 .left)) at (first .agree-four .ensures))
     (c .agree-four2 .ensures)
-
-agree-each-requires : tie.Need-agree-each-requires
-agree-each-requires c κs = search needs
-
-returns-5 : tie.Need-returns-5
-returns-5 c = search needs
 
 pub agree-spec : {M : Type 1} → statement M
 agree-spec =
     tie.close
     (tie.spec
-    sub-agree-eight
-    agree-eight-requires
+    (λ c. eight c .0)
+    (λ c κs. let r = eight c in search needs)
     returns
-    agree-eight-requires-2
+    (λ c κs. let r = eight (c .before .before) in search needs)
     returns-2
-    sub-agree-four
-    agree-four-requires
+    (λ c. four c .0)
+    (λ c κs. let r = four c in search needs)
     returns-3
-    agree-four-requires-2
+    (λ c κs. let r = four (c .before .before) in search needs)
     returns-4
-    agree-each-requires
-    returns-5)
+    (λ c κs. search needs)
+    (λ c. search needs))

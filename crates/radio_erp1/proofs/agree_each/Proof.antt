@@ -22,12 +22,14 @@ abbrev μ-loop : tie.MeasureT-loop
 
 returns : tie.Need-returns Inv-loop μ-loop
 returns c =
-    let l = c .before .before .before .before .loop in
+    let turn = c .before .before .before in
+    let l = turn .before .loop in
     sym (sym (l .inv .rest) ∙ last-differs (l .i) _ _ (omega arith) (omega arith) (omega arith) (c .if1 .taken))
 
 loop-again : tie.Need-loop-again Inv-loop μ-loop
 loop-again c =
-    let l = c .before .before .before .before .loop in
+    let turn = c .before .before .before in
+    let l = turn .before .loop in
     record {
       bounded = omega arith;
       rest = sym (last-agrees (l .i) _ _ (omega arith) (omega arith) (omega arith) (c .if1 .left)) ∙ l .inv .rest;
