@@ -21,22 +21,19 @@ at c s e =
     (sym e)
 
 returns : tie.Need-returns
-returns c = (
-  c .sum-up .ensures .0 ∙ at (c .before .before .before .before) _ (c .before .enum-told .given .1),
-  c .sum-up .ensures .1,
-)
+returns c =
+    let arm = c .before in
+    (c .sum-up .ensures .0 ∙ at (arm .before .before .before) _ (arm .enum-told .given .1), c .sum-up .ensures .1)
 
 returns-2 : tie.Need-returns-2
-returns-2 c = (
-  c .sum-up2 .ensures .0 ∙ at (c .before .before .before .before) _ (c .before .enum-told2 .given .1),
-  c .sum-up2 .ensures .1,
-)
+returns-2 c =
+    let arm = c .before in
+    (c .sum-up2 .ensures .0 ∙ at (arm .before .before .before) _ (arm .enum-told2 .given .1), c .sum-up2 .ensures .1)
 
 returns-3 : tie.Need-returns-3
-returns-3 c = (
-  c .sum-up3 .ensures .0 ∙ at (c .before .before .before .before) _ (c .before .enum-told3 .given .1),
-  c .sum-up3 .ensures .1,
-)
+returns-3 c =
+    let arm = c .before in
+    (c .sum-up3 .ensures .0 ∙ at (arm .before .before .before) _ (arm .enum-told3 .given .1), c .sum-up3 .ensures .1)
 
 pub close-spec : {M : Type 1} → statement M
 close-spec =
@@ -52,4 +49,6 @@ close-spec =
     returns
     returns-2
     returns-3
-    (λ c. (at (c .before .before .before .before) _ (c .before .stage .given .1), refl)))
+    (λ c.
+    let arm = c .before in
+    (at (arm .before .before .before) _ (arm .stage .given .1), refl)))

@@ -20,15 +20,21 @@ use Rattle.archive_report.proofs.is_adding.Statement.{statement}
 use Rattle.archive_report.proofs.is_adding.Tie as tie
 
 -- where the report is accepted
-yes : (c : tie.Else1) → isReport (reportOf (c .before .before .before .args .t1 .before)) ≡ true
+abbrev entry : tie.Else1 → tie.Start
+entry c = c .before .before .before
+
+yes : (c : tie.Else1) → isReport (reportOf (entry c .args .t1 .before)) ≡ true
 yes c = sym (c .before .is-report .ensures) ∙ not-false _ (c .if1 .left)
 
 -- and the scan
-scanned : (c : tie.Else2) → isScan (scanOf (c .before .before .before .before .before .before .args .t1 .scan)) ≡ true
-scanned c = sym (c .before .is-scan .ensures) ∙ not-false _ (c .if2 .left)
+abbrev accepted : tie.Else2 → tie.Else1
+accepted c = c .before .before .before
 
 abbrev start : tie.Else2 → tie.Start
-start c = c .before .before .before .before .before .before
+start c = entry (accepted c)
+
+scanned : (c : tie.Else2) → isScan (scanOf (start c .args .t1 .scan)) ≡ true
+scanned c = sym (c .before .is-scan .ensures) ∙ not-false _ (c .if2 .left)
 
 -- and there are no more lines than there may be
 short : (c : tie.Else3)
@@ -44,7 +50,7 @@ few : (c : tie.Else2)
     → start c .args .t1 .before .kept + start c .args .t1 .before .loose + start c .args .t1 .scan .rows < 2 ^ 62
 few c =
     let a = start c .args .t1 in
-    let p = facts (reportOf (a .before)) (yes (c .before .before .before)) in
+    let p = facts (reportOf (a .before)) (yes (accepted c)) in
     omega (arith, p .rows, p .archives, scan-few (scanOf (a .scan)) (scanned c))
 
 returns : tie.Need-returns
@@ -55,14 +61,14 @@ returns c =
 returns-2 : tie.Need-returns-2
 returns-2 c =
     let e = c .before .before .before in
-    adding-scan (addingOf (e .before .before .before .args .t1)) (yes e)
+    adding-scan (addingOf (entry e .args .t1)) (yes e)
     (sym (c .before .is-scan .ensures) ∙ not-true _ (c .if2 .taken))
 
 returns-3 : tie.Need-returns-3
 returns-3 c =
     let d = c .before in
     let a = start d .args .t1 in
-    adding-lines (addingOf a) (yes (d .before .before .before)) (scanned d)
+    adding-lines (addingOf a) (yes (accepted d)) (scanned d)
     (omega (arith, lines-count (a .lines) 0 (a .count), c .if3 .taken))
 
 returns-4 : tie.Need-returns-4
@@ -70,7 +76,7 @@ returns-4 c =
     let r = c .before in
     let l = r .before .before in
     let d = l .before in
-    adding-rows (addingOf (start d .args .t1)) (yes (d .before .before .before))
+    adding-rows (addingOf (start d .args .t1)) (yes (accepted d))
     (scanned d) (short l) (λ e. omega (arith, e, r .rows-of .ensures, c .if4 .taken))
 
 returns-5 : tie.Need-returns-5
@@ -78,19 +84,23 @@ returns-5 c =
     let r = c .before .before in
     let l = r .before .before in
     let d = l .before in
-    adding-rows (addingOf (start d .args .t1)) (yes (d .before .before .before)) (scanned d) (short l)
+    adding-rows (addingOf (start d .args .t1)) (yes (accepted d)) (scanned d) (short l)
     (λ e. c .if5 .taken (omega (arith, e, r .rows-of .ensures, c .before .if4 .left)))
 
 -- the rows are those of the lines
-equal : (c : tie.Else5) → start (c .before .before .before .before .before) .args .t1 .kept + start (c .before .before .before .before .before) .args .t1 .loose
-    ≡ rowsSoFar (addingOf (start (c .before .before .before .before .before) .args .t1))
+abbrev listed : tie.Else5 → tie.Else3
+listed c =
+    let counted = c .before .before in
+    counted .before .before
+
+equal : (c : tie.Else5)
+    → (let a = start (listed c .before) .args .t1 in a .kept + a .loose ≡ rowsSoFar (addingOf a))
 equal c = omega (arith, c .before .before .rows-of .ensures, c .before .if4 .left, c .if5 .left)
 
 are-lines-requires : tie.Need-are-lines-requires
 are-lines-requires c κs =
     let e = c .before .before .before in
-    let r = e .before .before in
-    let l = r .before .before in
+    let l = listed e in
     let a = start (l .before) .args .t1 in
     let long : length (a .lines) ≡ 1280 = search needs in (
       l .if3 .left,
@@ -104,11 +114,12 @@ are-lines-requires c κs =
 
 returns-6 : tie.Need-returns-6
 returns-6 c =
-    let e = c .before .before .before .before in
-    let l = e .before .before .before .before in
+    let lent = c .before in
+    let e = lent .before .before .before in
+    let l = listed e in
     let d = l .before in
     c .are-lines .ensures
-    ∙ adding-tally (addingOf (start d .args .t1)) (yes (d .before .before .before)) (scanned d) (short l) (equal e)
+    ∙ adding-tally (addingOf (start d .args .t1)) (yes (accepted d)) (scanned d) (short l) (equal e)
 
 pub is-adding-spec : {M : Type 1} → statement M
 is-adding-spec =

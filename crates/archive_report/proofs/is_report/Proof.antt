@@ -41,7 +41,8 @@ returns-4 c =
 
 returns-5 : tie.Need-returns-5
 returns-5 c =
-    let f = c .before .before .before .before in
+    let lent = c .before .before in
+    let f = lent .before .before in
     let e = f .before .before in
     c .are-lines .ensures
     ∙ report-tally (reportOf (e .before .before .args .t1)) (e .before .if1 .left)

@@ -29,16 +29,22 @@ use Rattle.archive_report.proofs.Adding.feed.Statement.{statement}
 use Rattle.archive_report.proofs.Adding.feed.Tie as tie
 
 -- where what is handed in is accepted
-yes : (c : tie.Else1) → isAdding (addingOf (c .before .before .before .args .self)) ≡ true
+abbrev entry : tie.Else1 → tie.Start
+entry c = c .before .before .before
+
+yes : (c : tie.Else1) → isAdding (addingOf (entry c .args .self)) ≡ true
 yes c = sym (c .before .is-adding .ensures) ∙ not-false _ (c .if1 .left)
 
 long : (s : tie.Start) → length (s .args .self .lines) ≡ 1280
 long s = search needs
 
-abbrev start : tie.Else2 → tie.Start
-start c = c .before .before .before .before .before .before
-
 -- and the piece is whole blocks
+abbrev accepted : tie.Else2 → tie.Else1
+accepted c = c .before .before .before
+
+abbrev start : tie.Else2 → tie.Start
+start c = entry (accepted c)
+
 whole : (c : tie.Else2) → isPiece (addingOf (start c .args .self) .tally .scan) (now (start c .args .piece)) ≡ true
 whole c = sym (c .before .is-piece .ensures) ∙ not-false _ (c .if2 .left)
 
@@ -70,51 +76,56 @@ returns c =
 
 is-piece-requires : tie.Need-is-piece-requires
 is-piece-requires c κs =
-    let a = addingOf (c .before .before .before .before .args .self) in
+    let a = addingOf (entry (c .before) .args .self) in
     scan-facts (a .tally .scan) (going a (yes (c .before)) .scanned) .0
 
 returns-2 : tie.Need-returns-2
 returns-2 c =
     let t = c .before in
     let e = t .before .before .before in
-    let a = e .before .before .before .args in
+    let a = entry e .args in
     let is =
     feed-size (addingOf (a .self)) (yes e) (now (a .piece))
     (sym (t .before .is-piece .ensures) ∙ not-true _ (t .if2 .taken)) in
     refusal (a .self) (c .unchanged2 .result) Size _ is (c .unchanged2 .ensures .0) (c .unchanged2 .ensures .1)
 
+abbrev tested : tie.After-so-far → tie.Else2
+tested c = c .before .before .before
+
 add-blocks-requires : tie.Need-add-blocks-requires
 add-blocks-requires c κs =
-    let e = c .before .before .before in
+    let e = tested c in
     let a = start e .args .self in
     let is = c .so-far .ensures in (
       long (start e),
       omega (arith, ap (λ (t : Tally). t .scan .blocks) is, whole-facts _ (whole e) .1),
-      sane-as is (going-sane (addingOf a) (yes (e .before .before .before))),
+      sane-as is (going-sane (addingOf a) (yes (accepted e))),
     )
 
 -- what the blocks of the piece gave, with some lines
+abbrev handed : tie.After-add-blocks → tie.Start
+handed b = start (tested (b .before))
+
 known : (b : tie.After-add-blocks) (xs : List ℕ)
     → tallyOf (b .add-blocks .result) xs ≡ tallyOf (b .add-blocks .result) (b .add-blocks .last .0)
-    → fed 0
-    (adding (reportOf (start (b .before .before .before .before) .args .self .before))
-    (tallyOf (b .add-blocks .result) xs))
-    ≡ feedOf (addingOf (start (b .before .before .before .before) .args .self)) (now (start (b .before .before .before .before) .args .piece))
+    → fed 0 (adding (reportOf (handed b .args .self .before)) (tallyOf (b .add-blocks .result) xs))
+    ≡ feedOf (addingOf (handed b .args .self)) (now (handed b .args .piece))
 known b xs same =
-    let e = b .before .before .before .before in
+    let e = tested (b .before) in
     let a = start e .args in
-    feed-done (addingOf (a .self)) (yes (e .before .before .before)) (now (a .piece)) (whole e) _
+    feed-done (addingOf (a .self)) (yes (accepted e)) (now (a .piece)) (whole e) _
     (same ∙ b .add-blocks .ensures .0
     ∙ ap (λ (t : Tally). addBlocks t (blocksIn (now (a .piece)))) (b .before .so-far .ensures))
 
 returns-3 : tie.Need-returns-3
 returns-3 c =
-    let b = c .before .before .before .before in
-    let s = start (b .before .before .before .before) in
+    let over = c .before .before in
+    let b = over .before .before in
+    let s = handed b in
     let old = s .args .self .lines in
     let t = b .add-blocks .result in
     let g = b .add-blocks .ensures .1 in
-    let h = g .held (c .before .before .if3 .taken) in
+    let h = g .held (over .if3 .taken) in
     let is =
     known b old
     (λ i.
@@ -132,7 +143,7 @@ returns-3 c =
 returns-4 : tie.Need-returns-4
 returns-4 c =
     let b = c .before .before .before in
-    let s = start (b .before .before .before .before) in
+    let s = handed b in
     let old = s .args .self .lines in
     let new = b .add-blocks .last .0 in
     let t = b .add-blocks .result in

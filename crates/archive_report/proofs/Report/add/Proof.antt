@@ -23,11 +23,17 @@ use Rattle.archive_report.proofs.Report.add.Statement.{statement}
 use Rattle.archive_report.proofs.Report.add.Tie as tie
 
 -- where the report is accepted
-yes : (c : tie.Else1) → isReport (reportOf (c .before .before .before .args .self)) ≡ true
+abbrev entry : tie.Else1 → tie.Start
+entry c = c .before .before .before
+
+yes : (c : tie.Else1) → isReport (reportOf (entry c .args .self)) ≡ true
 yes c = sym (c .before .is-report .ensures) ∙ not-false _ (c .if1 .left)
 
 -- and the buffer is whole blocks
-whole : (c : tie.Else2) → isWhole (length (now (c .before .before .before .before .before .args .buffer))) ≡ true
+abbrev accepted : tie.Else2 → tie.Else1
+accepted c = c .before .before
+
+whole : (c : tie.Else2) → isWhole (length (now (entry (accepted c) .args .buffer))) ≡ true
 whole c = sym (c .before .is-whole .ensures) ∙ not-false _ (c .if2 .left)
 
 long : (s : tie.Start) → length (s .args .self .lines) ≡ 1280
@@ -48,7 +54,7 @@ returns-2 : tie.Need-returns-2
 returns-2 c =
     let t = c .before in
     let e = t .before .before in
-    let a = e .before .before .before .args in
+    let a = entry e .args in
     let is =
     add-size (reportOf (a .self)) (yes e) (now (a .buffer))
     (sym (t .before .is-whole .ensures) ∙ not-true _ (t .if2 .taken)) in (
@@ -56,23 +62,26 @@ returns-2 c =
       stay _ Size _ (a .self .lines) (sym (ap (λ (x : Addition). x .number) is)) (c .kept2 .ensures .1),
     )
 
+abbrev tested : tie.After-start → tie.Else2
+tested c = c .before .before .before
+
 add-blocks-requires : tie.Need-add-blocks-requires
 add-blocks-requires c κs =
-    let e = c .before .before .before in
-    let s = e .before .before .before .before .before in
+    let e = tested c in
+    let s = entry (accepted e) in
     let xs = s .args .self .lines in
     let long : length xs ≡ 1280 = search needs in
     let is = c .start .ensures xs in (
       long,
       omega (arith, ap (λ (t : Tally). t .scan .blocks) is, whole-facts _ (whole e) .1),
-      sane-as is (start-sane (reportOf (s .args .self)) (yes (e .before .before))),
+      sane-as is (start-sane (reportOf (s .args .self)) (yes (accepted e))),
     )
 
 returns-3 : tie.Need-returns-3
 returns-3 c =
     let b = c .before .before in
-    let e = b .before .before .before .before in
-    let s = e .before .before .before .before .before in
+    let e = tested (b .before) in
+    let s = entry (accepted e) in
     let a = s .args in
     let report = reportOf (a .self) in
     let buffer = now (a .buffer) in
@@ -82,7 +91,7 @@ returns-3 c =
     let cl : closing report (tallyOf t new) ≡ addOf report buffer =
     ap (closing report)
     (b .add-blocks .ensures .0 ∙ ap (λ (t : Tally). addBlocks t (blocksIn buffer)) (b .before .start .ensures old))
-    ∙ closing-is report buffer (yes (e .before .before)) (whole e) in
+    ∙ closing-is report buffer (yes (accepted e)) (whole e) in
     let is = c .close .ensures .0 ∙ cl in (
       is,
       c .close .ensures .1 ∙ ap (λ (x : Addition). linesEnded x new old) is

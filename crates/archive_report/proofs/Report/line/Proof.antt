@@ -18,9 +18,12 @@ yes : (c : tie.Else1) → isReport (reportOf (c .before .before .args .self)) �
 yes c = sym (c .before .is-report .ensures) ∙ not-false _ (c .if1 .left)
 
 -- the line is one of at most 256
-inside : (c : tie.After-lines) → c .before .before .before .before .before .args .i < 256
+abbrev tested : tie.After-lines → tie.Else1
+tested c = c .before .before .before
+
+inside : (c : tie.After-lines) → tested c .before .before .args .i < 256
 inside c =
-    let e = c .before .before .before in
+    let e = tested c in
     let s = e .before .before .args .self in
     omega (arith, facts (reportOf s) (yes e) .few, lines-count (s .lines) 0 (s .count), c .before .if2 .left)
 

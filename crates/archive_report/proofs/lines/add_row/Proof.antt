@@ -18,12 +18,16 @@ find-requires c κs =
     (s .pre .1, s .pre .0, ordered-of (now (s .args .lines)) (s .args .count) (s .pre .2))
 
 -- what is known where the line is there
+abbrev start : tie.After-find → tie.Start
+start c = c .before .before .before
+
 found : (c : tie.Then1)
-    → (c .before .before .before .find .result < c .before .before .before .before .before .before .args .count)
-    × (lineAt (now (c .before .before .before .before .before .before .args .lines)) (c .before .before .before .find .result) .identity ≡ c .before .before .before .before .before .before .args .identity)
+    → (let f = c .before .before .before in
+    let a = start f .args in
+    (f .find .result < a .count) × (lineAt (now (a .lines)) (f .find .result) .identity ≡ a .identity))
 found c =
     let f = c .before .before .before in
-    let a = f .before .before .before .args in
+    let a = start f .args in
     is-there (now (a .lines)) (a .count) (f .find .result)
     (a .identity) (sym (c .before .is-at .ensures) ∙ c .if1 .taken)
 
@@ -31,7 +35,7 @@ join-row-requires : tie.Need-join-row-requires
 join-row-requires c κs =
     let t = c .before in
     let f = t .before .before .before in
-    let s = f .before .before .before in
+    let s = start f in
     let there = found t in (
       omega (arith, there .0, s .pre .0),
       s .pre .1,
@@ -43,7 +47,7 @@ returns c =
     let j = c .before .before in
     let t = j .before .before in
     let f = t .before .before .before in
-    let a = f .before .before .before .args in
+    let a = start f .args in
     let there = found t in
     let xs = now (a .lines) in
     let i = f .find .result in
@@ -55,7 +59,7 @@ returns-2 : tie.Need-returns-2
 returns-2 c =
     let e = c .before in
     let f = e .before .before .before in
-    let a = f .before .before .before .args in
+    let a = start f .args in
     no-room (now (a .lines)) (a .count) (f .find .result)
     (rowLine (a .identity) (a .time) (a .loose)) (f .find .ensures)
     (not-there (now (a .lines)) (a .count) (f .find .result)
@@ -67,10 +71,11 @@ returns-3 c =
     let st = c .before .before in
     let o = st .before in
     let n = o .before in
-    let g = n .before .before .before .before in
+    let back = n .before .before in
+    let g = back .before .before in
     let e = g .before .before .before in
     let f = e .before .before .before in
-    let a = f .before .before .before .args in
+    let a = start f .args in
     put-there (now (a .lines)) (a .count) (f .find .result)
     (rowLine (a .identity) (a .time) (a .loose)) (f .find .ensures)
     (not-there (now (a .lines)) (a .count) (f .find .result)

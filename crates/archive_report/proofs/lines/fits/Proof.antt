@@ -25,7 +25,8 @@ returns-2 c =
 returns-3 : tie.Need-returns-3
 returns-3 c =
     let l = c .before in
-    let e2 = l .before .before .before .before .before .before in
+    let identity = l .before .before .before in
+    let e2 = identity .before .before .before in
     let e1 = e2 .before .before in
     let a = e1 .before .before .before .args in
     ap₂ _&&_ (l .is-line .ensures) (c .is-before .ensures)

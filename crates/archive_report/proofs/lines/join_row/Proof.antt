@@ -20,13 +20,16 @@ one-le false = omega arith
 
 add-kept-2 : tie.Need-add-kept-2
 add-kept-2 c =
-    let s = c .before .before .before .before in
-    omega (arith, c .before .none-if .ensures, none-le (s .args .loose), s .pre .2)
+    let n = c .before in
+    let s = n .before .before .before in
+    omega (arith, n .none-if .ensures, none-le (s .args .loose), s .pre .2)
 
 add-others-2 : tie.Need-add-others-2
 add-others-2 c =
-    let s = c .before .before .before .before .before .before in
-    omega (arith, c .before .one-if .ensures, one-le (s .args .loose), s .pre .2)
+    let o = c .before in
+    let n = o .before .before in
+    let s = n .before .before .before in
+    omega (arith, o .one-if .ensures, one-le (s .args .loose), s .pre .2)
 
 returns : tie.Need-returns
 returns c =

@@ -46,7 +46,9 @@ module _ {n m : ℕ} {rows : List Row} {old new : List ℕ} (added : AddedRows n
 
 -- the start, the block, and the tally there
 abbrev start : tie.After-feed → tie.Start
-start c = c .before .before .before .before
+start c =
+    let scan = c .before in
+    scan .before .before .before
 
 abbrev block : tie.After-feed → List ℕ
 block c = now (start c .args .block)
@@ -89,9 +91,12 @@ returns c =
           (ap (λ (v : Tally). v .count) (c .overflowed .ensures)),
     )
 
+abbrev scanning : tie.Else1 → tie.After-feed
+scanning c = c .before .before .before
+
 add-rows-requires : tie.Need-add-rows-requires
 add-rows-requires c κs =
-    let f = c .before .before .before .before in
+    let f = scanning (c .before) in
     let s = start f in
     let a = s .args in (
       s .pre .0,
@@ -107,7 +112,7 @@ returns-2 : tie.Need-returns-2
 returns-2 c =
     let t = c .before in
     let r = t .before .before .before in
-    let f = r .before .before .before .before .before in
+    let f = scanning (r .before .before) in
     let a = start f .args in
     let xs = now (a .lines) in (
       none-there (r .add-rows .ensures) (c .overflowed2 .result) (f .feed .result .next) (c .overflowed2 .ensures)
@@ -122,30 +127,37 @@ returns-2 c =
           (ap (λ (v : Tally). v .count) (c .overflowed2 .ensures)),
     )
 
+abbrev adding : tie.Else2 → tie.After-add-rows
+adding c = c .before .before .before
+
+abbrev feeding : tie.Else2 → tie.After-feed
+feeding c = scanning (adding c .before .before)
+
 loose-rows-requires : tie.Need-loose-rows-requires
 loose-rows-requires c κs =
-    let f = c .before .before .before .before .before .before .before .before in
+    let f = feeding c in
     (start f .pre .0, few f)
 
 sub-t15 : tie.Need-sub-t15
 sub-t15 c =
-    let f = c .before .before .before .before .before .before .before .before .before in
+    let f = feeding (c .before) in
     omega (arith, c .loose-rows .ensures, loose-few (block f) 0 (used f))
 
 add-t16 : tie.Need-add-t16
 add-t16 c =
-    let f = c .before .before .before .before .before .before .before .before .before .before in
+    let f = feeding (c .before .before) in
     omega (arith, start f .pre .3 .totals, scan-few (scanOf (start f .args .t .scan)) (start f .pre .3 .scanned), few f)
 
 add-t17 : tie.Need-add-t17
 add-t17 c =
-    let f = c .before .before .before .before .before .before .before .before .before .before .before in
+    let l = c .before .before in
+    let f = feeding (l .before) in
     omega (
       arith,
       start f .pre .3 .totals,
       scan-few (scanOf (start f .args .t .scan)) (start f .pre .3 .scanned),
       few f,
-      c .before .before .loose-rows .ensures,
+      l .loose-rows .ensures,
       loose-few (block f) 0 (used f),
     )
 
@@ -153,9 +165,9 @@ returns-3 : tie.Need-returns-3
 returns-3 c =
     let l = c .before .before in
     let e = l .before in
-    let r = e .before .before .before in
+    let r = adding e in
     let e1 = r .before .before in
-    let f = e1 .before .before .before in
+    let f = scanning e1 in
     let a = start f .args in
     let xs = now (a .lines) in
     let t = tallyOf (a .t) xs in

@@ -37,9 +37,12 @@ Inv-loop lines₀ piece at₀ i₀ i-end lines at i = Adding lines₀ piece at�
 abbrev μ-loop : tie.MeasureT-loop
 μ-loop lines₀ piece at₀ i₀ i-end lines at i = i-end - i
 
+abbrev start : tie.At-loop Inv-loop μ-loop → tie.Start Inv-loop μ-loop
+start c = c .before .before .before
+
 -- the block of a turn
 abbrev block : tie.In-loop Inv-loop μ-loop → List ℕ
-block c = part (blockLength * c .before .loop .i) blockLength (now (c .before .before .before .before .args .piece))
+block c = part (blockLength * c .before .loop .i) blockLength (now (start (c .before) .args .piece))
 
 loop-holds : tie.Need-loop-holds Inv-loop μ-loop
 loop-holds c =
@@ -61,7 +64,7 @@ add-block-requires : tie.Need-add-block-requires Inv-loop μ-loop
 add-block-requires c κs =
     let d = c .before .before in
     let at = d .before in
-    let s = at .before .before .before in
+    let s = start at in
     let piece = now (s .args .piece) in
     let v = at .loop .inv in (
       ap length (part-ends (blockLength * at .loop .i) blockLength piece)
@@ -76,7 +79,7 @@ loop-again c =
     let b = c .before .before in
     let d = b .before .before .before in
     let at = d .before in
-    let s = at .before .before .before in
+    let s = start at in
     let piece = now (s .args .piece) in
     let v = at .loop .inv in
     let t = tallyOf (at .loop .at) (at .loop .lines) in
@@ -100,7 +103,7 @@ loop-again c =
 returns : tie.Need-returns Inv-loop μ-loop
 returns c =
     let at = c .before in
-    let s = at .before .before .before in
+    let s = start at in
     let piece = now (s .args .piece) in (
       sym (blocks-end piece (tallyOf (at .loop .at) (at .loop .lines))
           (length piece / blockLength) (at .loop .i) (omega (arith, c .loop-test .left)))
@@ -125,5 +128,5 @@ add-blocks-spec =
     (λ c. omega arith)
     (λ c. omega arith)
     loop-again
-    (λ c. c .before .loop .inv .long ∙ sym (c .before .before .before .before .pre .0))
+    (λ c. c .before .loop .inv .long ∙ sym (start (c .before) .pre .0))
     returns)

@@ -32,6 +32,9 @@ Inv-loop lines₀ count block used n₀ i₀ lines n i = Adding lines₀ count b
 abbrev μ-loop : tie.MeasureT-loop
 μ-loop lines₀ count block used n₀ i₀ lines n i = used - i
 
+abbrev start : tie.At-loop Inv-loop μ-loop → tie.Start Inv-loop μ-loop
+start c = c .before .before .before
+
 loop-holds : tie.Need-loop-holds Inv-loop μ-loop
 loop-holds c =
     let s = c .before .before in
@@ -48,7 +51,7 @@ add-cell-requires : tie.Need-add-cell-requires Inv-loop μ-loop
 add-cell-requires c κs =
     let d = c .before .before in
     let at = d .before in
-    let s = at .before .before .before in
+    let s = start at in
     let block = now (s .args .block) in
     let from = headerLength + cellLength * at .loop .i in
     let go = at .loop .inv .running in (
@@ -65,15 +68,16 @@ add-cell-requires c κs =
 same-length : tie.Need-same-length Inv-loop μ-loop
 same-length c =
     let r = c .before .before .before in
-    let at = r .before .before .before .before in
-    r .add-cell .ensures .long ∙ at .loop .inv .running .long ∙ sym (at .before .before .before .pre .4)
+    let d = r .before .before .before in
+    let at = d .before in
+    r .add-cell .ensures .long ∙ at .loop .inv .running .long ∙ sym (start at .pre .4)
 
 returns : tie.Need-returns Inv-loop μ-loop
 returns c =
     let r = c .before .before .before in
     let d = r .before .before .before in
     let at = d .before in
-    let s = at .before .before .before in
+    let s = start at in
     let block = now (s .args .block) in
     let ins =
     inserted-as (ap (λ (l : List ℕ). lineOf (rowIn l))
@@ -95,7 +99,7 @@ loop-again c =
     let r = c .before .before .before in
     let d = r .before .before .before in
     let at = d .before in
-    let s = at .before .before .before in
+    let s = start at in
     let block = now (s .args .block) in
     let ins =
     inserted-as (ap (λ (l : List ℕ). lineOf (rowIn l))
@@ -122,7 +126,7 @@ loop-again c =
 returns-2 : tie.Need-returns-2 Inv-loop μ-loop
 returns-2 c =
     let at = c .before in
-    let s = at .before .before .before in
+    let s = start at in
     let go = at .loop .inv .running in
     record {
       long = go .long ∙ sym (s .pre .4);
@@ -153,5 +157,5 @@ add-rows-spec =
     (λ c. omega arith)
     (λ c. omega arith)
     loop-again
-    (λ c. c .before .loop .inv .running .long ∙ sym (c .before .before .before .before .pre .4))
+    (λ c. c .before .loop .inv .running .long ∙ sym (start (c .before) .pre .4))
     returns-2)

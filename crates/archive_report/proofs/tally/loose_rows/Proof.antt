@@ -27,10 +27,14 @@ abbrev μ-loop : tie.MeasureT-loop
 μ-loop block used n₀ i₀ n i = used - i
 
 -- what is counted of row i
+abbrev turn : tie.After-one-if Inv-loop μ-loop → tie.In-loop Inv-loop μ-loop
+turn c = c .before .before .before
+
 counted : (c : tie.After-one-if Inv-loop μ-loop)
-    → c .one-if .result ≡ cond (rowIn (blockCell (c .before .before .before .before .loop .i) (now (c .before .before .before .before .before .before .args .block))) .loose) 1 0
+    → (let at = turn c .before in
+    c .one-if .result ≡ cond (rowIn (blockCell (at .loop .i) (now (at .before .before .args .block))) .loose) 1 0)
 counted c =
-    let at = c .before .before .before .before in
+    let at = turn c .before in
     c .one-if .ensures
     ∙ ap (λ (b : Bool). cond b 1 0)
     (c .before .is-loose .ensures
@@ -43,7 +47,7 @@ one-le false = omega arith
 
 add-n : tie.Need-add-n Inv-loop μ-loop
 add-n c =
-    let at = c .before .before .before .before in
+    let at = turn c .before in
     let s = at .before .before in
     omega (
       arith,
@@ -56,7 +60,7 @@ add-n c =
 
 loop-again : tie.Need-loop-again Inv-loop μ-loop
 loop-again c =
-    let d = c .before .before .before in
+    let d = turn c in
     let at = d .before in
     let s = at .before .before in
     record {
