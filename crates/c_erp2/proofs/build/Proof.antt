@@ -17,7 +17,8 @@ other-size c =
 
 built : tie.Need-returns-2
 built c =
-    let b = c .before .before .before .before in
+    let back = c .before .before in
+    let b = back .before .before in
     let t = b .before .before in
     let e = t .before in
     let a = e .before .before .before .args in

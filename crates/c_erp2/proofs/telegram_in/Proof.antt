@@ -8,7 +8,14 @@ use Rattle.c_erp2.proofs.telegram_in.Tie as tie
 
 returns : tie.Need-returns
 unfolding telegramIn
-returns c = rw (c .before .before .before .before .before .before .before .before .before .before .before .before .before .payload-in .ensures, c .before .before .before .before .before .before .before .before .before .before .before .optional-in .ensures)
+returns c =
+    let subtype = c .before .before in
+    let extension = subtype .before .before in
+    let header = extension .before .before .before in
+    let short = header .before .before .before in
+    let optional = short .before in
+    let payload = optional .before .before in
+    rw (payload .payload-in .ensures, optional .optional-in .ensures)
 
 pub telegram-in-spec : {M : Type 1} → statement M
 telegram-in-spec =
