@@ -8,9 +8,10 @@ use Rattle.archive_run.proofs.put_row.Tie as tie
 
 part-hex-end : tie.Need-part-hex-end
 part-hex-end c =
-    let h : length (c .before .before .before .before .before .before .before .before .before .args .found .bytes)
-    ≡ 21 =
-    search needs in
+    let loose = c .before .before .before in
+    let len = loose .before .before .before in
+    let s = len .before .before .before in
+    let h : length (s .args .found .bytes) ≡ 21 = search needs in
     omega arith
 
 pub put-row-spec : {M : Type 1} → statement M
