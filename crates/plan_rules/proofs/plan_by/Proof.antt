@@ -39,10 +39,11 @@ returns-4 : tie.Need-returns-4
 unfolding planBy
 returns-4 c =
     let asked = c .before .before in
-    let a = asked .before .before .before .before .before .args in
-    let timed : isDuration (a .duration) ≡ true = not-false _ (asked .before .before .before .before .if1 .left) in
-    let named =
-    sym (asked .before .before .before .is-known .ensures) ∙ not-false _ (asked .before .before .if2 .left) in
+    let found = asked .before .before in
+    let measured = found .before .before in
+    let a = measured .before .args in
+    let timed : isDuration (a .duration) ≡ true = not-false _ (measured .if1 .left) in
+    let named = sym (found .before .is-known .ensures) ∙ not-false _ (found .if2 .left) in
     let offered = sym (asked .before .offers .ensures) ∙ not-false _ (asked .if3 .left) in
     simp (timed, named, offered)
     (c .choose .ensures ∙ ap (λ (r : Rule). drawn (plans r (a .duration)) (a .draw)) (c .before .rule-of .ensures))

@@ -7,7 +7,8 @@ returns : tie.Need-returns
 returns c =
     let fourth = c .before .before .before in
     let third = fourth .before .before in
-    let second = third .before .before .before .before in
+    let level = third .before .before in
+    let second = level .before .before in
     let first = second .before .before in
     simp (first .wide .ensures .0, second .wide2 .ensures .0, third .wide3 .ensures .0, fourth .wide4 .ensures .0)
 
