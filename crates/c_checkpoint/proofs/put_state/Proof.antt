@@ -9,7 +9,9 @@ use Rattle.c_checkpoint.proofs.put_state.Tie as tie
 
 returns : tie.Need-returns
 returns c =
-    let s = c .before .before .before .before .before .before .before .args .c in
+    let heard = c .before .before in
+    let lens = heard .before .before in
+    let s = lens .before .before .before .args .c in
     ap (arrays (s .times) (s .lens) (s .bytes) (s .copies)) (c .store .ensures)
 
 pub put-state-spec : {M : Type 1} → statement M

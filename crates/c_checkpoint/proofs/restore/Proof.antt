@@ -13,14 +13,18 @@ use Rattle.c_checkpoint.proofs.restore.Tie as tie
 -- what is lent
 abbrev lent : tie.After-is-acceptable → Arrays
 lent c =
-    let a = c .before .before .before .before .before .before .args in
+    let lengths = c .before .before .before in
+    let a = lengths .before .before .before .args in
     arrays (now (a .times)) (now (a .lengths)) (now (a .bytes)) (now (a .copies)) (now (a .numbers))
 
 passed : (c : tie.Else1) → acceptable (stateAt (lent (c .before))) ≡ true
 passed c = sym (c .before .is-acceptable .ensures _) ∙ not-false _ (c .if1 .left)
 
 returns : tie.Need-returns
-returns c = refused-state (lent (c .before .before)) _ (sym (c .before .before .is-acceptable .ensures _) ∙ not-true _ (c .before .if1 .taken)) _ (c .number .ensures)
+returns c =
+    let tested = c .before .before in
+    refused-state (lent tested) _ (sym (tested .is-acceptable .ensures _) ∙ not-true _ (c .before .if1 .taken))
+    _ (c .number .ensures)
 
 returns-2 : tie.Need-returns-2
 returns-2 c =
@@ -31,7 +35,8 @@ returns-2 c =
 
 returns-3 : tie.Need-returns-3
 returns-3 c =
-    let m = c .before .before .before .before .before .before in
+    let bytes = c .before .before .before in
+    let m = bytes .before .before .before in
     let r = m .before .before in
     let e = r .before .before in
     restored (lent (e .before)) _ (passed e) _ (r .before .fresh .ensures .state) _

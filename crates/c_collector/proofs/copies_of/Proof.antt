@@ -32,7 +32,10 @@ tested : (c : tie.After-is-acceptable) → c .is-acceptable .result ≡ acceptab
 unfolding viewOf
 tested c = c .is-acceptable .ensures _
 
-passed : (c : tie.Else1) → acceptable (viewOf (state (c .before .before))) ≡ true
+abbrev start : tie.Else1 → tie.Start
+start c = c .before .before
+
+passed : (c : tie.Else1) → acceptable (viewOf (state (start c))) ≡ true
 passed c = sym (tested (c .before)) ∙ not-false _ (c .if1 .left)
 
 returns : tie.Need-returns
@@ -47,20 +50,26 @@ returns-2 : tie.Need-returns-2
 unfolding viewOf
 returns-2 c =
     let e = c .before .before in
-    let s = e .before .before .before in
+    let s = start (e .before) in
     rw (c .number2 .ensures) (copies-refused _ _ _ (numberOf Argument) (refused-number Argument)
     (heard-closed (state s) (s .args .entry) (passed (e .before)) (c .before .if2 .taken)))
 
 -- the entry is open
-few : (c : tie.Else2) → getD (now (c .before .before .before .before .args .numbers)) 0 0 ≤ capacity
-few c = heard-few (state (c .before .before .before .before)) (c .before .before .before .before .args .entry) (passed (c .before .before))
+abbrev accepted : tie.Else2 → tie.Else1
+accepted c = c .before .before
+
+few : (c : tie.Else2) → getD (now (start (accepted c) .args .numbers)) 0 0 ≤ capacity
+few c =
+    let s = start (accepted c) in
+    heard-few (state s) (s .args .entry) (passed (accepted c))
 
 returns-3 : tie.Need-returns-3
 unfolding viewOf
 returns-3 c =
     let o = c .before .before in
-    let s = o .before .before .before .before in
-    rw (c .wide .ensures) (copies-shown _ _ _ _ (heard-open (state s) (s .args .entry) (passed (o .before .before)) (o .if2 .left)))
+    let s = start (accepted o) in
+    rw (c .wide .ensures)
+    (copies-shown _ _ _ _ (heard-open (state s) (s .args .entry) (passed (accepted o)) (o .if2 .left)))
 
 pub copies-of-spec : {M : Type 1} → statement M
 copies-of-spec =

@@ -5,13 +5,17 @@ use Rattle.c_collector.proofs.take_told.Statement.{statement}
 use Rattle.c_collector.proofs.take_told.Tie as tie
 
 abbrev reading : tie.After-admit → tie.After-summary-in
-reading c = c .before .before .before .before .before
+reading c =
+    let bytes = c .before .before in
+    bytes .before .before .before
 
 returns : tie.Need-returns
 returns c =
-    let a = c .before .before .before .before in
+    let stored = c .before in
+    let a = stored .before .before .before in
     let s = reading a in
-    told _ _ _ _ _ _ (s .summary-in .ensures .1) (s .summary-in .ensures .0) (a .admit .ensures) _ (c .answer-number .ensures) _ (c .before .store .ensures)
+    told _ _ _ _ _ _ (s .summary-in .ensures .1) (s .summary-in .ensures .0) (a .admit .ensures)
+    _ (c .answer-number .ensures) _ (stored .store .ensures)
 
 pub take-told-spec : {M : Type 1} → statement M
 take-told-spec =

@@ -14,15 +14,18 @@ other-length : tie.Need-returns
 other-length c = sym (overwritten-not frameLength _ (now (c .before .before .before .args .out)) (c .if1 .taken))
 
 -- what is written, after each step
+abbrev start : tie.Else1 → tie.Start
+start c = c .before .before .before
+
 abbrev step1 : tie.Else1 → Writing 1
 step1 c =
-    let a = c .before .before .before .args in
+    let a = start c .args in
     packed (store (begin (now (a .out))) (a .len) (omega arith))
 
 abbrev step2 : tie.After-put-bytes → Writing 22
 step2 c =
     let at = c .before .before in
-    let a = at .before .before .before .args in
+    let a = start at .args in
     packed (lend-sized (step1 at .begun) _ (λ w. resized w (now (a .bytes))) 22
     (c .put-bytes .ensures) (c .put-bytes .kept .0) (omega arith) (omega arith))
 
@@ -30,7 +33,7 @@ written : tie.Need-returns-2
 unfolding frameBytes
 written c =
     let at = c .before .before in
-    let a = at .before .before .before .before .before .args in
+    let a = start (at .before .before) .args in
     done (step2 at .begun) (omega arith)
     ∙ sym (overwritten-fits frameLength (frameBytes (a .len) (now (a .bytes))) (now (a .out)) (omega arith))
 

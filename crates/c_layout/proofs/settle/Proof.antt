@@ -23,11 +23,12 @@ returns c output =
 
 returns-2 : tie.Need-returns-2
 returns-2 c output =
-    let why = c .before .before .built2 .given .0 .0 in
-    let old = now (c .before .before .before .before .args .length) in
+    let arm = c .before .before in
+    let why = arm .built2 .given .0 .0 in
+    let old = now (arm .before .before .args .length) in
     ap (λ (n : ℕ). answered n old output) (c .number .ensures)
     ∙ ap (λ (n : ℕ). answered (numberOf why) n output) (done-not (numberOf why) 0 old (refused-number why))
-    ∙ ap (λ (b : Built). settled (resultOf b output) old) (sym (c .before .before .built2 .given .1))
+    ∙ ap (λ (b : Built). settled (resultOf b output) old) (sym (arm .built2 .given .1))
 
 pub settle-spec : {M : Type 1} → statement M
 settle-spec =

@@ -23,13 +23,14 @@ returns c =
 returns-2 : tie.Need-returns-2
 returns-2 c =
     let p = c .before in
-    let f = p .before .before .before .before in
+    let done = p .before .before in
+    let f = done .before .before in
     let input = now (f .before .before .args .input) in
     let e = found input 0 (f .find .ensures .0) in
     let k : f .find .result ≡ indexOf newline input = omega arith in
     let z : f .find .result - 0 ≡ indexOf newline input = omega arith in
-    let some = lt-ltb (indexOf newline input) (length input) (omega arith) in
-    (rw (some, c .level-number .ensures, p .parse-setting .ensures, z), rw (some, k))
+    let inside = lt-ltb (indexOf newline input) (length input) (omega arith) in
+    (rw (inside, c .level-number .ensures, p .parse-setting .ensures, z), rw (inside, k))
 
 pub first-line-spec : {M : Type 1} → statement M
 first-line-spec =

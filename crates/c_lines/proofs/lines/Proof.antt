@@ -24,7 +24,10 @@ lent s =
 -- ---- what each test says
 
 abbrev start : tie.After-is-acceptable → tie.Start
-start c = c .before .before .before .before .before .before .before .before .before
+start c =
+    let lengths = c .before .before .before in
+    let moments = lengths .before .before .before in
+    moments .before .before .before
 
 abbrev entry1 : tie.Else1 → tie.Start
 entry1 c = start (c .before)
@@ -40,7 +43,9 @@ sized c = sym (c .before .is-sized .ensures) ∙ not-false _ (c .if2 .left)
 
 -- no call is refused after the third
 abbrev after-tests : tie.After-summary-of → tie.Else3
-after-tests c = c .before .before .before .before
+after-tests c =
+    let lent = c .before in
+    lent .before .before .before
 
 abbrev entry3 : tie.After-summary-of → tie.Start
 entry3 c = entry2 (after-tests c .before)
@@ -53,30 +58,22 @@ tested c =
 
 -- ---- what each return has to show
 
-is-acceptable-requires : tie.Need-is-acceptable-requires
-is-acceptable-requires c κs = search needs
-
-number-requires : tie.Need-number-requires
-number-requires c κs = search needs
-
 returns : tie.Need-returns
 returns c =
     let t = c .before .before in
     let e : acceptable (stateAt (lent (start t))) ≡ false =
     sym (t .is-acceptable .ensures _) ∙ not-true _ (c .before .if1 .taken) in
-    record { answer = rw e (c .number .ensures); taken = λ z. absurd (omega (arith, c .number .ensures)); stays = λ n. (refl, refl, refl, refl, refl) }
-
-is-sized-requires : tie.Need-is-sized-requires
-is-sized-requires c κs = search needs
+    record {
+      answer = rw e (c .number .ensures);
+      taken = λ z. absurd (omega (arith, c .number .ensures));
+      stays = λ n. (refl, refl, refl, refl, refl);
+    }
 
 returns-2 : tie.Need-returns-2
 returns-2 c =
     let a = acceptable-here (c .before .before) in
     let e = sym (c .before .is-sized .ensures) ∙ not-true _ (c .if2 .taken) in
     record { answer = rw (a, e); taken = λ z. absurd (omega arith); stays = λ n. (refl, refl, refl, refl, refl) }
-
-number-requires-2 : tie.Need-number-requires-2
-number-requires-2 c κs = search needs
 
 returns-3 : tie.Need-returns-3
 returns-3 c =
@@ -88,34 +85,29 @@ returns-3 c =
       stays = λ n. (refl, refl, refl, refl, refl);
     }
 
-summary-of-requires : tie.Need-summary-of-requires
-summary-of-requires c κs = search needs
+abbrev summed : tie.After-take-rows-arg7 → tie.After-summary-of
+summed c =
+    let copies = c .before .before .before in
+    let times = copies .before .before .before in
+    times .before
 
 take-rows-requires : tie.Need-take-rows-requires
 take-rows-requires c κs =
-    let k = c .before .before .before .before .before .before .before in
+    let k = summed c in
     (tested k, eqb-true _ _ (sized (after-tests k .before)))
-
-store-requires : tie.Need-store-requires
-store-requires c κs = search needs
-
-same-length : tie.Need-same-length
-same-length c = search needs
-
-same-length-2 : tie.Need-same-length-2
-same-length-2 c = search needs
-
-same-length-3 : tie.Need-same-length-3
-same-length-3 c = search needs
 
 returns-4 : tie.Need-returns-4
 returns-4 c =
-    let k =
-    c .before .before .before .before .before .before .before .before .before .before .before .before .before .before .before .before .before .before in
+    let stored = c .before in
+    let next = stored .before .before in
+    let rows = next .before .before in
+    let moments = rows .before .before in
+    let took = moments .before .before .before in
+    let k = summed (took .before) in
     let e = after-tests k .before in
     record {
       answer = rw (acceptable-here (e .before .before), sized e, le-ltb 2 _ (after-tests k .if3 .left));
-      taken = λ z. rw (c .before .store .ensures) (rw (k .summary-of .ensures .0) at (c .before .before .before .before .before .before .before .before .before .before .take-rows .ensures));
+      taken = λ z. rw (stored .store .ensures) (rw (k .summary-of .ensures .0) at (took .take-rows .ensures));
       stays = λ n. absurd (n refl);
     }
 
@@ -123,17 +115,17 @@ pub lines-spec : {M : Type 1} → statement M
 lines-spec =
     tie.close
     (tie.spec
-    is-acceptable-requires
-    number-requires
+    (λ c κs. search needs)
+    (λ c κs. search needs)
     returns
-    is-sized-requires
+    (λ c κs. search needs)
     returns-2
-    number-requires-2
+    (λ c κs. search needs)
     returns-3
-    summary-of-requires
+    (λ c κs. search needs)
     take-rows-requires
-    store-requires
-    same-length
-    same-length-2
-    same-length-3
+    (λ c κs. search needs)
+    (λ c. search needs)
+    (λ c. search needs)
+    (λ c. search needs)
     returns-4)
