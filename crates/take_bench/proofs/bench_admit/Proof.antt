@@ -23,7 +23,11 @@ abbrev μ-loop : tie.MeasureT-loop
 
 -- in the turn that ends
 abbrev turn : tie.After-wrapping-add-u64 Inv-loop μ-loop → tie.In-loop Inv-loop μ-loop
-turn c = c .before .before .before .before .before .before .before .before .before .before .before
+turn c =
+    let admitted = c .before .before .before in
+    let lent = admitted .before .before .before in
+    let time = lent .before .before in
+    time .before .before .before
 
 add-i : tie.Need-add-i Inv-loop μ-loop
 add-i c =
