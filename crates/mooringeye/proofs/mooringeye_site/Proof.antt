@@ -22,27 +22,36 @@ small s =
     (λ e. record { repeater = zero-le; other = zero-le })
 
 unlawful : (c : tie.After-number2) → let arm = c .before .before in
+    let checked = arm .before .before in
     answer (numberOf refusal.Unlawful) (arm .i .given .0 .0) 0
-    ≡ siteIn (arm .before .before .before .before .args .repeaters .now)
+    ≡ siteIn (checked .before .before .args .repeaters .now)
 unlawful c =
-    ap verdictOf (sym (c .before .before .i .given .1)) ∙ c .before .before .before .before .check-bytes .ensures
+    let arm = c .before .before in
+    let checked = arm .before .before in
+    ap verdictOf (sym (arm .i .given .1)) ∙ checked .check-bytes .ensures
 
 unlawful-small : (c : tie.After-number2) → c .before .before .i .given .0 .0 ≤ 32
 unlawful-small c =
-    subst Small (sym (unlawful c))
-    (small (c .before .before .before .before .before .before .args .repeaters .now)) .repeater
+    let arm = c .before .before in
+    let checked = arm .before .before in
+    subst Small (sym (unlawful c)) (small (checked .before .before .args .repeaters .now)) .repeater
 
 overlaps : (c : tie.After-number3) → let arm = c .before .before in
+    let checked = arm .before .before in
     answer (numberOf refusal.Overlap) (arm .i2 .given .0 .0) (arm .i2 .given .0 .1 .0)
-    ≡ siteIn (arm .before .before .before .before .args .repeaters .now)
+    ≡ siteIn (checked .before .before .args .repeaters .now)
 overlaps c =
-    ap verdictOf (sym (c .before .before .i2 .given .1)) ∙ c .before .before .before .before .check-bytes .ensures
+    let arm = c .before .before in
+    let checked = arm .before .before in
+    ap verdictOf (sym (arm .i2 .given .1)) ∙ checked .check-bytes .ensures
 
 overlap-small : (c : tie.After-number3)
     → Small (answer (numberOf refusal.Overlap)
     (c .before .before .i2 .given .0 .0) (c .before .before .i2 .given .0 .1 .0))
 overlap-small c =
-    subst Small (sym (overlaps c)) (small (c .before .before .before .before .before .before .args .repeaters .now))
+    let arm = c .before .before in
+    let checked = arm .before .before in
+    subst Small (sym (overlaps c)) (small (checked .before .before .args .repeaters .now))
 
 returns : tie.Need-returns
 returns c = ap packedSite (ap verdictOf (sym (c .enum-told .given .1)) ∙ c .before .before .check-bytes .ensures)
