@@ -9,29 +9,33 @@ use Rattle.text_collect.proofs.first_line.Tie as tie
 
 returns : tie.Need-returns
 returns c =
-    let s = c .before .before .before .before .before .before in
+    let found = c .before .before .before in
+    let s = found .before .before .before in
     let input = now (s .args .input) in
     none-taken input (now (s .args .out)) (c .before .start .ensures) (c .nothing .ensures)
-    (λ _. no-line input (c .before .before .before .find .ensures .0) (c .before .before .if1 .taken))
+    (λ _. no-line input (found .find .ensures .0) (c .before .before .if1 .taken))
 
 returns-2 : tie.Need-returns-2
 returns-2 c =
-    let s = c .before .before .before .before .before .before .before in
+    let short = c .before .before in
+    let found = short .before .before in
+    let s = found .before .before .before in
     none-taken (now (s .args .input)) (now (s .args .out)) (c .before .start2 .ensures)
     (c .nothing2 .ensures) (λ h. absurd (omega arith))
 
 returns-3 : tie.Need-returns-3
 returns-3 c =
-    let w = c .before .before .before in
-    let p = w .before .before in
-    let g = p .before .before .before .before in
-    let input = now (g .before .before .before .args .input) in
-    let k = rw (p .parse-setting .ensures) at (w .put-first .ensures) in
+    let put = c .before .before .before in
+    let parsed = put .before .before in
+    let roomy = parsed .before .before in
+    let found = roomy .before .before in
+    let input = now (found .before .before .before .args .input) in
+    let k = rw (parsed .parse-setting .ensures) at (put .put-first .ensures) in
     record {
       within = omega arith;
       fed =
-          rw (c .begin .ensures, p .parse-setting .ensures)
-          (one-line starting input (g .find .ensures .0) (omega arith) k (omega arith));
+          rw (c .begin .ensures, parsed .parse-setting .ensures)
+          (one-line starting input (found .find .ensures .0) (omega arith) k (omega arith));
       rest = λ e. absurd (omega arith);
     }
 

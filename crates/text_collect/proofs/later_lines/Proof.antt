@@ -12,14 +12,28 @@ numbers c =
     state-fits (c .args .c) (search needs) (search needs)
     (small 64 (c .args .c .copies) _ (c .good .1 .0 .1 .1 .1 .1 .1 .0))
 
+-- the parts of the state are copied, then it is tested, then its arrays are lent
+abbrev entered : tie.After-summary → tie.Start
+entered c =
+    let entries = c .before .before in
+    let times = entries .before .before in
+    times .before .before .before
+
+abbrev copied : tie.After-is-acceptable → tie.After-summary
+copied c =
+    let times = c .before .before .before in
+    times .before
+
+abbrev tested : tie.After-merge-lines-arg → tie.After-is-acceptable
+tested c =
+    let entries = c .before .before in
+    entries .before .before .before
+
 merge-lines-requires : tie.Need-merge-lines-requires
 unfolding viewOf
 merge-lines-requires c κs =
-    let a = c .before .before .before .before .before in
-    record {
-      said = a .is-acceptable .ensures _;
-      fits = numbers (a .before .before .before .before .before .before .before .before .before .before .before);
-    }
+    let a = tested c in
+    record { said = a .is-acceptable .ensures _; fits = numbers (entered (copied a)) }
 
 returns : tie.Need-returns
 unfolding viewOf

@@ -63,8 +63,11 @@ loop-holds c = record {
 
 -- ---- the line that was read
 
+abbrev roomy : tie.After-parse Inv-loop μ-loop → tie.In-loop Inv-loop μ-loop
+roomy p = p .before .before .before
+
 abbrev turn : tie.After-parse Inv-loop μ-loop → tie.At-loop Inv-loop μ-loop
-turn p = p .before .before .before .before
+turn p = roomy p .before
 
 abbrev input : tie.At-loop Inv-loop μ-loop → List ℕ
 input l = now (l .before .before .before .args .input)
@@ -73,6 +76,9 @@ answer : (p : tie.After-parse Inv-loop μ-loop)
     → (p .parse .result ≡ lineOf (frontOf (drop (turn p .loop .at) (input (turn p)))))
     × (p .parse .last .1 .0 ≡ bytesIn (frontOf (drop (turn p .loop .at) (input (turn p)))))
 answer p = rw (take-rest (input (turn p)) (length (input (turn p))) (turn p .loop .at) refl) at (p .parse .ensures)
+
+time-small : (p : tie.After-parse Inv-loop μ-loop) → p .parse .result .time < 2 ^ 64
+time-small p = search needs
 
 -- it has ended
 abbrev read : tie.Else1 Inv-loop μ-loop → tie.After-parse Inv-loop μ-loop
@@ -96,16 +102,20 @@ add-at c = let h = within (c .before) in omega arith
 -- ---- a BAD one
 
 loop-less : tie.Need-loop-less Inv-loop μ-loop
-loop-less c = let e = c .before .before .before .before .before .before in omega (arith, within e, ended e .1)
+loop-less c =
+    let put = c .before .before in
+    let bad = put .before .before in
+    let e = bad .before .before in
+    omega (arith, within e, ended e .1)
 
 loop-again : tie.Need-loop-again Inv-loop μ-loop
 loop-again c =
-    let q = c .before .before in
-    let i = q .before .before in
-    let e = i .before .before in
+    let put = c .before .before in
+    let bad = put .before .before in
+    let e = bad .before .before in
     let l = turn (read e) in
-    let b = said-bad _ (answer (read e)) (e .if1 .left) (not-true _ (i .if2 .taken)) in
-    let w = if-fits (omega arith) (q .put-bad .ensures) in
+    let b = said-bad _ (answer (read e)) (e .if1 .left) (not-true _ (bad .if2 .taken)) in
+    let w = if-fits (omega arith) (put .put-bad .ensures) in
     let h = within e in
     let k = ended e .1 in
     record {
@@ -160,15 +170,22 @@ add-end c = let h = few c in omega arith
 sub-end : tie.Need-sub-end Inv-loop μ-loop
 sub-end c = omega (arith, spare c)
 
+-- the four arrays are lent to `admit`
+abbrev lending : tie.After-admit-arg4 Inv-loop μ-loop → tie.Else2 Inv-loop μ-loop
+lending c =
+    let times = c .before .before .before in
+    times .before
+
 part-admit-end : tie.Need-part-admit-end Inv-loop μ-loop
-part-admit-end c =
-    let i = c .before .before .before .before .before in
-    omega (arith, len-fits _ (answer (parsed i)))
+part-admit-end c = omega (arith, len-fits _ (answer (parsed (lending (c .before)))))
+
+abbrev admitted : tie.After-put-answer-arg Inv-loop μ-loop → tie.After-admit Inv-loop μ-loop
+admitted c = c .before .before
+
+abbrev reading : tie.After-put-answer-arg Inv-loop μ-loop → tie.Else2 Inv-loop μ-loop
+reading c = lending (admitted c .before .before .before)
 
 -- the text of its time
-abbrev reading : tie.After-put-answer-arg Inv-loop μ-loop → tie.Else2 Inv-loop μ-loop
-reading c = c .before .before .before .before .before .before .before .before .before
-
 time : (c : tie.After-put-answer-arg Inv-loop μ-loop)
     → take (here (reading c) .loop .at + parsed (reading c) .parse .result .used
     - (2 * parsed (reading c) .parse .result .len + 2) - here (reading c) .loop .at)
@@ -198,9 +215,13 @@ part-put-answer-end-2 c =
     let i = reading (c .before .before) in
     omega (arith, len-fits _ (answer (parsed i)))
 
+-- what is lent to `put_answer`
+abbrev answering : tie.After-put-answer-arg3 Inv-loop μ-loop → tie.After-put-answer-arg Inv-loop μ-loop
+answering c = c .before .before .before
+
 put-answer-requires : tie.Need-put-answer-requires Inv-loop μ-loop
 put-answer-requires c κs =
-    let i = reading (c .before .before .before) in
+    let i = reading (answering c) in
     let e = ended (passed i) in
     let k = indexOf newline (rest i) in
     let n =
@@ -217,22 +238,23 @@ put-answer-requires c κs =
 
 loop-less-2 : tie.Need-loop-less-2 Inv-loop μ-loop
 loop-less-2 c =
-    let i = passed (reading (c .before .before .before .before .before .before)) in
+    let put = c .before .before in
+    let i = passed (reading (answering (put .before))) in
     omega (arith, within i, ended i .1)
 
 loop-again-2 : tie.Need-loop-again-2 Inv-loop μ-loop
 loop-again-2 c =
-    let q = c .before .before in
-    let g = q .before .before .before .before in
+    let put = c .before .before in
+    let given = put .before in
+    let g = given .before .before .before in
     let i = reading g in
     let l = here i in
     let a = g .before .before in
     let z : parsed i .parse .result .len - 0 ≡ parsed i .parse .result .len = omega arith in
     let o = rw z at (a .admit .ensures .outcome ∙ admission-fit _ _ _ (l .loop .inv .tested .said)) in
-    let small : parsed i .parse .result .time < 2 ^ 64 = search needs in
-    let w = rw z at (q .put-answer .ensures) in
+    let w = rw z at (put .put-answer .ensures) in
     let same = same-length w in
-    let spare-out = parsed i .before .before .before .loop-test .taken in
+    let spare-out = roomy (parsed i) .loop-test .taken in
     let x =
     admittedOf (columns (a .admit .last .1 .0) (a .admit .last .1 .1 .0)
     (a .admit .last .1 .1 .1 .0) (a .admit .last .1 .1 .1 .1 .0))
@@ -244,7 +266,7 @@ loop-again-2 c =
       tested =
           rw (← o) at
           (tested-next _ (record { bytes = bytes i; time = parsed i .parse .result .time })
-          (l .loop .inv .tested) small);
+          (l .loop .inv .tested) (time-small (parsed i)));
       fed =
           rows-line (collect modelCollector) (bounded modelCollector) (input l) (l .loop .at)
           (parsed i .parse .result .used) (l .loop .inv .fed) (ended (passed i)) (l .loop .inv .inside)

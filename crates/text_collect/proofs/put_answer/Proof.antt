@@ -19,7 +19,9 @@ use Rattle.text_collect.proofs.put_answer.Tie as tie
 -- what is sent
 abbrev sent : tie.After-relay-kept → List ℕ
 sent c =
-    let a = c .before .before .before .before .before .args in
+    let array = c .before in
+    let known = array .before .before in
+    let a = known .before .before .args in
     relayedFor (a .setting) (shownOf (a .answer)) (now (a .bytes))
 
 short : (c : tie.After-relay-kept) → length (sent c) ≤ 21

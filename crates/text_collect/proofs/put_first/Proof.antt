@@ -11,8 +11,9 @@ returns c = rw (c .enum-told .given .1) (record { bytes = refl; next = refl; sho
 
 returns-2 : tie.Need-returns-2
 returns-2 c =
-    rw (c .before .before .before .before .enum-told2 .given .1)
-    (loosened (if-fits (omega arith) (c .before .before .put-bad .ensures)) (omega arith))
+    let put = c .before .before in
+    rw (put .before .before .enum-told2 .given .1)
+    (loosened (if-fits (omega arith) (put .put-bad .ensures)) (omega arith))
 
 pub put-first-spec : {M : Type 1} → statement M
 put-first-spec =

@@ -48,11 +48,15 @@ same-length-2 c = search needs
 
 returns : tie.Need-returns
 returns c =
-    let s = c .before .before .before .before .before .before .before .before .before .before .before in (
+    let put = c .before .before in
+    let whole = put .before .before in
+    let copied = whole .before .before in
+    let begun = copied .before .before in
+    let s = begun .before .before .before in (
       record { bytes = refl; next = refl; short = omega arith },
       record-printed (now (s .args .bytes)) (s .args .len) (s .pre .2) (s .args .flag)
-          (s .pre .3) (c .before .before .before .before .before .before .copy-part .ensures)
-          (s .args .n) (s .pre .1) (c .before .before .copy-part2 .ensures),
+          (s .pre .3) (copied .copy-part .ensures)
+          (s .args .n) (s .pre .1) (put .copy-part2 .ensures),
     )
 
 pub put-record-spec : {M : Type 1} → statement M

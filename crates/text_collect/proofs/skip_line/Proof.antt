@@ -12,9 +12,11 @@ use Rattle.text_collect.proofs.skip_line.Tie as tie
 
 returns : tie.Need-returns
 returns c out =
-    let input = now (c .before .before .before .before .args .input) in
-    none-taken input out (c .before .before .before .before .pre) (c .nothing .ensures)
-    (λ _. no-line input (c .before .before .find .ensures .0) (c .before .if1 .taken))
+    let found = c .before .before in
+    let s = found .before .before in
+    let input = now (s .args .input) in
+    none-taken input out (s .pre) (c .nothing .ensures)
+    (λ _. no-line input (found .find .ensures .0) (c .before .if1 .taken))
 
 returns-2 : tie.Need-returns-2
 returns-2 c out =

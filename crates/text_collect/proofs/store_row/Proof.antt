@@ -13,11 +13,15 @@ use borrow.Author.Needs.{needs}
 use Rattle.text_collect.proofs.store_row.Statement.{statement}
 use Rattle.text_collect.proofs.store_row.Tie as tie
 
+-- as many bytes as `len` says
+long : (s : tie.Start) → length (take (s .args .len) (now (s .args .bytes))) ≡ s .args .len
+long s = front-long (now (s .args .bytes)) (s .args .len) (s .pre .2) (s .pre .3)
+
 returns : tie.Need-returns
 returns c =
     let s = c .before .before .before in
     let xs = take (s .args .len) (now (s .args .bytes)) in
-    let l : length xs ≡ s .args .len = front-long (now (s .args .bytes)) (s .args .len) (s .pre .2) (s .pre .3) in
+    let l = long s in
     let a = shownOf (s .args .answer) in
     let e : isStored a xs ≡ false = rw (lt-leb (length xs) 21 (omega arith)) (and-false (isKept a || isLoose a)) in
     rw e (printed-none (now (s .args .moments)) (s .args .n) 1, printed-none (now (s .args .rows)) (23 * s .args .n) 23)
@@ -48,14 +52,18 @@ same-length-2 c = search needs
 
 returns-2 : tie.Need-returns-2
 returns-2 c =
-    let s = c .before .before .before .before .before .before .before .before .before .before .before .before in
-    let xs = take (s .args .len) (now (s .args .bytes)) in
-    let l : length xs ≡ s .args .len = front-long (now (s .args .bytes)) (s .args .len) (s .pre .2) (s .pre .3) in
-    rw (c .before .before .before .before .before .before .before .enum-told .given .1, l, le-leb (s .args .len) 21 (omega arith)) (rw l at (c .before .before .before .before .put-record .ensures))
+    let moments = c .before .before .before in
+    let put = moments .before in
+    let told = put .before .before .before in
+    let fits = told .before .before in
+    let s = fits .before .before .before in
+    let l = long s in
+    rw (told .enum-told .given .1, l, le-leb (s .args .len) 21 (omega arith)) (rw l at (put .put-record .ensures))
 
 returns-3 : tie.Need-returns-3
 returns-3 c =
-    let s = c .before .before .before .before .before in
+    let fits = c .before .before in
+    let s = fits .before .before .before in
     rw (c .enum-told2 .given .1)
     (printed-none (now (s .args .moments)) (s .args .n) 1, printed-none (now (s .args .rows)) (23 * s .args .n) 23)
 
@@ -67,14 +75,18 @@ same-length-4 c = search needs
 
 returns-4 : tie.Need-returns-4
 returns-4 c =
-    let s = c .before .before .before .before .before .before .before .before .before .before .before .before in
-    let xs = take (s .args .len) (now (s .args .bytes)) in
-    let l : length xs ≡ s .args .len = front-long (now (s .args .bytes)) (s .args .len) (s .pre .2) (s .pre .3) in
-    rw (c .before .before .before .before .before .before .before .enum-told3 .given .1, l, le-leb (s .args .len) 21 (omega arith)) (rw l at (c .before .before .before .before .put-record2 .ensures))
+    let moments = c .before .before .before in
+    let put = moments .before in
+    let told = put .before .before .before in
+    let fits = told .before .before in
+    let s = fits .before .before .before in
+    let l = long s in
+    rw (told .enum-told3 .given .1, l, le-leb (s .args .len) 21 (omega arith)) (rw l at (put .put-record2 .ensures))
 
 returns-5 : tie.Need-returns-5
 returns-5 c =
-    let s = c .before .before .before .before .before in
+    let fits = c .before .before in
+    let s = fits .before .before .before in
     rw (c .enum-told4 .given .1)
     (printed-none (now (s .args .moments)) (s .args .n) 1, printed-none (now (s .args .rows)) (23 * s .args .n) 23)
 

@@ -54,27 +54,42 @@ abbrev μ-loop : tie.MeasureT-loop
 
 loop-holds : tie.Need-loop-holds Inv-loop μ-loop
 loop-holds c =
-    let s = c .before .before .before .before in
+    let entered = c .before .before in
+    let s = entered .before .before in
     let a = s .args in
     none-taken (collect modelCollector) (bounded modelCollector) false
     (now (a .input)) (a .most) (now (a .out)) (s .pre .0) (s .pre .1)
 
 -- ---- the line that was read
 
-abbrev turn : tie.After-parse Inv-loop μ-loop → tie.At-loop Inv-loop μ-loop
-turn p = p .before .before .before .before .before .before
+-- one may be taken, and a place for a row is left
+abbrev free : tie.After-parse Inv-loop μ-loop → tie.Else2 Inv-loop μ-loop
+free p = p .before .before .before
 
--- one may be taken
+abbrev roomy : tie.After-parse Inv-loop μ-loop → tie.In-loop Inv-loop μ-loop
+roomy p = free p .before .before
+
+abbrev turn : tie.After-parse Inv-loop μ-loop → tie.At-loop Inv-loop μ-loop
+turn p = roomy p .before
+
 some : (p : tie.After-parse Inv-loop μ-loop) → turn p .loop .left ≡ 0 → ⊥
-some p = p .before .before .before .before .if1 .left
+some p = free p .before .if1 .left
+
+abbrev start : tie.At-loop Inv-loop μ-loop → tie.Start Inv-loop μ-loop
+start l =
+    let entered = l .before .before .before in
+    entered .before .before
 
 abbrev input : tie.At-loop Inv-loop μ-loop → List ℕ
-input l = now (l .before .before .before .before .before .args .input)
+input l = now (start l .args .input)
 
 answer : (p : tie.After-parse Inv-loop μ-loop)
     → (p .parse .result ≡ lineOf (frontOf (drop (turn p .loop .at) (input (turn p)))))
     × (p .parse .last .1 .0 ≡ bytesIn (frontOf (drop (turn p .loop .at) (input (turn p)))))
 answer p = rw (take-rest (input (turn p)) (length (input (turn p))) (turn p .loop .at) refl) at (p .parse .ensures)
+
+time-small : (p : tie.After-parse Inv-loop μ-loop) → p .parse .result .time < 2 ^ 64
+time-small p = search needs
 
 -- it has ended
 abbrev read : tie.Else3 Inv-loop μ-loop → tie.After-parse Inv-loop μ-loop
@@ -98,23 +113,27 @@ add-at c = let h = within (c .before) in omega arith
 -- ---- a BAD one
 
 loop-less : tie.Need-loop-less Inv-loop μ-loop
-loop-less c = let e = c .before .before .before .before .before .before in omega (arith, within e, ended e .1)
+loop-less c =
+    let put = c .before .before in
+    let bad = put .before .before in
+    let e = bad .before .before in
+    omega (arith, within e, ended e .1)
 
 loop-again : tie.Need-loop-again Inv-loop μ-loop
 loop-again c =
-    let q = c .before .before in
-    let i = q .before .before in
-    let e = i .before .before in
+    let put = c .before .before in
+    let bad = put .before .before in
+    let e = bad .before .before in
     let l = turn (read e) in
-    let b = said-bad _ (answer (read e)) (e .if3 .left) (not-true _ (i .if4 .taken)) in
-    let test = read e .before .before .before .before .before .loop-test .taken in
-    let w = if-fits (omega arith) (q .put-bad .ensures) in
+    let b = said-bad _ (answer (read e)) (e .if3 .left) (not-true _ (bad .if4 .taken)) in
+    let test = roomy (read e) .loop-test .taken in
+    let w = if-fits (omega arith) (put .put-bad .ensures) in
     let inv = l .loop .inv in
-    let free = read e .before .before .before .if2 .left in
+    let place = free (read e) .if2 .left in
     bad-taken (collect modelCollector) (bounded modelCollector) false (λ s x. refl) (input l) inv
     (read e .parse .result .used) (ended e) (some (read e))
     (record {
-      rows = omega (arith, inv .times .output .next, inv .same-moments, free);
+      rows = omega (arith, inv .times .output .next, inv .same-moments, place);
       chars = omega (arith, inv .fed .output .next, inv .long, inv .room, test);
     })
     b (bad-text _ _ b) w
@@ -161,16 +180,33 @@ add-end c = let h = few c in omega arith
 sub-end : tie.Need-sub-end Inv-loop μ-loop
 sub-end c = omega (arith, spare c)
 
+-- the four arrays are lent to `admit`
+abbrev lending : tie.After-admit-arg4 Inv-loop μ-loop → tie.Else4 Inv-loop μ-loop
+lending c =
+    let times = c .before .before .before in
+    times .before
+
 part-admit-end : tie.Need-part-admit-end Inv-loop μ-loop
-part-admit-end c =
-    let i = c .before .before .before .before .before in
-    omega (arith, len-fits _ (answer (parsed i)))
+part-admit-end c = omega (arith, len-fits _ (answer (parsed (lending (c .before)))))
+
+-- the row is stored with the bytes that were lent to `admit`
+abbrev admitted : tie.After-bytes3 Inv-loop μ-loop → tie.After-admit Inv-loop μ-loop
+admitted c =
+    let summary = c .before .before .before in
+    summary .before
+
+abbrev storing : tie.After-bytes3 Inv-loop μ-loop → tie.Else4 Inv-loop μ-loop
+storing c = lending (admitted c .before .before .before)
+
+abbrev stored : tie.After-put-answer-arg Inv-loop μ-loop → tie.After-store-row Inv-loop μ-loop
+stored c =
+    let rows = c .before .before in
+    rows .before .before .before
+
+abbrev reading : tie.After-put-answer-arg Inv-loop μ-loop → tie.Else4 Inv-loop μ-loop
+reading c = storing (stored c .before)
 
 -- the text of its time
-abbrev reading : tie.After-put-answer-arg Inv-loop μ-loop → tie.Else4 Inv-loop μ-loop
-reading c =
-    c .before .before .before .before .before .before .before .before .before .before .before .before .before .before .before .before .before
-
 time : (c : tie.After-put-answer-arg Inv-loop μ-loop)
     → take (here (reading c) .loop .at + parsed (reading c) .parse .result .used
     - (2 + 2 * parsed (reading c) .parse .result .len) - here (reading c) .loop .at)
@@ -200,9 +236,13 @@ part-put-answer-end-2 c =
     let i = reading (c .before .before) in
     omega (arith, len-fits _ (answer (parsed i)))
 
+-- what is lent to `put_answer`
+abbrev answering : tie.After-put-answer-arg3 Inv-loop μ-loop → tie.After-put-answer-arg Inv-loop μ-loop
+answering c = c .before .before .before
+
 put-answer-requires : tie.Need-put-answer-requires Inv-loop μ-loop
 put-answer-requires c κs =
-    let i = reading (c .before .before .before) in
+    let i = reading (answering c) in
     let e = ended (passed i) in
     let k = indexOf newline (rest i) in
     let n =
@@ -219,56 +259,60 @@ put-answer-requires c κs =
 
 loop-less-2 : tie.Need-loop-less-2 Inv-loop μ-loop
 loop-less-2 c =
-    let i = passed (reading (c .before .before .before .before .before .before)) in
+    let put = c .before .before in
+    let i = passed (reading (answering (put .before))) in
     omega (arith, within i, ended i .1)
 
 loop-again-2 : tie.Need-loop-again-2 Inv-loop μ-loop
 loop-again-2 c =
-    let q = c .before .before in
-    let g = q .before .before .before .before in
+    let put = c .before .before in
+    let given = put .before in
+    let g = given .before .before .before in
     let i = reading g in
     let l = here i in
-    let a = g .before .before .before .before .before .before .before .before .before .before in
-    let d = g .before .before .before .before .before .store-row .ensures in
+    let rows = g .before .before in
+    let row = rows .before .before .before in
+    let lent = row .before .before .before in
+    let a = lent .before .before in
+    let d = row .store-row .ensures in
     let z : parsed i .parse .result .len - 0 ≡ parsed i .parse .result .len = omega arith in
     let o = rw z at (a .admit .ensures .outcome ∙ admission-fit _ _ _ (l .loop .inv .tested .said)) in
-    let small : parsed i .parse .result .time < 2 ^ 64 = search needs in
-    let w = rw z at (q .put-answer .ensures) in
-    let spare-out = parsed i .before .before .before .before .before .loop-test .taken in
+    let w = rw z at (put .put-answer .ensures) in
+    let spare-out = roomy (parsed i) .loop-test .taken in
     let x =
     admittedOf (columns (a .admit .last .1 .0) (a .admit .last .1 .1 .0)
     (a .admit .last .1 .1 .1 .0) (a .admit .last .1 .1 .1 .1 .0))
     (a .admit .result) in
     let r : Reception = record { bytes = bytes i; time = parsed i .parse .result .time } in
     let inv = l .loop .inv in
-    let free = parsed i .before .before .before .if2 .left in
+    let place = free (parsed i) .if2 .left in
     said-taken (collect modelCollector) (bounded modelCollector) false (λ s y. refl) (input l) inv
     (parsed i .parse .result .used) (ended (passed i)) (some (parsed i))
     (record {
-      rows = omega (arith, inv .times .output .next, inv .same-moments, free);
+      rows = omega (arith, inv .times .output .next, inv .same-moments, place);
       chars = omega (arith, inv .fed .output .next, inv .long, inv .room, spare-out);
     })
     x (says i) o
     (rw z at (a .admit .ensures .elements) ∙ columns-fit _ r _ _ (l .loop .inv .tested .said))
-    (rw (← o) at (tested-next _ r (l .loop .inv .tested) small))
+    (rw (← o) at (tested-next _ r (l .loop .inv .tested) (time-small (parsed i))))
     (said-text _ _ x (says i) o (time g)
     (relayed-bytes _ _ _ r _ (ap (λ (y : Outcome). y .answer) (rw z at (a .admit .ensures .outcome)))))
     w
-    (omega (arith, w .short, spare-out)) free (d .0) (d .1) (printed-none [] 0 2048) (omega arith)
+    (omega (arith, w .short, spare-out)) place (d .0) (d .1) (printed-none [] 0 2048) (omega arith)
 
 store-row-requires : tie.Need-store-row-requires Inv-loop μ-loop
 store-row-requires c κs =
-    let i = c .before .before .before .before .before .before .before .before .before .before .before in
+    let i = storing c in
     let l = here i in
-    let free = parsed i .before .before .before .if2 .left in (
-      omega (arith, free),
-      omega (arith, free, l .loop .inv .same-moments, l .loop .inv .same-rows, l .loop .inv .sized),
+    let place = free (parsed i) .if2 .left in (
+      omega (arith, place),
+      omega (arith, place, l .loop .inv .same-moments, l .loop .inv .same-rows, l .loop .inv .sized),
       said-padded _ (answer (parsed i)) (not-false _ (i .if4 .left)),
       few i,
     )
 
 ended-there : (c : tie.Left-loop Inv-loop μ-loop)
-    → (let l = c .before .loop in let s = c .before .before .before .before .before .before .args in
+    → (let l = c .before .loop in let s = start (c .before) .args in
     s .most - l .left < s .most → l .n < length (now (s .moments))
     → l .to + 92 ≤ length (now (s .out)) → isUnended (drop (l .at) (now (s .input))) ≡ true)
 ended-there c x y z =

@@ -8,16 +8,20 @@ skip-line-requires : tie.Need-skip-line-requires
 skip-line-requires c κs = rw (c .enum-told3 .given .1)
 
 returns : tie.Need-returns
-returns c = rw (c .before .before .before .before .enum-told .given .1) (c .before .before .first-line .ensures)
+returns c =
+    let ran = c .before .before in
+    rw (ran .before .before .enum-told .given .1) (ran .first-line .ensures)
 
 returns-2 : tie.Need-returns-2
 returns-2 c =
-    rw (c .before .before .before .before .before .enum-told2 .given .1) (c .before .before .later-lines .ensures)
+    let ran = c .before .before in
+    rw (ran .before .before .before .enum-told2 .given .1) (ran .later-lines .ensures)
 
 returns-3 : tie.Need-returns-3
 returns-3 c =
-    rw (c .before .enum-told3 .given .1)
-    (c .skip-line .ensures (now (c .before .before .before .before .before .args .out)))
+    let over = c .before in
+    let entered = over .before .before in
+    rw (over .enum-told3 .given .1) (c .skip-line .ensures (now (entered .before .before .args .out)))
 
 pub lines-spec : {M : Type 1} → statement M
 lines-spec =

@@ -10,14 +10,21 @@ use Rattle.text_collect.proofs.Session.put_end.Statement.{statement}
 use Rattle.text_collect.proofs.Session.put_end.Tie as tie
 
 returns : tie.Need-returns
-returns c = rw (c .before .before .before .before .enum-told .given .1) (c .before .before .put-bad .ensures)
+returns c =
+    let put = c .before .before in
+    rw (put .before .before .enum-told .given .1) (put .put-bad .ensures)
 
 returns-2 : tie.Need-returns-2
 unfolding viewOf
-returns-2 c = rw (c .before .before .before .before .enum-told2 .given .1) (c .before .before .put-totals .ensures)
+returns-2 c =
+    let put = c .before .before in
+    rw (put .before .before .enum-told2 .given .1) (put .put-totals .ensures)
 
 returns-3 : tie.Need-returns-3
-returns-3 c = rw (c .enum-told3 .given .1) (silent (leb (c .before .before .before .before .before .args .at + 0) (length (now (c .before .before .before .before .before .args .out)))) _ _)
+returns-3 c =
+    let totals = c .before .before in
+    let a = totals .before .before .before .args in
+    rw (c .enum-told3 .given .1) (silent (leb (a .at + 0) (length (now (a .out)))) _ _)
 
 pub put-end-spec : {M : Type 1} → statement M
 put-end-spec =
