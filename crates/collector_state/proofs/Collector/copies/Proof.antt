@@ -1,7 +1,7 @@
 -- `collector_state::Collector::copies` meets its contract: a case for each answer.
 use Prim.Native.Nat.{_≤_}
 use mathlib.Core.Path.{_≡_, sym, _∙_}
-use mathlib.Core.Bool.{true}
+use mathlib.Core.Bool.{true, false}
 use native.Mathlib.Omega.{arith}
 use borrow.Author.Needs.{needs}
 use borrow.Author.Tests.{not-true, not-false}
@@ -13,18 +13,23 @@ use Rattle.collector_state.proofs.Collector.copies.Statement.{statement
 use Rattle.collector_state.proofs.Collector.copies.Tie as tie
 
 abbrev start : tie.After-is-acceptable → tie.Start
-start c = c .before .before .before .before .before .before
+start c =
+    let lent = c .before .before .before in
+    lent .before .before .before
 
 -- what the state's test says of it
 tested : (c : tie.After-is-acceptable) → c .is-acceptable .result ≡ acceptable (viewOf (start c .args .t1))
 unfolding viewOf
 tested c = c .is-acceptable .ensures _
 
+failed : (c : tie.Then1) → acceptable (viewOf (start (c .before) .args .t1)) ≡ false
+failed c = sym (tested (c .before)) ∙ not-true _ (c .if1 .taken)
+
 passed : (c : tie.Else1) → acceptable (viewOf (start (c .before) .args .t1)) ≡ true
 passed c = sym (tested (c .before)) ∙ not-false _ (c .if1 .left)
 
 returns : tie.Need-returns
-returns c = c .not-heard .ensures ∙ heard-unacceptable _ _ (sym (tested (c .before .before)) ∙ not-true _ (c .before .if1 .taken))
+returns c = c .not-heard .ensures ∙ heard-unacceptable _ _ (failed (c .before))
 
 returns-2 : tie.Need-returns-2
 returns-2 c = c .not-heard2 .ensures ∙ heard-closed _ _ (passed (c .before .before .before)) (c .before .if2 .taken)

@@ -13,10 +13,16 @@ use Rattle.collector_state.proofs.Arrays.{entries-length, found-known}
 use Rattle.collector_state.proofs.acceptable.is_repeated.Statement.{statement}
 use Rattle.collector_state.proofs.acceptable.is_repeated.Tie as tie
 
--- the bytes that the entry shows
-abbrev start : tie.After-telegram → tie.Start
-start c = c .before .before .before .before .before
+-- the mark was seen before
+abbrev seen : tie.After-telegram → tie.Else1
+seen c =
+    let measured = c .before .before in
+    measured .before .before
 
+abbrev start : tie.After-telegram → tie.Start
+start c = seen c .before
+
+-- the bytes that the entry shows
 shown : (c : tie.After-telegram)
     → now (c .telegram .result) ≡ shownAt (now (start c .args .lens)) (now (start c .args .bytes)) (start c .args .i)
 shown c =
@@ -43,7 +49,7 @@ find-requires c κs =
 returns-2 : tie.Need-returns-2
 returns-2 c copies =
     record {
-      new = λ e. absurd (c .before .before .before .before .before .before .if1 .left e);
+      new = λ e. absurd (seen (c .before .before) .if1 .left e);
       old = λ _. rw (c .find .ensures copies, shown (c .before .before)) (found-known _ _ _ (entries-length _ _));
     }
 

@@ -9,12 +9,17 @@ use Rattle.collector_state.proofs.acceptable.mark.Statement.{statement}
 use Rattle.collector_state.proofs.acceptable.mark.Tie as tie
 
 -- the three bytes are below 256
+abbrev two : tie.After-wide3 → tie.After-wide2
+two c = c .before .before
+
+abbrev one : tie.After-wide3 → tie.After-wide
+one c = two c .before .before
+
 abbrev known : tie.After-wide3 → tie.After-shared-slice-known
-known c = c .before .before .before .before .before .before
+known c = one c .before .before
 
 small : (c : tie.After-wide3)
-    → (c .before .before .before .before .wide .result < 256)
-    × (c .before .before .wide2 .result < 256) × (c .wide3 .result < 256)
+    → (one c .wide .result < 256) × (two c .wide2 .result < 256) × (c .wide3 .result < 256)
 small c =
     let k = known c in
     let n = length (now (k .before .args .telegram)) in (
@@ -25,10 +30,10 @@ small c =
 
 returns : tie.Need-returns
 unfolding markOf
-returns c = (
-  rw (c .before .before .before .before .wide .ensures, c .before .before .wide2 .ensures, c .wide3 .ensures),
-  omega arith,
-)
+returns c =
+    let second = c .before .before in
+    let first = second .before .before in
+    (rw (first .wide .ensures, second .wide2 .ensures, c .wide3 .ensures), omega arith)
 
 pub mark-spec : {M : Type 1} → statement M
 mark-spec =

@@ -12,10 +12,12 @@ use Rattle.collector_state.proofs.Marks.{no-mark, long-not-valid, has-m
 use Rattle.collector_state.proofs.acceptable.mark_at.Statement.{statement}
 use Rattle.collector_state.proofs.acceptable.mark_at.Tie as tie
 
--- the bytes that the entry shows
 abbrev start : tie.After-telegram → tie.Start
-start c = c .before .before .before .before .before
+start c =
+    let measured = c .before .before .before in
+    measured .before .before
 
+-- the bytes that the entry shows
 shown : (c : tie.After-telegram)
     → now (c .telegram .result) ≡ shownAt (now (start c .args .lens)) (now (start c .args .bytes)) (start c .args .i)
 shown c =
@@ -37,8 +39,9 @@ returns-2 c =
 
 returns-3 : tie.Need-returns-3
 returns-3 c =
-    rw (← shown (c .before .before .before .before))
-    (has-mark (told-valid _ _ (c .before .before .before .check .ensures) (c .before .enum-told2 .given .1))
+    let checked = c .before .before .before in
+    rw (← shown (checked .before))
+    (has-mark (told-valid _ _ (checked .check .ensures) (c .before .enum-told2 .given .1))
     (c .mark .ensures .0) (c .mark .ensures .1))
 
 pub mark-at-spec : {M : Type 1} → statement M

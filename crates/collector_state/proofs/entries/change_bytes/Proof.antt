@@ -5,26 +5,30 @@ use Rattle.collector_state.proofs.entries.change_bytes.Statement.{state
 use Rattle.collector_state.proofs.entries.change_bytes.Tie as tie
 
 returns : tie.Need-returns
-returns c = record {
-  long = omega arith;
-  is = rw (not-true (c .before .before .before .before .args .kept) (c .if1 .taken)) (c .before .move-bytes .ensures);
-}
+returns c =
+    let moved = c .before in
+    record {
+      long = omega arith;
+      is = rw (not-true (moved .before .before .before .args .kept) (c .if1 .taken)) (moved .move-bytes .ensures);
+    }
 
 store-bytes-requires : tie.Need-store-bytes-requires
 store-bytes-requires c κs =
     let e = c .before in
-    let fits = e .before .before .before .before .pre .1 (not-false _ (e .if1 .left)) in
+    let moved = e .before in
+    let fits = moved .before .before .before .pre .1 (not-false _ (e .if1 .left)) in
     omega arith
 
 returns-2 : tie.Need-returns-2
 returns-2 c =
     let e = c .before .before in
+    let moved = e .before in
     record {
       long = omega arith;
       is =
           rw (
-            not-false (e .before .before .before .before .args .kept) (e .if1 .left),
-            ← e .before .move-bytes .ensures,
+            not-false (moved .before .before .before .args .kept) (e .if1 .left),
+            ← moved .move-bytes .ensures,
           )
           (c .store-bytes .ensures);
     }

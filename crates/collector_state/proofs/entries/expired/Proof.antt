@@ -27,7 +27,8 @@ abbrev μ-loop : tie.MeasureT-loop
 
 returns : tie.Need-returns Inv-loop μ-loop
 returns c =
-    let l = c .before .before .before .before in
+    let measured = c .before in
+    let l = measured .before .before .before in
     let a = l .before .args in
     record {
       few = omega arith;
@@ -37,7 +38,8 @@ returns c =
 
 loop-again : tie.Need-loop-again Inv-loop μ-loop
 loop-again c =
-    let l = c .before .before .before .before in
+    let measured = c .before in
+    let l = measured .before .before .before in
     let a = l .before .args in
     record {
       bounded = omega arith;

@@ -11,22 +11,28 @@ use Rattle.collector_state.proofs.Copies.{other-byte}
 use Rattle.collector_state.proofs.entries.holds.Statement.{statement}
 use Rattle.collector_state.proofs.entries.holds.Tie as tie
 
+-- the first of the bytes that are compared
+abbrev start : tie.After-shared-slice-known2 → tie.Start
+start c = c .before .before .before
+
 returns : tie.Need-returns
 returns c =
-    let a = c .before .before .before .before .args in
+    let a = start (c .before) .args in
     sym (other-byte (now (a .lens)) (now (a .bytes)) (a .i) (now (a .received)) (omega arith)
     (omega arith) (length (now (a .received)) - 3) (omega arith) (c .if1 .taken))
 
 returns-2 : tie.Need-returns-2
 returns-2 c =
-    let a = c .before .before .before .before .before .before .before .args in
+    let alike = c .before .before .before in
+    let a = start (alike .before) .args in
     sym (longer-not-same (now (a .lens)) (now (a .bytes)) (a .i)
     (now (a .received)) (λ e. c .if2 .taken (c .before .wide .ensures ∙ e)))
 
 returns-3 : tie.Need-returns-3
 returns-3 c =
     let b = c .before .before .before in
-    let a = b .before .before .before .before .before .before .before .args in
+    let alike = b .before .before .before in
+    let a = start (alike .before) .args in
     c .same .ensures
     ∙ sym (same-said (now (a .lens)) (now (a .bytes)) (a .i) (now (a .received)) _ (c .before .telegram .ensures)
     (sym (b .before .wide .ensures) ∙ b .if2 .left))

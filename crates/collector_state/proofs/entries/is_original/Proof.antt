@@ -8,7 +8,8 @@ use Rattle.collector_state.proofs.entries.is_original.Tie as tie
 
 returns : tie.Need-returns
 returns c =
-    rw (c .before .split .ensures, status-at (now (c .before .before .before .before .args .received)) (omega arith))
+    let status = c .before in
+    rw (status .split .ensures, status-at (now (status .before .before .before .args .received)) (omega arith))
 
 pub is-original-spec : {M : Type 1} → statement M
 is-original-spec = tie.close (tie.spec (λ c. search needs) (λ c. search needs) (λ c κs. search needs) returns)

@@ -8,8 +8,10 @@ use Rattle.collector_state.proofs.entries.store_bytes.Tie as tie
 
 returns : tie.Need-returns
 returns c =
-    let a = c .before .before .before .before .before .before .args in
-    put-copied (a .at) (now (a .src)) (now (a .xs)) _ (omega arith) (c .before .before .copy .ensures .1)
+    let copied = c .before .before in
+    let lent = copied .before in
+    let a = lent .before .before .before .args in
+    put-copied (a .at) (now (a .src)) (now (a .xs)) _ (omega arith) (copied .copy .ensures .1)
 
 pub store-bytes-spec : {M : Type 1} → statement M
 store-bytes-spec =

@@ -18,8 +18,11 @@ returns c =
     refused ∙ reception-damaged _ _ (not-valid _ why refused)
 
 -- the check passed
-valid : (c : tie.After-enum-told) → isValid (now (c .before .before .before .before .args .bytes)) ≡ true
-valid c = eq-eqb _ 0 (told-valid _ _ (c .before .before .check .ensures) (c .enum-told .given .1))
+abbrev checked : tie.After-enum-told → tie.After-check
+checked c = c .before .before
+
+valid : (c : tie.After-enum-told) → isValid (now (checked c .before .before .args .bytes)) ≡ true
+valid c = eq-eqb _ 0 (told-valid _ _ (checked c .check .ensures) (c .enum-told .given .1))
 
 returns-2 : tie.Need-returns-2
 returns-2 c = reception-late _ _ (valid (c .before)) (c .if1 .taken)

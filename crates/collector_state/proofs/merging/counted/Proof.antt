@@ -13,7 +13,9 @@ add-t4 : tie.Need-add-t4
 add-t4 c = search needs
 
 add-t5 : tie.Need-add-t5
-add-t5 c = omega (arith, below (c .before .before .before .before .pre) .kept)
+add-t5 c =
+    let told = c .before .before in
+    omega (arith, below (told .before .before .pre) .kept)
 
 enum-told-2 : tie.Need-enum-told-2
 enum-told-2 c = search needs
@@ -22,7 +24,9 @@ add-t6 : tie.Need-add-t6
 add-t6 c = search needs
 
 add-t7 : tie.Need-add-t7
-add-t7 c = omega (arith, below (c .before .before .before .before .pre) .copies)
+add-t7 c =
+    let told = c .before .before in
+    omega (arith, below (told .before .before .pre) .copies)
 
 enum-told-3 : tie.Need-enum-told-3
 enum-told-3 c = search needs
@@ -31,7 +35,9 @@ add-t8 : tie.Need-add-t8
 add-t8 c = search needs
 
 add-t9 : tie.Need-add-t9
-add-t9 c = omega (arith, below (c .before .before .before .before .pre) .loose)
+add-t9 c =
+    let told = c .before .before in
+    omega (arith, below (told .before .before .pre) .loose)
 
 enum-told-4 : tie.Need-enum-told-4
 enum-told-4 c = search needs

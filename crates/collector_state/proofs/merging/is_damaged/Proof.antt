@@ -5,9 +5,10 @@ use Rattle.collector_state.proofs.merging.is_damaged.Tie as tie
 
 returns : tie.Need-returns
 returns c =
+    let first = c .before .before .before in
     rw (
-      c .before .before .before .before .number-of .ensures,
-      c .before .before .before .number .ensures,
+      first .before .number-of .ensures,
+      first .number .ensures,
       c .before .before .number2 .ensures,
       c .before .number3 .ensures,
       c .number4 .ensures,
