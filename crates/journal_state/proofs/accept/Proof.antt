@@ -46,7 +46,9 @@ long : (c : tie.Else1) → oldLength ≤ length (now (begin c .args .bytes))
 long c = files.lengths (length (now (begin c .args .bytes))) (is-length c) .0
 
 abbrev first : tie.After-put-bytes → tie.Else1
-first c = c .before .before .before .before
+first c =
+    let read = c .before .before .before in
+    read .before
 
 -- the log's bytes
 rest-is : (c : tie.After-put-bytes) → c .put-bytes .last .0 ≡ resized maxTail (drop oldLength (now (begin
@@ -59,7 +61,9 @@ is-state-requires c κs =
     (is-length (first p), p .before .before .before .numbers-in .ensures, rest-is p)
 
 abbrev put : tie.After-is-state → tie.After-put-bytes
-put c = c .before .before .before .before
+put c =
+    let lent = c .before .before .before in
+    lent .before
 
 refused : tie.Need-returns-2
 refused c =

@@ -53,13 +53,19 @@ unsaid c = files.state-unsaid (now (start (c .before) .args .bytes)) (sym (told 
 yes : (c : tie.Else1) → files.said (now (start (c .before) .args .bytes)) ≡ true
 yes c = sym (told (c .before)) ∙ not-false _ (c .if1 .left)
 
+-- the five parts are lent to `is_lawful`
+abbrev lending : tie.After-is-lawful-arg4 → tie.Else1
+lending c =
+    let name = c .before .before .before in
+    name .before
+
 is-lawful-requires : tie.Need-is-lawful-requires
 is-lawful-requires c κs =
-    let s = start (c .before .before .before .before .before) in
+    let s = start (lending c .before) in
     rw (same s) (files.sized (now (s .args .bytes)) (long s))
 
 abbrev first : tie.After-is-lawful → tie.Else1
-first c = c .before .before .before .before .before
+first c = lending (c .before)
 
 law-told : (c : tie.After-is-lawful) → c .is-lawful .result ≡ lawful (readState (now (start
     (first c .before) .args .bytes)))

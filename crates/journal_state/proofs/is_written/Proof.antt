@@ -36,16 +36,22 @@ same s =
 abbrev start : tie.After-version-of → tie.Start
 start c = c .before .before .before
 
+abbrev lending : tie.After-put-state-arg4 → tie.After-version-of
+lending c =
+    let name = c .before .before .before in
+    name .before
+
 put-state-requires : tie.Need-put-state-requires
 put-state-requires c κs =
-    let s = start (c .before .before .before .before) in
+    let s = start (lending c) in
     let z : Sized (said s) = rw (same s) (sized (now (s .args .bytes)) (long s .0)) in
     (search needs, z)
 
 returns : tie.Need-returns
 returns c =
-    let put = c .before .before .before .before in
-    let v = put .before .before .before .before .before in
+    let shown = c .before .before in
+    let put = shown .before .before in
+    let v = lending (put .before) in
     let s = start v in
     let bytes = now (s .args .bytes) in
     let again : put .put-state .last .0 ≡ stateBytes (readState bytes) (versionOf (length bytes)) =
@@ -72,11 +78,6 @@ is-written-spec =
     put-state-requires
     (λ c. search needs)
     (λ c. search needs)
-    (λ c. omega (
-      arith,
-      long (start (c .before .before .before .before .before .before .before)) .1,
-      c .before .before
-          .put-state .kept .0,
-    ))
+    (λ c. omega (arith, long (start (lending (c .before .before .before))) .1, c .before .before .put-state .kept .0))
     (λ c κs. search needs)
     returns)

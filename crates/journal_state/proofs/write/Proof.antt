@@ -12,7 +12,9 @@ use Rattle.journal_state.proofs.write.Statement.{statement}
 use Rattle.journal_state.proofs.write.Tie as tie
 
 abbrev start : tie.After-is-lawful → tie.Start
-start c = c .before .before .before .before .before
+start c =
+    let lent = c .before .before .before in
+    lent .before .before
 
 abbrev said : tie.Start → Kept
 said s = kept (now (s .args .numbers)) (now (s .args .name)) (now (s .args .last)) (now (s .args .image)) (now
@@ -30,7 +32,8 @@ not-lawful c =
 
 written : tie.Need-returns-2
 written c =
-    let e = c .before .before .before .before .before .before in
+    let lent = c .before .before .before in
+    let e = lent .before .before .before in
     let l = e .before in
     let s = start l in
     ap (λ (o : List ℕ). beside o 0) (c .put-state .ensures)

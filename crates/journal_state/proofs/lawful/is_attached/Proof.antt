@@ -49,7 +49,8 @@ dirty c =
 
 none : tie.Need-returns-3
 none c =
-    let t = c .before .before .before .before in
+    let result = c .before .before .before in
+    let t = result .before in
     let e2 = t .before in
     let b = e2 .before in
     let e = first b in

@@ -14,7 +14,10 @@ use Rattle.journal_state.proofs.lawful.is_lawful.Statement.{statement}
 use Rattle.journal_state.proofs.lawful.is_lawful.Tie as tie
 
 abbrev start : tie.After-struct-known → tie.Start
-start c = c .before .before .before .before .before .before
+start c =
+    let rows = c .before in
+    let known = rows .before .before in
+    known .before .before .before
 
 abbrev said : tie.Start → Kept
 said s = kept (now (s .args .numbers)) (now (s .args .name)) (now (s .args .last)) (now (s .args .image)) (now
@@ -50,9 +53,11 @@ archive-yes : (c : tie.Else2) → isAttached (said (start (c .before .before .be
     (c .before .before .before) .args .image))) ≡ true
 archive-yes c = sym (archive-told (c .before)) ∙ not-false _ (c .if2 .left)
 
-log-told : (c : tie.After-is-placed) → c .is-placed .result ≡ isPlaced (said (start
-    (c .before .before .before .before)))
-log-told c = c .is-placed .ensures ∙ placed-alone (said (start (c .before .before .before .before)))
+abbrev accepted : tie.After-is-placed → tie.Else1
+accepted c = c .before .before .before
+
+log-told : (c : tie.After-is-placed) → c .is-placed .result ≡ isPlaced (said (start (accepted c .before)))
+log-told c = c .is-placed .ensures ∙ placed-alone (said (start (accepted c .before)))
 
 log-not : tie.Need-returns-3
 log-not c =

@@ -48,7 +48,8 @@ dirty c =
 
 none : tie.Need-returns-3
 none c =
-    let t = c .before .before .before .before in
+    let result = c .before .before .before in
+    let t = result .before in
     let e2 = t .before .before in
     let b = e2 .before in
     let e = first b in
@@ -56,7 +57,8 @@ none c =
 
 some : tie.Need-returns-4
 some c =
-    let t = c .before .before .before .before in
+    let result = c .before .before .before in
+    let t = result .before in
     let e2 = t .before .before in
     let b = e2 .before in
     let e = first b in

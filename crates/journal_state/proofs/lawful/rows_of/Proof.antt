@@ -17,7 +17,9 @@ refused c =
     record { accepted = no; rows = λ z. absurd (false≢true z); none = λ _. refl }
 
 abbrev restored : tie.After-struct-known → tie.After-enum-told2
-restored c = c .before .before .before .before
+restored c =
+    let next = c .before .before .before in
+    next .before
 
 fits : tie.Need-add-t8
 fits c =

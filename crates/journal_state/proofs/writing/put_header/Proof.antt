@@ -17,7 +17,9 @@ use Rattle.journal_state.proofs.writing.put_header.Statement.{statement
 use Rattle.journal_state.proofs.writing.put_header.Tie as tie
 
 abbrev start : tie.After-put-bytes → tie.Start
-start c = c .before .before .before .before .before
+start c =
+    let lent = c .before .before in
+    lent .before .before .before
 
 abbrev said : tie.Start → Kept
 said s = kept (now (s .args .numbers)) (now (s .args .name)) [] [] []
@@ -35,7 +37,9 @@ marked c =
     (c .put-bytes .kept .0) (omega arith) (omega (arith, s .pre .0)))
 
 abbrev first : tie.After-put-archive → tie.After-put-bytes
-first c = c .before .before .before .before
+first c =
+    let back = c .before .before in
+    back .before .before
 
 abbrev archived : tie.After-put-archive → Writing 296
 archived c =
@@ -44,7 +48,9 @@ archived c =
     (c .put-archive .kept .0) (omega arith) (omega (arith, s .pre .0)))
 
 abbrev second : tie.After-put-log → tie.After-put-archive
-second c = c .before .before .before .before
+second c =
+    let back = c .before .before in
+    back .before .before
 
 abbrev placed : tie.After-put-log → Writing 323
 placed c =
@@ -54,7 +60,9 @@ placed c =
     (c .put-log .kept .0) (omega arith) (omega (arith, s .pre .0)))
 
 abbrev third : tie.After-put-out → tie.After-put-log
-third c = c .before .before .before .before
+third c =
+    let back = c .before .before in
+    back .before .before
 
 abbrev printed : tie.After-put-out → Writing 348
 printed c =
@@ -77,14 +85,17 @@ cleared c =
     (arith, s .pre .0)))
 
 abbrev fourth : tie.After-seal → tie.After-clear
-fourth c = c .before .before .before .before
+fourth c =
+    let back = c .before .before in
+    back .before .before
 
 written : tie.Need-returns
 unfolding headerWith
 written c =
     let at = c .before .before in
     let cl = fourth at in
-    let s = start (first (second (third (cl .before .before .before .before)))) in
+    let stored = cl .before .before in
+    let s = start (first (second (third (stored .before .before)))) in
     at .seal .ensures ∙ seal-front _ (cleared cl .begun) (s .pre .0)
 
 pub put-header-spec : {M : Type 1} → statement M

@@ -12,47 +12,65 @@ use Rattle.journal_state.specs.State.{outField}
 use Rattle.journal_state.proofs.writing.put_out.Statement.{statement}
 use Rattle.journal_state.proofs.writing.put_out.Tie as tie
 
-abbrev start1 : tie.After-put-number → tie.Start
-start1 c = c .before .before .before .before
+abbrev start : tie.After-put-number → tie.Start
+start c =
+    let lent = c .before .before in
+    lent .before .before
+
+-- the number before
+abbrev first : tie.After-put-number2 → tie.After-put-number
+first c =
+    let back = c .before .before .before in
+    back .before .before
+
+abbrev second : tie.After-put-number3 → tie.After-put-number2
+second c =
+    let back = c .before .before .before in
+    back .before .before
+
+abbrev third : tie.After-put-number4 → tie.After-put-number3
+third c =
+    let back = c .before .before .before in
+    back .before .before
 
 abbrev start2 : tie.After-put-number2 → tie.Start
-start2 c = start1 (c .before .before .before .before .before)
+start2 c = start (first c)
 
 abbrev start3 : tie.After-put-number3 → tie.Start
-start3 c = start2 (c .before .before .before .before .before)
+start3 c = start2 (second c)
 
 abbrev start4 : tie.After-put-number4 → tie.Start
-start4 c = start3 (c .before .before .before .before .before)
+start4 c = start3 (third c)
 
 -- what is written, after each number
 
 abbrev step1 : tie.After-put-number → Writing 1
 step1 c =
+    let s = start c in
     packed
-    (lend-sized (begin (now (start1 c .args .out))) _ (λ w. be w (getD (now (start1 c .args .numbers)) 10 0)) 1
-    (c .put-number .ensures)
-    (c .put-number .kept .0) (omega (arith, start1 c .pre)) (omega (arith, start1 c .pre)))
+    (lend-sized (begin (now (s .args .out))) _ (λ w. be w (getD (now (s .args .numbers)) 10 0)) 1
+    (c .put-number .ensures) (c .put-number .kept .0) (omega (arith, s .pre)) (omega (arith, s .pre)))
 
 abbrev step2 : tie.After-put-number2 → Writing 9
 step2 c =
+    let s = start2 c in
     packed
-    (lend-sized (step1 (c .before .before .before .before .before) .begun) _ (λ w. be w (getD (now
-    (start2 c .args .numbers)) 11 0)) 9 (c .put-number2 .ensures)
-    (c .put-number2 .kept .0) (omega (arith, start2 c .pre)) (omega (arith, start2 c .pre)))
+    (lend-sized (step1 (first c) .begun) _ (λ w. be w (getD (now (s .args .numbers)) 11 0)) 9
+    (c .put-number2 .ensures) (c .put-number2 .kept .0) (omega (arith, s .pre)) (omega (arith, s .pre)))
 
 abbrev step3 : tie.After-put-number3 → Writing 17
 step3 c =
+    let s = start3 c in
     packed
-    (lend-sized (step2 (c .before .before .before .before .before) .begun) _ (λ w. be w (getD (now
-    (start3 c .args .numbers)) 12 0)) 17 (c .put-number3 .ensures)
-    (c .put-number3 .kept .0) (omega (arith, start3 c .pre)) (omega (arith, start3 c .pre)))
+    (lend-sized (step2 (second c) .begun) _ (λ w. be w (getD (now (s .args .numbers)) 12 0)) 17
+    (c .put-number3 .ensures) (c .put-number3 .kept .0) (omega (arith, s .pre)) (omega (arith, s .pre)))
 
 abbrev step4 : tie.After-put-number4 → Writing 25
 step4 c =
+    let s = start4 c in
     packed
-    (lend-sized (step3 (c .before .before .before .before .before) .begun) _ (λ w. be w (getD (now
-    (start4 c .args .numbers)) 13 0)) 25 (c .put-number4 .ensures)
-    (c .put-number4 .kept .0) (omega (arith, start4 c .pre)) (omega (arith, start4 c .pre)))
+    (lend-sized (step3 (third c) .begun) _ (λ w. be w (getD (now (s .args .numbers)) 13 0)) 25
+    (c .put-number4 .ensures) (c .put-number4 .kept .0) (omega (arith, s .pre)) (omega (arith, s .pre)))
 
 written : tie.Need-returns
 unfolding outField

@@ -16,7 +16,10 @@ use Rattle.journal_state.proofs.writing.put_state.Statement.{statement}
 use Rattle.journal_state.proofs.writing.put_state.Tie as tie
 
 abbrev start : tie.After-put-header → tie.Start
-start c = c .before .before .before .before .before .before .before .before
+start c =
+    let summed = c .before .before in
+    let known = summed .before .before .before in
+    known .before .before .before
 
 abbrev said : tie.Start → Kept
 said s = kept (now (s .args .numbers)) (now (s .args .name)) (now (s .args .last)) (now (s .args .image)) (now
@@ -34,7 +37,9 @@ headed c =
     (c .put-header .kept .0) (omega arith) (omega (arith, s .pre .0)))
 
 abbrev first : tie.After-put-bytes → tie.After-put-header
-first c = c .before .before .before .before
+first c =
+    let back = c .before .before in
+    back .before .before
 
 abbrev copied : tie.After-put-bytes → Writing 1024
 copied c =
@@ -48,7 +53,9 @@ copied c =
     (c .put-bytes .kept .0) (omega arith) (omega (arith, s .pre .0)))
 
 abbrev second : tie.After-put-bytes2 → tie.After-put-bytes
-second c = c .before .before .before .before
+second c =
+    let back = c .before .before in
+    back .before .before
 
 abbrev imaged : tie.After-put-bytes2 → Writing 3584
 imaged c =
@@ -62,7 +69,9 @@ imaged c =
     (c .put-bytes2 .kept .0) (omega arith) (omega (arith, s .pre .0)))
 
 abbrev third : tie.After-put-bytes3 → tie.After-put-bytes2
-third c = c .before .before .before .before
+third c =
+    let back = c .before .before in
+    back .before .before
 
 abbrev tailed : tie.After-put-bytes3 → Writing 4096
 tailed c =
