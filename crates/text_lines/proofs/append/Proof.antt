@@ -28,9 +28,10 @@ too-large c =
 too-large-sum : tie.Need-returns-4
 unfolding appended
 too-large-sum c =
-    let a = c .before .before .before .before .args in
+    let digit = c .before .before .before in
+    let a = digit .before .args in
     simp (
-      le-leb 48 _ (c .before .before .before .if1 .left),
+      le-leb 48 _ (digit .if1 .left),
       lt-ltb (a .c) 58 (omega arith),
       le-ltb (a .n * 10 + (a .c - 48)) (2 ^ 64) (omega arith),
     )
@@ -38,9 +39,10 @@ too-large-sum c =
 appends : tie.Need-returns-5
 unfolding appended
 appends c =
-    let a = c .before .before .before .before .args in
+    let digit = c .before .before .before in
+    let a = digit .before .args in
     simp (
-      le-leb 48 _ (c .before .before .before .if1 .left),
+      le-leb 48 _ (digit .if1 .left),
       lt-ltb (a .c) 58 (omega arith),
       lt-ltb (a .n * 10 + (a .c - 48)) (2 ^ 64) (omega arith),
     )

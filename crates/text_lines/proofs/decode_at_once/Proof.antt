@@ -16,7 +16,8 @@ put-two-requires c κs = search needs
 
 returns : tie.Need-returns
 returns c = λ e.
-    let s = c .before .before .before .before in
+    let few = c .before .before in
+    let s = few .before .before in
     decoded-two (s .pre .0) (s .pre .1) (omega arith) (c .put-two .ensures) e
 
 put-two-requires-2 : tie.Need-put-two-requires-2
@@ -34,8 +35,10 @@ put-two-requires-3 c κs = search needs
 returns-3 : tie.Need-returns-3
 returns-3 c = λ e.
     let f = c .before .before in
-    let s = f .before .before .before .before .before in
-    decoded-three (s .pre .0) (s .pre .1) (omega arith) (f .before .put-two2 .ensures)
+    let front = f .before in
+    let many = front .before .before in
+    let s = many .before .before in
+    decoded-three (s .pre .0) (s .pre .1) (omega arith) (front .put-two2 .ensures)
     (not-false _ (f .if2 .left)) (c .put-two3 .ensures) e
 
 pub decode-at-once-spec : {M : Type 1} → statement M

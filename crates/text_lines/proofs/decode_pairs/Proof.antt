@@ -43,13 +43,14 @@ add-bytes c = let d = digits c in search needs
 
 loop-again : tie.Need-loop-again Inv-loop μ-loop
 loop-again c =
-    let inv = c .before .before .before .before .before .before .loop .inv in
+    let first = c .before .before .before in
+    let inv = first .before .before .before .loop .inv in
     record {
       pairs = inv .pairs;
       long = simp length-set (inv .long);
       rest =
           left-next (inv .rest) (omega arith) (omega arith)
-          (c .before .before .before .nibble .ensures) (c .before .nibble2 .ensures)
+          (first .nibble .ensures) (c .before .nibble2 .ensures)
           (c .if1 .left);
     }
 
@@ -58,9 +59,10 @@ returns c = decoded-all (c .before .loop .inv .rest) (omega arith)
 
 stopped : tie.Need-returns-2 Inv-loop μ-loop
 stopped c =
-    let l = c .before .before .before .before .before .before .loop in
+    let first = c .before .before .before in
+    let l = first .before .before .before .loop in
     decoded-front (l .inv .rest) (omega arith) (omega arith)
-    (c .before .before .before .nibble .ensures) (c .before .nibble2 .ensures) (c .if1 .taken)
+    (first .nibble .ensures) (c .before .nibble2 .ensures) (c .if1 .taken)
 
 pub decode-pairs-spec : {M : Type 1} → statement M
 decode-pairs-spec =

@@ -17,8 +17,9 @@ use Rattle.text_lines.proofs.has_thirteen.Tie as tie
 
 returns : tie.Need-returns
 returns c = λ e.
-    let t = now (c .before .before .before .before .before .args .text) in
-    let front = c .before .before .before .are-digits in
+    let first = c .before .before .before in
+    let t = now (first .before .before .args .text) in
+    let front = first .are-digits in
     let back = c .before .before .are-digits2 in
     let w = both (front .result && back .result) (not (eqb (getD t 0 0) 48) && eqb (getD t 13 0) 32) e in
     let u = both (front .result) (back .result) (w .0) in

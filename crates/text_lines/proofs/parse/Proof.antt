@@ -15,14 +15,17 @@ use Rattle.text_lines.proofs.parse.Tie as tie
 
 -- a time was read
 module _ (c : tie.After-known-told) where
+  abbrev read-time : tie.After-parse-time
+  read-time = c .before .before .before
+
   abbrev text : List ℕ
-  text = now (c .before .before .before .before .before .args .text)
+  text = now (read-time .before .before .args .text)
 
   abbrev digits : ℕ
   digits = c .before .time .given .0 .1 .0
 
   timed : Timed.At (c .before .time .given .0 .0) digits ≡ timedOf text
-  timed = sym (c .before .time .given .1) ∙ c .before .before .before .parse-time .ensures
+  timed = sym (c .before .time .given .1) ∙ read-time .parse-time .ensures
 
   few : digits < length text
   few = time-within text timed
@@ -64,8 +67,9 @@ cut c =
 
 other : tie.Need-returns-3
 other c =
-    let d = c .before .before .before .before .before in
-    answer-bad (no-newline (text (start d)) (timed (start d)) (d .decode .ensures) (c .before .before .if2 .taken))
+    let wrong = c .before .before in
+    let d = wrong .before .before .before in
+    answer-bad (no-newline (text (start d)) (timed (start d)) (d .decode .ensures) (wrong .if2 .taken))
     (c .bad-line3 .ensures)
 
 returns : tie.Need-returns-4

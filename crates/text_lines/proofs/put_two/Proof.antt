@@ -45,15 +45,16 @@ are-nibbles-requires c κs = search needs
 
 returns : tie.Need-returns
 returns c =
-    blocks.put-two
-    (c .before .before .before .before .before .before .before .before .nibbles .result)
-    (c .before .before .before .before .before .before .before .joined .result)
-    (c .before .before .before .before .before .before .before .before .before .before .before .before .before .copy-part .ensures)
-    (c .before .before .before .before .before .before .before .before .before .before .copy-part2 .ensures)
-    (c .before .before .before .before .before .before .before .before .nibbles .ensures .1)
-    (c .before .before .before .before .before .before .before .joined .ensures .1)
-    (c .before .before .before .before .copy-part3 .ensures)
-    (c .before .copy-part4 .ensures)
+    let last-put = c .before in
+    let first-put = last-put .before .before .before in
+    let join = first-put .before .before .before in
+    let digits = join .before in
+    let last-read = digits .before .before in
+    let first-read = last-read .before .before .before in
+    blocks.put-two (digits .nibbles .result) (join .joined .result)
+    (first-read .copy-part .ensures) (last-read .copy-part2 .ensures)
+    (digits .nibbles .ensures .1) (join .joined .ensures .1)
+    (first-put .copy-part3 .ensures) (last-put .copy-part4 .ensures)
     (c .are-nibbles .ensures)
 
 pub put-two-spec : {M : Type 1} → statement M

@@ -28,8 +28,14 @@ loop-holds c = record { bounded = omega arith; begun = begun-none _ }
 
 -- a character that goes on no number
 module _ (e : tie.After-enum-told Inv-loop μ-loop) where
+  abbrev tried : tie.After-append Inv-loop μ-loop
+  tried = e .before .before
+
+  abbrev inside : tie.In-loop Inv-loop μ-loop
+  inside = tried .before .before
+
   abbrev l : tie.At-loop Inv-loop μ-loop
-  l = e .before .before .before .before .before
+  l = inside .before
 
   abbrev text : List ℕ
   text = now (l .before .before .args .text)
@@ -38,10 +44,10 @@ module _ (e : tie.After-enum-told Inv-loop μ-loop) where
   i = l .loop .i
 
   more : i < length text
-  more = e .before .before .before .before .loop-test .taken
+  more = inside .loop-test .taken
 
   ends : appended (l .loop .time) (getD text i 0) ≡ Number.Bad
-  ends = sym (e .before .before .append .ensures) ∙ e .enum-told .given .1
+  ends = sym (tried .append .ensures) ∙ e .enum-told .given .1
 
 no-space : tie.Need-returns Inv-loop μ-loop
 no-space c =
@@ -55,14 +61,16 @@ nothing c =
 
 leads-zero : tie.Need-returns-3 Inv-loop μ-loop
 leads-zero c =
-    let e = c .before .before .before .before .before in
-    zero-first (l e .loop .inv .begun) (more e) (c .before .before .before .if1 .left)
+    let spaced = c .before .before .before in
+    let e = spaced .before .before in
+    zero-first (l e .loop .inv .begun) (more e) (spaced .if1 .left)
     (c .before .before .if2 .left) (c .if3 .taken)
 
 reads-time : tie.Need-returns-4 Inv-loop μ-loop
 reads-time c =
-    let e = c .before .before .before .before .before in
-    timed (l e .loop .inv .begun) (more e) (c .before .before .before .if1 .left)
+    let spaced = c .before .before .before in
+    let e = spaced .before .before in
+    timed (l e .loop .inv .begun) (more e) (spaced .if1 .left)
     (c .before .before .if2 .left) (c .if3 .left)
 
 loop-again : tie.Need-loop-again Inv-loop μ-loop

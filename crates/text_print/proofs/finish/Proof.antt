@@ -10,17 +10,21 @@ use Rattle.text_print.proofs.finish.Tie as tie
 
 returns : tie.Need-returns
 returns c =
-    let s = c .before .before .before .before .before .before .before in
+    let put = c .before .before in
+    let empty = put .before .before in
+    let s = empty .before .before .before in
     no-line-kept (phaseOf (s .args .s)) (now (s .args .line))
-    (c .before .before .before .before .if1 .taken) (s .pre .2) (c .before .before .put-end .ensures)
+    (empty .if1 .taken) (s .pre .2) (put .put-end .ensures)
 
 part-lines-end : tie.Need-part-lines-end
 part-lines-end c =
     let k = c .before .before in
-    let line = now (k .before .before .before .before .before .args .line) in
+    let some = k .before .before in
+    let s = some .before .before .before in
+    let line = now (s .args .line) in
     omega (
       arith,
-      k .before .before .before .before .before .pre .0,
+      s .pre .0,
       length-set (k .copy .last .1 .0) (length line) 10,
       k .copy .kept .1 .0,
     )
@@ -28,8 +32,10 @@ part-lines-end c =
 returns-2 : tie.Need-returns-2
 returns-2 c =
     let q = c .before .before in
-    let l = q .before .before .before .before .before in
-    let k = l .before .before .before .before .before in
+    let last = q .before .before in
+    let l = last .before .before .before in
+    let whole-line = l .before .before .before in
+    let k = whole-line .before .before in
     let e = k .before .before in
     let s = e .before .before .before in
     let line = now (s .args .line) in

@@ -33,11 +33,12 @@ abbrev μ-loop : tie.MeasureT-loop
 
 loop-holds : tie.Need-loop-holds Inv-loop μ-loop
 loop-holds c =
-    let a = c .before .before .before .before .before .args in
+    let made = c .before .before in
+    let a = made .before .before .before .args in
     record {
       passing = begins (a .write) (now (a .input)) (now (a .out)) (c .start .ensures);
       few = omega arith;
-      bufferLong = sym (c .before .before .chunk-buffer .ensures);
+      bufferLong = sym (made .chunk-buffer .ensures);
       textLong = sym (c .before .text-buffer .ensures);
       outLong = refl;
     }
@@ -45,10 +46,14 @@ loop-holds c =
 -- ---- a turn
 
 abbrev start : tie.At-loop Inv-loop μ-loop → tie.Start Inv-loop μ-loop
-start l = l .before .before .before .before .before .before
+start l =
+    let buffers = l .before .before .before in
+    buffers .before .before .before
 
 abbrev reading : tie.After-step Inv-loop μ-loop → tie.After-read-some Inv-loop μ-loop
-reading c = c .before .before .before .before
+reading c =
+    let back = c .before .before .before in
+    back .before
 
 abbrev turn : tie.After-step Inv-loop μ-loop → tie.At-loop Inv-loop μ-loop
 turn c = reading c .before .before

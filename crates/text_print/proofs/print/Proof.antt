@@ -36,10 +36,16 @@ module _ (input out : List ℕ) {out₁ : List ℕ} (r : Pass) (p : Passed false
       let o = v .text refl f ∙ rw (zero-add (length text)) at (sets-eq text out 0 (omega arith)) in
       rw (le-ltb (length out) (length text) h, v .count f, o)
 
+abbrev start : tie.After-go-through → tie.Start
+start c =
+    let entered = c .before .before in
+    entered .before .before
+
 returns : tie.Need-returns
 returns c =
-    let g = c .before .before .before .before in
-    let s = g .before .before .before .before .args in
+    let back = c .before .before in
+    let g = back .before .before in
+    let s = start g .args in
     too-short (now (s .input)) (now (s .out)) (g .go-through .result)
     (g .go-through .ensures) (not-true (g .go-through .result .fits) (c .if1 .taken))
 
@@ -47,8 +53,9 @@ returns-2 : tie.Need-returns-2
 returns-2 c =
     let h = c .before .before in
     let e = h .before .before in
-    let g = e .before .before .before .before in
-    let s = g .before .before .before .before .args in
+    let back = e .before .before in
+    let g = back .before .before in
+    let s = start g .args in
     printed (now (s .input)) (now (s .out)) (g .go-through .result) (g .go-through .ensures)
     (not-false (g .go-through .result .fits) (e .if1 .left)) (h .go-through2 .result) (h .go-through2 .ensures)
 

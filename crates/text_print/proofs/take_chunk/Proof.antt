@@ -13,10 +13,14 @@ use Rattle.text_print.proofs.take_chunk.Statement.{statement}
 use Rattle.text_print.proofs.take_chunk.Tie as tie
 
 abbrev lines : tie.After-carry → tie.After-take-lines
-lines c = c .before .before .before .before
+lines c =
+    let back = c .before .before in
+    back .before .before
 
 abbrev start : tie.After-carry → tie.Start
-start c = lines c .before .before .before .before .before .before
+start c =
+    let lent = lines c .before .before .before in
+    lent .before .before .before
 
 abbrev buffer : tie.After-carry → List ℕ
 buffer c = now (start c .args .buffer)
@@ -33,8 +37,11 @@ fits c = let h = start c .pre in omega (arith, h .0, h .1)
 ordered : (c : tie.After-carry) → lines c .take-lines .result .used ≤ start c .args .end
 ordered c = omega (arith, drained c .within, length-take (start c .args .end) (buffer c))
 
+abbrev carried : tie.After-session → tie.After-carry
+carried c = c .before .before .before
+
 abbrev carrying : tie.Then1 → tie.After-carry
-carrying c = c .before .before .before .before
+carrying c = carried (c .before)
 
 part-finish-end : tie.Need-part-finish-end
 part-finish-end c =
@@ -73,7 +80,8 @@ finish-requires c κs =
 returns : tie.Need-returns
 returns c =
     let f = c .before .before in
-    let t = f .before .before .before .before in
+    let lent = f .before .before .before in
+    let t = lent .before in
     let k = carrying t in
     let z : k .carry .result - 0 ≡ k .carry .result = omega arith in
     rw (t .if1 .taken)
@@ -83,7 +91,7 @@ returns c =
 
 returns-2 : tie.Need-returns-2
 returns-2 c =
-    let k = c .before .before .before .before .before in
+    let k = carried (c .before .before) in
     rw (c .before .if1 .left, c .is-over .ensures)
     (stepped (buffer k) _ _ (fits k) (ordered k) (k .carry .ensures) (start k .pre .0)
     (lines k .take-lines .result .session) (drained k .fed) (drained k .rest) (start k .pre .2))

@@ -67,7 +67,9 @@ part-lines-start-2 c = omega (arith, room (c .before .before))
 
 -- what the call of `lines` gave, on the rest of the input and of the output
 abbrev turn : tie.After-lines Inv-loop μ-loop → tie.At-loop Inv-loop μ-loop
-turn c = c .before .before .before .before
+turn c =
+    let roomy = c .before .before .before in
+    roomy .before
 
 ran : (c : tie.After-lines Inv-loop μ-loop) → (let l = turn c .loop in let input = now (start (turn c) .args .input) in
     Ran (phaseOf (l .s)) (drop (l .at) input) (take (length (l .out) - l .to) (drop (l .to) (l .out)))
@@ -103,11 +105,16 @@ same c =
     same-len-mid (l .to) (length (l .out) - l .to) (l .out) (c .lines .last .1 .1 .0) (c .lines .kept .1 .1 .0)
     ∙ l .inv .long
 
+abbrev gone : tie.After-struct-known Inv-loop μ-loop → tie.After-lines Inv-loop μ-loop
+gone c =
+    let next = c .before in
+    next .before .before .before
+
 abbrev went : tie.After-struct-known3 Inv-loop μ-loop → tie.After-lines Inv-loop μ-loop
-went c = c .before .before .before .before .before .before .before
+went c = gone (c .before .before .before)
 
 add-at : tie.Need-add-at Inv-loop μ-loop
-add-at c = let w = c .before .before .before .before .before .before in omega (arith, used-fits w)
+add-at c = omega (arith, used-fits (gone (c .before .before)))
 
 add-to : tie.Need-add-to Inv-loop μ-loop
 add-to c =
@@ -129,7 +136,8 @@ returns c =
 
 returns-2 : tie.Need-returns-2 Inv-loop μ-loop
 returns-2 c =
-    let w = c .before .before .before .before .before in
+    let next = c .before .before in
+    let w = next .before .before .before in
     let l = turn w .loop in
     let input = now (start (turn w) .args .input) in
     let none = none-written (drop (l .at) input) (ran w .fed) (c .if1 .taken) in

@@ -26,15 +26,18 @@ returns : tie.Need-returns
 returns c = let a = c .before .before .before .args in copy-size (now (a .last)) (a .rows) (now (a .block))
     (c .if1 .taken)
 
+abbrev put : tie.After-cut-block → tie.After-put-bytes
+put c = c .before .before .before
+
 abbrev begin : tie.After-cut-block → tie.Else1
-begin c = c .before .before .before .before .before
+begin c = put c .before .before
 
 abbrev start : tie.After-cut-block → tie.Start
 start c = begin c .before .before .before
 
 -- the copy that is cut
-is-block : (c : tie.After-cut-block) → c .before .before .before .put-bytes .last .0 ≡ now (start c .args .block)
-is-block c = c .before .before .before .put-bytes .ensures ∙ resized-whole _ (now (start c .args .block))
+is-block : (c : tie.After-cut-block) → put c .put-bytes .last .0 ≡ now (start c .args .block)
+is-block c = put c .put-bytes .ensures ∙ resized-whole _ (now (start c .args .block))
     (begin c .if1 .left)
 
 copied : (c : tie.After-cut-block)
@@ -43,7 +46,7 @@ copied : (c : tie.After-cut-block)
 copied c =
     let a = start c .args in
     copy-told (now (a .last)) (a .rows) (now (a .block)) (c .cut-block .result)
-    (c .before .before .before .put-bytes .last .0) (c .cut-block .last .0) (is-block c)
+    (put c .put-bytes .last .0) (c .cut-block .last .0) (is-block c)
     (c .cut-block .ensures)
 
 returns-2 : tie.Need-returns-2

@@ -16,6 +16,12 @@ few c =
     c .read-number .ensures ∙ ap unbe (take-all 8 block (omega (arith, c .before .if1 .taken)) ∙ sym
     (take-all 4 block (omega (arith, c .before .if1 .taken))))
 
+whole : tie.Need-returns-2
+whole c =
+    let many = c .before .before in
+    let block = now (many .before .before .args .block) in
+    c .read-number2 .ensures ∙ ap unbe (take-all 8 (part 0 4 block) (rw length-take (omega arith)))
+
 pub number-of-spec : {M : Type 1} → statement M
 number-of-spec =
     tie.close
@@ -26,5 +32,4 @@ number-of-spec =
     (λ c. search needs)
     (λ c. search needs)
     (λ c κs. search needs)
-    (λ c. c .read-number2 .ensures ∙ ap unbe (take-all 8 (part 0 4 (now
-    (c .before .before .before .before .args .block))) (rw length-take (omega arith)))))
+    whole)

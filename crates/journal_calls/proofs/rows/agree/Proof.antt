@@ -44,8 +44,13 @@ new-count s = rows-count (now (s .args .times)) (now (s .args .rows))
 left-count : (s : tie.Start Inv-loop μ-loop) → length (left s) ≡ length (now (s .args .moments))
 left-count s = rows-count (now (s .args .moments)) (now (s .args .left))
 
+abbrev entered : tie.After-least Inv-loop μ-loop → tie.Start Inv-loop μ-loop
+entered c =
+    let known = c .before .before in
+    known .before .before .before
+
 abbrev begin : tie.At-loop Inv-loop μ-loop → tie.Start Inv-loop μ-loop
-begin c = c .before .before .before .before .before .before
+begin c = entered (c .before)
 
 -- row i is one of both
 inside : (c : tie.In-loop Inv-loop μ-loop)
@@ -58,19 +63,25 @@ inside c =
 
 loop-holds : tie.Need-loop-holds Inv-loop μ-loop
 loop-holds c =
-    let s = c .before .before .before .before .before in
+    let s = entered c in
     record {
       bounded = omega arith;
       least = c .least .ensures ∙ ap₂ min (sym (new-count s)) (sym (left-count s));
       rest = zero-add (agreeing (new s) (left s));
     }
 
+-- the two rows are lent
+abbrev lending : tie.After-same-arg2 Inv-loop μ-loop → tie.In-loop Inv-loop μ-loop
+lending c =
+    let row = c .before .before in
+    row .before .before
+
 abbrev turn : tie.After-same Inv-loop μ-loop → tie.In-loop Inv-loop μ-loop
-turn c = c .before .before .before .before .before
+turn c = lending (c .before)
 
 same-requires : tie.Need-same-requires Inv-loop μ-loop
 same-requires c κs =
-    let l = c .before .before .before .before in
+    let l = lending c in
     let s = begin (l .before) in
     let at = rowLength * l .before .loop .i in
     let h = inside l in (

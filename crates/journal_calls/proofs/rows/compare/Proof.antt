@@ -19,7 +19,9 @@ use Rattle.journal_calls.proofs.rows.compare.Statement.{statement}
 use Rattle.journal_calls.proofs.rows.compare.Tie as tie
 
 abbrev start : tie.After-are-records → tie.Start
-start c = c .before .before .before .before .before
+start c =
+    let known = c .before .before in
+    known .before .before .before
 
 -- a refusal beside both numbers
 abbrev beside : ℕ → ℕ → ℕ → Compared

@@ -14,7 +14,9 @@ use Rattle.journal_calls.proofs.scan.feed.Statement.{statement}
 use Rattle.journal_calls.proofs.scan.feed.Tie as tie
 
 abbrev start : tie.After-is-run → tie.Start
-start c = c .before .before .before .before
+start c =
+    let run = c .before in
+    run .before .before .before
 
 abbrev numbers : tie.After-is-run → List ℕ
 numbers c = now (start c .args .numbers)

@@ -60,6 +60,7 @@ run-block-spec =
     (λ c. omega (arith, facts (c .before .before .before)))
     (λ c. search needs)
     (λ c.
-    let s = c .before .before .before .before .before in
+    let n = c .before .before .before in
+    let s = n .before .before in
     omega (arith, facts s, s .sound .ensures, sound-le (now (start s .args .block))))
     passed)
