@@ -18,8 +18,9 @@ returns c = rw (ne-eqb (length (now (c .before .before .args .image))) imageLeng
 
 returns-2 : tie.Need-returns-2
 returns-2 c =
-    let image = now (c .before .before .before .before .args .image) in
-    rw (eq-eqb (length image) imageLength (c .before .before .if1 .left))
+    let sized = c .before .before in
+    let image = now (sized .before .before .args .image) in
+    rw (eq-eqb (length image) imageLength (sized .if1 .left))
     (ap₂ _&&_ (ap (λ (n : ℕ). leb n capacity) (c .count-in .ensures))
     (ap (λ (n : ℕ). leb n maxSetting) (c .before .second-in .ensures)))
 

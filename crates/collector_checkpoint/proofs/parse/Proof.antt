@@ -12,14 +12,17 @@ use Rattle.collector_checkpoint.proofs.parse.Tie as tie
 
 read-entries-requires : tie.Need-read-entries-requires
 read-entries-requires c κs =
-    let n = c .before .before .before .before in
+    let times = c .before .before .before in
+    let n = times .before in
     (refl, refl, refl, refl, n .before .before .pre .0, rw (n .count-in .ensures) (n .before .before .pre .1))
 
 returns : tie.Need-returns
 unfolding viewOf parse columnsHolding flatten
 returns c =
-    let read = c .before .before .before .before .before .before in
-    let n = read .before .before .before .before .before in
+    let back = c .before .before .before in
+    let read = back .before .before .before in
+    let lent = read .before .before .before in
+    let n = lent .before .before in
     let image = now (n .before .before .args .image) in
     record {
       state = λ i. record {

@@ -26,7 +26,9 @@ table s = columns (now (s .args .times)) (now (s .args .lens)) (now (s .args .by
 
 put-cells-requires : tie.Need-put-cells-requires
 put-cells-requires c κs =
-    let u = c .before .before .before .before .before .before in
+    let part = c .before in
+    let put = part .before .before .before in
+    let u = put .before .before in
     let s = start u in
     let a = s .args in (
       omega arith,
@@ -34,6 +36,11 @@ put-cells-requires c κs =
       omega arith,
       rw (u .used-from .ensures) (writable-part (now (a .lens)) (a .k) (a .count) (s .pre .1) (s .pre .2)),
     )
+
+abbrev header : tie.After-put-cells-arg2 → tie.After-put-header
+header c =
+    let part = c .before in
+    part .before .before .before
 
 -- after the header, and after the cells
 abbrev headed : tie.After-put-header → Writing headerLength
@@ -49,14 +56,15 @@ headed c =
 
 abbrev filled : tie.After-put-cells → Writing bodyLength
 filled c =
-    packed (lend (headed (c .before .before .before .before .before) .begun) _ _ bodyLength
+    packed (lend (headed (header (c .before)) .begun) _ _ bodyLength
     (c .put-cells .ensures) (c .put-cells .kept .0) (omega arith) (omega arith))
 
 returns : tie.Need-returns
 returns c =
     let sealed = c .before .before in
-    let put = sealed .before .before .before .before in
-    let u = put .before .before .before .before .before .before .before in
+    let back = sealed .before .before in
+    let put = back .before .before in
+    let u = header (put .before) .before .before in
     let s = start u in
     let a = s .args in
     let used = u .used-from .result in

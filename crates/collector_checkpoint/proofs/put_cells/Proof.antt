@@ -58,7 +58,8 @@ loop-again : tie.Need-loop-again Inv-loop μ-loop
 unfolding cells
 loop-again c =
     let put = c .before .before in
-    let seen = put .before .before .before .before .before in
+    let lent-time = put .before .before .before in
+    let seen = lent-time .before .before in
     let at = turn-of seen in
     let a = start seen .args in
     let e = a .first + at .loop .i in

@@ -14,6 +14,21 @@ use Rattle.collector_checkpoint.proofs.put_header.Tie as tie
 other-length : tie.Need-returns
 other-length c = sym (overwritten-not headerLength _ (now (c .before .before .args .out)) (c .if1 .taken))
 
+abbrev start : tie.After-clear → tie.Start
+start c =
+    let sized = c .before .before in
+    sized .before .before
+
+abbrev cleared : tie.After-put-number → tie.After-clear
+cleared c =
+    let back = c .before .before in
+    back .before .before
+
+abbrev first : tie.After-put-number2 → tie.After-put-number
+first c =
+    let back = c .before .before in
+    back .before .before
+
 -- what is written, after each step
 abbrev step1 : tie.Else1 → Writing 2
 step1 c =
@@ -27,15 +42,15 @@ step2 c =
 
 abbrev step3 : tie.After-put-number → Writing 16
 step3 c =
-    let at = c .before .before .before .before in
-    let a = at .before .before .before .before .args in
+    let at = cleared c in
+    let a = start at .args in
     packed (lend-sized (step2 at .begun) _ (λ w. be w (a .a)) 16
     (c .put-number .ensures) (c .put-number .kept .0) (omega arith) (omega arith))
 
 abbrev step4 : tie.After-put-number2 → Writing 24
 step4 c =
-    let at = c .before .before .before .before in
-    let a = at .before .before .before .before .before .before .before .before .args in
+    let at = first c in
+    let a = start (cleared at) .args in
     packed (lend-sized (step3 at .begun) _ (λ w. be w (a .b)) 24
     (c .put-number2 .ensures) (c .put-number2 .kept .0) (omega arith) (omega arith))
 
@@ -43,7 +58,7 @@ written : tie.Need-returns-2
 unfolding headerOf
 written c =
     let at = c .before .before in
-    let a = at .before .before .before .before .before .before .before .before .before .before .before .before .args in
+    let a = start (cleared (first at)) .args in
     done (step4 at .begun) (omega arith)
     ∙ sym (overwritten-fits headerLength (headerOf (a .k) (a .used) (a .a) (a .b)) (now (a .out)) (omega arith))
 

@@ -18,9 +18,17 @@ Inv-loop times₀ lens₀ bytes₀ copies₀ image count i₀ times lens bytes c
 abbrev μ-loop : tie.MeasureT-loop
 μ-loop times₀ lens₀ bytes₀ copies₀ image count i₀ times lens bytes copies i = count - i
 
+abbrev start : tie.After-shared-slice-known Inv-loop μ-loop → tie.Start Inv-loop μ-loop
+start c =
+    let known = c .before .before .before in
+    known .before .before
+
+abbrev turn : tie.After-cell-time Inv-loop μ-loop → tie.At-loop Inv-loop μ-loop
+turn c = c .before .before .before
+
 loop-holds : tie.Need-loop-holds Inv-loop μ-loop
 loop-holds c =
-    let s = c .before .before .before .before .before in
+    let s = start c in
     reading-none _ _ (s .pre .4) (s .pre .5) _
 
 loop-again : tie.Need-loop-again Inv-loop μ-loop
@@ -30,7 +38,7 @@ loop-again c =
     let used = last .before in
     let shown = used .before .before in
     let at = shown .before .before in
-    let s = at .before .before .before .before .before .before in
+    let s = start (at .before) in
     let cell = shown .cell-in .ensures in
     reading-more _ _ (s .pre .4) (s .pre .5) _ (at .loop .i) _ (at .loop .inv) _ _ _ _
     (used .before .cell-time .ensures ∙ ap cellTime cell)
@@ -41,7 +49,7 @@ loop-again c =
 returns : tie.Need-returns Inv-loop μ-loop
 returns c =
     let at = c .before in
-    let s = at .before .before .before .before .before .before in
+    let s = start (at .before) in
     reading-all _ _ (s .pre .4) (s .pre .5) _ (at .loop .i) _ (at .loop .inv) (omega arith)
 
 pub read-entries-spec : {M : Type 1} → statement M
@@ -54,18 +62,18 @@ read-entries-spec =
     (λ c κs. search needs)
     (λ c κs. search needs)
     (λ c. omega arith)
-    (λ c. within (c .before .before .before .loop .inv .times) _ (omega arith))
+    (λ c. within (turn c .loop .inv .times) _ (omega arith))
     (λ c κs. search needs)
-    (λ c. within (c .before .before .before .before .loop .inv .lens) _ (omega arith))
+    (λ c. within (turn (c .before) .loop .inv .lens) _ (omega arith))
     (λ c κs. search needs)
     (λ c. omega arith)
-    (λ c. within (c .before .before .before .before .before .loop .inv .copies) _ (omega arith))
+    (λ c. within (turn (c .before .before) .loop .inv .copies) _ (omega arith))
     (λ c. omega arith)
     (λ c. omega arith)
     (λ c. omega arith)
     (λ c. omega arith)
     (λ c. omega arith)
-    (λ c. within (c .before .before .before .before .before .loop .inv .bytes) _ (omega arith))
+    (λ c. within (turn (c .before .before) .loop .inv .bytes) _ (omega arith))
     (λ c κs. search needs)
     (λ c. omega arith)
     (λ c. omega arith)

@@ -1,7 +1,7 @@
 -- `collector_checkpoint::restore` meets its contract: a case for each answer, in the order of the tests.
 use native.Mathlib.Omega.{arith}
 use mathlib.Core.Path.{_≡_, refl, sym, ap, ap₂, _∙_}
-use mathlib.Core.Bool.{true}
+use mathlib.Core.Bool.{true, false}
 use mathlib.Core.List.{List}
 use Prim.Native.Nat.{ℕ, _≤_}
 use borrow.Author.Needs.{needs}
@@ -23,7 +23,10 @@ use Rattle.collector_checkpoint.proofs.restore.Statement.{statement}
 use Rattle.collector_checkpoint.proofs.restore.Tie as tie
 
 abbrev start : tie.After-is-acceptable → tie.Start
-start c = c .before .before .before .before .before .before .before
+start c =
+    let lent = c .before .before .before in
+    let given = lent .before .before in
+    given .before .before
 
 abbrev image-of : tie.After-is-acceptable → List ℕ
 image-of c = now (start c .args .image)
@@ -33,36 +36,49 @@ tested : (c : tie.After-is-acceptable) → c .is-acceptable .result ≡ acceptab
 unfolding viewOf
 tested c = c .is-acceptable .ensures _
 
+failed : (c : tie.Then1) → acceptable (viewOf (start (c .before) .args .t1)) ≡ false
+failed c = sym (tested (c .before)) ∙ not-true _ (c .if1 .taken)
+
 passed : (c : tie.Else1) → acceptable (viewOf (start (c .before) .args .t1)) ≡ true
 passed c = sym (tested (c .before)) ∙ not-false _ (c .if1 .left)
 
 returns : tie.Need-returns
-returns c = stayed _ _ _ (c .refused .ensures) (restore-unacceptable _ (sym (tested (c .before .before)) ∙ not-true _ (c .before .if1 .taken)) _)
+returns c = stayed _ _ _ (c .refused .ensures) (restore-unacceptable _ (failed (c .before)) _)
 
 returns-2 : tie.Need-returns-2
 returns-2 c =
     let b = c .before .before in
-    stayed _ _ _ (c .refused2 .ensures) (restore-unreadable _ _ (passed (b .before)) (sym (b .is-readable .ensures) ∙ not-true _ (c .before .if2 .taken)))
+    stayed _ _ _ (c .refused2 .ensures)
+    (restore-unreadable _ _ (passed (b .before)) (sym (b .is-readable .ensures) ∙ not-true _ (c .before .if2 .taken)))
 
 -- what can be read of the image
+abbrev accepted : tie.Else2 → tie.After-is-acceptable
+accepted c = c .before .before .before
+
 read : (c : tie.Else2) →
-    let image = image-of (c .before .before .before) in
+    let image = image-of (accepted c) in
     (length image ≡ imageLength) × (countIn image ≤ capacity) × (settingIn image ≤ maxSetting)
 read c =
-    readable (image-of (c .before .before .before))
+    readable (image-of (accepted c))
     (sym (c .before .is-readable .ensures) ∙ not-false _ (c .if2 .left))
 
 -- what the last test says of the image
 abbrev parsed : tie.After-is-image-of → tie.After-parse
-parsed c = c .before .before .before .before .before .before .before
+parsed c =
+    let lent = c .before .before .before in
+    let next = lent .before .before .before in
+    next .before
+
+abbrev legible : tie.After-parse → tie.Else2
+legible p = p .before .before
 
 compared : (c : tie.After-is-image-of) →
-    let image = image-of (parsed c .before .before .before .before .before) in
+    let image = image-of (accepted (legible (parsed c))) in
     c .is-image-of .result ≡ isImageOf (settingIn image) (parse image) image
 unfolding viewOf
 compared c =
     let p = parsed c in
-    let image = image-of (p .before .before .before .before .before) in
+    let image = image-of (accepted (legible p)) in
     c .is-image-of .ensures
     ∙ ap₂ (λ (n : ℕ) (v : View). isImageOf n v image) (p .before .second-in .ensures) (p .parse .ensures .state)
 
@@ -71,7 +87,8 @@ returns-3 c =
     let i = c .before .before in
     let e = parsed i .before .before in
     stayed _ _ _ (c .refused3 .ensures)
-    (restore-other _ _ (passed (e .before .before)) (read e .0) (read e .2) (sym (compared i) ∙ not-true _ (c .before .if3 .taken)))
+    (restore-other _ _ (passed (e .before .before)) (read e .0) (read e .2)
+    (sym (compared i) ∙ not-true _ (c .before .if3 .taken)))
 
 returns-4 : tie.Need-returns-4
 returns-4 c =

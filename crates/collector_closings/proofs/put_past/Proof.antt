@@ -61,8 +61,8 @@ same c = printed-length (turn c .loop .inv .put)
 
 abbrev seen : tie.After-put-entry-arg4 Inv-loop μ-loop → tie.After-len Inv-loop μ-loop
 seen c =
-    let a = c .before .before .before in
-    a .before
+    let lent = c .before .before .before in
+    lent .before
 
 -- the bytes of the entry
 shows : (c : tie.After-len Inv-loop μ-loop)
@@ -101,8 +101,9 @@ loop-again c =
 
 returns : tie.Need-returns Inv-loop μ-loop
 returns c =
-    let l = c .before .loop in
-    let s = c .before .before .before .before in
+    let at = c .before in
+    let l = at .loop in
+    let s = at .before .before .before in
     let e : l .i ≡ s .args .count = omega arith in
     loosened (rw e at (l .inv .put)) (omega (arith, s .pre .0 .bound))
 

@@ -44,7 +44,9 @@ same-buffer : {s : Phase Receiver} {text buffer out buffer' out' : List ℕ} {la
 same-buffer {s} {text} {buffer} k = ap length (k .line) ∙ length-sets buffer 0 (positionAfter s text .line)
 
 abbrev turn : tie.After-read Inv-loop μ-loop → tie.At-loop Inv-loop μ-loop
-turn c = c .before .before .before .before
+turn c =
+    let inside = c .before .before .before in
+    inside .before
 
 buffer-long : (c : tie.After-read Inv-loop μ-loop)
     → (let l = turn c .loop in length (putMid (l .kept) (16384 - l .kept) (l .buffer) (c .read .last .1 .0)) ≡ chunk)
@@ -53,8 +55,17 @@ buffer-long c =
     same-len-mid (l .kept) (16384 - l .kept) (l .buffer) (c .read .last .1 .0) (c .read .kept .1 .0)
     ∙ l .inv .bufferLong
 
+-- what was read has come back, and then it is counted
+abbrev returned : tie.After-slice-known Inv-loop μ-loop → tie.After-read Inv-loop μ-loop
+returned c = c .before .before
+
+abbrev counting : tie.After-count Inv-loop μ-loop → tie.After-read Inv-loop μ-loop
+counting c = returned (c .before .before .before)
+
 abbrev reading : tie.After-step Inv-loop μ-loop → tie.After-read Inv-loop μ-loop
-reading c = c .before .before .before .before .before .before .before .before .before
+reading c =
+    let counted = c .before .before .before in
+    counting (counted .before)
 
 out-long : (c : tie.After-step Inv-loop μ-loop) → length (c .step .last .1 .1 .1 .1 .0) ≡ capacity
 out-long c = same-length (c .step .ensures .output) ∙ turn (reading c) .loop .inv .outLong
@@ -63,14 +74,15 @@ out-long c = same-length (c .step .ensures .output) ∙ turn (reading c) .loop .
 
 loop-again : tie.Need-loop-again Inv-loop μ-loop
 loop-again c =
-    let r = c .before .before .before .before .before .before in
+    let failed = c .before .before .before in
+    let r = returned (failed .before) in
     let i = turn r .loop .inv in
     record { few = i .few; bufferLong = buffer-long r; outLong = i .outLong }
 
 add-step : tie.Need-add-step Inv-loop μ-loop
 add-step c =
     let n = c .before .before in
-    let r = n .before .before .before .before .before in
+    let r = counting n in
     let l = turn r .loop in
     omega (
       arith,
@@ -87,7 +99,8 @@ part-write-all-end c =
 
 loop-again-2 : tie.Need-loop-again-2 Inv-loop μ-loop
 loop-again-2 c =
-    let s = c .before .before .before .before .before .before in
+    let written = c .before .before .before in
+    let s = written .before .before .before in
     let e = s .step .ensures in
     record { few = e .few; bufferLong = same-buffer e ∙ buffer-long (reading s); outLong = out-long s }
 

@@ -15,15 +15,21 @@ no-start c = past-end _ _ _ (c .if2 .taken)
 
 front : tie.Need-returns-3
 front c =
-    let a = c .before .before .before .before .before .before .before .before .args in
+    let moved = c .before .before in
+    let test = moved .before .before in
+    let inside = test .before .before in
+    let a = inside .before .before .args in
     front-kept (now (a .buffer)) (a .from) (a .end) (omega arith)
-    (omega arith) (c .before .before .shift .ensures) (omega arith) refl
+    (omega arith) (moved .shift .ensures) (omega arith) refl
 
 whole : tie.Need-returns-4
 whole c =
-    let a = c .before .before .before .before .before .before .before .before .args in
+    let moved = c .before .before in
+    let test = moved .before .before in
+    let inside = test .before .before in
+    let a = inside .before .before .args in
     all-kept (now (a .buffer)) (a .from) (a .end) (omega arith) (omega arith)
-    (c .before .before .shift2 .ensures) (omega arith) refl (omega arith)
+    (moved .shift2 .ensures) (omega arith) refl (omega arith)
 
 pub carry-spec : {M : Type 1} → statement M
 carry-spec =
